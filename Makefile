@@ -1,0 +1,30 @@
+# try: builds without proofs and answers standard input, at once.  build: proves, then builds.  run: runs what build made.
+# test: the gate.  bench: figures beside plain Rust.  fmt, clean: as ever.
+PROGRAM = crates/livevec/out/livevec
+
+.PHONY: try build run test bench fmt clean
+
+try:
+	@cd crates/livevec && rt try --seconds 600 -- run 2>/dev/null
+
+build:
+	@cd crates/livevec && rt run -- --help > /dev/null
+	@echo "built $(PROGRAM)"
+
+run: $(PROGRAM)
+	@$(PROGRAM) run
+
+$(PROGRAM):
+	@$(MAKE) -s build >&2
+
+test:
+	rt ci
+
+bench: build
+	@bench/run
+
+fmt:
+	@for crate in crates/*/; do (cd $$crate && rt fmt); done
+
+clean:
+	@rm -rf crates/*/out bench/out

@@ -1,0 +1,52 @@
+//! The command line: its commands, options and texts.
+
+use crate::help;
+use clap::{Arg, ArgAction, ArgMatches, Command, value_parser};
+use lv_geometry::Limits;
+use std::alloc::{AllocError, Global};
+
+/// The command line of the program.
+pub fn command<'a>(alloc: Global) -> Result<Command<'a>, AllocError> {
+    Command::new(alloc, "livevec")
+        .about(help::ABOUT)
+        .after_help(help::STATUSES)
+        .subcommand_required(true)
+        .arg_required_else_help(true)
+        .subcommand(run(alloc)?)
+}
+
+/// The limits that a command's options say, the greatest where they say nothing.
+pub fn limits(matches: &ArgMatches<'_>) -> Limits {
+    let buckets = matches.get_one::<u32>("buckets").unwrap_or(17);
+    let edits = matches.get_one::<u32>("edits").unwrap_or(16_777_215);
+    Limits::new(buckets, edits).unwrap_or(Limits::greatest())
+}
+
+// `livevec run`.
+fn run<'a>(alloc: Global) -> Result<Command<'a>, AllocError> {
+    Command::new(alloc, "run")
+        .about(help::RUN)
+        .after_help(help::LINES)
+        .arg(buckets(alloc))?
+        .arg(edits(alloc))
+}
+
+fn buckets<'a>(alloc: Global) -> Arg<'a> {
+    Arg::new(alloc, "buckets")
+        .long("buckets")
+        .value_name("N")
+        .help("At most how many buckets, 1 to 17: N hold 8 * (2^N - 1) elements")
+        .action(ArgAction::Set)
+        .value_parser(value_parser!(u32).range(1..=17))
+        .default_value("17")
+}
+
+fn edits<'a>(alloc: Global) -> Arg<'a> {
+    Arg::new(alloc, "edits")
+        .long("edits")
+        .value_name("N")
+        .help("At most how many edits, 1 to 16777215")
+        .action(ArgAction::Set)
+        .value_parser(value_parser!(u32).range(1..=16_777_215))
+        .default_value("16777215")
+}

@@ -1,0 +1,72 @@
+//! The program `livevec`: it reads a command line, hands the streams to the crates below, and prints. It decides
+//! nothing else.
+#![tactic(auto)]
+
+mod command_line;
+mod help;
+
+use clap::{ArgMatches, Error};
+use clap::error::ErrorKind;
+use lv_script::{Fault, run_script};
+use std::process::ExitCode;
+use std::rt::Env;
+use std::{env, io};
+
+/// Statuses: 0; 1 on a fault, printed on standard error as `livevec: fault N`; 2 on a usage fault, whose text goes to standard error.
+fn main(rt: HostRuntime) -> ExitCode {
+    match run(&rt) {
+        Ok(status) => ExitCode::from(status),
+        Err(fault) => {
+            let _ = eprintln!(rt; "livevec: {fault}");
+            ExitCode::FAILURE
+        }
+    }
+}
+
+// Reads the command line and does what it asks.
+fn run<R: AllocGlobal + Env + Eprint + Input + Print>(rt: &R) -> Result<u8, Fault> {
+    let words = match words_of(rt) {
+        Ok(words) => words,
+        Err(error) if error.kind() == io::ErrorKind::OutOfMemory => return Err(Fault::NoMemory),
+        Err(_) => return not_text(rt),
+    };
+    let command = command_line::command(rt.alloc()).map_err(|_| Fault::NoMemory)?;
+    match command.try_get_matches_from(words.as_slice()) {
+        Ok(matches) => obey(rt, &matches),
+        Err(error) => show(rt, &error),
+    }
+}
+
+// The words of the command line.
+fn words_of<R: AllocGlobal + Env>(rt: &R) -> io::Result<Vec<String>> {
+    Ok(env::args(rt)?.collect(rt.alloc())?)
+}
+
+// Does what a command line asks.
+fn obey<R: AllocGlobal + Input + Print>(rt: &R, matches: &ArgMatches<'_>) -> Result<u8, Fault> {
+    if let Some(asked) = matches.subcommand_matches("run") {
+        let limits = command_line::limits(asked);
+        let mut reader = rt.reader();
+        let mut writer = io::writer(rt);
+        run_script(rt.alloc(), limits, &mut reader, &mut writer)?;
+    }
+    Ok(0)
+}
+
+// Shows help on standard output, or what is wrong with the command line on standard error.
+fn show<R: Eprint + Print>(rt: &R, error: &Error) -> Result<u8, Fault> {
+    if error.kind() == ErrorKind::OutOfMemory {
+        return Err(Fault::NoMemory);
+    }
+    let printed = error.print(rt);
+    if error.use_stderr() {
+        return Ok(2);
+    }
+    printed.map(|()| 0).map_err(|_| Fault::WriteFault)
+}
+
+// A word of the command line is no text.
+fn not_text<R: Eprint>(rt: &R) -> Result<u8, Fault> {
+    let _ = rt.eprintln("error: a word of the command line isn't UTF-8\n\nFor more information, try '--help'.");
+    Ok(2)
+}

@@ -1,0 +1,4 @@
+pub mod Entries
+pub mod PairFolds
+pub mod RunSums
+pub mod SixFolds

@@ -1,0 +1,14 @@
+use Rattle.std.proofs.Common.{◌≡◌, take, All}
+use Rattle.lv_geometry.specs.Elements.{IsElement}
+use Rattle.lv_bodies.specs.Body.{fold_of}
+use Rattle.lv_bodies.proofs.folds.fold_slice.Given as goal
+
+-- the fold of what was read so far, each of it of 64 bits
+abbrev pub invariant-loop-x : goal.invariant-loop-x
+invariant-loop-x g l =
+    let meaning = g.B.Body.meaning l.body in
+    record {
+      so_far : l.sum ≡ fold_of (g.B.Body.operations meaning) (take l.x-index l.xs);
+      within : g.B.Body.is_within meaning l.sum l.x-index;
+      elements : All IsElement (take l.x-index l.xs);
+    }

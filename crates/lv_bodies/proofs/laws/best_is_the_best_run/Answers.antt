@@ -1,0 +1,5 @@
+use Rattle.lv_bodies.specs.PlainLaws.{plain_best-is}
+use Rattle.lv_bodies.proofs.laws.best_is_the_best_run.Goals as goal
+
+pub returns : goal.returns
+returns c = plain_best-is

@@ -1,0 +1,8 @@
+use Rattle.lv_bodies.specs.PlainLaws.{plain_least-is, plain_greatest-is}
+use Rattle.lv_bodies.proofs.laws.extremes_are_reached_bounds.Goals as goal
+
+pub returns-clause-least : goal.returns-clause-least
+returns-clause-least c = plain_least-is
+
+pub returns-clause-greatest : goal.returns-clause-greatest
+returns-clause-greatest c = plain_greatest-is

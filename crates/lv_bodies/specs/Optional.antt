@@ -1,0 +1,21 @@
+-- Summaries that are missing where there are no elements.
+use Rattle.std.specs.Prelude.{ℕ, ℤ, Option, Some, None, IfSome}
+use Rattle.lv_bodies.specs.Body.{Operations}
+
+-- what is there of two, joined where both are
+abbrev pub join_of_both : {T : Type 0} → (T → T → T) → Option T → Option T → Option T
+join_of_both join None t = t
+join_of_both join (Some s) None = Some s
+join_of_both join (Some s) (Some t) = Some (join s t)
+
+-- the operations on summaries that are missing where there are no elements
+abbrev pub optional_operations : {T : Type 0} → (ℤ → T) → (T → T → T) → Operations (Option T)
+optional_operations lift join = record {
+  identity = None;
+  lift = λ x. Some (lift x);
+  join = join_of_both join;
+}
+
+-- what is there can be the summary of n elements
+abbrev pub IsWithinIfSome : {T : Type 0} → (T → ℕ → Type 0) → Option T → ℕ → Type 0
+IsWithinIfSome within s n = IfSome s (λ t. within t n)

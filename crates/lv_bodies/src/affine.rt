@@ -1,0 +1,105 @@
+ghost use Rattle.std.specs.Prelude.{◌≡◌};
+
+use crate::bodies::Body;
+use crate::kinds::{Kind, Shown};
+use crate::singles::Single;
+
+/// The map `y -> a * y + b` modulo 2^32.
+#[derive(Clone, Copy, Debug, PartialEq, Eq, Hash)]
+pub struct Line {
+    pub a: u32,
+    pub b: u32,
+}
+
+impl Line {
+    ghost use Rattle.lv_bodies.specs.Lines.{line_of, join_lines};
+
+    /// The map of one element: by its number of 256s, rounded down, and the rest.
+    #[inline(always)]
+    fn of(x: i64) -> Line
+        ensures { result ≡ line_of x }
+    {
+        let bits = x.cast_unsigned();
+        Line {
+            a: (bits / 256 % (1 << 32)) as u32,
+            b: (bits % 256) as u32,
+        }
+    }
+
+    /// This map, and then the next.
+    #[inline(always)]
+    fn then(self, next: Line) -> Line
+        ensures { result ≡ join_lines self next }
+    {
+        Line {
+            a: self.a.wrapping_mul(next.a),
+            b: next.a.wrapping_mul(self.b).wrapping_add(next.b),
+        }
+    }
+}
+
+/// The map that the elements are in turn, each as `y -> a * y + b` modulo 2^32 for `a` its number of 256s, rounded
+/// down, and `b` the rest.
+#[derive(Clone, Copy, Debug, PartialEq, Eq, Hash)]
+pub struct Affine;
+
+impl Body for Affine {
+    ghost use Rattle.lv_bodies.specs.Lines.{affine_operations, IsLine};
+    ghost use Rattle.lv_bodies.specs.LineLaws.{affine_laws, exact_lines};
+
+    type S = Line;
+
+    ghost Meaning = { Unit {0} };
+
+    ghost meaning = { λ _. tt };
+
+    ghost operations = { λ _. affine_operations };
+
+    ghost is_within = { λ _. IsLine };
+
+    ghost laws = { λ _. affine_laws };
+
+    #[inline(always)]
+    fn identity(&self) -> Line {
+        Line { a: 1, b: 0 }
+    }
+
+    #[inline(always)]
+    fn lift(&self, x: i64) -> Line {
+        Line::of(x)
+    }
+
+    #[inline(always)]
+    fn combine(&self, a: Line, b: Line) -> Line {
+        a.then(b)
+    }
+
+    fn same(&self, _other: &Affine) -> bool {
+        true
+    }
+
+    ghost equal = { exact_lines };
+}
+
+impl Single for Affine {
+    ghost use Rattle.lv_bodies.specs.declared.kinds.Kind.TheVariants as kind;
+    ghost use Rattle.lv_bodies.specs.declared.kinds.Shown.TheVariants as shown;
+    ghost use Rattle.lv_bodies.specs.Plain.{plain_affine};
+    ghost use Rattle.lv_bodies.specs.LineLaws.{fold_of-affine, shown_alike};
+
+    ghost the_kind = { kind.Affine };
+
+    ghost shown_as = { λ _ s. shown.Affine s.a s.b };
+
+    ghost plain = { λ _ xs. shown.Affine (plain_affine xs).0 (plain_affine xs).1 };
+
+    fn kind(&self) -> Kind {
+        Kind::Affine
+    }
+
+    fn shown(&self, s: Line) -> Shown {
+        Shown::Affine { a: s.a, b: s.b }
+    }
+
+    ghost shows_plain = { λ _ xs can. let same = fold_of-affine xs can in shown_alike _ _ _ _ same.0 same.1 };
+}

@@ -1,0 +1,123 @@
+ghost use Rattle.std.specs.Prelude.{◌≡◌};
+
+use crate::bodies::Body;
+use crate::kinds::{Kind, Shown};
+use crate::singles::Single;
+
+/// What is kept of some neighbours, of which there is at least one.
+#[derive(Clone, Copy, Debug, PartialEq, Eq, Hash)]
+pub struct Run {
+    /// All of them added up.
+    pub total: i128,
+    /// The greatest total of some that begin with the first.
+    pub prefix: i128,
+    /// The greatest total of some that end with the last.
+    pub suffix: i128,
+    /// The greatest total of some neighbours among them.
+    pub best: i128,
+}
+
+impl Run {
+    ghost use Rattle.lv_bodies.specs.Body.{CanJoin};
+    ghost use Rattle.lv_bodies.specs.Runs.{run_of, join_runs, IsRunOf};
+
+    /// The run of one element.
+    #[inline(always)]
+    fn of(x: i64) -> Run
+        ensures { result ≡ run_of x }
+    {
+        let x = i128::from(x);
+        Run {
+            total: x,
+            prefix: x,
+            suffix: x,
+            best: x,
+        }
+    }
+
+    /// The run of neighbours and of those after them.
+    #[inline(always)]
+    fn join(self, next: Run) -> Run
+        requires { CanJoin IsRunOf self next }
+        ensures { result ≡ join_runs self next }
+    {
+        Run {
+            total: self.total + next.total,
+            prefix: self.prefix.max(self.total + next.prefix),
+            suffix: next.suffix.max(next.total + self.suffix),
+            best: self.best.max(next.best).max(self.suffix + next.prefix),
+        }
+    }
+}
+
+/// The greatest total of at least one neighbour, if there is one.
+#[derive(Clone, Copy, Debug, PartialEq, Eq, Hash)]
+pub struct Best;
+
+impl Body for Best {
+    ghost use Rattle.lv_bodies.specs.Runs.{best_operations, IsBest};
+    ghost use Rattle.lv_bodies.specs.RunLaws.{best_laws, exact_runs};
+    ghost use Rattle.lv_bodies.specs.EqualLaws.{exact_option};
+
+    type S = Option<Run>;
+
+    ghost Meaning = { Unit {0} };
+
+    ghost meaning = { λ _. tt };
+
+    ghost operations = { λ _. best_operations };
+
+    ghost is_within = { λ _. IsBest };
+
+    ghost laws = { λ _. best_laws };
+
+    #[inline(always)]
+    fn identity(&self) -> Option<Run> {
+        None
+    }
+
+    #[inline(always)]
+    fn lift(&self, x: i64) -> Option<Run> {
+        Some(Run::of(x))
+    }
+
+    #[inline(always)]
+    fn combine(&self, a: Option<Run>, b: Option<Run>) -> Option<Run> {
+        match (a, b) {
+            (Some(run), Some(next)) => Some(run.join(next)),
+            (None, t) => t,
+            (s, None) => s,
+        }
+    }
+
+    fn same(&self, _other: &Best) -> bool {
+        true
+    }
+
+    ghost equal = { exact_option _ exact_runs };
+}
+
+impl Single for Best {
+    ghost use Rattle.std.specs.Prelude.{option_map};
+    ghost use Rattle.std.proofs.Common.{ap};
+    ghost use Rattle.lv_bodies.specs.declared.kinds.Kind.TheVariants as kind;
+    ghost use Rattle.lv_bodies.specs.declared.kinds.Shown.TheVariants as shown;
+    ghost use Rattle.lv_bodies.specs.Plain.{plain_best};
+    ghost use Rattle.lv_bodies.specs.BestLaws.{fold_of-best};
+
+    ghost the_kind = { kind.Best };
+
+    ghost shown_as = { λ _ s. shown.Best (option_map (λ r. r.best) s) };
+
+    ghost plain = { λ _ xs. shown.Best (plain_best xs) };
+
+    fn kind(&self) -> Kind {
+        Kind::Best
+    }
+
+    fn shown(&self, s: Option<Run>) -> Shown {
+        Shown::Best(s.map(|run| run.best))
+    }
+
+    ghost shows_plain = { λ _ xs _. ap shown.Best (fold_of-best xs) };
+}

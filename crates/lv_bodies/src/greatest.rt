@@ -1,0 +1,74 @@
+use crate::bodies::Body;
+use crate::kinds::{Kind, Shown};
+use crate::singles::Single;
+
+/// The greatest element, if there is one.
+#[derive(Clone, Copy, Debug, PartialEq, Eq, Hash)]
+pub struct Greatest;
+
+impl Body for Greatest {
+    ghost use Rattle.std.proofs.Common.{rules};
+    ghost use Rattle.lv_bodies.specs.Extremes.{greatest_operations, IsExtreme};
+    ghost use Rattle.lv_bodies.specs.ExtremeLaws.{greatest_laws};
+
+    type S = Option<i64>;
+
+    ghost Meaning = { Unit {0} };
+
+    ghost meaning = { λ _. tt };
+
+    ghost operations = { λ _. greatest_operations };
+
+    ghost is_within = { λ _. IsExtreme };
+
+    ghost laws = { λ _. greatest_laws };
+
+    #[inline(always)]
+    fn identity(&self) -> Option<i64> {
+        None
+    }
+
+    #[inline(always)]
+    fn lift(&self, x: i64) -> Option<i64> {
+        Some(x)
+    }
+
+    #[inline(always)]
+    fn combine(&self, a: Option<i64>, b: Option<i64>) -> Option<i64> {
+        match (a, b) {
+            (Some(x), Some(y)) => Some(x.max(y)),
+            (None, t) => t,
+            (s, None) => s,
+        }
+    }
+
+    fn same(&self, _other: &Greatest) -> bool {
+        true
+    }
+
+    ghost equal = { λ s t. Prim.search rules };
+}
+
+impl Single for Greatest {
+    ghost use Rattle.std.proofs.Common.{ap};
+    ghost use Rattle.lv_bodies.specs.declared.kinds.Kind.TheVariants as kind;
+    ghost use Rattle.lv_bodies.specs.declared.kinds.Shown.TheVariants as shown;
+    ghost use Rattle.lv_bodies.specs.Plain.{plain_greatest};
+    ghost use Rattle.lv_bodies.specs.ExtremeLaws.{fold_of-greatest};
+
+    ghost the_kind = { kind.Greatest };
+
+    ghost shown_as = { λ _ s. shown.Greatest s };
+
+    ghost plain = { λ _ xs. shown.Greatest (plain_greatest xs) };
+
+    fn kind(&self) -> Kind {
+        Kind::Greatest
+    }
+
+    fn shown(&self, s: Option<i64>) -> Shown {
+        Shown::Greatest(s)
+    }
+
+    ghost shows_plain = { λ _ xs _. ap shown.Greatest (fold_of-greatest xs) };
+}

@@ -1,0 +1,25 @@
+ghost use Rattle.std.specs.Prelude.{◌≡◌, ℤ, List};
+ghost use Rattle.lv_bodies.specs.Body.{fold_of};
+ghost use Rattle.lv_bodies.specs.Plain.{plain_least, plain_greatest, plain_best, IsPlainLeast, IsPlainGreatest, IsPlainBest};
+
+use crate::bodies::Body;
+use crate::pairs::Pair;
+
+/// The plain least and greatest are reached bounds: there is none exactly where there are no elements, and else it is
+/// an element that no element goes below, or above.
+pub fn extremes_are_reached_bounds()
+    ensures least { (xs : List ℤ) → IsPlainLeast xs (plain_least xs) }
+    ensures greatest { (xs : List ℤ) → IsPlainGreatest xs (plain_greatest xs) }
+{}
+
+/// The plain best is the greatest total from some place up to a later one, and there is none exactly where there are
+/// no elements.
+pub fn best_is_the_best_run()
+    ensures { (xs : List ℤ) → IsPlainBest xs (plain_best xs) }
+{}
+
+/// The fold of a pair is the pair of the folds.
+pub fn pair_folds_apart<A: Body, B: Body>()
+    ensures { (m : A.Meaning) (n : B.Meaning) (xs : List ℤ) →
+        fold_of (⟦<Pair<A, B> as Body>⟧.operations (m, n)) xs ≡ (fold_of (A.operations m) xs, fold_of (B.operations n) xs) }
+{}

@@ -1,0 +1,74 @@
+use crate::bodies::Body;
+use crate::kinds::{Kind, Shown};
+use crate::singles::Single;
+
+/// The least element, if there is one.
+#[derive(Clone, Copy, Debug, PartialEq, Eq, Hash)]
+pub struct Least;
+
+impl Body for Least {
+    ghost use Rattle.std.proofs.Common.{rules};
+    ghost use Rattle.lv_bodies.specs.Extremes.{least_operations, IsExtreme};
+    ghost use Rattle.lv_bodies.specs.ExtremeLaws.{least_laws};
+
+    type S = Option<i64>;
+
+    ghost Meaning = { Unit {0} };
+
+    ghost meaning = { λ _. tt };
+
+    ghost operations = { λ _. least_operations };
+
+    ghost is_within = { λ _. IsExtreme };
+
+    ghost laws = { λ _. least_laws };
+
+    #[inline(always)]
+    fn identity(&self) -> Option<i64> {
+        None
+    }
+
+    #[inline(always)]
+    fn lift(&self, x: i64) -> Option<i64> {
+        Some(x)
+    }
+
+    #[inline(always)]
+    fn combine(&self, a: Option<i64>, b: Option<i64>) -> Option<i64> {
+        match (a, b) {
+            (Some(x), Some(y)) => Some(x.min(y)),
+            (None, t) => t,
+            (s, None) => s,
+        }
+    }
+
+    fn same(&self, _other: &Least) -> bool {
+        true
+    }
+
+    ghost equal = { λ s t. Prim.search rules };
+}
+
+impl Single for Least {
+    ghost use Rattle.std.proofs.Common.{ap};
+    ghost use Rattle.lv_bodies.specs.declared.kinds.Kind.TheVariants as kind;
+    ghost use Rattle.lv_bodies.specs.declared.kinds.Shown.TheVariants as shown;
+    ghost use Rattle.lv_bodies.specs.Plain.{plain_least};
+    ghost use Rattle.lv_bodies.specs.ExtremeLaws.{fold_of-least};
+
+    ghost the_kind = { kind.Least };
+
+    ghost shown_as = { λ _ s. shown.Least s };
+
+    ghost plain = { λ _ xs. shown.Least (plain_least xs) };
+
+    fn kind(&self) -> Kind {
+        Kind::Least
+    }
+
+    fn shown(&self, s: Option<i64>) -> Shown {
+        Shown::Least(s)
+    }
+
+    ghost shows_plain = { λ _ xs _. ap shown.Least (fold_of-least xs) };
+}

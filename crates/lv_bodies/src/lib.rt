@@ -1,0 +1,37 @@
+//! Bodies: what a reduction computes of its elements, as an identity, what an element lifts to, and a join.
+//!
+//! The model of a summary is its plain value, and a body's meaning decides its operations. Each body proves the laws
+//! by which the fold of two lists joined end to end is the join of their folds, and what is shown of a fold is the
+//! plain value of its kind, stated without any join. It does not store elements, cut ranges or take memory.
+#![tactic(auto)]
+
+mod affine;
+mod automata;
+mod best;
+mod bodies;
+mod folds;
+mod greatest;
+mod kinds;
+mod laws;
+mod least;
+mod pairs;
+mod singles;
+mod sixes;
+mod sums;
+
+pub use affine::{Affine, Line};
+pub use automata::Automaton;
+pub use best::{Best, Run};
+pub use bodies::Body;
+pub use folds::{fold_more, fold_slice};
+pub use greatest::Greatest;
+pub use kinds::{Kind, Shown};
+pub use laws::{best_is_the_best_run, extremes_are_reached_bounds, pair_folds_apart};
+pub use least::Least;
+pub use pairs::Pair;
+pub use singles::Single;
+pub use sixes::{Six, face, six};
+pub use sums::Sum;
+
+#[cfg(test)]
+mod tests;

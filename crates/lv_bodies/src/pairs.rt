@@ -1,0 +1,46 @@
+use crate::bodies::Body;
+
+/// Two bodies side by side: both are computed of the same elements.
+#[derive(Clone, Copy, Debug, PartialEq, Eq, Hash)]
+pub struct Pair<A, B> {
+    pub first: A,
+    pub second: B,
+}
+
+impl<A: Body, B: Body> Body for Pair<A, B> {
+    ghost use Rattle.lv_bodies.specs.Pairs.{pair_operations, IsPairWithin};
+    ghost use Rattle.lv_bodies.specs.PairLaws.{pair_laws, exact_pair};
+
+    type S = (A::S, B::S);
+
+    ghost Meaning = { A.Meaning × B.Meaning };
+
+    ghost meaning = { λ p. (A.meaning p.first, B.meaning p.second) };
+
+    ghost operations = { λ m. pair_operations (A.operations m.0) (B.operations m.1) };
+
+    ghost is_within = { λ m. IsPairWithin (A.is_within m.0) (B.is_within m.1) };
+
+    ghost laws = { λ p. pair_laws _ _ _ _ (A.laws p.first) (B.laws p.second) };
+
+    #[inline(always)]
+    fn identity(&self) -> (A::S, B::S) {
+        (self.first.identity(), self.second.identity())
+    }
+
+    #[inline(always)]
+    fn lift(&self, x: i64) -> (A::S, B::S) {
+        (self.first.lift(x), self.second.lift(x))
+    }
+
+    #[inline(always)]
+    fn combine(&self, a: (A::S, B::S), b: (A::S, B::S)) -> (A::S, B::S) {
+        (self.first.combine(a.0, b.0), self.second.combine(a.1, b.1))
+    }
+
+    fn same(&self, other: &Pair<A, B>) -> bool {
+        self.first.same(&other.first) && self.second.same(&other.second)
+    }
+
+    ghost equal = { exact_pair _ _ A.equal B.equal };
+}

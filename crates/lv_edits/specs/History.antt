@@ -1,0 +1,34 @@
+-- Edits on a plain list: what each one does, and what all of them make of the empty list.
+use Rattle.std.specs.Prelude.{ℤ, ◌-◌, Option, Some, None, option_and_then, unwrap_or, IsSome, List, [], ◌∷◌, ◌++◌, length, take, fold, slice_set, nat_lt, if◌then◌else◌}
+use Rattle.lv_geometry.specs.Bounds.{Bounds}
+use Rattle.lv_edits.specs.declared.edit.Edit.{Edit}
+use Rattle.lv_edits.specs.declared.edit.Edit.TheVariants.{Push, Pop, Write, Reserve}
+
+-- the list after one edit, or nothing where the edit isn't possible: a pop drops the last element, a reserve
+-- leaves the list as it is
+abbrev pub applied : List ℤ → Edit → Option (List ℤ)
+applied xs (Push x) = Some (xs ++ x ∷ [])
+applied xs Pop = if nat_lt 0 (length xs) then Some (take (length xs - 1) xs) else None
+applied xs (Write i x) = if nat_lt i (length xs) then Some (slice_set xs i x) else None
+applied xs (Reserve n) = Some xs
+
+-- the list after all edits, in order, from the empty list; nothing where one of them isn't possible
+unfoldable pub replayed : List Edit → Option (List ℤ)
+replayed edits = fold (λ list edit. option_and_then (λ xs. applied xs edit) list) (Some []) edits
+
+-- each edit is possible where it comes
+abbrev pub IsLegal : List Edit → Type 0
+IsLegal edits = IsSome (replayed edits)
+
+-- the list after legal edits
+unfoldable pub list_of : List Edit → List ℤ
+list_of edits = unwrap_or (replayed edits) []
+
+-- all that a vector has seen: its limits, and the edits that it accepted
+pub record History : Type 0 where
+  pub limits : Bounds
+  pub journal : List Edit
+
+-- a history with one more edit
+abbrev pub with_edit : History → Edit → History
+with_edit h edit = record h { journal = h.journal ++ edit ∷ [] }

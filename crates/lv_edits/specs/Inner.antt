@@ -1,0 +1,22 @@
+-- What the fields of `Edits` keep.
+use Rattle.std.specs.Prelude.{◌≡◌, ℕ, ℤ, Some, ◌≤◌, max, List, length, All}
+use Rattle.lv_geometry.specs.Bounds.{AreAllowed, Bounds}
+use Rattle.lv_geometry.specs.Cells.{AreFewest, capacity_of}
+use Rattle.lv_geometry.specs.Elements.{IsElement}
+use Rattle.lv_edits.specs.declared.edit.Edit.{Edit}
+use Rattle.lv_edits.specs.Capacity.{capacity_after, longest, most_reserved}
+use Rattle.lv_edits.specs.History.{replayed}
+
+-- the items are the journal replayed, and so many buckets are open as it needs
+pub record IsReplay (items : List ℤ) (journal : List Edit) (limits : Bounds) (buckets : ℕ) : Type 0 where
+  pub allowed : AreAllowed limits.buckets limits.edits
+  pub replay : replayed journal ≡ Some items
+  pub elements : All IsElement items
+  pub edits : length journal ≤ limits.edits
+  pub size : length items ≤ capacity_of buckets
+  pub few : buckets ≤ limits.buckets
+  pub opened : capacity_of buckets ≡ capacity_after journal
+
+-- so many buckets are needed, and no fewer, for all that the list ever had and all that was ever reserved
+abbrev pub AreNeeded : List Edit → ℕ → Type 0
+AreNeeded journal buckets = AreFewest (max (longest journal) (most_reserved journal)) buckets

@@ -1,0 +1,24 @@
+-- What every vector keeps of its history.
+use Rattle.std.specs.Prelude.{◌≡◌, Some, ◌≤◌, length, All}
+use Rattle.lv_geometry.specs.Bounds.{AreAllowed}
+use Rattle.lv_geometry.specs.Cells.{capacity_of}
+use Rattle.lv_geometry.specs.Elements.{IsElement}
+use Rattle.lv_edits.specs.declared.edit.Edit.{Edit}
+use Rattle.lv_edits.specs.declared.edit.Edit.TheVariants.{Push, Pop, Write, Reserve}
+use Rattle.lv_edits.specs.History.{History, list_of, replayed}
+
+-- the journal is legal and within the limits, and so is the list, whose elements are numbers of 64 bits
+pub record InLimits (h : History) : Type 0 where
+  pub allowed : AreAllowed h.limits.buckets h.limits.edits
+  pub legal : replayed h.journal ≡ Some (list_of h.journal)
+  pub edits : length h.journal ≤ h.limits.edits
+  pub size : length (list_of h.journal) ≤ capacity_of h.limits.buckets
+  pub few : length (list_of h.journal) ≤ 1048568
+  pub elements : All IsElement (list_of h.journal)
+
+-- the element that an edit puts into the list, where it does, is a number of 64 bits
+abbrev pub CarriesElement : Edit → Type 0
+CarriesElement (Push x) = IsElement x
+CarriesElement Pop = Unit {0}
+CarriesElement (Write i x) = IsElement x
+CarriesElement (Reserve n) = Unit {0}

@@ -1,0 +1,6 @@
+pub mod Capacity
+pub mod History
+pub mod Inner
+pub mod Kept
+pub mod Touch
+pub mod Verdict

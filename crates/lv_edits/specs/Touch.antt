@@ -1,0 +1,36 @@
+-- Which edits touch a node, and when a node is whole.
+use Rattle.std.specs.Prelude.{ℕ, ℤ, ◌+◌, ◌*◌, ◌^◌, Bool, false, ◌&&◌, Option, Some, None, List, length, take, drop, fold, slice_get, if◌then◌else◌}
+use Rattle.std.specs.List.{range_with_len}
+use Rattle.std.specs.Option.{option_map_or}
+use Rattle.lv_geometry.specs.declared.nodes.Node.{Node}
+use Rattle.lv_geometry.specs.Nodes.{covers, is_below, is_node}
+use Rattle.lv_edits.specs.declared.edit.Edit.{Edit}
+use Rattle.lv_edits.specs.declared.edit.Edit.TheVariants.{Push, Pop, Write, Reserve}
+use Rattle.lv_edits.specs.History.{list_of}
+
+-- the index at which an edit writes: a push at the end of the list, a write at its own; pops and reserves write nowhere
+abbrev pub index_written : List ℤ → Edit → Option ℕ
+index_written xs (Push x) = Some (length xs)
+index_written xs Pop = None
+index_written xs (Write i x) = Some i
+index_written xs (Reserve n) = None
+
+-- whether an edit on a list touches a node: it writes at an index of the node
+abbrev pub touches : List ℤ → Edit → Node → Bool
+touches xs edit n = option_map_or (covers n) (index_written xs edit) false
+
+-- whether edit j + 1 touches a node
+abbrev pub touches_at : List Edit → Node → ℕ → Bool
+touches_at edits n j = option_map_or (λ edit. touches (list_of (take j edits)) edit n) (slice_get edits j) false
+
+-- the number of the last edit that touched a node, 0 if none did
+unfoldable pub touched_by : List Edit → Node → ℕ
+touched_by edits n = fold (λ last j. if touches_at edits n j then j + 1 else last) 0 (range_with_len 0 (length edits))
+
+-- whether a node is whole: it is of a level that is kept, and all its indices are below the size
+abbrev pub is_whole : List Edit → Node → Bool
+is_whole edits n = is_node n && is_below n (length (list_of edits))
+
+-- the elements of a node, where it is whole
+abbrev pub cells_of : List Edit → Node → List ℤ
+cells_of edits n = take (8 ^ n.level) (drop (n.number * 8 ^ n.level) (list_of edits))

@@ -1,0 +1,51 @@
+-- Whether an edit is accepted, and what it answers.
+use Rattle.std.specs.Prelude.{◌≡◌, ℕ, ℤ, pos, ◌+◌, ◌-◌, Option, Some, None, Result, Ok, Err, ok_or, ◌⊎◌, List, [], ◌∷◌, ◌++◌, length, slice_get, nat_lt, nat_eq, if◌then◌else◌}
+use Rattle.std.specs.List.{slice_index_or}
+use Rattle.lv_geometry.specs.Bounds.{Bounds}
+use Rattle.lv_geometry.specs.Cells.{capacity_of}
+use Rattle.lv_geometry.specs.declared.refusals.Refusal.{Refusal}
+use Rattle.lv_geometry.specs.declared.refusals.Refusal.TheVariants.{Worn, Empty, OutOfRange, TooLarge, Full, NoMemory}
+use Rattle.lv_edits.specs.declared.edit.Edit.{Edit}
+use Rattle.lv_edits.specs.declared.edit.Edit.TheVariants.{Push, Pop, Write, Reserve}
+use Rattle.lv_edits.specs.declared.receipt.Receipt.{Receipt}
+use Rattle.lv_edits.specs.declared.receipt.Receipt.TheVariants.{Pushed, Popped, Written, Reserved}
+use Rattle.lv_edits.specs.Capacity.{capacity_after}
+use Rattle.lv_edits.specs.History.{History, list_of, with_edit}
+
+-- why an edit is refused on a list, while edits are left; each kind of edit has one reason of its own
+abbrev pub refused_on : Bounds → List ℤ → Edit → Option Refusal
+refused_on limits xs (Push x) = if nat_eq (length xs) (capacity_of limits.buckets) then Some Full else None
+refused_on limits xs Pop = if nat_eq (length xs) 0 then Some Empty else None
+refused_on limits xs (Write i x) = if nat_lt i (length xs) then None else Some (OutOfRange (length xs))
+refused_on limits xs (Reserve n) = if nat_lt (capacity_of limits.buckets) n then Some (TooLarge (capacity_of limits.buckets)) else None
+
+-- the first refusal that applies to an edit, or none: the limit of edits comes before all others
+abbrev pub verdict_of : Bounds → List Edit → Edit → Option Refusal
+verdict_of limits edits edit = if nat_eq (length edits) limits.edits then Some Worn else refused_on limits (list_of edits) edit
+
+-- what an accepted edit answers: its number, and the place, the element dropped, the element before, or the capacity
+abbrev pub receipt_of : List Edit → Edit → Receipt
+receipt_of edits (Push x) = Pushed (length edits + 1) (length (list_of edits))
+receipt_of edits Pop = Popped (length edits + 1) (slice_index_or (list_of edits) (length (list_of edits) - 1) (pos 0))
+receipt_of edits (Write i x) = Written (length edits + 1) (slice_index_or (list_of edits) i (pos 0))
+receipt_of edits (Reserve n) = Reserved (length edits + 1) (capacity_after (edits ++ Reserve n ∷ []))
+
+-- an edit was accepted: nothing refuses it, it answers its receipt, and the journal has it at its end
+pub record Accepts (old : History) (edit : Edit) (receipt : Receipt) (new : History) : Type 0 where
+  pub verdict : verdict_of old.limits old.journal edit ≡ None
+  pub receipt_is : receipt ≡ receipt_of old.journal edit
+  pub journal : new ≡ with_edit old edit
+
+-- an edit was refused by the first refusal that applies, or for want of memory where none does; nothing has changed
+pub record Refuses (old : History) (edit : Edit) (refusal : Refusal) (new : History) : Type 0 where
+  pub verdict : (verdict_of old.limits old.journal edit ≡ Some refusal) ⊎ ((verdict_of old.limits old.journal edit ≡ None) × (refusal ≡ NoMemory))
+  pub same : new ≡ old
+
+-- what a call answers to an edit
+abbrev pub Answers : History → Edit → Result Receipt Refusal → History → Type 0
+Answers old edit (Ok receipt) new = Accepts old edit receipt new
+Answers old edit (Err refusal) new = Refuses old edit refusal new
+
+-- the element at an index, or the refusal that tells the size
+abbrev pub element_at : List Edit → ℕ → Result ℤ Refusal
+element_at edits i = ok_or (slice_get (list_of edits) i) (OutOfRange (length (list_of edits)))

@@ -1,0 +1,16 @@
+//! The vector's edits: push, pop, overwrite and reserve, each with its number, its verdict and its receipt.
+//!
+//! The model of `Edits` is its limits and its journal, and nothing else: the list is the journal replayed
+//! (`list_of`), and each call is stated on that list. It knows nothing of summaries.
+#![tactic(auto)]
+
+mod edit;
+mod edits;
+mod receipt;
+
+pub use edit::Edit;
+pub use edits::Edits;
+pub use receipt::Receipt;
+
+#[cfg(test)]
+mod tests;

@@ -1,0 +1,12 @@
+/// What an accepted edit answers. `edit` is its number.
+#[derive(Clone, Copy, Debug, PartialEq, Eq, Hash)]
+pub enum Receipt {
+    /// Where the element was put.
+    Pushed { edit: u32, index: u32 },
+    /// The element that was dropped.
+    Popped { edit: u32, value: i64 },
+    /// The element that was overwritten.
+    Written { edit: u32, before: i64 },
+    /// How many elements the open buckets hold.
+    Reserved { edit: u32, capacity: u32 },
+}

@@ -1,0 +1,105 @@
+use super::*;
+use lv_geometry::{Limits, Refusal};
+
+#[test]
+fn edits_and_receipts(rt: HostRuntime) {
+    let mut edits = Edits::new(rt.alloc(), Limits::greatest());
+    assert_eq!(rt; edits.push(4), Ok(Receipt::Pushed { edit: 1, index: 0 }));
+    assert_eq!(rt; edits.push(6), Ok(Receipt::Pushed { edit: 2, index: 1 }));
+    assert_eq!(rt;
+        edits.write(0, 9),
+        Ok(Receipt::Written { edit: 3, before: 4 })
+    );
+    assert_eq!(rt; edits.write(2, 9), Err(Refusal::OutOfRange { size: 2 }));
+    assert_eq!(rt; edits.pop(), Ok(Receipt::Popped { edit: 4, value: 6 }));
+    assert_eq!(rt;
+        edits.reserve(9),
+        Ok(Receipt::Reserved {
+            edit: 5,
+            capacity: 24
+        })
+    );
+    edits.settle();
+    assert_eq!(rt; edits.get(0), Ok(9));
+    assert_eq!(rt; edits.get(1), Err(Refusal::OutOfRange { size: 1 }));
+    assert_eq!(rt; edits.size(), 1);
+    assert_eq!(rt; edits.edit(), 5);
+    assert_eq!(rt; edits.capacity(), 24);
+    assert_eq!(rt; edits.limits(), Limits::greatest());
+    let journal = edits.journal();
+    assert_eq!(rt; journal.len(), 5);
+    assert_eq!(rt; journal[3], Edit::Pop);
+}
+
+#[test]
+fn applied_edits_and_verdicts(rt: HostRuntime) -> Result<(), Refusal> {
+    let mut edits = Edits::new(rt.alloc(), Limits::new(1, 11)?);
+    assert_eq!(rt; edits.apply(Edit::Pop), Err(Refusal::Empty));
+    assert_eq!(rt;
+        edits.apply(Edit::Reserve(9)),
+        Err(Refusal::TooLarge { limit: 8 })
+    );
+    for index in 0..8 {
+        assert_eq!(rt;
+            edits.apply(Edit::Push(7)),
+            Ok(Receipt::Pushed {
+                edit: index + 1,
+                index
+            })
+        );
+    }
+    assert_eq!(rt; edits.verdict(&Edit::Push(7)), Some(Refusal::Full));
+    assert_eq!(rt;
+        edits.apply(Edit::Write {
+            index: 7,
+            value: -3
+        }),
+        Ok(Receipt::Written { edit: 9, before: 7 })
+    );
+    assert_eq!(rt;
+        edits.apply(Edit::Pop),
+        Ok(Receipt::Popped {
+            edit: 10,
+            value: -3
+        })
+    );
+    assert_eq!(rt; edits.verdict(&Edit::Push(7)), None);
+    assert_eq!(rt;
+        edits.apply(Edit::Reserve(1)),
+        Ok(Receipt::Reserved {
+            edit: 11,
+            capacity: 8
+        })
+    );
+    assert_eq!(rt; edits.verdict(&Edit::Pop), Some(Refusal::Worn));
+    assert_eq!(rt; edits.push(1), Err(Refusal::Worn));
+    if edits.size() > 6 {
+        assert_eq!(rt; edits.read(6), 7);
+    }
+    Ok(())
+}
+
+#[test]
+fn buckets_open_and_stay(rt: HostRuntime) {
+    let mut edits = Edits::new(rt.alloc(), Limits::greatest());
+    assert_eq!(rt; edits.capacity(), 0);
+    for _ in 0..9 {
+        assert!(rt; edits.push(1).is_ok());
+    }
+    assert_eq!(rt; edits.capacity(), 24);
+    for _ in 0..9 {
+        assert!(rt; edits.pop().is_ok());
+    }
+    assert_eq!(rt; edits.pop(), Err(Refusal::Empty));
+    assert_eq!(rt;
+        edits.reserve(3),
+        Ok(Receipt::Reserved {
+            edit: 19,
+            capacity: 24
+        })
+    );
+    assert_eq!(rt;
+        edits.reserve(1_048_569),
+        Err(Refusal::TooLarge { limit: 1_048_568 })
+    );
+}

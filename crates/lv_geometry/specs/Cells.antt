@@ -1,0 +1,30 @@
+-- Where an index lies in the two-level array, and how much its buckets hold.
+use Rattle.std.specs.Prelude.{◌≡◌, ℕ, ◌+◌, ◌-◌, ◌*◌, ◌^◌, ◌<◌, ◌≤◌}
+use Rattle.lv_geometry.specs.declared.places.Place.{Place}
+
+-- how many cells k open buckets hold: the first holds 8, each further one twice as many as the one before
+abbrev pub capacity_of : ℕ → ℕ
+capacity_of k = 8 * (2 ^ k - 1)
+
+-- a place that its bucket has
+abbrev pub IsCell : Place → Type 0
+IsCell p = p.cell < 8 * 2 ^ p.bucket
+
+-- the index at a place: the cells of the buckets before come first
+abbrev pub index_of : Place → ℕ
+index_of p = capacity_of p.bucket + p.cell
+
+-- h is the number of the highest set bit of n
+pub record IsHighestBit (n h : ℕ) : Type 0 where
+  pub reached : 2 ^ h ≤ n
+  pub last : n < 2 ^ (h + 1)
+
+-- with h the number of the highest set bit of i + 8, index i lies in bucket h - 3 at cell i + 8 - 2 ^ h
+pub record IsPlaceOf (i : ℕ) (p : Place) : Type 0 where
+  pub bucket : IsHighestBit (i + 8) (p.bucket + 3)
+  pub cell : i + 8 ≡ 2 ^ (p.bucket + 3) + p.cell
+
+-- k buckets hold n cells, and no fewer do
+pub record AreFewest (n k : ℕ) : Type 0 where
+  pub enough : n ≤ capacity_of k
+  pub fewest : (fewer : ℕ) → n ≤ capacity_of fewer → k ≤ fewer

@@ -1,0 +1,5 @@
+pub mod Bounds
+pub mod Cells
+pub mod Elements
+pub mod Nodes
+pub mod Numbers

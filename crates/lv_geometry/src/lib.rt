@@ -1,0 +1,21 @@
+//! The geometry of the vector: in which bucket and cell an index lies, how much the buckets hold, the
+//! nodes that summaries are kept for, the limits of a vector, and every refusal by its number.
+//!
+//! Nothing here keeps state or takes memory. The model is plain numbers: `place` and `index` are inverse
+//! to each other, and `k` open buckets hold `8 * (2 ^ k - 1)` cells. It does not store elements.
+#![tactic(auto)]
+
+mod cells;
+mod limits;
+mod nodes;
+mod places;
+mod refusals;
+
+pub use cells::{buckets_for, capacity, index, place};
+pub use limits::Limits;
+pub use nodes::{Node, block_of};
+pub use places::Place;
+pub use refusals::Refusal;
+
+#[cfg(test)]
+mod tests;

@@ -1,0 +1,138 @@
+-- The text of a command is read as that command.
+use Rattle.std.proofs.Common.{◌≡◌, ℕ, ◌<◌, ◌≤◌, true, false, List, [], ◌∷◌, length, take, codes, lit≤, Some, None, option_map, refl, sym, ap, ◌∙◌, arith, inl, inr}
+use Rattle.std.specs.Prelude.{decimal}
+use Rattle.std.proofs.lemmas.Bool.{cond-true, cond-false, le-ltb, lt-ltb, cases_lt}
+use Rattle.std.proofs.lemmas.List.{take_all, length-take-le}
+use Rattle.lv_bodies.specs.declared.kinds.Kind.{Kind}
+use Rattle.lv_bodies.specs.declared.kinds.Kind.TheVariants.{Sum, Least, Greatest, Best, Affine, Automaton}
+use Rattle.lv_standing.specs.Names.{IsName}
+use Rattle.lv_script.specs.declared.command.Command.{Command}
+use Rattle.lv_script.specs.declared.command.Command.TheVariants.{Push, Pop, Write, Reserve, Settle, Get, Size, Capacity, Reduce, Cost, Inclusive, Exclusive, Claim, Deliver, Forget, Watch, Unwatch, Answer}
+use Rattle.lv_script.specs.declared.command.Line.TheVariants.{Do, Bad}
+use Rattle.lv_script.specs.Words.{words_of, spaced}
+use Rattle.lv_script.specs.Grammar.{kind_name, kind_in, name_in, bounds_in, range_in, write_in, watch_in, command_in, line_in, line_of, command_or_bad, is_comment}
+use Rattle.lv_script.specs.Printed.{verb_of, arguments_of, range_words, printed, AreBounds, IsCommand}
+use Rattle.lv_script.proofs.PrintedNumbers.{number_in-decimal, element_in-signed_decimal}
+use Rattle.lv_script.proofs.PrintedWords.{IsPlainWord, ArePlainWords, words_of-spaced, length-spaced, spaced_printable, without_cr-none, plain_number, plain_element, plain_name, is_plain, plain_text}
+
+-- the word of a kind is read as that kind
+pub kind_in-kind_name : (kind : Kind) → kind_in (kind_name kind) ≡ Some kind
+unfolding kind_in
+kind_in-kind_name Sum = refl
+kind_in-kind_name Least = refl
+kind_in-kind_name Greatest = refl
+kind_in-kind_name Best = refl
+kind_in-kind_name Affine = refl
+kind_in-kind_name Automaton = refl
+
+-- a name is read as itself
+pub name_in-name : (name : List ℕ) → IsName name → name_in name ≡ Some name
+name_in-name name named = cond-true _ (Some name) None named
+
+-- two numbers are read from their digits
+pub bounds_in-decimal : (lo hi : ℕ) → AreBounds lo hi → bounds_in (decimal lo ∷ decimal hi ∷ []) ≡ Some (lo, hi)
+unfolding bounds_in
+bounds_in-decimal lo hi small = rw (number_in-decimal lo small.0, number_in-decimal hi small.1) refl
+
+-- a kind and two numbers are read from their words
+pub range_in-range_words : (kind : Kind) (lo hi : ℕ) → AreBounds lo hi → range_in (range_words kind lo hi) ≡ Some (kind, lo, hi)
+unfolding range_in
+range_in-range_words kind lo hi small = rw (kind_in-kind_name kind, bounds_in-decimal lo hi small) refl
+
+-- the words of a command are read as that command
+pub command_in-words : (command : Command) → IsCommand command → command_in (verb_of command ∷ arguments_of command) ≡ Some command
+unfolding command_in write_in watch_in
+command_in-words (Push value) fits = ap (option_map Push) (element_in-signed_decimal value fits)
+command_in-words Pop fits = refl
+command_in-words (Write index value) fits = rw (number_in-decimal index fits.0, element_in-signed_decimal value fits.1) refl
+command_in-words (Reserve n) fits = ap (option_map Reserve) (number_in-decimal n fits)
+command_in-words Settle fits = refl
+command_in-words (Get index) fits = ap (option_map Get) (number_in-decimal index fits)
+command_in-words Size fits = refl
+command_in-words Capacity fits = refl
+command_in-words (Reduce kind lo hi) fits = rw (range_in-range_words kind lo hi fits) refl
+command_in-words (Cost lo hi) fits = rw (bounds_in-decimal lo hi fits) refl
+command_in-words (Inclusive kind lo hi) fits = rw (range_in-range_words kind lo hi fits) refl
+command_in-words (Exclusive kind lo hi) fits = rw (range_in-range_words kind lo hi fits) refl
+command_in-words Claim fits = refl
+command_in-words (Deliver job) fits = ap (option_map Deliver) (number_in-decimal job fits)
+command_in-words Forget fits = refl
+command_in-words (Watch name kind lo hi) fits = rw (name_in-name name fits.0, range_in-range_words kind lo hi fits.1) refl
+command_in-words (Unwatch name) fits = ap (option_map Unwatch) (name_in-name name fits)
+command_in-words (Answer name) fits = ap (option_map Answer) (name_in-name name fits)
+
+-- the word of a kind is plain
+pub plain_kind : (kind : Kind) → IsPlainWord (kind_name kind)
+plain_kind Sum = plain_text (codes "sum") refl
+plain_kind Least = plain_text (codes "least") refl
+plain_kind Greatest = plain_text (codes "greatest") refl
+plain_kind Best = plain_text (codes "best") refl
+plain_kind Affine = plain_text (codes "affine") refl
+plain_kind Automaton = plain_text (codes "automaton") refl
+
+-- the first word of a command is plain and begins no comment, and at most four words come after it
+pub record HasPlainVerb (command : Command) : Type 0 where
+  pub plain : is_plain (verb_of command) ≡ true
+  pub no_comment : is_comment (verb_of command) ≡ false
+  pub few : length (arguments_of command) ≤ 4
+
+-- each command is so
+pub plain_verb : (command : Command) → HasPlainVerb command
+plain_verb Pop = record { plain = refl; no_comment = refl; few = lit≤ tt }
+plain_verb _ = record { plain = refl; no_comment = refl; few = lit≤ tt }
+
+-- the words `kind lo hi` are plain
+pub plain_range : (kind : Kind) (lo hi : ℕ) → AreBounds lo hi → ArePlainWords (range_words kind lo hi)
+plain_range kind lo hi small = (plain_kind kind, (plain_number lo small.0, (plain_number hi small.1, tt)))
+
+-- the words after the first are plain
+pub plain_arguments : (command : Command) → IsCommand command → ArePlainWords (arguments_of command)
+plain_arguments (Push value) fits = (plain_element value fits, tt)
+plain_arguments Pop fits = tt
+plain_arguments (Write index value) fits = (plain_number index fits.0, (plain_element value fits.1, tt))
+plain_arguments (Reserve n) fits = (plain_number n fits, tt)
+plain_arguments Settle fits = tt
+plain_arguments (Get index) fits = (plain_number index fits, tt)
+plain_arguments Size fits = tt
+plain_arguments Capacity fits = tt
+plain_arguments (Reduce kind lo hi) fits = plain_range kind lo hi fits
+plain_arguments (Cost lo hi) fits = (plain_number lo fits.0, (plain_number hi fits.1, tt))
+plain_arguments (Inclusive kind lo hi) fits = plain_range kind lo hi fits
+plain_arguments (Exclusive kind lo hi) fits = plain_range kind lo hi fits
+plain_arguments Claim fits = tt
+plain_arguments (Deliver job) fits = (plain_number job fits, tt)
+plain_arguments Forget fits = tt
+plain_arguments (Watch name kind lo hi) fits = (plain_name name fits.0, plain_range kind lo hi fits.1)
+plain_arguments (Unwatch name) fits = (plain_name name fits, tt)
+plain_arguments (Answer name) fits = (plain_name name fits, tt)
+
+-- words that are a command, of which the first begins no comment, say that command
+pub line_in-command : (verb : List ℕ) (words : List (List ℕ)) (command : Command) → is_comment verb ≡ false → command_in (verb ∷ words) ≡ Some command → line_in (verb ∷ words) ≡ Do command
+line_in-command verb words command no_comment read = cond-false _ _ _ no_comment ∙ ap command_or_bad read
+
+-- the text of a command is read as that command
+pub line_of-printed : (command : Command) → IsCommand command → line_of (printed command) ≡ Do command
+unfolding line_of
+line_of-printed command fits =
+    let words = verb_of command ∷ arguments_of command in
+    let verb = plain_verb command in
+    let plain : ArePlainWords words = (plain_text (verb_of command) verb.plain, plain_arguments command fits) in
+    let short : length (spaced words) ≤ 120 = omega (arith, length-spaced words plain, verb.few) in
+    cond-false _ _ _ (le-ltb 120 _ short)
+    ∙ ap (λ bytes. line_in (words_of bytes)) (without_cr-none (spaced words) (spaced_printable words plain))
+    ∙ ap line_in (words_of-spaced words plain)
+    ∙ line_in-command (verb_of command) (arguments_of command) command verb.no_comment (command_in-words command fits)
+
+-- a line of more than 120 bytes is bad
+pub line_of-long : (bytes : List ℕ) → 120 < length bytes → line_of bytes ≡ Bad
+unfolding line_of
+line_of-long bytes long = cond-true _ _ _ (lt-ltb 120 (length bytes) long)
+
+-- a line may be cut behind its 121st byte
+pub line_of-cut : (bytes : List ℕ) → line_of (take 121 bytes) ≡ line_of bytes
+line_of-cut bytes =
+    elim (cases_lt 120 (length bytes)) [
+      | inl long ↦
+          line_of-long (take 121 bytes) (omega (arith, length-take-le 121 bytes (omega arith))) ∙ sym (line_of-long bytes long)
+      | inr short ↦ ap line_of (take_all 121 bytes (omega arith))
+    ]

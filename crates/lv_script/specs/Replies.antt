@@ -1,0 +1,67 @@
+-- What it means that lines are answered in turn, and that a conversation was had.
+use Rattle.std.specs.Prelude.{◌≡◌, ◌⊎◌, ℕ, ◌+◌, ◌^◌, ◌≤◌, List, [], ◌∷◌, ◌++◌, length, take, map, Option, Result, Ok, Err}
+use Rattle.std.specs.Io.KnownBytes.{Appends, Consumes, IsAtEnd}
+use Rattle.lv_script.specs.declared.fault.Fault.{Fault}
+use Rattle.lv_script.specs.declared.fault.Fault.TheVariants.{NoMemory, ReadFault, WriteFault}
+use Rattle.lv_script.specs.Input.{lines_of, whole_lines_of}
+use Rattle.lv_script.specs.Output.{Writes, WritesFront}
+
+module _ {S : Type 0} (step : S → ℕ → List ℕ → List ℕ → S → Type 0) where
+  -- from state old the lines, numbered from n, were answered in turn with this text, to state new
+  abbrev pub Answered : S → ℕ → List (List ℕ) → List ℕ → S → Type 0
+  Answered old n [] text new = (text ≡ []) × (new ≡ old)
+  Answered old n (line ∷ lines) text new =
+      (reply : List ℕ) × (rest : List ℕ) × (mid : S) × step old n line reply mid × Answered mid (n + 1) lines rest new × (text ≡ reply ++ rest)
+
+  -- from state old line n was answered, to state new, and its reply written
+  pub record Replies (old : S) (n : ℕ) (line : List ℕ) (new : S) (old_contents : Option (List ℕ)) (old_held : List ℕ) (new_contents : Option (List ℕ)) (new_held : List ℕ) : Type 0 where
+    pub reply : List ℕ
+    pub answered : step old n line reply new
+    pub written : Writes old_contents old_held new_contents new_held reply
+
+  -- from state old line n is answered with a reply of which, after what was held, no more than a front was written
+  pub record RepliesInPart (old : S) (n : ℕ) (line : List ℕ) (old_contents : Option (List ℕ)) (old_held : List ℕ) (new_contents : Option (List ℕ)) : Type 0 where
+    pub reply : List ℕ
+    pub new : S
+    pub answered : step old n line reply new
+    pub written : WritesFront old_contents old_held new_contents reply
+
+  -- no more than a front of what was held was written, or of that and a reply to line n
+  abbrev pub FailsToReply : S → ℕ → List ℕ → Option (List ℕ) → List ℕ → Option (List ℕ) → Type 0
+  FailsToReply old n line old_contents old_held new_contents =
+      WritesFront old_contents old_held new_contents [] ⊎ RepliesInPart old n line old_contents old_held new_contents
+
+  -- the lines, of each its first 121 bytes, were answered in turn from number 1, and all replies written
+  pub record AnswersAll (old : S) (lines : List (List ℕ)) (new : S) (old_contents new_contents : Option (List ℕ)) : Type 0 where
+    pub text : List ℕ
+    pub answered : Answered old 1 (map (take 121) lines) text new
+    pub written : Appends old_contents new_contents text
+
+  -- a front of the lines was answered so, and no more than a front of the replies written
+  pub record AnswersFront (old : S) (lines : List (List ℕ)) (old_contents new_contents : Option (List ℕ)) : Type 0 where
+    pub front : List (List ℕ)
+    pub rest : List (List ℕ)
+    pub all : map (take 121) lines ≡ front ++ rest
+    pub text : List ℕ
+    pub new : S
+    pub answered : Answered old 1 front text new
+    pub written : WritesFront old_contents [] new_contents text
+
+  -- how a conversation ended, by the bytes that were seen: at the end of the input, where a read failed (or the input is too long), where a write failed, or before it began
+  abbrev pub Ends : {T : Type 0} → S → S → Option (List ℕ) → Option (List ℕ) → Option (List ℕ) → Option (List ℕ) → List ℕ → Result T Fault → Type 0
+  Ends old new remaining_old remaining_new contents_old contents_new seen (Ok _) =
+      IsAtEnd remaining_new × (length seen ≤ 2 ^ 30) × AnswersAll old (lines_of seen) new contents_old contents_new
+  Ends old new remaining_old remaining_new contents_old contents_new seen (Err ReadFault) =
+      AnswersAll old (whole_lines_of seen) new contents_old contents_new
+  Ends old new remaining_old remaining_new contents_old contents_new seen (Err WriteFault) =
+      AnswersFront old (whole_lines_of seen) contents_old contents_new
+      ⊎ (IsAtEnd remaining_new × (length seen ≤ 2 ^ 30) × AnswersFront old (lines_of seen) contents_old contents_new)
+  Ends old new remaining_old remaining_new contents_old contents_new seen (Err NoMemory) =
+      (new ≡ old) × (remaining_new ≡ remaining_old) × (contents_new ≡ contents_old)
+
+  -- bytes were read and their lines answered, from state old to state new
+  pub record Conversed {T : Type 0} (old new : S) (remaining_old remaining_new contents_old contents_new : Option (List ℕ)) (result : Result T Fault) : Type 0 where
+    pub seen : List ℕ
+    pub read : Consumes remaining_old remaining_new seen
+    pub few : length seen ≤ 2 ^ 30 + 1
+    pub ends : Ends old new remaining_old remaining_new contents_old contents_new seen result

@@ -1,0 +1,70 @@
+-- The texts of replies, as formats say them.
+use Rattle.std.specs.Prelude.{ℕ, ℤ, Option, Some, None, Result, Ok, Err, List, [], ◌∷◌, ◌++◌, map, codes, decimal}
+use Rattle.std.specs.Fmt.{signed_decimal}
+use Rattle.lv_geometry.specs.declared.refusals.Refusal.{Refusal}
+use Rattle.lv_geometry.specs.Numbers.{number_of}
+use Rattle.lv_bodies.specs.declared.kinds.Kind.{Kind}
+use Rattle.lv_bodies.specs.declared.kinds.Shown.{Shown}
+use Rattle.lv_bodies.specs.declared.kinds.Shown.TheVariants.{Sum, Least, Greatest, Best, Affine, Automaton}
+use Rattle.lv_edits.specs.declared.receipt.Receipt.{Receipt}
+use Rattle.lv_edits.specs.declared.receipt.Receipt.TheVariants.{Pushed, Popped, Written, Reserved}
+use Rattle.lv_script.specs.Grammar.{kind_name}
+use Rattle.lv_script.specs.Words.{spaced}
+
+-- a line of reply: its text and the byte that ends it
+abbrev pub reply_line : List ℕ → List ℕ
+reply_line text = text ++ 10 ∷ []
+
+-- what a refusal is answered by
+abbrev pub refused_text : Refusal → List ℕ
+refused_text refusal = reply_line (codes "refused " ++ decimal (number_of refusal))
+
+-- what a line that says nothing known is answered by: its number
+abbrev pub bad_text : ℕ → List ℕ
+bad_text n = reply_line (codes "bad " ++ decimal n)
+
+-- what an accepted edit is answered by
+abbrev pub receipt_text : Receipt → List ℕ
+receipt_text (Pushed edit index) = reply_line (codes "edit " ++ decimal edit ++ codes " at " ++ decimal index)
+receipt_text (Popped edit value) = reply_line (codes "edit " ++ decimal edit ++ codes " value " ++ signed_decimal value)
+receipt_text (Written edit before) = reply_line (codes "edit " ++ decimal edit ++ codes " was " ++ signed_decimal before)
+receipt_text (Reserved edit capacity) = reply_line (codes "edit " ++ decimal edit ++ codes " capacity " ++ decimal capacity)
+
+-- an element that was asked for
+abbrev pub value_text : ℤ → List ℕ
+value_text x = reply_line (codes "value " ++ signed_decimal x)
+
+-- an element, or why there is none
+abbrev pub element_text : Result ℤ Refusal → List ℕ
+element_text (Ok x) = value_text x
+element_text (Err refusal) = refused_text refusal
+
+-- the size and the number of the last edit
+abbrev pub size_text : ℕ → ℕ → List ℕ
+size_text size edit = reply_line (codes "size " ++ decimal size ++ codes " edit " ++ decimal edit)
+
+-- how many elements the open buckets hold
+abbrev pub capacity_text : ℕ → List ℕ
+capacity_text cells = reply_line (codes "capacity " ++ decimal cells)
+
+-- that a pending write is complete
+abbrev pub settled_text : List ℕ
+settled_text = reply_line (codes "settled")
+
+-- a number, or `none`
+abbrev pub some_number : Option ℤ → List ℕ
+some_number None = codes "none"
+some_number (Some x) = signed_decimal x
+
+-- the value of a kind, as it is shown
+abbrev pub shown_text : Shown → List ℕ
+shown_text (Sum n) = decimal n
+shown_text (Least x) = some_number x
+shown_text (Greatest x) = some_number x
+shown_text (Best x) = some_number x
+shown_text (Affine a b) = decimal a ++ codes " " ++ decimal b
+shown_text (Automaton states) = spaced (map decimal states)
+
+-- the answer of a reduction at an edit
+abbrev pub answer_text : ℕ → Kind → Shown → List ℕ
+answer_text edit kind value = reply_line (codes "at " ++ decimal edit ++ codes " " ++ kind_name kind ++ codes " " ++ shown_text value)

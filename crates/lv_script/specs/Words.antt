@@ -1,0 +1,30 @@
+-- The words of a line: what stands between its spaces.
+use Rattle.std.specs.Prelude.{ℕ, Bool, true, false, List, [], ◌∷◌, nat_eq, filter, Option, Some, None}
+use Rattle.std.specs.List.{slice_split, join_with_byte, flat_map}
+
+-- whether a byte is a space; a tab is none
+abbrev pub is_space : ℕ → Bool
+is_space b = nat_eq b 32
+
+-- whether a piece has any bytes
+abbrev pub is_word : List ℕ → Bool
+is_word [] = false
+is_word (b ∷ bytes) = true
+
+-- the words of a line: the pieces between spaces that have any bytes
+unfoldable pub words_of : List ℕ → List (List ℕ)
+words_of bytes = filter is_word (slice_split is_space bytes)
+
+-- the one word, where there is one and no other
+abbrev pub only_word : List (List ℕ) → Option (List ℕ)
+only_word [] = None
+only_word (word ∷ []) = Some word
+only_word (word ∷ other ∷ words) = None
+
+-- words with one space between each two
+abbrev pub spaced : List (List ℕ) → List ℕ
+spaced words = join_with_byte 32 words
+
+-- words, each behind a space
+abbrev pub behind_spaces : List (List ℕ) → List ℕ
+behind_spaces words = flat_map (λ word. 32 ∷ word) words

@@ -1,0 +1,77 @@
+use lv_bodies::Kind;
+use lv_standing::Name;
+
+/// What a line of a script asks for.
+#[derive(Clone, Copy, Debug, PartialEq, Eq, Hash)]
+pub enum Command {
+    /// Append an element.
+    Push(i64),
+    /// Take the last element.
+    Pop,
+    /// Put an element over the one at an index.
+    Write {
+        index: u32,
+        value: i64,
+    },
+    /// Make room for this many elements.
+    Reserve(u32),
+    /// Complete the pending write.
+    Settle,
+    /// Show the element at an index.
+    Get(u32),
+    /// Show how many elements there are.
+    Size,
+    /// Show how many elements there is room for.
+    Capacity,
+    /// Reduce the elements from `lo` on, below `hi`.
+    Reduce {
+        kind: Kind,
+        lo: u32,
+        hi: u32,
+    },
+    /// Show how many cells and summaries a reduction reads.
+    Cost {
+        lo: u32,
+        hi: u32,
+    },
+    /// The reductions of each front of the range, up to and with each element.
+    Inclusive {
+        kind: Kind,
+        lo: u32,
+        hi: u32,
+    },
+    /// The reductions of each front of the range, up to and without each element.
+    Exclusive {
+        kind: Kind,
+        lo: u32,
+        hi: u32,
+    },
+    /// Hand out the next job.
+    Claim,
+    /// Give back the result of the job of this number.
+    Deliver(u32),
+    /// Make every claim void.
+    Forget,
+    /// Keep the answer of a reduction under a name.
+    Watch {
+        name: Name,
+        kind: Kind,
+        lo: u32,
+        hi: u32,
+    },
+    /// Forget the name.
+    Unwatch(Name),
+    /// Show the answer that goes by the name.
+    Answer(Name),
+}
+
+/// What a line of a script is.
+#[derive(Clone, Copy, Debug, PartialEq, Eq, Hash)]
+pub enum Line {
+    /// Blank, or a comment. It has no reply.
+    Nothing,
+    /// No line of the grammar, or too long.
+    Bad,
+    /// A command.
+    Do(Command),
+}

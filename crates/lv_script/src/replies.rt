@@ -1,0 +1,165 @@
+ghost use Rattle.std.specs.Prelude.{◌≡◌, ◌+◌, ◌≤◌, ◌++◌, map, decimal, vec_len, vec_capacity};
+ghost use Rattle.lv_script.specs.Words.{spaced};
+ghost use Rattle.lv_script.specs.Texts.{answer_text, bad_text, capacity_text, receipt_text, refused_text, settled_text, size_text, shown_text, element_text, value_text};
+
+use crate::printing::kind_name;
+use crate::sender::{put, put_element, put_number, put_wide};
+use lv_bodies::{Kind, Shown};
+use lv_edits::Receipt;
+use lv_geometry::Refusal;
+
+/// At most how many bytes one line of reply has.
+pub const LINE: usize = 256;
+
+/// What an accepted edit answers.
+pub fn put_receipt(held: &mut Vec<u8>, receipt: Receipt)
+    requires { vec_len held.old + LINE ≤ vec_capacity held.old }
+    ensures text { held.new.items ≡ held.old.items ++ receipt_text receipt }
+    ensures room { vec_capacity held.old ≤ vec_capacity held.new }
+{
+    put(held, b"edit ");
+    match receipt {
+        Receipt::Pushed { edit, index } => {
+            put_number(held, edit.into());
+            put(held, b" at ");
+            put_number(held, index.into());
+        }
+        Receipt::Popped { edit, value } => {
+            put_number(held, edit.into());
+            put(held, b" value ");
+            put_element(held, value);
+        }
+        Receipt::Written { edit, before } => {
+            put_number(held, edit.into());
+            put(held, b" was ");
+            put_element(held, before);
+        }
+        Receipt::Reserved { edit, capacity } => {
+            put_number(held, edit.into());
+            put(held, b" capacity ");
+            put_number(held, capacity.into());
+        }
+    }
+    put(held, b"\n");
+}
+
+/// A refusal, by its number.
+pub fn put_refusal(held: &mut Vec<u8>, refusal: Refusal)
+    requires { vec_len held.old + LINE ≤ vec_capacity held.old }
+    ensures text { held.new.items ≡ held.old.items ++ refused_text refusal }
+    ensures room { vec_capacity held.old ≤ vec_capacity held.new }
+{
+    put(held, b"refused ");
+    put_number(held, refusal.number().into());
+    put(held, b"\n");
+}
+
+/// That line `number` says nothing known.
+pub fn put_bad(held: &mut Vec<u8>, number: u32)
+    requires { vec_len held.old + LINE ≤ vec_capacity held.old }
+    ensures text { held.new.items ≡ held.old.items ++ bad_text number }
+    ensures room { vec_capacity held.old ≤ vec_capacity held.new }
+{
+    put(held, b"bad ");
+    put_number(held, number.into());
+    put(held, b"\n");
+}
+
+/// That a pending write is complete.
+pub fn put_settled(held: &mut Vec<u8>)
+    requires { vec_len held.old + LINE ≤ vec_capacity held.old }
+    ensures text { held.new.items ≡ held.old.items ++ settled_text }
+    ensures room { vec_capacity held.old ≤ vec_capacity held.new }
+{
+    put(held, b"settled\n");
+}
+
+/// An element, or why there is none.
+pub fn put_value(held: &mut Vec<u8>, value: Result<i64, Refusal>)
+    requires { vec_len held.old + LINE ≤ vec_capacity held.old }
+    ensures text { held.new.items ≡ held.old.items ++ element_text value }
+    ensures room { vec_capacity held.old ≤ vec_capacity held.new }
+{
+    match value {
+        Ok(x) => {
+            put(held, b"value ");
+            put_element(held, x);
+            put(held, b"\n");
+        }
+        Err(refusal) => put_refusal(held, refusal),
+    }
+}
+
+/// The size, and the number of the last edit.
+pub fn put_size(held: &mut Vec<u8>, size: u32, edit: u32)
+    requires { vec_len held.old + LINE ≤ vec_capacity held.old }
+    ensures text { held.new.items ≡ held.old.items ++ size_text size edit }
+    ensures room { vec_capacity held.old ≤ vec_capacity held.new }
+{
+    put(held, b"size ");
+    put_number(held, size.into());
+    put(held, b" edit ");
+    put_number(held, edit.into());
+    put(held, b"\n");
+}
+
+/// How many elements the open buckets hold.
+pub fn put_capacity(held: &mut Vec<u8>, cells: u32)
+    requires { vec_len held.old + LINE ≤ vec_capacity held.old }
+    ensures text { held.new.items ≡ held.old.items ++ capacity_text cells }
+    ensures room { vec_capacity held.old ≤ vec_capacity held.new }
+{
+    put(held, b"capacity ");
+    put_number(held, cells.into());
+    put(held, b"\n");
+}
+
+/// The value of a kind at an edit.
+pub fn put_answer(held: &mut Vec<u8>, edit: u32, kind: Kind, value: Shown)
+    requires { vec_len held.old + LINE ≤ vec_capacity held.old }
+    ensures text { held.new.items ≡ held.old.items ++ answer_text edit kind value }
+    ensures room { vec_capacity held.old ≤ vec_capacity held.new }
+{
+    put(held, b"at ");
+    put_number(held, edit.into());
+    put(held, b" ");
+    put(held, kind_name(kind).as_bytes());
+    put(held, b" ");
+    put_shown(held, value);
+    put(held, b"\n");
+}
+
+/// The value of a kind, as it is shown.
+pub fn put_shown(held: &mut Vec<u8>, value: Shown)
+    requires { vec_len held.old + 168 ≤ vec_capacity held.old }
+    ensures text { held.new.items ≡ held.old.items ++ shown_text value }
+    ensures len { vec_len held.new ≤ vec_len held.old + 168 }
+    ensures room { vec_capacity held.old ≤ vec_capacity held.new }
+{
+    match value {
+        Shown::Sum(n) => put_number(held, n),
+        Shown::Least(None) | Shown::Greatest(None) | Shown::Best(None) => put(held, b"none"),
+        Shown::Least(Some(x)) | Shown::Greatest(Some(x)) => put_element(held, x),
+        Shown::Best(Some(x)) => put_wide(held, x),
+        Shown::Affine { a, b } => {
+            put_number(held, a.into());
+            put(held, b" ");
+            put_number(held, b.into());
+        }
+        Shown::Automaton(states) => put_states(held, states),
+    }
+}
+
+// The states of an automaton, with one space between.
+fn put_states(held: &mut Vec<u8>, states: [u8; 8])
+    requires { vec_len held.old + 168 ≤ vec_capacity held.old }
+    ensures text { held.new.items ≡ held.old.items ++ spaced (map decimal states) }
+    ensures len { vec_len held.new ≤ vec_len held.old + 168 }
+    ensures room { vec_capacity held.old ≤ vec_capacity held.new }
+{
+    put_number(held, states[0].into());
+    for state in &states[1..] {
+        put(held, b" ");
+        put_number(held, (*state).into());
+    }
+}

@@ -1,0 +1,3 @@
+mod grammar;
+mod loop_of_lines;
+mod scripts;

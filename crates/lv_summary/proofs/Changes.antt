@@ -1,0 +1,240 @@
+-- What a change of the rows of every level makes of a table.
+use Rattle.std.proofs.Common.{◌≡◌, ℕ, ◌+◌, ◌-◌, ◌*◌, ◌/◌, ◌^◌, ◌<◌, ◌≤◌, true, false, ◌&&◌, cond, if◌then◌else◌, None, Some, length, nat_eq, nat_le, refl, sym, ap, ◌∙◌, inl, inr, arith}
+use Rattle.std.proofs.lemmas.Bool.{cases_Bool, cond_both, eqb-true, ne_eqb, true≢false}
+use Rattle.std.proofs.lemmas.List.{length-set}
+use Rattle.std.proofs.Math.Nat.{mul-le-mul_right}
+use Rattle.std.specs.Int.{div_ceil}
+use Rattle.lv_geometry.specs.declared.nodes.Node.{Node}
+use Rattle.lv_geometry.specs.Nodes.{covers, is_node}
+use Rattle.lv_summary.specs.Inner.{IsLevel, IsRowOf, IsSound, filled, with_kept, with_touch}
+use Rattle.lv_summary.specs.Table.{AnswersAlike, HasSize, Keeps, Rows, Table, Touches, blocks_in, kept_in, no_rows, rows_for, same_node, touched_in, whole_in}
+use Rattle.lv_summary.proofs.LevelLaws.{IsLevel-empty, IsLevel-filled, IsLevel-with_kept, IsLevel-with_touch, kept_at, kept_at-filled, kept_at-with_kept, length-lengthened, touched_at, touched_at-filled, touched_at-with_touch}
+use Rattle.lv_summary.proofs.TableLaws.{node_of_whole}
+use Rattle.lv_summary.proofs.NodeRows.{IsRowOf-whole, blocks_in-rows, cond-and_false, cond-and_true, kept_in-inside, kept_in-outside, level_of_node, row_of_index, rows_at, touched_in-inside, touched_in-outside}
+
+-- a table is sound by its rows
+pub IsSound-by_rows : {S : Type 0} (t : Table S) (blocks : ℕ) → blocks_in t ≡ blocks → blocks ≤ 131071 → t.size ≤ 8 * blocks → ((level : ℕ) → 1 ≤ level → level ≤ 6 → IsLevel blocks level (rows_at t level)) → IsSound t
+IsSound-by_rows t blocks is few size levels =
+    record {
+      levels = λ level low high. rw is (levels level low high);
+      few = omega arith;
+      size = omega arith;
+    }
+
+-- the row of an index was touched on every level
+abbrev pub HasRowsTouched : {S : Type 0} → Table S → Table S → ℕ → ℕ → Type 0
+HasRowsTouched old new i edit = (level : ℕ) → 1 ≤ level → level ≤ 6 → rows_at new level ≡ with_touch (rows_at old level) (i / 8 ^ level) edit
+
+-- an edit that touches a table leaves its blocks
+blocks_in-touched : {S : Type 0} (old new : Table S) (i edit : ℕ) → HasRowsTouched old new i edit → blocks_in new ≡ blocks_in old
+blocks_in-touched old new i edit rows =
+    blocks_in-rows new ∙ ap (λ r. length r.touched) (rows 1 (omega arith) (omega arith)) ∙ length-set (rows_at old 1).touched (i / 8) edit ∙ sym (blocks_in-rows old)
+
+-- a sound table stays so when an edit touches it
+pub IsSound-touched : {S : Type 0} {old new : Table S} → IsSound old → new.size ≡ old.size → (i edit : ℕ) → edit ≤ 16777215 → HasRowsTouched old new i edit → IsSound new
+IsSound-touched {S} {old} {new} sound size i edit possible rows =
+    IsSound-by_rows new (blocks_in old) (blocks_in-touched old new i edit rows) sound.few (omega (arith, sound.size))
+    (λ level low high. rw (rows level low high) (IsLevel-with_touch (blocks_in old) level (rows_at old level) (i / 8 ^ level) edit possible (sound.levels level low high)))
+
+-- touching the row of an index on every level touches the nodes that have the index
+pub Touches-by_rows : {S : Type 0} {old new : Table S} → IsSound old → new.size ≡ old.size → (i edit : ℕ) → i / 8 < blocks_in old → HasRowsTouched old new i edit → Touches old new i edit
+Touches-by_rows {S} {old} {new} sound size i edit inside rows =
+    record {
+      size = size;
+      blocks = blocks_in-touched old new i edit rows;
+      touched = λ n. elim (cases_Bool (is_node n)) [
+        | inl member ↦
+            let level = level_of_node n member in
+            touched_in-inside new n member
+            ∙ ap (λ r. touched_at r n.number) (rows n.level level.0 level.1)
+            ∙ touched_at-with_touch (rows_for old n) (i / 8 ^ n.level) edit n.number (row_of_index old i n.level sound inside level.0 level.1)
+            ∙ ap (cond (covers n i) edit) (sym (touched_in-inside old n member))
+            ∙ sym (cond-and_true (is_node n) (covers n i) edit (touched_in old n) member)
+        | inr stranger ↦
+            touched_in-outside new n stranger ∙ sym (touched_in-outside old n stranger) ∙ sym (cond-and_false (is_node n) (covers n i) edit (touched_in old n) stranger)
+      ];
+      kept = λ n. elim (cases_Bool (is_node n)) [
+        | inl member ↦
+            let level = level_of_node n member in
+            kept_in-inside new n member ∙ ap (λ r. kept_at r n.number) (rows n.level level.0 level.1) ∙ sym (kept_in-inside old n member)
+        | inr stranger ↦ kept_in-outside new n stranger ∙ sym (kept_in-outside old n stranger)
+      ];
+    }
+
+-- nodes of one level are both of the table, or both not
+same_membership : (m n : Node) → m.level ≡ n.level → is_node m ≡ is_node n
+same_membership m n same = ap (λ level. nat_le 1 level && nat_le level 6) same
+
+-- the rows of every level after a summary was put into the row of a node
+abbrev pub HasRowsKept : {S : Type 0} → Table S → Table S → Node → ℕ → ℕ → S → Type 0
+HasRowsKept old new n k version s =
+    (level : ℕ) → 1 ≤ level → level ≤ 6 → rows_at new level ≡ if nat_eq level k then with_kept (rows_at old k) n.number version s else rows_at old level
+
+-- a summary that is put into the row of a node changes the edit of no row
+touched_at-kept : {S : Type 0} (old : Table S) (n m : Node) (version : ℕ) (s : S) → touched_at (if nat_eq m.level n.level then with_kept (rows_for old n) n.number version s else rows_for old m) m.number ≡ touched_at (rows_for old m) m.number
+touched_at-kept old n m version s =
+    cond_both (nat_eq m.level n.level) _ _ (λ rows. touched_at rows m.number ≡ touched_at (rows_for old m) m.number)
+    (λ same. ap (λ level. touched_at (rows_at old level) m.number) (sym (eqb-true m.level n.level same)))
+    (λ other. refl)
+
+-- a summary that is put into the row of a node changes what is kept in that row alone
+kept_at-kept : {S : Type 0} (old : Table S) (n m : Node) (version : ℕ) (s : S) → IsRowOf old n (rows_for old n) → kept_at (if nat_eq m.level n.level then with_kept (rows_for old n) n.number version s else rows_for old m) m.number ≡ if same_node m n then Some (version, s) else kept_at (rows_for old m) m.number
+kept_at-kept old n m version s row =
+    cond_both (nat_eq m.level n.level) _ _ (λ rows. kept_at rows m.number ≡ cond (same_node m n) (Some (version, s)) (kept_at (rows_for old m) m.number))
+    (λ same.
+    kept_at-with_kept (rows_for old n) n.number version s m.number row.stamps row.kept
+    ∙ ap (λ level. cond (nat_eq m.number n.number) (Some (version, s)) (kept_at (rows_at old level) m.number)) (sym (eqb-true m.level n.level same))
+    ∙ sym (cond-and_true (nat_eq m.level n.level) _ _ _ same))
+    (λ other. sym (cond-and_false (nat_eq m.level n.level) _ _ _ other))
+
+-- a summary that is kept leaves the blocks of a table
+blocks_in-kept : {S : Type 0} (old new : Table S) (n : Node) (k version : ℕ) (s : S) → HasRowsKept old new n k version s → blocks_in new ≡ blocks_in old
+blocks_in-kept {S} old new n k version s rows =
+    blocks_in-rows new
+    ∙ ap (λ r. length r.touched) (rows 1 (omega arith) (omega arith))
+    ∙ cond_both (nat_eq 1 k) _ _ (λ (r : Rows S). length r.touched ≡ length (rows_at old 1).touched) (λ same. ap (λ level. length (rows_at old level).touched) (sym (eqb-true 1 k same))) (λ other. refl)
+    ∙ sym (blocks_in-rows old)
+
+-- a level stays as it must be when a summary is put into a row
+IsLevel-kept : {S : Type 0} (old : Table S) (n : Node) (k version level : ℕ) (s : S) → IsSound old → 1 ≤ level → level ≤ 6 → IsLevel (blocks_in old) level (if nat_eq level k then with_kept (rows_at old k) n.number version s else rows_at old level)
+IsLevel-kept old n k version level s sound low high =
+    cond_both (nat_eq level k) _ _ (IsLevel (blocks_in old) level)
+    (λ same. rw (← eqb-true level k same) (IsLevel-with_kept (blocks_in old) level (rows_at old level) n.number version s (sound.levels level low high)))
+    (λ other. sound.levels level low high)
+
+-- a sound table stays so when a summary is kept
+pub IsSound-kept : {S : Type 0} {old new : Table S} → IsSound old → new.size ≡ old.size → (n : Node) (k version : ℕ) (s : S) → HasRowsKept old new n k version s → IsSound new
+IsSound-kept {S} {old} {new} sound size n k version s rows =
+    IsSound-by_rows new (blocks_in old) (blocks_in-kept old new n k version s rows) sound.few (omega (arith, sound.size))
+    (λ level low high. rw (rows level low high) (IsLevel-kept old n k version level s sound low high))
+
+-- putting a summary into the row of a node keeps it for that node alone
+Keeps-by_rows : {S : Type 0} (old new : Table S) (n : Node) (version : ℕ) (s : S) → IsRowOf old n (rows_for old n) → new.size ≡ old.size → HasRowsKept old new n n.level version s → Keeps old new n version s
+Keeps-by_rows {S} old new n version s row size rows =
+    record {
+      size = size;
+      blocks = blocks_in-kept old new n n.level version s rows;
+      touched = λ m. elim (cases_Bool (is_node m)) [
+        | inl member ↦
+            let level = level_of_node m member in
+            touched_in-inside new m member ∙ ap (λ r. touched_at r m.number) (rows m.level level.0 level.1) ∙ touched_at-kept old n m version s ∙ sym (touched_in-inside old m member)
+        | inr stranger ↦ touched_in-outside new m stranger ∙ sym (touched_in-outside old m stranger)
+      ];
+      kept = λ m. elim (cases_Bool (is_node m)) [
+        | inl member ↦
+            let level = level_of_node m member in
+            kept_in-inside new m member
+            ∙ ap (λ r. kept_at r m.number) (rows m.level level.0 level.1)
+            ∙ kept_at-kept old n m version s row
+            ∙ ap (cond (same_node m n) (Some (version, s))) (sym (kept_in-inside old m member))
+        | inr stranger ↦
+            let other : nat_eq m.level n.level ≡ false = ne_eqb m.level n.level (λ same. true≢false (sym (node_of_whole old n row.whole) ∙ sym (same_membership m n same) ∙ stranger)) in
+            kept_in-outside new m stranger ∙ sym (kept_in-outside old m stranger) ∙ sym (cond-and_false (nat_eq m.level n.level) _ _ _ other)
+      ];
+    }
+
+-- putting a summary into the row of a whole node, on the level that its number says, keeps it for that node alone
+pub Keeps-at : {S : Type 0} {old new : Table S} → IsSound old → new.size ≡ old.size → (n : Node) (k version : ℕ) (s : S) → whole_in old n ≡ true → n.level ≡ k → HasRowsKept old new n k version s → Keeps old new n version s
+Keeps-at {S} {old} {new} sound size n k version s whole at rows =
+    Keeps-by_rows old new n version s (IsRowOf-whole old n sound whole) size (λ level low high. rw (← at) at (rows level low high))
+
+-- every level was filled up, so that there are rows for all indices of so many blocks
+abbrev pub HasRowsFilled : {S : Type 0} → Table S → Table S → ℕ → S → Type 0
+HasRowsFilled old new more blank =
+    (level : ℕ) → 1 ≤ level → level ≤ 6 → (n : ℕ) × (rows_at new level ≡ filled (rows_at old level) n blank) × (8 * more ≤ n * 8 ^ level)
+
+-- what the rows of a level are enough for, an eighth of them, rounded up, are enough for on the level above
+pub enough_above : (needed rows above width : ℕ) → above ≡ div_ceil rows 8 → needed ≤ rows * width → needed ≤ above * (width * 8)
+enough_above needed rows above width eighth enough =
+    let most : rows * width ≤ above * 8 * width = mul-le-mul_right width (omega (arith, eighth)) in
+    omega arith
+
+-- the more of two numbers of blocks have rows
+blocks_in-filled : {S : Type 0} (old new : Table S) (more : ℕ) (blank : S) → rows_at new 1 ≡ filled (rows_at old 1) more blank → blocks_in new ≡ blocks_in old + (more - blocks_in old)
+blocks_in-filled old new more blank first =
+    blocks_in-rows new ∙ ap (λ r. length r.touched) first ∙ length-lengthened (rows_at old 1).touched more 0 ∙ ap (λ b. b + (more - b)) (sym (blocks_in-rows old))
+
+-- no block loses its rows when rows are added
+pub blocks_in_more : {S : Type 0} (old new : Table S) (more : ℕ) (blank : S) → rows_at new 1 ≡ filled (rows_at old 1) more blank → blocks_in old ≤ blocks_in new
+blocks_in_more old new more blank first = omega (arith, blocks_in-filled old new more blank first)
+
+-- all blocks that were wanted have rows when rows were added
+pub blocks_in_enough : {S : Type 0} (old new : Table S) (more : ℕ) (blank : S) → rows_at new 1 ≡ filled (rows_at old 1) more blank → more ≤ blocks_in new
+blocks_in_enough old new more blank first = omega (arith, blocks_in-filled old new more blank first)
+
+-- a sound table stays so when rows are added
+pub IsSound-filled : {S : Type 0} {old new : Table S} → IsSound old → new.size ≡ old.size → (more : ℕ) (blank : S) → more ≤ 131071 → rows_at new 1 ≡ filled (rows_at old 1) more blank → HasRowsFilled old new more blank → IsSound new
+IsSound-filled {S} {old} {new} sound size more blank few first rows =
+    IsSound-by_rows new (blocks_in old + (more - blocks_in old)) (blocks_in-filled old new more blank first) (omega (arith, sound.few)) (omega (arith, sound.size))
+    (λ level low high.
+    let added = rows level low high in
+    rw added.1 (IsLevel-filled (blocks_in old) more level (rows_at old level) added.0 blank added.2 (sound.levels level low high)))
+
+-- adding rows changes no answer
+pub AnswersAlike-by_rows : {S : Type 0} {old new : Table S} → IsSound old → new.size ≡ old.size → (more : ℕ) (blank : S) → HasRowsFilled old new more blank → AnswersAlike old new
+AnswersAlike-by_rows {S} {old} {new} sound size more blank rows =
+    record {
+      size = size;
+      touched = λ m. elim (cases_Bool (is_node m)) [
+        | inl member ↦
+            let level = level_of_node m member in
+            let added = rows m.level level.0 level.1 in
+            touched_in-inside new m member ∙ ap (λ r. touched_at r m.number) added.1 ∙ touched_at-filled (rows_for old m) added.0 blank m.number ∙ sym (touched_in-inside old m member)
+        | inr stranger ↦ touched_in-outside new m stranger ∙ sym (touched_in-outside old m stranger)
+      ];
+      kept = λ m. elim (cases_Bool (is_node m)) [
+        | inl member ↦
+            let level = level_of_node m member in
+            let added = rows m.level level.0 level.1 in
+            let even = sound.levels m.level level.0 level.1 in
+            kept_in-inside new m member ∙ ap (λ r. kept_at r m.number) added.1 ∙ kept_at-filled (rows_for old m) added.0 blank m.number (even.kept ∙ sym even.stamps) ∙ sym (kept_in-inside old m member)
+        | inr stranger ↦ kept_in-outside new m stranger ∙ sym (kept_in-outside old m stranger)
+      ];
+    }
+
+-- a sound table stays so at another size that its rows have room for
+pub IsSound-size : {S : Type 0} {t : Table S} → IsSound t → (size : ℕ) → size ≤ 8 * blocks_in t → IsSound (record t { size = size })
+IsSound-size {S} {t} sound size room =
+    IsSound-by_rows (record t { size = size }) (blocks_in t) (blocks_in-rows (record t { size = size }) ∙ sym (blocks_in-rows t)) sound.few room sound.levels
+
+-- another size changes no row
+pub HasSize-by_rows : {S : Type 0} (t : Table S) (size : ℕ) → HasSize t (record t { size = size }) size
+HasSize-by_rows t size =
+    let sized = record t { size = size } in
+    record {
+      size_is = refl;
+      blocks = blocks_in-rows sized ∙ sym (blocks_in-rows t);
+      touched = λ m. elim (cases_Bool (is_node m)) [
+        | inl member ↦ touched_in-inside sized m member ∙ sym (touched_in-inside t m member)
+        | inr stranger ↦ touched_in-outside sized m stranger ∙ sym (touched_in-outside t m stranger)
+      ];
+      kept = λ m. elim (cases_Bool (is_node m)) [
+        | inl member ↦ kept_in-inside sized m member ∙ sym (kept_in-inside t m member)
+        | inr stranger ↦ kept_in-outside sized m stranger ∙ sym (kept_in-outside t m stranger)
+      ];
+    }
+
+-- a table with no rows has no blocks
+pub blocks_in-empty : {S : Type 0} (t : Table S) → ((level : ℕ) → 1 ≤ level → level ≤ 6 → rows_at t level ≡ no_rows) → blocks_in t ≡ 0
+blocks_in-empty t rows = blocks_in-rows t ∙ ap (λ r. length r.touched) (rows 1 (omega arith) (omega arith))
+
+-- a table with no rows is sound
+pub IsSound-empty : {S : Type 0} {t : Table S} → t.size ≡ 0 → ((level : ℕ) → 1 ≤ level → level ≤ 6 → rows_at t level ≡ no_rows) → IsSound t
+IsSound-empty {S} {t} size rows =
+    IsSound-by_rows t 0 (blocks_in-empty t rows) (omega arith) (omega arith) (λ level low high. rw (rows level low high) (IsLevel-empty level))
+
+-- no edit touched a node of a table with no rows
+pub touched_in-empty : {S : Type 0} (t : Table S) → ((level : ℕ) → 1 ≤ level → level ≤ 6 → rows_at t level ≡ no_rows) → (n : Node) → touched_in t n ≡ 0
+touched_in-empty t rows n =
+    elim (cases_Bool (is_node n)) [
+      | inl member ↦ let level = level_of_node n member in touched_in-inside t n member ∙ ap (λ r. touched_at r n.number) (rows n.level level.0 level.1)
+      | inr stranger ↦ touched_in-outside t n stranger
+    ]
+
+-- nothing is kept in a table with no rows
+pub kept_in-empty : {S : Type 0} (t : Table S) → ((level : ℕ) → 1 ≤ level → level ≤ 6 → rows_at t level ≡ no_rows) → (n : Node) → kept_in t n ≡ None
+kept_in-empty t rows n =
+    elim (cases_Bool (is_node n)) [
+      | inl member ↦ let level = level_of_node n member in kept_in-inside t n member ∙ ap (λ r. kept_at r n.number) (rows n.level level.0 level.1)
+      | inr stranger ↦ kept_in-outside t n stranger
+    ]

@@ -1,0 +1,4 @@
+mod Changes
+mod LevelLaws
+mod NodeRows
+pub mod TableLaws

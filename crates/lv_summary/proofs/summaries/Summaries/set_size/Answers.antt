@@ -1,0 +1,8 @@
+use Rattle.lv_summary.proofs.Changes.{HasSize-by_rows, IsSound-size}
+use Rattle.lv_summary.proofs.summaries.Summaries.set_size.Goals as goal
+
+pub invariant_of-self : goal.invariant_of-self
+invariant_of-self g c = IsSound-size c.self.invariant c.args.size (rw (← c.self.view_is) at c.requires)
+
+pub returns : goal.returns
+returns g c = rw (← c.self.view_is) (HasSize-by_rows _ _)

@@ -1,0 +1,65 @@
+-- What the fields of `Summaries` keep, and how one of its levels is seen and changed.
+use Rattle.std.specs.Prelude.{◌≡◌, ℕ, ◌+◌, ◌-◌, ◌*◌, ◌^◌, ◌<◌, ◌≤◌, true, List, [], ◌∷◌, ◌++◌, length, replicate, slice_index, slice_set, All}
+use Rattle.std.specs.List.{slice_index_or}
+use Rattle.lv_geometry.specs.declared.nodes.Node.{Node}
+use Rattle.lv_geometry.specs.Nodes.{is_node}
+use Rattle.lv_summary.specs.Table.{Rows, Table, blocks_in, no_rows, rows_for, whole_in}
+
+-- one level: its rows, and for how many of them it has memory
+pub record Shelf (S : Type 0) : Type 0 where
+  pub rows : Rows S
+  pub capacity : ℕ
+
+-- a list that is made n long with copies of x, where it is shorter
+abbrev pub lengthened : {A : Type 0} → List A → ℕ → A → List A
+lengthened xs n x = xs ++ replicate (n - length xs) x
+
+-- rows with further ones, n in all, which nothing touched and for which nothing is kept
+abbrev pub filled : {S : Type 0} → Rows S → ℕ → S → Rows S
+filled rows n blank =
+    record {
+      touched = lengthened rows.touched n 0;
+      stamps = lengthened rows.stamps n 0;
+      kept = lengthened rows.kept n blank;
+    }
+
+-- rows after an edit that touched the node of a number
+abbrev pub with_touch : {S : Type 0} → Rows S → ℕ → ℕ → Rows S
+with_touch rows number edit = record rows { touched = slice_set rows.touched number edit }
+
+-- rows with a summary of a version for the node of a number
+abbrev pub with_kept : {S : Type 0} → Rows S → ℕ → ℕ → S → Rows S
+with_kept rows number version s =
+    record rows { stamps = slice_set rows.stamps number (version + 1); kept = slice_set rows.kept number s }
+
+-- a table of six levels
+abbrev pub table_of : {S : Type 0} → ℕ → Rows S → Rows S → Rows S → Rows S → Rows S → Rows S → Table S
+table_of size l1 l2 l3 l4 l5 l6 = record { size = size; levels = l1 ∷ l2 ∷ l3 ∷ l4 ∷ l5 ∷ l6 ∷ [] }
+
+-- a row of a level has its three parts, every index of the blocks has its row, and no edit is past the last that is possible
+pub record IsLevel {S : Type 0} (blocks level : ℕ) (rows : Rows S) : Type 0 where
+  pub stamps : length rows.stamps ≡ length rows.touched
+  pub kept : length rows.kept ≡ length rows.touched
+  pub covers : 8 * blocks ≤ length rows.touched * 8 ^ level
+  pub edits : All (λ edit. edit ≤ 16777215) rows.touched
+
+-- each of the six levels is such, and no index below the size is without its rows
+pub record IsSound {S : Type 0} (t : Table S) : Type 0 where
+  pub levels : (level : ℕ) → 1 ≤ level → level ≤ 6 → IsLevel (blocks_in t) level (slice_index_or t.levels (level - 1) no_rows)
+  pub few : blocks_in t ≤ 131071
+  pub size : t.size ≤ 8 * blocks_in t
+
+-- a node is of the table, which is sound, and these are the rows of its level
+pub record IsLevelOf {S : Type 0} (t : Table S) (n : Node) (rows : Rows S) : Type 0 where
+  pub member : is_node n ≡ true
+  pub level : rows ≡ rows_for t n
+  pub sound : IsSound t
+
+-- a node is whole, these are the rows of its level, and it has its row in them
+pub record IsRowOf {S : Type 0} (t : Table S) (n : Node) (rows : Rows S) : Type 0 where
+  pub whole : whole_in t n ≡ true
+  pub level : rows ≡ rows_for t n
+  pub touched : n.number < length rows.touched
+  pub stamps : n.number < length rows.stamps
+  pub kept : n.number < length rows.kept
+  pub edit : slice_index rows.touched n.number ≤ 16777215

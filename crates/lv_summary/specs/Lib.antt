@@ -1,0 +1,3 @@
+pub mod Agrees
+pub mod Inner
+pub mod Table

@@ -1,0 +1,143 @@
+ghost use Rattle.std.specs.Prelude.{◌≡◌, ◌+◌, ◌-◌, ◌<◌, ◌≤◌, ◌++◌, ◌==◌, length, replicate, slice_index, slice_get, Some, OnOk, IfErr, vec_len, vec_capacity};
+ghost use Rattle.lv_summary.specs.Inner.{filled, with_kept, with_touch};
+ghost use Rattle.lv_summary.specs.Table.{no_rows};
+
+use lv_geometry::Refusal;
+use std::alloc::Global;
+use std::marker::Model;
+
+/// The rows of one level, apart for speed: a reduction looks at two numbers before it reads a summary.
+#[derive(Drop)]
+pub struct Level<S> {
+    touched: Vec<u32>,
+    stamps: Vec<u32>,
+    kept: Vec<S>,
+}
+
+impl<S> Model for Level<S> {
+    ghost use Rattle.std.specs.Prelude.{min, vec_capacity};
+    ghost use Rattle.lv_summary.specs.Inner.{Shelf};
+
+    ghost Value = { Shelf S };
+
+    ghost view = { λ a. record { rows = record { touched = a.touched.items; stamps = a.stamps.items; kept = a.kept.items }; capacity = min (vec_capacity a.touched) (min (vec_capacity a.stamps) (vec_capacity a.kept)) } };
+}
+
+impl<S: Copy> Level<S> {
+    /// A level with no rows. Takes no memory.
+    pub fn new(alloc: Global) -> Level<S>
+        ensures { result.rows ≡ no_rows }
+    {
+        Level {
+            touched: Vec::new(alloc),
+            stamps: Vec::new(alloc),
+            kept: Vec::new(alloc),
+        }
+    }
+
+    /// How many rows there are.
+    pub fn rows(&self) -> usize
+        ensures { result ≡ length self.now.rows.touched }
+    {
+        self.touched.len()
+    }
+
+    /// Makes memory for so many rows in all.
+    pub fn reserve(&mut self, rows: u32) -> Result<(), Refusal>
+        ensures rows { self.new.rows ≡ self.old.rows }
+        ensures ok { OnOk result (rows ≤ self.new.capacity) }
+        ensures err { IfErr result (λ refusal. refusal ≡ Refusal.NoMemory) }
+    {
+        make_room(&mut self.touched, rows as usize)?;
+        make_room(&mut self.stamps, rows as usize)?;
+        make_room(&mut self.kept, rows as usize)
+    }
+
+    /// Adds blank rows, so that there are so many in all, where there are fewer.
+    pub fn fill(&mut self, rows: u32, blank: S)
+        requires { rows ≤ self.old.capacity }
+        ensures { self.new.rows ≡ filled self.old.rows rows blank }
+    {
+        lengthen(&mut self.touched, rows as usize, 0);
+        lengthen(&mut self.stamps, rows as usize, 0);
+        lengthen(&mut self.kept, rows as usize, blank);
+    }
+
+    /// Notes the edit that touched a node last.
+    #[inline(always)]
+    pub fn touch(&mut self, number: u32, edit: u32)
+        requires { number < length self.old.rows.touched }
+        ensures { self.new.rows ≡ with_touch self.old.rows number edit }
+    {
+        self.touched[number as usize] = edit;
+    }
+
+    /// The number of the last edit that touched a node; 0 where it has no row.
+    #[inline(always)]
+    pub fn touched(&self, number: u32) -> u32
+        ensures { result ≡ slice_index self.now.rows.touched number }
+    {
+        self.touched.get(number as usize).copied().unwrap_or(0)
+    }
+
+    /// One more than the version of the summary that is kept for a node; 0 where none is.
+    #[inline(always)]
+    pub fn stamp(&self, number: u32) -> u32
+        ensures { result ≡ slice_index self.now.rows.stamps number }
+    {
+        self.stamps.get(number as usize).copied().unwrap_or(0)
+    }
+
+    /// Whether what is kept for a node has the number of the edit that touched it last.
+    #[inline(always)]
+    pub fn is_current(&self, number: u32) -> bool
+        requires touched { number < length self.now.rows.touched }
+        requires stamps { number < length self.now.rows.stamps }
+        requires edit { slice_index self.now.rows.touched number ≤ 16777215 }
+        ensures { result ≡ (slice_index self.now.rows.stamps number == slice_index self.now.rows.touched number + 1) }
+    {
+        let number = number as usize;
+        self.stamps[number] == self.touched[number] + 1
+    }
+
+    /// The summary in the row of a node.
+    #[inline(always)]
+    pub fn kept(&self, number: u32) -> S
+        requires { number < length self.now.rows.kept }
+        ensures { slice_get self.now.rows.kept number ≡ Some result }
+    {
+        self.kept[number as usize]
+    }
+
+    /// Puts a summary of a version in the row of a node.
+    pub fn keep(&mut self, number: u32, version: u32, s: S)
+        requires stamps { number < length self.old.rows.stamps }
+        requires kept { number < length self.old.rows.kept }
+        requires version { version ≤ 16777215 }
+        ensures { self.new.rows ≡ with_kept self.old.rows number version s }
+    {
+        self.stamps[number as usize] = version + 1;
+        self.kept[number as usize] = s;
+    }
+}
+
+// Makes memory for so many items in all. The list stays as it is.
+fn make_room<T>(list: &mut Vec<T>, items: usize) -> Result<(), Refusal>
+    ensures items { list.new.items ≡ list.old.items }
+    ensures ok { OnOk result (items ≤ vec_capacity list.new) }
+    ensures err { IfErr result (λ refusal. refusal ≡ Refusal.NoMemory) }
+{
+    let more = items.saturating_sub(list.len());
+    list.reserve(more).map_err(|_| Refusal::NoMemory)
+}
+
+// Adds copies of an item, so that there are so many in all, where there are fewer.
+fn lengthen<T: Copy>(list: &mut Vec<T>, items: usize, item: T)
+    requires { items ≤ vec_capacity list.old }
+    ensures { list.new.items ≡ list.old.items ++ replicate (items - vec_len list.old) item }
+{
+    let items = items.max(list.len());
+    let Ok(()) = list.resize(items, item) else {
+        unreachable!()
+    };
+}

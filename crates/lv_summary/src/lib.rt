@@ -1,0 +1,16 @@
+//! The table of summaries: for each node of six levels, by which edit it was touched last, and the summary
+//! that is kept for it with its version.
+//!
+//! Its model is a map from nodes, stated node by node (`touched_in`, `kept_in`, `fresh_in`), and a size. How the
+//! rows lie is the crate's own affair. It does not compute summaries, and knows nothing of elements.
+#![tactic(auto)]
+
+mod accepted;
+mod level;
+mod summaries;
+
+pub use accepted::Accepted;
+pub use summaries::Summaries;
+
+#[cfg(test)]
+mod tests;

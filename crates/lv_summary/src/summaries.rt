@@ -1,0 +1,251 @@
+ghost use Rattle.std.specs.Prelude.{◌≡◌, ◌/◌, ◌*◌, ◌<◌, ◌≤◌, ◌&&◌, true, false, option_map, None, IfSome, IfNone, OnOk, OnErr, IfErr};
+ghost use Rattle.lv_geometry.specs.Nodes.{is_below, is_node};
+ghost use Rattle.lv_summary.specs.Inner.{IsLevelOf, IsRowOf};
+ghost use Rattle.lv_summary.specs.Table.{AfterDelivery, AnswersAlike, HasSize, Keeps, Touches, blocks_in, delivery_in, entry_in, fresh_in, kept_in, touched_in, whole_in};
+
+use crate::accepted::Accepted;
+use crate::level::Level;
+use lv_geometry::{Node, Refusal};
+use std::alloc::Global;
+use std::marker::Model;
+
+/// What is kept for each node.
+#[derive(Drop)]
+pub struct Summaries<S> {
+    level_1: Level<S>,
+    level_2: Level<S>,
+    level_3: Level<S>,
+    level_4: Level<S>,
+    level_5: Level<S>,
+    level_6: Level<S>,
+    blank: S,
+    size: u32,
+}
+
+impl<S> Model for Summaries<S> {
+    ghost use Rattle.lv_summary.specs.Table.{Table};
+    ghost use Rattle.lv_summary.specs.Inner.{IsSound, table_of};
+
+    ghost Value = { Table S };
+
+    ghost view = { λ a. table_of a.size a.level_1.rows a.level_2.rows a.level_3.rows a.level_4.rows a.level_5.rows a.level_6.rows };
+
+    ghost invariant = { λ a. IsSound (table_of a.size a.level_1.rows a.level_2.rows a.level_3.rows a.level_4.rows a.level_5.rows a.level_6.rows) };
+}
+
+impl<S: Copy> Summaries<S> {
+    /// A table with no rows, for a vector with no element. `blank` fills rows for which nothing is kept yet; it is
+    /// never given out. Takes no memory.
+    pub fn new(alloc: Global, blank: S) -> Summaries<S>
+        ensures size { result.size ≡ 0 }
+        ensures blocks { blocks_in result ≡ 0 }
+        ensures untouched { (n : Node) → touched_in result n ≡ 0 }
+        ensures nothing_kept { (n : Node) → kept_in result n ≡ None }
+    {
+        Summaries {
+            level_1: Level::new(alloc),
+            level_2: Level::new(alloc),
+            level_3: Level::new(alloc),
+            level_4: Level::new(alloc),
+            level_5: Level::new(alloc),
+            level_6: Level::new(alloc),
+            blank,
+            size: 0,
+        }
+    }
+
+    /// Makes rows for so many blocks, and for the nodes above them. Refused with `NoMemory`.
+    pub fn grow(&mut self, blocks: u32) -> Result<(), Refusal>
+        requires { blocks ≤ 131071 }
+        ensures alike { AnswersAlike self.old self.new }
+        ensures more { blocks_in self.old ≤ blocks_in self.new }
+        ensures ok { OnOk result (blocks ≤ blocks_in self.new) }
+        ensures err { IfErr result (λ refusal. refusal ≡ Refusal.NoMemory) }
+        ensures unchanged { OnErr result (self.new ≡ self.old) }
+    {
+        let rows_2 = blocks.div_ceil(8);
+        let rows_3 = rows_2.div_ceil(8);
+        let rows_4 = rows_3.div_ceil(8);
+        let rows_5 = rows_4.div_ceil(8);
+        let rows_6 = rows_5.div_ceil(8);
+        self.level_1.reserve(blocks)?;
+        self.level_2.reserve(rows_2)?;
+        self.level_3.reserve(rows_3)?;
+        self.level_4.reserve(rows_4)?;
+        self.level_5.reserve(rows_5)?;
+        self.level_6.reserve(rows_6)?;
+        self.level_1.fill(blocks, self.blank);
+        self.level_2.fill(rows_2, self.blank);
+        self.level_3.fill(rows_3, self.blank);
+        self.level_4.fill(rows_4, self.blank);
+        self.level_5.fill(rows_5, self.blank);
+        self.level_6.fill(rows_6, self.blank);
+        Ok(())
+    }
+
+    /// Notes how many elements the vector has, which decides the nodes that are whole.
+    pub fn set_size(&mut self, size: u32)
+        requires { size ≤ 8 * blocks_in self.old }
+        ensures { HasSize self.old self.new size }
+    {
+        self.size = size;
+    }
+
+    /// Notes that an edit touched index `i`, and so every node that has it.
+    #[inline]
+    pub fn touch(&mut self, i: u32, edit: u32)
+        requires inside { i / 8 < blocks_in self.old }
+        requires edit { edit ≤ 16777215 }
+        ensures { Touches self.old self.new i edit }
+    {
+        self.level_1.touch(i / 8, edit);
+        self.level_2.touch(i / 64, edit);
+        self.level_3.touch(i / 512, edit);
+        self.level_4.touch(i / 4096, edit);
+        self.level_5.touch(i / 32768, edit);
+        self.level_6.touch(i / 262144, edit);
+    }
+
+    /// How many elements the vector has.
+    #[inline(always)]
+    pub fn size(&self) -> u32
+        ensures value { result ≡ self.now.size }
+        ensures room { result ≤ 8 * blocks_in self.now }
+    {
+        self.size
+    }
+
+    /// How many blocks have rows.
+    pub fn blocks(&self) -> u32
+        ensures value { result ≡ blocks_in self.now }
+        ensures bound { result ≤ 131071 }
+    {
+        self.level_1.rows() as u32
+    }
+
+    /// The number of the last edit that touched a node; 0 where none did, and outside the table.
+    #[inline(always)]
+    pub fn touched(&self, node: Node) -> u32
+        ensures value { result ≡ touched_in self.now node }
+        ensures bound { result ≤ 16777215 }
+    {
+        match self.level(node) {
+            Some(level) => level.touched(node.number),
+            None => 0,
+        }
+    }
+
+    /// Whether every index of a node is below the size.
+    #[inline(always)]
+    pub fn whole(&self, node: Node) -> bool
+        ensures { result ≡ whole_in self.now node }
+    {
+        is_whole(node, self.size)
+    }
+
+    /// Whether a node is whole, and what is kept for it has the number of the last edit that touched it.
+    #[inline(always)]
+    pub fn fresh(&self, node: Node) -> bool
+        ensures { result ≡ fresh_in self.now node }
+    {
+        match self.whole_level(node) {
+            Some(level) => level.is_current(node.number),
+            None => false,
+        }
+    }
+
+    /// The summary of a node, where it is fresh.
+    #[inline(always)]
+    pub fn entry(&self, node: Node) -> Option<S>
+        ensures { result ≡ entry_in self.now node }
+    {
+        let level = self.whole_level(node)?;
+        if level.is_current(node.number) {
+            Some(level.kept(node.number))
+        } else {
+            None
+        }
+    }
+
+    /// The version of the summary that is kept for a node, fresh or not; none where none is.
+    pub fn kept_version(&self, node: Node) -> Option<u32>
+        ensures { result ≡ option_map (λ kept. kept.0) (kept_in self.now node) }
+    {
+        let stamp = self.level(node)?.stamp(node.number);
+        if stamp == 0 { None } else { Some(stamp - 1) }
+    }
+
+    /// Delivers a summary of a version. It is kept where the node is whole, was touched last by the edit of that
+    /// number, and has no summary of that version yet.
+    pub fn install(&mut self, node: Node, version: u32, s: S) -> Accepted
+        ensures answer { result ≡ delivery_in self.old node version }
+        ensures after { AfterDelivery self.old self.new node version s result }
+    {
+        let now = self.touched(node);
+        if !self.whole(node) || now != version {
+            return Accepted::Stale { now };
+        }
+        if self.fresh(node) {
+            return Accepted::Held;
+        }
+        self.keep(node, version, s);
+        Accepted::Installed
+    }
+
+    // Keeps a summary of a version for a whole node.
+    fn keep(&mut self, node: Node, version: u32, s: S)
+        requires whole { whole_in self.old node ≡ true }
+        requires version { version ≤ 16777215 }
+        ensures { Keeps self.old self.new node version s }
+    {
+        match node.level {
+            1 => self.level_1.keep(node.number, version, s),
+            2 => self.level_2.keep(node.number, version, s),
+            3 => self.level_3.keep(node.number, version, s),
+            4 => self.level_4.keep(node.number, version, s),
+            5 => self.level_5.keep(node.number, version, s),
+            _ => self.level_6.keep(node.number, version, s),
+        }
+    }
+
+    // The level of a node; none where there is no such level.
+    #[inline(always)]
+    fn level(&self, node: Node) -> Option<&Level<S>>
+        ensures some { IfSome result (λ level. IsLevelOf self.now node level.now.rows) }
+        ensures none { IfNone result (is_node node ≡ false) }
+    {
+        match node.level {
+            1 => Some(&self.level_1),
+            2 => Some(&self.level_2),
+            3 => Some(&self.level_3),
+            4 => Some(&self.level_4),
+            5 => Some(&self.level_5),
+            6 => Some(&self.level_6),
+            _ => None,
+        }
+    }
+
+    // The level of a node that is whole, in which it has a row; none where the node is not whole.
+    #[inline(always)]
+    fn whole_level(&self, node: Node) -> Option<&Level<S>>
+        ensures some { IfSome result (λ level. IsRowOf self.now node level.now.rows) }
+        ensures none { IfNone result (whole_in self.now node ≡ false) }
+    {
+        if is_whole(node, self.size) {
+            self.level(node)
+        } else {
+            None
+        }
+    }
+}
+
+// Whether a node is of the table, and all its indices are below a size.
+#[inline(always)]
+fn is_whole(node: Node, size: u32) -> bool
+    ensures { result ≡ (is_node node && is_below node size) }
+{
+    if node.level == 0 || node.level > 6 {
+        return false;
+    }
+    node.number < size >> (3 * node.level)
+}
