@@ -5,8 +5,8 @@
 mod command_line;
 mod help;
 
-use clap::{ArgMatches, Error};
 use clap::error::ErrorKind;
+use clap::{ArgMatches, Error};
 use lv_script::{Fault, run_script};
 use std::process::ExitCode;
 use std::rt::Env;
@@ -67,6 +67,8 @@ fn show<R: Eprint + Print>(rt: &R, error: &Error) -> Result<u8, Fault> {
 
 // A word of the command line is no text.
 fn not_text<R: Eprint>(rt: &R) -> Result<u8, Fault> {
-    let _ = rt.eprintln("error: a word of the command line isn't UTF-8\n\nFor more information, try '--help'.");
+    let _ = rt.eprintln(
+        "error: a word of the command line isn't UTF-8\n\nFor more information, try '--help'.",
+    );
     Ok(2)
 }
