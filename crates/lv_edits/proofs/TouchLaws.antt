@@ -238,7 +238,7 @@ covers_parent child parent i level number covered =
     eq-eqb _ _ (ap (λ w. i / w) wide ∙ sym (div-div-eq-div-mul i (8 ^ child.level) 8) ∙ ap (λ m. m / 8) at ∙ sym number)
 
 -- an edit that touches a node touches its parent
-touches_parent : (xs : List ℤ) (e : Edit) (child parent : Node) → parent.level ≡ child.level + 1 → parent.number ≡ child.number / 8 → touches xs e child ≡ true → touches xs e parent ≡ true
+pub touches_parent : (xs : List ℤ) (e : Edit) (child parent : Node) → parent.level ≡ child.level + 1 → parent.number ≡ child.number / 8 → touches xs e child ≡ true → touches xs e parent ≡ true
 touches_parent xs (Push x) child parent level number touched = covers_parent child parent (length xs) level number touched
 touches_parent xs Pop child parent level number touched = touched
 touches_parent xs (Write i x) child parent level number touched = covers_parent child parent i level number touched

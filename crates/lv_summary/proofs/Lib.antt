@@ -1,3 +1,4 @@
+pub mod AgreesLaws
 mod Changes
 mod LevelLaws
 mod NodeRows

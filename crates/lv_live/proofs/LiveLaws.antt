@@ -1,0 +1,198 @@
+-- What a live vector keeps through each of its changes.
+use Rattle.std.proofs.Common.{◌≡◌, ◌≢◌, ◌⊎◌, ℕ, ◌+◌, ◌-◌, ◌*◌, ◌/◌, ◌^◌, ◌<◌, ◌≤◌, Bool, true, false, ◌&&◌, ◌||◌, not, cond, Option, Some, None, option_map, List, [], ◌∷◌, ◌++◌, length, nat_eq, if◌then◌else◌, refl, sym, ap, ◌∙◌, inl, inr, arith}
+use Rattle.std.specs.Prelude.{ℤ}
+use Rattle.std.specs.Option.{option_map_or}
+use Rattle.std.proofs.lemmas.List.{length-set, length-take, length_push}
+use Rattle.std.proofs.lemmas.Option.{cond_some, same_Some}
+use Rattle.std.proofs.Math.Nat.{one-le-pow}
+use Rattle.std.proofs.lemmas.Bool.{and_from, and_parts, cases_Bool, cond-false, cond-true, eq-eqb, eqb-true, le-leb, leb-true, true≢false}
+use Rattle.lv_geometry.specs.declared.nodes.Node.{Node}
+use Rattle.lv_geometry.specs.Nodes.{covers, is_below, is_node, parent}
+use Rattle.lv_bodies.specs.Body.{BodyLaws, Operations, fold_of}
+use Rattle.lv_edits.specs.declared.edit.Edit.{Edit}
+use Rattle.lv_edits.specs.declared.edit.Edit.TheVariants.{Push, Pop, Write, Reserve}
+use Rattle.lv_edits.specs.History.{History, applied, list_of, replayed, with_edit}
+use Rattle.lv_edits.specs.Kept.{InLimits}
+use Rattle.lv_edits.specs.Touch.{cells_of, index_written, is_whole, touched_by, touches}
+use Rattle.lv_edits.specs.Verdict.{verdict_of}
+use Rattle.lv_edits.proofs.HistoryLaws.{accepted_is_possible, list_of_replayed, list_of-snoc, replayed-nil}
+use Rattle.lv_summary.specs.declared.accepted.Accepted.TheVariants.{Held, Installed, Stale}
+use Rattle.lv_summary.specs.Agrees.{Agrees}
+use Rattle.lv_summary.specs.Table.{AnswersAlike, HasSize, Keeps, Table, Touches, blocks_in, delivery_in, fresh_in, has_version, kept_in, same_node, touched_in, whole_in}
+use Rattle.lv_summary.proofs.AgreesLaws.{agrees_after_size, agrees_after_touch, agrees_alike, agrees_empty, agrees_installed, same_node-eq}
+use Rattle.lv_refresh.specs.Claim.{wants_job}
+use Rattle.lv_refresh.specs.Claimed.{AreHints, ClaimTable, claim_blocks, claimed_in, is_hinted, record_of}
+use Rattle.lv_refresh.specs.Delivery.{delivery_of}
+use Rattle.lv_refresh.specs.Record.{Record, SameRecord, is_fresh, is_version}
+use Rattle.lv_refresh.proofs.HonestyLaws.{whole_of_wanted}
+use Rattle.lv_refresh.proofs.WantLaws.{wants_before_edit, wants_before_install, wants_job-same}
+use Rattle.lv_live.specs.Follows.{ClaimsAlike, ClaimsFollow, HasRow, TableFollows}
+use Rattle.lv_live.specs.State.{IsLive, LiveState, SameLive, recorded}
+
+-- what is kept has a version where its version is that
+same_version : {S : Type 0} (v : ℕ) (kept : Option (ℕ × S)) → has_version v kept ≡ is_version v (option_map (λ kept. kept.0) kept)
+same_version v None = refl
+same_version v (Some kept) = refl
+
+-- the list after an edit has its room where the index that it wrote at, if any, has
+pub room_after : (xs ys : List ℤ) (e : Edit) (index : Option ℕ) (blocks : ℕ) → applied xs e ≡ Some ys → index_written xs e ≡ index → length xs ≤ 8 * blocks → HasRow blocks index → length ys ≤ 8 * blocks
+room_after xs ys (Push x) index blocks made written room rows =
+    omega (arith, ap length (same_Some _ _ made), length_push xs x, rows (length xs) (sym written))
+room_after xs ys Pop index blocks made written room rows =
+    omega (arith, ap length (cond_some _ _ _ made).1, length-take (length xs - 1) xs)
+room_after xs ys (Write i x) index blocks made written room rows =
+    omega (arith, ap length (cond_some _ _ _ made).1, length-set xs i x)
+room_after xs ys (Reserve k) index blocks made written room rows = omega (arith, ap length (same_Some _ _ made))
+
+-- what is kept stays under an edit
+pub kept_followed : {S : Type 0} (t u : Table S) (index : Option ℕ) (edit size : ℕ) → TableFollows t u index edit size → (n : Node) → kept_in u n ≡ kept_in t n
+kept_followed t u (Some i) edit size (mid, touch, sized) n = sized.kept n ∙ touch.kept n
+kept_followed t u None edit size sized n = sized.kept n
+
+module _ {S : Type 0} (o : Operations S) where
+  -- the nodes that are fresh in a table that agrees are those that are fresh by the record
+  pub fresh_agrees : (es : List Edit) (t : Table S) (c : ClaimTable) → Agrees o es t → (n : Node) → fresh_in t n ≡ is_fresh (record_of es t c) n
+  fresh_agrees es t c agrees n =
+      elim (cases_Bool (is_node n)) [
+        | inl node ↦
+            ap (λ size. (is_node n && is_below n size) && has_version (touched_in t n) (kept_in t n)) agrees.size
+            ∙ ap (λ v. is_whole es n && has_version v (kept_in t n)) (agrees.touched n node)
+            ∙ ap (λ has. is_whole es n && has) (same_version (touched_by es n) (kept_in t n))
+        | inr outside ↦
+            ap (λ b. (b && is_below n t.size) && has_version (touched_in t n) (kept_in t n)) outside
+            ∙ sym (ap (λ b. (b && is_below n (length (list_of es))) && is_version (touched_by es n) (option_map (λ kept. kept.0) (kept_in t n))) outside)
+      ]
+
+  -- tables that answer alike, with claims that answer alike, have the same record
+  pub same_record : (es : List Edit) (t u : Table S) (c d : ClaimTable) → ((n : Node) → kept_in u n ≡ kept_in t n) → ((n : Node) → claimed_in d n ≡ claimed_in c n) → SameRecord (record_of es t c) (record_of es u d)
+  same_record es t u c d kept claimed =
+      record { edits = refl; issued = refl; claimed = claimed; kept = λ n. ap (option_map (λ kept. kept.0)) (kept n) }
+
+  -- growth keeps all
+  pub live_alike : {B : Type 0} (s : LiveState B S) (t : Table S) (c : ClaimTable) → IsLive o s → AnswersAlike s.table t → ClaimsAlike s.claims c → IsLive o (record s { table = t; claims = c })
+  live_alike s t c live alike same =
+      let records = same_record s.history.journal s.table t s.claims c alike.kept same.claimed in
+      record {
+        limits = live.limits;
+        agrees = agrees_alike o s.history.journal s.table t alike live.agrees;
+        hints = λ n wants. same.hints n (live.hints n (sym (wants_job-same (recorded s) (record_of s.history.journal t c) records n) ∙ wants));
+        grown = omega (arith, live.grown, alike.size, same.more);
+      }
+
+  -- the table that follows an edit agrees with the journal that has it
+  agrees_followed : (es : List Edit) (e : Edit) (ys : List ℤ) (t u : Table S) (index : Option ℕ) → replayed es ≡ Some (list_of es) → applied (list_of es) e ≡ Some ys → index_written (list_of es) e ≡ index → Agrees o es t
+      → TableFollows t u index (length es + 1) (length ys) → Agrees o (es ++ e ∷ []) u
+  agrees_followed es e ys t u (Some i) legal possible written agrees (mid, touch, sized) = agrees_after_touch o es e ys i t mid u legal possible written agrees touch sized
+  agrees_followed es e ys t u None legal possible written agrees sized = agrees_after_size o es e ys t u legal possible written agrees sized
+
+  -- the size that follows an edit
+  size_followed : (t u : Table S) (index : Option ℕ) (edit size : ℕ) → TableFollows t u index edit size → u.size ≡ size
+  size_followed t u (Some i) edit size (mid, touch, sized) = sized.size_is
+  size_followed t u None edit size sized = sized.size_is
+
+  -- an edit that writes nowhere touches no node
+  untouched_anywhere : (xs : List ℤ) (e : Edit) (n : Node) → index_written xs e ≡ None → touches xs e n ≡ false
+  untouched_anywhere xs e n nowhere = ap (λ index. option_map_or (covers n) index false) nowhere
+
+  -- an edit that writes at an index touches the nodes that have it
+  touches_at_index : (xs : List ℤ) (e : Edit) (n : Node) (i : ℕ) → index_written xs e ≡ Some i → touches xs e n ≡ covers n i
+  touches_at_index xs e n i there = ap (λ index. option_map_or (covers n) index false) there
+
+  -- every node that wants a job after an edit is hinted
+  hints_followed : (es : List Edit) (e : Edit) (ys : List ℤ) (t u : Table S) (c d : ClaimTable) (index : Option ℕ) → replayed es ≡ Some (list_of es) → applied (list_of es) e ≡ Some ys → index_written (list_of es) e ≡ index
+      → TableFollows t u index (length es + 1) (length ys) → ClaimsFollow c d index → AreHints (record_of es t c) c → AreHints (record_of (es ++ e ∷ []) u d) d
+  hints_followed es e ys t u c d index legal possible written follows claims hints n wants =
+      let next = record_of (es ++ e ∷ []) u d in
+      let same : SameRecord (record (record_of es t c) { edits = es ++ e ∷ [] }) next =
+      record { edits = refl; issued = refl; claimed = claims.alike.claimed; kept = λ n. ap (option_map (λ kept. kept.0)) (kept_followed t u index (length es + 1) (length ys) follows n) } in
+      elim (cases_Bool (touches (list_of es) e n)) [
+        | inl touched ↦ hinted_touched es e c d index written claims n touched (and_parts _ _ (whole_of_wanted next n wants)).0
+        | inr untouched ↦ claims.alike.hints n (hints n (wants_before_edit (record_of es t c) next e ys legal possible same n untouched wants))
+      ]
+    where
+      hinted_touched : (es : List Edit) (e : Edit) (c d : ClaimTable) (index : Option ℕ) → index_written (list_of es) e ≡ index → ClaimsFollow c d index → (n : Node) → touches (list_of es) e n ≡ true → is_node n ≡ true → is_hinted d n ≡ true
+      hinted_touched es e c d (Some i) written claims n touched node = claims.touched n i refl node (sym (touches_at_index (list_of es) e n i written) ∙ touched)
+      hinted_touched es e c d None written claims n touched node = absurd (true≢false (sym touched ∙ untouched_anywhere (list_of es) e n written))
+
+  -- an accepted edit, followed by table and claims, keeps all
+  pub live_after_edit : {B : Type 0} (s : LiveState B S) (e : Edit) (h : History) (t : Table S) (c : ClaimTable) (index : Option ℕ) → IsLive o s → verdict_of s.history.limits s.history.journal e ≡ None → h ≡ with_edit s.history e → InLimits h
+      → index_written (list_of s.history.journal) e ≡ index → HasRow (claim_blocks s.claims) index → TableFollows s.table t index (length h.journal) (length (list_of h.journal)) → ClaimsFollow s.claims c index → IsLive o (record s { history = h; table = t; claims = c })
+  live_after_edit s e h t c index live free is limits written rows follows claims =
+      let es = s.history.journal in
+      let able = accepted_is_possible s.history.limits es e free in
+      let legal = live.limits.legal in
+      let now : list_of (es ++ e ∷ []) ≡ able.0 = (list_of-snoc es e able.0 legal able.1).1 in
+      let journal : h.journal ≡ es ++ e ∷ [] = ap (λ h. h.journal) is in
+      let edit : length h.journal ≡ length es + 1 = ap length journal ∙ length_push es e in
+      let size : length (list_of h.journal) ≡ length able.0 = ap (λ es. length (list_of es)) journal ∙ ap length now in
+      let followed : TableFollows s.table t index (length es + 1) (length able.0) = rw (sym edit) (rw (sym size) follows) in
+      record {
+        limits = limits;
+        agrees = rw journal (agrees_followed es e able.0 s.table t index legal able.1 written live.agrees followed);
+        hints = rw journal (hints_followed es e able.0 s.table t s.claims c index legal able.1 written followed claims live.hints);
+        grown = omega (arith, size_followed s.table t index (length es + 1) (length able.0) followed, room_after (list_of es) able.0 e index (claim_blocks s.claims) able.1 written (omega (arith, live.grown, live.agrees.size)) rows, claims.alike.more);
+      }
+
+  -- a table that agrees answers what is delivered as the record does
+  pub delivery_agrees : (es : List Edit) (t : Table S) (c : ClaimTable) (n : Node) (v : ℕ) → Agrees o es t → is_node n ≡ true → delivery_in t n v ≡ delivery_of (record_of es t c) n v
+  delivery_agrees es t c n v agrees node =
+      ap (λ size. cond ((is_node n && is_below n size) && nat_eq (touched_in t n) v) (cond (has_version v (kept_in t n)) Held Installed) (Stale (touched_in t n))) agrees.size
+      ∙ ap (λ edit. cond (is_whole es n && nat_eq edit v) (cond (has_version v (kept_in t n)) Held Installed) (Stale edit)) (agrees.touched n node)
+      ∙ ap (λ has. cond (is_whole es n && nat_eq (touched_by es n) v) (cond has Held Installed) (Stale (touched_by es n))) (same_version v (kept_in t n))
+
+  -- a summary that was installed is the fold of its node's elements, and the node's parent is hinted: all is kept
+  pub live_after_install : {B : Type 0} (s : LiveState B S) (t : Table S) (c : ClaimTable) (n : Node) (v : ℕ) (summary : S) → IsLive o s → Keeps s.table t n v summary → whole_in s.table n ≡ true → touched_in s.table n ≡ v
+      → summary ≡ fold_of o (cells_of s.history.journal n) → ClaimsAlike s.claims c → (is_node (parent n) ≡ true → is_hinted c (parent n) ≡ true) → IsLive o (record s { table = t; claims = c })
+  live_after_install s t c n v summary live keeps whole touched is claims above =
+      let es = s.history.journal in
+      let node = (and_parts _ _ whole).0 in
+      let next = record_of es t c in
+      let kept : (m : Node) → next.kept m ≡ (if same_node m n then Some v else (recorded s).kept m) = λ m. ap (option_map (λ kept. kept.0)) (keeps.kept m) ∙ option_map_cond (same_node m n) (v, summary) (kept_in s.table m) in
+      record {
+        limits = live.limits;
+        agrees = agrees_installed o es s.table t n v summary live.agrees keeps whole touched is;
+        hints = λ m wants. elim (wants_before_install (recorded s) next n v refl claims.claimed kept (ap (λ size. is_node n && is_below n size) (sym live.agrees.size) ∙ whole) (sym (live.agrees.touched n node) ∙ touched) m wants) [
+          | inl before ↦ claims.hints m (live.hints m before)
+          | inr parent_is ↦
+              let one : m ≡ parent n = same_node-eq m (parent n) parent_is in
+              let inside : is_node m ≡ true = (and_parts _ _ (whole_of_wanted next m wants)).0 in
+              ap (is_hinted c) one ∙ above (ap is_node (sym one) ∙ inside)
+        ];
+        grown = omega (arith, live.grown, keeps.size, claims.more);
+      }
+    where
+      option_map_cond : (b : Bool) (new : ℕ × S) (old : Option (ℕ × S)) → option_map (λ kept. kept.0) (cond b (Some new) old) ≡ cond b (Some new.0) (option_map (λ kept. kept.0) old)
+      option_map_cond true new old = refl
+      option_map_cond false new old = refl
+
+  -- claims that were forgotten, with every node hinted that the claims have room for: all is kept
+  pub live_after_forget : {B : Type 0} (s : LiveState B S) (c : ClaimTable) → IsLive o s → claim_blocks c ≡ claim_blocks s.claims
+      → ((n : Node) → is_node n ≡ true → is_below n (8 * claim_blocks s.claims) ≡ true → is_hinted c n ≡ true) → IsLive o (record s { claims = c })
+  live_after_forget s c live blocks all =
+      record {
+        limits = live.limits;
+        agrees = live.agrees;
+        hints = λ n wants.
+            let whole = and_parts _ _ (whole_of_wanted (record_of s.history.journal s.table c) n wants) in
+            let below : (n.number + 1) * 8 ^ n.level ≤ length (list_of s.history.journal) = leb-true _ _ whole.1 in
+            all n whole.0 (le-leb _ _ (omega (arith, below, live.agrees.size, live.grown)));
+        grown = omega (arith, live.grown, blocks);
+      }
+
+  -- no node of an empty vector is whole
+  none_whole : (n : Node) → is_whole [] n ≡ true → ⊥
+  none_whole n whole =
+      let below : (n.number + 1) * 8 ^ n.level ≤ length (list_of []) = leb-true ((n.number + 1) * 8 ^ n.level) (length (list_of [])) (and_parts _ _ whole).1 in
+      let none : length (list_of []) ≡ 0 = ap length (list_of_replayed [] [] replayed-nil) in
+      let some : 1 ≤ 8 ^ n.level = one-le-pow n.level 8 (omega arith) in
+      omega arith
+
+  -- an empty vector, for which nothing is claimed and nothing kept
+  pub live_empty : {B : Type 0} (s : LiveState B S) → s.history.journal ≡ [] → InLimits s.history → s.table.size ≡ 0 → ((n : Node) → touched_in s.table n ≡ 0) → ((n : Node) → kept_in s.table n ≡ None) → IsLive o s
+  live_empty s journal limits size touched kept =
+      record {
+        limits = limits;
+        agrees = rw journal (agrees_empty o s.table size touched kept);
+        hints = λ n wants. absurd (none_whole n (ap (λ es. is_whole es n) (sym journal) ∙ whole_of_wanted (recorded s) n wants));
+        grown = omega (arith, size);
+      }

@@ -1,0 +1,4 @@
+pub mod Follows
+pub mod PlainAnswers
+pub mod State
+pub mod Step

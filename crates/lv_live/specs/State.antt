@@ -1,0 +1,115 @@
+-- What a live vector holds, and the record of it.
+use Rattle.std.specs.Prelude.{◌≡◌, ◌*◌, ◌≤◌, ℕ, Option, Some, None, option_map, List, [], ◌∷◌, ◌++◌, map, All, nat_eq, slice_get, ◌-◌, if◌then◌else◌}
+use Rattle.lv_geometry.specs.declared.nodes.Node.{Node}
+use Rattle.lv_bodies.specs.Body.{Operations}
+use Rattle.lv_edits.specs.History.{History}
+use Rattle.lv_edits.specs.Kept.{InLimits}
+use Rattle.lv_summary.specs.declared.accepted.Accepted.{Accepted}
+use Rattle.lv_summary.specs.Agrees.{Agrees}
+use Rattle.lv_summary.specs.Table.{Table}
+use Rattle.lv_refresh.specs.Carried.{Carried}
+use Rattle.lv_refresh.specs.Claimed.{AreHints, ClaimTable, claim_blocks, record_of}
+use Rattle.lv_refresh.specs.Honesty.{IsHonest}
+use Rattle.lv_refresh.specs.Record.{Record}
+use Rattle.lv_live.specs.Step.{after_accepted, with_version}
+
+-- a vector's body, its limits and journal, its summaries and its claims
+pub record LiveState (B S : Type 0) : Type 0 where
+  pub body : B
+  pub history : History
+  pub table : Table S
+  pub claims : ClaimTable
+
+-- a vector's record: its edits, what is claimed and what is kept; the jobs that were issued are told by who keeps them
+abbrev pub recorded : {B S : Type 0} → LiveState B S → Record
+recorded s = record_of s.history.journal s.table s.claims
+
+-- the summaries agree with the journal, every node that wants a job is hinted, and each index has its room for claims
+pub record IsLive {B S : Type 0} (o : Operations S) (s : LiveState B S) : Type 0 where
+  pub limits : InLimits s.history
+  pub agrees : Agrees o s.history.journal s.table
+  pub hints : AreHints (recorded s) s.claims
+  pub grown : s.table.size ≤ 8 * claim_blocks s.claims
+
+-- two states have the same body, edits, claims and kept versions
+pub record SameLive {B S : Type 0} (old new : LiveState B S) : Type 0 where
+  pub body : new.body ≡ old.body
+  pub history : new.history ≡ old.history
+  pub claimed : (n : Node) → (recorded new).claimed n ≡ (recorded old).claimed n
+  pub kept : (n : Node) → (recorded new).kept n ≡ (recorded old).kept n
+
+-- two states have the same body, claims and kept versions; edits may differ
+pub record SameRefresh {B S : Type 0} (old new : LiveState B S) : Type 0 where
+  pub body : new.body ≡ old.body
+  pub claimed : (n : Node) → (recorded new).claimed n ≡ (recorded old).claimed n
+  pub kept : (n : Node) → (recorded new).kept n ≡ (recorded old).kept n
+
+-- claims, with that of a job, if there is one
+abbrev pub claimed_with : (Node → Option ℕ) → Option (Node × ℕ) → Node → Option ℕ
+claimed_with claimed None = claimed
+claimed_with claimed (Some job) = with_version claimed job.0 job.1
+
+-- a claim of a node at a version, if there is one, and nothing else, was added
+pub record HasClaim {B S : Type 0} (old new : LiveState B S) (job : Option (Node × ℕ)) : Type 0 where
+  pub body : new.body ≡ old.body
+  pub history : new.history ≡ old.history
+  pub claimed : (n : Node) → (recorded new).claimed n ≡ claimed_with (recorded old).claimed job n
+  pub kept : (n : Node) → (recorded new).kept n ≡ (recorded old).kept n
+
+-- no claim is left, and nothing else has changed
+pub record HasNoClaims {B S : Type 0} (old new : LiveState B S) : Type 0 where
+  pub body : new.body ≡ old.body
+  pub history : new.history ≡ old.history
+  pub claimed : (n : Node) → (recorded new).claimed n ≡ None
+  pub kept : (n : Node) → (recorded new).kept n ≡ (recorded old).kept n
+
+-- what was delivered is kept where it was installed, and nothing else has changed
+pub record HasDelivery {B S : Type 0} (old new : LiveState B S) (node : Node) (version : ℕ) (accepted : Accepted) : Type 0 where
+  pub body : new.body ≡ old.body
+  pub history : new.history ≡ old.history
+  pub claimed : (n : Node) → (recorded new).claimed n ≡ (recorded old).claimed n
+  pub kept : (n : Node) → (recorded new).kept n ≡ (after_accepted (recorded old) node version accepted).kept n
+
+-- node and version of a job
+abbrev pub name_of : {B S : Type 0} → Carried B S → Node × ℕ
+name_of job = (job.node, job.version)
+
+-- a live vector with every job that it handed out, in order
+pub record WorldState (B S : Type 0) : Type 0 where
+  pub live : LiveState B S
+  pub jobs : List (Carried B S)
+
+-- the record of a live vector, with the jobs that were issued
+abbrev pub with_issued : {B S : Type 0} → LiveState B S → List (Carried B S) → Record
+with_issued live jobs = record (recorded live) { issued = map name_of jobs }
+
+-- the record of a world
+abbrev pub world_record : {B S : Type 0} → WorldState B S → Record
+world_record w = with_issued w.live w.jobs
+
+-- a job has the vector's body, and its contents were taken from this vector
+abbrev pub IsOwn : {B S : Type 0} → Operations S → LiveState B S → Carried B S → Type 0
+IsOwn o live job = (job.body ≡ live.body) × IsHonest o (recorded live) job.node job.version job.contents
+
+-- every job is the vector's own
+abbrev pub AllOwn : {B S : Type 0} → Operations S → LiveState B S → List (Carried B S) → Type 0
+AllOwn o live jobs = All (IsOwn o live) jobs
+
+-- a vector is within its limits, and every job is its own
+pub record IsWorld {B S : Type 0} (o : Operations S) (live : LiveState B S) (jobs : List (Carried B S)) : Type 0 where
+  pub limits : InLimits live.history
+  pub own : AllOwn o live jobs
+
+-- two states have the same body and limits
+pub record SameSetting {B S : Type 0} (old new : LiveState B S) : Type 0 where
+  pub body : new.body ≡ old.body
+  pub limits : new.history.limits ≡ old.history.limits
+
+-- jobs with one more, if there is one
+abbrev pub jobs_with : {B S : Type 0} → List (Carried B S) → Option (Carried B S) → List (Carried B S)
+jobs_with jobs None = jobs
+jobs_with jobs (Some job) = jobs ++ job ∷ []
+
+-- the job of a number, counted from 1, if there is one
+abbrev pub job_at : {B S : Type 0} → List (Carried B S) → ℕ → Option (Carried B S)
+job_at jobs k = if nat_eq k 0 then None else slice_get jobs (k - 1)

@@ -1,0 +1,21 @@
+//! The live vector: edits, queries and refresh, one event after another.
+//!
+//! A vector's record is all that it has seen: the accepted edits, the jobs issued, what is claimed and what is kept. Each
+//! event is one step on the record; a run is a list of steps. `run` carries the theorem: after any list of events each
+//! answer is the plain left fold at its edit. No thread is started here, and nothing waits.
+#![tactic(auto)]
+
+mod events;
+mod following;
+mod live;
+mod playing;
+mod replies;
+mod theorems;
+mod vouching;
+mod worlds;
+
+pub use events::Event;
+pub use live::Live;
+pub use replies::Reply;
+pub use theorems::{answers_are_plain, refresh_changes_no_answer, refusals_change_nothing};
+pub use worlds::{World, run};

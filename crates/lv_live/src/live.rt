@@ -1,0 +1,223 @@
+ghost use Rattle.std.specs.Prelude.{◌≡◌, ◌↔◌, ◌+◌, ◌*◌, ◌/◌, ◌<◌, ◌≤◌, IsTrue, None, option_map, [], length, IfOk, IfSome, OnOk, OnErr, IfErr, true, false};
+ghost use Rattle.lv_geometry.specs.declared.nodes.Node.{Node};
+ghost use Rattle.lv_edits.specs.Capacity.{capacity_after};
+ghost use Rattle.lv_edits.specs.History.{list_of};
+ghost use Rattle.lv_edits.specs.Kept.{InLimits};
+ghost use Rattle.lv_edits.specs.Verdict.{Answers, element_at, verdict_of};
+ghost use Rattle.lv_refresh.specs.Claim.{IsNextJob};
+ghost use Rattle.lv_refresh.specs.Delivery.{delivery_of};
+ghost use Rattle.lv_refresh.specs.Honesty.{IsHonest, Vouched};
+ghost use Rattle.lv_refresh.specs.Record.{is_fresh};
+ghost use Rattle.lv_reduce.specs.Cost.{IsFew};
+ghost use Rattle.lv_live.specs.State.{HasClaim, HasDelivery, HasNoClaims, SameLive, SameRefresh, name_of, recorded};
+ghost use Rattle.lv_live.specs.Step.{Reduces, Scans};
+
+use crate::following::{follow, make_room, touched_index};
+use crate::vouching::stands_here;
+use lv_bodies::Body;
+use lv_edits::{Edit, Edits, Receipt};
+use lv_geometry::{Limits, Refusal};
+use lv_reduce::{Answer, Scan, View};
+use lv_refresh::{Claims, Job, Outcome};
+use lv_summary::{Accepted, Summaries};
+use std::alloc::Global;
+use std::marker::Model;
+
+/// A vector whose reductions and scans stay current while it is edited.
+#[derive(Drop)]
+pub struct Live<B: Body> {
+    body: B,
+    cells: Edits,
+    table: Summaries<B::S>,
+    claims: Claims,
+}
+
+impl<B: Body> Model for Live<B> {
+    ghost use Rattle.lv_live.specs.State.{IsLive, LiveState};
+
+    ghost Value = { LiveState B B.S };
+
+    ghost view = { λ a. record { body = a.body; history = a.cells; table = a.table; claims = a.claims } };
+
+    ghost invariant = { λ a. IsLive (B.operations (B.meaning a.body)) record { body = a.body; history = a.cells; table = a.table; claims = a.claims } };
+}
+
+impl<B: Body> Live<B> {
+    /// An empty vector, for which nothing is claimed and nothing kept. Takes no memory.
+    pub fn new(alloc: Global, limits: Limits, body: B) -> Live<B>
+        ensures body { result.body ≡ body }
+        ensures history { result.history ≡ record { limits = limits; journal = [] } }
+        ensures limits { InLimits result.history }
+        ensures unclaimed { (n : Node) → (recorded result).claimed n ≡ None }
+        ensures nothing_kept { (n : Node) → (recorded result).kept n ≡ None }
+    {
+        let blank = body.identity();
+        Live {
+            body,
+            cells: Edits::new(alloc, limits),
+            table: Summaries::new(alloc, blank),
+            claims: Claims::new(alloc),
+        }
+    }
+
+    /// Makes an edit. Refused as `verdict` says, else with `NoMemory`; room for summaries, claims, element and journal is
+    /// made before anything changes.
+    pub fn apply(&mut self, edit: Edit) -> Result<Receipt, Refusal>
+        ensures answer { Answers self.old.history edit result self.new.history }
+        ensures limits { InLimits self.new.history }
+        ensures refresh { SameRefresh self.old self.new }
+    {
+        if let Some(refusal) = self.cells.verdict(&edit) {
+            return Err(refusal);
+        }
+        let index = touched_index(&edit, self.table.size());
+        make_room(&mut self.table, &mut self.claims, index)?;
+        let receipt = self.cells.apply(edit)?;
+        follow(
+            &mut self.table,
+            &mut self.claims,
+            index,
+            self.cells.edit(),
+            self.cells.size(),
+        );
+        Ok(receipt)
+    }
+
+    /// Why an edit would be refused, for want of memory apart; none where it would be accepted.
+    pub fn verdict(&self, edit: &Edit) -> Option<Refusal>
+        ensures { result ≡ verdict_of self.now.history.limits self.now.history.journal edit.now }
+    {
+        self.cells.verdict(edit)
+    }
+
+    /// Completes what is pending. Changes no answer.
+    pub fn settle(&mut self)
+        ensures { SameLive self.old self.new }
+    {
+        self.cells.settle();
+    }
+
+    /// The element at an index. Refused with `OutOfRange`.
+    pub fn get(&self, i: u32) -> Result<i64, Refusal>
+        ensures { result ≡ element_at self.now.history.journal i }
+    {
+        self.cells.get(i)
+    }
+
+    /// How many elements there are.
+    pub fn size(&self) -> u32
+        ensures { result ≡ length (list_of self.now.history.journal) }
+    {
+        self.cells.size()
+    }
+
+    /// How many elements fit into the open buckets.
+    pub fn capacity(&self) -> u32
+        ensures { result ≡ capacity_after self.now.history.journal }
+    {
+        self.cells.capacity()
+    }
+
+    /// The number of the last accepted edit, 0 before any.
+    pub fn edit(&self) -> u32
+        ensures { result ≡ length self.now.history.journal }
+    {
+        self.cells.edit()
+    }
+
+    /// The accepted edits, in order.
+    pub fn journal(&self) -> &[Edit]
+        ensures { result.now ≡ self.now.history.journal }
+    {
+        self.cells.journal()
+    }
+
+    /// The fold of the elements from index `lo` up to `hi`, at the last edit. Refused with `BadRange`, then `OutOfRange`.
+    /// Takes no memory.
+    pub fn reduce(&self, lo: u32, hi: u32) -> Result<Answer<B::S>, Refusal>
+        ensures answer { Reduces (B.operations (B.meaning self.now.body)) (recorded self.now) lo hi result }
+        ensures few { IfOk result (λ answer. IsFew (is_fresh (recorded self.now)) lo hi answer.cells_read answer.summaries_read) }
+    {
+        lv_reduce::reduce(self.view(), &self.body, lo, hi)
+    }
+
+    /// The running folds of the elements from index `lo` up to `hi`, each with its own. Refused with `BadRange`, `OutOfRange`,
+    /// then `NoMemory`.
+    pub fn scan_inclusive(&self, alloc: Global, lo: u32, hi: u32) -> Result<Scan<B::S>, Refusal>
+        ensures { Scans (B.operations (B.meaning self.now.body)) (recorded self.now) lo hi true result }
+    {
+        lv_reduce::scan_inclusive(alloc, self.view(), &self.body, lo, hi)
+    }
+
+    /// The running folds of the elements from index `lo` up to `hi`, each without its own. Refused as the inclusive scan is.
+    pub fn scan_exclusive(&self, alloc: Global, lo: u32, hi: u32) -> Result<Scan<B::S>, Refusal>
+        ensures { Scans (B.operations (B.meaning self.now.body)) (recorded self.now) lo hi false result }
+    {
+        lv_reduce::scan_exclusive(alloc, self.view(), &self.body, lo, hi)
+    }
+
+    /// A job for the least node that wants one, or none. Takes no memory.
+    pub fn claim(&mut self) -> Option<Job<B>>
+        ensures next { IsNextJob (recorded self.old) (option_map name_of result) }
+        ensures claimed { HasClaim self.old self.new (option_map name_of result) }
+        ensures body { IfSome result (λ job. job.body ≡ self.old.body) }
+        ensures honest { IfSome result (λ job. IsHonest (B.operations (B.meaning self.old.body)) (recorded self.new) job.node job.version job.contents) }
+    {
+        self.claims.claim(&self.cells, &self.table, self.body)
+    }
+
+    /// Forgets all claims. Jobs that were handed out stay good. Takes no memory.
+    pub fn forget_claims(&mut self)
+        ensures { HasNoClaims self.old self.new }
+    {
+        self.claims.forget_claims();
+    }
+
+    /// Whether an outcome may be accepted: its node isn't whole, or was touched by another edit last, or what it carries is
+    /// what stands here. Yes for each outcome of a job that this vector handed out. Takes no memory.
+    pub fn vet(&self, outcome: &Outcome<B>) -> bool
+        ensures { IsTrue result ↔ Vouched (B.operations (B.meaning self.now.body)) (recorded self.now)
+            (B.meaning self.now.body ≡ B.meaning outcome.now.body) outcome.now.node outcome.now.version outcome.now.contents }
+    {
+        let node = outcome.node();
+        if !self.table.whole(node) || self.table.touched(node) != outcome.version() {
+            return true;
+        }
+        self.body.same(&outcome.body())
+            && stands_here(
+                &self.body,
+                &self.cells,
+                &self.table,
+                node,
+                outcome.contents(),
+            )
+    }
+
+    /// Takes an outcome in: it is stale, or held already, or its summary is installed. Takes no memory.
+    pub fn accept(&mut self, outcome: Outcome<B>) -> Accepted
+        requires { Vouched (B.operations (B.meaning self.old.body)) (recorded self.old)
+            (B.meaning self.old.body ≡ B.meaning outcome.body) outcome.node outcome.version outcome.contents }
+        ensures accepted { result ≡ delivery_of (recorded self.old) outcome.node outcome.version }
+        ensures delivered { HasDelivery self.old self.new outcome.node outcome.version result }
+    {
+        let node = outcome.node();
+        let accepted = self
+            .table
+            .install(node, outcome.version(), outcome.summary());
+        if let Accepted::Installed = accepted {
+            self.claims.hint_parent(node);
+        }
+        accepted
+    }
+
+    // What a query reads.
+    fn view(&self) -> View<'_, B::S>
+        ensures cells { result.cells.now ≡ self.now.history }
+        ensures table { result.table.now ≡ self.now.table }
+    {
+        View {
+            cells: &self.cells,
+            table: &self.table,
+        }
+    }
+}

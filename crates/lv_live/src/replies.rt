@@ -1,0 +1,27 @@
+use lv_edits::Receipt;
+use lv_geometry::{Node, Refusal};
+use lv_reduce::{Answer, Scan};
+use lv_summary::Accepted;
+
+/// What an event is answered.
+#[derive(Debug, Drop)]
+pub enum Reply<S> {
+    /// An edit was accepted.
+    Did(Receipt),
+    /// Nothing is pending.
+    Settled,
+    /// A job was handed out, and has this number.
+    Claimed { job: u64, node: Node, version: u32 },
+    /// No node wants a job.
+    Idle,
+    /// An outcome was delivered.
+    Gave(Accepted),
+    /// No node is claimed.
+    Forgotten,
+    /// The fold that was asked for, and what was read for it.
+    Answered(Answer<S>),
+    /// The running folds that were asked for.
+    Scanned(Scan<S>),
+    /// The event was refused, and nothing has changed.
+    Refused(Refusal),
+}

@@ -1,0 +1,9 @@
+mod Bounds
+mod Counting
+mod GreatestLaws
+mod NodeLaws
+mod PieceLaws
+mod ScanLaws
+mod UsedLaws
+mod Walk
+mod Zeros

@@ -1,0 +1,39 @@
+-- What a query over a range of the vector answers.
+use Rattle.std.specs.Prelude.{◌≡◌, ◌⊎◌, ℕ, Bool, ℤ, Option, Some, None, List, length, nat_lt, if◌then◌else◌}
+use Rattle.std.specs.List.{slice_range}
+use Rattle.lv_geometry.specs.declared.refusals.Refusal.{Refusal}
+use Rattle.lv_geometry.specs.declared.refusals.Refusal.TheVariants.{BadRange, NoMemory, OutOfRange}
+use Rattle.lv_bodies.specs.Body.{Operations, fold_of}
+use Rattle.lv_bodies.specs.Scan.{exclusive_scan, inclusive_scan}
+use Rattle.lv_edits.specs.declared.edit.Edit.{Edit}
+use Rattle.lv_edits.specs.History.{list_of}
+use Rattle.lv_reduce.specs.declared.reductions.Answer.{Answer}
+use Rattle.lv_reduce.specs.declared.scans.Scan.{Scan}
+
+-- why a range is refused: its start is past its end, or else its end is past that of the vector
+abbrev pub range_refusal : List Edit → ℕ → ℕ → Option Refusal
+range_refusal edits lo hi = if nat_lt hi lo then Some BadRange else (if nat_lt (length (list_of edits)) hi then Some (OutOfRange (length (list_of edits))) else None)
+
+-- the elements of a range, its end excluded
+abbrev pub slice_of : List Edit → ℕ → ℕ → List ℤ
+slice_of edits lo hi = slice_range (list_of edits) lo hi
+
+-- one of the two scans of a list
+abbrev pub scan_of : {S : Type 0} → Bool → Operations S → List ℤ → List S
+scan_of inclusive o xs = if inclusive then inclusive_scan o xs else exclusive_scan o xs
+
+-- a reduction's answer: nothing refuses the range, and it is the fold of its elements at the last edit
+pub record IsAnswer {S : Type 0} (o : Operations S) (edits : List Edit) (lo hi : ℕ) (answer : Answer S) : Type 0 where
+  pub granted : range_refusal edits lo hi ≡ None
+  pub edit : answer.edit ≡ length edits
+  pub value : answer.value ≡ fold_of o (slice_of edits lo hi)
+
+-- a scan's answer: nothing refuses the range, and it has these values at the last edit
+pub record IsScan {S : Type 0} (edits : List Edit) (lo hi : ℕ) (values : List S) (scan : Scan S) : Type 0 where
+  pub granted : range_refusal edits lo hi ≡ None
+  pub edit : scan.edit ≡ length edits
+  pub values_are : scan.values ≡ values
+
+-- a scan was refused because its range is, or else for want of memory
+abbrev pub IsScanRefusal : List Edit → ℕ → ℕ → Refusal → Type 0
+IsScanRefusal edits lo hi refusal = (range_refusal edits lo hi ≡ Some refusal) ⊎ ((range_refusal edits lo hi ≡ None) × (refusal ≡ NoMemory))

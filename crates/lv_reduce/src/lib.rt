@@ -1,0 +1,19 @@
+//! Reductions and scans of a range, from the vector's cells and the table's summaries.
+//!
+//! The model of an answer is plain: the fold of the range's elements, by definition, at the number of the last edit.
+//! `reduce` joins the summaries of the greatest fresh nodes in the range, and lifts no cell that such a node has; what
+//! it read is told, and is stated of the fresh nodes alone. It changes no table, and keeps nothing.
+#![tactic(auto)]
+
+mod reductions;
+mod scans;
+mod values;
+mod views;
+
+pub use reductions::{Answer, reduce};
+pub use scans::{Scan, scan_exclusive, scan_inclusive};
+pub use values::Values;
+pub use views::View;
+
+#[cfg(test)]
+mod tests;

@@ -1,0 +1,116 @@
+ghost use Rattle.std.specs.Prelude.{◌≡◌, ◌+◌, ◌-◌, ◌*◌, ◌/◌, ◌%◌, ◌^◌, ◌<◌, ◌≤◌, ℕ, length, true, false, IfOk, IfErr, IfSome, IfNone};
+ghost use Rattle.lv_bodies.specs.Body.{CanJoin};
+ghost use Rattle.lv_summary.specs.Agrees.{Agrees};
+ghost use Rattle.lv_summary.specs.Table.{fresh_in};
+ghost use Rattle.lv_reduce.specs.Answer.{IsAnswer, range_refusal};
+ghost use Rattle.lv_reduce.specs.Cost.{IsCost, IsFew};
+ghost use Rattle.lv_reduce.specs.Pieces.{Fits, IsGreatestFresh, NoneFresh};
+
+use crate::views::{View, refusal_of};
+use lv_bodies::{Body, fold_more};
+use lv_geometry::{Node, Refusal};
+use lv_summary::Summaries;
+
+/// The answer to a reduction: the number of the last edit, the fold of the range's elements, and how many cells and
+/// summaries were read for it.
+#[derive(Clone, Copy, Debug, PartialEq, Eq, Hash)]
+pub struct Answer<S> {
+    pub edit: u32,
+    pub value: S,
+    pub cells_read: u32,
+    pub summaries_read: u32,
+}
+
+// The summary of a fresh node, and the node's level.
+#[derive(Clone, Copy)]
+struct Piece<S> {
+    level: u32,
+    summary: S,
+}
+
+/// The fold of the elements from index `lo` up to `hi`, `hi` excluded. Refused with `BadRange`, then `OutOfRange`.
+/// Takes no memory, and lifts the cells that it counts, no others.
+pub fn reduce<B: Body>(
+    view: View<'_, B::S>,
+    body: &B,
+    lo: u32,
+    hi: u32,
+) -> Result<Answer<B::S>, Refusal>
+    requires { Agrees (B.operations (B.meaning body.now)) view.cells.now.journal view.table.now }
+    ensures ok { IfOk result (λ answer. IsAnswer (B.operations (B.meaning body.now)) view.entry.cells.now.journal lo hi answer) }
+    ensures err { IfErr result (λ refusal. range_refusal view.entry.cells.now.journal lo hi ≡ Some refusal) }
+    ensures cost { IfOk result (λ answer. IsCost (fresh_in view.entry.table.now) lo hi answer.cells_read answer.summaries_read) }
+    ensures few { IfOk result (λ answer. IsFew (fresh_in view.entry.table.now) lo hi answer.cells_read answer.summaries_read) }
+{
+    if let Some(refusal) = refusal_of(view.cells, lo, hi) {
+        return Err(refusal);
+    }
+    let mut value = body.identity();
+    let mut cells_read = 0;
+    let mut summaries_read = 0;
+    let mut at = lo;
+    while at < hi {
+        if let Some(piece) = greatest_fresh(view.table, at, hi) {
+            value = join(body, value, piece.summary);
+            at += width(piece.level);
+            summaries_read += 1;
+        } else {
+            value = fold_more(body, value, view.cells.read(at));
+            at += 1;
+            cells_read += 1;
+        }
+    }
+    Ok(Answer {
+        edit: view.cells.edit(),
+        value,
+        cells_read,
+        summaries_read,
+    })
+}
+
+// The greatest fresh node that begins at index `at` and ends at or before `hi`, or none.
+#[inline]
+fn greatest_fresh<S: Copy>(table: &Summaries<S>, at: u32, hi: u32) -> Option<Piece<S>>
+    requires { at < hi }
+    ensures some { IfSome result (λ piece. IsGreatestFresh table.now at hi piece.level piece.summary) }
+    ensures none { IfNone result (NoneFresh (fresh_in table.now) at hi 0) }
+{
+    for level in (1..=greatest_level(at, hi)).rev() {
+        let number = at >> (3 * level);
+        if let Some(summary) = table.entry(Node { level, number }) {
+            return Some(Piece { level, summary });
+        }
+    }
+    None
+}
+
+// The greatest level of which a node begins at index `at` and ends at or before `hi`, at most 6; 0 stands for a cell.
+#[inline(always)]
+fn greatest_level(at: u32, hi: u32) -> u32
+    requires { at < hi }
+    ensures bound { result ≤ 6 }
+    ensures fits { Fits at hi result }
+    ensures greatest { (level : ℕ) → level ≤ 6 → Fits at hi level → level ≤ result }
+{
+    at.trailing_zeros().min((hi - at).ilog2()).min(18) / 3
+}
+
+// How many indices a node of a level has.
+#[inline(always)]
+fn width(level: u32) -> u32
+    requires { level ≤ 6 }
+    ensures { result ≡ 8 ^ level }
+{
+    1 << (3 * level)
+}
+
+// A fold with the fold of what follows joined at its end.
+#[inline(always)]
+fn join<B: Body>(body: &B, sum: B::S, more: B::S) -> B::S
+    requires { CanJoin (B.is_within (B.meaning body.now)) sum more }
+    ensures value { result ≡ (B.operations (B.meaning body.now)).join sum more }
+    ensures within { (n m : ℕ) → B.is_within (B.meaning body.now) sum n → B.is_within (B.meaning body.now) more m
+        → n + m ≤ 2 ^ 20 → B.is_within (B.meaning body.now) result (n + m) }
+{
+    body.combine(sum, more)
+}

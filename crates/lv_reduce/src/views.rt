@@ -1,0 +1,32 @@
+ghost use Rattle.std.specs.Prelude.{◌≡◌, ◌≤◌, length, IfNone};
+ghost use Rattle.lv_edits.specs.History.{list_of};
+ghost use Rattle.lv_edits.specs.Kept.{InLimits};
+ghost use Rattle.lv_reduce.specs.Answer.{range_refusal};
+
+use lv_edits::Edits;
+use lv_geometry::Refusal;
+use lv_summary::Summaries;
+
+/// What a query reads: the vector's cells, and the table of summaries that are kept for them.
+#[derive(Clone, Copy)]
+pub struct View<'a, S> {
+    pub cells: &'a Edits,
+    pub table: &'a Summaries<S>,
+}
+
+// Why a range is refused, or nothing.
+pub fn refusal_of(cells: &Edits, lo: u32, hi: u32) -> Option<Refusal>
+    ensures value { result ≡ range_refusal cells.now.journal lo hi }
+    ensures limits { InLimits cells.now }
+    ensures order { IfNone result (lo ≤ hi) }
+    ensures inside { IfNone result (hi ≤ length (list_of cells.now.journal)) }
+{
+    let size = cells.size();
+    if hi < lo {
+        Some(Refusal::BadRange)
+    } else if size < hi {
+        Some(Refusal::OutOfRange { size })
+    } else {
+        None
+    }
+}

@@ -1,0 +1,11 @@
+use Rattle.lv_refresh.proofs.ClaimLaws.{AreClaims-empty, at_each_level, claim_blocks-empty, claimed_in-empty}
+use Rattle.lv_refresh.proofs.claims.Claims.new.Goals as goal
+
+pub invariant_of-result : goal.invariant_of-result
+invariant_of-result c = AreClaims-empty _ (at_each_level _ c.new.ensures c.new-2.ensures c.new-3.ensures c.new-4.ensures c.new-5.ensures c.new-6.ensures)
+
+pub returns-clause-blocks : goal.returns-clause-blocks
+returns-clause-blocks c = claim_blocks-empty _ (at_each_level _ c.new.ensures c.new-2.ensures c.new-3.ensures c.new-4.ensures c.new-5.ensures c.new-6.ensures)
+
+pub returns-clause-claimed : goal.returns-clause-claimed
+returns-clause-claimed c = claimed_in-empty _ (at_each_level _ c.new.ensures c.new-2.ensures c.new-3.ensures c.new-4.ensures c.new-5.ensures c.new-6.ensures)

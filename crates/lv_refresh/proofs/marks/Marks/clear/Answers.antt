@@ -1,0 +1,15 @@
+use Rattle.std.proofs.lemmas.List.{get_or_read}
+use Rattle.lv_refresh.proofs.MarkLaws.{clear_lighter, is_marked-clear, word_inside}
+use Rattle.lv_refresh.proofs.marks.Marks.clear.Goals as goal
+
+pub returns-clause-marks : goal.returns-clause-marks
+returns-clause-marks c =
+    let words = c.self.inside.words.items in
+    let inside = word_inside words c.args.i (rw (← c.self.view_is) at c.requires) in
+    λ j. rw (← c.self.view_is) (is_marked-clear words c.args.i c.index_mut.result.now j inside (get_or_read words _ _ inside c.index_mut.ensures.value 0))
+
+pub returns-clause-lighter : goal.returns-clause-lighter
+returns-clause-lighter c =
+    let words = c.self.inside.words.items in
+    let inside = word_inside words c.args.i (rw (← c.self.view_is) at c.requires) in
+    rw (← c.self.view_is) (clear_lighter words c.args.i c.index_mut.result.now inside (get_or_read words _ _ inside c.index_mut.ensures.value 0))

@@ -1,0 +1,156 @@
+-- What the fields of the crate's types keep, and how one level of claims is seen and changed.
+use Rattle.std.specs.Prelude.{◌≡◌, ℕ, ◌+◌, ◌-◌, ◌*◌, ◌^◌, ◌<◌, ◌≤◌, Bool, true, false, ◌&&◌, ◌||◌, not, Option, Some, None, List, [], ◌∷◌, ◌++◌, length, replicate, slice_get, slice_index, slice_set, sum, nat_eq, if◌then◌else◌}
+use Rattle.std.specs.List.{list_all, range_with_len, slice_index_or}
+use Rattle.lv_geometry.specs.declared.nodes.Node.{Node}
+use Rattle.lv_geometry.specs.Nodes.{child, is_node}
+use Rattle.lv_edits.specs.declared.edit.Edit.{Edit}
+use Rattle.lv_edits.specs.Touch.{cells_of}
+use Rattle.lv_summary.specs.Table.{Table, entry_in, fresh_in, same_node, touched_in, whole_in}
+use Rattle.lv_refresh.specs.declared.contents.Contents.{Contents}
+use Rattle.lv_refresh.specs.declared.contents.Contents.TheVariants.{Elements, Children}
+use Rattle.lv_refresh.specs.Carried.{Carried}
+use Rattle.lv_refresh.specs.Claim.{Before}
+use Rattle.lv_refresh.specs.Claimed.{ClaimRows, ClaimTable, claim_blocks, claimed_in, is_hinted, no_claims, version_of}
+use Rattle.lv_refresh.specs.Contents.{in_order}
+use Rattle.lv_refresh.specs.Marks.{is_marked}
+use Rattle.lv_refresh.specs.Record.{is_version}
+
+-- there are few enough words for numbers of 32 bits, and none before the first has a mark
+pub record AreMarks (words : List ℕ) (first : ℕ) : Type 0 where
+  pub few : length words ≤ 2048
+  pub none : (k : ℕ) → k < first → slice_index words k ≡ 0
+
+-- one level of claims: its rows, and for how many of them it has memory
+pub record ClaimShelf : Type 0 where
+  pub rows : ClaimRows
+  pub capacity : ℕ
+
+-- claims of six levels
+abbrev pub claims_of : ClaimRows → ClaimRows → ClaimRows → ClaimRows → ClaimRows → ClaimRows → ClaimTable
+claims_of l1 l2 l3 l4 l5 l6 = record { levels = l1 ∷ l2 ∷ l3 ∷ l4 ∷ l5 ∷ l6 ∷ [] }
+
+-- every index of the blocks has its row, and every row its hint
+pub record IsClaimLevel (blocks level : ℕ) (rows : ClaimRows) : Type 0 where
+  pub covers : 8 * blocks ≤ length rows.claimed * 8 ^ level
+  pub hints : length rows.claimed ≤ 64 * length rows.hints
+
+-- each of the six levels is such, and there are few enough blocks
+pub record AreClaims (c : ClaimTable) : Type 0 where
+  pub few : claim_blocks c ≤ 131071
+  pub levels : (level : ℕ) → 1 ≤ level → level ≤ 6 → IsClaimLevel (claim_blocks c) level (slice_index_or c.levels (level - 1) no_claims)
+
+-- rows with further ones, n in all, which were not claimed and are not hinted at
+pub record FillsClaims (old new : ClaimRows) (n : ℕ) : Type 0 where
+  pub claimed : new.claimed ≡ old.claimed ++ replicate (n - length old.claimed) 0
+  pub alike : (k : ℕ) → is_marked new.hints k ≡ is_marked old.hints k
+  pub more : length old.hints ≤ length new.hints
+  pub room : n ≤ 64 * length new.hints
+
+-- the node of a number is hinted at, and nothing else has changed
+pub record HintsAt (old new : ClaimRows) (number : ℕ) : Type 0 where
+  pub claimed : new.claimed ≡ old.claimed
+  pub hints : (k : ℕ) → is_marked new.hints k ≡ (nat_eq k number || is_marked old.hints k)
+  pub room : length new.hints ≡ length old.hints
+
+-- the hint at the node of a number is taken away, and nothing else has changed
+pub record UnhintsAt (old new : ClaimRows) (number : ℕ) : Type 0 where
+  pub claimed : new.claimed ≡ old.claimed
+  pub hints : (k : ℕ) → is_marked new.hints k ≡ (not (nat_eq k number) && is_marked old.hints k)
+  pub room : length new.hints ≡ length old.hints
+  pub lighter : is_marked old.hints number ≡ true → sum new.hints < sum old.hints
+
+-- no row is claimed, and each is hinted at
+pub record ForgetsClaims (old new : ClaimRows) : Type 0 where
+  pub claimed : (k : ℕ) → slice_index new.claimed k ≡ 0
+  pub rows : length new.claimed ≡ length old.claimed
+  pub hints : (k : ℕ) → k < 64 * length old.hints → is_marked new.hints k ≡ true
+  pub room : length new.hints ≡ length old.hints
+
+-- rows after the node of a number was claimed at a version
+abbrev pub with_claim : ClaimRows → ℕ → ℕ → ClaimRows
+with_claim rows number version = record rows { claimed = slice_set rows.claimed number (version + 1) }
+
+-- a number is the least that is hinted at
+pub record IsFirstHint (rows : ClaimRows) (number : ℕ) : Type 0 where
+  pub hinted : is_marked rows.hints number ≡ true
+  pub room : number < 64 * length rows.hints
+  pub least : (k : ℕ) → k < number → is_marked rows.hints k ≡ false
+
+-- whether all eight children of a node are fresh in a table
+abbrev pub children_fresh_in : {S : Type 0} → Table S → Node → Bool
+children_fresh_in t n = list_all (λ k. fresh_in t (child n k)) (range_with_len 0 8)
+
+-- whether a node wants a job by a table, where it was last claimed at a version, if at all
+abbrev pub wants_in : {S : Type 0} → Table S → Option ℕ → Node → Bool
+wants_in t claimed n =
+    whole_in t n && not (fresh_in t n) && not (is_version (touched_in t n) claimed) && (nat_eq n.level 1 || children_fresh_in t n)
+
+-- the node of a level that has a number
+abbrev pub node_at : ℕ → ℕ → Node
+node_at level number = record { level = level; number = number }
+
+-- the same of a node of a level, by the row of its number
+abbrev pub wants_at : {S : Type 0} → Table S → ℕ → ClaimRows → ℕ → Bool
+wants_at t level rows number = wants_in t (version_of (slice_index rows.claimed number)) (node_at level number)
+
+-- contents are those of a node by edits and a table: its elements, or what is kept for its eight children
+abbrev pub AreContentsIn : {S : Type 0} → List Edit → Table S → Node → Contents S → Type 0
+AreContentsIn edits t n (Elements xs) = (n.level ≡ 1) × (xs ≡ cells_of edits n)
+AreContentsIn edits t n (Children summaries) = (1 < n.level) × ((k : ℕ) → k < 8 → slice_get (in_order summaries) k ≡ entry_in t (child n k))
+
+-- the nodes of a level can be served: those that want a job are hinted at, and there are rows for all that are whole
+pub record CanServe {S : Type 0} (t : Table S) (level : ℕ) (rows : ClaimRows) : Type 0 where
+  pub low : 1 ≤ level
+  pub high : level ≤ 6
+  pub hints : (k : ℕ) → wants_at t level rows k ≡ true → is_marked rows.hints k ≡ true
+  pub rows_enough : t.size ≤ length rows.claimed * 8 ^ level
+
+-- a job was given to the least node of a level that wants one
+pub record Serves {B S : Type 0} (edits : List Edit) (t : Table S) (level : ℕ) (old new : ClaimRows) (job : Carried B S) : Type 0 where
+  pub level_is : job.node.level ≡ level
+  pub wants : wants_at t level old job.node.number ≡ true
+  pub least : (k : ℕ) → k < job.node.number → wants_at t level old k ≡ false
+  pub version : job.version ≡ touched_in t job.node
+  pub contents : AreContentsIn edits t job.node job.contents
+  pub claimed : new.claimed ≡ slice_set old.claimed job.node.number (job.version + 1)
+  pub inside : job.node.number < length old.claimed
+  pub hints : (k : ℕ) → wants_at t level new k ≡ true → is_marked new.hints k ≡ true
+  pub room : length new.hints ≡ length old.hints
+
+-- no node of a level wants a job
+pub record Passes {S : Type 0} (t : Table S) (level : ℕ) (old new : ClaimRows) : Type 0 where
+  pub none : (k : ℕ) → wants_at t level old k ≡ false
+  pub claimed : new.claimed ≡ old.claimed
+  pub room : length new.hints ≡ length old.hints
+
+-- what becomes of the rows of a level, by the job that was given, if one was
+abbrev pub GivesNext : {B S : Type 0} → List Edit → Table S → ℕ → ClaimRows → ClaimRows → Option (Carried B S) → Type 0
+GivesNext edits t level old new None = Passes t level old new
+GivesNext edits t level old new (Some job) = Serves edits t level old new job
+
+-- a node is hinted at, if it is one of the table, and nothing else has changed
+pub record HintsNode (old new : ClaimTable) (node : Node) : Type 0 where
+  pub claimed : (n : Node) → claimed_in new n ≡ claimed_in old n
+  pub hints : (n : Node) → is_hinted new n ≡ ((is_node n && same_node n node) || is_hinted old n)
+  pub blocks : claim_blocks new ≡ claim_blocks old
+
+-- a job was given to the least node that wants one, which is claimed with it
+pub record ServesNode {B S : Type 0} (edits : List Edit) (t : Table S) (old new : ClaimTable) (job : Carried B S) : Type 0 where
+  pub wants : wants_in t (claimed_in old job.node) job.node ≡ true
+  pub version : job.version ≡ touched_in t job.node
+  pub before : (n : Node) → Before n job.node → wants_in t (claimed_in old n) n ≡ false
+  pub contents : AreContentsIn edits t job.node job.contents
+  pub claimed : (n : Node) → claimed_in new n ≡ (if same_node n job.node then Some job.version else claimed_in old n)
+  pub hints : (n : Node) → wants_in t (claimed_in new n) n ≡ true → is_hinted new n ≡ true
+  pub blocks : claim_blocks new ≡ claim_blocks old
+
+-- no node wants a job
+pub record ServesNone {S : Type 0} (t : Table S) (old new : ClaimTable) : Type 0 where
+  pub none : (n : Node) → wants_in t (claimed_in old n) n ≡ false
+  pub claimed : (n : Node) → claimed_in new n ≡ claimed_in old n
+  pub blocks : claim_blocks new ≡ claim_blocks old
+
+-- what becomes of the claims, by the job that was given, if one was
+abbrev pub ServesNext : {B S : Type 0} → List Edit → Table S → ClaimTable → ClaimTable → Option (Carried B S) → Type 0
+ServesNext edits t old new None = ServesNone t old new
+ServesNext edits t old new (Some job) = ServesNode edits t old new job

@@ -1,0 +1,10 @@
+pub mod Carried
+pub mod Claim
+pub mod Claimed
+pub mod Contents
+pub mod Delivery
+pub mod Honesty
+pub mod Inner
+pub mod Marks
+pub mod Record
+pub mod Tested

@@ -1,0 +1,230 @@
+ghost use Rattle.std.specs.Prelude.{◌≡◌, ℕ, ◌+◌, ◌*◌, ◌/◌, ◌^◌, ◌<◌, ◌≤◌, ◌&&◌, ◌||◌, Bool, true, false, None, Some, option_map, length, IfSome, IfNone, OnOk, OnErr, IfErr, if◌then◌else◌};
+ghost use Rattle.lv_geometry.specs.Nodes.{covers, is_below, is_node, parent};
+ghost use Rattle.lv_summary.specs.Agrees.{Agrees};
+ghost use Rattle.lv_summary.specs.Table.{same_node};
+ghost use Rattle.lv_refresh.specs.Claim.{IsNextJob};
+ghost use Rattle.lv_refresh.specs.Claimed.{AreHints, claim_blocks, claimed_in, is_hinted, record_of};
+ghost use Rattle.lv_refresh.specs.Honesty.{Stands};
+ghost use Rattle.lv_refresh.specs.Inner.{CanServe, GivesNext, HintsNode, ServesNext};
+
+use crate::jobs::{Job, JobOf};
+use crate::level::Level;
+use crate::wants::wanted;
+use lv_bodies::Body;
+use lv_edits::Edits;
+use lv_geometry::{Node, Refusal};
+use lv_summary::Summaries;
+use std::alloc::Global;
+use std::marker::Model;
+
+/// Which nodes are claimed, and hints at those that may want a job. Whoever keeps it beside a table tells it of each
+/// touch and install, so that every node that wants a job is hinted at; a hint at any other node is only looked at.
+#[derive(Drop)]
+pub struct Claims {
+    level_1: Level,
+    level_2: Level,
+    level_3: Level,
+    level_4: Level,
+    level_5: Level,
+    level_6: Level,
+}
+
+impl Model for Claims {
+    ghost use Rattle.lv_refresh.specs.Claimed.{ClaimTable};
+    ghost use Rattle.lv_refresh.specs.Inner.{AreClaims, claims_of};
+
+    ghost Value = { ClaimTable };
+
+    ghost view = { λ a. claims_of a.level_1.rows a.level_2.rows a.level_3.rows a.level_4.rows a.level_5.rows a.level_6.rows };
+
+    ghost invariant = { λ a. AreClaims (claims_of a.level_1.rows a.level_2.rows a.level_3.rows a.level_4.rows a.level_5.rows a.level_6.rows) };
+}
+
+impl Claims {
+    /// No claims, and room for none. Takes no memory.
+    pub fn new(alloc: Global) -> Claims
+        ensures blocks { claim_blocks result ≡ 0 }
+        ensures claimed { (n : Node) → claimed_in result n ≡ None }
+    {
+        Claims {
+            level_1: Level::new(alloc),
+            level_2: Level::new(alloc),
+            level_3: Level::new(alloc),
+            level_4: Level::new(alloc),
+            level_5: Level::new(alloc),
+            level_6: Level::new(alloc),
+        }
+    }
+
+    /// Makes rows for so many blocks, and for the nodes above them. Refused with `NoMemory`.
+    pub fn grow(&mut self, blocks: u32) -> Result<(), Refusal>
+        requires { blocks ≤ 131071 }
+        ensures claimed { (n : Node) → claimed_in self.new n ≡ claimed_in self.old n }
+        ensures hints { (n : Node) → is_hinted self.old n ≡ true → is_hinted self.new n ≡ true }
+        ensures more { claim_blocks self.old ≤ claim_blocks self.new }
+        ensures ok { OnOk result (blocks ≤ claim_blocks self.new) }
+        ensures err { IfErr result (λ refusal. refusal ≡ Refusal.NoMemory) }
+        ensures unchanged { OnErr result (self.new ≡ self.old) }
+    {
+        let rows_2 = blocks.div_ceil(8);
+        let rows_3 = rows_2.div_ceil(8);
+        let rows_4 = rows_3.div_ceil(8);
+        let rows_5 = rows_4.div_ceil(8);
+        let rows_6 = rows_5.div_ceil(8);
+        self.level_1.reserve(blocks)?;
+        self.level_2.reserve(rows_2)?;
+        self.level_3.reserve(rows_3)?;
+        self.level_4.reserve(rows_4)?;
+        self.level_5.reserve(rows_5)?;
+        self.level_6.reserve(rows_6)?;
+        self.level_1.fill(blocks);
+        self.level_2.fill(rows_2);
+        self.level_3.fill(rows_3);
+        self.level_4.fill(rows_4);
+        self.level_5.fill(rows_5);
+        self.level_6.fill(rows_6);
+        Ok(())
+    }
+
+    /// How many blocks have rows.
+    pub fn blocks(&self) -> u32
+        ensures value { result ≡ claim_blocks self.now }
+        ensures bound { result ≤ 131071 }
+    {
+        self.level_1.rows() as u32
+    }
+
+    /// Hears that an edit touched index `i`, so that every node that has it may want a job.
+    #[inline]
+    pub fn touch(&mut self, i: u32)
+        requires { i / 8 < claim_blocks self.old }
+        ensures claimed { (n : Node) → claimed_in self.new n ≡ claimed_in self.old n }
+        ensures hints { (n : Node) → is_hinted self.new n ≡ ((is_node n && covers n i) || is_hinted self.old n) }
+        ensures blocks { claim_blocks self.new ≡ claim_blocks self.old }
+    {
+        self.level_1.hint(i / 8);
+        self.level_2.hint(i / 64);
+        self.level_3.hint(i / 512);
+        self.level_4.hint(i / 4096);
+        self.level_5.hint(i / 32768);
+        self.level_6.hint(i / 262144);
+    }
+
+    /// Hears that a summary was installed for a node, so that its parent may want a job.
+    pub fn hint_parent(&mut self, node: Node)
+        requires member { is_node node ≡ true }
+        requires inside { is_below node (8 * claim_blocks self.old) ≡ true }
+        ensures claimed { (n : Node) → claimed_in self.new n ≡ claimed_in self.old n }
+        ensures hints { (n : Node) → is_hinted self.new n ≡ ((is_node n && same_node n (parent node)) || is_hinted self.old n) }
+        ensures blocks { claim_blocks self.new ≡ claim_blocks self.old }
+    {
+        self.hint_above(node);
+    }
+
+    // Hints at the node one level up, where there is one.
+    fn hint_above(&mut self, node: Node)
+        requires member { is_node node ≡ true }
+        requires inside { is_below node (8 * claim_blocks self.old) ≡ true }
+        ensures { HintsNode self.old self.new (parent node) }
+    {
+        let number = node.number / 8;
+        match node.level {
+            1 => self.level_2.hint(number),
+            2 => self.level_3.hint(number),
+            3 => self.level_4.hint(number),
+            4 => self.level_5.hint(number),
+            5 => self.level_6.hint(number),
+            _ => {}
+        }
+    }
+
+    /// Makes every claim void, so that every node may want a job. Jobs handed out before stay good.
+    pub fn forget_claims(&mut self)
+        ensures claimed { (n : Node) → claimed_in self.new n ≡ None }
+        ensures hints { (n : Node) → is_node n ≡ true → is_below n (8 * claim_blocks self.old) ≡ true → is_hinted self.new n ≡ true }
+        ensures blocks { claim_blocks self.new ≡ claim_blocks self.old }
+    {
+        self.level_1.forget();
+        self.level_2.forget();
+        self.level_3.forget();
+        self.level_4.forget();
+        self.level_5.forget();
+        self.level_6.forget();
+    }
+
+    /// The job of the least node that wants one, by level and then by number, which is claimed with it; none where no
+    /// node wants one. Takes no memory, and looks only at nodes that are hinted at.
+    pub fn claim<B: Body>(
+        &mut self,
+        cells: &Edits,
+        table: &Summaries<B::S>,
+        body: B,
+    ) -> Option<Job<B>>
+        requires agrees { Agrees (B.operations (B.meaning body)) cells.now.journal table.now }
+        requires hints { AreHints (record_of cells.now.journal table.now self.old) self.old }
+        requires grown { table.now.size ≤ 8 * claim_blocks self.old }
+        ensures next { IsNextJob (record_of cells.now.journal table.now self.old) (option_map (λ job. (job.node, job.version)) result) }
+        ensures claimed { IfSome result (λ job. (n : Node) → claimed_in self.new n ≡ (if same_node n job.node then Some job.version else claimed_in self.old n)) }
+        ensures idle { IfNone result ((n : Node) → claimed_in self.new n ≡ claimed_in self.old n) }
+        ensures hints { AreHints (record_of cells.now.journal table.now self.new) self.new }
+        ensures job { IfSome result (λ job. Stands (B.operations (B.meaning body)) (record_of cells.now.journal table.now self.old) job.node job.contents) }
+        ensures body { IfSome result (λ job. job.body ≡ body) }
+        ensures blocks { claim_blocks self.new ≡ claim_blocks self.old }
+    {
+        self.next(cells, table, body)
+    }
+
+    // The same, level by level.
+    fn next<B: Body>(&mut self, cells: &Edits, table: &Summaries<B::S>, body: B) -> Option<Job<B>>
+        requires agrees { Agrees (B.operations (B.meaning body)) cells.now.journal table.now }
+        requires hints { AreHints (record_of cells.now.journal table.now self.old) self.old }
+        requires grown { table.now.size ≤ 8 * claim_blocks self.old }
+        ensures next { ServesNext cells.now.journal table.now self.old self.new result }
+        ensures body { IfSome result (λ job. job.body ≡ body) }
+    {
+        if let Some(job) = next_of(&mut self.level_1, 1, cells, table, body) {
+            return Some(job);
+        }
+        if let Some(job) = next_of(&mut self.level_2, 2, cells, table, body) {
+            return Some(job);
+        }
+        if let Some(job) = next_of(&mut self.level_3, 3, cells, table, body) {
+            return Some(job);
+        }
+        if let Some(job) = next_of(&mut self.level_4, 4, cells, table, body) {
+            return Some(job);
+        }
+        if let Some(job) = next_of(&mut self.level_5, 5, cells, table, body) {
+            return Some(job);
+        }
+        next_of(&mut self.level_6, 6, cells, table, body)
+    }
+}
+
+// The job of the least node of a level that wants one, which is claimed with it. Each hint is taken away once it was
+// looked at: its node wants no job then, or none any longer.
+fn next_of<B: Body>(
+    rows: &mut Level,
+    level: u32,
+    cells: &Edits,
+    table: &Summaries<B::S>,
+    body: B,
+) -> Option<Job<B>>
+    requires agrees { Agrees (B.operations (B.meaning body)) cells.now.journal table.now }
+    requires ready { CanServe table.now level rows.old.rows }
+    ensures next { GivesNext cells.now.journal table.now level rows.old.rows rows.new.rows result }
+    ensures body { IfSome result (λ job. job.body ≡ body) }
+{
+    // The elements are few enough for a fold, and of 64 bits.
+    let _size = cells.size();
+    while let Some(number) = rows.first_hint() {
+        let node = Node { level, number };
+        rows.unhint(number);
+        if let Some(contents) = wanted(rows, cells, table, node) {
+            let version = table.touched(node);
+            rows.claim(number, version);
+            return Some(JobOf::new(node, version, contents, body));
+        }
+    }
+    None
+}

@@ -1,0 +1,76 @@
+ghost use Rattle.std.specs.Prelude.{◌≡◌, ℕ, ◌+◌, ◌-◌, ◌*◌, ◌^◌, ◌<◌, ◌≤◌, true, false, length, take, drop, slice_get, IfSome, IfNone};
+ghost use Rattle.lv_geometry.specs.Nodes.{child};
+ghost use Rattle.lv_edits.specs.History.{list_of};
+ghost use Rattle.lv_summary.specs.Table.{entry_in, whole_in};
+ghost use Rattle.lv_refresh.specs.Contents.{in_order};
+ghost use Rattle.lv_refresh.specs.Inner.{AreContentsIn, children_fresh_in};
+
+use crate::contents::{Contents, Eight};
+use lv_edits::Edits;
+use lv_geometry::Node;
+use lv_summary::Summaries;
+
+/// What the summary of a whole node is computed from; none where one of its children is not fresh.
+pub fn contents_of<S: Copy>(cells: &Edits, table: &Summaries<S>, node: Node) -> Option<Contents<S>>
+    requires whole { whole_in table.now node ≡ true }
+    requires size { table.now.size ≡ length (list_of cells.now.journal) }
+    ensures some { IfSome result (λ contents. AreContentsIn cells.now.journal table.now node contents) }
+    ensures ready { IfSome result (λ contents. 1 < node.level → children_fresh_in table.now node ≡ true) }
+    ensures none { IfNone result ((1 < node.level) × (children_fresh_in table.now node ≡ false)) }
+{
+    if node.level == 1 {
+        Some(Contents::Elements(elements_of(cells, node.number)))
+    } else {
+        let summaries = children_of(table, node)?;
+        Some(Contents::Children(summaries))
+    }
+}
+
+// The elements of a block.
+fn elements_of(cells: &Edits, block: u32) -> [i64; 8]
+    requires { (block + 1) * 8 ≤ length (list_of cells.now.journal) }
+    ensures { result ≡ take 8 (drop (block * 8) (list_of cells.now.journal)) }
+{
+    // The size tells that the block's indices are numbers of 32 bits.
+    let _size = cells.size();
+    let mut elements = [0; 8];
+    for k in 0..8 {
+        elements[k as usize] = cells.read(block * 8 + k);
+    }
+    elements
+}
+
+// The summaries of a whole node's children; none where one of them is not fresh.
+fn children_of<S: Copy>(table: &Summaries<S>, node: Node) -> Option<Eight<S>>
+    requires whole { whole_in table.now node ≡ true }
+    requires above { 1 < node.level }
+    ensures some { IfSome result (λ summaries. (k : ℕ) → k < 8 → slice_get (in_order summaries) k ≡ entry_in table.now (child node k)) }
+    ensures ready { IfSome result (λ summaries. children_fresh_in table.now node ≡ true) }
+    ensures none { IfNone result (children_fresh_in table.now node ≡ false) }
+{
+    // The size tells that the children's numbers are of 32 bits.
+    let _size = table.size();
+    Some(Eight {
+        a: table.entry(child_of(node, 0))?,
+        b: table.entry(child_of(node, 1))?,
+        c: table.entry(child_of(node, 2))?,
+        d: table.entry(child_of(node, 3))?,
+        e: table.entry(child_of(node, 4))?,
+        f: table.entry(child_of(node, 5))?,
+        g: table.entry(child_of(node, 6))?,
+        h: table.entry(child_of(node, 7))?,
+    })
+}
+
+// A child of a node above level 1.
+#[inline(always)]
+fn child_of(node: Node, k: u32) -> Node
+    requires above { 1 < node.level }
+    requires fits { 8 * node.number + k < 2 ^ 32 }
+    ensures { result ≡ child node k }
+{
+    Node {
+        level: node.level - 1,
+        number: 8 * node.number + k,
+    }
+}

@@ -1,0 +1,24 @@
+//! Refresh: which summary is to be computed next, and its computation away from the vector.
+//!
+//! `Claims` hands out jobs, the least node first; a `Job` is run anywhere, and gives an `Outcome` of the same node,
+//! version, contents and body. Which job comes next is stated on a record of all that the vector has seen, and a job's
+//! contents are those of its node then. It installs nothing, and knows nothing of who runs a job, or when.
+#![tactic(auto)]
+
+mod claims;
+mod contents;
+mod gathering;
+mod jobs;
+mod level;
+mod marks;
+mod outcomes;
+mod wants;
+
+pub use claims::Claims;
+pub use contents::{Contents, Eight};
+pub use gathering::contents_of;
+pub use jobs::{Job, JobOf};
+pub use outcomes::{Outcome, OutcomeOf};
+
+#[cfg(test)]
+mod tests;
