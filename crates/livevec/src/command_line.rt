@@ -12,7 +12,8 @@ pub fn command<'a>(alloc: Global) -> Result<Command<'a>, AllocError> {
         .after_help(help::STATUSES)
         .subcommand_required(true)
         .arg_required_else_help(true)
-        .subcommand(run(alloc)?)
+        .subcommand(run(alloc)?)?
+        .subcommand(audit(alloc))
 }
 
 /// The limits that a command's options say, the greatest where they say nothing.
@@ -29,6 +30,13 @@ fn run<'a>(alloc: Global) -> Result<Command<'a>, AllocError> {
         .after_help(help::LINES)
         .arg(buckets(alloc))?
         .arg(edits(alloc))
+}
+
+// `livevec audit`.
+fn audit<'a>(alloc: Global) -> Command<'a> {
+    Command::new(alloc, "audit")
+        .about(help::AUDIT)
+        .after_help(help::VERDICTS)
 }
 
 fn buckets<'a>(alloc: Global) -> Arg<'a> {

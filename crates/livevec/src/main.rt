@@ -7,12 +7,13 @@ mod help;
 
 use clap::error::ErrorKind;
 use clap::{ArgMatches, Error};
-use lv_script::{Fault, run_script};
+use lv_script::{Fault, Verdict, audit, run_script};
 use std::process::ExitCode;
 use std::rt::Env;
 use std::{env, io};
 
-/// Statuses: 0; 1 on a fault, printed on standard error as `livevec: fault N`; 2 on a usage fault, whose text goes to standard error.
+/// Statuses: 0; 1 on a fault, printed on standard error as `livevec: fault N`, and of an audit that says no or bad; 2 on a
+/// usage fault, whose text goes to standard error.
 fn main(rt: HostRuntime) -> ExitCode {
     match run(&rt) {
         Ok(status) => ExitCode::from(status),
@@ -44,13 +45,21 @@ fn words_of<R: AllocGlobal + Env>(rt: &R) -> io::Result<Vec<String>> {
 
 // Does what a command line asks.
 fn obey<R: AllocGlobal + Input + Print>(rt: &R, matches: &ArgMatches<'_>) -> Result<u8, Fault> {
+    let mut reader = rt.reader();
+    let mut writer = io::writer(rt);
     if let Some(asked) = matches.subcommand_matches("run") {
-        let limits = command_line::limits(asked);
-        let mut reader = rt.reader();
-        let mut writer = io::writer(rt);
-        run_script(rt.alloc(), limits, &mut reader, &mut writer)?;
+        run_script(
+            rt.alloc(),
+            command_line::limits(asked),
+            &mut reader,
+            &mut writer,
+        )?;
+        return Ok(0);
     }
-    Ok(0)
+    match audit(rt.alloc(), &mut reader, &mut writer)? {
+        Verdict::Yes => Ok(0),
+        Verdict::No(_) | Verdict::Bad(_) => Ok(1),
+    }
 }
 
 // Shows help on standard output, or what is wrong with the command line on standard error.

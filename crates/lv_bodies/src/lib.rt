@@ -30,7 +30,7 @@ pub use laws::{best_is_the_best_run, extremes_are_reached_bounds, pair_folds_apa
 pub use least::Least;
 pub use pairs::Pair;
 pub use singles::Single;
-pub use sixes::{Six, face, six};
+pub use sixes::{Six, SixPairs, face};
 pub use sums::Sum;
 
 #[cfg(test)]

@@ -4,7 +4,7 @@ ghost use Rattle.lv_bodies.specs.Plain.{plain_value};
 use crate::{
     Affine, Automaton, Best, Body, Greatest, Kind, Least, Line, Pair, Run, Shown, Single, Six, Sum,
     best_is_the_best_run, extremes_are_reached_bounds, face, fold_more, fold_slice,
-    pair_folds_apart, six,
+    pair_folds_apart,
 };
 use lv_geometry::Refusal;
 use std::test::Fail;
@@ -22,7 +22,7 @@ fn show_kind(kind: Kind, xs: &[i64]) -> Shown
     requires { length xs.now ≤ 2 ^ 20 }
     ensures { result ≡ plain_value kind xs.now }
 {
-    let all = six();
+    let all = Six::program();
     face(&all, kind, fold_slice(&all, xs))
 }
 
@@ -109,8 +109,8 @@ fn pairs_fold_side_by_side(rt: HostRuntime) {
     assert_eq!(rt; fold_slice(&pair, &[3, -1]), (2, Some(-1)));
     assert_eq!(rt; fold_slice(&pair, &[]), (0, None));
     assert!(rt; pair.same(&pair));
-    let all: Six = six();
-    assert!(rt; all.same(&six()));
+    let all: Six = Six::program();
+    assert!(rt; all.same(&Six::program()));
 }
 
 #[test]

@@ -196,7 +196,7 @@ take-append_room n xs ys short =
 pub whole_lines_of-front : (n : ℕ) (xs ys more : List ℕ) → has_end xs ≡ false → has_end ys ≡ false → take n xs ≡ take n ys
     → map (take n) (whole_lines_of (xs ++ more)) ≡ map (take n) (whole_lines_of (ys ++ more))
 whole_lines_of-front n xs ys [] left right same =
-    rw (append-nil, append-nil, whole_lines_of-begun xs left, whole_lines_of-begun ys right) refl
+    rw (append-nil xs, append-nil ys, whole_lines_of-begun xs left, whole_lines_of-begun ys right) refl
 whole_lines_of-front n xs ys (b ∷ bs) left right same =
     elim (cases_Bool (b == 10)) [
       | inl ends ↦
@@ -212,7 +212,7 @@ whole_lines_of-front n xs ys (b ∷ bs) left right same =
 pub unended_of-front : (n : ℕ) (xs ys more : List ℕ) → has_end xs ≡ false → has_end ys ≡ false → take n xs ≡ take n ys
     → take n (unended_of (xs ++ more)) ≡ take n (unended_of (ys ++ more))
 unended_of-front n xs ys [] left right same =
-    rw (append-nil, append-nil, unended_of-begun xs left, unended_of-begun ys right) same
+    rw (append-nil xs, append-nil ys, unended_of-begun xs left, unended_of-begun ys right) same
 unended_of-front n xs ys (b ∷ bs) left right same =
     elim (cases_Bool (b == 10)) [
       | inl ends ↦ rw (eqb-true b 10 ends, unended_of-ended xs bs, unended_of-ended ys bs) refl
@@ -231,13 +231,13 @@ has_end-take (suc n) (b ∷ bs) none =
 
 -- ---- for callers: fronts of an input, one more byte, an input that ends in LF
 
--- a front of an input gives a front of its whole lines
-pub whole_lines_of-prefix : (xs ys : List ℕ) → (rest : List (List ℕ)) × (whole_lines_of (xs ++ ys) ≡ whole_lines_of xs ++ rest)
-whole_lines_of-prefix xs ys = (whole_lines_of (unended_of xs ++ ys), whole_lines_of-append xs ys)
-
--- the whole lines are a front of all lines
-pub lines_of-whole : (xs : List ℕ) → (rest : List (List ℕ)) × (lines_of xs ≡ whole_lines_of xs ++ rest)
-lines_of-whole xs = (last_line (unended_of xs), lines_of-parts xs)
+-- the lines of an input are those that a front of it ends, and then those of what stands after them
+pub lines_of-append : (xs ys : List ℕ) → lines_of (xs ++ ys) ≡ whole_lines_of xs ++ lines_of (unended_of xs ++ ys)
+lines_of-append xs ys =
+    lines_of-parts (xs ++ ys) ∙ ap (λ (lines : List (List ℕ)). lines ++ last_line (unended_of (xs ++ ys))) (whole_lines_of-append xs ys)
+    ∙ append_assoc (whole_lines_of xs) (whole_lines_of (unended_of xs ++ ys)) (last_line (unended_of (xs ++ ys)))
+    ∙ ap (λ (lines : List (List ℕ)). whole_lines_of xs ++ lines)
+    (ap (λ (line : List ℕ). whole_lines_of (unended_of xs ++ ys) ++ last_line line) (unended_of-append xs ys) ∙ sym (lines_of-parts (unended_of xs ++ ys)))
 
 -- the lines of an input that ends in LF are all whole
 pub lines_of-ended : (xs : List ℕ) → lines_of (xs ++ 10 ∷ []) ≡ whole_lines_of (xs ++ 10 ∷ [])

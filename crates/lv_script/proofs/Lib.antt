@@ -9,3 +9,13 @@ pub mod ProgressLemmas
 pub mod ReadAgain
 pub mod ReadDigits
 pub mod ReplyLemmas
+pub mod ScanLemmas
+pub mod EventLaws
+pub mod WrittenTranscripts
+pub mod ReadTranscripts
+pub mod AuditLines
+pub mod AuditRuns
+pub mod ShownTexts
+pub mod SoundTranscripts
+pub mod TranscriptBytes
+pub mod AuditedTranscripts

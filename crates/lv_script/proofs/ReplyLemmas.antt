@@ -1,6 +1,6 @@
 -- Lines that are answered one after the other.
 use Rattle.std.proofs.Common.{◌≡◌, ℕ, suc, ◌+◌, List, [], ◌∷◌, ◌++◌, length, refl, sym, ap, ◌∙◌, arith, append_assoc, append-nil}
-use Rattle.lv_script.specs.Replies.{Answered}
+use Rattle.lv_script.specs.Replies.{Answered, AnsweredInParts}
 
 module _ {S : Type 0} (step : S → ℕ → List ℕ → List ℕ → S → Type 0) where
   -- one line
@@ -18,17 +18,18 @@ module _ {S : Type 0} (step : S → ℕ → List ℕ → List ℕ → S → Type
       (a.0, a.1 ++ second, a.2, a.3, rest, ap (λ (t : List ℕ). t ++ second) a.5 ∙ append_assoc a.0 a.1 second)
 
   -- and back
-  pub Answered-split : (old : S) (n : ℕ) (xs ys : List (List ℕ)) (text : List ℕ) (new : S) → Answered step old n (xs ++ ys) text new
-      → (first : List ℕ) × (second : List ℕ) × (mid : S) × Answered step old n xs first mid × Answered step mid (n + length xs) ys second new × (text ≡ first ++ second)
+  pub Answered-split : (old : S) (n : ℕ) (xs ys : List (List ℕ)) (text : List ℕ) (new : S) → Answered step old n (xs ++ ys) text new → AnsweredInParts step old n xs ys text new
   Answered-split old n [] ys text new a =
-      let same : n ≡ n + 0 = omega arith in ([], text, old, (refl, refl), rw same at a, refl)
+      let same : n ≡ n + 0 = omega arith in
+      record { front = []; rest = text; mid = old; first = (refl, refl); second = rw same at a; joined = refl }
   Answered-split old n (x ∷ xs) ys text new a =
-      let rest = Answered-split a.2 (n + 1) xs ys a.1 new a.4 in
-      let same : n + 1 + length xs ≡ n + suc (length xs) = omega arith in (
-        a.0 ++ rest.0,
-        rest.1,
-        rest.2,
-        (a.0, rest.0, a.2, a.3, rest.3, refl),
-        rw same at rest.4,
-        a.5 ∙ ap (λ (t : List ℕ). a.0 ++ t) rest.5 ∙ sym (append_assoc a.0 rest.0 rest.1),
-      )
+      let later = Answered-split a.2 (n + 1) xs ys a.1 new a.4 in
+      let same : n + 1 + length xs ≡ n + suc (length xs) = omega arith in
+      record {
+        front = a.0 ++ later.front;
+        rest = later.rest;
+        mid = later.mid;
+        first = (a.0, later.front, a.2, a.3, later.first, refl);
+        second = rw same at later.second;
+        joined = a.5 ∙ ap (λ (t : List ℕ). a.0 ++ t) later.joined ∙ sym (append_assoc a.0 later.front later.rest);
+      }

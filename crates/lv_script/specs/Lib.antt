@@ -7,5 +7,8 @@ pub mod Printed
 pub mod Progress
 pub mod Replies
 pub mod Script
+pub mod Scripted
 pub mod Texts
 pub mod Words
+pub mod Auditing
+pub mod Transcript

@@ -13,6 +13,15 @@ module _ {S : Type 0} (step : S → ℕ → List ℕ → List ℕ → S → Type
   Answered old n (line ∷ lines) text new =
       (reply : List ℕ) × (rest : List ℕ) × (mid : S) × step old n line reply mid × Answered mid (n + 1) lines rest new × (text ≡ reply ++ rest)
 
+  -- two parts of lines were answered with two parts of a text: the second from the state and the number that the first came to
+  pub record AnsweredInParts (old : S) (n : ℕ) (xs ys : List (List ℕ)) (text : List ℕ) (new : S) : Type 0 where
+    pub front : List ℕ
+    pub rest : List ℕ
+    pub mid : S
+    pub first : Answered old n xs front mid
+    pub second : Answered mid (n + length xs) ys rest new
+    pub joined : text ≡ front ++ rest
+
   -- from state old line n was answered, to state new, and its reply written
   pub record Replies (old : S) (n : ℕ) (line : List ℕ) (new : S) (old_contents : Option (List ℕ)) (old_held : List ℕ) (new_contents : Option (List ℕ)) (new_held : List ℕ) : Type 0 where
     pub reply : List ℕ

@@ -1,64 +1,162 @@
 -- What each line of a script is answered, and what it changes.
-use Rattle.std.specs.Prelude.{◌≡◌, ℕ, ℤ, Result, Ok, Err, Option, Some, None, List, [], ◌++◌, length, slice_range, nat_lt, if◌then◌else◌}
+use Rattle.std.specs.Prelude.{◌≡◌, ◌⊎◌, ℕ, ℤ, ◌+◌, Bool, Result, Ok, Err, Option, Some, None, true, false, List, [], ◌∷◌, ◌++◌, length, take, map, if◌then◌else◌}
+use Rattle.std.specs.List.{flat_map, range_with_len}
+use Rattle.lv_geometry.specs.Bounds.{Bounds}
 use Rattle.lv_geometry.specs.declared.refusals.Refusal.{Refusal}
-use Rattle.lv_geometry.specs.declared.refusals.Refusal.TheVariants.{BadRange, OutOfRange}
+use Rattle.lv_geometry.specs.declared.refusals.Refusal.TheVariants.{NoMemory, NoSuchName}
 use Rattle.lv_bodies.specs.declared.kinds.Kind.{Kind}
+use Rattle.lv_bodies.specs.declared.kinds.Shown.{Shown}
+use Rattle.lv_bodies.specs.Body.{Operations}
 use Rattle.lv_bodies.specs.Plain.{plain_value}
+use Rattle.lv_bodies.specs.Six.{SixSummary, six_meaning, six_operations}
 use Rattle.lv_edits.specs.declared.edit.Edit.{Edit}
 use Rattle.lv_edits.specs.declared.edit.Edit.TheVariants as edit
 use Rattle.lv_edits.specs.declared.receipt.Receipt.{Receipt}
 use Rattle.lv_edits.specs.Capacity.{capacity_after}
-use Rattle.lv_edits.specs.History.{History, list_of}
-use Rattle.lv_edits.specs.Verdict.{Answers, element_at}
+use Rattle.lv_edits.specs.History.{list_of}
+use Rattle.lv_edits.specs.Verdict.{element_at}
+use Rattle.lv_refresh.specs.Record.{Record, SameRecord}
+use Rattle.lv_reduce.specs.Answer.{range_refusal, slice_of}
+use Rattle.lv_live.specs.declared.events.Event.{Event}
+use Rattle.lv_live.specs.declared.events.Event.TheVariants as event
+use Rattle.lv_live.specs.declared.replies.Reply.{Reply}
+use Rattle.lv_live.specs.declared.replies.Reply.TheVariants as reply
+use Rattle.lv_live.specs.Step.{Step, edit_reply}
+use Rattle.lv_standing.specs.declared.notes.Note.{Note}
+use Rattle.lv_standing.specs.Queries.{AreNotes, Query, query_of, watch_answer, watch_refusal, without_query}
 use Rattle.lv_script.specs.declared.command.Command.{Command}
 use Rattle.lv_script.specs.declared.command.Command.TheVariants.{Push, Pop, Write, Reserve, Settle, Get, Size, Capacity, Reduce, Cost, Inclusive, Exclusive, Claim, Deliver, Forget, Watch, Unwatch, Answer}
 use Rattle.lv_script.specs.declared.command.Line.{Line}
 use Rattle.lv_script.specs.declared.command.Line.TheVariants.{Nothing, Bad, Do}
 use Rattle.lv_script.specs.Grammar.{line_of}
-use Rattle.lv_script.specs.Texts.{answer_text, bad_text, capacity_text, element_text, receipt_text, refused_text, settled_text, size_text}
+use Rattle.lv_script.specs.Texts.{accepted_text, answer_text, bad_text, capacity_text, cost_text, element_text, forgotten_text, idle_text, job_text, named_text, note_text, receipt_text, refused_text, scan_text, settled_text, size_text, unwatched_text, watching_text}
+
+-- all that a script has seen: its limits, the record of its vector, and its standing queries
+pub record ScriptState : Type 0 where
+  pub limits : Bounds
+  pub seen : Record
+  pub queries : List Query
+
+-- the operations of all six bodies, with the program's automaton
+abbrev pub program_operations : Operations SixSummary
+program_operations = six_operations six_meaning
+
+-- only the queries have changed, and are these now
+pub record HasQueries (old new : ScriptState) (queries : List Query) : Type 0 where
+  pub limits : new.limits ≡ old.limits
+  pub seen : SameRecord old.seen new.seen
+  pub queries_are : new.queries ≡ queries
+
+-- an event was answered, and nothing but the record has changed
+pub record Does (old : ScriptState) (event : Event) (answered : Reply SixSummary) (new : ScriptState) : Type 0 where
+  pub step : Step program_operations old.limits old.seen event answered new.seen
+  pub limits : new.limits ≡ old.limits
+  pub queries : new.queries ≡ old.queries
 
 -- what a line is answered that changes nothing
-abbrev pub Tells : History → List ℕ → List ℕ → History → Type 0
-Tells old told text new = (text ≡ told) × (new ≡ old)
+abbrev pub Tells : ScriptState → List ℕ → List ℕ → ScriptState → Type 0
+Tells old told text new = (text ≡ told) × HasQueries old new old.queries
 
 -- a receipt or a refusal as a line
 abbrev pub edit_text : Result Receipt Refusal → List ℕ
 edit_text (Ok receipt) = receipt_text receipt
 edit_text (Err refusal) = refused_text refusal
 
--- an edit is answered by its receipt, or by its refusal
-abbrev pub TellsEdit : History → Edit → List ℕ → History → Type 0
-TellsEdit old e text new = (answer : Result Receipt Refusal) × Answers old e answer new × (text ≡ edit_text answer)
+-- notes, each as a line
+abbrev pub notes_text : List Note → List ℕ
+notes_text notes = flat_map (λ note. note_text note.name note.value) notes
 
--- why a range is refused: its start is past its end, or else its end is past that of the vector
-abbrev pub range_refusal : List Edit → ℕ → ℕ → Option Refusal
-range_refusal edits lo hi = if nat_lt hi lo then Some BadRange else (if nat_lt (length (list_of edits)) hi then Some (OutOfRange (length (list_of edits))) else None)
+-- an edit is answered by its receipt and the notes of it, or by its refusal
+pub record TellsEdit (old : ScriptState) (e : Edit) (text : List ℕ) (new : ScriptState) : Type 0 where
+  pub answer : Result Receipt Refusal
+  pub notes : List Note
+  pub does : Does old (event.Edit e) (edit_reply answer) new
+  pub notes_are : AreNotes old.seen.edits new.seen.edits old.queries notes
+  pub text_is : text ≡ edit_text answer ++ notes_text notes
+
+-- what an event is answered, as a line; of a reduction it is what was read for it
+abbrev pub reply_text : Reply SixSummary → List ℕ
+reply_text (reply.Did receipt) = receipt_text receipt
+reply_text reply.Settled = settled_text
+reply_text (reply.Claimed job node version) = job_text job node version
+reply_text reply.Idle = idle_text
+reply_text (reply.Gave accepted) = accepted_text accepted
+reply_text reply.Forgotten = forgotten_text
+reply_text (reply.Answered answer) = cost_text answer.cells_read answer.summaries_read
+reply_text (reply.Scanned scan) = []
+reply_text (reply.Refused refusal) = refused_text refusal
+
+-- an event is answered by its reply
+pub record TellsEvent (old : ScriptState) (event : Event) (text : List ℕ) (new : ScriptState) : Type 0 where
+  pub answered : Reply SixSummary
+  pub does : Does old event answered new
+  pub text_is : text ≡ reply_text answered
 
 -- the value of a kind over a range, at the last edit, or the refusal
 abbrev pub reduced_text : List Edit → Kind → ℕ → ℕ → Option Refusal → List ℕ
 reduced_text edits kind lo hi (Some refusal) = refused_text refusal
-reduced_text edits kind lo hi None = answer_text (length edits) kind (plain_value kind (slice_range (list_of edits) lo hi))
+reduced_text edits kind lo hi None = answer_text (length edits) kind (plain_value kind (slice_of edits lo hi))
 
--- what a command is answered, as line n
-abbrev pub CommandAnswer : History → ℕ → Command → List ℕ → History → Type 0
-CommandAnswer old n (Push x) text new = TellsEdit old (edit.Push x) text new
-CommandAnswer old n Pop text new = TellsEdit old edit.Pop text new
-CommandAnswer old n (Write i x) text new = TellsEdit old (edit.Write i x) text new
-CommandAnswer old n (Reserve cells) text new = TellsEdit old (edit.Reserve cells) text new
-CommandAnswer old n Settle text new = Tells old settled_text text new
-CommandAnswer old n (Get i) text new = Tells old (element_text (element_at old.journal i)) text new
-CommandAnswer old n Size text new = Tells old (size_text (length (list_of old.journal)) (length old.journal)) text new
-CommandAnswer old n Capacity text new = Tells old (capacity_text (capacity_after old.journal)) text new
-CommandAnswer old n (Reduce kind lo hi) text new = Tells old (reduced_text old.journal kind lo hi (range_refusal old.journal lo hi)) text new
--- lines that are to come
-CommandAnswer old n _ text new = Tells old (bad_text n) text new
+-- the values of a kind over the beginnings of a list, each with the element at its place, or without it
+abbrev pub plain_scan : Bool → Kind → List ℤ → List Shown
+plain_scan inclusive kind xs = map (λ i. plain_value kind (take (if inclusive then i + 1 else i) xs)) (range_with_len 0 (length xs))
 
--- what a line is answered
-abbrev pub LineAnswer : History → ℕ → Line → List ℕ → History → Type 0
+-- the scan of a kind over a range, at the last edit, or the refusal
+abbrev pub scanned_range_text : List Edit → Bool → Kind → ℕ → ℕ → Option Refusal → List ℕ
+scanned_range_text edits inclusive kind lo hi (Some refusal) = refused_text refusal
+scanned_range_text edits inclusive kind lo hi None = scan_text (length edits) inclusive kind (plain_scan inclusive kind (slice_of edits lo hi))
+
+-- a scan is answered so, or refused for want of memory where nothing else refuses it
+abbrev pub TellsScan : ScriptState → Bool → Kind → ℕ → ℕ → List ℕ → ScriptState → Type 0
+TellsScan old inclusive kind lo hi text new =
+    Tells old (scanned_range_text old.seen.edits inclusive kind lo hi (range_refusal old.seen.edits lo hi)) text new
+    ⊎ ((range_refusal old.seen.edits lo hi ≡ None) × Tells old (refused_text NoMemory) text new)
+
+-- a query is registered after the others; or it is refused, for want of memory where nothing else refuses it
+abbrev pub TellsWatch : ScriptState → Query → List ℕ → ScriptState → Type 0
+TellsWatch old q text new =
+    ((watch_refusal old.queries q.name q.lo q.hi ≡ None) × (text ≡ watching_text q.name) × HasQueries old new (old.queries ++ q ∷ []))
+    ⊎ ((refusal : Refusal) × ((watch_refusal old.queries q.name q.lo q.hi ≡ Some refusal) ⊎ ((watch_refusal old.queries q.name q.lo q.hi ≡ None) × (refusal ≡ NoMemory)))
+    × Tells old (refused_text refusal) text new)
+
+-- the query of a name is forgotten, if there is one
+abbrev pub TellsUnwatch : ScriptState → List ℕ → Option Query → List ℕ → ScriptState → Type 0
+TellsUnwatch old name None text new = Tells old (refused_text NoSuchName) text new
+TellsUnwatch old name (Some q) text new = (text ≡ unwatched_text name) × HasQueries old new (without_query old.queries name)
+
+-- what the query of a name answers at the last edit, if there is one
+abbrev pub named_answer_text : List Edit → List ℕ → Option Query → List ℕ
+named_answer_text edits name None = refused_text NoSuchName
+named_answer_text edits name (Some q) = named_text (length edits) name (watch_answer edits q)
+
+-- what a command is answered
+abbrev pub CommandAnswer : ScriptState → Command → List ℕ → ScriptState → Type 0
+CommandAnswer old (Push x) text new = TellsEdit old (edit.Push x) text new
+CommandAnswer old Pop text new = TellsEdit old edit.Pop text new
+CommandAnswer old (Write i x) text new = TellsEdit old (edit.Write i x) text new
+CommandAnswer old (Reserve cells) text new = TellsEdit old (edit.Reserve cells) text new
+CommandAnswer old Settle text new = TellsEvent old event.Settle text new
+CommandAnswer old (Get i) text new = Tells old (element_text (element_at old.seen.edits i)) text new
+CommandAnswer old Size text new = Tells old (size_text (length (list_of old.seen.edits)) (length old.seen.edits)) text new
+CommandAnswer old Capacity text new = Tells old (capacity_text (capacity_after old.seen.edits)) text new
+CommandAnswer old (Reduce kind lo hi) text new = Tells old (reduced_text old.seen.edits kind lo hi (range_refusal old.seen.edits lo hi)) text new
+CommandAnswer old (Cost lo hi) text new = TellsEvent old (event.Reduce lo hi) text new
+CommandAnswer old (Inclusive kind lo hi) text new = TellsScan old true kind lo hi text new
+CommandAnswer old (Exclusive kind lo hi) text new = TellsScan old false kind lo hi text new
+-- a claim is refused where there is no room for its job; no node is claimed then
+CommandAnswer old Claim text new = TellsEvent old event.Claim text new ⊎ Tells old (refused_text NoMemory) text new
+CommandAnswer old (Deliver k) text new = TellsEvent old (event.Deliver k) text new
+CommandAnswer old Forget text new = TellsEvent old event.Forget text new
+CommandAnswer old (Watch name kind lo hi) text new = TellsWatch old record { name = name; kind = kind; lo = lo; hi = hi } text new
+CommandAnswer old (Unwatch name) text new = TellsUnwatch old name (query_of old.queries name) text new
+CommandAnswer old (Answer name) text new = Tells old (named_answer_text old.seen.edits name (query_of old.queries name)) text new
+
+-- what a line is answered: one that says nothing by nothing, and one that says nothing known by its number
+abbrev pub LineAnswer : ScriptState → ℕ → Line → List ℕ → ScriptState → Type 0
 LineAnswer old n Nothing text new = Tells old [] text new
 LineAnswer old n Bad text new = Tells old (bad_text n) text new
-LineAnswer old n (Do command) text new = CommandAnswer old n command text new
+LineAnswer old n (Do command) text new = CommandAnswer old command text new
 
 -- one line of a script, by its bytes and its number: its reply, and what it changes
-unfoldable pub ScriptStep : History → ℕ → List ℕ → List ℕ → History → Type 0
+unfoldable pub ScriptStep : ScriptState → ℕ → List ℕ → List ℕ → ScriptState → Type 0
 ScriptStep old n line text new = LineAnswer old n (line_of line) text new

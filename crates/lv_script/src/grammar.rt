@@ -16,7 +16,7 @@ fn spells(word: &[u8], text: &str) -> bool
 }
 
 #[tactic(auto, unfolding(crate::specs::Grammar::kind_in))]
-fn kind(word: &[u8]) -> Option<Kind>
+pub(crate) fn kind(word: &[u8]) -> Option<Kind>
     ensures { result ≡ kind_in word.now }
 {
     if spells(word, "sum") {

@@ -7,29 +7,45 @@
 //! the input or a line of it is. It decides nothing about the vector: the layers below do.
 #![tactic(auto)]
 
+mod answers;
+mod auditor;
 mod command;
 mod conversation;
 pub mod devices;
 mod fault;
 mod grammar;
+mod laws;
 mod lines;
 mod numbers;
+mod plain_ranges;
 mod printing;
 mod progress;
+mod refresh_replies;
 mod replies;
 mod responder;
+mod scan_replies;
+mod scans;
 mod scripts;
 mod sender;
+mod transcript_lines;
+mod transcripts;
+mod watch_replies;
 mod words;
 
+pub use auditor::{Verdict, audit};
 pub use command::{Command, Line};
 pub use conversation::converse;
 pub use fault::Fault;
+pub use laws::{
+    a_front_of_the_input_gives_a_front_of_the_text, a_front_of_the_input_has_its_first_lines,
+    a_front_of_the_lines_gives_a_front_of_the_text,
+};
 pub use lines::read_line;
 pub use printing::print_command;
 pub use responder::Responder;
 pub use scripts::run_script;
 pub use sender::{HELD, make_room, put, put_element, put_number, put_wide, send};
+pub use transcripts::{Claimed, write_transcript};
 
 #[cfg(test)]
 mod tests;

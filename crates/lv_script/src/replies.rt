@@ -15,6 +15,7 @@ pub const LINE: usize = 256;
 pub fn put_receipt(held: &mut Vec<u8>, receipt: Receipt)
     requires { vec_len held.old + LINE ≤ vec_capacity held.old }
     ensures text { held.new.items ≡ held.old.items ++ receipt_text receipt }
+    ensures len { vec_len held.new ≤ vec_len held.old + LINE }
     ensures room { vec_capacity held.old ≤ vec_capacity held.new }
 {
     put(held, b"edit ");

@@ -1,25 +1,26 @@
-ghost use Rattle.std.specs.Prelude.{◌≡◌, ◌+◌, ◌≤◌, ◌++◌, [], List, ℕ, length, slice_range, OnOk, IfErr, vec_len, vec_capacity};
-ghost use Rattle.lv_bodies.specs.Body.{CanFold, fold_of};
-ghost use Rattle.lv_bodies.specs.Plain.{plain_value};
-ghost use Rattle.lv_edits.specs.History.{History, list_of};
+ghost use Rattle.std.specs.Prelude.{◌≡◌, ◌+◌, ◌≤◌, ◌++◌, [], List, ℕ, length, OnOk, IfErr, vec_len, vec_capacity};
+ghost use Rattle.lv_live.specs.State.{IsWorld};
+ghost use Rattle.lv_script.specs.Output.{Writes, WritesFront};
 ghost use Rattle.lv_script.specs.Replies.{Conversed, FailsToReply, Replies};
-ghost use Rattle.lv_script.specs.Script.{CommandAnswer, LineAnswer, ScriptStep, edit_text, range_refusal, reduced_text};
+ghost use Rattle.lv_script.specs.Script.{CommandAnswer, LineAnswer, ScriptState, ScriptStep, program_operations};
+ghost use Rattle.lv_script.specs.Scripted.{Begins, state_of};
 
+use crate::answers::{ROOM, Task, answer, task_of};
 use crate::command::{Command, Line};
 use crate::conversation::converse;
 use crate::fault::Fault;
 use crate::lines::read_line;
-use crate::replies::{
-    LINE, put_answer, put_bad, put_capacity, put_receipt, put_refusal, put_settled, put_size,
-    put_value,
-};
+use crate::replies::put_bad;
 use crate::responder::Responder;
+use crate::scans::answer_scan;
 use crate::sender::{HELD, make_room};
-use lv_bodies::{Body, Kind, Shown, face, fold_more, six};
-use lv_edits::{Edit, Edits, Receipt};
-use lv_geometry::{Limits, Refusal};
+use lv_bodies::Six;
+use lv_geometry::Limits;
+use lv_refresh::Job;
+use lv_standing::Standing;
 use std::alloc::Global;
 use std::io::{Read, Write};
+use std::marker::Model;
 
 /// Answers a script: reads its lines, and writes the reply to each, until the reader ends.
 ///
@@ -32,11 +33,13 @@ pub fn run_script<R: Read, W: Write>(
     reader: &mut R,
     writer: &mut W,
 ) -> Result<(), Fault>
-    ensures { (last : History) × Conversed ScriptStep record { limits = limits; journal = [] } last
+    ensures { (first : ScriptState) × (last : ScriptState) × Begins limits first × Conversed ScriptStep first last
         (R.remaining reader.old) (R.remaining reader.new) (W.contents writer.old) (W.contents writer.new) result }
 {
     let mut script = Script {
-        edits: Edits::new(alloc, limits),
+        standing: Standing::new(alloc, limits),
+        jobs: Vec::new(alloc),
+        alloc,
     };
     converse(alloc, &mut script, reader, writer)
 }
@@ -44,13 +47,27 @@ pub fn run_script<R: Read, W: Write>(
 // What answers the lines of a script.
 #[derive(Drop)]
 struct Script {
-    edits: Edits,
+    standing: Standing,
+    jobs: Vec<Job<Six>>,
+    alloc: Global,
+}
+
+impl Model for Script {
+    ghost use Rattle.lv_live.specs.State.{IsWorld};
+    ghost use Rattle.lv_script.specs.Script.{program_operations};
+    ghost use Rattle.lv_script.specs.Scripted.{Scripted};
+
+    ghost Value = { Scripted };
+
+    ghost view = { λ a. record { standing = a.standing; jobs = a.jobs.items } };
+
+    ghost invariant = { λ a. IsWorld program_operations a.standing.live a.jobs.items };
 }
 
 impl Responder for Script {
-    ghost State = { History };
+    ghost State = { ScriptState };
 
-    ghost state = { λ s. s.edits };
+    ghost state = { λ s. state_of s.standing s.jobs };
 
     ghost step = { ScriptStep };
 
@@ -61,102 +78,71 @@ impl Responder for Script {
         writer: &mut W,
         held: &mut Vec<u8>,
     ) -> Result<(), Fault> {
-        make_room(writer, held, LINE)?;
-        answer_line(&mut self.edits, number, read_line(line), held);
-        Ok(())
+        make_room(writer, held, ROOM)?;
+        answer_line(
+            self.alloc,
+            &mut self.standing,
+            &mut self.jobs,
+            number,
+            read_line(line),
+            writer,
+            held,
+        )
     }
 }
 
 // Answers a line.
-fn answer_line(edits: &mut Edits, number: u32, line: Line, held: &mut Vec<u8>)
-    requires { vec_len held.old + LINE ≤ vec_capacity held.old }
-    ensures answer { (reply : List ℕ) × LineAnswer edits.old number line reply edits.new × (held.new.items ≡ held.old.items ++ reply) }
+fn answer_line<W: Write>(
+    alloc: Global,
+    standing: &mut Standing,
+    jobs: &mut Vec<Job<Six>>,
+    number: u32,
+    line: Line,
+    writer: &mut W,
+    held: &mut Vec<u8>,
+) -> Result<(), Fault>
+    requires world { IsWorld program_operations standing.old.live jobs.old.items }
+    requires room { vec_len held.old + ROOM ≤ vec_capacity held.old }
+    ensures ok { OnOk result ((reply : List ℕ) × LineAnswer (state_of standing.old jobs.old.items) number line reply (state_of standing.new jobs.new.items)
+        × Writes (W.contents writer.old) held.old.items (W.contents writer.new) held.new.items reply) }
+    ensures fault { IfErr result (λ fault. (fault ≡ Fault.WriteFault) × (reply : List ℕ)
+        × LineAnswer (state_of standing.old jobs.old.items) number line reply (state_of standing.new jobs.new.items)
+        × WritesFront (W.contents writer.old) held.old.items (W.contents writer.new) reply) }
+    ensures world { IsWorld program_operations standing.new.live jobs.new.items }
     ensures room { vec_capacity held.old ≤ vec_capacity held.new }
 {
     match line {
         Line::Nothing => {}
         Line::Bad => put_bad(held, number),
-        Line::Do(command) => answer(edits, number, command, held),
+        Line::Do(command) => return answer_command(alloc, standing, jobs, command, writer, held),
     }
+    Ok(())
 }
 
-// Answers a command.
-fn answer(edits: &mut Edits, number: u32, command: Command, held: &mut Vec<u8>)
-    requires { vec_len held.old + LINE ≤ vec_capacity held.old }
-    ensures answer { (reply : List ℕ) × CommandAnswer edits.old number command reply edits.new × (held.new.items ≡ held.old.items ++ reply) }
+// Answers a command. Only the reply to a scan may be longer than what is held.
+fn answer_command<W: Write>(
+    alloc: Global,
+    standing: &mut Standing,
+    jobs: &mut Vec<Job<Six>>,
+    command: Command,
+    writer: &mut W,
+    held: &mut Vec<u8>,
+) -> Result<(), Fault>
+    requires world { IsWorld program_operations standing.old.live jobs.old.items }
+    requires room { vec_len held.old + ROOM ≤ vec_capacity held.old }
+    ensures ok { OnOk result ((reply : List ℕ) × CommandAnswer (state_of standing.old jobs.old.items) command reply (state_of standing.new jobs.new.items)
+        × Writes (W.contents writer.old) held.old.items (W.contents writer.new) held.new.items reply) }
+    ensures fault { IfErr result (λ fault. (fault ≡ Fault.WriteFault) × (reply : List ℕ)
+        × CommandAnswer (state_of standing.old jobs.old.items) command reply (state_of standing.new jobs.new.items)
+        × WritesFront (W.contents writer.old) held.old.items (W.contents writer.new) reply) }
+    ensures world { IsWorld program_operations standing.new.live jobs.new.items }
     ensures room { vec_capacity held.old ≤ vec_capacity held.new }
 {
-    match command {
-        Command::Push(x) => put_edit(held, edits.push(x)),
-        Command::Pop => put_edit(held, edits.pop()),
-        Command::Write { index, value } => put_edit(held, edits.write(index, value)),
-        Command::Reserve(cells) => put_edit(held, edits.reserve(cells)),
-        Command::Settle => {
-            edits.settle();
-            put_settled(held);
+    match task_of(command) {
+        Task::Scan(asked) => answer_scan(alloc, standing, writer, held, &asked),
+        Task::Other(command) => {
+            answer(alloc, standing, jobs, command, held);
+            Ok(())
         }
-        Command::Get(i) => put_value(held, edits.get(i)),
-        Command::Size => put_size(held, edits.size(), edits.edit()),
-        Command::Capacity => put_capacity(held, edits.capacity()),
-        Command::Reduce { kind, lo, hi } => put_reduced(held, edits, kind, lo, hi),
-        _ => put_bad(held, number),
     }
-}
-
-// The receipt of an edit, or its refusal.
-fn put_edit(held: &mut Vec<u8>, answer: Result<Receipt, Refusal>)
-    requires { vec_len held.old + LINE ≤ vec_capacity held.old }
-    ensures text { held.new.items ≡ held.old.items ++ edit_text answer }
-    ensures room { vec_capacity held.old ≤ vec_capacity held.new }
-{
-    match answer {
-        Ok(receipt) => put_receipt(held, receipt),
-        Err(refusal) => put_refusal(held, refusal),
-    }
-}
-
-// The value of a kind over a range, or why the range is refused.
-fn put_reduced(held: &mut Vec<u8>, edits: &Edits, kind: Kind, lo: u32, hi: u32)
-    requires { vec_len held.old + LINE ≤ vec_capacity held.old }
-    ensures text { held.new.items ≡ held.old.items
-        ++ reduced_text edits.now.journal kind lo hi (range_refusal edits.now.journal lo hi) }
-    ensures room { vec_capacity held.old ≤ vec_capacity held.new }
-{
-    let size = edits.size();
-    if lo > hi {
-        put_refusal(held, Refusal::BadRange);
-    } else if hi > size {
-        put_refusal(held, Refusal::OutOfRange { size });
-    } else {
-        put_answer(
-            held,
-            edits.edit(),
-            kind,
-            value_of_range(edits, kind, lo, hi),
-        );
-    }
-}
-
-// The value of a kind over a range that is inside the vector.
-fn value_of_range(edits: &Edits, kind: Kind, lo: u32, hi: u32) -> Shown
-    requires range { lo ≤ hi }
-    requires end { hi ≤ length (list_of edits.now.journal) }
-    ensures { result ≡ plain_value kind (slice_range (list_of edits.now.journal) lo hi) }
-{
-    let six = six();
-    face(&six, kind, fold_range(edits, &six, lo, hi))
-}
-
-// The fold of a range, where it lies.
-fn fold_range<B: Body>(edits: &Edits, body: &B, lo: u32, hi: u32) -> B::S
-    requires range { lo ≤ hi }
-    requires end { hi ≤ length (list_of edits.now.journal) }
-    ensures fold { result ≡ fold_of (B.operations (B.meaning body.now)) (slice_range (list_of edits.now.journal) lo hi) }
-    ensures elements { CanFold (slice_range (list_of edits.now.journal) lo hi) }
-{
-    let mut sum = body.identity();
-    for i in lo..hi {
-        sum = fold_more(body, sum, edits.read(i));
-    }
-    sum
 }

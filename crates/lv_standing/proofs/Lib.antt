@@ -1,1 +1,5 @@
+pub mod EntryLaws
 pub mod KeptNames
+pub mod NoteLaws
+pub mod RangeLaws
+mod ProgramLaws

@@ -1,11 +1,18 @@
-//! Standing queries by name. So far the names.
+//! Standing queries: names for questions about a live vector, and notes of the edits that change an answer.
 //!
-//! Contracts see a name as the list of its bytes, and each name has 1 to 16 bytes of `a-z`, `0-9`, `_`.
+//! The model is the live vector's state and the list of the queries, in the order of their registration. Each answer is the
+//! plain value of the elements that the query's range has at the last edit, and an edit's notes are those of the queries, in
+//! order, whose answer it changed. It parses no text and starts no thread.
 #![tactic(auto)]
 
 mod names;
+mod notes;
+mod standing;
+mod watches;
 
 pub use names::Name;
+pub use notes::{Answered, Note};
+pub use standing::Standing;
 
 #[cfg(test)]
 mod tests;

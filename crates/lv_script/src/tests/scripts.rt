@@ -4,7 +4,7 @@ use std::process::Abort;
 use std::test::Fail;
 
 // Each script and its replies, line by line.
-const SCRIPTS: [(&str, &str); 12] = [
+const SCRIPTS: [(&str, &str); 18] = [
     ("", ""),
     (
         "push 5\npush -7\nreduce sum 0 2",
@@ -46,6 +46,30 @@ const SCRIPTS: [(&str, &str); 12] = [
     (
         "push 1                                                                                                                  \npush\t2\npush 2\r\npush 3\r\r\n\r\nsize",
         "edit 1 at 0\nbad 2\nedit 2 at 1\nbad 4\nsize 2 edit 2\n",
+    ),
+    (
+        "push 1\npush 2\npush 3\ninc sum 0 3\nexc sum 0 3\ninc sum 2 2\nexc best 2 1\ninc least 0 9\n",
+        "edit 1 at 0\nedit 2 at 1\nedit 3 at 2\nat 3 inc sum 3\n= 1\n= 3\n= 6\nat 3 exc sum 3\n= 0\n= 1\n= 3\nat 3 inc sum 0\nrefused 7\nrefused 3\n",
+    ),
+    (
+        "push 1\npush 2\npush 3\npush 4\npush 5\npush 6\npush 7\npush 8\nclaim\nclaim\nwrite 3 9\ndeliver 1\nreduce sum 0 8\nclaim\ndeliver 2\ndeliver 2\ndeliver 1\ncost 0 8\nreduce sum 0 8\n",
+        "edit 1 at 0\nedit 2 at 1\nedit 3 at 2\nedit 4 at 3\nedit 5 at 4\nedit 6 at 5\nedit 7 at 6\nedit 8 at 7\njob 1 node 1 0 version 8\nidle\nedit 9 was 4\nstale 9\nat 9 sum 41\njob 2 node 1 0 version 9\ninstalled\nheld\nstale 9\ncells 0 summaries 1\nat 9 sum 41\n",
+    ),
+    (
+        "push 7\npush 7\npush 7\npush 7\npush 7\npush 7\npush 7\npush 7\nclaim\npop\ndeliver 1\nclaim\npush 7\ndeliver 1\nclaim\n",
+        "edit 1 at 0\nedit 2 at 1\nedit 3 at 2\nedit 4 at 3\nedit 5 at 4\nedit 6 at 5\nedit 7 at 6\nedit 8 at 7\njob 1 node 1 0 version 8\nedit 9 value 7\nstale 8\nidle\nedit 10 at 7\nstale 10\njob 2 node 1 0 version 10\n",
+    ),
+    (
+        "push 4\npush 6\nwatch s sum 0 2\nwrite 0 4\npop\nanswer s\nwatch s least 0 1\nunwatch t\nwatch b sum 2 1\nunwatch s\n",
+        "edit 1 at 0\nedit 2 at 1\nwatching s\nedit 3 was 4\nedit 4 value 6\nnote s 4\nat 4 s 4\nrefused 10\nrefused 11\nrefused 7\nunwatched s\n",
+    ),
+    (
+        "watch z sum 0 1\nwatch a greatest 0 1\npush 3\n",
+        "watching z\nwatching a\nedit 1 at 0\nnote z 3\nnote a 3\n",
+    ),
+    (
+        "push 1\npush 2\npush 3\npush 4\npush 5\npush 6\npush 7\npush 8\ndeliver 1\nclaim\nforget\nclaim\ndeliver 0\ndeliver 3\ndeliver 2\ndeliver 1\n",
+        "edit 1 at 0\nedit 2 at 1\nedit 3 at 2\nedit 4 at 3\nedit 5 at 4\nedit 6 at 5\nedit 7 at 6\nedit 8 at 7\nrefused 19\njob 1 node 1 0 version 8\nforgotten\njob 2 node 1 0 version 8\nrefused 19\nrefused 19\ninstalled\nheld\n",
     ),
 ];
 

@@ -6,7 +6,7 @@ use Rattle.lv_bodies.proofs.sixes.face.Goals as goal
 
 pub returns-clause-plain : goal.returns-clause-plain
 returns-clause-plain c = λ xs can e.
-    let m : SixMeaning = (tt, (tt, (tt, (tt, (tt, table_of c.args.six.now.second.second.second.second.second))))) in
+    let m : SixMeaning = (tt, (tt, (tt, (tt, (tt, table_of c.args.six.now.pairs.second.second.second.second.second))))) in
     c.part_shown.ensures ∙ face_of-fold m c.args.kind c.args.s xs can e
 
 pub returns-clause-program : goal.returns-clause-program

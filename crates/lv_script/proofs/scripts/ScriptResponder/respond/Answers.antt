@@ -1,13 +1,13 @@
-use Rattle.lv_script.proofs.OutputLemmas.{Writes-put, Writes-trans}
 use Rattle.lv_script.specs.Script.{ScriptStep}
+use Rattle.lv_script.proofs.EventLaws.{fails_after, replies_after}
 use Rattle.lv_script.proofs.scripts.ScriptResponder.respond.Goals as goal
 
 pub returns-clause-ok : goal.returns-clause-ok
 unfolding ScriptStep
 returns-clause-ok g c =
-    let answer = c.answer_line.ensures.answer in
-    record {
-      reply = answer.0;
-      answered = rw (c.read_line.ensures) at answer.1;
-      written = Writes-trans c.in_ok-make_room.ensures.ok (Writes-put _ _ _ _ answer.2);
-    }
+    rw (← c.self.view_is) (replies_after ScriptStep _ _ c.answer_line.result _ _ c.args.number c.args.line.now c.in_ok-make_room.ensures.ok (rw c.read_line.ensures at c.answer_line.ensures.ok))
+
+pub returns-clause-fault : goal.returns-clause-fault
+unfolding ScriptStep
+returns-clause-fault g c =
+    rw (← c.self.view_is) (fails_after ScriptStep _ c.answer_line.result _ _ c.args.number c.args.line.now c.in_ok-make_room.ensures.ok (rw c.read_line.ensures at c.answer_line.ensures.fault))

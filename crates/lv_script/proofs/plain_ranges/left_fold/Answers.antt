@@ -1,12 +1,11 @@
-use Rattle.std.proofs.Common.{◌≡◌, ◌+◌, ◌-◌, ◌<◌, ◌≤◌, ◌∷◌, ◌++◌, [], All, ap, ◌∙◌, arith, length, length-append, rules, slice_range, subst, sym}
+use Rattle.std.proofs.Common.{◌≡◌, ◌+◌, ◌-◌, ◌∷◌, [], arith, length, length-append, rules, slice_range, subst}
 use Rattle.std.proofs.lemmas.Int.{to_z-of_z}
 use Rattle.std.proofs.lemmas.List.Elements.{All-push}
 use Rattle.std.proofs.lemmas.List.Sums.{fold_push}
 use Rattle.lv_geometry.specs.Elements.{IsElement}
-use Rattle.lv_bodies.specs.Body.{fold_of}
 use Rattle.lv_edits.specs.History.{list_of}
 use Rattle.lv_edits.proofs.Slices.{length-slice_range, slice_range-more}
-use Rattle.lv_script.proofs.scripts.fold_range.Goals as goal
+use Rattle.lv_script.proofs.plain_ranges.left_fold.Goals as goal
 
 pub loop-i-preserved : goal.loop-i-preserved
 loop-i-preserved g c =

@@ -1,7 +1,7 @@
-use Rattle.std.proofs.Common.{◌≡◌, ◌-◌, ◌≤◌, slice_range}
+use Rattle.std.proofs.Common.{◌≡◌, ◌-◌, slice_range}
 use Rattle.lv_bodies.specs.Body.{CanFold, fold_of}
 use Rattle.lv_edits.specs.History.{list_of}
-use Rattle.lv_script.proofs.scripts.fold_range.Given as goal
+use Rattle.lv_script.proofs.plain_ranges.left_fold.Given as goal
 
 -- the fold of what was read so far
 abbrev pub invariant-loop-i : goal.invariant-loop-i

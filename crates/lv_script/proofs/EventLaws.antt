@@ -1,0 +1,208 @@
+-- What the calls of a vector with standing queries make of a script.
+use Rattle.std.proofs.Common.{◌≡◌, ◌⊎◌, ℕ, ◌+◌, ◌<◌, ◌≤◌, Bool, true, false, Option, Some, None, option_map, Result, Ok, Err, OnOk, IfErr, List, [], ◌∷◌, ◌++◌, length, map, take, drop, ◌-◌, arith, subst, refl, sym, ap, ◌∙◌, inl, inr, if◌then◌else◌}
+use Rattle.std.specs.Prelude.{ℤ}
+use Rattle.std.specs.List.{range_with_len}
+use Rattle.std.proofs.lemmas.List.{append-nil, length-drop, length-take}
+use Rattle.lv_bodies.specs.ElementLaws.{map-map}
+use Rattle.std.proofs.lemmas.List.Elements.{All-drop, All-take}
+use Rattle.lv_geometry.specs.declared.nodes.Node.{Node}
+use Rattle.lv_geometry.specs.declared.refusals.Refusal.{Refusal}
+use Rattle.lv_geometry.specs.declared.refusals.Refusal.TheVariants.{NoJob, NoMemory}
+use Rattle.lv_bodies.specs.declared.kinds.Kind.{Kind}
+use Rattle.lv_bodies.specs.declared.kinds.Shown.{Shown}
+use Rattle.lv_bodies.proofs.SixFolds.{face_of-fold}
+use Rattle.lv_bodies.specs.declared.sixes.Six.{Six}
+use Rattle.lv_bodies.specs.Body.{CanFold, fold_of}
+use Rattle.lv_bodies.specs.Plain.{plain_value}
+use Rattle.lv_bodies.specs.Scan.{exclusive_scan, inclusive_scan}
+use Rattle.lv_bodies.specs.Six.{SixMeaning, SixSummary, face_of, six_meaning, six_operations}
+use Rattle.lv_edits.specs.declared.edit.Edit.{Edit}
+use Rattle.lv_edits.specs.declared.receipt.Receipt.{Receipt}
+use Rattle.lv_edits.specs.History.{History, list_of}
+use Rattle.lv_edits.specs.Kept.{InLimits}
+use Rattle.lv_geometry.specs.Elements.{IsElement}
+use Rattle.lv_edits.specs.Verdict.{Accepts, Answers, Refuses}
+use Rattle.lv_summary.specs.declared.accepted.Accepted.{Accepted}
+use Rattle.lv_refresh.specs.Carried.{Carried}
+use Rattle.lv_refresh.specs.Claim.{IsNextJob}
+use Rattle.lv_refresh.specs.Delivery.{delivery_of}
+use Rattle.lv_refresh.specs.Record.{Record, SameRecord}
+use Rattle.lv_reduce.specs.declared.reductions.Answer.{Answer}
+use Rattle.lv_reduce.specs.declared.scans.Scan.{Scan}
+use Rattle.lv_reduce.specs.Answer.{range_refusal, scan_of, slice_of}
+use Rattle.lv_live.specs.declared.events.Event.TheVariants as event
+use Rattle.lv_live.specs.declared.replies.Reply.TheVariants as reply
+use Rattle.lv_live.specs.State.{HasClaim, HasDelivery, HasNoClaims, LiveState, SameLive, SameRefresh, job_at, jobs_with, name_of, recorded, with_issued}
+use Rattle.lv_live.specs.Step.{Reduces, Scans, claim_reply, edit_reply, reduction_reply}
+use Rattle.lv_live.proofs.WorldLaws.{setting_edit, step_claim, step_delivery, step_edit, step_forget, step_no_job, step_reduction, step_settle}
+use Rattle.lv_standing.specs.declared.notes.Note.{Note}
+use Rattle.lv_standing.specs.Queries.{AreNotes, Query, watch_answer}
+use Rattle.lv_standing.specs.Standings.{StandingState}
+use Rattle.lv_script.specs.declared.fault.Fault.{Fault}
+use Rattle.lv_script.specs.declared.fault.Fault.TheVariants.{WriteFault}
+use Rattle.lv_script.specs.Output.{Writes, WritesFront}
+use Rattle.lv_script.specs.Replies.{FailsToReply, Replies}
+use Rattle.lv_script.proofs.OutputLemmas.{Writes-trans, WritesFront-after}
+use Rattle.lv_script.specs.Script.{Does, HasQueries, ScriptState, Tells, TellsEdit, TellsEvent, TellsScan, edit_text, notes_text, plain_scan, program_operations, reduced_text, reply_text, scanned_range_text}
+use Rattle.lv_script.specs.Scripted.{state_of}
+use Rattle.lv_script.specs.Texts.{answer_text, refused_text, scan_text}
+
+-- a vector with standing queries that stays as it is
+pub unchanged : (s : StandingState) (jobs : List (Carried Six SixSummary)) → HasQueries (state_of s jobs) (state_of s jobs) s.queries
+unchanged s jobs = record { limits = refl; seen = record { edits = refl; issued = refl; claimed = λ n. refl; kept = λ n. refl }; queries_are = refl }
+
+-- a claim
+pub tells_claim : (old new : StandingState) (job : Option (Carried Six SixSummary)) (jobs : List (Carried Six SixSummary)) → IsNextJob (recorded old.live) (option_map name_of job) → HasClaim old.live new.live (option_map name_of job) → new.queries ≡ old.queries
+    → TellsEvent (state_of old jobs) event.Claim (reply_text (claim_reply (length jobs + 1) (option_map name_of job))) (state_of new (jobs_with jobs job))
+tells_claim old new job jobs next has queries =
+    record {
+      answered = claim_reply (length jobs + 1) (option_map name_of job);
+      does = record { step = step_claim program_operations old.live new.live job jobs next has; limits = ap (λ h. h.limits) has.history; queries = queries };
+      text_is = refl;
+    }
+
+-- a delivery of a job
+pub tells_delivery : (old new : StandingState) (k : ℕ) (job : Carried Six SixSummary) (jobs : List (Carried Six SixSummary)) → job_at jobs k ≡ Some job → HasDelivery old.live new.live job.node job.version (delivery_of (recorded old.live) job.node job.version) → new.queries ≡ old.queries
+    → TellsEvent (state_of old jobs) (event.Deliver k) (reply_text (reply.Gave (delivery_of (recorded old.live) job.node job.version))) (state_of new jobs)
+tells_delivery old new k job jobs is has queries =
+    record {
+      answered = reply.Gave (delivery_of (recorded old.live) job.node job.version);
+      does = record { step = step_delivery program_operations old.live new.live k job jobs is has; limits = ap (λ h. h.limits) has.history; queries = queries };
+      text_is = refl;
+    }
+
+-- a delivery of no job
+pub tells_no_job : (s : StandingState) (k : ℕ) (jobs : List (Carried Six SixSummary)) → job_at jobs k ≡ None → TellsEvent (state_of s jobs) (event.Deliver k) (refused_text NoJob) (state_of s jobs)
+tells_no_job s k jobs none =
+    record { answered = reply.Refused NoJob; does = record { step = step_no_job program_operations s.live k jobs none; limits = refl; queries = refl }; text_is = refl }
+
+-- that claims are forgotten
+pub tells_forget : (old new : StandingState) (jobs : List (Carried Six SixSummary)) → HasNoClaims old.live new.live → new.queries ≡ old.queries → TellsEvent (state_of old jobs) event.Forget (reply_text reply.Forgotten) (state_of new jobs)
+tells_forget old new jobs has queries =
+    record { answered = reply.Forgotten; does = record { step = step_forget program_operations old.live new.live jobs has; limits = ap (λ h. h.limits) has.history; queries = queries }; text_is = refl }
+
+-- that what is pending is completed
+pub tells_settle : (old new : StandingState) (jobs : List (Carried Six SixSummary)) → SameLive old.live new.live → new.queries ≡ old.queries → TellsEvent (state_of old jobs) event.Settle (reply_text reply.Settled) (state_of new jobs)
+tells_settle old new jobs same queries =
+    record { answered = reply.Settled; does = record { step = step_settle program_operations old.live new.live jobs same; limits = ap (λ h. h.limits) same.history; queries = queries }; text_is = refl }
+
+-- what is read for a reduction
+pub tells_reads : (s : StandingState) (lo hi : ℕ) (answer : Result (Answer SixSummary) Refusal) (jobs : List (Carried Six SixSummary)) → Reduces program_operations (recorded s.live) lo hi answer
+    → TellsEvent (state_of s jobs) (event.Reduce lo hi) (reply_text (reduction_reply answer)) (state_of s jobs)
+tells_reads s lo hi answer jobs is =
+    record { answered = reduction_reply answer; does = record { step = step_reduction program_operations s.live lo hi answer jobs is; limits = refl; queries = refl }; text_is = refl }
+
+-- an edit that was accepted, with its notes
+pub tells_accepted : (old new : StandingState) (e : Edit) (receipt : Receipt) (notes : List Note) (jobs : List (Carried Six SixSummary)) → SameRefresh old.live new.live → Accepts old.live.history e receipt new.live.history → new.queries ≡ old.queries
+    → AreNotes old.live.history.journal new.live.history.journal old.queries notes → TellsEdit (state_of old jobs) e (edit_text (Ok receipt) ++ notes_text notes) (state_of new jobs)
+tells_accepted old new e receipt notes jobs same accepts queries are =
+    record {
+      answer = Ok receipt;
+      notes = notes;
+      does = record { step = step_edit program_operations old.live new.live e (Ok receipt) jobs same accepts; limits = ap (λ h. h.limits) accepts.journal; queries = queries };
+      notes_are = are;
+      text_is = refl;
+    }
+
+-- where no answer changed there are no notes
+no_notes : (edits : List Edit) (queries : List Query) → AreNotes edits edits queries []
+no_notes edits [] = refl
+no_notes edits (q ∷ queries) = inl (refl, no_notes edits queries)
+
+-- an edit that was refused
+pub tells_refused : (old new : StandingState) (e : Edit) (refusal : Refusal) (jobs : List (Carried Six SixSummary)) → SameRefresh old.live new.live → Refuses old.live.history e refusal new.live.history → new.queries ≡ old.queries
+    → TellsEdit (state_of old jobs) e (refused_text refusal) (state_of new jobs)
+tells_refused old new e refusal jobs same refuses queries =
+    record {
+      answer = Err refusal;
+      notes = [];
+      does = record { step = step_edit program_operations old.live new.live e (Err refusal) jobs same refuses; limits = ap (λ h. h.limits) refuses.same; queries = queries };
+      notes_are = rw refuses.same (no_notes old.live.history.journal old.queries);
+      text_is = sym (append-nil (refused_text refusal));
+    }
+
+-- the value of a kind over a range that nothing refuses
+pub reduced_ok : (edits : List Edit) (kind : Kind) (lo hi edit : ℕ) (shown : Shown) → range_refusal edits lo hi ≡ None → edit ≡ length edits → shown ≡ plain_value kind (slice_of edits lo hi) → answer_text edit kind shown ≡ reduced_text edits kind lo hi (range_refusal edits lo hi)
+reduced_ok edits kind lo hi edit shown granted at is =
+    ap (λ edit. answer_text edit kind shown) at ∙ ap (answer_text (length edits) kind) is ∙ ap (reduced_text edits kind lo hi) (sym granted)
+
+-- the elements of a range can be folded
+pub can_fold_slice : (h : History) (lo hi : ℕ) → InLimits h → CanFold (slice_of h.journal lo hi)
+can_fold_slice h lo hi limits =
+    record {
+      few = omega (arith, limits.few, length-take (hi - lo) (drop lo (list_of h.journal)), length-drop lo (list_of h.journal));
+      elements = All-take IsElement (hi - lo) (drop lo (list_of h.journal)) (All-drop IsElement lo (list_of h.journal) limits.elements);
+    }
+
+-- a reduction by the program's six is one by the program's operations
+pub reduces_by_program : (m : SixMeaning) (r : Record) (lo hi : ℕ) (answer : Result (Answer SixSummary) Refusal) → m ≡ six_meaning → Reduces (six_operations m) r lo hi answer → Reduces program_operations r lo hi answer
+reduces_by_program m r lo hi answer is = subst (λ m. Reduces (six_operations m) r lo hi answer) is
+
+-- and so is a scan
+pub scans_by_program : (m : SixMeaning) (r : Record) (lo hi : ℕ) (inclusive : Bool) (answer : Result (Scan SixSummary) Refusal) → m ≡ six_meaning → Scans (six_operations m) r lo hi inclusive answer → Scans program_operations r lo hi inclusive answer
+scans_by_program m r lo hi inclusive answer is = subst (λ m. Scans (six_operations m) r lo hi inclusive answer) is
+
+-- a front of what can be folded can be folded
+can_fold_front : (xs : List ℤ) (n : ℕ) → CanFold xs → CanFold (take n xs)
+can_fold_front xs n can = record { few = omega (arith, can.few, length-take n xs); elements = All-take IsElement n xs can.elements }
+
+-- what is shown of the fold of a list is the plain value
+shown_fold : (kind : Kind) (xs : List ℤ) → CanFold xs → face_of kind (fold_of program_operations xs) ≡ plain_value kind xs
+shown_fold kind xs can = face_of-fold six_meaning kind (fold_of program_operations xs) xs can refl
+
+-- what is shown of a scan of a list is the plain scan
+pub shown_scan : (inclusive : Bool) (kind : Kind) (xs : List ℤ) → CanFold xs → map (face_of kind) (scan_of inclusive program_operations xs) ≡ plain_scan inclusive kind xs
+shown_scan true kind xs can =
+    map-map (λ i. fold_of program_operations (take (i + 1) xs)) (face_of kind) (range_with_len 0 (length xs)) ∙ (λ j. map (λ i. shown_fold kind (take (i + 1) xs) (can_fold_front xs (i + 1) can) j) (range_with_len 0 (length xs)))
+shown_scan false kind xs can =
+    map-map (λ i. fold_of program_operations (take i xs)) (face_of kind) (range_with_len 0 (length xs)) ∙ (λ j. map (λ i. shown_fold kind (take i xs) (can_fold_front xs i can) j) (range_with_len 0 (length xs)))
+
+-- a scan of a range that nothing refuses
+pub scanned_ok : (edits : List Edit) (inclusive : Bool) (kind : Kind) (lo hi edit : ℕ) (values : List SixSummary) → CanFold (slice_of edits lo hi) → range_refusal edits lo hi ≡ None → edit ≡ length edits → values ≡ scan_of inclusive program_operations (slice_of edits lo hi)
+    → scan_text edit inclusive kind (map (face_of kind) values) ≡ scanned_range_text edits inclusive kind lo hi (range_refusal edits lo hi)
+scanned_ok edits inclusive kind lo hi edit values can granted at are =
+    ap (λ edit. scan_text edit inclusive kind (map (face_of kind) values)) at
+    ∙ ap (λ values. scan_text (length edits) inclusive kind (map (face_of kind) values)) are
+    ∙ ap (scan_text (length edits) inclusive kind) (shown_scan inclusive kind (slice_of edits lo hi) can)
+    ∙ ap (scanned_range_text edits inclusive kind lo hi) (sym granted)
+
+-- a scan, answered
+pub tells_scan : (s : StandingState) (inclusive : Bool) (kind : Kind) (lo hi : ℕ) (scan : Scan SixSummary) (jobs : List (Carried Six SixSummary)) → InLimits s.live.history → Scans program_operations (recorded s.live) lo hi inclusive (Ok scan)
+    → TellsScan (state_of s jobs) inclusive kind lo hi (scan_text scan.edit inclusive kind (map (face_of kind) scan.values)) (state_of s jobs)
+tells_scan s inclusive kind lo hi scan jobs limits is =
+    inl (scanned_ok s.live.history.journal inclusive kind lo hi scan.edit scan.values (can_fold_slice s.live.history lo hi limits) is.granted is.edit is.values_are, unchanged s jobs)
+
+-- a scan, refused
+pub tells_no_scan : (s : StandingState) (inclusive : Bool) (kind : Kind) (lo hi : ℕ) (refusal : Refusal) (jobs : List (Carried Six SixSummary)) → Scans program_operations (recorded s.live) lo hi inclusive (Err refusal)
+    → TellsScan (state_of s jobs) inclusive kind lo hi (refused_text refusal) (state_of s jobs)
+tells_no_scan s inclusive kind lo hi refusal jobs is =
+    elim is [
+      | inl refused ↦ inl (ap (scanned_range_text s.live.history.journal inclusive kind lo hi) (sym refused), unchanged s jobs)
+      | inr want ↦ inr (want.0, (ap refused_text want.1, unchanged s jobs))
+    ]
+
+-- a scan that was put whole
+pub scan_put : {T E : Type 0} (result : Result T E) (s : StandingState) (inclusive : Bool) (kind : Kind) (lo hi : ℕ) (scan : Scan SixSummary) (written : List ℕ → Type 0) → InLimits s.live.history → Scans program_operations (recorded s.live) lo hi inclusive (Ok scan)
+    → OnOk result (written (scan_text scan.edit inclusive kind (map (face_of kind) scan.values)))
+    → OnOk result ((text : List ℕ) × ((jobs : List (Carried Six SixSummary)) → TellsScan (state_of s jobs) inclusive kind lo hi text (state_of s jobs)) × written text)
+scan_put (Ok done) s inclusive kind lo hi scan written limits is put = (_, (λ jobs. tells_scan s inclusive kind lo hi scan jobs limits is), put)
+scan_put (Err fault) s inclusive kind lo hi scan written limits is put = put
+
+-- a scan of which a front was put
+pub scan_put_front : {T : Type 0} (result : Result T Fault) (s : StandingState) (inclusive : Bool) (kind : Kind) (lo hi : ℕ) (scan : Scan SixSummary) (written : List ℕ → Type 0) → InLimits s.live.history → Scans program_operations (recorded s.live) lo hi inclusive (Ok scan)
+    → IfErr result (λ fault. (fault ≡ WriteFault) × written (scan_text scan.edit inclusive kind (map (face_of kind) scan.values)))
+    → IfErr result (λ fault. (fault ≡ WriteFault) × (text : List ℕ) × ((jobs : List (Carried Six SixSummary)) → TellsScan (state_of s jobs) inclusive kind lo hi text (state_of s jobs)) × written text)
+scan_put_front (Ok done) s inclusive kind lo hi scan written limits is put = put
+scan_put_front (Err fault) s inclusive kind lo hi scan written limits is put = (put.0, _, (λ jobs. tells_scan s inclusive kind lo hi scan jobs limits is), put.1)
+
+module _ {S : Type 0} (step : S → ℕ → List ℕ → List ℕ → S → Type 0) where
+  -- a line that was answered once there was room is answered with what was held before
+  pub replies_after : {T E : Type 0} {a b : Option (List ℕ)} {h k : List ℕ} (c : Option (List ℕ)) (l : List ℕ) (result : Result T E) (old new : S) (n : ℕ) (line : List ℕ) → Writes a h b k [] → OnOk result ((reply : List ℕ) × step old n line reply new × Writes b k c l reply) → OnOk result (Replies step old n line new a h c l)
+  replies_after c l (Ok done) old new n line room (reply, answered, written) = record { reply = reply; answered = answered; written = Writes-trans room written }
+  replies_after c l (Err fault) old new n line room answered = answered
+
+  -- a reply of which a front was written, so
+  pub fails_after : {T : Type 0} {a b : Option (List ℕ)} {h k : List ℕ} (c : Option (List ℕ)) (result : Result T Fault) (old new : S) (n : ℕ) (line : List ℕ) → Writes a h b k [] → IfErr result (λ fault. (fault ≡ WriteFault) × (reply : List ℕ) × step old n line reply new × WritesFront b k c reply)
+      → IfErr result (λ fault. (fault ≡ WriteFault) × FailsToReply step old n line a h c)
+  fails_after c (Ok done) old new n line room answered = answered
+  fails_after c (Err fault) old new n line room (is, reply, answered, front) = (is, inr record { reply = reply; new = new; answered = answered; written = WritesFront-after room front })

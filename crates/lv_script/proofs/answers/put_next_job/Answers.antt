@@ -1,0 +1,21 @@
+use Rattle.std.proofs.Common.{◌≡◌, ◌+◌, ◌∙◌, None, Some, length, sym, ap, arith}
+use Rattle.lv_live.proofs.WorldLaws.{world_claim}
+use Rattle.lv_script.specs.Script.{program_operations}
+use Rattle.lv_script.proofs.EventLaws.{tells_claim}
+use Rattle.lv_script.proofs.answers.put_next_job.Goals as goal
+
+pub returns-in_default-clause-answer : goal.returns-in_default-clause-answer
+returns-in_default-clause-answer c =
+    (_, tells_claim c.args.standing.now c.claim.new.self None c.args.jobs.now.items c.in_default.ensures.next c.in_default.ensures.claimed c.in_default.ensures.queries, c.put_idle.ensures.text)
+
+pub returns-clause-answer : goal.returns-clause-answer
+returns-clause-answer c =
+    let count : c.len.result ≡ length c.args.jobs.now.items + 1 = omega (arith, c.len.ensures, c.push_reserved.ensures.len) in (
+      _,
+      rw c.push_reserved.ensures.items (tells_claim c.args.standing.now c.claim.new.self (Some c.in-Some.job) c.args.jobs.now.items c.in-Some.ensures.next c.in-Some.ensures.claimed c.in-Some.ensures.queries),
+      rw count at (rw c.node-node.ensures at (rw c.version-version.ensures at c.put_job.ensures.text)),
+    )
+
+pub returns-clause-world : goal.returns-clause-world
+returns-clause-world c = λ world.
+    rw c.push_reserved.ensures.items (world_claim program_operations c.args.standing.now.live c.claim.new.self.live (Some c.in-Some.job) c.args.jobs.now.items c.in-Some.ensures.claimed c.in-Some.ensures.body c.in-Some.ensures.honest world)

@@ -1,0 +1,16 @@
+use Rattle.std.proofs.Common.{◌≡◌, ap, ◌∙◌, inl, inr}
+use Rattle.lv_script.specs.Auditing.{edit_asked}
+use Rattle.lv_script.proofs.ReadTranscripts.{command_for, edit_asked-command_for, line_of-edit_line}
+use Rattle.lv_script.proofs.transcript_lines.likely_edit.Goals as goal
+
+pub returns-in-Do : goal.returns-in-Do
+returns-in-Do c = λ edit fits is.
+    let read = line_of-edit_line c.args.line.now c.in_ok-command.command.now edit fits c.in_ok-command.ensures.cases.1 is in
+    let same : c.in-Do.command ≡ command_for edit = cc (c.in-Do.ensures, read) in
+    c.edit_asked.ensures ∙ ap edit_asked same ∙ edit_asked-command_for edit
+
+pub returns-in-Nothing : goal.returns-in-Nothing
+returns-in-Nothing c = λ edit fits is.
+    let read = line_of-edit_line c.args.line.now c.in_ok-command.command.now edit fits c.in_ok-command.ensures.cases.1 is in
+    let line = c.read_line.ensures in
+    elim c.in-Nothing.is [ inl nothing ↦ absurd (cc (read, line, nothing)) | inr bad ↦ absurd (cc (read, line, bad)) ]

@@ -1,0 +1,274 @@
+ghost use Rattle.std.specs.Prelude.{◌≡◌, ◌⊎◌, ◌+◌, ◌*◌, ◌<◌, ◌≤◌, ◌++◌, false, List, ℕ, length, OnOk, vec_len, vec_capacity};
+ghost use Rattle.lv_bodies.specs.Six.{SixSummary};
+ghost use Rattle.lv_bodies.specs.declared.sixes.Six.{Six};
+ghost use Rattle.lv_refresh.specs.Carried.{Carried};
+ghost use Rattle.lv_reduce.specs.Answer.{range_refusal};
+ghost use Rattle.lv_live.specs.State.{IsWorld, job_at};
+ghost use Rattle.lv_live.specs.declared.events.Event.TheVariants as event;
+ghost use Rattle.lv_standing.specs.Queries.{query_of};
+ghost use Rattle.lv_script.specs.Script.{CommandAnswer, TellsEdit, TellsEvent, TellsUnwatch, TellsWatch, Tells, named_answer_text, notes_text, program_operations, reduced_text};
+ghost use Rattle.lv_script.specs.Scripted.{IsTask, is_scan, state_of};
+
+use crate::command::Command;
+use crate::refresh_replies::{put_accepted, put_cost, put_forgotten, put_idle, put_job};
+use crate::replies::{
+    LINE, put_answer, put_capacity, put_receipt, put_refusal, put_settled, put_size, put_value,
+};
+use crate::scans::{Asked, reduce};
+use crate::watch_replies::{put_named, put_note, put_unwatched, put_watching};
+use lv_bodies::{Kind, Six, face};
+use lv_edits::Edit;
+use lv_geometry::Refusal;
+use lv_refresh::Job;
+use lv_standing::{Name, Note, Standing};
+use std::alloc::Global;
+
+/// At most how many bytes a reply has, scans apart: a line, and a note for each of 64 queries.
+pub const ROOM: usize = 65 * LINE;
+
+/// What a command asks for: a scan, whose reply may be long, or anything else.
+#[derive(Clone, Copy)]
+pub enum Task {
+    Scan(Asked),
+    Other(Command),
+}
+
+/// What a command asks for.
+pub fn task_of(command: Command) -> Task
+    ensures { IsTask command result }
+{
+    match command {
+        Command::Inclusive { kind, lo, hi } => Task::Scan(Asked {
+            inclusive: true,
+            kind,
+            lo,
+            hi,
+        }),
+        Command::Exclusive { kind, lo, hi } => Task::Scan(Asked {
+            inclusive: false,
+            kind,
+            lo,
+            hi,
+        }),
+        other => Task::Other(other),
+    }
+}
+
+/// Answers a command that asks for no scan.
+pub fn answer(
+    alloc: Global,
+    standing: &mut Standing,
+    jobs: &mut Vec<Job<Six>>,
+    command: Command,
+    held: &mut Vec<u8>,
+)
+    requires world { IsWorld program_operations standing.old.live jobs.old.items }
+    requires room { vec_len held.old + ROOM ≤ vec_capacity held.old }
+    requires other { is_scan command ≡ false }
+    ensures answer { (reply : List ℕ) × CommandAnswer (state_of standing.old jobs.old.items) command reply (state_of standing.new jobs.new.items)
+        × (held.new.items ≡ held.old.items ++ reply) }
+    ensures world { IsWorld program_operations standing.new.live jobs.new.items }
+    ensures room { vec_capacity held.old ≤ vec_capacity held.new }
+{
+    match command {
+        Command::Push(x) => put_edit(alloc, standing, Edit::Push(x), held),
+        Command::Pop => put_edit(alloc, standing, Edit::Pop, held),
+        Command::Write { index, value } => put_edit(
+            alloc,
+            standing,
+            Edit::Write { index, value },
+            held,
+        ),
+        Command::Reserve(cells) => put_edit(alloc, standing, Edit::Reserve(cells), held),
+        Command::Settle => put_settle(standing, held),
+        Command::Get(i) => put_value(held, standing.live().get(i)),
+        Command::Size => put_size(held, standing.live().size(), standing.live().edit()),
+        Command::Capacity => put_capacity(held, standing.live().capacity()),
+        Command::Reduce { kind, lo, hi } => put_reduced(standing, kind, lo, hi, held),
+        Command::Cost { lo, hi } => put_reads(standing, lo, hi, held),
+        Command::Claim => put_claim(standing, jobs, held),
+        Command::Deliver(k) => put_delivery(standing, jobs, k, held),
+        Command::Forget => put_forget(standing, held),
+        Command::Watch { name, kind, lo, hi } => put_watch(standing, name, kind, lo, hi, held),
+        Command::Unwatch(name) => put_unwatch(standing, name, held),
+        Command::Answer(name) => put_named_answer(standing, name, held),
+        Command::Inclusive { .. } | Command::Exclusive { .. } => unreachable!(),
+    }
+}
+
+// Makes an edit: its receipt and its notes, or its refusal.
+fn put_edit(alloc: Global, standing: &mut Standing, edit: Edit, held: &mut Vec<u8>)
+    requires { vec_len held.old + ROOM ≤ vec_capacity held.old }
+    ensures answer { (reply : List ℕ) × ((jobs : List (Carried Six SixSummary)) → TellsEdit (state_of standing.old jobs) edit reply (state_of standing.new jobs))
+        × (held.new.items ≡ held.old.items ++ reply) }
+    ensures world { (jobs : List (Carried Six SixSummary)) → IsWorld program_operations standing.old.live jobs → IsWorld program_operations standing.new.live jobs }
+    ensures room { vec_capacity held.old ≤ vec_capacity held.new }
+{
+    match standing.edit(alloc, edit) {
+        Ok((receipt, notes)) => {
+            put_receipt(held, receipt);
+            put_notes(held, notes.as_slice());
+        }
+        Err(refusal) => put_refusal(held, refusal),
+    }
+}
+
+// Each note on a line.
+fn put_notes(held: &mut Vec<u8>, notes: &[Note])
+    requires { vec_len held.old + LINE * length notes.now ≤ vec_capacity held.old }
+    ensures text { held.new.items ≡ held.old.items ++ notes_text notes.now }
+    ensures room { vec_capacity held.old ≤ vec_capacity held.new }
+{
+    for note in notes {
+        put_note(held, note.name, note.value);
+    }
+}
+
+// Completes what is pending.
+fn put_settle(standing: &mut Standing, held: &mut Vec<u8>)
+    requires { vec_len held.old + ROOM ≤ vec_capacity held.old }
+    ensures answer { (reply : List ℕ) × ((jobs : List (Carried Six SixSummary)) → TellsEvent (state_of standing.old jobs) event.Settle reply (state_of standing.new jobs))
+        × (held.new.items ≡ held.old.items ++ reply) }
+    ensures world { (jobs : List (Carried Six SixSummary)) → IsWorld program_operations standing.old.live jobs → IsWorld program_operations standing.new.live jobs }
+    ensures room { vec_capacity held.old ≤ vec_capacity held.new }
+{
+    standing.settle();
+    put_settled(held);
+}
+
+// The value of a kind over a range, or why the range is refused.
+fn put_reduced(standing: &Standing, kind: Kind, lo: u32, hi: u32, held: &mut Vec<u8>)
+    requires { vec_len held.old + ROOM ≤ vec_capacity held.old }
+    ensures text { let edits = standing.now.live.history.journal in held.new.items ≡ held.old.items ++ reduced_text edits kind lo hi (range_refusal edits lo hi) }
+    ensures room { vec_capacity held.old ≤ vec_capacity held.new }
+{
+    match reduce(standing, lo, hi) {
+        Ok(answer) => put_answer(
+            held,
+            answer.edit,
+            kind,
+            face(&Six::program(), kind, answer.value),
+        ),
+        Err(refusal) => put_refusal(held, refusal),
+    }
+}
+
+// How many reads a reduction makes, or why its range is refused.
+fn put_reads(standing: &Standing, lo: u32, hi: u32, held: &mut Vec<u8>)
+    requires { vec_len held.old + ROOM ≤ vec_capacity held.old }
+    ensures answer { (reply : List ℕ) × ((jobs : List (Carried Six SixSummary)) → TellsEvent (state_of standing.now jobs) (event.Reduce lo hi) reply (state_of standing.now jobs))
+        × (held.new.items ≡ held.old.items ++ reply) }
+    ensures room { vec_capacity held.old ≤ vec_capacity held.new }
+{
+    match reduce(standing, lo, hi) {
+        Ok(answer) => put_cost(held, answer.cells_read, answer.summaries_read),
+        Err(refusal) => put_refusal(held, refusal),
+    }
+}
+
+// Claims a job, once there is room to keep it.
+fn put_claim(standing: &mut Standing, jobs: &mut Vec<Job<Six>>, held: &mut Vec<u8>)
+    requires { vec_len held.old + ROOM ≤ vec_capacity held.old }
+    ensures answer { (reply : List ℕ) × CommandAnswer (state_of standing.old jobs.old.items) Command.Claim reply (state_of standing.new jobs.new.items)
+        × (held.new.items ≡ held.old.items ++ reply) }
+    ensures world { IsWorld program_operations standing.old.live jobs.old.items → IsWorld program_operations standing.new.live jobs.new.items }
+    ensures room { vec_capacity held.old ≤ vec_capacity held.new }
+{
+    let Ok(()) = jobs.reserve(1) else {
+        put_refusal(held, Refusal::NoMemory);
+        return;
+    };
+    put_next_job(standing, jobs, held);
+}
+
+// Claims a job, and keeps it under its number.
+fn put_next_job(standing: &mut Standing, jobs: &mut Vec<Job<Six>>, held: &mut Vec<u8>)
+    requires held { vec_len held.old + ROOM ≤ vec_capacity held.old }
+    requires jobs { vec_len jobs.old < vec_capacity jobs.old }
+    ensures answer { (reply : List ℕ) × TellsEvent (state_of standing.old jobs.old.items) event.Claim reply (state_of standing.new jobs.new.items)
+        × (held.new.items ≡ held.old.items ++ reply) }
+    ensures world { IsWorld program_operations standing.old.live jobs.old.items → IsWorld program_operations standing.new.live jobs.new.items }
+    ensures room { vec_capacity held.old ≤ vec_capacity held.new }
+{
+    let Some(job) = standing.claim() else {
+        put_idle(held);
+        return;
+    };
+    let (node, version) = (job.node(), job.version());
+    jobs.push_reserved(job);
+    put_job(held, jobs.len() as u64, node, version);
+}
+
+// Delivers the outcome of a job, where there is one of that number.
+fn put_delivery(standing: &mut Standing, jobs: &[Job<Six>], k: u32, held: &mut Vec<u8>)
+    requires world { IsWorld program_operations standing.old.live jobs.now }
+    requires room { vec_len held.old + ROOM ≤ vec_capacity held.old }
+    ensures answer { (reply : List ℕ) × TellsEvent (state_of standing.old jobs.now) (event.Deliver k) reply (state_of standing.new jobs.now)
+        × (held.new.items ≡ held.old.items ++ reply) }
+    ensures world { IsWorld program_operations standing.new.live jobs.now }
+    ensures room { vec_capacity held.old ≤ vec_capacity held.new }
+{
+    match job_of_number(jobs, k) {
+        Some(job) => put_accepted(held, standing.accept(job.run())),
+        None => put_refusal(held, Refusal::NoJob),
+    }
+}
+
+// The job of a number, counted from 1, if there is one.
+fn job_of_number(jobs: &[Job<Six>], k: u32) -> Option<Job<Six>>
+    ensures { result ≡ job_at jobs.now k }
+{
+    jobs.get(k.checked_sub(1)? as usize).copied()
+}
+
+// Forgets all claims.
+fn put_forget(standing: &mut Standing, held: &mut Vec<u8>)
+    requires { vec_len held.old + ROOM ≤ vec_capacity held.old }
+    ensures answer { (reply : List ℕ) × ((jobs : List (Carried Six SixSummary)) → TellsEvent (state_of standing.old jobs) event.Forget reply (state_of standing.new jobs))
+        × (held.new.items ≡ held.old.items ++ reply) }
+    ensures world { (jobs : List (Carried Six SixSummary)) → IsWorld program_operations standing.old.live jobs → IsWorld program_operations standing.new.live jobs }
+    ensures room { vec_capacity held.old ≤ vec_capacity held.new }
+{
+    standing.forget_claims();
+    put_forgotten(held);
+}
+
+// Registers a query.
+fn put_watch(standing: &mut Standing, name: Name, kind: Kind, lo: u32, hi: u32, held: &mut Vec<u8>)
+    requires { vec_len held.old + ROOM ≤ vec_capacity held.old }
+    ensures answer { (reply : List ℕ) × ((jobs : List (Carried Six SixSummary)) → TellsWatch (state_of standing.old jobs) record { name = name; kind = kind; lo = lo; hi = hi } reply (state_of standing.new jobs))
+        × (held.new.items ≡ held.old.items ++ reply) }
+    ensures live { standing.new.live ≡ standing.old.live }
+    ensures room { vec_capacity held.old ≤ vec_capacity held.new }
+{
+    match standing.watch(name, kind, lo, hi) {
+        Ok(()) => put_watching(held, name),
+        Err(refusal) => put_refusal(held, refusal),
+    }
+}
+
+// Forgets a query.
+fn put_unwatch(standing: &mut Standing, name: Name, held: &mut Vec<u8>)
+    requires { vec_len held.old + ROOM ≤ vec_capacity held.old }
+    ensures answer { (reply : List ℕ) × ((jobs : List (Carried Six SixSummary)) → TellsUnwatch (state_of standing.old jobs) name (query_of standing.old.queries name) reply (state_of standing.new jobs))
+        × (held.new.items ≡ held.old.items ++ reply) }
+    ensures live { standing.new.live ≡ standing.old.live }
+    ensures room { vec_capacity held.old ≤ vec_capacity held.new }
+{
+    match standing.unwatch(name) {
+        Ok(()) => put_unwatched(held, name),
+        Err(refusal) => put_refusal(held, refusal),
+    }
+}
+
+// What a query answers.
+fn put_named_answer(standing: &Standing, name: Name, held: &mut Vec<u8>)
+    requires { vec_len held.old + ROOM ≤ vec_capacity held.old }
+    ensures text { held.new.items ≡ held.old.items ++ named_answer_text standing.now.live.history.journal name (query_of standing.now.queries name) }
+    ensures room { vec_capacity held.old ≤ vec_capacity held.new }
+{
+    match standing.answer(name) {
+        Ok(answered) => put_named(held, answered.edit, name, answered.value),
+        Err(refusal) => put_refusal(held, refusal),
+    }
+}

@@ -1,0 +1,284 @@
+ghost use Rattle.std.specs.Prelude.{◌≡◌, ◌≢◌, ◌↔◌, ◌+◌, ◌≤◌, ◌++◌, ◌⊎◌, [], IfOk, OnOk, MatchResult, IsTrue, length, take, vec_len, vec_capacity};
+ghost use Rattle.lv_edits.specs.History.{list_of};
+ghost use Rattle.lv_script.specs.Auditing.{AuditState, start_state, state_of, Audits, AuditStep, ClaimBecomes, EditBecomes, Becomes, FirstBecomes, IsAnswer, MayEnd, Takes, TakesEdit, TakesLater};
+ghost use Rattle.lv_script.specs.Transcript.{greatest, verdict_text, Audited};
+ghost use Rattle.lv_script.specs.declared.replies.TheConstants.{LINE};
+
+use crate::conversation::converse;
+use crate::fault::Fault;
+use crate::plain_ranges::plain_value_of;
+use crate::replies::{LINE, put_bad, put_shown};
+use crate::responder::Responder;
+use crate::sender::{put, put_number, send};
+use crate::transcript_lines::{Question, read_claim, read_edit};
+use lv_edits::{Edit, Edits};
+use lv_geometry::{Limits, Refusal};
+use std::alloc::{AllocError, Global};
+use std::io::{Read, Write};
+
+/// What an audit says of a transcript.
+#[derive(Clone, Copy, Debug, PartialEq, Eq, Hash)]
+pub enum Verdict {
+    /// It is sound.
+    Yes,
+    /// The line of this number is the first fault: it has the right form, and is false.
+    No(u32),
+    /// The line of this number is the first fault: it is not of the form that may stand there, or is missing.
+    Bad(u32),
+}
+
+/// Audits a transcript: reads it to its end, and writes the verdict as a line.
+///
+/// Each edit is made anew, and each claim's value is the left fold of the elements of its range, one by one. Memory
+/// grows with the journal, and not with the text. Nothing is written where a read fails or the input has more than
+/// 2^30 bytes, which is `ReadFault`, and where there is no memory, which is `NoMemory`. A failed write, and one that
+/// takes no byte, is `WriteFault`.
+pub fn audit<R: Read, W: Write>(
+    alloc: Global,
+    reader: &mut R,
+    writer: &mut W,
+) -> Result<Verdict, Fault>
+    ensures { Audited (R.remaining reader.old) (R.remaining reader.new) (W.contents writer.old) (W.contents writer.new) result }
+{
+    let Ok(mut auditor) = Auditor::new(alloc) else {
+        return Err(Fault::NoMemory);
+    };
+    let Ok(mut held) = Vec::with_capacity(alloc, LINE) else {
+        return Err(Fault::NoMemory);
+    };
+    converse(alloc, &mut auditor, reader, writer)?;
+    let verdict = auditor.verdict()?;
+    put_verdict(&mut held, verdict);
+    send(writer, &mut held)?;
+    Ok(verdict)
+}
+
+// Puts the line of a verdict behind what is held.
+fn put_verdict(held: &mut Vec<u8>, verdict: Verdict)
+    requires { vec_len held.old + LINE ≤ vec_capacity held.old }
+    ensures { held.new.items ≡ held.old.items ++ verdict_text verdict }
+{
+    match verdict {
+        Verdict::Yes => put(held, b"yes\n"),
+        Verdict::No(line) => {
+            put(held, b"no ");
+            put_number(held, line.into());
+            put(held, b"\n");
+        }
+        Verdict::Bad(line) => put_bad(held, line),
+    }
+}
+
+/// What comes next in an audit, or what it found.
+#[derive(Clone, Copy)]
+enum Stage {
+    /// The first line.
+    Start,
+    /// Edits, claims, or the last line.
+    Edits,
+    /// Claims, or the last line.
+    Claims,
+    /// Nothing: the last line was read.
+    End,
+    /// The line of this number is false.
+    No(u32),
+    /// The line of this number is not of the form that may stand there.
+    Bad(u32),
+    /// There was no memory for the edits.
+    NoMemory,
+}
+
+/// Reads the lines of a transcript, and keeps the first fault that it finds.
+#[derive(Drop)]
+struct Auditor {
+    stage: Stage,
+    lines: u32,
+    // All edits so far, and those up to the last claim.
+    edits: Edits,
+    replay: Edits,
+    // The text of the line that is read, or of its value.
+    text: Vec<u8>,
+    ghost limits: { edits.limits ≡ greatest },
+    ghost begins: { replay.journal ≡ take (length replay.journal) edits.journal },
+    ghost room: { LINE ≤ vec_capacity text },
+}
+
+impl Responder for Auditor {
+    ghost State = { AuditState };
+
+    ghost state = { λ a. state_of a.stage a.edits a.replay };
+
+    ghost step = { AuditStep };
+
+    fn respond<W: Write>(
+        &mut self,
+        number: u32,
+        line: &[u8],
+        _writer: &mut W,
+        _held: &mut Vec<u8>,
+    ) -> Result<(), Fault> {
+        self.take_line(number, line);
+        Ok(())
+    }
+}
+
+impl Auditor {
+    // Before the first line.
+    fn new(alloc: Global) -> Result<Auditor, AllocError>
+        ensures { IfOk result (λ a. state_of a.stage a.edits a.replay ≡ start_state) }
+    {
+        Ok(Auditor {
+            stage: Stage::Start,
+            lines: 0,
+            edits: Edits::new(alloc, Limits::greatest()),
+            replay: Edits::new(alloc, Limits::greatest()),
+            text: Vec::with_capacity(alloc, LINE)?,
+        })
+    }
+
+    // What was found, once all lines were read.
+    fn verdict(&self) -> Result<Verdict, Fault>
+        ensures { MatchResult result
+            (λ verdict. (self.now.stage ≢ Stage.NoMemory) × ((verdict ≡ Verdict.Yes) ↔ (self.now.stage ≡ Stage.End)))
+            (λ fault. fault ≡ Fault.NoMemory) }
+    {
+        match self.stage {
+            Stage::Start | Stage::Edits | Stage::Claims => {
+                Ok(Verdict::Bad(self.lines.saturating_add(1)))
+            }
+            Stage::End => Ok(Verdict::Yes),
+            Stage::No(line) => Ok(Verdict::No(line)),
+            Stage::Bad(line) => Ok(Verdict::Bad(line)),
+            Stage::NoMemory => Err(Fault::NoMemory),
+        }
+    }
+
+    // Takes a line, or finds the first fault.
+    fn take_line(&mut self, number: u32, line: &[u8])
+        ensures { Audits (state_of self.old.stage self.old.edits self.old.replay) line.now (state_of self.new.stage self.new.edits self.new.replay) }
+    {
+        self.lines = number;
+        match self.stage {
+            Stage::No(_) | Stage::Bad(_) | Stage::NoMemory => {}
+            Stage::Start | Stage::Edits | Stage::Claims | Stage::End => {
+                self.stage = self.next_stage(number, line);
+            }
+        }
+    }
+
+    // The stage behind a line.
+    fn next_stage(&mut self, number: u32, line: &[u8]) -> Stage
+        ensures { Becomes (Takes (state_of self.old.stage self.old.edits self.old.replay) line.now) (state_of result self.new.edits self.new.replay) }
+    {
+        if line.len() > 120 {
+            return Stage::Bad(number);
+        }
+        match self.stage {
+            Stage::Start => first_stage(number, line),
+            Stage::Edits => self.edit_or_later(number, line),
+            Stage::Claims => self.claim_or_last(number, line),
+            Stage::End | Stage::No(_) | Stage::Bad(_) | Stage::NoMemory => Stage::Bad(number),
+        }
+    }
+
+    // The stage behind a line that may be that of an edit.
+    fn edit_or_later(&mut self, number: u32, line: &[u8]) -> Stage
+        requires { self.old.stage ≡ Stage.Edits }
+        ensures { Becomes (λ new. TakesEdit (state_of self.old.stage self.old.edits self.old.replay) line.now new
+            ⊎ TakesLater (state_of self.old.stage self.old.edits self.old.replay) line.now new) (state_of result self.new.edits self.new.replay) }
+    {
+        match read_edit(line, &mut self.text) {
+            Some(edit) => self.take_edit(number, edit),
+            None => self.claim_or_last(number, line),
+        }
+    }
+
+    // Makes an edit, where that is possible.
+    fn take_edit(&mut self, number: u32, edit: Edit) -> Stage
+        ensures edit { EditBecomes self.old.edits.journal edit result self.new.edits.journal }
+        ensures replay { self.new.replay ≡ self.old.replay }
+    {
+        if self.edits.verdict(&edit).is_some() {
+            return Stage::No(number);
+        }
+        match self.edits.apply(edit) {
+            Ok(_) => Stage::Edits,
+            Err(_) => Stage::NoMemory,
+        }
+    }
+
+    // The stage behind a line that is not that of an edit.
+    fn claim_or_last(&mut self, number: u32, line: &[u8]) -> Stage
+        requires { MayEnd self.old.stage }
+        ensures { Becomes (TakesLater (state_of self.old.stage self.old.edits self.old.replay) line.now) (state_of result self.new.edits self.new.replay) }
+    {
+        if line == b"end".as_slice() {
+            return Stage::End;
+        }
+        match read_claim(line, &mut self.text) {
+            Some((question, value)) => self.take_claim(number, question, value),
+            None => Stage::Bad(number),
+        }
+    }
+
+    // Answers a claim's question anew, and compares.
+    fn take_claim(&mut self, number: u32, question: Question, value: &[u8]) -> Stage
+        ensures claim { ClaimBecomes self.old.edits.journal (length self.old.replay.journal) question value.now result (length self.new.replay.journal) }
+        ensures edits { self.new.edits ≡ self.old.edits }
+    {
+        if question.edit < self.replay.edit() {
+            return Stage::Bad(number);
+        }
+        if question.edit > self.edits.edit() {
+            return Stage::No(number);
+        }
+        if bring_up(&mut self.replay, self.edits.journal(), question.edit).is_err() {
+            return Stage::NoMemory;
+        }
+        if is_answer(&self.replay, question, value, &mut self.text) {
+            return Stage::Claims;
+        }
+        Stage::No(number)
+    }
+}
+
+// The stage behind a line that should be the first.
+fn first_stage(number: u32, line: &[u8]) -> Stage
+    ensures { FirstBecomes line.now result }
+{
+    if line == b"livevec 1".as_slice() {
+        return Stage::Edits;
+    }
+    Stage::Bad(number)
+}
+
+// Makes the edits of a journal up to one of them.
+fn bring_up(replay: &mut Edits, journal: &[Edit], edit: u32) -> Result<(), Refusal>
+    requires begins { replay.old.journal ≡ take (length replay.old.journal) journal.now }
+    requires before { length replay.old.journal ≤ edit }
+    requires within { edit ≤ length journal.now }
+    ensures begins { replay.new.journal ≡ take (length replay.new.journal) journal.now }
+    ensures reached { OnOk result (length replay.new.journal ≡ edit) }
+{
+    for i in replay.edit()..edit {
+        replay.apply(journal[i as usize])?;
+    }
+    Ok(())
+}
+
+// Whether a range lies in the list, and its value is this text.
+fn is_answer(replay: &Edits, question: Question, value: &[u8], text: &mut Vec<u8>) -> bool
+    requires { LINE ≤ vec_capacity text.old }
+    ensures answer { IsTrue result ↔ IsAnswer (list_of replay.now.journal) question value.now }
+    ensures room { LINE ≤ vec_capacity text.new }
+{
+    if question.lo > question.hi || question.hi > replay.size() {
+        return false;
+    }
+    text.clear();
+    put_shown(
+        text,
+        plain_value_of(replay, question.kind, question.lo, question.hi),
+    );
+    text.as_slice() == value
+}

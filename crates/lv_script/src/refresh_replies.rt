@@ -1,0 +1,72 @@
+ghost use Rattle.std.specs.Prelude.{◌≡◌, ◌+◌, ◌≤◌, ◌++◌, vec_len, vec_capacity};
+ghost use Rattle.lv_script.specs.Texts.{accepted_text, cost_text, forgotten_text, idle_text, job_text};
+
+use crate::replies::LINE;
+use crate::sender::{put, put_number};
+use lv_geometry::Node;
+use lv_summary::Accepted;
+
+/// How many cells and summaries a reduction reads.
+pub fn put_cost(held: &mut Vec<u8>, cells: u32, summaries: u32)
+    requires { vec_len held.old + LINE ≤ vec_capacity held.old }
+    ensures text { held.new.items ≡ held.old.items ++ cost_text cells summaries }
+    ensures room { vec_capacity held.old ≤ vec_capacity held.new }
+{
+    put(held, b"cells ");
+    put_number(held, cells.into());
+    put(held, b" summaries ");
+    put_number(held, summaries.into());
+    put(held, b"\n");
+}
+
+/// A job that is handed out: its number, and the node and the version that it is for.
+pub fn put_job(held: &mut Vec<u8>, number: u64, node: Node, version: u32)
+    requires { vec_len held.old + LINE ≤ vec_capacity held.old }
+    ensures text { held.new.items ≡ held.old.items ++ job_text number node version }
+    ensures room { vec_capacity held.old ≤ vec_capacity held.new }
+{
+    put(held, b"job ");
+    put_number(held, number);
+    put(held, b" node ");
+    put_number(held, node.level.into());
+    put(held, b" ");
+    put_number(held, node.number.into());
+    put(held, b" version ");
+    put_number(held, version.into());
+    put(held, b"\n");
+}
+
+/// That no node wants a job.
+pub fn put_idle(held: &mut Vec<u8>)
+    requires { vec_len held.old + LINE ≤ vec_capacity held.old }
+    ensures text { held.new.items ≡ held.old.items ++ idle_text }
+    ensures room { vec_capacity held.old ≤ vec_capacity held.new }
+{
+    put(held, b"idle\n");
+}
+
+/// What became of a result that was delivered.
+pub fn put_accepted(held: &mut Vec<u8>, accepted: Accepted)
+    requires { vec_len held.old + LINE ≤ vec_capacity held.old }
+    ensures text { held.new.items ≡ held.old.items ++ accepted_text accepted }
+    ensures room { vec_capacity held.old ≤ vec_capacity held.new }
+{
+    match accepted {
+        Accepted::Installed => put(held, b"installed\n"),
+        Accepted::Held => put(held, b"held\n"),
+        Accepted::Stale { now } => {
+            put(held, b"stale ");
+            put_number(held, now.into());
+            put(held, b"\n");
+        }
+    }
+}
+
+/// That every claim is void.
+pub fn put_forgotten(held: &mut Vec<u8>)
+    requires { vec_len held.old + LINE ≤ vec_capacity held.old }
+    ensures text { held.new.items ≡ held.old.items ++ forgotten_text }
+    ensures room { vec_capacity held.old ≤ vec_capacity held.new }
+{
+    put(held, b"forgotten\n");
+}

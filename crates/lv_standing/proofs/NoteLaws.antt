@@ -1,0 +1,85 @@
+-- The notes of an edit, one query after another.
+use Rattle.std.proofs.Common.{◌≡◌, ◌≢◌, ◌⊎◌, ℕ, ◌+◌, ◌-◌, ◌<◌, ◌≤◌, Option, Some, true, slice_get, take, drop, map, append_assoc, length-append, length-drop, List, [], ◌∷◌, ◌++◌, length, refl, ap, sym, subst, ◌∙◌, inl, inr, arith}
+use Rattle.std.proofs.lemmas.List.{append-nil, length-map, length-take-le, map-append, take_at}
+use Rattle.indexmap.specs.IndexMap.{set_value_at}
+use Rattle.lv_edits.specs.declared.edit.Edit.{Edit}
+use Rattle.lv_bodies.specs.declared.kinds.Shown.{Shown}
+use Rattle.lv_standing.specs.declared.notes.Note.{Note}
+use Rattle.lv_standing.specs.declared.watches.Watch.{Watch}
+use Rattle.lv_standing.specs.Queries.{AreNotes, Query, watch_answer}
+use Rattle.lv_standing.specs.Standings.{IsCurrent, IsToldAt, asked, has_index, queries_of, query_at, refreshed}
+use Rattle.lv_standing.proofs.EntryLaws.{asked_more, at_seam, front_is, rest_is, set_at_seam, set_same, there_is}
+
+module _ (old new : List Edit) where
+  -- the notes of some queries and those of one more are the notes of all
+  pub notes_more : (queries : List Query) (notes : List Note) (q : Query) (more : List Note) → AreNotes old new queries notes → AreNotes old new (q ∷ []) more → AreNotes old new (queries ++ q ∷ []) (notes ++ more)
+  notes_more [] notes q more none one = subst (λ ns. AreNotes old new (q ∷ []) (ns ++ more)) (sym none) one
+  notes_more (p ∷ queries) notes q more (inl same) one = inl (same.0, notes_more queries notes q more same.1 one)
+  notes_more (p ∷ queries) notes q more (inr told) one =
+      inr (told.0, told.1 ++ more, ap (λ ns. ns ++ more) told.2, notes_more queries told.1 q more told.3 one)
+
+  -- an answer that stays is not told
+  pub no_note : (q : Query) → watch_answer new q ≡ watch_answer old q → AreNotes old new (q ∷ []) []
+  no_note q same = inl (same, refl)
+
+  -- there are no more notes than queries
+  pub few_notes : (queries : List Query) (notes : List Note) → AreNotes old new queries notes → length notes ≤ length queries
+  few_notes [] notes none = omega (arith, ap length none)
+  few_notes (q ∷ queries) notes (inl same) = omega (arith, few_notes queries notes same.1)
+  few_notes (q ∷ queries) notes (inr told) = omega (arith, ap length told.2, few_notes queries told.1 told.3)
+
+  module _ (index : Option ℕ) (before : List (List ℕ × Watch)) (i : ℕ) (notes : List Note) (e : List ℕ × Watch) (at : slice_get before i ≡ Some e) where
+    -- an entry that keeps what it answers after leaves all as it was
+    pub told_nothing : IsCurrent old e → IsCurrent new e → IsToldAt index old new before before i notes notes e
+    told_nothing was is = record {
+      told = [];
+      notes_are = sym (append-nil notes);
+      are = no_note (query_at e) (sym is ∙ was);
+      few = omega arith;
+      entries = set_same before i e at ∙ ap (λ v. set_value_at before i (record e.1 { value = v })) is;
+    }
+
+  module _ (index : Option ℕ) (all current after : List (List ℕ × Watch)) (i : ℕ) (notes more : List Note) (e : List ℕ × Watch) (at : slice_get all i ≡ Some e) (inside : i < length all)
+      (so_far : current ≡ map (refreshed new) (take i all) ++ drop i all) (told : IsToldAt index old new current after i notes more e) where
+    -- a step from one entry to the next: the entries
+    pub told_entries : after ≡ map (refreshed new) (take (i + 1) all) ++ drop (i + 1) all
+    told_entries =
+        let front = map (refreshed new) (take i all) in
+        let rest = drop (i + 1) all in
+        let w = (refreshed new e).1 in
+        told.entries
+        ∙ ap (λ es. set_value_at es i w) (so_far ∙ ap (λ es. front ++ es) (rest_is all i e at))
+        ∙ set_at_seam front rest e i w (length-map (take i all) (refreshed new) ∙ length-take-le i all (omega arith))
+        ∙ sym (append_assoc front (refreshed new e ∷ []) rest)
+        ∙ ap (λ es. es ++ rest) (sym (ap (map (refreshed new)) (front_is all i e at) ∙ map-append (refreshed new) (take i all) (e ∷ [])))
+
+    -- the notes
+    pub told_notes : AreNotes old new (queries_of (take i all)) notes → AreNotes old new (queries_of (take (i + 1) all)) more
+    told_notes before =
+        let queries : queries_of (take (i + 1) all) ≡ queries_of (take i all) ++ query_at e ∷ [] = ap queries_of (front_is all i e at) ∙ map-append query_at (take i all) (e ∷ []) in
+        subst (λ qs. AreNotes old new qs more) (sym queries)
+        (subst (λ ns. AreNotes old new (queries_of (take i all) ++ query_at e ∷ []) ns) (sym told.notes_are) (notes_more (queries_of (take i all)) notes (query_at e) told.told before told.are))
+
+    -- and the room
+    pub told_room : (capacity : ℕ) → length notes + length (asked index (drop i all)) ≤ capacity → length more + length (asked index (drop (i + 1) all)) ≤ capacity
+    told_room capacity room =
+        omega (arith, ap length told.notes_are, length-append notes told.told, told.few, asked_more index e (drop (i + 1) all), ap (λ es. length (asked index es)) (rest_is all i e at))
+
+module _ (new : List Edit) (all current : List (List ℕ × Watch)) (i : ℕ) (inside : i < length all) (so_far : current ≡ map (refreshed new) (take i all) ++ drop i all) where
+  -- the entry at the index that a walk has come to is as it was
+  pub as_before : slice_get current i ≡ slice_get all i
+  as_before =
+      let there = there_is all i inside in
+      ap (λ es. slice_get es i) so_far
+      ∙ at_seam (map (refreshed new) (take i all)) (drop i all) i (length-map (take i all) (refreshed new) ∙ length-take-le i all (omega arith))
+      ∙ ap (λ es. slice_get es 0) (rest_is all i there.0 there.1)
+      ∙ sym there.1
+
+  -- and there are as many as before
+  pub as_long : length current ≡ length all
+  as_long =
+      omega (arith, ap length so_far, length-append (map (refreshed new) (take i all)) (drop i all), length-map (take i all) (refreshed new), length-take-le i all (omega arith), length-drop i all)
+
+-- all edits but the last
+pub before_last : (edits : List Edit) (edit : Edit) → take (length (edits ++ edit ∷ []) - 1) (edits ++ edit ∷ []) ≡ edits
+before_last edits edit = take_at edits (edit ∷ []) (length (edits ++ edit ∷ []) - 1) (omega (arith, length-append edits (edit ∷ [])))

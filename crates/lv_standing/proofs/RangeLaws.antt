@@ -1,0 +1,145 @@
+-- Ranges of a list that reach past its end, and what an edit elsewhere leaves of a range.
+use Rattle.std.proofs.Common.{◌≡◌, ℕ, ℤ, pos, zero, suc, ◌+◌, ◌-◌, ◌⊎◌, min, ◌<◌, ◌≤◌, Bool, true, false, List, [], ◌∷◌, ◌++◌, length, take, drop, slice_range, slice_set, Option, Some, None, cond, ltb, leb, ◌&&◌, refl, sym, ap, ◌∙◌, inl, inr, arith, length-drop, length-append, subst, get_or}
+use Rattle.std.proofs.lemmas.Bool.{cases_lt, lt-ltb, le-ltb, le-leb, and_parts, false≢true}
+use Rattle.std.proofs.lemmas.Option.{cond_some}
+use Rattle.std.proofs.lemmas.List.{take_all, take-append-le, drop-append-le, drop-set-lt, drop-set-add, take-set-le, take_more, length-take-le}
+use Rattle.std.proofs.lemmas.List.Elements.{All-take, All-drop}
+use Rattle.lv_geometry.specs.Bounds.{Bounds}
+use Rattle.lv_geometry.specs.Elements.{IsElement}
+use Rattle.lv_bodies.specs.Body.{CanFold}
+use Rattle.lv_edits.specs.declared.edit.Edit.{Edit}
+use Rattle.lv_edits.specs.declared.edit.Edit.TheVariants.{Push, Pop, Write, Reserve}
+use Rattle.lv_edits.specs.History.{History, applied, list_of, replayed}
+use Rattle.lv_edits.specs.Kept.{InLimits}
+use Rattle.lv_edits.specs.Verdict.{verdict_of}
+use Rattle.lv_edits.proofs.HistoryLaws.{accepted_is_possible, list_of-snoc}
+use Rattle.lv_standing.specs.Standings.{has_index, index_changed}
+
+-- past the end nothing is left
+drop_past : {A : Type 0} (xs : List A) (n : ℕ) → length xs ≤ n → drop n xs ≡ []
+drop_past [] zero h = refl
+drop_past [] (suc n) h = refl
+drop_past (x ∷ xs) zero h = absurd (omega (arith, h))
+drop_past (x ∷ xs) (suc n) h = drop_past xs n (omega (arith, h))
+
+-- of nothing nothing is taken
+take_of_nothing : {A : Type 0} (n : ℕ) → take {A = A} n [] ≡ []
+take_of_nothing zero = refl
+take_of_nothing (suc n) = refl
+
+-- a range that starts past the end is empty
+empty_past : {A : Type 0} (xs : List A) (lo hi : ℕ) → length xs ≤ lo → slice_range xs lo hi ≡ []
+empty_past xs lo hi h = ap (take (hi - lo)) (drop_past xs lo h) ∙ take_of_nothing (hi - lo)
+
+-- a range that ends where it starts, or before, is empty
+empty_backwards : {A : Type 0} (xs : List A) (lo hi : ℕ) → hi ≤ lo → slice_range xs lo hi ≡ []
+empty_backwards xs lo hi h = let none : hi - lo ≡ 0 = omega arith in ap (λ n. take n (drop lo xs)) none
+
+-- a range cut at the end has the same elements
+pub range_cut : {A : Type 0} (xs : List A) (lo hi lo' hi' : ℕ) → hi' ≡ min hi (length xs) → lo' ≡ min lo hi' → slice_range xs lo' hi' ≡ slice_range xs lo hi
+range_cut xs lo hi lo' hi' end start =
+    elim (cases_lt lo hi') [
+      | inl before ↦
+          let same : lo' ≡ lo = omega arith in
+          ap (λ n. slice_range xs n hi') same
+          ∙ (elim (cases_lt (length xs) hi) [
+            | inl past ↦
+                let last : hi' ≡ length xs = omega arith in
+                ap (λ n. slice_range xs lo n) last
+                ∙ take_all (length xs - lo) (drop lo xs) (omega (arith, length-drop lo xs))
+                ∙ sym (take_all (hi - lo) (drop lo xs) (omega (arith, length-drop lo xs)))
+            | inr inside ↦ let whole : hi' ≡ hi = omega arith in ap (λ n. slice_range xs lo n) whole
+          ])
+      | inr past ↦
+          empty_backwards xs lo' hi' (omega arith)
+          ∙ sym (elim (cases_lt (length xs) hi) [
+            | inl far ↦ empty_past xs lo hi (omega arith)
+            | inr inside ↦ empty_backwards xs lo hi (omega arith)
+          ])
+    ]
+
+-- a range of what a fold may go over is such
+pub range_can_fold : (h : History) (lo hi : ℕ) → InLimits h → CanFold (slice_range (list_of h.journal) lo hi)
+range_can_fold h lo hi limits = record {
+  few = omega (arith, length_of_range (list_of h.journal) lo hi, limits.few);
+  elements = All-take IsElement (hi - lo) (drop lo (list_of h.journal)) (All-drop IsElement lo (list_of h.journal) limits.elements);
+}
+  where
+    length_take : {A : Type 0} (n : ℕ) (xs : List A) → length (take n xs) ≤ length xs
+    length_take zero xs = omega arith
+    length_take (suc n) [] = omega arith
+    length_take (suc n) (x ∷ xs) = omega (arith, length_take n xs)
+
+    length_of_range : {A : Type 0} (xs : List A) (lo hi : ℕ) → length (slice_range xs lo hi) ≤ length xs
+    length_of_range xs lo hi = omega (arith, length_take (hi - lo) (drop lo xs), length-drop lo xs)
+
+-- a range without an index ends at or before it, or starts after it
+pub without_index : (lo hi i : ℕ) → has_index lo hi (Some i) ≡ false → (hi ≤ i) ⊎ (i < lo)
+without_index lo hi i h =
+    elim (cases_lt i lo) [
+      | inl after ↦ inr after
+      | inr from ↦ elim (cases_lt i hi) [
+        | inl before ↦ absurd (false≢true (sym h ∙ (ap (λ b. b && ltb i hi) (le-leb lo i from) ∙ lt-ltb i hi before)))
+        | inr past ↦ inl past
+      ]
+    ]
+
+-- one more element at the end leaves a range without its index
+more_elsewhere : {A : Type 0} (xs : List A) (x : A) (lo hi : ℕ) → (hi ≤ length xs) ⊎ (length xs < lo) → slice_range (xs ++ x ∷ []) lo hi ≡ slice_range xs lo hi
+more_elsewhere xs x lo hi (inr past) =
+    empty_past (xs ++ x ∷ []) lo hi (omega (arith, length-append xs (x ∷ []))) ∙ sym (empty_past xs lo hi (omega arith))
+more_elsewhere xs x lo hi (inl inside) =
+    elim (cases_lt lo hi) [
+      | inl before ↦
+          ap (take (hi - lo)) (drop-append-le lo xs (x ∷ []) (omega arith))
+          ∙ take-append-le (hi - lo) (drop lo xs) (x ∷ []) (omega (arith, length-drop lo xs))
+      | inr backwards ↦ empty_backwards (xs ++ x ∷ []) lo hi backwards ∙ sym (empty_backwards xs lo hi backwards)
+    ]
+
+-- another element at an index leaves a range without it
+set_elsewhere : {A : Type 0} (xs : List A) (i : ℕ) (x : A) (lo hi : ℕ) → (hi ≤ i) ⊎ (i < lo) → slice_range (slice_set xs i x) lo hi ≡ slice_range xs lo hi
+set_elsewhere xs i x lo hi (inr before) = ap (take (hi - lo)) (drop-set-lt lo xs i x before)
+set_elsewhere xs i x lo hi (inl past) =
+    elim (cases_lt lo hi) [
+      | inl order ↦
+          let there : lo + (i - lo) ≡ i = omega arith in
+          ap (λ j. take (hi - lo) (drop lo (slice_set xs j x))) (sym there)
+          ∙ ap (take (hi - lo)) (drop-set-add lo xs (i - lo) x)
+          ∙ take-set-le (hi - lo) (drop lo xs) (i - lo) x (omega arith)
+      | inr backwards ↦ empty_backwards (slice_set xs i x) lo hi backwards ∙ sym (empty_backwards xs lo hi backwards)
+    ]
+
+-- without its last element, a list has a range without that element's index
+fewer_elsewhere : {A : Type 0} (xs : List A) (d : A) (lo hi : ℕ) → 0 < length xs → (hi ≤ length xs - 1) ⊎ (length xs - 1 < lo) → slice_range (take (length xs - 1) xs) lo hi ≡ slice_range xs lo hi
+fewer_elsewhere xs d lo hi some apart =
+    let n = length xs - 1 in
+    let next : length xs ≡ n + 1 = omega arith in
+    let long : length (take n xs) ≡ n = length-take-le n xs (omega arith) in
+    let whole : xs ≡ take n xs ++ get_or xs n d ∷ [] = sym (take_all (length xs) xs (omega arith)) ∙ ap (λ k. take k xs) next ∙ take_more xs n d (omega arith) in
+    sym (more_elsewhere (take n xs) (get_or xs n d) lo hi (subst (λ k. (hi ≤ k) ⊎ (k < lo)) (sym long) apart)) ∙ ap (λ ys. slice_range ys lo hi) (sym whole)
+
+-- an edit leaves a range without the index that it changes
+applied_elsewhere : (xs ys : List ℤ) (e : Edit) (lo hi : ℕ) → applied xs e ≡ Some ys → has_index lo hi (index_changed (length xs) e) ≡ false → slice_range ys lo hi ≡ slice_range xs lo hi
+applied_elsewhere xs ys (Push x) lo hi made apart =
+    let same : xs ++ x ∷ [] ≡ ys = (cc) in
+    ap (λ zs. slice_range zs lo hi) (sym same) ∙ more_elsewhere xs x lo hi (without_index lo hi (length xs) apart)
+applied_elsewhere xs ys Pop lo hi made apart =
+    let parts = cond_some _ _ _ made in
+    elim (cases_lt 0 (length xs)) [
+      | inl some ↦ ap (λ zs. slice_range zs lo hi) (sym parts.1) ∙ fewer_elsewhere xs (pos 0) lo hi some (without_index lo hi (length xs - 1) apart)
+      | inr none ↦ absurd (false≢true (sym (le-ltb 0 (length xs) none) ∙ parts.0))
+    ]
+applied_elsewhere xs ys (Write i x) lo hi made apart =
+    let same = (cond_some _ _ _ made).1 in
+    ap (λ zs. slice_range zs lo hi) (sym same) ∙ set_elsewhere xs i x lo hi (without_index lo hi i apart)
+applied_elsewhere xs ys (Reserve n) lo hi made apart =
+    let same : xs ≡ ys = (cc) in
+    ap (λ zs. slice_range zs lo hi) (sym same)
+
+-- an accepted edit leaves a range without the index that it changes
+pub edit_elsewhere : (h : History) (e : Edit) (lo hi : ℕ) → replayed h.journal ≡ Some (list_of h.journal) → verdict_of h.limits h.journal e ≡ None
+    → has_index lo hi (index_changed (length (list_of h.journal)) e) ≡ false → slice_range (list_of (h.journal ++ e ∷ [])) lo hi ≡ slice_range (list_of h.journal) lo hi
+edit_elsewhere h e lo hi legal accepted apart =
+    let possible = accepted_is_possible h.limits h.journal e accepted in
+    let next = list_of-snoc h.journal e possible.0 legal possible.1 in
+    ap (λ zs. slice_range zs lo hi) next.1 ∙ applied_elsewhere (list_of h.journal) possible.0 e lo hi possible.1 apart

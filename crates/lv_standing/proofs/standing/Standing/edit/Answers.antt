@@ -1,0 +1,61 @@
+use Rattle.std.proofs.Common.{◌≡◌, ◌∙◌, ◌-◌, ◌++◌, [], ◌∷◌, None, List, ap, sym, subst, arith, length, take}
+use Rattle.std.specs.List.{AllByRecursion, slice_range}
+use Rattle.std.proofs.lemmas.List.{length-map}
+use Rattle.lv_bodies.specs.declared.sixes.Six.{Six}
+use Rattle.lv_bodies.specs.Six.{SixMeaning, six_meaning}
+use Rattle.lv_edits.specs.declared.edit.Edit.{Edit}
+use Rattle.lv_edits.specs.History.{History, list_of}
+use Rattle.lv_standing.specs.Queries.{AreNotes}
+use Rattle.lv_standing.specs.Standings.{IsCurrent, has_index, index_changed, queries_of, query_at, refreshed}
+use Rattle.lv_standing.proofs.EntryLaws.{all_refreshed, queries_refreshed}
+use Rattle.lv_standing.proofs.NoteLaws.{before_last, few_notes}
+use Rattle.lv_standing.proofs.RangeLaws.{edit_elsewhere}
+use Rattle.lv_standing.proofs.standing.Standing.edit.Goals as goal
+
+-- a history with one more edit, without that edit
+was : (old new : History) (edit : Edit) → new ≡ record old { journal = old.journal ++ edit ∷ [] } → take (length new.journal - 1) new.journal ≡ old.journal
+was old new edit grown =
+    ap (λ (h : History). take (length h.journal - 1) h.journal) grown ∙ before_last old.journal edit
+
+-- a body that is the same means the same
+still_six : (old new : Six) → new ≡ old → ◌≡◌ {A = SixMeaning} (tt, (tt, (tt, (tt, (tt, old.pairs.second.second.second.second.second.table))))) six_meaning
+    → ◌≡◌ {A = SixMeaning} (tt, (tt, (tt, (tt, (tt, new.pairs.second.second.second.second.second.table))))) six_meaning
+still_six old new same is = subst (λ (b : Six). ◌≡◌ {A = SixMeaning} (tt, (tt, (tt, (tt, (tt, b.pairs.second.second.second.second.second.table))))) six_meaning) (sym same) is
+
+pub tell-requires : goal.tell-requires
+tell-requires c =
+    let before = c.self.inside.live.history in
+    let after = c.apply.new.self.history in
+    let grown = c.in_ok-receipt.ensures.answer.journal in
+    let back = was before after c.args.edit grown in
+    let index : c.index_changed-index.result ≡ index_changed (length (list_of before.journal)) c.args.edit = c.index_changed-index.ensures ∙ ap (λ n. index_changed n c.args.edit) c.size.ensures in (
+      c.apply.ensures.limits,
+      (
+        still_six _ _ c.apply.ensures.refresh.body c.self.invariant.six,
+        (
+          (λ lo hi apart.
+              ap (λ (h : History). slice_range (list_of h.journal) lo hi) grown
+              ∙ edit_elsewhere before c.args.edit lo hi c.self.invariant.limits.legal c.in_ok-receipt.ensures.answer.verdict (sym (ap (has_index lo hi) index) ∙ apart)
+              ∙ ap (λ js. slice_range (list_of js) lo hi) (sym back)),
+          (
+            subst (λ js. AllByRecursion (IsCurrent js) c.self.inside.watches.entries) (sym back) c.self.invariant.current,
+            (c.in-Ok.ensures.items, omega (arith, c.count_asked.ensures, c.in-Ok.ensures.capacity)),
+          ),
+        ),
+      ),
+    )
+
+pub invariant_of-self-2 : goal.invariant_of-self-2
+invariant_of-self-2 c = record {
+  limits = c.apply.ensures.limits;
+  six = still_six _ _ c.apply.ensures.refresh.body c.self.invariant.six;
+  few = omega (arith, ap length c.tell.ensures.entries, length-map c.self.inside.watches.entries (refreshed c.apply.new.self.history.journal), c.self.invariant.few);
+  current = subst (AllByRecursion (IsCurrent c.apply.new.self.history.journal)) (sym c.tell.ensures.entries) (all_refreshed c.apply.new.self.history.journal c.self.inside.watches.entries);
+}
+
+pub returns-clause-few : goal.returns-clause-few
+returns-clause-few c =
+    omega (arith, few_notes _ _ (queries_of c.self.inside.watches.entries) c.tell.new.notes.items c.tell.ensures.notes, length-map c.self.inside.watches.entries query_at, c.self.invariant.few)
+
+pub returns-clause-queries : goal.returns-clause-queries
+returns-clause-queries c = rw (← c.self.view_is) (ap queries_of c.tell.ensures.entries ∙ queries_refreshed c.apply.new.self.history.journal c.self.inside.watches.entries)

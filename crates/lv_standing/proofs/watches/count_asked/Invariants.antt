@@ -1,0 +1,9 @@
+use Rattle.std.proofs.Common.{◌≡◌, ◌≤◌, length, take}
+use Rattle.lv_standing.specs.Standings.{asked}
+use Rattle.lv_standing.proofs.watches.count_asked.Given as goal
+
+abbrev pub invariant-loop-i : goal.invariant-loop-i
+invariant-loop-i l = record {
+  counted : l.count ≡ length (asked l.index (take l.i l.watches.entries));
+  few : l.count ≤ l.i;
+}

@@ -1,0 +1,45 @@
+use Rattle.std.proofs.Common.{◌≡◌, ◌∙◌, ◌+◌, ◌++◌, ap, sym, subst, arith, List, ℕ, Some, length, slice_get, take, drop, map, length-append, length-drop, vec_capacity, ◌<◌, ◌≤◌}
+use Rattle.std.proofs.lemmas.List.{length-map, length-take-le}
+use Rattle.lv_standing.specs.declared.watches.Watch.{Watch}
+use Rattle.lv_standing.specs.Standings.{IsCurrent, IsToldAt, asked, refreshed}
+use Rattle.lv_standing.proofs.EntryLaws.{all_at, asked_more, rest_is, there_is}
+use Rattle.lv_standing.proofs.NoteLaws.{as_before, as_long, told_entries, told_notes, told_room}
+use Rattle.lv_standing.proofs.watches.tell.Goals as goal
+
+pub tell_one-requires : goal.tell_one-requires
+tell_one-requires g c =
+    let new = c.args.live.now.history.journal in
+    let all = c.args.watches.now.entries in
+    let inside : c.loop-i.i < length all = omega (arith, c.len-i-end.ensures.len) in
+    let same : length c.loop-i.watches.entries ≡ length all = as_long new all c.loop-i.watches.entries c.loop-i.i inside c.loop-i.invariant.entries in
+    let kept = as_before new all c.loop-i.watches.entries c.loop-i.i inside c.loop-i.invariant.entries in (
+      c.requires.0,
+      (
+        c.requires.1.0,
+        (
+          c.requires.1.1.0,
+          (
+            omega (arith, inside, same),
+            (
+              (λ e at. all_at (IsCurrent g.old) all c.loop-i.i e c.requires.1.1.1.0 (sym kept ∙ at)),
+              (λ e at. omega (arith, c.loop-i.invariant.room, c.loop-i.notes.ok.0, asked_more c.args.index e (drop (c.loop-i.i + 1) all), ap (λ es. length (asked c.args.index es)) (rest_is all c.loop-i.i e (sym kept ∙ at)))),
+            ),
+          ),
+        ),
+      ),
+    )
+
+pub loop-i-preserved : goal.loop-i-preserved
+loop-i-preserved g c =
+    let new = c.args.live.now.history.journal in
+    let all = c.args.watches.now.entries in
+    let inside : c.loop-i.i < length all = omega (arith, c.len-i-end.ensures.len) in
+    let there = there_is all c.loop-i.i inside in
+    let kept = as_before new all c.loop-i.watches.entries c.loop-i.i inside c.loop-i.invariant.entries in
+    let told = c.tell_one.ensures.told there.0 (kept ∙ there.1) in
+    record {
+      entries = told_entries g.old new c.args.index all c.loop-i.watches.entries c.tell_one.new.watches.entries c.loop-i.i c.loop-i.notes.items c.tell_one.new.notes.items there.0 there.1 inside c.loop-i.invariant.entries told;
+      notes = told_notes g.old new c.args.index all c.loop-i.watches.entries c.tell_one.new.watches.entries c.loop-i.i c.loop-i.notes.items c.tell_one.new.notes.items there.0 there.1 inside c.loop-i.invariant.entries told c.loop-i.invariant.notes;
+      room = told_room g.old new c.args.index all c.loop-i.watches.entries c.tell_one.new.watches.entries c.loop-i.i c.loop-i.notes.items c.tell_one.new.notes.items there.0 there.1 inside c.loop-i.invariant.entries told (vec_capacity c.tell_one.new.notes)
+          (omega (arith, c.tell_one.ensures.capacity, c.loop-i.invariant.room));
+    }

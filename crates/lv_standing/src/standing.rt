@@ -1,0 +1,196 @@
+ghost use Rattle.std.specs.Prelude.{◌≡◌, ◌↔◌, ◌⊎◌, ◌≤◌, None, Some, IsTrue, IsSome, IfSome, IfOk, IfErr, OnOk, OnErr, List, [], ◌∷◌, ◌++◌, length, option_map};
+ghost use Rattle.lv_geometry.specs.declared.nodes.Node.{Node};
+ghost use Rattle.lv_bodies.specs.Six.{SixMeaning, six_meaning, six_operations};
+ghost use Rattle.lv_edits.specs.Kept.{InLimits};
+ghost use Rattle.lv_edits.specs.Verdict.{Accepts, Refuses};
+ghost use Rattle.lv_refresh.specs.Claim.{IsNextJob};
+ghost use Rattle.lv_refresh.specs.Delivery.{delivery_of};
+ghost use Rattle.lv_refresh.specs.Honesty.{IsHonest, Vouched};
+ghost use Rattle.lv_live.specs.State.{HasClaim, HasDelivery, HasNoClaims, SameLive, SameRefresh, name_of, recorded};
+ghost use Rattle.lv_standing.specs.Queries.{AreNotes, Query, query_of, watch_answer, watch_refusal, without_query};
+
+use crate::names::Name;
+use crate::notes::{Answered, Note};
+use crate::watches::{Watch, ask, count_asked, index_changed, tell};
+use indexmap::IndexMap;
+use lv_bodies::{Body, Kind, Six};
+use lv_edits::{Edit, Receipt};
+use lv_geometry::{Limits, Refusal};
+use lv_live::Live;
+use lv_refresh::{Job, Outcome};
+use lv_summary::Accepted;
+use std::alloc::Global;
+use std::marker::Model;
+
+/// A live vector of all six bodies, with standing queries by name.
+#[derive(Drop)]
+pub struct Standing {
+    live: Live<Six>,
+    watches: IndexMap<Name, Watch>,
+}
+
+impl Model for Standing {
+    ghost use Rattle.lv_standing.specs.Standings.{IsStanding, StandingState, queries_of};
+
+    ghost Value = { StandingState };
+
+    ghost view = { λ a. record { live = a.live; queries = queries_of a.watches.entries } };
+
+    ghost invariant = { λ a. IsStanding (⟦<Six as Body>⟧.meaning a.live.body) a.live a.watches.entries };
+}
+
+impl Standing {
+    /// An empty vector, and no queries. Takes no memory.
+    pub fn new(alloc: Global, limits: Limits) -> Standing
+        ensures history { result.live.history ≡ record { limits = limits; journal = [] } }
+        ensures limits { InLimits result.live.history }
+        ensures queries { result.queries ≡ [] }
+        ensures unclaimed { (n : Node) → (recorded result.live).claimed n ≡ None }
+        ensures nothing_kept { (n : Node) → (recorded result.live).kept n ≡ None }
+    {
+        Standing {
+            live: Live::new(alloc, limits, Six::program()),
+            watches: IndexMap::new(alloc),
+        }
+    }
+
+    /// Registers a query. Refused with `BadRange`, `NameTaken`, `TooMany`, then `NoMemory`. The range may reach past the end:
+    /// what of it exists is asked.
+    pub fn watch(&mut self, name: Name, kind: Kind, lo: u32, hi: u32) -> Result<(), Refusal>
+        ensures ok { OnOk result ((watch_refusal self.old.queries name lo hi ≡ None)
+            × (self.new.queries ≡ self.old.queries ++ record { name = name; kind = kind; lo = lo; hi = hi } ∷ [])) }
+        ensures err { IfErr result (λ refusal. (watch_refusal self.old.queries name lo hi ≡ Some refusal)
+            ⊎ ((watch_refusal self.old.queries name lo hi ≡ None) × (refusal ≡ Refusal.NoMemory))) }
+        ensures unchanged { OnErr result (self.new.queries ≡ self.old.queries) }
+        ensures live { self.new.live ≡ self.old.live }
+    {
+        if lo > hi {
+            return Err(Refusal::BadRange);
+        }
+        if self.watches.contains_key(&name) {
+            return Err(Refusal::NameTaken);
+        }
+        if self.watches.len() >= 64 {
+            return Err(Refusal::TooMany);
+        }
+        let watch = Watch {
+            kind,
+            lo,
+            hi,
+            value: ask(&self.live, kind, lo, hi),
+        };
+        let Ok(_) = self.watches.insert(name, watch) else {
+            return Err(Refusal::NoMemory);
+        };
+        Ok(())
+    }
+
+    /// Forgets a query; the others keep their order. Refused with `NoSuchName`.
+    pub fn unwatch(&mut self, name: Name) -> Result<(), Refusal>
+        ensures ok { OnOk result (IsSome (query_of self.old.queries name) × (self.new.queries ≡ without_query self.old.queries name)) }
+        ensures err { IfErr result (λ refusal. (query_of self.old.queries name ≡ None) × (refusal ≡ Refusal.NoSuchName)) }
+        ensures unchanged { OnErr result (self.new.queries ≡ self.old.queries) }
+        ensures live { self.new.live ≡ self.old.live }
+    {
+        // A map's keys are distinct, so that no second entry has the name.
+        let _ = self.watches.len();
+        let Some(_) = self.watches.shift_remove(&name) else {
+            return Err(Refusal::NoSuchName);
+        };
+        Ok(())
+    }
+
+    /// What a query answers at the last edit. Refused with `NoSuchName`.
+    pub fn answer(&self, name: Name) -> Result<Answered, Refusal>
+        ensures ok { IfOk result (λ answered. (q : Query) × (query_of self.now.queries name ≡ Some q)
+            × (answered.edit ≡ length self.now.live.history.journal) × (answered.value ≡ watch_answer self.now.live.history.journal q)) }
+        ensures err { IfErr result (λ refusal. (query_of self.now.queries name ≡ None) × (refusal ≡ Refusal.NoSuchName)) }
+    {
+        match self.watches.get(&name) {
+            Some(watch) => Ok(Answered {
+                edit: self.live.edit(),
+                value: watch.value,
+            }),
+            None => Err(Refusal::NoSuchName),
+        }
+    }
+
+    /// Makes an edit, and tells of each query whose answer it changed, in order of registration, with the answer after. Refused
+    /// as the vector's verdict says, then with `NoMemory`: the room for the notes is made before the edit.
+    pub fn edit(&mut self, alloc: Global, edit: Edit) -> Result<(Receipt, Vec<Note>), Refusal>
+        ensures ok { IfOk result (λ told. Accepts self.old.live.history edit told.0 self.new.live.history) }
+        ensures err { IfErr result (λ refusal. Refuses self.old.live.history edit refusal self.new.live.history) }
+        ensures notes { IfOk result (λ told. AreNotes self.old.live.history.journal self.new.live.history.journal self.old.queries told.1.items) }
+        ensures few { IfOk result (λ told. length told.1.items ≤ 64) }
+        ensures limits { InLimits self.new.live.history }
+        ensures refresh { SameRefresh self.old.live self.new.live }
+        ensures queries { self.new.queries ≡ self.old.queries }
+    {
+        if let Some(refusal) = self.live.verdict(&edit) {
+            return Err(refusal);
+        }
+        let index = index_changed(&edit, self.live.size());
+        let Ok(mut notes) = Vec::with_capacity(alloc, count_asked(&self.watches, index)) else {
+            return Err(Refusal::NoMemory);
+        };
+        let receipt = self.live.apply(edit)?;
+        tell(&self.live, &mut self.watches, index, &mut notes);
+        Ok((receipt, notes))
+    }
+
+    /// The live vector.
+    pub fn live(&self) -> &Live<Six>
+        ensures value { result.now ≡ self.now.live }
+        ensures program { ◌≡◌ {A = SixMeaning} (⟦<Six as Body>⟧.meaning self.now.live.body) six_meaning }
+        ensures limits { InLimits self.now.live.history }
+    {
+        &self.live
+    }
+
+    /// Completes what is pending. Changes no answer.
+    pub fn settle(&mut self)
+        ensures live { SameLive self.old.live self.new.live }
+        ensures queries { self.new.queries ≡ self.old.queries }
+    {
+        self.live.settle();
+    }
+
+    /// A job for the least node that wants one, or none. Takes no memory.
+    pub fn claim(&mut self) -> Option<Job<Six>>
+        ensures next { IsNextJob (recorded self.old.live) (option_map name_of result) }
+        ensures claimed { HasClaim self.old.live self.new.live (option_map name_of result) }
+        ensures body { IfSome result (λ job. job.body ≡ self.old.live.body) }
+        ensures honest { IfSome result (λ job. IsHonest (six_operations six_meaning)
+            (recorded self.new.live) job.node job.version job.contents) }
+        ensures queries { self.new.queries ≡ self.old.queries }
+    {
+        self.live.claim()
+    }
+
+    /// Forgets all claims. Jobs that were handed out stay good. Takes no memory.
+    pub fn forget_claims(&mut self)
+        ensures live { HasNoClaims self.old.live self.new.live }
+        ensures queries { self.new.queries ≡ self.old.queries }
+    {
+        self.live.forget_claims();
+    }
+
+    /// Whether an outcome may be accepted. Yes for each outcome of a job that this vector handed out. Takes no memory.
+    pub fn vet(&self, outcome: &Outcome<Six>) -> bool
+        ensures { IsTrue result ↔ Vouched (six_operations six_meaning) (recorded self.now.live)
+            (⟦<Six as Body>⟧.meaning self.now.live.body ≡ ⟦<Six as Body>⟧.meaning outcome.now.body) outcome.now.node outcome.now.version outcome.now.contents }
+    {
+        self.live.vet(outcome)
+    }
+
+    /// Takes an outcome in: it is stale, or held already, or its summary is installed. Takes no memory.
+    pub fn accept(&mut self, outcome: Outcome<Six>) -> Accepted
+        requires { Vouched (six_operations six_meaning) (recorded self.old.live)
+            (⟦<Six as Body>⟧.meaning self.old.live.body ≡ ⟦<Six as Body>⟧.meaning outcome.body) outcome.node outcome.version outcome.contents }
+        ensures accepted { result ≡ delivery_of (recorded self.old.live) outcome.node outcome.version }
+        ensures delivered { HasDelivery self.old.live self.new.live outcome.node outcome.version result }
+        ensures queries { self.new.queries ≡ self.old.queries }
+    {
+        self.live.accept(outcome)
+    }
+}
