@@ -1,5 +1,5 @@
 # try: builds without proofs and answers standard input, at once.  build: proves, then builds.  run: runs what build made.
-# test: the gate.  bench: figures beside plain Rust.  fmt, clean: as ever.
+# test: the gate, and the examples.  bench: figures beside plain Rust.  fmt, clean: as ever.
 PROGRAM = crates/livevec/out/livevec
 
 .PHONY: try build run test bench fmt clean
@@ -19,6 +19,7 @@ $(PROGRAM):
 
 test:
 	rt ci
+	examples/check
 
 bench: build
 	@bench/run

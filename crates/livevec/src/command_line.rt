@@ -1,5 +1,8 @@
 //! The command line: its commands, options and texts.
 
+ghost use Rattle.std.specs.Prelude.{◌≡◌};
+ghost use Rattle.lv_geometry.specs.Bounds.{AreAllowed};
+
 use crate::help;
 use clap::{Arg, ArgAction, ArgMatches, Command, value_parser};
 use lv_geometry::Limits;
@@ -20,6 +23,13 @@ pub fn command<'a>(alloc: Global) -> Result<Command<'a>, AllocError> {
 pub fn limits(matches: &ArgMatches<'_>) -> Limits {
     let buckets = matches.get_one::<u32>("buckets").unwrap_or(17);
     let edits = matches.get_one::<u32>("edits").unwrap_or(16_777_215);
+    limits_of(buckets, edits)
+}
+
+// The limits of these numbers, where they are allowed.
+fn limits_of(buckets: u32, edits: u32) -> Limits
+    ensures { AreAllowed buckets edits → (result.buckets ≡ buckets) × (result.edits ≡ edits) }
+{
     Limits::new(buckets, edits).unwrap_or(Limits::greatest())
 }
 

@@ -2,6 +2,8 @@
 //! nothing else.
 #![tactic(auto)]
 
+ghost use Rattle.std.specs.Prelude.{◌≡◌, ◌≢◌};
+
 mod command_line;
 mod help;
 
@@ -56,9 +58,18 @@ fn obey<R: AllocGlobal + Input + Print>(rt: &R, matches: &ArgMatches<'_>) -> Res
         )?;
         return Ok(0);
     }
-    match audit(rt.alloc(), &mut reader, &mut writer)? {
-        Verdict::Yes => Ok(0),
-        Verdict::No(_) | Verdict::Bad(_) => Ok(1),
+    let verdict = audit(rt.alloc(), &mut reader, &mut writer)?;
+    Ok(status_of(verdict))
+}
+
+// The status that tells of a verdict.
+fn status_of(verdict: Verdict) -> u8
+    ensures sound { verdict ≡ Verdict.Yes → result ≡ 0 }
+    ensures unsound { verdict ≢ Verdict.Yes → result ≡ 1 }
+{
+    match verdict {
+        Verdict::Yes => 0,
+        Verdict::No(_) | Verdict::Bad(_) => 1,
     }
 }
 
