@@ -14,6 +14,6 @@ invariant_of-self-2 c =
     let t = c.self.inside.table in
     let old = c.self.inside.claims in
     kept_installed c.self.inside.cells t c.install-accepted.new.self c.claim.new.self c.hint_parent.new.self (record_of es t old) c.node-node.result c.version.result c.summary.result c.run-outcome.result.contents
-    c.size-size.ensures.limits refl (rw (c.node-node.ensures, c.run-outcome.ensures) c.in_ok-job.ensures.job) c.summary.ensures (sym c.in-Installed.ensures.answer) c.in-Installed.ensures.after
+    c.size-size.ensures.limits refl (rw (c.node-node.ensures.value, c.run-outcome.ensures) c.in_ok-job.ensures.job) c.summary.ensures (sym c.in-Installed.ensures.answer) c.in-Installed.ensures.after
     c.hint_parent.ensures.claimed c.hint_parent.ensures.hints c.hint_parent.ensures.blocks
     (kept_claimed es t old c.claim.new.self c.in_ok-job.ensures.hints c.in_ok-job.ensures.blocks c.self.invariant)
