@@ -1,5 +1,5 @@
 -- What an outcome that is vouched for brings, and what a claim takes.
-use Rattle.std.proofs.Common.{◌≡◌, ◌≢◌, ◌⊎◌, ◌↔◌, ℕ, ◌+◌, ◌*◌, ◌^◌, ◌<◌, ◌≤◌, Bool, true, false, ◌&&◌, ◌||◌, IsTrue, cond, Option, Some, None, option_map, IfSome, IfNone, List, length, if◌then◌else◌, refl, sym, ap, ◌∙◌, inl, inr, arith}
+use Rattle.std.proofs.Common.{◌≡◌, ◌↔◌, ℕ, ◌+◌, ◌*◌, ◌^◌, ◌≤◌, Bool, true, false, ◌&&◌, ◌||◌, IsTrue, cond, Option, Some, None, option_map, IfSome, IfNone, if◌then◌else◌, refl, sym, ap, ◌∙◌, arith}
 use Rattle.std.proofs.lemmas.Bool.{and_from, and_parts, le-leb, leb-true, or_left, or_right}
 use Rattle.lv_geometry.specs.declared.nodes.Node.{Node}
 use Rattle.lv_geometry.specs.Nodes.{is_below, is_node, parent}
@@ -17,7 +17,6 @@ use Rattle.lv_refresh.specs.Claimed.{ClaimTable, claim_blocks, claimed_in, is_hi
 use Rattle.lv_refresh.specs.Contents.{fold_of_contents}
 use Rattle.lv_refresh.specs.Honesty.{IsHonest, Stands, Vouched}
 use Rattle.lv_refresh.proofs.HonestyLaws.{fold_of_standing, honest_at_claim, honest_same}
-use Rattle.lv_live.specs.Follows.{ClaimsAlike}
 use Rattle.lv_live.specs.State.{HasClaim, HasDelivery, IsLive, LiveState, name_of, recorded}
 use Rattle.lv_live.proofs.LiveLaws.{live_after_install}
 

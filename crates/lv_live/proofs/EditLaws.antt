@@ -1,22 +1,18 @@
 -- What an accepted edit asks of table and claims.
-use Rattle.std.proofs.Common.{◌≡◌, ◌≢◌, ℕ, ◌+◌, ◌-◌, ◌*◌, ◌/◌, ◌<◌, ◌≤◌, Option, Some, None, option_map, List, length, refl, sym, ap, ◌∙◌, arith}
-use Rattle.std.specs.Prelude.{ℤ}
+use Rattle.std.proofs.Common.{◌≡◌, ℕ, ◌*◌, ◌≤◌, Option, None, option_map, length, refl, ap, ◌∙◌, arith}
 use Rattle.std.proofs.lemmas.Option.{none-some, same_Some}
-use Rattle.lv_geometry.specs.Bounds.{Bounds}
-use Rattle.lv_geometry.specs.declared.nodes.Node.{Node}
-use Rattle.lv_bodies.specs.Body.{Operations}
 use Rattle.lv_edits.specs.declared.edit.Edit.{Edit}
 use Rattle.lv_edits.specs.declared.edit.Edit.TheVariants.{Push, Pop, Write, Reserve}
 use Rattle.lv_edits.specs.History.{History, list_of, with_edit}
 use Rattle.lv_edits.specs.Kept.{InLimits}
 use Rattle.lv_edits.specs.Touch.{index_written}
-use Rattle.lv_edits.specs.Verdict.{refused_on, verdict_of}
+use Rattle.lv_edits.specs.Verdict.{verdict_of}
 use Rattle.lv_edits.proofs.Buckets.{capacity_of_most}
 use Rattle.lv_edits.proofs.HistoryLaws.{accepted_is_possible, list_of-snoc, not_refused, unrefused_push, unrefused_write}
-use Rattle.lv_summary.specs.Table.{AnswersAlike, Table, blocks_in, kept_in}
-use Rattle.lv_refresh.specs.Claimed.{ClaimTable, claim_blocks, claimed_in}
+use Rattle.lv_summary.specs.Table.{AnswersAlike, Table}
+use Rattle.lv_refresh.specs.Claimed.{ClaimTable}
 use Rattle.lv_live.specs.Follows.{ClaimsAlike, ClaimsFollow, HasBlock, HasRow, TableFollows}
-use Rattle.lv_live.specs.State.{IsLive, LiveState, SameRefresh, recorded}
+use Rattle.lv_live.specs.State.{LiveState, SameRefresh}
 use Rattle.lv_live.proofs.LiveLaws.{kept_followed, room_after}
 
 -- an accepted edit writes, if anywhere, at an index that a vector can have

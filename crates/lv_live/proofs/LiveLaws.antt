@@ -1,14 +1,14 @@
 -- What a live vector keeps through each of its changes.
-use Rattle.std.proofs.Common.{◌≡◌, ◌≢◌, ◌⊎◌, ℕ, ◌+◌, ◌-◌, ◌*◌, ◌/◌, ◌^◌, ◌<◌, ◌≤◌, Bool, true, false, ◌&&◌, ◌||◌, not, cond, Option, Some, None, option_map, List, [], ◌∷◌, ◌++◌, length, nat_eq, if◌then◌else◌, refl, sym, ap, ◌∙◌, inl, inr, arith}
+use Rattle.std.proofs.Common.{◌≡◌, ℕ, ◌+◌, ◌-◌, ◌*◌, ◌^◌, ◌≤◌, Bool, true, false, ◌&&◌, cond, Option, Some, None, option_map, List, [], ◌∷◌, ◌++◌, length, nat_eq, if◌then◌else◌, refl, sym, ap, ◌∙◌, inl, inr, arith}
 use Rattle.std.specs.Prelude.{ℤ}
 use Rattle.std.specs.Option.{option_map_or}
 use Rattle.std.proofs.lemmas.List.{length-set, length-take, length_push}
 use Rattle.std.proofs.lemmas.Option.{cond_some, same_Some}
 use Rattle.std.proofs.Math.Nat.{one-le-pow}
-use Rattle.std.proofs.lemmas.Bool.{and_from, and_parts, cases_Bool, cond-false, cond-true, eq-eqb, eqb-true, le-leb, leb-true, true≢false}
+use Rattle.std.proofs.lemmas.Bool.{and_parts, cases_Bool, le-leb, leb-true, true≢false}
 use Rattle.lv_geometry.specs.declared.nodes.Node.{Node}
 use Rattle.lv_geometry.specs.Nodes.{covers, is_below, is_node, parent}
-use Rattle.lv_bodies.specs.Body.{BodyLaws, Operations, fold_of}
+use Rattle.lv_bodies.specs.Body.{Operations, fold_of}
 use Rattle.lv_edits.specs.declared.edit.Edit.{Edit}
 use Rattle.lv_edits.specs.declared.edit.Edit.TheVariants.{Push, Pop, Write, Reserve}
 use Rattle.lv_edits.specs.History.{History, applied, list_of, replayed, with_edit}
@@ -18,16 +18,15 @@ use Rattle.lv_edits.specs.Verdict.{verdict_of}
 use Rattle.lv_edits.proofs.HistoryLaws.{accepted_is_possible, list_of_replayed, list_of-snoc, replayed-nil}
 use Rattle.lv_summary.specs.declared.accepted.Accepted.TheVariants.{Held, Installed, Stale}
 use Rattle.lv_summary.specs.Agrees.{Agrees}
-use Rattle.lv_summary.specs.Table.{AnswersAlike, HasSize, Keeps, Table, Touches, blocks_in, delivery_in, fresh_in, has_version, kept_in, same_node, touched_in, whole_in}
+use Rattle.lv_summary.specs.Table.{AnswersAlike, Keeps, Table, delivery_in, fresh_in, has_version, kept_in, same_node, touched_in, whole_in}
 use Rattle.lv_summary.proofs.AgreesLaws.{agrees_after_size, agrees_after_touch, agrees_alike, agrees_empty, agrees_installed, same_node-eq}
-use Rattle.lv_refresh.specs.Claim.{wants_job}
 use Rattle.lv_refresh.specs.Claimed.{AreHints, ClaimTable, claim_blocks, claimed_in, is_hinted, record_of}
 use Rattle.lv_refresh.specs.Delivery.{delivery_of}
-use Rattle.lv_refresh.specs.Record.{Record, SameRecord, is_fresh, is_version}
+use Rattle.lv_refresh.specs.Record.{SameRecord, is_fresh, is_version}
 use Rattle.lv_refresh.proofs.HonestyLaws.{whole_of_wanted}
 use Rattle.lv_refresh.proofs.WantLaws.{wants_before_edit, wants_before_install, wants_job-same}
 use Rattle.lv_live.specs.Follows.{ClaimsAlike, ClaimsFollow, HasRow, TableFollows}
-use Rattle.lv_live.specs.State.{IsLive, LiveState, SameLive, recorded}
+use Rattle.lv_live.specs.State.{IsLive, LiveState, recorded}
 
 -- what is kept has a version where its version is that
 same_version : {S : Type 0} (v : ℕ) (kept : Option (ℕ × S)) → has_version v kept ≡ is_version v (option_map (λ kept. kept.0) kept)

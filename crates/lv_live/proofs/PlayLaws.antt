@@ -1,6 +1,5 @@
 -- What the loop over events keeps.
-use Rattle.std.proofs.Common.{◌≡◌, ℕ, ◌+◌, ◌-◌, ◌<◌, ◌≤◌, Option, Some, None, List, [], ◌∷◌, ◌++◌, length, take, refl, sym, ap, ◌∙◌, arith}
-use Rattle.std.specs.Prelude.{slice_get}
+use Rattle.std.proofs.Common.{◌≡◌, List, [], ◌∷◌, ◌++◌, refl, sym, ap, ◌∙◌}
 use Rattle.std.proofs.lemmas.List.{append-nil, append_assoc}
 use Rattle.lv_geometry.specs.Bounds.{Bounds}
 use Rattle.lv_bodies.specs.Body.{Operations}
@@ -8,7 +7,7 @@ use Rattle.lv_refresh.specs.Carried.{Carried}
 use Rattle.lv_refresh.specs.Record.{Record}
 use Rattle.lv_live.specs.declared.events.Event.{Event}
 use Rattle.lv_live.specs.declared.replies.Reply.{Reply}
-use Rattle.lv_live.specs.State.{IsWorld, LiveState, SameSetting, with_issued}
+use Rattle.lv_live.specs.State.{IsWorld, LiveState, with_issued}
 use Rattle.lv_live.specs.Step.{Run, Step}
 use Rattle.lv_live.proofs.WorldLaws.{run_goes_on}
 

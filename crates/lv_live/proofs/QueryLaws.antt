@@ -1,13 +1,12 @@
 -- What a table that agrees says of queries and of outcomes is what the record says.
-use Rattle.std.proofs.Common.{◌≡◌, ◌≢◌, ◌⊎◌, ◌↔◌, ℕ, ◌+◌, ◌*◌, ◌^◌, ◌<◌, ◌≤◌, Bool, true, false, Option, Some, None, Result, Ok, Err, IfOk, IfErr, List, length, refl, sym, ap, ◌∙◌, inl, inr, arith}
-use Rattle.lv_geometry.specs.declared.nodes.Node.{Node}
+use Rattle.std.proofs.Common.{◌≡◌, ℕ, Some, Result, Ok, Err, IfOk, IfErr, List}
 use Rattle.lv_geometry.specs.declared.refusals.Refusal.{Refusal}
 use Rattle.lv_bodies.specs.Body.{Operations}
 use Rattle.lv_edits.specs.declared.edit.Edit.{Edit}
 use Rattle.lv_summary.specs.Agrees.{Agrees}
 use Rattle.lv_summary.specs.Table.{Table, fresh_in}
 use Rattle.lv_refresh.specs.Claimed.{ClaimTable, record_of}
-use Rattle.lv_refresh.specs.Record.{Record, is_fresh}
+use Rattle.lv_refresh.specs.Record.{is_fresh}
 use Rattle.lv_reduce.specs.declared.reductions.Answer.{Answer}
 use Rattle.lv_reduce.specs.Answer.{IsAnswer, range_refusal}
 use Rattle.lv_reduce.specs.Cost.{IsCost, IsFew}

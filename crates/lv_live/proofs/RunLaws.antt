@@ -1,27 +1,27 @@
 -- Every run answers edits and queries by the edits alone.
-use Rattle.std.proofs.Common.{◌≡◌, ◌≢◌, ◌⊎◌, ℕ, ◌+◌, Bool, true, false, not, cond, Option, Some, None, Result, Ok, Err, List, [], ◌∷◌, ◌++◌, length, filter, All, refl, sym, ap, ◌∙◌, inl, inr}
+use Rattle.std.proofs.Common.{◌≡◌, ◌≢◌, ℕ, Bool, true, false, not, Option, Some, None, Result, Ok, Err, List, [], ◌∷◌, length, refl, sym, ap, ◌∙◌, inl, inr}
 use Rattle.std.proofs.lemmas.Bool.{cases_Bool, cond-false, cond-true}
 use Rattle.std.proofs.lemmas.List.Elements.{All-head, All-tail}
 use Rattle.lv_geometry.specs.Bounds.{Bounds}
 use Rattle.lv_geometry.specs.declared.nodes.Node.{Node}
 use Rattle.lv_geometry.specs.declared.refusals.Refusal.{Refusal}
-use Rattle.lv_geometry.specs.declared.refusals.Refusal.TheVariants.{NoJob, NoMemory}
+use Rattle.lv_geometry.specs.declared.refusals.Refusal.TheVariants.{NoMemory}
 use Rattle.lv_bodies.specs.Body.{Operations}
 use Rattle.lv_edits.specs.declared.edit.Edit.{Edit}
 use Rattle.lv_edits.specs.declared.receipt.Receipt.{Receipt}
-use Rattle.lv_edits.specs.Verdict.{receipt_of, verdict_of}
+use Rattle.lv_edits.specs.Verdict.{verdict_of}
 use Rattle.lv_summary.specs.declared.accepted.Accepted.{Accepted}
 use Rattle.lv_summary.specs.declared.accepted.Accepted.TheVariants.{Held, Installed, Stale}
 use Rattle.lv_refresh.specs.Delivery.{delivery_of}
-use Rattle.lv_refresh.specs.Record.{Record, SameRecord}
+use Rattle.lv_refresh.specs.Record.{Record}
 use Rattle.lv_reduce.specs.declared.reductions.Answer.{Answer}
 use Rattle.lv_reduce.specs.declared.scans.Scan.{Scan}
-use Rattle.lv_reduce.specs.Answer.{IsAnswer, IsScan, IsScanRefusal, range_refusal, scan_of, slice_of}
+use Rattle.lv_reduce.specs.Answer.{range_refusal}
 use Rattle.lv_live.specs.declared.events.Event.{Event}
 use Rattle.lv_live.specs.declared.events.Event.TheVariants as event
 use Rattle.lv_live.specs.declared.replies.Reply.{Reply}
 use Rattle.lv_live.specs.declared.replies.Reply.TheVariants as reply
-use Rattle.lv_live.specs.Step.{EditStep, Reduces, Run, Scans, Step, after_accepted, after_claim, after_delivery, after_edit, delivery_reply, edit_reply, job_of, reduction_reply, scan_reply}
+use Rattle.lv_live.specs.Step.{EditStep, Reduces, Run, Scans, Step, after_accepted, after_claim, after_delivery, edit_reply, job_of, reduction_reply, scan_reply}
 use Rattle.lv_live.specs.PlainAnswers.{AllHadRoom, answers_in, edits_after, edits_with, is_refresh, plain_answer, plain_answers, plain_receipt, plain_reduction, plain_scan, without_counts, without_refresh}
 
 -- a delivery leaves the edits

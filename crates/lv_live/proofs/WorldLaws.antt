@@ -1,9 +1,9 @@
 -- The jobs of a world stay its own, whatever happens.
-use Rattle.std.proofs.Common.{◌≡◌, ◌⊎◌, ℕ, ◌+◌, ◌-◌, ◌<◌, ◌≤◌, Bool, true, false, ◌&&◌, cond, Option, Some, None, option_map, Result, Ok, Err, IfSome, List, [], ◌∷◌, ◌++◌, get_or, length, map, All, subst, nat_eq, if◌then◌else◌, refl, sym, ap, ◌∙◌, inl, inr, arith}
+use Rattle.std.proofs.Common.{◌≡◌, ◌⊎◌, ℕ, ◌+◌, ◌-◌, ◌<◌, ◌≤◌, Bool, true, false, ◌&&◌, cond, Option, Some, None, option_map, Result, Ok, Err, IfSome, List, [], ◌∷◌, ◌++◌, get_or, length, map, All, subst, nat_eq, refl, sym, ap, ◌∙◌, inl, inr}
 use Rattle.std.proofs.lemmas.List.{length-map, map-append}
 use Rattle.std.proofs.lemmas.List.Elements.{All-push}
 use Rattle.std.proofs.lemmas.Option.{none-some, same_Some, slice_get-map, slice_get_cases}
-use Rattle.std.proofs.lemmas.Bool.{and_parts, cases_Bool, cond-false, cond-true, eqb-true}
+use Rattle.std.proofs.lemmas.Bool.{and_parts, eqb-true}
 use Rattle.lv_geometry.specs.Bounds.{Bounds}
 use Rattle.std.specs.Prelude.{slice_get}
 use Rattle.lv_geometry.specs.declared.nodes.Node.{Node}
@@ -15,7 +15,7 @@ use Rattle.lv_edits.specs.History.{list_of, replayed}
 use Rattle.lv_edits.specs.declared.receipt.Receipt.{Receipt}
 use Rattle.lv_edits.specs.Kept.{InLimits}
 use Rattle.lv_edits.specs.Touch.{is_whole, touched_by}
-use Rattle.lv_edits.specs.Verdict.{Answers, Accepts, Refuses}
+use Rattle.lv_edits.specs.Verdict.{Answers}
 use Rattle.lv_summary.specs.Table.{same_node}
 use Rattle.lv_summary.specs.declared.accepted.Accepted.{Accepted}
 use Rattle.lv_summary.specs.declared.accepted.Accepted.TheVariants.{Held, Installed, Stale}
@@ -25,7 +25,7 @@ use Rattle.lv_refresh.specs.Claim.{IsNextJob}
 use Rattle.lv_refresh.specs.Carried.{Carried}
 use Rattle.lv_refresh.specs.Delivery.{delivery_of}
 use Rattle.lv_refresh.specs.Honesty.{IsHonest, Vouched}
-use Rattle.lv_refresh.specs.Record.{Record, SameRecord, is_version}
+use Rattle.lv_refresh.specs.Record.{Record, SameRecord}
 use Rattle.lv_refresh.proofs.HonestyLaws.{honest_after_edit, honest_after_install, honest_same, vouched_of_honest}
 use Rattle.lv_live.specs.declared.events.Event.{Event}
 use Rattle.lv_live.specs.declared.replies.Reply.{Reply}

@@ -1,8 +1,8 @@
 -- How the table of summaries and the claims follow an edit.
-use Rattle.std.specs.Prelude.{◌≡◌, ◌+◌, ◌*◌, ◌/◌, ◌<◌, ◌≤◌, ℕ, true, Option, Some, None}
+use Rattle.std.specs.Prelude.{◌≡◌, ◌/◌, ◌<◌, ◌≤◌, ℕ, true, Option, Some, None}
 use Rattle.lv_geometry.specs.declared.nodes.Node.{Node}
 use Rattle.lv_geometry.specs.Nodes.{covers, is_node}
-use Rattle.lv_summary.specs.Table.{AnswersAlike, HasSize, Table, Touches, blocks_in}
+use Rattle.lv_summary.specs.Table.{HasSize, Table, Touches}
 use Rattle.lv_refresh.specs.Claimed.{ClaimTable, claim_blocks, claimed_in, is_hinted}
 
 -- claims that answer alike, whatever they have room for; hints may be added

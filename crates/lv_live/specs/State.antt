@@ -1,5 +1,5 @@
 -- What a live vector holds, and the record of it.
-use Rattle.std.specs.Prelude.{◌≡◌, ◌*◌, ◌≤◌, ℕ, Option, Some, None, option_map, List, [], ◌∷◌, ◌++◌, map, All, nat_eq, slice_get, ◌-◌, if◌then◌else◌}
+use Rattle.std.specs.Prelude.{◌≡◌, ◌*◌, ◌≤◌, ℕ, Option, Some, None, List, [], ◌∷◌, ◌++◌, map, All, nat_eq, slice_get, ◌-◌, if◌then◌else◌}
 use Rattle.lv_geometry.specs.declared.nodes.Node.{Node}
 use Rattle.lv_bodies.specs.Body.{Operations}
 use Rattle.lv_edits.specs.History.{History}

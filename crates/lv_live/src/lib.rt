@@ -19,3 +19,6 @@ pub use live::Live;
 pub use replies::Reply;
 pub use theorems::{answers_are_plain, refresh_changes_no_answer, refusals_change_nothing};
 pub use worlds::{World, run};
+
+#[cfg(test)]
+mod tests;

@@ -1,4 +1,4 @@
-use Rattle.std.proofs.Common.{◌≡◌, ◌∙◌, refl, sym, ap, arith}
+use Rattle.std.proofs.Common.{◌∙◌, refl, arith}
 use Rattle.std.proofs.lemmas.Grind.{take_at_read}
 use Rattle.lv_live.proofs.PlayLaws.{plays_more}
 use Rattle.lv_live.proofs.playing.play.Goals as goal

@@ -1,4 +1,4 @@
-use Rattle.std.proofs.Common.{◌≡◌, ◌+◌, ◌∙◌, Some, length, sym, ap, arith}
+use Rattle.std.proofs.Common.{◌≡◌, ◌+◌, Some, length, arith}
 use Rattle.lv_live.proofs.WorldLaws.{step_claim, world_claim}
 use Rattle.lv_live.proofs.playing.play_claim.Goals as goal
 

@@ -1,4 +1,4 @@
-use Rattle.std.proofs.Common.{◌≡◌, ◌∙◌, sym, ap}
+use Rattle.std.proofs.Common.{◌∙◌, sym}
 use Rattle.lv_live.proofs.WorldLaws.{step_delivery, step_no_job, vouched_job, world_delivery}
 use Rattle.lv_live.proofs.playing.play_delivery.Goals as goal
 

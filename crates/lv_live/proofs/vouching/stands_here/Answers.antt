@@ -1,4 +1,3 @@
-use Rattle.std.proofs.Common.{◌≡◌, true, false, ◌∙◌, sym}
 use Rattle.std.proofs.lemmas.Bool.{false≢true}
 use Rattle.lv_live.proofs.VouchLaws.{contents_of_stands, nothing_stands, stands_of_contents}
 use Rattle.lv_live.proofs.vouching.stands_here.Goals as goal

@@ -1,4 +1,4 @@
-use Rattle.std.proofs.Common.{◌≡◌, ◌∙◌, sym, ap}
+use Rattle.std.proofs.Common.{◌∙◌, sym, ap}
 use Rattle.lv_refresh.specs.Contents.{fold_of_contents}
 use Rattle.lv_live.proofs.DeliverLaws.{delivered, live_after_accept}
 use Rattle.lv_live.proofs.live.Live.accept.Goals as goal

@@ -1,10 +1,9 @@
-use Rattle.std.proofs.Common.{◌≡◌, ◌≤◌, ◌*◌, None, sym, ap, ◌∙◌, length, arith}
+use Rattle.std.proofs.Common.{◌≡◌, ◌≤◌, ◌*◌, None, sym, ◌∙◌, length, arith}
 use Rattle.lv_edits.specs.History.{list_of}
 use Rattle.lv_edits.specs.Touch.{index_written}
 use Rattle.lv_edits.specs.Verdict.{verdict_of}
 use Rattle.lv_summary.specs.Table.{blocks_in}
-use Rattle.lv_live.specs.State.{IsLive}
-use Rattle.lv_live.proofs.EditLaws.{room_accepted, same_refresh_alike, same_refresh_followed, written_inside}
+use Rattle.lv_live.proofs.EditLaws.{room_accepted, same_refresh_followed, written_inside}
 use Rattle.lv_live.proofs.LiveLaws.{live_after_edit, live_alike}
 use Rattle.lv_live.proofs.live.Live.apply.Goals as goal
 

@@ -1,4 +1,4 @@
-use Rattle.std.proofs.Common.{◌≡◌, refl, ap}
+use Rattle.std.proofs.Common.{ap}
 use Rattle.lv_live.proofs.LiveLaws.{live_empty}
 use Rattle.lv_live.proofs.live.Live.new.Goals as goal
 

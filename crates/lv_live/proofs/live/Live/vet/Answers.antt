@@ -1,4 +1,4 @@
-use Rattle.std.proofs.Common.{◌≡◌, ◌∙◌, sym, ap}
+use Rattle.std.proofs.Common.{◌∙◌, sym}
 use Rattle.lv_live.proofs.DeliverLaws.{vouched_where}
 use Rattle.lv_live.proofs.live.Live.vet.Goals as goal
 
