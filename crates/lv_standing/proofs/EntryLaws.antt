@@ -1,5 +1,5 @@
 -- What a map's entries say of queries: looked up, added and removed.
-use Rattle.std.proofs.Common.{◌≡◌, ℕ, zero, suc, ◌+◌, take, drop, slice_get, ◌≤◌, ◌<◌, ◌⊎◌, inl, inr, ltb, is_some, IsSome, Bool, true, false, not, cond, List, [], ◌∷◌, ◌++◌, length, map, filter, Option, Some, None, refl, sym, ap, ◌∙◌, subst, arith}
+use Rattle.std.proofs.Common.{◌≡◌, ℕ, zero, suc, ◌+◌, take, drop, slice_get, ◌≤◌, ◌<◌, ◌⊎◌, inl, inr, ltb, is_some, IsSome, Bool, true, false, not, cond, List, [], ◌∷◌, ◌++◌, length, map, Option, Some, None, refl, sym, ap, ◌∙◌, subst, arith}
 use Rattle.std.specs.Option.{option_map}
 use Rattle.std.specs.List.{AllByRecursion, IsDistinct}
 use Rattle.std.specs.Map.{keys_of, lookup, remove_entry}
@@ -14,7 +14,7 @@ use Rattle.indexmap.specs.IndexMap.{set_value_at}
 use Rattle.lv_geometry.specs.declared.refusals.Refusal.TheVariants.{BadRange, NameTaken, TooMany}
 use Rattle.lv_edits.specs.declared.edit.Edit.{Edit}
 use Rattle.lv_standing.specs.declared.watches.Watch.{Watch}
-use Rattle.lv_standing.specs.Queries.{Query, name_refusal, query_of, watch_answer, watch_refusal, without_query}
+use Rattle.lv_standing.specs.Queries.{Query, name_refusal, query_of, watch_refusal, without_query}
 use Rattle.lv_standing.specs.Standings.{IsCurrent, asked, has_index, queries_of, query_at, refreshed}
 use Rattle.lv_standing.proofs.KeptNames.{same_name}
 

@@ -1,13 +1,12 @@
 -- The notes of an edit, one query after another.
-use Rattle.std.proofs.Common.{◌≡◌, ◌≢◌, ◌⊎◌, ℕ, ◌+◌, ◌-◌, ◌<◌, ◌≤◌, Option, Some, true, slice_get, take, drop, map, append_assoc, length-append, length-drop, List, [], ◌∷◌, ◌++◌, length, refl, ap, sym, subst, ◌∙◌, inl, inr, arith}
+use Rattle.std.proofs.Common.{◌≡◌, ℕ, ◌+◌, ◌-◌, ◌<◌, ◌≤◌, Option, Some, slice_get, take, drop, map, append_assoc, length-append, length-drop, List, [], ◌∷◌, ◌++◌, length, refl, ap, sym, subst, ◌∙◌, inl, inr, arith}
 use Rattle.std.proofs.lemmas.List.{append-nil, length-map, length-take-le, map-append, take_at}
 use Rattle.indexmap.specs.IndexMap.{set_value_at}
 use Rattle.lv_edits.specs.declared.edit.Edit.{Edit}
-use Rattle.lv_bodies.specs.declared.kinds.Shown.{Shown}
 use Rattle.lv_standing.specs.declared.notes.Note.{Note}
 use Rattle.lv_standing.specs.declared.watches.Watch.{Watch}
 use Rattle.lv_standing.specs.Queries.{AreNotes, Query, watch_answer}
-use Rattle.lv_standing.specs.Standings.{IsCurrent, IsToldAt, asked, has_index, queries_of, query_at, refreshed}
+use Rattle.lv_standing.specs.Standings.{IsCurrent, IsToldAt, asked, queries_of, query_at, refreshed}
 use Rattle.lv_standing.proofs.EntryLaws.{asked_more, at_seam, front_is, rest_is, set_at_seam, set_same, there_is}
 
 module _ (old new : List Edit) where

@@ -1,5 +1,5 @@
 -- What a vector with standing queries holds.
-use Rattle.std.specs.Prelude.{◌≡◌, ◌≤◌, ◌<◌, ℕ, Bool, ◌&&◌, Option, Some, None, false, List, [], ◌∷◌, ◌-◌, length, map, filter, nat_le, nat_lt, ◌++◌, slice_get}
+use Rattle.std.specs.Prelude.{◌≡◌, ◌≤◌, ℕ, Bool, ◌&&◌, Option, Some, None, false, List, [], ◌∷◌, ◌-◌, length, map, filter, nat_le, nat_lt, ◌++◌, slice_get}
 use Rattle.std.specs.List.{AllByRecursion, slice_range}
 use Rattle.indexmap.specs.IndexMap.{set_value_at}
 use Rattle.lv_bodies.specs.declared.sixes.Six.{Six}

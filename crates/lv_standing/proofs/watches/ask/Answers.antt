@@ -1,4 +1,4 @@
-use Rattle.std.proofs.Common.{◌≡◌, ◌∙◌, ap, arith, slice_range}
+use Rattle.std.proofs.Common.{◌∙◌, ap, arith, slice_range}
 use Rattle.lv_bodies.specs.Body.{fold_of}
 use Rattle.lv_bodies.specs.Plain.{plain_value}
 use Rattle.lv_bodies.specs.Six.{six_operations}

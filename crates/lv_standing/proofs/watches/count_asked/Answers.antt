@@ -1,4 +1,4 @@
-use Rattle.std.proofs.Common.{◌≡◌, ◌∙◌, ◌+◌, true, false, ap, sym, arith}
+use Rattle.std.proofs.Common.{◌∙◌, true, false, sym, arith}
 use Rattle.lv_standing.proofs.EntryLaws.{asked_up_to}
 use Rattle.lv_standing.proofs.watches.count_asked.Goals as goal
 use Rattle.lv_standing.proofs.watches.count_asked.Goals.{then-has_index, else-has_index}

@@ -1,7 +1,5 @@
-use Rattle.std.proofs.Common.{◌≡◌, ◌∙◌, ◌+◌, ◌++◌, ap, sym, subst, arith, List, ℕ, Some, length, slice_get, take, drop, map, length-append, length-drop, vec_capacity, ◌<◌, ◌≤◌}
-use Rattle.std.proofs.lemmas.List.{length-map, length-take-le}
-use Rattle.lv_standing.specs.declared.watches.Watch.{Watch}
-use Rattle.lv_standing.specs.Standings.{IsCurrent, IsToldAt, asked, refreshed}
+use Rattle.std.proofs.Common.{◌≡◌, ◌∙◌, ◌+◌, ap, sym, arith, length, drop, vec_capacity, ◌<◌}
+use Rattle.lv_standing.specs.Standings.{IsCurrent, asked}
 use Rattle.lv_standing.proofs.EntryLaws.{all_at, asked_more, rest_is, there_is}
 use Rattle.lv_standing.proofs.NoteLaws.{as_before, as_long, told_entries, told_notes, told_room}
 use Rattle.lv_standing.proofs.watches.tell.Goals as goal

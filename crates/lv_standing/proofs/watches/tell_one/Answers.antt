@@ -1,6 +1,5 @@
-use Rattle.std.proofs.Common.{◌≡◌, ◌∙◌, ap, sym, subst, List, ℕ, Some, slice_get}
-use Rattle.lv_standing.specs.declared.watches.Watch.{Watch}
-use Rattle.lv_standing.specs.Standings.{IsCurrent, IsToldAt}
+use Rattle.std.proofs.Common.{◌≡◌, ◌∙◌, sym, subst, Some}
+use Rattle.lv_standing.specs.Standings.{IsCurrent}
 use Rattle.lv_standing.proofs.NoteLaws.{told_nothing}
 use Rattle.lv_standing.proofs.watches.tell_one.Goals as goal
 

@@ -1,5 +1,4 @@
-use Rattle.std.proofs.Common.{◌≡◌, ◌∙◌, ap, sym, refl, length}
-use Rattle.lv_standing.specs.Queries.{Query, query_of, watch_answer}
+use Rattle.std.proofs.Common.{sym, refl}
 use Rattle.lv_standing.proofs.EntryLaws.{current_found, query_by, query_missing, query_there}
 use Rattle.lv_standing.proofs.standing.Standing.answer.Goals as goal
 

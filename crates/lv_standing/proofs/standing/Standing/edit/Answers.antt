@@ -1,11 +1,10 @@
-use Rattle.std.proofs.Common.{◌≡◌, ◌∙◌, ◌-◌, ◌++◌, [], ◌∷◌, None, List, ap, sym, subst, arith, length, take}
+use Rattle.std.proofs.Common.{◌≡◌, ◌∙◌, ◌-◌, ◌++◌, [], ◌∷◌, ap, sym, subst, arith, length, take}
 use Rattle.std.specs.List.{AllByRecursion, slice_range}
 use Rattle.std.proofs.lemmas.List.{length-map}
 use Rattle.lv_bodies.specs.declared.sixes.Six.{Six}
 use Rattle.lv_bodies.specs.Six.{SixMeaning, six_meaning}
 use Rattle.lv_edits.specs.declared.edit.Edit.{Edit}
 use Rattle.lv_edits.specs.History.{History, list_of}
-use Rattle.lv_standing.specs.Queries.{AreNotes}
 use Rattle.lv_standing.specs.Standings.{IsCurrent, has_index, index_changed, queries_of, query_at, refreshed}
 use Rattle.lv_standing.proofs.EntryLaws.{all_refreshed, queries_refreshed}
 use Rattle.lv_standing.proofs.NoteLaws.{before_last, few_notes}

@@ -1,8 +1,7 @@
-use Rattle.std.proofs.Common.{◌≡◌, ◌∙◌, ap, sym, refl, subst, arith, length, List}
+use Rattle.std.proofs.Common.{◌∙◌, ap, sym, refl, subst, arith}
 use Rattle.std.specs.List.{AllByRecursion}
 use Rattle.std.specs.Str.{bytes_eq}
-use Rattle.lv_standing.specs.Queries.{query_of, without_query}
-use Rattle.lv_standing.specs.Standings.{IsCurrent, IsStanding, queries_of}
+use Rattle.lv_standing.specs.Standings.{IsCurrent, queries_of}
 use Rattle.lv_standing.proofs.EntryLaws.{all_removed, queries_removed, query_missing, some_query}
 use Rattle.lv_standing.proofs.standing.Standing.unwatch.Goals as goal
 

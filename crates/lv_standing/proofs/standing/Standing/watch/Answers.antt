@@ -1,4 +1,4 @@
-use Rattle.std.proofs.Common.{◌≡◌, ◌∙◌, ◌++◌, [], ◌∷◌, ap, sym, refl, subst, arith, inl, inr, length, length-append}
+use Rattle.std.proofs.Common.{◌∙◌, [], ◌∷◌, ap, sym, refl, subst, arith, inl, inr, length, length-append}
 use Rattle.std.proofs.lemmas.List.{map-append}
 use Rattle.std.specs.List.{AllByRecursion}
 use Rattle.std.specs.Str.{bytes_eq}
