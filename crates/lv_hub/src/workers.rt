@@ -1,0 +1,55 @@
+ghost use Rattle.std.specs.Prelude.{◌≡◌, ◌+◌, ◌≤◌};
+
+use crate::gates::Gate;
+use crate::hubs::Hub;
+use crate::naming::Naming;
+use lv_bodies::Body;
+use lv_summary::Accepted;
+use std::sync::Wait;
+use std::thread;
+
+/// What a worker did: how many jobs it claimed, and what became of their outcomes.
+#[derive(Clone, Copy, Debug, Default, PartialEq, Eq)]
+pub struct Worked {
+    /// How many jobs were claimed.
+    pub claimed: u64,
+    /// How many outcomes were installed.
+    pub installed: u64,
+    /// How many were held already.
+    pub held: u64,
+    /// How many were stale.
+    pub stale: u64,
+    /// How many were refused as another vector's.
+    pub strangers: u64,
+}
+
+/// Refreshes a hub for a number of turns. In each turn it claims a job and, where there is one, passes the gate, computes it
+/// and gives the outcome, with no lock held between; where there is none it lets other threads run.
+pub fn work<B: Body, N: Naming, G: Gate, R: Wait>(
+    rt: &R,
+    hub: &Hub<B, N>,
+    gate: &G,
+    turns: u64,
+) -> Worked
+    ensures turns { result.claimed ≤ turns }
+    ensures all { result.installed + result.held + result.stale + result.strangers ≡ result.claimed }
+{
+    let mut worked = Worked::default();
+    for turn in 0..turns {
+        match hub.claim(rt) {
+            Some(job) => {
+                gate.hold(turn);
+                let outcome = job.run();
+                worked.claimed += 1;
+                match hub.give(rt, outcome) {
+                    Ok(Accepted::Installed) => worked.installed += 1,
+                    Ok(Accepted::Held) => worked.held += 1,
+                    Ok(Accepted::Stale { .. }) => worked.stale += 1,
+                    Err(_) => worked.strangers += 1,
+                }
+            }
+            None => thread::yield_now(),
+        }
+    }
+    worked
+}
