@@ -10,6 +10,8 @@ mod desks;
 mod gates;
 mod hubs;
 mod naming;
+mod requests;
+mod sessions;
 mod shares;
 mod workers;
 
@@ -17,5 +19,6 @@ pub use desks::Desk;
 pub use gates::{Gate, OpenGate};
 pub use hubs::Hub;
 pub use naming::Naming;
+pub use sessions::run_session;
 pub use shares::Share;
 pub use workers::{Worked, work};

@@ -8,9 +8,9 @@ use std::sync::ledger::{Book, Ledger, Share as Token};
 /// it, so that the hub can't be closed any more.
 #[derive(Drop)]
 pub struct Share<L: Ledger> {
-    token: Token<L>,
-    parts: u64,
-    count: u64,
+    pub(crate) token: Token<L>,
+    pub(crate) parts: u64,
+    pub(crate) count: u64,
 }
 
 impl<L: Ledger> Model for Share<L> {

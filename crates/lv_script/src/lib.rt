@@ -5,6 +5,9 @@
 //! `print_command` writes is read as the same command. `run_script` answers the lines of what it reads one after
 //! the other and writes the replies joined end to end; a fault leaves a front of them. Memory is fixed, however long
 //! the input or a line of it is. It decides nothing about the vector: the layers below do.
+//!
+//! A transcript is a journal and the reductions that were answered, as text. `write_transcript` writes it; `audit` answers yes
+//! exactly where the bytes are a transcript whose every line is true, and folds plain slices to see it.
 #![tactic(auto)]
 
 mod answers;
@@ -42,7 +45,9 @@ pub use laws::{
 };
 pub use lines::read_line;
 pub use printing::print_command;
+pub use replies::{LINE, put_answer, put_bad, put_receipt, put_refusal};
 pub use responder::Responder;
+pub use scan_replies::put_scan;
 pub use scripts::run_script;
 pub use sender::{HELD, make_room, put, put_element, put_number, put_wide, send};
 pub use transcripts::{Claimed, write_transcript};

@@ -1,0 +1,20 @@
+-- Conversations whatever they give.
+use Rattle.std.proofs.Common.{◌≡◌, ℕ, Option, Result, Ok, Err, MatchResult, IfOk, List}
+use Rattle.lv_script.specs.declared.fault.Fault.{Fault}
+use Rattle.lv_script.specs.declared.fault.Fault.TheVariants.{NoMemory, ReadFault, WriteFault}
+use Rattle.lv_script.specs.Replies.{Conversed}
+
+module _ {S T U : Type 0} {step : S → ℕ → List ℕ → List ℕ → S → Type 0} {old new : S} {a b k l : Option (List ℕ)} where
+  -- one that ends as another did, with something else to give
+  pub conversed_as : (ended : Result T Fault) (given : U) (result : Result U Fault) → MatchResult ended (λ x. result ≡ Ok given) (λ fault. result ≡ Err fault)
+      → Conversed step old new a b k l ended → Conversed step old new a b k l result
+  conversed_as (Ok x) given result is c = rw is (record { seen = c.seen; read = c.read; few = c.few; ends = c.ends })
+  conversed_as (Err NoMemory) given result is c = rw is (record { seen = c.seen; read = c.read; few = c.few; ends = c.ends })
+  conversed_as (Err ReadFault) given result is c = rw is (record { seen = c.seen; read = c.read; few = c.few; ends = c.ends })
+  conversed_as (Err WriteFault) given result is c = rw is (record { seen = c.seen; read = c.read; few = c.few; ends = c.ends })
+
+-- what is given at the end, if anything is
+pub given_as : {T U : Type 0} (P : U → Type 0) (ended : Result T Fault) (given : U) (result : Result U Fault) → MatchResult ended (λ x. result ≡ Ok given) (λ fault. result ≡ Err fault)
+    → P given → IfOk result P
+given_as P (Ok x) given result is holds = rw is holds
+given_as P (Err fault) given result is holds = rw is tt

@@ -1,0 +1,8 @@
+use Rattle.std.proofs.Common.{[], refl, sym}
+use Rattle.std.proofs.lemmas.List.{append-nil}
+use Rattle.lv_script.proofs.OutputLemmas.{Writes-put}
+use Rattle.lv_hub.proofs.sessions.answer_line.Goals as goal
+
+pub returns-in-Nothing-clause-ok : goal.returns-in-Nothing-clause-ok
+returns-in-Nothing-clause-ok g c =
+    ([], rw c.in-Nothing.is (refl, refl), Writes-put _ _ _ _ (sym (append-nil _)))

@@ -1,0 +1,8 @@
+use Rattle.std.proofs.Common.{true, false}
+use Rattle.lv_hub.proofs.sessions.scan.Goals as goal
+
+pub returns-then-inclusive : goal.returns-then-inclusive
+returns-then-inclusive g c = rw c.if-inclusive.true c.scan_inclusive.ensures.told
+
+pub returns-else-inclusive : goal.returns-else-inclusive
+returns-else-inclusive g c = rw c.if-inclusive.false c.scan_exclusive.ensures.told

@@ -1,0 +1,114 @@
+-- What each line of a session is answered, and what it leaves: how many edits are counted, and which reductions were answered.
+use Rattle.std.specs.Prelude.{◌≡◌, ◌⊎◌, ℕ, ◌+◌, Bool, true, false, Result, Ok, Err, List, [], ◌∷◌, ◌++◌, length, map}
+use Rattle.lv_geometry.specs.Bounds.{Bounds}
+use Rattle.lv_geometry.specs.declared.refusals.Refusal.{Refusal}
+use Rattle.lv_geometry.specs.declared.refusals.Refusal.TheVariants.{NoMemory}
+use Rattle.lv_bodies.specs.declared.kinds.Kind.{Kind}
+use Rattle.lv_bodies.specs.declared.sixes.Six.{Six}
+use Rattle.lv_bodies.specs.Body.{Operations}
+use Rattle.lv_bodies.specs.Six.{SixSummary, face_of}
+use Rattle.lv_edits.specs.declared.edit.Edit.{Edit}
+use Rattle.lv_edits.specs.declared.edit.Edit.TheVariants as edit
+use Rattle.lv_edits.specs.declared.receipt.Receipt.{Receipt}
+use Rattle.lv_reduce.specs.declared.reductions.Answer.{Answer}
+use Rattle.lv_reduce.specs.declared.scans.Scan.{Scan}
+use Rattle.lv_script.specs.declared.command.Command.{Command}
+use Rattle.lv_script.specs.declared.command.Command.TheVariants as command
+use Rattle.lv_script.specs.declared.command.Line.{Line}
+use Rattle.lv_script.specs.declared.command.Line.TheVariants.{Nothing, Bad, Do}
+use Rattle.lv_script.specs.declared.transcripts.Claimed.{Claimed}
+use Rattle.lv_script.specs.Grammar.{line_of}
+use Rattle.lv_script.specs.Script.{edit_text}
+use Rattle.lv_script.specs.Texts.{answer_text, bad_text, refused_text, scan_text}
+use Rattle.lv_hub.specs.declared.requests.Request.{Request}
+use Rattle.lv_hub.specs.declared.requests.Request.TheVariants as request
+use Rattle.lv_hub.specs.Told.{EditTold, ReductionTold, ScanTold}
+
+-- how many edits the session's share counts, and the reductions that were answered, in order
+pub record SessionState : Type 0 where
+  pub count : ℕ
+  pub claims : List Claimed
+
+-- what a command asks of a hub: an edit, a reduction or a scan; sessions know no other
+abbrev pub requested : Command → Request
+requested (command.Push x) = request.Edited (edit.Push x)
+requested command.Pop = request.Edited edit.Pop
+requested (command.Write i x) = request.Edited (edit.Write i x)
+requested (command.Reserve cells) = request.Edited (edit.Reserve cells)
+requested command.Settle = request.Unknown
+requested (command.Get i) = request.Unknown
+requested command.Size = request.Unknown
+requested command.Capacity = request.Unknown
+requested (command.Reduce kind lo hi) = request.Reduced kind lo hi
+requested (command.Cost lo hi) = request.Unknown
+requested (command.Inclusive kind lo hi) = request.Scanned true kind lo hi
+requested (command.Exclusive kind lo hi) = request.Scanned false kind lo hi
+requested command.Claim = request.Unknown
+requested (command.Deliver k) = request.Unknown
+requested command.Forget = request.Unknown
+requested (command.Watch name kind lo hi) = request.Unknown
+requested (command.Unwatch name) = request.Unknown
+requested (command.Answer name) = request.Unknown
+
+-- the state after an edit: it is counted where it was accepted
+abbrev pub after_edit : SessionState → Result Receipt Refusal → SessionState
+after_edit s (Ok receipt) = record s { count = s.count + 1 }
+after_edit s (Err refusal) = s
+
+-- a reduction as it is listed
+abbrev pub claim_of : Kind → ℕ → ℕ → Answer SixSummary → Claimed
+claim_of kind lo hi answer = record { edit = answer.edit; kind = kind; lo = lo; hi = hi; value = face_of kind answer.value }
+
+-- the state with one reduction more
+abbrev pub with_claim : SessionState → Claimed → SessionState
+with_claim s claim = record s { claims = s.claims ++ claim ∷ [] }
+
+-- a reduction was answered and listed; or it was refused, which changes nothing: at the latest for want of room in the list
+abbrev pub Lists : SessionState → Kind → ℕ → ℕ → Result (Answer SixSummary) Refusal → List ℕ → SessionState → Type 0
+Lists old kind lo hi (Ok answer) text new =
+    ((text ≡ answer_text answer.edit kind (face_of kind answer.value)) × (new ≡ with_claim old (claim_of kind lo hi answer)))
+    ⊎ ((text ≡ refused_text NoMemory) × (new ≡ old))
+Lists old kind lo hi (Err refusal) text new = (text ≡ refused_text refusal) × (new ≡ old)
+
+-- a scan's values, or its refusal
+abbrev pub scan_reply_text : Bool → Kind → Result (Scan SixSummary) Refusal → List ℕ
+scan_reply_text inclusive kind (Ok scan) = scan_text scan.edit inclusive kind (map (face_of kind) scan.values)
+scan_reply_text inclusive kind (Err refusal) = refused_text refusal
+
+-- an edit is answered by its receipt or its refusal
+pub record TellsEdit (limits : Bounds) (old : SessionState) (e : Edit) (text : List ℕ) (new : SessionState) : Type 0 where
+  pub result : Result Receipt Refusal
+  pub told : EditTold limits e result
+  pub text_is : text ≡ edit_text result
+  pub state : new ≡ after_edit old result
+
+module _ (operations : Six → Operations SixSummary) (limits : Bounds) where
+  -- a reduction is answered by its value, and listed; or by its refusal
+  pub record TellsReduction (old : SessionState) (kind : Kind) (lo hi : ℕ) (text : List ℕ) (new : SessionState) : Type 0 where
+    pub result : Result (Answer SixSummary) Refusal
+    pub told : ReductionTold operations limits lo hi result
+    pub lists : Lists old kind lo hi result text new
+
+  -- a scan is answered by its values or its refusal, and changes nothing
+  pub record TellsScan (old : SessionState) (inclusive : Bool) (kind : Kind) (lo hi : ℕ) (text : List ℕ) (new : SessionState) : Type 0 where
+    pub result : Result (Scan SixSummary) Refusal
+    pub told : ScanTold operations limits lo hi inclusive result
+    pub text_is : text ≡ scan_reply_text inclusive kind result
+    pub state : new ≡ old
+
+  -- what a request is answered; line n says nothing that a session knows where it asks for anything else
+  abbrev pub RequestAnswer : SessionState → ℕ → Request → List ℕ → SessionState → Type 0
+  RequestAnswer old n (request.Edited e) text new = TellsEdit limits old e text new
+  RequestAnswer old n (request.Reduced kind lo hi) text new = TellsReduction old kind lo hi text new
+  RequestAnswer old n (request.Scanned inclusive kind lo hi) text new = TellsScan old inclusive kind lo hi text new
+  RequestAnswer old n request.Unknown text new = (text ≡ bad_text n) × (new ≡ old)
+
+  -- what a line is answered
+  abbrev pub LineAnswer : SessionState → ℕ → Line → List ℕ → SessionState → Type 0
+  LineAnswer old n Nothing text new = (text ≡ []) × (new ≡ old)
+  LineAnswer old n Bad text new = (text ≡ bad_text n) × (new ≡ old)
+  LineAnswer old n (Do c) text new = RequestAnswer old n (requested c) text new
+
+  -- one line of a session, by its bytes and its number: its reply, and what it leaves
+  unfoldable pub SessionStep : SessionState → ℕ → List ℕ → List ℕ → SessionState → Type 0
+  SessionStep old n line text new = LineAnswer old n (line_of line) text new
