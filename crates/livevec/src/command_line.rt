@@ -3,8 +3,11 @@
 ghost use Rattle.std.specs.Prelude.{◌≡◌};
 ghost use Rattle.lv_geometry.specs.Bounds.{AreAllowed};
 
+use crate::files::Clash;
 use crate::help;
-use clap::{Arg, ArgAction, ArgMatches, Command, value_parser};
+use crate::serving::Plan;
+use clap::error::ErrorKind;
+use clap::{Arg, ArgAction, ArgMatches, Command, Error, value_parser};
 use lv_geometry::Limits;
 use std::alloc::{AllocError, Global};
 
@@ -16,6 +19,7 @@ pub fn command<'a>(alloc: Global) -> Result<Command<'a>, AllocError> {
         .subcommand_required(true)
         .arg_required_else_help(true)
         .subcommand(run(alloc)?)?
+        .subcommand(serve(alloc)?)?
         .subcommand(audit(alloc))
 }
 
@@ -24,6 +28,22 @@ pub fn limits(matches: &ArgMatches<'_>) -> Limits {
     let buckets = matches.get_one::<u32>("buckets").unwrap_or(17);
     let edits = matches.get_one::<u32>("edits").unwrap_or(16_777_215);
     limits_of(buckets, edits)
+}
+
+/// How sessions are served, by a command's options.
+pub fn plan(matches: &ArgMatches<'_>) -> Plan {
+    Plan {
+        limits: limits(matches),
+        workers: matches.get_one::<u32>("workers").unwrap_or(1),
+        turns: matches.get_one::<u64>("turns").unwrap_or(1000),
+    }
+}
+
+/// That files can't be served together.
+pub fn clash_error(alloc: Global, clash: Clash<'_>) -> Result<Error, AllocError> {
+    let text = clash.to_string(alloc)?;
+    let mut command = serve(alloc)?.bin_name("livevec serve")?;
+    command.error(ErrorKind::ValueValidation, text.as_str())
 }
 
 // The limits of these numbers, where they are allowed.
@@ -40,6 +60,18 @@ fn run<'a>(alloc: Global) -> Result<Command<'a>, AllocError> {
         .after_help(help::LINES)
         .arg(buckets(alloc))?
         .arg(edits(alloc))
+}
+
+// `livevec serve`.
+fn serve<'a>(alloc: Global) -> Result<Command<'a>, AllocError> {
+    Command::new(alloc, "serve")
+        .about(help::SERVE)
+        .after_help(help::SESSIONS)
+        .arg(workers(alloc))?
+        .arg(turns(alloc))?
+        .arg(buckets(alloc))?
+        .arg(edits(alloc))?
+        .arg(files(alloc))
 }
 
 // `livevec audit`.
@@ -67,4 +99,33 @@ fn edits<'a>(alloc: Global) -> Arg<'a> {
         .action(ArgAction::Set)
         .value_parser(value_parser!(u32).range(1..=16_777_215))
         .default_value("16777215")
+}
+
+fn workers<'a>(alloc: Global) -> Arg<'a> {
+    Arg::new(alloc, "workers")
+        .long("workers")
+        .value_name("N")
+        .help("How many workers refresh the vector beside the sessions, 0 to 8")
+        .action(ArgAction::Set)
+        .value_parser(value_parser!(u32).range(0..=8))
+        .default_value("1")
+}
+
+fn turns<'a>(alloc: Global) -> Arg<'a> {
+    Arg::new(alloc, "turns")
+        .long("turns")
+        .value_name("N")
+        .help("How many turns each worker takes, 0 to 1000000")
+        .action(ArgAction::Set)
+        .value_parser(value_parser!(u64).range(0..=1_000_000))
+        .default_value("1000")
+}
+
+fn files<'a>(alloc: Global) -> Arg<'a> {
+    Arg::new(alloc, "files")
+        .value_name("FILE")
+        .help("A session's lines; its replies are written to FILE.out")
+        .required(true)
+        .num_args(1..=16)
+        .action(ArgAction::Append)
 }

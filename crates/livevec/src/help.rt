@@ -34,6 +34,15 @@ Lines (a reply each; N, I, LO and HI are numbers, X an element, HI is excluded):
 KIND is sum, least, greatest, best, affine or automaton. After an edit comes `note NAME VALUE` for each watched query whose answer it changed.
 A line that is refused is answered `refused N`: 1 limit of edits, 2 nothing to pop, 3 past the end, 4 above the limit, 5 full, 6 no memory, 7 LO above HI, 10 name taken, 11 no such name, 12 64 names, 19 no such job. Any other line is answered `bad N`, N the line's number. Blank lines and lines that begin with # say nothing.";
 
+/// What `serve` does.
+pub const SERVE: &str =
+    "Serves sessions: answers each file's lines in a thread of its own, then writes the transcript to standard output";
+
+/// The lines of a session, and its files.
+pub const SESSIONS: &str = "\
+1 to 16 files, each named once, none of them another's FILE.out. The sessions share one vector; each knows the lines push, pop, write, reserve, reduce, inc and exc, as `livevec run --help` tells them; any other is answered `bad N`.
+Each FILE is opened and its FILE.out made, in order, before a thread starts; the first that fails is the fault. The transcript is the journal, then each answered reduction in the order of edits; `livevec audit` says yes to it. Where a session ends with a fault no transcript is written.";
+
 /// What `audit` does.
 pub const AUDIT: &str = "Says whether a transcript on standard input is sound";
 

@@ -5,13 +5,19 @@
 ghost use Rattle.std.specs.Prelude.{◌≡◌, ◌≢◌};
 
 mod command_line;
+mod files;
 mod help;
+mod serving;
 
 use clap::error::ErrorKind;
 use clap::{ArgMatches, Error};
 use lv_script::{Fault, Verdict, audit, run_script};
+use std::fs::Files;
+use std::io::Write;
 use std::process::ExitCode;
 use std::rt::Env;
+use std::sync::Wait;
+use std::thread::Threads;
 use std::{env, io};
 
 /// Statuses: 0; 1 on a fault, printed on standard error as `livevec: fault N`, and of an audit that says no or bad; 2 on a
@@ -27,7 +33,12 @@ fn main(rt: HostRuntime) -> ExitCode {
 }
 
 // Reads the command line and does what it asks.
-fn run<R: AllocGlobal + Env + Eprint + Input + Print>(rt: &R) -> Result<u8, Fault> {
+fn run<R: AllocGlobal + Env + Eprint + Files + Input + Print + Sync + Threads + Wait>(
+    rt: &R,
+) -> Result<u8, Fault>
+where
+    R::File: Send,
+{
     let words = match words_of(rt) {
         Ok(words) => words,
         Err(error) if error.kind() == io::ErrorKind::OutOfMemory => return Err(Fault::NoMemory),
@@ -46,20 +57,45 @@ fn words_of<R: AllocGlobal + Env>(rt: &R) -> io::Result<Vec<String>> {
 }
 
 // Does what a command line asks.
-fn obey<R: AllocGlobal + Input + Print>(rt: &R, matches: &ArgMatches<'_>) -> Result<u8, Fault> {
-    let mut reader = rt.reader();
+fn obey<R: AllocGlobal + Eprint + Files + Input + Print + Sync + Threads + Wait>(
+    rt: &R,
+    matches: &ArgMatches<'_>,
+) -> Result<u8, Fault>
+where
+    R::File: Send,
+{
+    let alloc = rt.alloc();
     let mut writer = io::writer(rt);
     if let Some(asked) = matches.subcommand_matches("run") {
-        run_script(
-            rt.alloc(),
-            command_line::limits(asked),
-            &mut reader,
-            &mut writer,
-        )?;
+        let limits = command_line::limits(asked);
+        run_script(alloc, limits, &mut rt.reader(), &mut writer)?;
         return Ok(0);
     }
-    let verdict = audit(rt.alloc(), &mut reader, &mut writer)?;
+    if let Some(asked) = matches.subcommand_matches("serve") {
+        return serve(rt, asked, &mut writer);
+    }
+    let verdict = audit(alloc, &mut rt.reader(), &mut writer)?;
     Ok(status_of(verdict))
+}
+
+// Serves the sessions that a command line names.
+fn serve<R: AllocGlobal + Eprint + Files + Print + Sync + Threads + Wait, W: Write>(
+    rt: &R,
+    asked: &ArgMatches<'_>,
+    writer: &mut W,
+) -> Result<u8, Fault>
+where
+    R::File: Send,
+{
+    let alloc = rt.alloc();
+    let files = asked.get_strs("files").unwrap_or(&[]);
+    if let Some(clash) = files::first_clash(files) {
+        let error = command_line::clash_error(alloc, clash).map_err(|_| Fault::NoMemory)?;
+        return show(rt, &error);
+    }
+    let streams = files::open_all(rt, alloc, files)?;
+    serving::serve(rt, alloc, command_line::plan(asked), streams, writer)?;
+    Ok(0)
 }
 
 // The status that tells of a verdict.

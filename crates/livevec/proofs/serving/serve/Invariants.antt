@@ -1,0 +1,7 @@
+use Rattle.livevec.proofs.serving.serve.Given as goal
+
+abbrev pub ghosts-serve_as-N-Ledger : goal.ghosts-serve_as-N-Ledger
+ghosts-serve_as-N-Ledger g a = record { name = a.blank.name; parts = a.blank.parts }
+
+abbrev pub ghosts-serve_as-N-Naming : goal.ghosts-serve_as-N-Naming
+ghosts-serve_as-N-Naming g a = record { limits = a.plan.limits }

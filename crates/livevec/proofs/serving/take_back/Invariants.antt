@@ -1,0 +1,8 @@
+use Rattle.std.proofs.Common.{◌≡◌, ◌+◌, length}
+use Rattle.livevec.proofs.serving.take_back.Given as goal
+
+abbrev pub invariant-loop-session : goal.invariant-loop-session
+invariant-loop-session g l =
+    (goal.iterator-loop-session g).can_next l.session-iterator ×
+    (goal.iterator-loop-session g).is_finite l.session-iterator ×
+    (l.share.parts ≡ l.fn.share.parts + length l.yielded)
