@@ -1,14 +1,13 @@
 //! Sessions in threads of their own, with workers beside them, and the transcript of it all.
 
-ghost use Rattle.std.specs.Prelude.{◌≡◌, ◌+◌, IfOk, OnOk, vec_len};
-ghost use Rattle.lv_script.specs.Transcript.{AreInOrder};
+ghost use Rattle.std.specs.Prelude.{◌≡◌, ◌+◌, IfOk, vec_len};
 
 use crate::files::Streams;
 use lv_bodies::Six;
 use lv_geometry::Limits;
-use lv_hub::{Hub, Naming, OpenGate, Share, run_session, work};
+use lv_hub::{Hub, Naming, OpenGate, Share, in_order, run_session, work};
 use lv_script::{Claimed, Fault, write_transcript};
-use std::alloc::{AllocError, Global};
+use std::alloc::Global;
 use std::io::{Read, Write};
 use std::marker::Brand;
 use std::sync::Wait;
@@ -201,11 +200,4 @@ fn take_back<N: Naming>(
         all.append(&mut claims).map_err(|_| Fault::NoMemory)?;
     }
     Ok(all)
-}
-
-// Puts reductions in the order of their edits; those at one edit keep theirs.
-fn in_order(claims: &mut Vec<Claimed>) -> Result<(), AllocError>
-    ensures { OnOk result (AreInOrder claims.new.items) }
-{
-    claims.sort_by_key(|claim: &Claimed| claim.edit)
 }

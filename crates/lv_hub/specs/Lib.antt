@@ -1,3 +1,4 @@
 pub mod Counting
 pub mod Session
 pub mod Told
+pub mod Work

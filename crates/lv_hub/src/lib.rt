@@ -19,6 +19,9 @@ pub use desks::Desk;
 pub use gates::{Gate, OpenGate};
 pub use hubs::Hub;
 pub use naming::Naming;
-pub use sessions::run_session;
+pub use sessions::{in_order, run_session};
 pub use shares::Share;
 pub use workers::{Worked, work};
+
+#[cfg(test)]
+mod tests;

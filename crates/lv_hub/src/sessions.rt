@@ -1,8 +1,10 @@
-ghost use Rattle.std.specs.Prelude.{◌≡◌, ◌+◌, ◌≤◌, ◌++◌, ℕ, List, [], Ok, Err, MatchResult, OnOk, IfOk, IfErr, vec_len, vec_capacity};
+ghost use Rattle.std.specs.Prelude.{◌≡◌, ◌+◌, ◌≤◌, ◌++◌, ℕ, List, [], Ok, Err, MatchResult, OnOk, OnErr, IfOk, IfErr, vec_len, vec_capacity};
 ghost use Rattle.lv_bodies.specs.declared.sixes.Six.{Six};
 ghost use Rattle.lv_script.specs.declared.transcripts.Claimed.{Claimed};
 ghost use Rattle.lv_script.specs.Output.{Writes, WritesFront};
 ghost use Rattle.lv_script.specs.Replies.{Conversed};
+ghost use Rattle.lv_script.specs.Transcript.{AreInOrder};
+ghost use Rattle.std.specs.List.Sorted.{IsPermutation};
 ghost use Rattle.lv_hub.specs.Counting.{Holding};
 ghost use Rattle.lv_hub.specs.Session.{LineAnswer, RequestAnswer, SessionState, SessionStep, TellsEdit, TellsReduction, TellsScan};
 ghost use Rattle.lv_hub.specs.Told.{ScanTold};
@@ -19,7 +21,7 @@ use lv_script::{
     Claimed, Fault, LINE, Line, Responder, converse, make_room, put_answer, put_bad, put_receipt,
     put_refusal, put_scan, read_line,
 };
-use std::alloc::Global;
+use std::alloc::{AllocError, Global};
 use std::io::{Read, Write};
 use std::marker::{Brand, Model, PhantomData};
 use std::mem;
@@ -354,4 +356,14 @@ fn scan<N: Naming, T: Wait>(
     } else {
         hub.scan_exclusive(rt, alloc, lo, hi)
     }
+}
+
+/// Puts the reductions of several sessions in the order of their edits, for a transcript; those at one edit stay in theirs.
+/// Where there is no memory to sort them in, none has moved.
+pub fn in_order(claims: &mut Vec<Claimed>) -> Result<(), AllocError>
+    ensures order { OnOk result (AreInOrder claims.new.items) }
+    ensures same { IsPermutation claims.old.items claims.new.items }
+    ensures unmoved { OnErr result (claims.new.items ≡ claims.old.items) }
+{
+    claims.sort_by_key(|claim: &Claimed| claim.edit)
 }

@@ -1,9 +1,11 @@
-ghost use Rattle.std.specs.Prelude.{◌≡◌, ◌+◌, ◌≤◌};
+ghost use Rattle.std.specs.Prelude.{◌≡◌, ◌+◌, ◌^◌, ◌<◌, ◌≤◌};
+ghost use Rattle.lv_hub.specs.Work.{noted};
 
 use crate::gates::Gate;
 use crate::hubs::Hub;
 use crate::naming::Naming;
 use lv_bodies::Body;
+use lv_geometry::Refusal;
 use lv_summary::Accepted;
 use std::sync::Wait;
 use std::thread;
@@ -21,6 +23,21 @@ pub struct Worked {
     pub stale: u64,
     /// How many were refused as another vector's.
     pub strangers: u64,
+}
+
+impl Worked {
+    // Counts what became of an outcome.
+    fn note(&mut self, given: Result<Accepted, Refusal>)
+        requires { self.old.installed + self.old.held + self.old.stale + self.old.strangers + 1 < 2 ^ 64 }
+        ensures { self.new ≡ noted self.old given }
+    {
+        match given {
+            Ok(Accepted::Installed) => self.installed += 1,
+            Ok(Accepted::Held) => self.held += 1,
+            Ok(Accepted::Stale { .. }) => self.stale += 1,
+            Err(_) => self.strangers += 1,
+        }
+    }
 }
 
 /// Refreshes a hub for a number of turns. In each turn it claims a job and, where there is one, passes the gate, computes it
@@ -41,12 +58,7 @@ pub fn work<B: Body, N: Naming, G: Gate, R: Wait>(
                 gate.hold(turn);
                 let outcome = job.run();
                 worked.claimed += 1;
-                match hub.give(rt, outcome) {
-                    Ok(Accepted::Installed) => worked.installed += 1,
-                    Ok(Accepted::Held) => worked.held += 1,
-                    Ok(Accepted::Stale { .. }) => worked.stale += 1,
-                    Err(_) => worked.strangers += 1,
-                }
+                worked.note(hub.give(rt, outcome));
             }
             None => thread::yield_now(),
         }

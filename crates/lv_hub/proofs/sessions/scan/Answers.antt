@@ -1,4 +1,3 @@
-use Rattle.std.proofs.Common.{true, false}
 use Rattle.lv_hub.proofs.sessions.scan.Goals as goal
 
 pub returns-then-inclusive : goal.returns-then-inclusive

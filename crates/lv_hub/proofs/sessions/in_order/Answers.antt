@@ -1,11 +1,11 @@
 use Rattle.std.proofs.Common.{rules, Result, Ok, Err, OnOk}
 use Rattle.std.proofs.lemmas.List.Sorted.{IsNonDecreasingBy-from_sort_by_key}
-use Rattle.livevec.proofs.serving.in_order.Goals as goal
+use Rattle.lv_hub.proofs.sessions.in_order.Goals as goal
 
 on_ok : {T E A B : Type 0} (result : Result T E) → (A → B) → OnOk result A → OnOk result B
 on_ok (Ok x) then holds = then holds
 on_ok (Err e) then holds = holds
 
-pub returns : goal.returns
-returns c =
+pub returns-clause-order : goal.returns-clause-order
+returns-clause-order c =
     on_ok c.sort_by_key.result (λ sorted. IsNonDecreasingBy-from_sort_by_key (λ claim. claim.edit) _ sorted (λ a r q k. search rules)) c.sort_by_key.ensures.sorted

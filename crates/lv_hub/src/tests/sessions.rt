@@ -1,0 +1,292 @@
+ghost use Rattle.std.specs.Prelude.{◌≡◌};
+
+use crate::*;
+use lv_bodies::Six;
+use lv_edits::Edit;
+use lv_geometry::Limits;
+use lv_script::{Claimed, Fault, Verdict, audit, write_transcript};
+use std::alloc::Global;
+use std::fmt::Write;
+use std::marker::Brand;
+use std::process::Abort;
+use std::sync::Wait;
+use std::sync::ledger::Blank;
+use std::test::Fail;
+use std::thread;
+use std::thread::Threads;
+
+// A session that was held: its part of the hub, what it lists, and its replies.
+#[derive(Drop)]
+struct Talk<N: Naming> {
+    share: Share<N>,
+    claims: Vec<Claimed>,
+    replies: Vec<u8>,
+    ghost one: { share.parts ≡ 1 },
+}
+
+// Holds a session on a hub.
+fn converse_on<N: Naming, R: Wait>(
+    rt: &R,
+    alloc: Global,
+    hub: &Hub<Six, N>,
+    share: Share<N>,
+    lines: &[u8],
+) -> Result<Talk<N>, Fault>
+    requires { share.parts ≡ 1 }
+{
+    let mut share = share;
+    let mut lines = lines;
+    let mut replies = Vec::new(alloc);
+    let claims = run_session(rt, alloc, hub, &mut share, &mut lines, &mut replies)?;
+    Ok(Talk {
+        share,
+        claims,
+        replies,
+    })
+}
+
+// The transcript of a journal and of what was listed.
+fn transcript(alloc: Global, journal: &[Edit], claims: &mut Vec<Claimed>) -> Result<Vec<u8>, Fail> {
+    let mut written = Vec::new(alloc);
+    let Ok(()) = in_order(claims) else {
+        return Err(Fail::new("memory"));
+    };
+    write_transcript(alloc, journal, claims, &mut written)?;
+    Ok(written)
+}
+
+// Sees that the transcript of a journal and of what was listed is sound.
+fn assert_sound(
+    rt: &impl Abort,
+    alloc: Global,
+    journal: &[Edit],
+    claims: &mut Vec<Claimed>,
+) -> Result<(), Fail> {
+    let transcript = transcript(alloc, journal, claims)?;
+    let mut verdict = Vec::new(alloc);
+    let answered = audit(alloc, &mut transcript.as_slice(), &mut verdict)?;
+    assert_eq!(rt; answered, Verdict::Yes);
+    assert_eq!(rt; verdict.as_slice(), "yes\n".as_bytes());
+    Ok(())
+}
+
+// A session alone: what it is answered, and the transcript of it.
+fn alone<N: Naming, R: Wait + Abort>(
+    rt: &R,
+    alloc: Global,
+    limits: Limits,
+    blank: Blank,
+    lines: &[u8],
+    replies: &[u8],
+    wanted: &[u8],
+) -> Result<(), Fail>
+    requires name { blank.name ≡ N.name }
+    requires all { blank.parts ≡ N.parts }
+    requires one { blank.parts ≡ 1 }
+    requires limits { limits ≡ N.limits }
+{
+    let (hub, share) = Hub::<Six, N>::new(alloc, limits, Six::program(), blank, 1);
+    let Talk {
+        share,
+        mut claims,
+        replies: told,
+    } = converse_on(rt, alloc, &hub, share, lines)?;
+    assert_eq!(rt; told.as_slice(), replies);
+    let live = hub.close(share);
+    let written = transcript(alloc, live.journal(), &mut claims)?;
+    assert_eq!(rt; written.as_slice(), wanted);
+    assert_sound(rt, alloc, live.journal(), &mut claims)
+}
+
+// What a session of each kind of line is answered.
+fn session_of_each_line<R: Wait + Abort>(rt: &R, alloc: Global) -> Result<(), Fail> {
+    alone::<Brand, R>(
+        rt,
+        alloc,
+        Limits::greatest(),
+        Blank::new(1),
+        b"# a session\npush 5\nreduce sum 0 1\nwrite 0 -2\nreserve 9\nsize\nreduce best 0 1\ninc sum 0 1\nexc sum 0 2\nreduce sum 1 0\npop\npop\n",
+        b"edit 1 at 0\nat 1 sum 5\nedit 2 was 5\nedit 3 capacity 24\nbad 6\nat 3 best -2\nat 3 inc sum 1\n= 18446744073709551614\nrefused 3\nrefused 7\nedit 4 value -2\nrefused 2\n",
+        b"livevec 1\nj push 5\nj write 0 -2\nj reserve 9\nj pop\na 1 sum 0 1 5\na 3 best 0 1 -2\nend\n",
+    )
+}
+
+#[test]
+fn a_session_of_each_line(rt: HostRuntime) -> Result<(), Fail> {
+    session_of_each_line(&rt, rt.alloc())
+}
+
+#[test]
+fn a_session_alone(rt: HostRuntime) -> Result<(), Fail> {
+    alone::<Brand, _>(
+        &rt,
+        rt.alloc(),
+        Limits::greatest(),
+        Blank::new(1),
+        b"push 5\nreduce sum 0 1\npop\npop\n",
+        b"edit 1 at 0\nat 1 sum 5\nedit 2 value 5\nrefused 2\n",
+        b"livevec 1\nj push 5\nj pop\na 1 sum 0 1 5\nend\n",
+    )
+}
+
+// The lines of a session that pushes an element 200 times, and asks for a total after each tenth.
+fn lines(alloc: Global, x: i64) -> Result<String, Fail> {
+    let mut text = String::new(alloc);
+    for n in 1..=200u32 {
+        writeln!(text, "push {x}")?;
+        if n % 10 == 0 {
+            writeln!(text, "reduce sum 0 {n}")?;
+        }
+    }
+    Ok(text)
+}
+
+// The number that is a word.
+fn number(word: Option<&str>) -> Result<u32, Fail> {
+    match word {
+        Some(word) => Ok(word.parse::<u32>()?),
+        None => Err(Fail::new("a number is missing")),
+    }
+}
+
+// Sees that a receipt has a number that no other has, that the index is one less, and that the edit of that number in the journal is the session's push.
+fn assert_receipt(
+    rt: &impl Abort,
+    edit: u32,
+    index: u32,
+    x: i64,
+    journal: &[Edit],
+    seen: &mut [bool],
+) {
+    assert_eq!(rt; index.checked_add(1), Some(edit));
+    assert_eq!(rt; journal.get(index as usize), Some(&Edit::Push(x)));
+    match seen.get_mut(index as usize) {
+        Some(seen) => {
+            assert!(rt; !*seen);
+            *seen = true;
+        }
+        None => panic!(rt; "a number above that of the last edit"),
+    }
+}
+
+// Sees one line of a session's replies, after an edit of a number; gives the number of the last receipt.
+fn assert_reply(
+    rt: &impl Abort,
+    reply: &str,
+    last: u32,
+    x: i64,
+    journal: &[Edit],
+    seen: &mut [bool],
+) -> Result<u32, Fail> {
+    let mut words = reply.split(' ');
+    match words.next() {
+        Some("edit") => {
+            let edit = number(words.next())?;
+            assert_eq!(rt; words.next(), Some("at"));
+            assert_receipt(rt, edit, number(words.next())?, x, journal, seen);
+            Ok(edit)
+        }
+        Some("at") => {
+            let edit = number(words.next())?;
+            assert!(rt; last <= edit);
+            Ok(last)
+        }
+        _ => Err(Fail::new("neither a receipt nor an answer")),
+    }
+}
+
+// Sees all replies of a session.
+fn assert_replies(
+    rt: &impl Abort,
+    replies: &[u8],
+    x: i64,
+    journal: &[Edit],
+    seen: &mut [bool],
+) -> Result<(), Fail> {
+    let mut last = 0;
+    for reply in str::from_utf8(replies)?.lines() {
+        last = assert_reply(rt, reply, last, x, journal, seen)?;
+    }
+    Ok(())
+}
+
+// Sees that two sessions, each with an element of its own, are one history.
+fn assert_one_history(
+    rt: &impl Abort,
+    alloc: Global,
+    journal: &[Edit],
+    claims: &mut Vec<Claimed>,
+    replies: &[u8],
+    others: &[u8],
+) -> Result<(), Fail> {
+    let mut seen = Vec::from_elem(alloc, false, 400)?;
+    assert_replies(rt, replies, 1, journal, &mut seen)?;
+    assert_replies(rt, others, 1000, journal, &mut seen)?;
+    assert!(rt; seen.iter().all(|seen| *seen));
+    assert_eq!(rt; (journal.len(), claims.len()), (400, 40));
+    assert_sound(rt, alloc, journal, claims)
+}
+
+// Holds two sessions in two threads.
+fn two_talks<N: Naming + Send + Sync, R: Threads + Wait + Sync>(
+    rt: &R,
+    alloc: Global,
+    hub: &Hub<Six, N>,
+    share: Share<N>,
+    lines: (&[u8], &[u8]),
+) -> Result<(Talk<N>, Talk<N>), Fault>
+    requires { share.parts ≡ 2 }
+{
+    let mut mine = share;
+    let theirs = mine.split();
+    let (first, second) = lines;
+    let (one, other) = thread::join(
+        rt,
+        move || converse_on(rt, alloc, hub, mine, first),
+        move || converse_on(rt, alloc, hub, theirs, second),
+    );
+    Ok((one?, other?))
+}
+
+// A hub that two sessions edit, closed.
+fn history<N: Naming + Send + Sync, R: Threads + Wait + Abort + Sync>(
+    rt: &R,
+    alloc: Global,
+    limits: Limits,
+    blank: Blank,
+) -> Result<(), Fail>
+    requires name { blank.name ≡ N.name }
+    requires all { blank.parts ≡ N.parts }
+    requires two { blank.parts ≡ 2 }
+    requires limits { limits ≡ N.limits }
+{
+    let (hub, share) = Hub::<Six, N>::new(alloc, limits, Six::program(), blank, 2);
+    let ones = lines(alloc, 1)?;
+    let thousands = lines(alloc, 1000)?;
+    let (one, other) = two_talks(
+        rt,
+        alloc,
+        &hub,
+        share,
+        (ones.as_bytes(), thousands.as_bytes()),
+    )?;
+    let Talk {
+        mut share,
+        mut claims,
+        replies,
+    } = one;
+    let Talk {
+        share: theirs,
+        claims: mut listed,
+        replies: others,
+    } = other;
+    share.join(theirs);
+    claims.append(&mut listed)?;
+    let live = hub.close(share);
+    assert_one_history(rt, alloc, live.journal(), &mut claims, &replies, &others)
+}
+
+#[test]
+fn two_sessions_one_history(rt: HostRuntime) -> Result<(), Fail> {
+    history::<Brand, _>(&rt, rt.alloc(), Limits::greatest(), Blank::new(2))
+}
