@@ -5,7 +5,7 @@ use lv_geometry::{Limits, Node, Refusal};
 use lv_summary::{Accepted, Summaries};
 use std::alloc::Global;
 use std::marker::Model;
-use std::test::Fail;
+use std::process::Abort;
 
 // A vector of at most 64 elements, with their sums and claims.
 #[derive(Drop)]
@@ -85,14 +85,17 @@ fn told(job: Option<Job<Sum>>) -> Option<(u32, u32, u32, u64)> {
     Some((level, number, job.version(), job.run().summary()))
 }
 
-#[test]
-fn a_block_is_claimed_once(rt: HostRuntime) -> Result<(), Fail> {
-    let mut kept = Kept::new(rt.alloc())?;
-    for _ in 0..7 {
+fn push_ones(kept: &mut Kept, count: u32) -> Result<(), Refusal> {
+    for _ in 0..count {
         kept.push(1)?;
     }
+    Ok(())
+}
+
+fn check_one_claim(rt: &impl Abort, kept: &mut Kept) -> Result<(), Refusal> {
+    push_ones(kept, 7)?;
     let early = told(kept.claim());
-    kept.push(1)?;
+    push_ones(kept, 1)?;
     let first = told(kept.claim());
     let second = told(kept.claim());
     kept.forget();
@@ -104,35 +107,60 @@ fn a_block_is_claimed_once(rt: HostRuntime) -> Result<(), Fail> {
     Ok(())
 }
 
+// A call drops the vector, here as in the test below, for the proof of a body that drops it by itself is long.
 #[test]
-fn children_come_before_their_parent(rt: HostRuntime) -> Result<(), Fail> {
+fn a_block_is_claimed_once(rt: HostRuntime) -> Result<(), Refusal> {
     let mut kept = Kept::new(rt.alloc())?;
-    for x in 0..64 {
-        kept.push(x)?;
-    }
+    let seen = check_one_claim(&rt, &mut kept);
+    drop(kept);
+    seen
+}
+
+// Refreshes, and tells the node, the version and the sum, if something was installed.
+fn refreshed(kept: &mut Kept) -> Option<(Node, u32, u64)> {
+    let outcome = kept.refresh()?;
+    Some((outcome.node(), outcome.version(), outcome.summary()))
+}
+
+// Sees that the eight blocks of the elements 0 to 63 are refreshed in turn.
+fn check_blocks(rt: &impl Abort, kept: &mut Kept) {
     for block in 0..8 {
-        let outcome = kept.refresh();
         let sum = 64 * u64::from(block) + 28;
         let node = Node {
             level: 1,
             number: block,
         };
         assert_eq!(rt;
-            outcome.map(|outcome| (outcome.node(), outcome.version(), outcome.summary())),
+            refreshed(kept),
             Some((node, 8 * block + 8, sum)),
             "block {block}"
         );
     }
-    let parent = kept.refresh();
-    let last = kept.refresh();
+}
+
+fn push_to_64(kept: &mut Kept) -> Result<(), Refusal> {
+    for x in 0..64 {
+        kept.push(x)?;
+    }
+    Ok(())
+}
+
+fn check_parent(rt: &impl Abort, kept: &mut Kept) -> Result<(), Refusal> {
+    push_to_64(kept)?;
+    check_blocks(rt, kept);
     let node = Node {
         level: 2,
         number: 0,
     };
-    assert_eq!(rt;
-        parent.map(|outcome| (outcome.node(), outcome.version(), outcome.summary())),
-        Some((node, 64, 2016))
-    );
-    assert!(rt; last.is_none());
+    assert_eq!(rt; refreshed(kept), Some((node, 64, 2016)));
+    assert!(rt; kept.refresh().is_none());
     Ok(())
+}
+
+#[test]
+fn children_come_before_their_parent(rt: HostRuntime) -> Result<(), Refusal> {
+    let mut kept = Kept::new(rt.alloc())?;
+    let seen = check_parent(&rt, &mut kept);
+    drop(kept);
+    seen
 }

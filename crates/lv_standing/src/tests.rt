@@ -5,8 +5,9 @@ use lv_bodies::{Kind, Shown};
 use lv_edits::{Edit, Receipt};
 use lv_geometry::{Limits, Refusal};
 use lv_summary::Accepted;
-use std::alloc::Global;
+use std::alloc::{AllocError, Global};
 use std::collections::HashMap;
+use std::process::Abort;
 use std::test::Fail;
 
 #[test]
@@ -30,16 +31,25 @@ fn names_are_checked(rt: HostRuntime) {
     }
 }
 
+// What is found under two names, where 1 was kept under the first and then 2 under the second.
+fn found_under(
+    alloc: Global,
+    first: Name,
+    second: Name,
+) -> Result<(Option<u32>, Option<u32>), AllocError> {
+    let mut kept = HashMap::new(alloc);
+    kept.insert(first, 1)?;
+    kept.insert(second, 2)?;
+    Ok((kept.get(&first).copied(), kept.get(&second).copied()))
+}
+
 #[test]
 fn names_are_keys(rt: HostRuntime) -> Result<(), Fail> {
     let first = Name::new(b"w1").ok_or("w1")?;
     let second = Name::new(b"w10").ok_or("w10")?;
-    assert_ne!(rt; first, second);
-    let mut kept = HashMap::new(rt.alloc());
-    kept.insert(first, 1)?;
-    kept.insert(second, 2)?;
-    assert_eq!(rt; kept.get(&first).copied(), Some(1));
-    assert_eq!(rt; kept.get(&second).copied(), Some(2));
+    let found = found_under(rt.alloc(), first, second)?;
+    assert!(rt; first != second);
+    assert_eq!(rt; found, (Some(1), Some(2)));
     Ok(())
 }
 
@@ -103,30 +113,47 @@ fn play(alloc: Global, standing: &mut Standing, step: Step) -> Heard {
     }
 }
 
-#[test]
-fn a_query_is_told_of_what_changes_it(rt: HostRuntime) -> Result<(), Fail> {
-    let name = Name::new(b"s").ok_or("s")?;
-    let other = Name::new(b"t").ok_or("t")?;
+// Sees that a call is answered like this.
+fn check_step(rt: &impl Abort, alloc: Global, standing: &mut Standing, step: Step, heard: Heard) {
+    assert_eq!(rt; play(alloc, standing, step), heard, "{step:?}");
+}
+
+// Sees that calls are answered like this, one after another.
+fn check_each(rt: &impl Abort, alloc: Global, standing: &mut Standing, steps: &[(Step, Heard)]) {
+    for (step, heard) in steps {
+        check_step(rt, alloc, standing, *step, *heard);
+    }
+}
+
+// Sees that calls on a new vector are answered like this. A call drops the vector, here as in the tests below, for the proof
+// of a body that drops it by itself is long.
+fn check_steps(rt: &impl Abort, alloc: Global, steps: &[(Step, Heard)]) {
+    let mut standing = Standing::new(alloc, Limits::greatest());
+    check_each(rt, alloc, &mut standing, steps);
+    drop(standing);
+}
+
+// An edit that no query is told of.
+fn untold(edit: Edit, receipt: Receipt) -> (Step, Heard) {
+    (Step::Edit(edit), Heard::Told(receipt, 0, None, None))
+}
+
+// The steps by which a query of a name is told of what changes it, and others are refused.
+fn steps_of_a_query(name: Name, other: Name) -> [(Step, Heard); 12] {
     let value = Shown::Sum(4);
     let note = Note { name, value };
-    let mut standing = Standing::new(rt.alloc(), Limits::greatest());
-    for (step, heard) in [
-        (
-            Step::Edit(Edit::Push(4)),
-            Heard::Told(Receipt::Pushed { edit: 1, index: 0 }, 0, None, None),
-        ),
-        (
-            Step::Edit(Edit::Push(6)),
-            Heard::Told(Receipt::Pushed { edit: 2, index: 1 }, 0, None, None),
-        ),
+    let popped = Receipt::Popped { edit: 4, value: 6 };
+    [
+        untold(Edit::Push(4), Receipt::Pushed { edit: 1, index: 0 }),
+        untold(Edit::Push(6), Receipt::Pushed { edit: 2, index: 1 }),
         (Step::Watch(name, Kind::Sum, 0, 2), Heard::Done),
-        (
-            Step::Edit(Edit::Write { index: 0, value: 4 }),
-            Heard::Told(Receipt::Written { edit: 3, before: 4 }, 0, None, None),
+        untold(
+            Edit::Write { index: 0, value: 4 },
+            Receipt::Written { edit: 3, before: 4 },
         ),
         (
             Step::Edit(Edit::Pop),
-            Heard::Told(Receipt::Popped { edit: 4, value: 6 }, 1, Some(note), None),
+            Heard::Told(popped, 1, Some(note), None),
         ),
         (
             Step::Answer(name),
@@ -147,16 +174,19 @@ fn a_query_is_told_of_what_changes_it(rt: HostRuntime) -> Result<(), Fail> {
         ),
         (Step::Unwatch(name), Heard::Done),
         (Step::Answer(name), Heard::Refused(Refusal::NoSuchName)),
-    ] {
-        assert_eq!(rt; play(rt.alloc(), &mut standing, step), heard, "{step:?}");
-    }
-    Ok(())
+    ]
 }
 
 #[test]
-fn notes_come_in_order_of_registration(rt: HostRuntime) -> Result<(), Fail> {
-    let first = Name::new(b"z").ok_or("z")?;
-    let second = Name::new(b"a").ok_or("a")?;
+fn a_query_is_told_of_what_changes_it(rt: HostRuntime) -> Result<(), Fail> {
+    let name = Name::new(b"s").ok_or("s")?;
+    let other = Name::new(b"t").ok_or("t")?;
+    check_steps(&rt, rt.alloc(), &steps_of_a_query(name, other));
+    Ok(())
+}
+
+// The steps by which two queries are told of one edit.
+fn steps_of_two_queries(first: Name, second: Name) -> [(Step, Heard); 3] {
     let sum = Note {
         name: first,
         value: Shown::Sum(3),
@@ -165,22 +195,22 @@ fn notes_come_in_order_of_registration(rt: HostRuntime) -> Result<(), Fail> {
         name: second,
         value: Shown::Greatest(Some(3)),
     };
-    let mut standing = Standing::new(rt.alloc(), Limits::greatest());
-    for (step, heard) in [
+    let pushed = Receipt::Pushed { edit: 1, index: 0 };
+    [
         (Step::Watch(first, Kind::Sum, 0, 1), Heard::Done),
         (Step::Watch(second, Kind::Greatest, 0, 1), Heard::Done),
         (
             Step::Edit(Edit::Push(3)),
-            Heard::Told(
-                Receipt::Pushed { edit: 1, index: 0 },
-                2,
-                Some(sum),
-                Some(greatest),
-            ),
+            Heard::Told(pushed, 2, Some(sum), Some(greatest)),
         ),
-    ] {
-        assert_eq!(rt; play(rt.alloc(), &mut standing, step), heard, "{step:?}");
-    }
+    ]
+}
+
+#[test]
+fn notes_come_in_order_of_registration(rt: HostRuntime) -> Result<(), Fail> {
+    let first = Name::new(b"z").ok_or("z")?;
+    let second = Name::new(b"a").ok_or("a")?;
+    check_steps(&rt, rt.alloc(), &steps_of_two_queries(first, second));
     Ok(())
 }
 
@@ -194,22 +224,47 @@ fn numbered(number: u8) -> Option<Name>
     Name::new(&[b'w', b'0' + number / 10, b'0' + number % 10])
 }
 
+// Registers a query of the name with this number, if there is such a name.
+fn watch_numbered(standing: &mut Standing, number: u8) -> Option<Heard>
+    requires { number ≤ 99 }
+{
+    let name = numbered(number)?;
+    Some(watch(standing, name, Kind::Sum, 0, 1))
+}
+
+// Sees that the next query, of the name with this number, is answered like this.
+fn check_numbered(rt: &impl Abort, standing: &mut Standing, number: u8, heard: Heard)
+    requires { number ≤ 99 }
+{
+    assert_eq!(rt; watch_numbered(standing, number), Some(heard), "{number}");
+}
+
+// Sees that 64 queries are registered and no more, and that a name is sought first.
+fn check_64(rt: &impl Abort, standing: &mut Standing) {
+    for number in 1..65 {
+        check_numbered(rt, standing, number, Heard::Done);
+    }
+    check_numbered(rt, standing, 65, Heard::Refused(Refusal::TooMany));
+    check_numbered(rt, standing, 1, Heard::Refused(Refusal::NameTaken));
+}
+
 #[test]
-fn there_are_64_queries(rt: HostRuntime) -> Result<(), Fail> {
+fn there_are_64_queries(rt: HostRuntime) {
     let mut standing = Standing::new(rt.alloc(), Limits::greatest());
-    for number in 1..67 {
-        // The last is the first name again, where there are 64 already.
-        let (name, heard) = match number {
-            65 => (numbered(65), Heard::Refused(Refusal::TooMany)),
-            66 => (numbered(1), Heard::Refused(Refusal::NameTaken)),
-            _ => (numbered(number), Heard::Done),
-        };
-        let name = name.ok_or("a name")?;
-        assert_eq!(rt;
-            watch(&mut standing, name, Kind::Sum, 0, 1),
-            heard,
-            "{number}"
-        );
+    check_64(&rt, &mut standing);
+    drop(standing);
+}
+
+// Adds an element, and tells nothing of the notes.
+fn push(alloc: Global, standing: &mut Standing, x: i64) -> Result<(), Refusal> {
+    standing.edit(alloc, Edit::Push(x))?;
+    Ok(())
+}
+
+// Adds the elements 0 to 7.
+fn push_eight(alloc: Global, standing: &mut Standing) -> Result<(), Refusal> {
+    for x in 0..8 {
+        push(alloc, standing, x)?;
     }
     Ok(())
 }
@@ -226,14 +281,24 @@ fn refresh(standing: &mut Standing) -> Option<Accepted> {
     Some(standing.accept(outcome))
 }
 
-#[test]
-fn a_vector_with_queries_refreshes(rt: HostRuntime) -> Result<(), Fail> {
-    let mut standing = Standing::new(rt.alloc(), Limits::greatest());
-    for number in 0..8 {
-        standing.edit(rt.alloc(), Edit::Push(number))?;
-    }
-    assert_eq!(rt; refresh(&mut standing), Some(Accepted::Installed));
-    let read = standing.live().reduce(0, 8)?;
-    assert_eq!(rt; (read.cells_read, read.summaries_read), (0, 1));
+// How many elements and how many summaries the reduction of the first eight elements reads.
+fn reads_of_eight(standing: &Standing) -> Result<(u32, u32), Refusal> {
+    let answer = standing.live().reduce(0, 8)?;
+    Ok((answer.cells_read, answer.summaries_read))
+}
+
+// Sees that a vector of eight elements is refreshed, and that a reduction then reads one summary.
+fn check_refresh(rt: &impl Abort, alloc: Global, standing: &mut Standing) -> Result<(), Refusal> {
+    push_eight(alloc, standing)?;
+    assert_eq!(rt; refresh(standing), Some(Accepted::Installed));
+    assert_eq!(rt; reads_of_eight(standing), Ok((0, 1)));
     Ok(())
+}
+
+#[test]
+fn a_vector_with_queries_refreshes(rt: HostRuntime) -> Result<(), Refusal> {
+    let mut standing = Standing::new(rt.alloc(), Limits::greatest());
+    let seen = check_refresh(&rt, rt.alloc(), &mut standing);
+    drop(standing);
+    seen
 }
