@@ -2,29 +2,39 @@ ghost use Rattle.std.specs.Prelude.{◌≡◌, ◌↔◌, ℕ, ℤ, IsTrue};
 ghost use Rattle.lv_bodies.specs.Body.{Operations, BodyLaws, CanJoin, JoinsEndToEnd};
 ghost use Rattle.lv_bodies.specs.FoldLaws.{fold_of-append};
 
+/// What a reduction computes: an identity, what an element lifts to, and an associative join. The fold of a list goes from the
+/// identity, from left to right. oneTBB asks associativity of a reduction; the two-sided identity and the bound of 2^20
+/// elements are this project's.
 pub trait Body: Copy + Send + Sync {
+    /// A summary of some elements: plain data, equal where its meaning is.
     type S: Copy + Eq + Send + Sync;
 
+    // What decides the operations: plain data, as a table, or nothing.
     ghost Meaning: { Type 0 };
 
     ghost meaning: { Self → Meaning };
 
     ghost operations: { Meaning → Operations Self.S };
 
+    // Whether a summary can be that of so many elements.
     ghost is_within: { Meaning → Self.S → ℕ → Type 0 };
 
     ghost laws: { (b : Self) → BodyLaws (operations (meaning b)) (is_within (meaning b)) };
 
+    /// The summary of nothing.
     fn identity(&self) -> Self::S
         ensures { result ≡ (operations (meaning self.now)).identity };
 
+    /// The summary of one element.
     fn lift(&self, x: i64) -> Self::S
         ensures { result ≡ (operations (meaning self.now)).lift x };
 
+    /// The summary of the elements of `a`, then those of `b`: at most 2^20 together.
     fn combine(&self, a: Self::S, b: Self::S) -> Self::S
         requires { CanJoin (is_within (meaning self.now)) a b }
         ensures { result ≡ (operations (meaning self.now)).join a b };
 
+    /// Whether two bodies mean the same, and so compute the same.
     fn same(&self, other: &Self) -> bool
         ensures { IsTrue result ↔ (meaning self.now ≡ meaning other.now) };
 
