@@ -10,6 +10,7 @@ mod desks;
 mod gates;
 mod hubs;
 mod naming;
+mod replying;
 mod requests;
 mod sessions;
 mod shares;

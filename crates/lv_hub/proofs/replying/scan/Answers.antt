@@ -1,4 +1,4 @@
-use Rattle.lv_hub.proofs.sessions.scan.Goals as goal
+use Rattle.lv_hub.proofs.replying.scan.Goals as goal
 
 pub returns-then-inclusive : goal.returns-then-inclusive
 returns-then-inclusive g c = rw c.if-inclusive.true c.scan_inclusive.ensures.told

@@ -1,0 +1,217 @@
+ghost use Rattle.std.specs.Prelude.{◌≡◌, ◌+◌, ◌≤◌, ◌++◌, ℕ, List, OnOk, IfErr, vec_len, vec_capacity};
+ghost use Rattle.lv_bodies.specs.declared.sixes.Six.{Six};
+ghost use Rattle.lv_script.specs.declared.transcripts.Claimed.{Claimed};
+ghost use Rattle.lv_script.specs.Output.{Writes, WritesFront};
+ghost use Rattle.lv_hub.specs.Session.{LineAnswer, RequestAnswer, SessionState, TellsEdit, TellsReduction, TellsScan};
+ghost use Rattle.lv_hub.specs.Told.{ScanTold};
+
+use crate::hubs::Hub;
+use crate::naming::Naming;
+use crate::requests::{Request, request_of};
+use crate::shares::Share;
+use lv_bodies::{Body, Kind, Six, face};
+use lv_edits::Edit;
+use lv_geometry::Refusal;
+use lv_reduce::Scan;
+use lv_script::{
+    Claimed, Fault, LINE, Line, put_answer, put_bad, put_receipt, put_refusal, put_scan,
+};
+use std::alloc::Global;
+use std::io::Write;
+use std::sync::Wait;
+
+/// Answers a line of a session, on a hub: its share counts what is accepted, and `claims` lists the reductions.
+pub fn answer_line<N: Naming, T: Wait, W: Write>(
+    rt: &T,
+    alloc: Global,
+    hub: &Hub<Six, N>,
+    share: &mut Share<N>,
+    claims: &mut Vec<Claimed>,
+    number: u32,
+    line: Line,
+    writer: &mut W,
+    held: &mut Vec<u8>,
+) -> Result<(), Fault>
+    requires { vec_len held.old + LINE ≤ vec_capacity held.old }
+    ensures ok { OnOk result ((reply : List ℕ)
+        × LineAnswer (λ (six : Six). ⟦<Six as Body>⟧.operations (⟦<Six as Body>⟧.meaning six)) N.limits record { count = share.old.count; claims = claims.old.items } number line reply
+        record { count = share.new.count; claims = claims.new.items }
+        × Writes (W.contents writer.old) held.old.items (W.contents writer.new) held.new.items reply) }
+    ensures fault { IfErr result (λ fault. (fault ≡ Fault.WriteFault) × (reply : List ℕ)
+        × LineAnswer (λ (six : Six). ⟦<Six as Body>⟧.operations (⟦<Six as Body>⟧.meaning six)) N.limits record { count = share.old.count; claims = claims.old.items } number line reply
+        record { count = share.new.count; claims = claims.new.items }
+        × WritesFront (W.contents writer.old) held.old.items (W.contents writer.new) reply) }
+    ensures parts { share.new.parts ≡ share.old.parts }
+    ensures more { share.old.count ≤ share.new.count }
+    ensures room { vec_capacity held.old ≤ vec_capacity held.new }
+{
+    match line {
+        Line::Nothing => {}
+        Line::Bad => put_bad(held, number),
+        Line::Do(command) => {
+            return answer(
+                rt,
+                alloc,
+                hub,
+                share,
+                claims,
+                number,
+                request_of(command),
+                writer,
+                held,
+            );
+        }
+    }
+    Ok(())
+}
+
+// Answers a request. Only the reply to a scan may be longer than what is held.
+fn answer<N: Naming, T: Wait, W: Write>(
+    rt: &T,
+    alloc: Global,
+    hub: &Hub<Six, N>,
+    share: &mut Share<N>,
+    claims: &mut Vec<Claimed>,
+    number: u32,
+    request: Request,
+    writer: &mut W,
+    held: &mut Vec<u8>,
+) -> Result<(), Fault>
+    requires { vec_len held.old + LINE ≤ vec_capacity held.old }
+    ensures ok { OnOk result ((reply : List ℕ)
+        × RequestAnswer (λ (six : Six). ⟦<Six as Body>⟧.operations (⟦<Six as Body>⟧.meaning six)) N.limits record { count = share.old.count; claims = claims.old.items } number request reply
+        record { count = share.new.count; claims = claims.new.items }
+        × Writes (W.contents writer.old) held.old.items (W.contents writer.new) held.new.items reply) }
+    ensures fault { IfErr result (λ fault. (fault ≡ Fault.WriteFault) × (reply : List ℕ)
+        × RequestAnswer (λ (six : Six). ⟦<Six as Body>⟧.operations (⟦<Six as Body>⟧.meaning six)) N.limits record { count = share.old.count; claims = claims.old.items } number request reply
+        record { count = share.new.count; claims = claims.new.items }
+        × WritesFront (W.contents writer.old) held.old.items (W.contents writer.new) reply) }
+    ensures parts { share.new.parts ≡ share.old.parts }
+    ensures more { share.old.count ≤ share.new.count }
+    ensures room { vec_capacity held.old ≤ vec_capacity held.new }
+{
+    match request {
+        Request::Edited(edit) => put_edit(rt, hub, share, edit, held),
+        Request::Reduced { kind, lo, hi } => put_reduction(rt, hub, claims, kind, lo, hi, held),
+        Request::Scanned {
+            inclusive,
+            kind,
+            lo,
+            hi,
+        } => return put_scanned(rt, alloc, hub, inclusive, kind, lo, hi, writer, held),
+        Request::Unknown => put_bad(held, number),
+    }
+    Ok(())
+}
+
+// Makes an edit, and tells its receipt or its refusal.
+fn put_edit<N: Naming, T: Wait>(
+    rt: &T,
+    hub: &Hub<Six, N>,
+    share: &mut Share<N>,
+    edit: Edit,
+    held: &mut Vec<u8>,
+)
+    requires { vec_len held.old + LINE ≤ vec_capacity held.old }
+    ensures answer { (reply : List ℕ)
+        × ((claims : List Claimed) → TellsEdit N.limits record { count = share.old.count; claims = claims } edit reply record { count = share.new.count; claims = claims })
+        × (held.new.items ≡ held.old.items ++ reply) }
+    ensures parts { share.new.parts ≡ share.old.parts }
+    ensures more { share.old.count ≤ share.new.count }
+    ensures room { vec_capacity held.old ≤ vec_capacity held.new }
+{
+    match hub.edit(rt, share, edit) {
+        Ok(receipt) => put_receipt(held, receipt),
+        Err(refusal) => put_refusal(held, refusal),
+    }
+}
+
+// Reduces a range, and lists the answer.
+fn put_reduction<N: Naming, T: Wait>(
+    rt: &T,
+    hub: &Hub<Six, N>,
+    claims: &mut Vec<Claimed>,
+    kind: Kind,
+    lo: u32,
+    hi: u32,
+    held: &mut Vec<u8>,
+)
+    requires { vec_len held.old + LINE ≤ vec_capacity held.old }
+    ensures answer { (reply : List ℕ)
+        × ((count : ℕ) → TellsReduction (λ (six : Six). ⟦<Six as Body>⟧.operations (⟦<Six as Body>⟧.meaning six)) N.limits record { count = count; claims = claims.old.items } kind lo hi reply record { count = count; claims = claims.new.items })
+        × (held.new.items ≡ held.old.items ++ reply) }
+    ensures room { vec_capacity held.old ≤ vec_capacity held.new }
+{
+    match hub.reduce(rt, lo, hi) {
+        Ok(answer) => {
+            let value = face(&Six::program(), kind, answer.value);
+            let claim = Claimed {
+                edit: answer.edit,
+                kind,
+                lo,
+                hi,
+                value,
+            };
+            match claims.push(claim) {
+                Ok(()) => put_answer(held, answer.edit, kind, value),
+                Err(_) => put_refusal(held, Refusal::NoMemory),
+            }
+        }
+        Err(refusal) => put_refusal(held, refusal),
+    }
+}
+
+// Scans a range, and tells the values.
+fn put_scanned<N: Naming, T: Wait, W: Write>(
+    rt: &T,
+    alloc: Global,
+    hub: &Hub<Six, N>,
+    inclusive: bool,
+    kind: Kind,
+    lo: u32,
+    hi: u32,
+    writer: &mut W,
+    held: &mut Vec<u8>,
+) -> Result<(), Fault>
+    requires { vec_len held.old + LINE ≤ vec_capacity held.old }
+    ensures ok { OnOk result ((reply : List ℕ)
+        × ((state : SessionState) → TellsScan (λ (six : Six). ⟦<Six as Body>⟧.operations (⟦<Six as Body>⟧.meaning six)) N.limits state inclusive kind lo hi reply state)
+        × Writes (W.contents writer.old) held.old.items (W.contents writer.new) held.new.items reply) }
+    ensures fault { IfErr result (λ fault. (fault ≡ Fault.WriteFault) × (reply : List ℕ)
+        × ((state : SessionState) → TellsScan (λ (six : Six). ⟦<Six as Body>⟧.operations (⟦<Six as Body>⟧.meaning six)) N.limits state inclusive kind lo hi reply state)
+        × WritesFront (W.contents writer.old) held.old.items (W.contents writer.new) reply) }
+    ensures room { vec_capacity held.old ≤ vec_capacity held.new }
+{
+    match scan(rt, alloc, hub, inclusive, lo, hi) {
+        Ok(scan) => put_scan(
+            writer,
+            held,
+            scan.edit,
+            inclusive,
+            kind,
+            scan.values.as_slice(),
+        ),
+        Err(refusal) => {
+            put_refusal(held, refusal);
+            Ok(())
+        }
+    }
+}
+
+// One of the two scans.
+fn scan<N: Naming, T: Wait>(
+    rt: &T,
+    alloc: Global,
+    hub: &Hub<Six, N>,
+    inclusive: bool,
+    lo: u32,
+    hi: u32,
+) -> Result<Scan<<Six as Body>::S>, Refusal>
+    ensures { ScanTold (λ (six : Six). ⟦<Six as Body>⟧.operations (⟦<Six as Body>⟧.meaning six)) N.limits lo hi inclusive result }
+{
+    if inclusive {
+        hub.scan_inclusive(rt, alloc, lo, hi)
+    } else {
+        hub.scan_exclusive(rt, alloc, lo, hi)
+    }
+}
