@@ -1,49 +1,46 @@
 -- What the calls of a vector with standing queries make of a script.
-use Rattle.std.proofs.Common.{◌≡◌, ◌⊎◌, ℕ, ◌+◌, ◌<◌, ◌≤◌, Bool, true, false, Option, Some, None, option_map, Result, Ok, Err, OnOk, IfErr, List, [], ◌∷◌, ◌++◌, length, map, take, drop, ◌-◌, arith, subst, refl, sym, ap, ◌∙◌, inl, inr, if◌then◌else◌}
+use Rattle.std.proofs.Common.{◌≡◌, ℕ, ◌+◌, Bool, true, false, Option, Some, None, option_map, Result, Ok, Err, OnOk, IfErr, List, [], ◌∷◌, ◌++◌, length, map, take, drop, ◌-◌, arith, subst, refl, sym, ap, ◌∙◌, inl, inr}
 use Rattle.std.specs.Prelude.{ℤ}
 use Rattle.std.specs.List.{range_with_len}
 use Rattle.std.proofs.lemmas.List.{append-nil, length-drop, length-take}
 use Rattle.lv_bodies.specs.ElementLaws.{map-map}
 use Rattle.std.proofs.lemmas.List.Elements.{All-drop, All-take}
-use Rattle.lv_geometry.specs.declared.nodes.Node.{Node}
 use Rattle.lv_geometry.specs.declared.refusals.Refusal.{Refusal}
-use Rattle.lv_geometry.specs.declared.refusals.Refusal.TheVariants.{NoJob, NoMemory}
+use Rattle.lv_geometry.specs.declared.refusals.Refusal.TheVariants.{NoJob}
 use Rattle.lv_bodies.specs.declared.kinds.Kind.{Kind}
 use Rattle.lv_bodies.specs.declared.kinds.Shown.{Shown}
 use Rattle.lv_bodies.proofs.SixFolds.{face_of-fold}
 use Rattle.lv_bodies.specs.declared.sixes.Six.{Six}
 use Rattle.lv_bodies.specs.Body.{CanFold, fold_of}
 use Rattle.lv_bodies.specs.Plain.{plain_value}
-use Rattle.lv_bodies.specs.Scan.{exclusive_scan, inclusive_scan}
 use Rattle.lv_bodies.specs.Six.{SixMeaning, SixSummary, face_of, six_meaning, six_operations}
 use Rattle.lv_edits.specs.declared.edit.Edit.{Edit}
 use Rattle.lv_edits.specs.declared.receipt.Receipt.{Receipt}
 use Rattle.lv_edits.specs.History.{History, list_of}
 use Rattle.lv_edits.specs.Kept.{InLimits}
 use Rattle.lv_geometry.specs.Elements.{IsElement}
-use Rattle.lv_edits.specs.Verdict.{Accepts, Answers, Refuses}
-use Rattle.lv_summary.specs.declared.accepted.Accepted.{Accepted}
+use Rattle.lv_edits.specs.Verdict.{Accepts, Refuses}
 use Rattle.lv_refresh.specs.Carried.{Carried}
 use Rattle.lv_refresh.specs.Claim.{IsNextJob}
 use Rattle.lv_refresh.specs.Delivery.{delivery_of}
-use Rattle.lv_refresh.specs.Record.{Record, SameRecord}
+use Rattle.lv_refresh.specs.Record.{Record}
 use Rattle.lv_reduce.specs.declared.reductions.Answer.{Answer}
 use Rattle.lv_reduce.specs.declared.scans.Scan.{Scan}
 use Rattle.lv_reduce.specs.Answer.{range_refusal, scan_of, slice_of}
 use Rattle.lv_live.specs.declared.events.Event.TheVariants as event
 use Rattle.lv_live.specs.declared.replies.Reply.TheVariants as reply
-use Rattle.lv_live.specs.State.{HasClaim, HasDelivery, HasNoClaims, LiveState, SameLive, SameRefresh, job_at, jobs_with, name_of, recorded, with_issued}
-use Rattle.lv_live.specs.Step.{Reduces, Scans, claim_reply, edit_reply, reduction_reply}
-use Rattle.lv_live.proofs.WorldLaws.{setting_edit, step_claim, step_delivery, step_edit, step_forget, step_no_job, step_reduction, step_settle}
+use Rattle.lv_live.specs.State.{HasClaim, HasDelivery, HasNoClaims, SameLive, SameRefresh, job_at, jobs_with, name_of, recorded}
+use Rattle.lv_live.specs.Step.{Reduces, Scans, claim_reply, reduction_reply}
+use Rattle.lv_live.proofs.WorldLaws.{step_claim, step_delivery, step_edit, step_forget, step_no_job, step_reduction, step_settle}
 use Rattle.lv_standing.specs.declared.notes.Note.{Note}
-use Rattle.lv_standing.specs.Queries.{AreNotes, Query, watch_answer}
+use Rattle.lv_standing.specs.Queries.{AreNotes, Query}
 use Rattle.lv_standing.specs.Standings.{StandingState}
 use Rattle.lv_script.specs.declared.fault.Fault.{Fault}
 use Rattle.lv_script.specs.declared.fault.Fault.TheVariants.{WriteFault}
 use Rattle.lv_script.specs.Output.{Writes, WritesFront}
 use Rattle.lv_script.specs.Replies.{FailsToReply, Replies}
 use Rattle.lv_script.proofs.OutputLemmas.{Writes-trans, WritesFront-after}
-use Rattle.lv_script.specs.Script.{Does, HasQueries, ScriptState, Tells, TellsEdit, TellsEvent, TellsScan, edit_text, notes_text, plain_scan, program_operations, reduced_text, reply_text, scanned_range_text}
+use Rattle.lv_script.specs.Script.{HasQueries, TellsEdit, TellsEvent, TellsScan, edit_text, notes_text, plain_scan, program_operations, reduced_text, reply_text, scanned_range_text}
 use Rattle.lv_script.specs.Scripted.{state_of}
 use Rattle.lv_script.specs.Texts.{answer_text, refused_text, scan_text}
 

@@ -1,5 +1,5 @@
 -- A table of summaries that agrees with a journal of edits.
-use Rattle.std.specs.Prelude.{◌≡◌, ℕ, ℤ, ◌≤◌, true, Some, List, length}
+use Rattle.std.specs.Prelude.{◌≡◌, ℕ, ◌≤◌, true, Some, List, length}
 use Rattle.lv_geometry.specs.declared.nodes.Node.{Node}
 use Rattle.lv_geometry.specs.Nodes.{is_node}
 use Rattle.lv_bodies.specs.Body.{Operations, fold_of}

@@ -1,4 +1,4 @@
-use Rattle.std.proofs.Common.{◌≡◌, ◌++◌, ◌∙◌, Ok, Err, sym, ap}
+use Rattle.std.proofs.Common.{◌++◌, ◌∙◌, Ok, ap}
 use Rattle.std.proofs.lemmas.List.{append_assoc}
 use Rattle.lv_live.proofs.WorldLaws.{world_edit}
 use Rattle.lv_script.specs.Script.{notes_text, program_operations}

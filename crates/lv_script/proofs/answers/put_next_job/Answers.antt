@@ -1,4 +1,4 @@
-use Rattle.std.proofs.Common.{◌≡◌, ◌+◌, ◌∙◌, None, Some, length, sym, ap, arith}
+use Rattle.std.proofs.Common.{◌≡◌, ◌+◌, None, Some, length, arith}
 use Rattle.lv_live.proofs.WorldLaws.{world_claim}
 use Rattle.lv_script.specs.Script.{program_operations}
 use Rattle.lv_script.proofs.EventLaws.{tells_claim}

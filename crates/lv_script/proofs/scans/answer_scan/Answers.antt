@@ -1,4 +1,3 @@
-use Rattle.std.proofs.Common.{◌≡◌, Ok, sym, ap}
 use Rattle.lv_script.specs.Output.{Writes, WritesFront}
 use Rattle.lv_script.proofs.EventLaws.{scan_put, scan_put_front}
 use Rattle.lv_script.proofs.scans.answer_scan.Goals as goal
