@@ -157,6 +157,7 @@ impl<B: Body> Live<B> {
     }
 
     /// A job for the least node that wants one, or none. Takes no memory.
+    #[inline(always)]
     pub fn claim(&mut self) -> Option<Job<B>>
         ensures next { IsNextJob (recorded self.old) (option_map name_of result) }
         ensures claimed { HasClaim self.old self.new (option_map name_of result) }
@@ -175,6 +176,7 @@ impl<B: Body> Live<B> {
 
     /// Whether an outcome may be accepted: its node isn't whole, or was touched by another edit last, or what it carries is
     /// what stands here. Yes for each outcome of a job that this vector handed out. Takes no memory.
+    #[inline(always)]
     pub fn vet(&self, outcome: &Outcome<B>) -> bool
         ensures { IsTrue result ↔ Vouched (B.operations (B.meaning self.now.body)) (recorded self.now)
             (B.meaning self.now.body ≡ B.meaning outcome.now.body) outcome.now.node outcome.now.version outcome.now.contents }
@@ -183,17 +185,13 @@ impl<B: Body> Live<B> {
         if !self.table.whole(node) || self.table.touched(node) != outcome.version() {
             return true;
         }
+        let contents = outcome.as_contents();
         self.body.same(&outcome.body())
-            && stands_here(
-                &self.body,
-                &self.cells,
-                &self.table,
-                node,
-                outcome.contents(),
-            )
+            && stands_here(&self.body, &self.cells, &self.table, node, contents)
     }
 
     /// Takes an outcome in: it is stale, or held already, or its summary is installed. Takes no memory.
+    #[inline(always)]
     pub fn accept(&mut self, outcome: Outcome<B>) -> Accepted
         requires { Vouched (B.operations (B.meaning self.old.body)) (recorded self.old)
             (B.meaning self.old.body ≡ B.meaning outcome.body) outcome.node outcome.version outcome.contents }

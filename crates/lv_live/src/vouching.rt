@@ -1,5 +1,7 @@
-ghost use Rattle.std.specs.Prelude.{◌≡◌, ◌↔◌, IsTrue, true, length};
+ghost use Rattle.std.specs.Prelude.{◌≡◌, ◌↔◌, ◌<◌, IsTrue, true, length};
+ghost use Rattle.lv_geometry.specs.Nodes.{is_below};
 ghost use Rattle.lv_edits.specs.History.{list_of};
+ghost use Rattle.lv_edits.specs.Touch.{cells_of};
 ghost use Rattle.lv_summary.specs.Agrees.{Agrees};
 ghost use Rattle.lv_summary.specs.Table.{whole_in};
 ghost use Rattle.lv_refresh.specs.Claimed.{ClaimTable, record_of};
@@ -8,48 +10,62 @@ ghost use Rattle.lv_refresh.specs.Honesty.{Stands};
 use lv_bodies::Body;
 use lv_edits::Edits;
 use lv_geometry::Node;
-use lv_refresh::{Contents, Eight, contents_of};
+use lv_refresh::{Contents, Eight, children_of, elements_of};
 use lv_summary::Summaries;
 
 /// Whether contents are what stands at a whole node now.
+#[inline(always)]
 pub fn stands_here<B: Body>(
     body: &B,
     cells: &Edits,
     table: &Summaries<B::S>,
     node: Node,
-    contents: Contents<B::S>,
+    contents: &Contents<B::S>,
 ) -> bool
     requires agrees { Agrees (B.operations (B.meaning body.now)) cells.now.journal table.now }
     requires whole { whole_in table.now node ≡ true }
-    ensures { (c : ClaimTable) → IsTrue result ↔ Stands (B.operations (B.meaning body.now)) (record_of cells.now.journal table.now c) node contents }
+    ensures { (c : ClaimTable) → IsTrue result ↔ Stands (B.operations (B.meaning body.now)) (record_of cells.now.journal table.now c) node contents.now }
 {
-    match contents_of(cells, table, node) {
-        Some(here) => same_contents(body, here, contents),
+    match contents {
+        Contents::Elements(elements) => node.level == 1 && have_elements(cells, node, elements),
+        Contents::Children(summaries) => {
+            node.level > 1 && have_summaries(body, cells, table, node, summaries)
+        }
+    }
+}
+
+// Whether elements are those of a whole block.
+#[inline(always)]
+fn have_elements(cells: &Edits, block: Node, elements: &[i64; 8]) -> bool
+    requires level { block.level ≡ 1 }
+    requires whole { is_below block (length (list_of cells.now.journal)) ≡ true }
+    ensures { IsTrue result ↔ (elements.now ≡ cells_of cells.now.journal block) }
+{
+    *elements == elements_of(cells, block.number)
+}
+
+// Whether summaries are those of a whole node's children, which are fresh. The cells are those that the table is of.
+fn have_summaries<B: Body>(
+    body: &B,
+    _cells: &Edits,
+    table: &Summaries<B::S>,
+    node: Node,
+    summaries: &Eight<B::S>,
+) -> bool
+    requires agrees { Agrees (B.operations (B.meaning body.now)) _cells.now.journal table.now }
+    requires whole { whole_in table.now node ≡ true }
+    requires above { 1 < node.level }
+    ensures { (c : ClaimTable) → IsTrue result ↔ Stands (B.operations (B.meaning body.now)) (record_of _cells.now.journal table.now c) node (Contents.Children summaries.now) }
+{
+    match children_of(table, node) {
+        Some(here) => same_summaries(body, &here, summaries),
         None => false,
     }
 }
 
-// Whether contents are the same. The body only says of which kind the summaries are.
-fn same_contents<B: Body>(_body: &B, here: Contents<B::S>, carried: Contents<B::S>) -> bool
-    ensures { IsTrue result ↔ (here ≡ carried) }
-{
-    match (here, carried) {
-        (Contents::Elements(xs), Contents::Elements(ys)) => same_elements(xs, ys),
-        (Contents::Children(x), Contents::Children(y)) => same_summaries(_body, x, y),
-        _ => false,
-    }
-}
-
-// Whether the elements of two blocks are the same.
-fn same_elements(xs: [i64; 8], ys: [i64; 8]) -> bool
-    ensures { IsTrue result ↔ (xs ≡ ys) }
-{
-    xs == ys
-}
-
-// Whether eight summaries are the same.
-fn same_summaries<B: Body>(_body: &B, x: Eight<B::S>, y: Eight<B::S>) -> bool
-    ensures { IsTrue result ↔ (x ≡ y) }
+// Whether eight summaries are the same. The body only says of which kind they are.
+fn same_summaries<B: Body>(_body: &B, x: &Eight<B::S>, y: &Eight<B::S>) -> bool
+    ensures { IsTrue result ↔ (x.now ≡ y.now) }
 {
     let first = x.a == y.a && x.b == y.b && x.c == y.c && x.d == y.d;
     first && x.e == y.e && x.f == y.f && x.g == y.g && x.h == y.h

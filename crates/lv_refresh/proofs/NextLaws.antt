@@ -1,7 +1,7 @@
 -- Which job comes next: on one level, over all six, and by the record of what a vector has seen.
 use Rattle.std.proofs.Common.{◌≡◌, ◌≢◌, ℕ, ◌+◌, ◌-◌, ◌*◌, ◌^◌, ◌<◌, ◌≤◌, Bool, true, false, ◌&&◌, ◌||◌, not, if◌then◌else◌, Option, Some, None, option_map, List, [], ◌∷◌, length, get_or, nat_eq, nat_lt, slice_get, slice_set, refl, sym, ap, subst, ◌∙◌, inl, inr, arith}
 use Rattle.std.specs.List.{list_all, range_with_len}
-use Rattle.std.specs.Option.{IfSome}
+use Rattle.std.specs.Option.{IfNone, IfSome}
 use Rattle.std.proofs.lemmas.Bool.{and_from, and_left, and_parts, and_right, cases_Bool, cases_eq, cases_lt, cond-false, cond-true, eq-eqb, false≢true, lt-ltb, ne_eqb, true≢false}
 use Rattle.std.proofs.lemmas.List.{get_or-set_other, get_or-set_same, length-set}
 use Rattle.std.proofs.lemmas.Option.{slice_get-get_or}
@@ -22,7 +22,7 @@ use Rattle.lv_refresh.specs.Claim.{Before, IsNextJob, children_fresh, wants_job}
 use Rattle.lv_refresh.specs.Claimed.{AreHints, ClaimRows, ClaimTable, claim_blocks, claimed_in, is_hinted, record_of, version_of}
 use Rattle.lv_refresh.specs.Contents.{CanFoldContents, in_order}
 use Rattle.lv_refresh.specs.Honesty.{Stands}
-use Rattle.lv_refresh.specs.Inner.{AreClaims, AreContentsIn, CanServe, GivesNext, IsFirstHint, Passes, Serves, ServesNext, ServesNode, ServesNone, UnhintsAt, children_fresh_in, node_at, wants_at, wants_in, with_claim}
+use Rattle.lv_refresh.specs.Inner.{AreClaims, AreContentsIn, CanServe, GivesNext, HintsWants, IsFirstHint, IsJobOf, Passes, Picks, ServesNext, ServesNode, ServesNone, UnhintsAt, children_fresh_in, node_at, wants_at, wants_in, with_claim}
 use Rattle.lv_refresh.specs.Marks.{is_marked}
 use Rattle.lv_refresh.specs.Record.{is_fresh, is_version}
 use Rattle.lv_refresh.proofs.ClaimLaws.{AreClaims-same, claim_blocks-same, claimed_in-inside, claimed_in-outside, claimed_in-same, is_hinted-inside, level_of_node, node_of_level, node_of_same, row_of_node, rows_at}
@@ -92,31 +92,29 @@ module _ {S : Type 0} (t : Table S) (level : ℕ) where
         room = ap (λ rows. length rows.hints) same ∙ room;
       }
 
-  module _ {B : Type 0} (edits : List Edit) (body : B) where
-    -- the least node that is hinted at is served where it wants a job
-    pub Serves-from : (old seen unhinted new : ClaimRows) (number version : ℕ) (contents : Contents S) → seen.claimed ≡ old.claimed → length seen.hints ≡ length old.hints → ((k : ℕ) → wants_at t level seen k ≡ true → is_marked seen.hints k ≡ true) → IsFirstHint seen number → UnhintsAt seen unhinted number → new ≡ with_claim unhinted number version → number < length old.claimed → wants_at t level unhinted number ≡ true → version ≡ touched_in t (node_at level number) → AreContentsIn edits t (node_at level number) contents → Serves edits t level old new record { node = node_at level number; version = version; contents = contents; body = body }
-    Serves-from old seen unhinted new number version contents claimed room hints first away made inside wants is holds =
-        let stamps : unhinted.claimed ≡ old.claimed = away.claimed ∙ claimed in
-        let now : new.claimed ≡ slice_set old.claimed number (version + 1) = ap (λ rows. rows.claimed) made ∙ ap (λ stamps. slice_set stamps number (version + 1)) stamps in
-        record {
-          level_is = refl;
-          wants = sym (wants_at-same old unhinted number (ap (λ stamps. get_or stamps number 0) stamps)) ∙ wants;
-          least = λ k before. sym (wants_at-same old seen k (ap (λ stamps. get_or stamps k 0) claimed)) ∙ calm_by (wants_at t level seen k) (λ wants. true≢false (sym (hints k wants) ∙ first.least k before));
-          version = is;
-          contents = holds;
-          claimed = now;
-          inside = inside;
-          hints = λ k still. elim (cases_eq k number) [
-            | inl same ↦
-                let stamp : get_or new.claimed number 0 ≡ version + 1 = ap (λ stamps. get_or stamps number 0) now ∙ get_or-set_same old.claimed number (version + 1) 0 inside in
-                let calm : wants_at t level new number ≡ false = ap (λ stamp. wants_in t (version_of stamp) (node_at level number)) stamp ∙ ap (λ claimed. wants_in t claimed (node_at level number)) (version_of-stamp version) ∙ wants_in-claimed t version (node_at level number) is in
-                absurd (false≢true (sym calm ∙ ap (wants_at t level new) (sym same) ∙ still))
-            | inr other ↦
-                let stamp : get_or new.claimed k 0 ≡ get_or seen.claimed k 0 = ap (λ stamps. get_or stamps k 0) now ∙ get_or-set_other old.claimed number k (version + 1) 0 other ∙ ap (λ stamps. get_or stamps k 0) (sym claimed) in
-                ap (λ rows. is_marked rows.hints k) made ∙ marked_still seen unhinted number k away other (hints k (sym (wants_at-same seen new k stamp) ∙ still))
-          ];
-          room = ap (λ rows. length rows.hints) made ∙ away.room ∙ room;
-        }
+  -- the least node that is hinted at is picked where it wants a job
+  pub Picks-from : (old seen unhinted new : ClaimRows) (number version : ℕ) → seen.claimed ≡ old.claimed → length seen.hints ≡ length old.hints → ((k : ℕ) → wants_at t level seen k ≡ true → is_marked seen.hints k ≡ true) → IsFirstHint seen number → UnhintsAt seen unhinted number → new ≡ with_claim unhinted number version → number < length old.claimed → wants_at t level unhinted number ≡ true → version ≡ touched_in t (node_at level number) → Picks t level old new (node_at level number, version)
+  Picks-from old seen unhinted new number version claimed room hints first away made inside wants is =
+      let stamps : unhinted.claimed ≡ old.claimed = away.claimed ∙ claimed in
+      let now : new.claimed ≡ slice_set old.claimed number (version + 1) = ap (λ rows. rows.claimed) made ∙ ap (λ stamps. slice_set stamps number (version + 1)) stamps in
+      record {
+        level_is = refl;
+        wants = sym (wants_at-same old unhinted number (ap (λ stamps. get_or stamps number 0) stamps)) ∙ wants;
+        least = λ k before. sym (wants_at-same old seen k (ap (λ stamps. get_or stamps k 0) claimed)) ∙ calm_by (wants_at t level seen k) (λ wants. true≢false (sym (hints k wants) ∙ first.least k before));
+        version = is;
+        claimed = now;
+        inside = inside;
+        hints = λ k still. elim (cases_eq k number) [
+          | inl same ↦
+              let stamp : get_or new.claimed number 0 ≡ version + 1 = ap (λ stamps. get_or stamps number 0) now ∙ get_or-set_same old.claimed number (version + 1) 0 inside in
+              let calm : wants_at t level new number ≡ false = ap (λ stamp. wants_in t (version_of stamp) (node_at level number)) stamp ∙ ap (λ claimed. wants_in t claimed (node_at level number)) (version_of-stamp version) ∙ wants_in-claimed t version (node_at level number) is in
+              absurd (false≢true (sym calm ∙ ap (wants_at t level new) (sym same) ∙ still))
+          | inr other ↦
+              let stamp : get_or new.claimed k 0 ≡ get_or seen.claimed k 0 = ap (λ stamps. get_or stamps k 0) now ∙ get_or-set_other old.claimed number k (version + 1) 0 other ∙ ap (λ stamps. get_or stamps k 0) (sym claimed) in
+              ap (λ rows. is_marked rows.hints k) made ∙ marked_still seen unhinted number k away other (hints k (sym (wants_at-same seen new k stamp) ∙ still))
+        ];
+        room = ap (λ rows. length rows.hints) made ∙ away.room ∙ room;
+      }
 
 module _ {S : Type 0} (t : Table S) (old new : ClaimTable) where
   -- where all six levels pass, no node wants a job
@@ -151,31 +149,31 @@ last_passes t old new before last level low high =
     ]
 
 -- what becomes of a level where a job was given on level k: those before pass, and those after stay
-pub record Turn {B S : Type 0} (edits : List Edit) (t : Table S) (old new : ClaimTable) (job : Carried B S) (k level : ℕ) : Type 0 where
+pub record Turn {S : Type 0} (t : Table S) (old new : ClaimTable) (job : Node × ℕ) (k level : ℕ) : Type 0 where
   pub passed : level < k → Passes t level (rows_at old level) (rows_at new level)
-  pub served : level ≡ k → Serves edits t level (rows_at old level) (rows_at new level) job
+  pub served : level ≡ k → Picks t level (rows_at old level) (rows_at new level) job
   pub left : k < level → rows_at new level ≡ rows_at old level
 
-module _ {B S : Type 0} {edits : List Edit} {t : Table S} {old new : ClaimTable} {job : Carried B S} {k level : ℕ} where
+module _ {S : Type 0} {t : Table S} {old new : ClaimTable} {job : Node × ℕ} {k level : ℕ} where
   -- a level before that of the job
-  pub turn_passed : level < k → Passes t level (rows_at old level) (rows_at new level) → Turn edits t old new job k level
+  pub turn_passed : level < k → Passes t level (rows_at old level) (rows_at new level) → Turn t old new job k level
   turn_passed before passes = record { passed = λ _. passes; served = λ is. absurd (omega arith); left = λ after. absurd (omega arith) }
 
   -- the level of the job
-  pub turn_served : level ≡ k → Serves edits t level (rows_at old level) (rows_at new level) job → Turn edits t old new job k level
+  pub turn_served : level ≡ k → Picks t level (rows_at old level) (rows_at new level) job → Turn t old new job k level
   turn_served is serves = record { passed = λ before. absurd (omega arith); served = λ _. serves; left = λ after. absurd (omega arith) }
 
   -- a level after that of the job
-  pub turn_left : k < level → rows_at new level ≡ rows_at old level → Turn edits t old new job k level
+  pub turn_left : k < level → rows_at new level ≡ rows_at old level → Turn t old new job k level
   turn_left after same = record { passed = λ before. absurd (omega arith); served = λ is. absurd (omega arith); left = λ _. same }
 
-module _ {B S : Type 0} (edits : List Edit) (t : Table S) (old new : ClaimTable) (job : Carried B S) (k : ℕ) (turns : (level : ℕ) → 1 ≤ level → level ≤ 6 → Turn edits t old new job k level) where
+module _ {S : Type 0} (t : Table S) (old new : ClaimTable) (job : Node × ℕ) (k : ℕ) (turns : (level : ℕ) → 1 ≤ level → level ≤ 6 → Turn t old new job k level) where
   -- each level keeps its rows
   rows_stay : (level : ℕ) → 1 ≤ level → level ≤ 6 → length (rows_at new level).claimed ≡ length (rows_at old level).claimed
   rows_stay level low high =
       let turn = turns level low high in
       elim (cases_eq level k) [
-        | inl is ↦ ap length (turn.served is).claimed ∙ length-set (rows_at old level).claimed job.node.number (job.version + 1)
+        | inl is ↦ ap length (turn.served is).claimed ∙ length-set (rows_at old level).claimed job.0.number (job.1 + 1)
         | inr apart ↦ elim (cases_lt level k) [
           | inl before ↦ ap length (turn.passed before).claimed
           | inr after ↦ ap (λ rows. length rows.claimed) (turn.left (omega arith))
@@ -207,51 +205,51 @@ module _ {B S : Type 0} (edits : List Edit) (t : Table S) (old new : ClaimTable)
         | inr after ↦ ap (λ rows. rows.claimed) (turn.left (omega arith))
       ]
 
-  module _ (low : 1 ≤ k) (high : k ≤ 6) (at : job.node.level ≡ k) where
+  module _ (low : 1 ≤ k) (high : k ≤ 6) (at : job.0.level ≡ k) where
     -- what the level of the job says
-    here : Serves edits t job.node.level (rows_at old job.node.level) (rows_at new job.node.level) job
-    here = (turns job.node.level (omega arith) (omega arith)).served at
+    here : Picks t job.0.level (rows_at old job.0.level) (rows_at new job.0.level) job
+    here = (turns job.0.level (omega arith) (omega arith)).served at
 
     -- the node of the job is one of the table
-    member_here : is_node job.node ≡ true
-    member_here = (and_parts (is_node job.node) (is_below job.node t.size) (whole_of_wants t _ job.node here.wants)).0
+    member_here : is_node job.0 ≡ true
+    member_here = (and_parts (is_node job.0) (is_below job.0 t.size) (whole_of_wants t _ job.0 here.wants)).0
 
     -- the claims after the job
-    claimed_after : (n : Node) → claimed_in new n ≡ if same_node n job.node then Some job.version else claimed_in old n
+    claimed_after : (n : Node) → claimed_in new n ≡ if same_node n job.0 then Some job.1 else claimed_in old n
     claimed_after n =
         elim (cases_Bool (is_node n)) [
           | inl member ↦
               let level = level_of_node n member in
-              elim (cases_eq n.level job.node.level) [
+              elim (cases_eq n.level job.0.level) [
                 | inl is ↦
-                    let now : (rows_at new n.level).claimed ≡ slice_set (rows_at old n.level).claimed job.node.number (job.version + 1) = ((turns n.level level.0 level.1).served (is ∙ at)).claimed in
+                    let now : (rows_at new n.level).claimed ≡ slice_set (rows_at old n.level).claimed job.0.number (job.1 + 1) = ((turns n.level level.0 level.1).served (is ∙ at)).claimed in
                     let inside = ((turns n.level level.0 level.1).served (is ∙ at)).inside in
                     claimed_in-inside new n member
                     ∙ ap (λ stamps. version_of (get_or stamps n.number 0)) now
-                    ∙ elim (cases_eq n.number job.node.number) [
+                    ∙ elim (cases_eq n.number job.0.number) [
                       | inl same ↦
-                          ap (λ j. version_of (get_or (slice_set (rows_at old n.level).claimed job.node.number (job.version + 1)) j 0)) same
-                          ∙ ap version_of (get_or-set_same (rows_at old n.level).claimed job.node.number (job.version + 1) 0 inside)
-                          ∙ version_of-stamp job.version
-                          ∙ sym (cond-true (same_node n job.node) _ _ (and_from _ _ (eq-eqb n.level job.node.level is) (eq-eqb n.number job.node.number same)))
+                          ap (λ j. version_of (get_or (slice_set (rows_at old n.level).claimed job.0.number (job.1 + 1)) j 0)) same
+                          ∙ ap version_of (get_or-set_same (rows_at old n.level).claimed job.0.number (job.1 + 1) 0 inside)
+                          ∙ version_of-stamp job.1
+                          ∙ sym (cond-true (same_node n job.0) _ _ (and_from _ _ (eq-eqb n.level job.0.level is) (eq-eqb n.number job.0.number same)))
                       | inr other ↦
-                          ap version_of (get_or-set_other (rows_at old n.level).claimed job.node.number n.number (job.version + 1) 0 other)
+                          ap version_of (get_or-set_other (rows_at old n.level).claimed job.0.number n.number (job.1 + 1) 0 other)
                           ∙ sym (claimed_in-inside old n member)
-                          ∙ sym (cond-false (same_node n job.node) _ _ (and_right _ _ (ne_eqb n.number job.node.number other)))
+                          ∙ sym (cond-false (same_node n job.0) _ _ (and_right _ _ (ne_eqb n.number job.0.number other)))
                     ]
                 | inr apart ↦
                     claimed_in-inside new n member
                     ∙ ap (λ stamps. version_of (get_or stamps n.number 0)) (stamps_stay n.level level.0 level.1 (λ is. apart (is ∙ sym at)))
                     ∙ sym (claimed_in-inside old n member)
-                    ∙ sym (cond-false (same_node n job.node) _ _ (and_left _ _ (ne_eqb n.level job.node.level apart)))
+                    ∙ sym (cond-false (same_node n job.0) _ _ (and_left _ _ (ne_eqb n.level job.0.level apart)))
               ]
           | inr stranger ↦
-              let apart : same_node n job.node ≡ false = calm_by (same_node n job.node) (λ same. false≢true (sym stranger ∙ node_of_same n job.node same member_here)) in
-              claimed_in-outside new n stranger ∙ sym (claimed_in-outside old n stranger) ∙ sym (cond-false (same_node n job.node) _ _ apart)
+              let apart : same_node n job.0 ≡ false = calm_by (same_node n job.0) (λ same. false≢true (sym stranger ∙ node_of_same n job.0 same member_here)) in
+              claimed_in-outside new n stranger ∙ sym (claimed_in-outside old n stranger) ∙ sym (cond-false (same_node n job.0) _ _ apart)
         ]
 
     -- no node before that of the job wants one
-    none_before : (n : Node) → Before n job.node → wants_in t (claimed_in old n) n ≡ false
+    none_before : (n : Node) → Before n job.0 → wants_in t (claimed_in old n) n ≡ false
     none_before n before =
         elim (cases_Bool (is_node n)) [
           | inl member ↦
@@ -287,17 +285,30 @@ module _ {B S : Type 0} (edits : List Edit) (t : Table S) (old new : ClaimTable)
         ]
 
     -- a job that was given on a level, after all before it passed, is the next, by the table
-    ServesNode-by_turns : ((n : Node) → wants_in t (claimed_in old n) n ≡ true → is_hinted old n ≡ true) → ServesNode edits t old new job
+    ServesNode-by_turns : ((n : Node) → wants_in t (claimed_in old n) n ≡ true → is_hinted old n ≡ true) → ServesNode t old new job
     ServesNode-by_turns hints =
         record {
-          wants = ap (λ claimed. wants_in t claimed job.node) (claimed_in-inside old job.node member_here) ∙ here.wants;
+          wants = ap (λ claimed. wants_in t claimed job.0) (claimed_in-inside old job.0 member_here) ∙ here.wants;
           version = here.version;
           before = none_before;
-          contents = here.contents;
           claimed = claimed_after;
           hints = hints_after_job hints;
           blocks = claim_blocks-same old new rows_stay;
         }
+
+module _ {S : Type 0} (t : Table S) (c : ClaimTable) where
+  -- each level can be served where the nodes that want a job are hinted at
+  pub CanServe-from : AreClaims c → HintsWants t c → t.size ≤ 8 * claim_blocks c → (level : ℕ) → 1 ≤ level → level ≤ 6 → CanServe t level (rows_at c level)
+  CanServe-from claims hints grown level low high =
+      record {
+        low = low;
+        high = high;
+        hints = λ k wants.
+            let n = node_at level k in
+            let member = node_of_level n low high in
+            sym (is_hinted-inside c n member) ∙ hints n (ap (λ claimed. wants_in t claimed n) (claimed_in-inside c n member) ∙ wants);
+        rows_enough = omega (arith, (claims.levels level low high).covers);
+      }
 
 module _ {S : Type 0} (o : Operations S) (edits : List Edit) (t : Table S) (agrees : Agrees o edits t) (c : ClaimTable) where
   -- whole nodes are the same by the edits and by the table
@@ -339,18 +350,9 @@ module _ {S : Type 0} (o : Operations S) (edits : List Edit) (t : Table S) (agre
             and_left _ _ (and_left _ _ (and_left _ _ (and_left _ _ stranger))) ∙ sym (wants_in-outside t (claimed_in c n) n stranger)
       ]
 
-  -- each level can be served where the nodes that want a job are hinted at
-  pub CanServe-from : AreClaims c → AreHints (record_of edits t c) c → t.size ≤ 8 * claim_blocks c → (level : ℕ) → 1 ≤ level → level ≤ 6 → CanServe t level (rows_at c level)
-  CanServe-from claims hints grown level low high =
-      record {
-        low = low;
-        high = high;
-        hints = λ k wants.
-            let n = node_at level k in
-            let member = node_of_level n low high in
-            sym (is_hinted-inside c n member) ∙ hints n (wants_agrees n ∙ ap (λ claimed. wants_in t claimed n) (claimed_in-inside c n member) ∙ wants);
-        rows_enough = omega (arith, (claims.levels level low high).covers);
-      }
+  -- the nodes that want a job are hinted at by the table where they are by the record
+  pub HintsWants-from : AreHints (record_of edits t c) c → HintsWants t c
+  HintsWants-from hints n wants = hints n (wants_agrees n ∙ wants)
 
   -- contents that are gathered from the cells and the table stand
   pub Stands-from : (n : Node) (contents : Contents S) → AreContentsIn edits t n contents → Stands o (record_of edits t c) n contents
@@ -370,44 +372,63 @@ module _ {S : Type 0} (o : Operations S) (edits : List Edit) (t : Table S) (agre
       let can : CanFold (list_of edits) = rw (← is) record { few = omega (arith, limits.few); elements = limits.elements } in
       can_fold_standing o within laws (record_of edits t c) n contents can (whole_agrees n ∙ whole) (Stands-from n contents holds)
 
-module _ {B S : Type 0} (o : Operations S) (edits : List Edit) (t : Table S) (agrees : Agrees o edits t) (old new : ClaimTable) where
+module _ {S : Type 0} (o : Operations S) (edits : List Edit) (t : Table S) (agrees : Agrees o edits t) (old new : ClaimTable) where
   -- the job that was given is the next by the record
-  pub IsNextJob-served : (result : Option (Carried B S)) → ServesNext edits t old new result → IsNextJob (record_of edits t old) (option_map (λ job. (job.node, job.version)) result)
+  pub IsNextJob-served : (result : Option (Node × ℕ)) → ServesNext t old new result → IsNextJob (record_of edits t old) result
   IsNextJob-served None served = λ n. wants_agrees o edits t agrees old n ∙ served.none n
   IsNextJob-served (Some job) served =
-      let member = (and_parts (is_node job.node) (is_below job.node t.size) (whole_of_wants t _ job.node served.wants)).0 in
-      (wants_agrees o edits t agrees old job.node ∙ served.wants, served.version ∙ agrees.touched job.node member, λ n before. wants_agrees o edits t agrees old n ∙ served.before n before)
+      let member = (and_parts (is_node job.0) (is_below job.0 t.size) (whole_of_wants t _ job.0 served.wants)).0 in
+      (wants_agrees o edits t agrees old job.0 ∙ served.wants, served.version ∙ agrees.touched job.0 member, λ n before. wants_agrees o edits t agrees old n ∙ served.before n before)
 
   -- each node that wants a job is hinted at afterwards
-  pub AreHints-served : (result : Option (Carried B S)) → ServesNext edits t old new result → AreHints (record_of edits t new) new
+  pub AreHints-served : (result : Option (Node × ℕ)) → ServesNext t old new result → AreHints (record_of edits t new) new
   AreHints-served None served =
       λ n wants. absurd (false≢true (sym (served.none n) ∙ ap (λ claimed. wants_in t claimed n) (sym (served.claimed n)) ∙ sym (wants_agrees o edits t agrees new n) ∙ wants))
   AreHints-served (Some job) served = λ n wants. served.hints n (sym (wants_agrees o edits t agrees new n) ∙ wants)
 
-  -- what the job carries stands
-  pub Stands-served : (result : Option (Carried B S)) → ServesNext edits t old new result → IfSome result (λ job. Stands o (record_of edits t old) job.node job.contents)
-  Stands-served None served = tt
-  Stands-served (Some job) served = Stands-from o edits t agrees old job.node job.contents served.contents
+module _ {B S : Type 0} (o : Operations S) (edits : List Edit) (t : Table S) (agrees : Agrees o edits t) (old new : ClaimTable) (node : Node) (version : ℕ) (body : B) (served : ServesNode t old new (node, version)) where
+  -- above level 1 the children of the node that was picked are fresh
+  ready_of_served : 1 < node.level → children_fresh_in t node ≡ false → ⊥
+  ready_of_served above stale =
+      let either = (and_parts (whole_in t node && not (fresh_in t node) && not (is_version (touched_in t node) (claimed_in old node))) (nat_eq node.level 1 || children_fresh_in t node) served.wants).1 in
+      let high : nat_eq node.level 1 ≡ false = ne_eqb node.level 1 (λ low. omega (arith, low, above)) in
+      true≢false (sym either ∙ ap (λ low. low || children_fresh_in t node) high ∙ stale)
 
+  -- the job of the node that was picked is the next by the record
+  pub IsNextJob-job : (result : Option (Carried B S)) → IfSome result (λ job. IsJobOf edits t node version body job) → IfNone result ((1 < node.level) × (children_fresh_in t node ≡ false)) → IsNextJob (record_of edits t old) (option_map (λ job. (job.node, job.version)) result)
+  IsNextJob-job None is never = absurd (ready_of_served never.0 never.1)
+  IsNextJob-job (Some job) is never = rw (is.node_is, is.version_is) (IsNextJob-served o edits t agrees old new (Some (node, version)) served)
+
+  -- and is claimed
+  pub claimed-job : (result : Option (Carried B S)) → IfSome result (λ job. IsJobOf edits t node version body job) → IfSome result (λ job. (n : Node) → claimed_in new n ≡ (if same_node n job.node then Some job.version else claimed_in old n))
+  claimed-job None is = tt
+  claimed-job (Some job) is = rw (is.node_is, is.version_is) served.claimed
+
+  -- and what it carries stands
+  pub Stands-job : (result : Option (Carried B S)) → IfSome result (λ job. IsJobOf edits t node version body job) → IfSome result (λ job. Stands o (record_of edits t old) job.node job.contents)
+  Stands-job None is = tt
+  Stands-job (Some job) is = rw is.node_is (Stands-from o edits t agrees old node job.contents is.contents)
+
+module _ {S : Type 0} (t : Table S) (old new : ClaimTable) where
   -- a job that was given on a level, after all before it passed, is the next
-  pub ServesNode-at : (job : Carried B S) (k : ℕ) → ((level : ℕ) → 1 ≤ level → level ≤ 6 → Turn edits t old new job k level) → 1 ≤ k → k ≤ 6 → job.node.level ≡ k → AreHints (record_of edits t old) old → ServesNode edits t old new job
+  pub ServesNode-at : (job : Node × ℕ) (k : ℕ) → ((level : ℕ) → 1 ≤ level → level ≤ 6 → Turn t old new job k level) → 1 ≤ k → k ≤ 6 → job.0.level ≡ k → HintsWants t old → ServesNode t old new job
   ServesNode-at job k turns low high at hints =
-      ServesNode-by_turns edits t old new job k turns low high at (λ n wants. hints n (wants_agrees o edits t agrees old n ∙ wants))
+      ServesNode-by_turns t old new job k turns low high at hints
 
   -- the turns of all levels, where the job was given on the last
-  last_turns : (job : Carried B S) → ((level : ℕ) → 1 ≤ level → level ≤ 6 → PassedBefore t old new level) → Serves edits t 6 (rows_at old 6) (rows_at new 6) job → (level : ℕ) → 1 ≤ level → level ≤ 6 → Turn edits t old new job 6 level
+  last_turns : (job : Node × ℕ) → ((level : ℕ) → 1 ≤ level → level ≤ 6 → PassedBefore t old new level) → Picks t 6 (rows_at old 6) (rows_at new 6) job → (level : ℕ) → 1 ≤ level → level ≤ 6 → Turn t old new job 6 level
   last_turns job before last level low high =
       elim (cases_lt level 6) [
         | inl earlier ↦ turn_passed earlier (before level low high earlier)
-        | inr reached ↦ let is : level ≡ 6 = omega arith in subst (λ l. Turn edits t old new job 6 l) (sym is) (turn_served refl last)
+        | inr reached ↦ let is : level ≡ 6 = omega arith in subst (λ l. Turn t old new job 6 l) (sym is) (turn_served refl last)
       ]
 
   -- what comes of the last level comes of all
-  pub ServesNext-last : (result : Option (Carried B S)) → ((level : ℕ) → 1 ≤ level → level ≤ 6 → PassedBefore t old new level) → GivesNext edits t 6 (rows_at old 6) (rows_at new 6) result → AreHints (record_of edits t old) old → ServesNext edits t old new result
+  pub ServesNext-last : (result : Option (Node × ℕ)) → ((level : ℕ) → 1 ≤ level → level ≤ 6 → PassedBefore t old new level) → GivesNext t 6 (rows_at old 6) (rows_at new 6) result → HintsWants t old → ServesNext t old new result
   ServesNext-last None before last hints = ServesNone-by_levels t old new (last_passes t old new before last)
   ServesNext-last (Some job) before last hints = ServesNode-at job 6 (last_turns job before last) (omega arith) (omega arith) last.level_is hints
 
   -- and claims are kept as they must be
-  pub AreClaims-last : (result : Option (Carried B S)) → ((level : ℕ) → 1 ≤ level → level ≤ 6 → PassedBefore t old new level) → GivesNext edits t 6 (rows_at old 6) (rows_at new 6) result → AreClaims old → AreClaims new
+  pub AreClaims-last : (result : Option (Node × ℕ)) → ((level : ℕ) → 1 ≤ level → level ≤ 6 → PassedBefore t old new level) → GivesNext t 6 (rows_at old 6) (rows_at new 6) result → AreClaims old → AreClaims new
   AreClaims-last None before last claims = AreClaims-passed t old new claims (last_passes t old new before last)
-  AreClaims-last (Some job) before last claims = AreClaims-served edits t old new job 6 (last_turns job before last) claims
+  AreClaims-last (Some job) before last claims = AreClaims-served t old new job 6 (last_turns job before last) claims

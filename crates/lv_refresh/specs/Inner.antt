@@ -105,15 +105,14 @@ pub record CanServe {S : Type 0} (t : Table S) (level : ℕ) (rows : ClaimRows) 
   pub hints : (k : ℕ) → wants_at t level rows k ≡ true → is_marked rows.hints k ≡ true
   pub rows_enough : t.size ≤ length rows.claimed * 8 ^ level
 
--- a job was given to the least node of a level that wants one
-pub record Serves {B S : Type 0} (edits : List Edit) (t : Table S) (level : ℕ) (old new : ClaimRows) (job : Carried B S) : Type 0 where
-  pub level_is : job.node.level ≡ level
-  pub wants : wants_at t level old job.node.number ≡ true
-  pub least : (k : ℕ) → k < job.node.number → wants_at t level old k ≡ false
-  pub version : job.version ≡ touched_in t job.node
-  pub contents : AreContentsIn edits t job.node job.contents
-  pub claimed : new.claimed ≡ slice_set old.claimed job.node.number (job.version + 1)
-  pub inside : job.node.number < length old.claimed
+-- the least node of a level that wants a job was picked, and is claimed at the number of the edit that touched it last
+pub record Picks {S : Type 0} (t : Table S) (level : ℕ) (old new : ClaimRows) (job : Node × ℕ) : Type 0 where
+  pub level_is : job.0.level ≡ level
+  pub wants : wants_at t level old job.0.number ≡ true
+  pub least : (k : ℕ) → k < job.0.number → wants_at t level old k ≡ false
+  pub version : job.1 ≡ touched_in t job.0
+  pub claimed : new.claimed ≡ slice_set old.claimed job.0.number (job.1 + 1)
+  pub inside : job.0.number < length old.claimed
   pub hints : (k : ℕ) → wants_at t level new k ≡ true → is_marked new.hints k ≡ true
   pub room : length new.hints ≡ length old.hints
 
@@ -123,10 +122,10 @@ pub record Passes {S : Type 0} (t : Table S) (level : ℕ) (old new : ClaimRows)
   pub claimed : new.claimed ≡ old.claimed
   pub room : length new.hints ≡ length old.hints
 
--- what becomes of the rows of a level, by the job that was given, if one was
-abbrev pub GivesNext : {B S : Type 0} → List Edit → Table S → ℕ → ClaimRows → ClaimRows → Option (Carried B S) → Type 0
-GivesNext edits t level old new None = Passes t level old new
-GivesNext edits t level old new (Some job) = Serves edits t level old new job
+-- what becomes of the rows of a level, by the node that was picked, if one was
+abbrev pub GivesNext : {S : Type 0} → Table S → ℕ → ClaimRows → ClaimRows → Option (Node × ℕ) → Type 0
+GivesNext t level old new None = Passes t level old new
+GivesNext t level old new (Some job) = Picks t level old new job
 
 -- a node is hinted at, if it is one of the table, and nothing else has changed
 pub record HintsNode (old new : ClaimTable) (node : Node) : Type 0 where
@@ -134,13 +133,12 @@ pub record HintsNode (old new : ClaimTable) (node : Node) : Type 0 where
   pub hints : (n : Node) → is_hinted new n ≡ ((is_node n && same_node n node) || is_hinted old n)
   pub blocks : claim_blocks new ≡ claim_blocks old
 
--- a job was given to the least node that wants one, which is claimed with it
-pub record ServesNode {B S : Type 0} (edits : List Edit) (t : Table S) (old new : ClaimTable) (job : Carried B S) : Type 0 where
-  pub wants : wants_in t (claimed_in old job.node) job.node ≡ true
-  pub version : job.version ≡ touched_in t job.node
-  pub before : (n : Node) → Before n job.node → wants_in t (claimed_in old n) n ≡ false
-  pub contents : AreContentsIn edits t job.node job.contents
-  pub claimed : (n : Node) → claimed_in new n ≡ (if same_node n job.node then Some job.version else claimed_in old n)
+-- the least node that wants a job was picked, and is claimed at the number of the edit that touched it last
+pub record ServesNode {S : Type 0} (t : Table S) (old new : ClaimTable) (job : Node × ℕ) : Type 0 where
+  pub wants : wants_in t (claimed_in old job.0) job.0 ≡ true
+  pub version : job.1 ≡ touched_in t job.0
+  pub before : (n : Node) → Before n job.0 → wants_in t (claimed_in old n) n ≡ false
+  pub claimed : (n : Node) → claimed_in new n ≡ (if same_node n job.0 then Some job.1 else claimed_in old n)
   pub hints : (n : Node) → wants_in t (claimed_in new n) n ≡ true → is_hinted new n ≡ true
   pub blocks : claim_blocks new ≡ claim_blocks old
 
@@ -150,7 +148,18 @@ pub record ServesNone {S : Type 0} (t : Table S) (old new : ClaimTable) : Type 0
   pub claimed : (n : Node) → claimed_in new n ≡ claimed_in old n
   pub blocks : claim_blocks new ≡ claim_blocks old
 
--- what becomes of the claims, by the job that was given, if one was
-abbrev pub ServesNext : {B S : Type 0} → List Edit → Table S → ClaimTable → ClaimTable → Option (Carried B S) → Type 0
-ServesNext edits t old new None = ServesNone t old new
-ServesNext edits t old new (Some job) = ServesNode edits t old new job
+-- what becomes of the claims, by the node that was picked, if one was
+abbrev pub ServesNext : {S : Type 0} → Table S → ClaimTable → ClaimTable → Option (Node × ℕ) → Type 0
+ServesNext t old new None = ServesNone t old new
+ServesNext t old new (Some job) = ServesNode t old new job
+
+-- each node that wants a job, by a table, is hinted at
+abbrev pub HintsWants : {S : Type 0} → Table S → ClaimTable → Type 0
+HintsWants t c = (n : Node) → wants_in t (claimed_in c n) n ≡ true → is_hinted c n ≡ true
+
+-- a job is that of a node at a version by a body: it carries the node's contents
+pub record IsJobOf {B S : Type 0} (edits : List Edit) (t : Table S) (node : Node) (version : ℕ) (body : B) (job : Carried B S) : Type 0 where
+  pub node_is : job.node ≡ node
+  pub version_is : job.version ≡ version
+  pub contents : AreContentsIn edits t node job.contents
+  pub body_is : job.body ≡ body

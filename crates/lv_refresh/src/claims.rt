@@ -1,15 +1,17 @@
 ghost use Rattle.std.specs.Prelude.{◌≡◌, ℕ, ◌+◌, ◌*◌, ◌/◌, ◌^◌, ◌<◌, ◌≤◌, ◌&&◌, ◌||◌, Bool, true, false, None, Some, option_map, length, IfSome, IfNone, OnOk, OnErr, IfErr, if◌then◌else◌};
 ghost use Rattle.lv_geometry.specs.Nodes.{covers, is_below, is_node, parent};
 ghost use Rattle.lv_summary.specs.Agrees.{Agrees};
-ghost use Rattle.lv_summary.specs.Table.{same_node};
+ghost use Rattle.lv_summary.specs.Table.{same_node, whole_in};
 ghost use Rattle.lv_refresh.specs.Claim.{IsNextJob};
 ghost use Rattle.lv_refresh.specs.Claimed.{AreHints, claim_blocks, claimed_in, is_hinted, record_of};
 ghost use Rattle.lv_refresh.specs.Honesty.{Stands};
-ghost use Rattle.lv_refresh.specs.Inner.{CanServe, GivesNext, HintsNode, ServesNext};
+ghost use Rattle.lv_refresh.specs.Inner.{CanServe, GivesNext, HintsNode, HintsWants, IsJobOf, ServesNext, children_fresh_in};
 
+use crate::contents::Contents;
+use crate::gathering::{children_of, elements_of};
 use crate::jobs::{Job, JobOf};
 use crate::level::Level;
-use crate::wants::wanted;
+use crate::wants::wants;
 use lv_bodies::Body;
 use lv_edits::Edits;
 use lv_geometry::{Node, Refusal};
@@ -111,6 +113,7 @@ impl Claims {
     }
 
     /// Hears that a summary was installed for a node, so that its parent may want a job.
+    #[inline]
     pub fn hint_parent(&mut self, node: Node)
         requires member { is_node node ≡ true }
         requires inside { is_below node (8 * claim_blocks self.old) ≡ true }
@@ -122,6 +125,7 @@ impl Claims {
     }
 
     // Hints at the node one level up, where there is one.
+    #[inline(always)]
     fn hint_above(&mut self, node: Node)
         requires member { is_node node ≡ true }
         requires inside { is_below node (8 * claim_blocks self.old) ≡ true }
@@ -171,60 +175,115 @@ impl Claims {
         ensures body { IfSome result (λ job. job.body ≡ body) }
         ensures blocks { claim_blocks self.new ≡ claim_blocks self.old }
     {
-        self.next(cells, table, body)
+        match self.next(table) {
+            Some((node, version)) => job_of(cells, table, node, version, body),
+            None => None,
+        }
     }
 
-    // The same, level by level.
-    fn next<B: Body>(&mut self, cells: &Edits, table: &Summaries<B::S>, body: B) -> Option<Job<B>>
-        requires agrees { Agrees (B.operations (B.meaning body)) cells.now.journal table.now }
-        requires hints { AreHints (record_of cells.now.journal table.now self.old) self.old }
+    // The least node that wants a job, and the number of the edit that touched it last, which is claimed with it. It hands
+    // out no job, since jobs are wide.
+    fn next<S: Copy>(&mut self, table: &Summaries<S>) -> Option<(Node, u32)>
+        requires hints { HintsWants table.now self.old }
         requires grown { table.now.size ≤ 8 * claim_blocks self.old }
-        ensures next { ServesNext cells.now.journal table.now self.old self.new result }
-        ensures body { IfSome result (λ job. job.body ≡ body) }
+        ensures { ServesNext table.now self.old self.new result }
     {
-        if let Some(job) = next_of(&mut self.level_1, 1, cells, table, body) {
-            return Some(job);
+        if let Some(next) = next_of(&mut self.level_1, 1, table) {
+            return Some(next);
         }
-        if let Some(job) = next_of(&mut self.level_2, 2, cells, table, body) {
-            return Some(job);
+        if let Some(next) = next_of(&mut self.level_2, 2, table) {
+            return Some(next);
         }
-        if let Some(job) = next_of(&mut self.level_3, 3, cells, table, body) {
-            return Some(job);
+        if let Some(next) = next_of(&mut self.level_3, 3, table) {
+            return Some(next);
         }
-        if let Some(job) = next_of(&mut self.level_4, 4, cells, table, body) {
-            return Some(job);
+        if let Some(next) = next_of(&mut self.level_4, 4, table) {
+            return Some(next);
         }
-        if let Some(job) = next_of(&mut self.level_5, 5, cells, table, body) {
-            return Some(job);
+        if let Some(next) = next_of(&mut self.level_5, 5, table) {
+            return Some(next);
         }
-        next_of(&mut self.level_6, 6, cells, table, body)
+        next_of(&mut self.level_6, 6, table)
     }
 }
 
-// The job of the least node of a level that wants one, which is claimed with it. Each hint is taken away once it was
-// looked at: its node wants no job then, or none any longer.
-fn next_of<B: Body>(
-    rows: &mut Level,
-    level: u32,
-    cells: &Edits,
-    table: &Summaries<B::S>,
-    body: B,
-) -> Option<Job<B>>
-    requires agrees { Agrees (B.operations (B.meaning body)) cells.now.journal table.now }
-    requires ready { CanServe table.now level rows.old.rows }
-    ensures next { GivesNext cells.now.journal table.now level rows.old.rows rows.new.rows result }
-    ensures body { IfSome result (λ job. job.body ≡ body) }
+// The least node of a level that wants a job, and the number of the edit that touched it last, which is claimed with it.
+// Each hint is taken away once it was looked at: its node wants no job then, or none any longer.
+fn next_of<S: Copy>(rows: &mut Level, level: u32, table: &Summaries<S>) -> Option<(Node, u32)>
+    requires { CanServe table.now level rows.old.rows }
+    ensures { GivesNext table.now level rows.old.rows rows.new.rows result }
 {
-    // The elements are few enough for a fold, and of 64 bits.
-    let _size = cells.size();
     while let Some(number) = rows.first_hint() {
         let node = Node { level, number };
         rows.unhint(number);
-        if let Some(contents) = wanted(rows, cells, table, node) {
+        if wants(rows, table, node) {
             let version = table.touched(node);
             rows.claim(number, version);
-            return Some(JobOf::new(node, version, contents, body));
+            return Some((node, version));
         }
     }
     None
+}
+
+// The job of a node that wants one; none where one of its children is not fresh.
+#[inline(always)]
+fn job_of<B: Body>(
+    cells: &Edits,
+    table: &Summaries<B::S>,
+    node: Node,
+    version: u32,
+    body: B,
+) -> Option<Job<B>>
+    requires agrees { Agrees (B.operations (B.meaning body)) cells.now.journal table.now }
+    requires whole { whole_in table.now node ≡ true }
+    ensures job { IfSome result (λ job. IsJobOf cells.now.journal table.now node version body job) }
+    ensures none { IfNone result ((1 < node.level) × (children_fresh_in table.now node ≡ false)) }
+{
+    if node.level == 1 {
+        block_job(cells, table, node, version, body)
+    } else {
+        parent_job(cells, table, node, version, body)
+    }
+}
+
+// The job of a block. It has a function of its own, since most jobs are of blocks, and eight summaries are wide.
+#[inline(never)]
+fn block_job<B: Body>(
+    cells: &Edits,
+    table: &Summaries<B::S>,
+    node: Node,
+    version: u32,
+    body: B,
+) -> Option<Job<B>>
+    requires agrees { Agrees (B.operations (B.meaning body)) cells.now.journal table.now }
+    requires whole { whole_in table.now node ≡ true }
+    requires level { node.level ≡ 1 }
+    ensures job { IfSome result (λ job. IsJobOf cells.now.journal table.now node version body job) }
+    ensures some { IfNone result ⊥ }
+{
+    // The elements are few enough for a fold, and of 64 bits.
+    let _size = cells.size();
+    let elements = elements_of(cells, node.number);
+    Some(JobOf::new(node, version, Contents::Elements(elements), body))
+}
+
+// The job of a node above level 1; none where one of its children is not fresh.
+#[inline(never)]
+fn parent_job<B: Body>(
+    cells: &Edits,
+    table: &Summaries<B::S>,
+    node: Node,
+    version: u32,
+    body: B,
+) -> Option<Job<B>>
+    requires agrees { Agrees (B.operations (B.meaning body)) cells.now.journal table.now }
+    requires whole { whole_in table.now node ≡ true }
+    requires above { 1 < node.level }
+    ensures job { IfSome result (λ job. IsJobOf cells.now.journal table.now node version body job) }
+    ensures none { IfNone result (children_fresh_in table.now node ≡ false) }
+{
+    // The elements are few enough for a fold, and of 64 bits.
+    let _size = cells.size();
+    let summaries = children_of(table, node)?;
+    Some(JobOf::new(node, version, Contents::Children(summaries), body))
 }

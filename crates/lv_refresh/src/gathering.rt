@@ -3,31 +3,16 @@ ghost use Rattle.lv_geometry.specs.Nodes.{child};
 ghost use Rattle.lv_edits.specs.History.{list_of};
 ghost use Rattle.lv_summary.specs.Table.{entry_in, whole_in};
 ghost use Rattle.lv_refresh.specs.Contents.{in_order};
-ghost use Rattle.lv_refresh.specs.Inner.{AreContentsIn, children_fresh_in};
+ghost use Rattle.lv_refresh.specs.Inner.{children_fresh_in};
 
-use crate::contents::{Contents, Eight};
+use crate::contents::Eight;
 use lv_edits::Edits;
 use lv_geometry::Node;
 use lv_summary::Summaries;
 
-/// What the summary of a whole node is computed from; none where one of its children is not fresh.
-pub fn contents_of<S: Copy>(cells: &Edits, table: &Summaries<S>, node: Node) -> Option<Contents<S>>
-    requires whole { whole_in table.now node ≡ true }
-    requires size { table.now.size ≡ length (list_of cells.now.journal) }
-    ensures some { IfSome result (λ contents. AreContentsIn cells.now.journal table.now node contents) }
-    ensures ready { IfSome result (λ contents. 1 < node.level → children_fresh_in table.now node ≡ true) }
-    ensures none { IfNone result ((1 < node.level) × (children_fresh_in table.now node ≡ false)) }
-{
-    if node.level == 1 {
-        Some(Contents::Elements(elements_of(cells, node.number)))
-    } else {
-        let summaries = children_of(table, node)?;
-        Some(Contents::Children(summaries))
-    }
-}
-
-// The elements of a block.
-fn elements_of(cells: &Edits, block: u32) -> [i64; 8]
+/// The elements of a block.
+#[inline(always)]
+pub fn elements_of(cells: &Edits, block: u32) -> [i64; 8]
     requires { (block + 1) * 8 ≤ length (list_of cells.now.journal) }
     ensures { result ≡ take 8 (drop (block * 8) (list_of cells.now.journal)) }
 {
@@ -40,8 +25,8 @@ fn elements_of(cells: &Edits, block: u32) -> [i64; 8]
     elements
 }
 
-// The summaries of a whole node's children; none where one of them is not fresh.
-fn children_of<S: Copy>(table: &Summaries<S>, node: Node) -> Option<Eight<S>>
+/// The summaries of a whole node's children; none where one of them is not fresh.
+pub fn children_of<S: Copy>(table: &Summaries<S>, node: Node) -> Option<Eight<S>>
     requires whole { whole_in table.now node ≡ true }
     requires above { 1 < node.level }
     ensures some { IfSome result (λ summaries. (k : ℕ) → k < 8 → slice_get (in_order summaries) k ≡ entry_in table.now (child node k)) }
@@ -60,6 +45,24 @@ fn children_of<S: Copy>(table: &Summaries<S>, node: Node) -> Option<Eight<S>>
         g: table.entry(child_of(node, 6))?,
         h: table.entry(child_of(node, 7))?,
     })
+}
+
+/// Whether the eight children of a whole node are fresh.
+pub fn are_children_fresh<S: Copy>(table: &Summaries<S>, node: Node) -> bool
+    requires whole { whole_in table.now node ≡ true }
+    requires above { 1 < node.level }
+    ensures { result ≡ children_fresh_in table.now node }
+{
+    // The size tells that the children's numbers are of 32 bits.
+    let _size = table.size();
+    table.fresh(child_of(node, 0))
+        && table.fresh(child_of(node, 1))
+        && table.fresh(child_of(node, 2))
+        && table.fresh(child_of(node, 3))
+        && table.fresh(child_of(node, 4))
+        && table.fresh(child_of(node, 5))
+        && table.fresh(child_of(node, 6))
+        && table.fresh(child_of(node, 7))
 }
 
 // A child of a node above level 1.

@@ -53,6 +53,7 @@ impl<B: Body<S = S>, S: Copy> Copy for JobOf<B, S> {}
 
 impl<B: Body<S = S>, S: Copy> JobOf<B, S> {
     /// The job of a node at a version.
+    #[inline(always)]
     pub(crate) fn new(node: Node, version: u32, contents: Contents<S>, body: B) -> JobOf<B, S>
         requires member { is_node node ≡ true }
         requires contents { CanFoldContents (B.is_within (B.meaning body)) contents }
@@ -80,10 +81,29 @@ impl<B: Body<S = S>, S: Copy> JobOf<B, S> {
         self.version
     }
 
+    /// What the summary is computed from, where it lies.
+    #[inline(always)]
+    pub(crate) fn as_contents(&self) -> &Contents<S>
+        ensures value { result.now ≡ self.now.contents }
+        ensures can_fold { CanFoldContents (B.is_within (B.meaning self.now.body)) result.now }
+        ensures member { is_node self.now.node ≡ true }
+    {
+        &self.contents
+    }
+
+    /// The body to compute it by.
+    #[inline(always)]
+    pub(crate) fn as_body(&self) -> &B
+        ensures { result.now ≡ self.now.body }
+    {
+        &self.body
+    }
+
     /// Computes the node's summary. The outcome is of the same node, version, contents and body.
+    #[inline(always)]
     pub fn run(self) -> OutcomeOf<B, S>
         ensures { result ≡ self }
     {
-        OutcomeOf::of(self.node, self.version, self.contents, self.body)
+        OutcomeOf::of(self)
     }
 }

@@ -3,6 +3,7 @@ ghost use Rattle.lv_geometry.specs.Nodes.{is_node};
 ghost use Rattle.lv_refresh.specs.Contents.{CanFoldContents, fold_of_contents};
 
 use crate::contents::{Contents, Eight};
+use crate::jobs::JobOf;
 use lv_bodies::{Body, fold_slice};
 use lv_geometry::Node;
 use std::alloc::AllocError;
@@ -11,11 +12,8 @@ use std::marker::Model;
 /// What a job gave: all that it carried, and the fold of it. Only `Job::run` makes one.
 #[derive(Debug)]
 pub struct OutcomeOf<B: Body<S = S>, S> {
-    contents: Contents<S>,
+    job: JobOf<B, S>,
     summary: S,
-    body: B,
-    node: Node,
-    version: u32,
 }
 
 /// An outcome by a body.
@@ -30,11 +28,11 @@ impl<B: Body<S = S>, S> Model for OutcomeOf<B, S> {
 
     ghost Value = { Carried B S };
 
-    ghost view = { λ a. record { node = a.node; version = a.version; contents = a.contents; body = a.body } };
+    ghost view = { λ a. a.job };
 
-    ghost invariant = { λ a. (is_node a.node ≡ true) × (a.summary ≡ fold_of_contents (B.operations (B.meaning a.body)) a.contents) };
+    ghost invariant = { λ a. (is_node a.job.node ≡ true) × (a.summary ≡ fold_of_contents (B.operations (B.meaning a.job.body)) a.job.contents) };
 
-    ghost inverse = { λ d. record { contents = d.contents; summary = fold_of_contents (B.operations (B.meaning d.body)) d.contents; body = d.body; node = d.node; version = d.version } };
+    ghost inverse = { λ d. record { job = d; summary = fold_of_contents (B.operations (B.meaning d.body)) d.contents } };
 
     ghost inverse_ok = { λ a h. ap (λ s. record a { summary = s }) (sym h.1) };
 }
@@ -54,38 +52,34 @@ impl<B: Body<S = S>, S: Copy> Clone for OutcomeOf<B, S> {
 impl<B: Body<S = S>, S: Copy> Copy for OutcomeOf<B, S> {}
 
 impl<B: Body<S = S>, S: Copy> OutcomeOf<B, S> {
-    /// The outcome of what a job carries.
-    pub(crate) fn of(node: Node, version: u32, contents: Contents<S>, body: B) -> OutcomeOf<B, S>
-        requires member { is_node node ≡ true }
-        requires contents { CanFoldContents (B.is_within (B.meaning body)) contents }
-        ensures { result ≡ record { node = node; version = version; contents = contents; body = body } }
+    /// The outcome of a job.
+    #[inline(always)]
+    pub(crate) fn of(job: JobOf<B, S>) -> OutcomeOf<B, S>
+        ensures { result ≡ job }
     {
-        let summary = fold_contents(&body, contents);
-        OutcomeOf {
-            contents,
-            summary,
-            body,
-            node,
-            version,
-        }
+        let summary = fold_contents(job.as_body(), job.as_contents());
+        OutcomeOf { job, summary }
     }
 
     /// The node whose summary this is.
+    #[inline(always)]
     pub fn node(&self) -> Node
         ensures value { result ≡ self.now.node }
         ensures member { is_node result ≡ true }
     {
-        self.node
+        self.job.node()
     }
 
     /// The version that the summary is of.
+    #[inline(always)]
     pub fn version(&self) -> u32
         ensures { result ≡ self.now.version }
     {
-        self.version
+        self.job.version()
     }
 
     /// The fold of the elements, or the join of the summaries, that the job carried.
+    #[inline(always)]
     pub fn summary(&self) -> S
         ensures { result ≡ fold_of_contents (B.operations (B.meaning self.now.body)) self.now.contents }
     {
@@ -96,32 +90,42 @@ impl<B: Body<S = S>, S: Copy> OutcomeOf<B, S> {
     pub fn contents(&self) -> Contents<S>
         ensures { result ≡ self.now.contents }
     {
-        self.contents
+        *self.job.as_contents()
+    }
+
+    /// The same where it lies, since contents are wide.
+    #[inline(always)]
+    pub fn as_contents(&self) -> &Contents<S>
+        ensures { result.now ≡ self.now.contents }
+    {
+        self.job.as_contents()
     }
 
     /// The body that it was computed by.
+    #[inline(always)]
     pub fn body(&self) -> B
         ensures { result ≡ self.now.body }
     {
-        self.body
+        *self.job.as_body()
     }
 }
 
 // The fold of the elements, or the join of the summaries from left to right.
-fn fold_contents<B: Body>(body: &B, contents: Contents<B::S>) -> B::S
-    requires { CanFoldContents (B.is_within (B.meaning body.now)) contents }
-    ensures { result ≡ fold_of_contents (B.operations (B.meaning body.now)) contents }
+#[inline(always)]
+fn fold_contents<B: Body>(body: &B, contents: &Contents<B::S>) -> B::S
+    requires { CanFoldContents (B.is_within (B.meaning body.now)) contents.now }
+    ensures { result ≡ fold_of_contents (B.operations (B.meaning body.now)) contents.now }
 {
     match contents {
-        Contents::Elements(elements) => fold_slice(body, &elements),
+        Contents::Elements(elements) => fold_slice(body, elements),
         Contents::Children(summaries) => join_eight(body, summaries),
     }
 }
 
 // Eight summaries joined from left to right.
-fn join_eight<B: Body>(body: &B, summaries: Eight<B::S>) -> B::S
-    requires { CanFoldContents (B.is_within (B.meaning body.now)) (Contents.Children summaries) }
-    ensures { result ≡ fold_of_contents (B.operations (B.meaning body.now)) (Contents.Children summaries) }
+fn join_eight<B: Body>(body: &B, summaries: &Eight<B::S>) -> B::S
+    requires { CanFoldContents (B.is_within (B.meaning body.now)) (Contents.Children summaries.now) }
+    ensures { result ≡ fold_of_contents (B.operations (B.meaning body.now)) (Contents.Children summaries.now) }
 {
     let sum = body.combine(body.identity(), summaries.a);
     let sum = body.combine(sum, summaries.b);

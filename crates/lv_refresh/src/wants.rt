@@ -1,35 +1,25 @@
-ghost use Rattle.std.specs.Prelude.{◌≡◌, true, false, length, slice_index, IfSome, IfNone};
-ghost use Rattle.lv_edits.specs.History.{list_of};
+ghost use Rattle.std.specs.Prelude.{◌≡◌, slice_index};
 ghost use Rattle.lv_refresh.specs.Claimed.{version_of};
-ghost use Rattle.lv_refresh.specs.Inner.{AreContentsIn, wants_in};
+ghost use Rattle.lv_refresh.specs.Inner.{wants_in};
 
-use crate::contents::Contents;
-use crate::gathering::contents_of;
+use crate::gathering::are_children_fresh;
 use crate::level::Level;
-use lv_edits::Edits;
 use lv_geometry::Node;
 use lv_summary::Summaries;
 
-/// What a job of a node is to carry, where the node wants one; none where it wants none. `rows` are those of its level.
-pub fn wanted<S: Copy>(
-    rows: &Level,
-    cells: &Edits,
-    table: &Summaries<S>,
-    node: Node,
-) -> Option<Contents<S>>
-    requires { table.now.size ≡ length (list_of cells.now.journal) }
-    ensures wants { IfSome result (λ contents. wants_in table.now (version_of (slice_index rows.now.rows.claimed node.number)) node ≡ true) }
-    ensures contents { IfSome result (λ contents. AreContentsIn cells.now.journal table.now node contents) }
-    ensures none { IfNone result (wants_in table.now (version_of (slice_index rows.now.rows.claimed node.number)) node ≡ false) }
+/// Whether a node wants a job. `rows` are those of its level.
+#[inline(always)]
+pub fn wants<S: Copy>(rows: &Level, table: &Summaries<S>, node: Node) -> bool
+    ensures { result ≡ wants_in table.now (version_of (slice_index rows.now.rows.claimed node.number)) node }
 {
     if !table.whole(node) {
-        return None;
+        return false;
     }
     if table.fresh(node) {
-        return None;
+        return false;
     }
     if rows.is_claimed(node.number, table.touched(node)) {
-        return None;
+        return false;
     }
-    contents_of(cells, table, node)
+    node.level == 1 || are_children_fresh(table, node)
 }

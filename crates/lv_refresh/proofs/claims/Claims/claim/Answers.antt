@@ -1,11 +1,27 @@
-use Rattle.lv_refresh.proofs.NextLaws.{AreHints-served, IsNextJob-served, Stands-served}
+use Rattle.std.proofs.Common.{None, Some}
+use Rattle.lv_refresh.proofs.NextLaws.{AreHints-served, HintsWants-from, IsNextJob-job, IsNextJob-served, Stands-job, claimed-job}
 use Rattle.lv_refresh.proofs.claims.Claims.claim.Goals as goal
 
-pub returns-clause-next : goal.returns-clause-next
-returns-clause-next g c = IsNextJob-served _ _ _ c.requires.agrees _ _ _ c.next.ensures.next
+pub next-requires-clause-hints : goal.next-requires-clause-hints
+next-requires-clause-hints g c = HintsWants-from _ _ _ c.requires.agrees _ c.requires.hints
 
-pub returns-clause-hints : goal.returns-clause-hints
-returns-clause-hints g c = AreHints-served _ _ _ c.requires.agrees _ _ _ c.next.ensures.next
+pub returns-in-Some-clause-next : goal.returns-in-Some-clause-next
+returns-in-Some-clause-next g c =
+    IsNextJob-job _ _ c.args.table.now c.requires.agrees c.args.self.now c.next.new.self c.in-Some.node c.in-Some.version c.args.body c.in-Some.ensures c.job_of.result c.job_of.ensures.job c.job_of.ensures.none
 
-pub returns-clause-job : goal.returns-clause-job
-returns-clause-job g c = Stands-served _ _ _ c.requires.agrees _ _ _ c.next.ensures.next
+pub returns-in-Some-clause-claimed : goal.returns-in-Some-clause-claimed
+returns-in-Some-clause-claimed g c =
+    claimed-job _ _ c.args.table.now c.requires.agrees c.args.self.now c.next.new.self c.in-Some.node c.in-Some.version c.args.body c.in-Some.ensures c.job_of.result c.job_of.ensures.job
+
+pub returns-in-Some-clause-hints : goal.returns-in-Some-clause-hints
+returns-in-Some-clause-hints g c = AreHints-served _ _ c.args.table.now c.requires.agrees c.args.self.now c.next.new.self (Some (c.in-Some.node, c.in-Some.version)) c.in-Some.ensures
+
+pub returns-in-Some-clause-job : goal.returns-in-Some-clause-job
+returns-in-Some-clause-job g c =
+    Stands-job _ _ c.args.table.now c.requires.agrees c.args.self.now c.next.new.self c.in-Some.node c.in-Some.version c.args.body c.in-Some.ensures c.job_of.result c.job_of.ensures.job
+
+pub returns-in-None-clause-next : goal.returns-in-None-clause-next
+returns-in-None-clause-next g c = IsNextJob-served _ _ c.args.table.now c.requires.agrees c.args.self.now c.next.new.self None c.in-None.ensures
+
+pub returns-in-None-clause-hints : goal.returns-in-None-clause-hints
+returns-in-None-clause-hints g c = AreHints-served _ _ c.args.table.now c.requires.agrees c.args.self.now c.next.new.self None c.in-None.ensures
