@@ -4,6 +4,7 @@ ghost use Rattle.std.specs.Prelude.{◌≡◌, ◌+◌, IfOk, vec_len};
 
 use crate::files::Streams;
 use lv_bodies::Six;
+use lv_edits::Edit;
 use lv_geometry::Limits;
 use lv_hub::{Hub, Naming, OpenGate, Share, in_order, run_session, work};
 use lv_script::{Claimed, Fault, write_transcript};
@@ -78,14 +79,61 @@ fn serve_as<
     requires limits { plan.limits ≡ N.limits }
 {
     let (hub, mut share) = Hub::<Six, N>::new(alloc, plan.limits, Six::program(), blank, parts);
-    let tasks = share_out(alloc, &mut share, streams)?;
-    let done = hold_all(rt, alloc, plan, &hub, tasks)?;
-    let mut claims = take_back(alloc, &mut share, done)?;
+    match serve_all(rt, alloc, plan, &hub, &mut share, streams) {
+        Ok(claims) => write_closed(alloc, hub, share, claims, writer),
+        Err(fault) => {
+            drop(hub);
+            Err(fault)
+        }
+    }
+}
+
+// Serves them on a hub, and gathers the reductions in the order of the sessions. Its share has all parts, and has them again.
+fn serve_all<N: Naming + Send + Sync, F: Read + Write + Send + Drop, R: Threads + Wait + Sync>(
+    rt: &R,
+    alloc: Global,
+    plan: Plan,
+    hub: &Hub<Six, N>,
+    share: &mut Share<N>,
+    streams: Vec<Streams<F>>,
+) -> Result<Vec<Claimed>, Fault>
+    requires { share.old.parts ≡ vec_len streams + 1 }
+    ensures { IfOk result (λ claims. share.new.parts ≡ share.old.parts) }
+{
+    let tasks = share_out(alloc, share, streams)?;
+    let done = hold_all(rt, alloc, plan, hub, tasks)?;
+    take_back(alloc, share, done)
+}
+
+// Writes the transcript of a journal, with the reductions in the order of their edits.
+fn write_in_order<W: Write>(
+    alloc: Global,
+    journal: &[Edit],
+    claims: Vec<Claimed>,
+    writer: &mut W,
+) -> Result<(), Fault> {
+    let mut claims = claims;
     let Ok(()) = in_order(&mut claims) else {
         return Err(Fault::NoMemory);
     };
+    write_transcript(alloc, journal, &claims, writer)
+}
+
+// Closes a hub and writes its transcript. A call drops the vector, as one above drops the hub: the proof of a body that does so
+// by itself is long.
+fn write_closed<N: Naming, W: Write>(
+    alloc: Global,
+    hub: Hub<Six, N>,
+    share: Share<N>,
+    claims: Vec<Claimed>,
+    writer: &mut W,
+) -> Result<(), Fault>
+    requires { share.parts ≡ N.parts }
+{
     let live = hub.close(share);
-    write_transcript(alloc, live.journal(), &claims, writer)
+    let written = write_in_order(alloc, live.journal(), claims, writer);
+    drop(live);
+    written
 }
 
 // Gives each session a part of the hub.

@@ -1,4 +1,4 @@
-ghost use Rattle.std.specs.Prelude.{◌≡◌, IfOk};
+ghost use Rattle.std.specs.Prelude.{◌≡◌};
 
 use super::*;
 use lv_bodies::{Automaton, Body, Sum};
@@ -35,25 +35,15 @@ fn push_all<B: Body, N: Naming, R: Wait>(
     Ok(())
 }
 
-// A hub of equal elements, and its one share.
-fn filled<B: Body, N: Naming, R: Wait>(
-    rt: &R,
-    alloc: Global,
-    limits: Limits,
-    blank: Blank,
-    body: B,
-    count: u32,
-    x: i64,
-) -> Result<(Hub<B, N>, Share<N>), Refusal>
-    requires name { blank.name ≡ N.name }
-    requires all { blank.parts ≡ N.parts }
-    requires one { blank.parts ≡ 1 }
-    requires limits { limits ≡ N.limits }
-    ensures { IfOk result (λ opened. opened.1.parts ≡ N.parts) }
+// How many edits a share of all parts counts, and how many the journal of its hub has, which is closed.
+fn counts_at_close<N: Naming>(hub: Hub<Sum, N>, share: Share<N>) -> (u64, usize)
+    requires { share.parts ≡ N.parts }
 {
-    let (hub, mut share) = Hub::new(alloc, limits, body, blank, 1);
-    push_all(rt, &hub, &mut share, count, x)?;
-    Ok((hub, share))
+    let counted = share.count();
+    let live = hub.close(share);
+    let edits = live.journal().len();
+    drop(live);
+    (counted, edits)
 }
 
 // The outcome of a hub's next job.
@@ -64,7 +54,19 @@ fn next_outcome<B: Body, N: Naming, R: Wait>(rt: &R, hub: &Hub<B, N>) -> Result<
     }
 }
 
-// The outcome of the first job of a hub of eight equal elements.
+// Makes a new hub one of eight equal elements, and computes its first job.
+fn outcome_of_eight<B: Body, N: Naming, R: Wait>(
+    rt: &R,
+    hub: &Hub<B, N>,
+    share: &mut Share<N>,
+    x: i64,
+) -> Result<Outcome<B>, Fail> {
+    push_all(rt, hub, share, 8, x)?;
+    next_outcome(rt, hub)
+}
+
+// The outcome of the first job of a hub of eight equal elements. A call drops the hub, here as in the tests below, for the proof
+// of a body that drops it by itself is long.
 fn first_outcome<B: Body, N: Naming, R: Wait>(
     rt: &R,
     alloc: Global,
@@ -78,8 +80,22 @@ fn first_outcome<B: Body, N: Naming, R: Wait>(
     requires one { blank.parts ≡ 1 }
     requires limits { limits ≡ N.limits }
 {
-    let (hub, _share) = filled::<B, N, R>(rt, alloc, limits, blank, body, 8, x)?;
-    next_outcome(rt, &hub)
+    let (hub, mut share) = Hub::<B, N>::new(alloc, limits, body, blank, 1);
+    let outcome = outcome_of_eight(rt, &hub, &mut share, x);
+    drop(hub);
+    outcome
+}
+
+// Makes a new hub one of eight equal elements, and gives it an outcome.
+fn give_to_eight<B: Body, N: Naming, R: Wait>(
+    rt: &R,
+    hub: &Hub<B, N>,
+    share: &mut Share<N>,
+    x: i64,
+    outcome: Outcome<B>,
+) -> Result<Accepted, Refusal> {
+    push_all(rt, hub, share, 8, x)?;
+    hub.give(rt, outcome)
 }
 
 // What a hub of eight equal elements answers where it is given an outcome.
@@ -97,8 +113,10 @@ fn answer_to<B: Body, N: Naming, R: Wait>(
     requires one { blank.parts ≡ 1 }
     requires limits { limits ≡ N.limits }
 {
-    let (hub, _share) = filled::<B, N, R>(rt, alloc, limits, blank, body, 8, x)?;
-    hub.give(rt, outcome)
+    let (hub, mut share) = Hub::<B, N>::new(alloc, limits, body, blank, 1);
+    let answer = give_to_eight(rt, &hub, &mut share, x, outcome);
+    drop(hub);
+    answer
 }
 
 // Sees what a reduction from the first element answers: at which edit, and the sum.
@@ -118,6 +136,16 @@ fn assert_sum<N: Naming, R: Wait + Abort>(
 fn assert_scan(rt: &impl Abort, scan: &Scan<u64>, edit: u32, values: &[u64]) {
     assert_eq!(rt; scan.edit, edit);
     assert_eq!(rt; scan.values.as_slice(), values);
+}
+
+// Sees what a hub answers where it is given an outcome.
+fn assert_given<N: Naming, R: Wait + Abort>(
+    rt: &R,
+    hub: &Hub<Sum, N>,
+    outcome: Outcome<Sum>,
+    answer: Result<Accepted, Refusal>,
+) {
+    assert_eq!(rt; hub.give(rt, outcome), answer);
 }
 
 // Writes over an element, and sees the edit's number and that a 1 stood there.
@@ -141,11 +169,11 @@ fn assert_own_alone<N: Naming, R: Wait + Abort>(
     hub: &Hub<Sum, N>,
     strange: Outcome<Sum>,
 ) -> Result<(), Fail> {
-    assert_eq!(rt; hub.give(rt, strange), Err(Refusal::Stranger));
+    assert_given(rt, hub, strange, Err(Refusal::Stranger));
     assert_sum(rt, hub, 8, 8, 8)?;
     let own = next_outcome(rt, hub)?;
-    assert_eq!(rt; hub.give(rt, own), Ok(Accepted::Installed));
-    assert_eq!(rt; hub.give(rt, own), Ok(Accepted::Held));
+    assert_given(rt, hub, own, Ok(Accepted::Installed));
+    assert_given(rt, hub, own, Ok(Accepted::Held));
     Ok(())
 }
 
@@ -156,14 +184,39 @@ fn assert_follows<N: Naming, R: Wait + Abort>(
     hub: &Hub<Sum, N>,
     strange: Outcome<Sum>,
 ) -> Result<(), Fail> {
-    assert_eq!(rt; hub.give(rt, strange), Ok(Accepted::Stale { now: 9 }));
+    assert_given(rt, hub, strange, Ok(Accepted::Stale { now: 9 }));
     assert_sum(rt, hub, 8, 9, 12)?;
+    assert_scans(rt, alloc, hub)
+}
+
+// Sees both scans of the elements 5 and 1 that a hub begins with at edit 9.
+fn assert_scans<N: Naming, R: Wait + Abort>(
+    rt: &R,
+    alloc: Global,
+    hub: &Hub<Sum, N>,
+) -> Result<(), Fail> {
     assert_scan(rt, &hub.scan_inclusive(rt, alloc, 0, 2)?, 9, &[5, 6]);
     assert_scan(rt, &hub.scan_exclusive(rt, alloc, 0, 2)?, 9, &[0, 5]);
     Ok(())
 }
 
-// A hub of eight elements 1, given an outcome of another before and after a write.
+// Makes a new hub one of eight elements 1, and gives it an outcome of another before and after a write.
+fn assert_strangers<N: Naming, R: Wait + Abort>(
+    rt: &R,
+    alloc: Global,
+    hub: &Hub<Sum, N>,
+    share: &mut Share<N>,
+    strange: Outcome<Sum>,
+) -> Result<(), Fail>
+    ensures { share.new.parts ≡ share.old.parts }
+{
+    push_all(rt, hub, share, 8, 1)?;
+    assert_own_alone(rt, hub, strange)?;
+    overwrite_a_one(rt, hub, share, 0, 5, 9);
+    assert_follows(rt, alloc, hub, strange)
+}
+
+// A hub of eight elements 1, given an outcome of another before and after a write, and closed.
 fn one_hub_of_two<N: Naming, R: Wait + Abort>(
     rt: &R,
     alloc: Global,
@@ -176,13 +229,11 @@ fn one_hub_of_two<N: Naming, R: Wait + Abort>(
     requires one { blank.parts ≡ 1 }
     requires limits { limits ≡ N.limits }
 {
-    let (hub, mut share) = filled::<Sum, N, R>(rt, alloc, limits, blank, Sum, 8, 1)?;
-    assert_own_alone(rt, &hub, strange)?;
-    overwrite_a_one(rt, &hub, &mut share, 0, 5, 9);
-    assert_follows(rt, alloc, &hub, strange)?;
-    let counted = share.count();
-    let live = hub.close(share);
-    assert_eq!(rt; (live.journal().len(), counted), (9, 9));
+    let (hub, mut share) = Hub::<Sum, N>::new(alloc, limits, Sum, blank, 1);
+    let seen = assert_strangers(rt, alloc, &hub, &mut share, strange);
+    let counts = counts_at_close(hub, share);
+    seen?;
+    assert_eq!(rt; counts, (9, 9));
     Ok(())
 }
 
@@ -197,28 +248,38 @@ fn two_hubs(rt: HostRuntime) -> Result<(), Fail> {
 // Claims a hub's next job and gives its outcome.
 fn refresh<N: Naming, R: Wait + Abort>(rt: &R, hub: &Hub<Sum, N>) -> Result<(), Fail> {
     let outcome = next_outcome(rt, hub)?;
-    assert_eq!(rt; hub.give(rt, outcome), Ok(Accepted::Installed));
+    assert_given(rt, hub, outcome, Ok(Accepted::Installed));
     Ok(())
 }
 
-// A hub of 64 equal elements, whose eight blocks were refreshed, and its one share.
+// Makes a new hub one of 64 equal elements, whose eight blocks were refreshed.
 fn eight_blocks<N: Naming, R: Wait + Abort>(
     rt: &R,
-    alloc: Global,
-    limits: Limits,
-    blank: Blank,
+    hub: &Hub<Sum, N>,
+    share: &mut Share<N>,
     x: i64,
-) -> Result<(Hub<Sum, N>, Share<N>), Fail>
-    requires name { blank.name ≡ N.name }
-    requires all { blank.parts ≡ N.parts }
-    requires one { blank.parts ≡ 1 }
-    requires limits { limits ≡ N.limits }
-{
-    let (hub, share) = filled::<Sum, N, R>(rt, alloc, limits, blank, Sum, 64, x)?;
+) -> Result<(), Fail> {
+    push_all(rt, hub, share, 64, x)?;
     for _ in 0..8 {
-        refresh(rt, &hub)?;
+        refresh(rt, hub)?;
     }
-    Ok((hub, share))
+    Ok(())
+}
+
+// Makes a new hub one of 64 elements 2, and computes the job of the node over its eight blocks.
+fn outcome_of_64<N: Naming, R: Wait + Abort>(
+    rt: &R,
+    hub: &Hub<Sum, N>,
+    share: &mut Share<N>,
+) -> Result<Outcome<Sum>, Fail> {
+    eight_blocks(rt, hub, share, 2)?;
+    let outcome = next_outcome(rt, hub)?;
+    let node = Node {
+        level: 2,
+        number: 0,
+    };
+    assert_eq!(rt; (outcome.node(), outcome.version()), (node, 64));
+    Ok(outcome)
 }
 
 // The outcome of the node over the eight blocks of a hub of 64 elements 2.
@@ -233,14 +294,24 @@ fn outcome_above<N: Naming, R: Wait + Abort>(
     requires one { blank.parts ≡ 1 }
     requires limits { limits ≡ N.limits }
 {
-    let (hub, _share) = eight_blocks::<N, R>(rt, alloc, limits, blank, 2)?;
-    let outcome = next_outcome(rt, &hub)?;
-    let node = Node {
-        level: 2,
-        number: 0,
-    };
-    assert_eq!(rt; (outcome.node(), outcome.version()), (node, 64));
-    Ok(outcome)
+    let (hub, mut share) = Hub::<Sum, N>::new(alloc, limits, Sum, blank, 1);
+    let outcome = outcome_of_64(rt, &hub, &mut share);
+    drop(hub);
+    outcome
+}
+
+// Makes a new hub one of 64 elements 1, and gives it an outcome above the blocks of another before and after a write.
+fn assert_strangers_above<N: Naming, R: Wait + Abort>(
+    rt: &R,
+    hub: &Hub<Sum, N>,
+    share: &mut Share<N>,
+    strange: Outcome<Sum>,
+) -> Result<(), Fail> {
+    eight_blocks(rt, hub, share, 1)?;
+    assert_given(rt, hub, strange, Err(Refusal::Stranger));
+    overwrite_a_one(rt, hub, share, 3, 9, 65);
+    assert_given(rt, hub, strange, Ok(Accepted::Stale { now: 65 }));
+    Ok(())
 }
 
 // A hub of 64 elements 1, given an outcome above the blocks of another before and after a write.
@@ -256,11 +327,10 @@ fn one_hub_of_64<N: Naming, R: Wait + Abort>(
     requires one { blank.parts ≡ 1 }
     requires limits { limits ≡ N.limits }
 {
-    let (hub, mut share) = eight_blocks::<N, R>(rt, alloc, limits, blank, 1)?;
-    assert_eq!(rt; hub.give(rt, strange), Err(Refusal::Stranger));
-    overwrite_a_one(rt, &hub, &mut share, 3, 9, 65);
-    assert_eq!(rt; hub.give(rt, strange), Ok(Accepted::Stale { now: 65 }));
-    Ok(())
+    let (hub, mut share) = Hub::<Sum, N>::new(alloc, limits, Sum, blank, 1);
+    let seen = assert_strangers_above(rt, &hub, &mut share, strange);
+    drop(hub);
+    seen
 }
 
 #[test]
@@ -474,46 +544,61 @@ fn while_held<N: Naming, R: Wait>(
     Ok((first, answer, second))
 }
 
-// What a worker with one turn did, and what the main thread was answered meanwhile.
+// What was done while a job was held: by a worker with one turn, and what the main thread was answered.
+type HeldOnce = (Worked, (Receipt, Answer<u64>, Receipt));
+
+// Makes a new hub one of eight elements 1, whose first job is held.
+fn hold_once<N: Naming + Send + Sync, R: Threads + Wait + Sync>(
+    rt: &R,
+    hub: &Hub<Held<'_>, N>,
+    share: &mut Share<N>,
+    stage: &Stage,
+) -> Result<HeldOnce, Refusal> {
+    push_all(rt, hub, share, 8, 1)?;
+    let (worked, answers) = thread::join(
+        rt,
+        move || work(rt, hub, stage, 1),
+        move || while_held(rt, hub, share, stage),
+    );
+    Ok((worked, answers?))
+}
+
+// What was done while a job of a hub of eight elements 1 was held.
 fn hold_a_job<N: Naming + Send + Sync, R: Threads + Wait + Sync>(
     rt: &R,
     alloc: Global,
     limits: Limits,
     blank: Blank,
     stage: &Stage,
-) -> Result<(Worked, (Receipt, Answer<u64>, Receipt)), Refusal>
+) -> Result<HeldOnce, Refusal>
     requires name { blank.name ≡ N.name }
     requires all { blank.parts ≡ N.parts }
     requires one { blank.parts ≡ 1 }
     requires limits { limits ≡ N.limits }
 {
-    let body = Held { stage };
-    let (hub, mut share) = filled::<Held<'_>, N, R>(rt, alloc, limits, blank, body, 8, 1)?;
-    let hub = &hub;
-    let (worked, answers) = thread::join(
-        rt,
-        move || work(rt, hub, stage, 1),
-        || while_held(rt, hub, &mut share, stage),
-    );
-    Ok((worked, answers?))
+    let (hub, mut share) = Hub::<Held<'_>, N>::new(alloc, limits, Held { stage }, blank, 1);
+    let done = hold_once(rt, &hub, &mut share, stage);
+    drop(hub);
+    done
+}
+
+// Sees what was done while a job was held.
+fn assert_held(rt: &impl Abort, done: HeldOnce) {
+    let (worked, (first, answer, second)) = done;
+    let first_wanted = Receipt::Pushed { edit: 9, index: 8 };
+    let second_wanted = Receipt::Pushed { edit: 10, index: 9 };
+    assert_eq!(rt; (first, second), (first_wanted, second_wanted));
+    assert_eq!(rt; (answer.edit, answer.value), (9, 9));
+    assert_eq!(rt; worked, one_installed());
 }
 
 #[test]
 fn a_held_job_holds_nobody(rt: HostRuntime) -> Result<(), Fail> {
     let stage = Stage::new();
     let limits = Limits::greatest();
-    let (worked, (first, answer, second)) = hold_a_job::<Brand, _>(
-        &rt,
-        rt.alloc(),
-        limits,
-        Blank::new(1),
-        &stage,
-    )?;
+    let done = hold_a_job::<Brand, _>(&rt, rt.alloc(), limits, Blank::new(1), &stage)?;
     assert!(rt; stage.was_in_time());
-    assert_eq!(rt; first, Receipt::Pushed { edit: 9, index: 8 });
-    assert_eq!(rt; (answer.edit, answer.value), (9, 9));
-    assert_eq!(rt; second, Receipt::Pushed { edit: 10, index: 9 });
-    assert_eq!(rt; worked, one_installed());
+    assert_held(&rt, done);
     Ok(())
 }
 
@@ -553,7 +638,51 @@ fn overtake<N: Naming + Send + Sync, R: Threads + Wait + Sync>(
     (worked, written)
 }
 
-// A worker that claimed the first block, and stands at its gate while another works and the main thread edits.
+// What the late worker did, and what another worker did and an edit was answered meanwhile.
+type DoneLate = (Worked, (Worked, Result<Receipt, Refusal>));
+
+// A worker that claimed the first block stands at its gate while another works and the main thread edits.
+fn work_late<N: Naming + Send + Sync, R: Threads + Wait + Sync>(
+    rt: &R,
+    hub: &Hub<Sum, N>,
+    share: &mut Share<N>,
+    gate: &Latch,
+) -> DoneLate {
+    thread::join(
+        rt,
+        move || work(rt, hub, gate, 1),
+        move || overtake(rt, hub, share, gate),
+    )
+}
+
+// Sees what was done while a worker was late.
+fn assert_done_late(rt: &impl Abort, done: DoneLate) {
+    let (first, (second, written)) = done;
+    assert_eq!(rt;
+        written,
+        Ok(Receipt::Written {
+            edit: 17,
+            before: 1
+        })
+    );
+    assert_eq!(rt; (first, second), (one_stale(), one_installed()));
+}
+
+// Makes a new hub one of 16 elements 1, where a worker is late.
+fn assert_late<N: Naming + Send + Sync, R: Threads + Wait + Abort + Sync>(
+    rt: &R,
+    hub: &Hub<Sum, N>,
+    share: &mut Share<N>,
+) -> Result<(), Fail> {
+    push_all(rt, hub, share, 16, 1)?;
+    let gate = Latch::new();
+    let done = work_late(rt, hub, share, &gate);
+    assert!(rt; gate.was_in_time());
+    assert_done_late(rt, done);
+    assert_sum(rt, hub, 16, 17, 24)
+}
+
+// A hub of 16 elements 1, where a worker is late.
 fn late_worker<N: Naming + Send + Sync, R: Threads + Wait + Abort + Sync>(
     rt: &R,
     alloc: Global,
@@ -565,25 +694,10 @@ fn late_worker<N: Naming + Send + Sync, R: Threads + Wait + Abort + Sync>(
     requires one { blank.parts ≡ 1 }
     requires limits { limits ≡ N.limits }
 {
-    let (hub, mut share) = filled::<Sum, N, R>(rt, alloc, limits, blank, Sum, 16, 1)?;
-    let hub = &hub;
-    let gate = Latch::new();
-    let gate = &gate;
-    let (first, (second, written)) = thread::join(
-        rt,
-        move || work(rt, hub, gate, 1),
-        || overtake(rt, hub, &mut share, gate),
-    );
-    assert!(rt; gate.was_in_time());
-    assert_eq!(rt;
-        written,
-        Ok(Receipt::Written {
-            edit: 17,
-            before: 1
-        })
-    );
-    assert_eq!(rt; (first, second), (one_stale(), one_installed()));
-    assert_sum(rt, hub, 16, 17, 24)
+    let (hub, mut share) = Hub::<Sum, N>::new(alloc, limits, Sum, blank, 1);
+    let seen = assert_late(rt, &hub, &mut share);
+    drop(hub);
+    seen
 }
 
 #[test]
@@ -596,12 +710,12 @@ fn push_500<N: Naming, R: Wait>(
     rt: &R,
     hub: &Hub<Sum, N>,
     share: Share<N>,
-) -> Result<Share<N>, Refusal>
-    ensures { IfOk result (λ pushed. pushed.parts ≡ share.parts) }
+) -> (Share<N>, Result<(), Refusal>)
+    ensures { result.0.parts ≡ share.parts }
 {
     let mut share = share;
-    push_all(rt, hub, &mut share, 500, 1)?;
-    Ok(share)
+    let pushed = push_all(rt, hub, &mut share, 500, 1);
+    (share, pushed)
 }
 
 // Two threads push 500 elements each; both shares together are handed back.
@@ -609,20 +723,19 @@ fn push_from_two<N: Naming + Send + Sync, R: Threads + Wait + Sync>(
     rt: &R,
     hub: &Hub<Sum, N>,
     share: Share<N>,
-) -> Result<Share<N>, Refusal>
+) -> (Share<N>, Result<(), Refusal>)
     requires { share.parts ≡ 2 }
-    ensures { IfOk result (λ pushed. pushed.parts ≡ 2) }
+    ensures { result.0.parts ≡ 2 }
 {
     let mut mine = share;
     let theirs = mine.split();
-    let (theirs, mine) = thread::join(
+    let ((theirs, their_pushes), (mut all, pushes)) = thread::join(
         rt,
         move || push_500(rt, hub, theirs),
         move || push_500(rt, hub, mine),
     );
-    let mut all = mine?;
-    all.join(theirs?);
-    Ok(all)
+    all.join(theirs);
+    (all, pushes.and(their_pushes))
 }
 
 // A hub that two threads edit, closed.
@@ -638,10 +751,10 @@ fn total<N: Naming + Send + Sync, R: Threads + Wait + Abort + Sync>(
     requires limits { limits ≡ N.limits }
 {
     let (hub, share) = Hub::<Sum, N>::new(alloc, limits, Sum, blank, 2);
-    let share = push_from_two(rt, &hub, share)?;
-    let counted = share.count();
-    let live = hub.close(share);
-    assert_eq!(rt; (counted, live.journal().len()), (1000, 1000));
+    let (share, pushed) = push_from_two(rt, &hub, share);
+    let counts = counts_at_close(hub, share);
+    pushed?;
+    assert_eq!(rt; counts, (1000, 1000));
     Ok(())
 }
 
@@ -650,16 +763,15 @@ fn totals_over_threads(rt: HostRuntime) -> Result<(), Fail> {
     total::<Brand, _>(&rt, rt.alloc(), Limits::greatest(), Blank::new(2))
 }
 
-// Splits a share of three parts and joins it, and sees the parts.
-fn assert_parts<N: Naming>(rt: &impl Abort, share: Share<N>)
-    requires { share.parts ≡ 3 }
+// The parts and the count of what is left as one of a share's three parts is cut off, of that one, and of both joined.
+fn split_and_join<N: Naming>(share: &mut Share<N>) -> [(u64, u64); 3]
+    requires { share.old.parts ≡ 3 }
 {
-    let mut share = share;
     let one = share.split();
-    assert_eq!(rt; (share.parts(), one.parts()), (2, 1));
-    assert_eq!(rt; (share.count(), one.count()), (8, 0));
+    let left = (share.parts(), share.count());
+    let cut_off = (one.parts(), one.count());
     share.join(one);
-    assert_eq!(rt; (share.parts(), share.count()), (3, 8));
+    [left, cut_off, (share.parts(), share.count())]
 }
 
 // Pushes eight elements 1.
@@ -669,6 +781,36 @@ fn push_eight<N: Naming>(desk: &mut Desk<Sum, N>, share: &mut Share<N>) -> Resul
     for _ in 0..8 {
         desk.edit(share, Edit::Push(1))?;
     }
+    Ok(())
+}
+
+// Refreshes a desk of eight elements, and sees that nothing more is wanted.
+fn assert_refreshed<N: Naming>(rt: &impl Abort, desk: &mut Desk<Sum, N>) -> Result<(), Fail> {
+    let outcome = desk.claim().ok_or("a job is wanted")?.run();
+    assert_eq!(rt; desk.give(outcome), Ok(Accepted::Installed));
+    assert!(rt; desk.claim().is_none());
+    Ok(())
+}
+
+// Sees what a refreshed desk of eight elements 1 reads for their sum.
+fn assert_read<N: Naming>(rt: &impl Abort, desk: &Desk<Sum, N>) -> Result<(), Fail> {
+    let answer = desk.live().reduce(0, 8)?;
+    assert_eq!(rt; (answer.value, answer.summaries_read), (8, 1));
+    Ok(())
+}
+
+// Makes a new desk one of eight elements 1, which is refreshed; its share has three parts.
+fn assert_desk<N: Naming>(
+    rt: &impl Abort,
+    desk: &mut Desk<Sum, N>,
+    share: &mut Share<N>,
+) -> Result<(), Fail>
+    requires { share.old.parts ≡ 3 }
+{
+    push_eight(desk, share)?;
+    assert_refreshed(rt, desk)?;
+    assert_read(rt, desk)?;
+    assert_eq!(rt; split_and_join(share), [(2, 8), (1, 0), (3, 8)]);
     Ok(())
 }
 
@@ -685,14 +827,9 @@ fn desk_alone<N: Naming>(
     requires limits { limits ≡ N.limits }
 {
     let (mut desk, mut share) = Desk::<Sum, N>::new(alloc, limits, Sum, blank, 3);
-    push_eight(&mut desk, &mut share)?;
-    let outcome = desk.claim().ok_or("a job is wanted")?.run();
-    assert_eq!(rt; desk.give(outcome), Ok(Accepted::Installed));
-    assert!(rt; desk.claim().is_none());
-    let answer = desk.live().reduce(0, 8)?;
-    assert_eq!(rt; (answer.value, answer.summaries_read), (8, 1));
-    assert_parts(rt, share);
-    Ok(())
+    let seen = assert_desk(rt, &mut desk, &mut share);
+    drop(desk);
+    seen
 }
 
 #[test]
@@ -735,9 +872,7 @@ fn nine_pushes<N: Naming, R: Wait + Abort>(rt: &R, alloc: Global, limits: Limits
 {
     let (hub, mut share) = Hub::<Sum, N>::new(alloc, limits, Sum, blank, 1);
     push_nine(rt, &hub, &mut share);
-    let counted = share.count();
-    let live = hub.close(share);
-    assert_eq!(rt; (counted, live.journal().len()), (9, 9));
+    assert_eq!(rt; counts_at_close(hub, share), (9, 9));
 }
 
 // To be run with each allocation failing in turn, too.

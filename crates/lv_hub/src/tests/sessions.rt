@@ -4,6 +4,7 @@ use crate::*;
 use lv_bodies::Six;
 use lv_edits::Edit;
 use lv_geometry::Limits;
+use lv_live::Live;
 use lv_script::{Claimed, Fault, Verdict, audit, write_transcript};
 use std::alloc::Global;
 use std::fmt::Write;
@@ -15,13 +16,35 @@ use std::test::Fail;
 use std::thread;
 use std::thread::Threads;
 
-// A session that was held: its part of the hub, what it lists, and its replies.
+// What a session lists, and its replies.
+#[derive(Drop)]
+struct Told {
+    claims: Vec<Claimed>,
+    replies: Vec<u8>,
+}
+
+// A session that was held: its part of the hub, and how it ended.
 #[derive(Drop)]
 struct Talk<N: Naming> {
     share: Share<N>,
-    claims: Vec<Claimed>,
-    replies: Vec<u8>,
+    told: Result<Told, Fault>,
     ghost one: { share.parts ≡ 1 },
+}
+
+// What a session on a hub lists, and its replies.
+fn converse<N: Naming, R: Wait>(
+    rt: &R,
+    alloc: Global,
+    hub: &Hub<Six, N>,
+    share: &mut Share<N>,
+    lines: &[u8],
+) -> Result<Told, Fault>
+    ensures { share.new.parts ≡ share.old.parts }
+{
+    let mut lines = lines;
+    let mut replies = Vec::new(alloc);
+    let claims = run_session(rt, alloc, hub, share, &mut lines, &mut replies)?;
+    Ok(Told { claims, replies })
 }
 
 // Holds a session on a hub.
@@ -31,18 +54,12 @@ fn converse_on<N: Naming, R: Wait>(
     hub: &Hub<Six, N>,
     share: Share<N>,
     lines: &[u8],
-) -> Result<Talk<N>, Fault>
+) -> Talk<N>
     requires { share.parts ≡ 1 }
 {
     let mut share = share;
-    let mut lines = lines;
-    let mut replies = Vec::new(alloc);
-    let claims = run_session(rt, alloc, hub, &mut share, &mut lines, &mut replies)?;
-    Ok(Talk {
-        share,
-        claims,
-        replies,
-    })
+    let told = converse(rt, alloc, hub, &mut share, lines);
+    Talk { share, told }
 }
 
 // The transcript of a journal and of what was listed.
@@ -55,6 +72,16 @@ fn transcript(alloc: Global, journal: &[Edit], claims: &mut Vec<Claimed>) -> Res
     Ok(written)
 }
 
+// Sees that a transcript is sound.
+fn assert_yes(rt: &impl Abort, alloc: Global, transcript: &[u8]) -> Result<(), Fail> {
+    let mut transcript = transcript;
+    let mut verdict = Vec::new(alloc);
+    let answered = audit(alloc, &mut transcript, &mut verdict)?;
+    assert_eq!(rt; answered, Verdict::Yes);
+    assert_eq!(rt; verdict.as_slice(), "yes\n".as_bytes());
+    Ok(())
+}
+
 // Sees that the transcript of a journal and of what was listed is sound.
 fn assert_sound(
     rt: &impl Abort,
@@ -63,11 +90,49 @@ fn assert_sound(
     claims: &mut Vec<Claimed>,
 ) -> Result<(), Fail> {
     let transcript = transcript(alloc, journal, claims)?;
-    let mut verdict = Vec::new(alloc);
-    let answered = audit(alloc, &mut transcript.as_slice(), &mut verdict)?;
-    assert_eq!(rt; answered, Verdict::Yes);
-    assert_eq!(rt; verdict.as_slice(), "yes\n".as_bytes());
-    Ok(())
+    assert_yes(rt, alloc, transcript.as_slice())
+}
+
+// Sees the transcript of a journal and of what was listed, and that it is sound.
+fn assert_transcript(
+    rt: &impl Abort,
+    alloc: Global,
+    journal: &[Edit],
+    claims: &mut Vec<Claimed>,
+    wanted: &[u8],
+) -> Result<(), Fail> {
+    let written = transcript(alloc, journal, claims)?;
+    assert_eq!(rt; written.as_slice(), wanted);
+    assert_sound(rt, alloc, journal, claims)
+}
+
+// Sees what a session was answered, and the transcript of it.
+fn assert_told(
+    rt: &impl Abort,
+    alloc: Global,
+    journal: &[Edit],
+    told: Result<Told, Fault>,
+    replies: &[u8],
+    wanted: &[u8],
+) -> Result<(), Fail> {
+    let mut told = told?;
+    assert_eq!(rt; told.replies.as_slice(), replies);
+    assert_transcript(rt, alloc, journal, &mut told.claims, wanted)
+}
+
+// Sees what a session was answered, and the transcript of it and of its closed hub. A call drops the hub's vector, here as in
+// the test below, for the proof of a body that drops it by itself is long.
+fn assert_alone(
+    rt: &impl Abort,
+    alloc: Global,
+    live: Live<Six>,
+    told: Result<Told, Fault>,
+    replies: &[u8],
+    wanted: &[u8],
+) -> Result<(), Fail> {
+    let seen = assert_told(rt, alloc, live.journal(), told, replies, wanted);
+    drop(live);
+    seen
 }
 
 // A session alone: what it is answered, and the transcript of it.
@@ -85,17 +150,10 @@ fn alone<N: Naming, R: Wait + Abort>(
     requires one { blank.parts ≡ 1 }
     requires limits { limits ≡ N.limits }
 {
-    let (hub, share) = Hub::<Six, N>::new(alloc, limits, Six::program(), blank, 1);
-    let Talk {
-        share,
-        mut claims,
-        replies: told,
-    } = converse_on(rt, alloc, &hub, share, lines)?;
-    assert_eq!(rt; told.as_slice(), replies);
+    let (hub, mut share) = Hub::<Six, N>::new(alloc, limits, Six::program(), blank, 1);
+    let told = converse(rt, alloc, &hub, &mut share, lines);
     let live = hub.close(share);
-    let written = transcript(alloc, live.journal(), &mut claims)?;
-    assert_eq!(rt; written.as_slice(), wanted);
-    assert_sound(rt, alloc, live.journal(), &mut claims)
+    assert_alone(rt, alloc, live, told, replies, wanted)
 }
 
 // What a session of each kind of line is answered.
@@ -160,6 +218,11 @@ fn assert_receipt(
 ) {
     assert_eq!(rt; index.checked_add(1), Some(edit));
     assert_eq!(rt; journal.get(index as usize), Some(&Edit::Push(x)));
+    assert_unseen(rt, index, seen);
+}
+
+// Sees that an index wasn't seen before, and marks it.
+fn assert_unseen(rt: &impl Abort, index: u32, seen: &mut [bool]) {
     match seen.get_mut(index as usize) {
         Some(seen) => {
             assert!(rt; !*seen);
@@ -210,6 +273,21 @@ fn assert_replies(
     Ok(())
 }
 
+// Sees that the receipts of two sessions, each with an element of its own, are of all edits of a journal of 400.
+fn assert_all_seen(
+    rt: &impl Abort,
+    alloc: Global,
+    journal: &[Edit],
+    replies: &[u8],
+    others: &[u8],
+) -> Result<(), Fail> {
+    let mut seen = Vec::from_elem(alloc, false, 400)?;
+    assert_replies(rt, replies, 1, journal, &mut seen)?;
+    assert_replies(rt, others, 1000, journal, &mut seen)?;
+    assert!(rt; seen.iter().all(|seen| *seen));
+    Ok(())
+}
+
 // Sees that two sessions, each with an element of its own, are one history.
 fn assert_one_history(
     rt: &impl Abort,
@@ -219,23 +297,55 @@ fn assert_one_history(
     replies: &[u8],
     others: &[u8],
 ) -> Result<(), Fail> {
-    let mut seen = Vec::from_elem(alloc, false, 400)?;
-    assert_replies(rt, replies, 1, journal, &mut seen)?;
-    assert_replies(rt, others, 1000, journal, &mut seen)?;
-    assert!(rt; seen.iter().all(|seen| *seen));
+    assert_all_seen(rt, alloc, journal, replies, others)?;
     assert_eq!(rt; (journal.len(), claims.len()), (400, 40));
     assert_sound(rt, alloc, journal, claims)
 }
 
-// Holds two sessions in two threads.
+// Sees that how two sessions ended, each with an element of its own, is one history.
+fn assert_told_by_two(
+    rt: &impl Abort,
+    alloc: Global,
+    journal: &[Edit],
+    told: Result<Told, Fault>,
+    other: Result<Told, Fault>,
+) -> Result<(), Fail> {
+    let mut told = told?;
+    let mut other = other?;
+    told.claims.append(&mut other.claims)?;
+    assert_one_history(
+        rt,
+        alloc,
+        journal,
+        &mut told.claims,
+        &told.replies,
+        &other.replies,
+    )
+}
+
+// Sees that how two sessions on a closed hub ended is one history.
+fn assert_closed(
+    rt: &impl Abort,
+    alloc: Global,
+    live: Live<Six>,
+    told: Result<Told, Fault>,
+    other: Result<Told, Fault>,
+) -> Result<(), Fail> {
+    let seen = assert_told_by_two(rt, alloc, live.journal(), told, other);
+    drop(live);
+    seen
+}
+
+// Holds two sessions in two threads; both shares together are handed back.
 fn two_talks<N: Naming + Send + Sync, R: Threads + Wait + Sync>(
     rt: &R,
     alloc: Global,
     hub: &Hub<Six, N>,
     share: Share<N>,
     lines: (&[u8], &[u8]),
-) -> Result<(Talk<N>, Talk<N>), Fault>
+) -> (Share<N>, Result<Told, Fault>, Result<Told, Fault>)
     requires { share.parts ≡ 2 }
+    ensures { result.0.parts ≡ 2 }
 {
     let mut mine = share;
     let theirs = mine.split();
@@ -245,15 +355,22 @@ fn two_talks<N: Naming + Send + Sync, R: Threads + Wait + Sync>(
         move || converse_on(rt, alloc, hub, mine, first),
         move || converse_on(rt, alloc, hub, theirs, second),
     );
-    Ok((one?, other?))
+    let Talk { mut share, told } = one;
+    let Talk {
+        share: theirs,
+        told: others,
+    } = other;
+    share.join(theirs);
+    (share, told, others)
 }
 
-// A hub that two sessions edit, closed.
+// A hub that two sessions of these lines edit, closed.
 fn history<N: Naming + Send + Sync, R: Threads + Wait + Abort + Sync>(
     rt: &R,
     alloc: Global,
     limits: Limits,
     blank: Blank,
+    lines: (&[u8], &[u8]),
 ) -> Result<(), Fail>
     requires name { blank.name ≡ N.name }
     requires all { blank.parts ≡ N.parts }
@@ -261,32 +378,15 @@ fn history<N: Naming + Send + Sync, R: Threads + Wait + Abort + Sync>(
     requires limits { limits ≡ N.limits }
 {
     let (hub, share) = Hub::<Six, N>::new(alloc, limits, Six::program(), blank, 2);
-    let ones = lines(alloc, 1)?;
-    let thousands = lines(alloc, 1000)?;
-    let (one, other) = two_talks(
-        rt,
-        alloc,
-        &hub,
-        share,
-        (ones.as_bytes(), thousands.as_bytes()),
-    )?;
-    let Talk {
-        mut share,
-        mut claims,
-        replies,
-    } = one;
-    let Talk {
-        share: theirs,
-        claims: mut listed,
-        replies: others,
-    } = other;
-    share.join(theirs);
-    claims.append(&mut listed)?;
+    let (share, told, others) = two_talks(rt, alloc, &hub, share, lines);
     let live = hub.close(share);
-    assert_one_history(rt, alloc, live.journal(), &mut claims, &replies, &others)
+    assert_closed(rt, alloc, live, told, others)
 }
 
 #[test]
 fn two_sessions_one_history(rt: HostRuntime) -> Result<(), Fail> {
-    history::<Brand, _>(&rt, rt.alloc(), Limits::greatest(), Blank::new(2))
+    let ones = lines(rt.alloc(), 1)?;
+    let thousands = lines(rt.alloc(), 1000)?;
+    let lines = (ones.as_bytes(), thousands.as_bytes());
+    history::<Brand, _>(&rt, rt.alloc(), Limits::greatest(), Blank::new(2), lines)
 }
