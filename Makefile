@@ -1,11 +1,13 @@
-# try: builds without proofs and answers standard input, at once.  build: proves, then builds.  run: runs what build made.
+# try: builds without proofs, at once, and runs `livevec $(DO)` where $(FILES) lie.  build: proves, then builds.  run: runs what build made.
 # test: the gate, and the examples.  bench: figures beside plain Rust.  fmt, clean: as ever.
 PROGRAM = crates/livevec/out/livevec
+DO = run
+FILES =
 
 .PHONY: try build run test bench fmt clean
 
 try:
-	@cd crates/livevec && rt try --seconds 600 -- run 2>/dev/null
+	@cd crates/livevec && rt try --seconds 600 $(foreach file,$(FILES),--data $(notdir $(file))=$(abspath $(file))) -- $(DO) 2>/dev/null
 
 build:
 	@cd crates/livevec && rt run -- --help > /dev/null

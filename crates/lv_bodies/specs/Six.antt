@@ -1,5 +1,6 @@
 -- All six bodies side by side, in the order of the kinds.
 use Rattle.std.specs.Prelude.{ℕ, ℤ, Option, option_map, List}
+use Rattle.lv_bodies.specs.Automata.{table_of}
 use Rattle.lv_bodies.specs.Body.{Operations}
 use Rattle.lv_bodies.specs.Plain.{program_table}
 use Rattle.lv_bodies.specs.Pairs.{pair_operations}
@@ -10,6 +11,7 @@ use Rattle.lv_bodies.specs.Lines.{affine_operations}
 use Rattle.lv_bodies.specs.Tables.{automaton_operations}
 use Rattle.lv_bodies.specs.declared.best.Run.{Run}
 use Rattle.lv_bodies.specs.declared.affine.Line.{Line}
+use Rattle.lv_bodies.specs.declared.sixes.Six.{Six}
 use Rattle.lv_bodies.specs.declared.kinds.Kind.{Kind}
 use Rattle.lv_bodies.specs.declared.kinds.Kind.TheVariants.{Sum, Least, Greatest, Best, Affine, Automaton}
 use Rattle.lv_bodies.specs.declared.kinds.Shown.{Shown}
@@ -22,6 +24,10 @@ SixMeaning = Unit {0} × (Unit {0} × (Unit {0} × (Unit {0} × (Unit {0} × Lis
 -- the table of the automaton among the six
 abbrev pub table_of_six : SixMeaning → List (List ℕ)
 table_of_six m = m.1.1.1.1.1
+
+-- what decides a body of all six: the table of its automaton
+abbrev pub meaning_of_six : Six → SixMeaning
+meaning_of_six six = (tt, (tt, (tt, (tt, (tt, table_of six.pairs.second.second.second.second.second)))))
 
 -- the six by the program's table
 abbrev pub six_meaning : SixMeaning

@@ -11,7 +11,7 @@ pub record ClaimsAlike (old new : ClaimTable) : Type 0 where
   pub hints : (n : Node) → is_hinted old n ≡ true → is_hinted new n ≡ true
   pub more : claim_blocks old ≤ claim_blocks new
 
--- an index that an edit touches, if there is one, is of a block that a vector can have
+-- an index that an edit touches, if there is one, is of a block that a vector can have: one of 17 buckets
 abbrev pub HasBlock : Option ℕ → Type 0
 HasBlock index = (i : ℕ) → index ≡ Some i → i < 1048568
 
