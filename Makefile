@@ -7,7 +7,9 @@ FILES =
 .PHONY: try build run test bench fmt clean
 
 try:
-	@cd crates/livevec && rt try --seconds 600 $(foreach file,$(FILES),--data $(notdir $(file))=$(abspath $(file))) -- $(DO) 2>/dev/null
+	@command -v rt > /dev/null || { echo "rt, the command of Rattle's kit, is not on the path" >&2; exit 1; }
+	@cd crates/livevec && log=$$(mktemp) && trap 'rm -f '$$log EXIT && \
+	{ rt try --seconds 600 $(foreach file,$(FILES),--data $(notdir $(file))=$(abspath $(file))) -- $(DO) 2> $$log || { cat $$log >&2; exit 1; }; }
 
 build:
 	@cd crates/livevec && rt run -- --help > /dev/null
@@ -25,6 +27,7 @@ test:
 
 bench: build
 	@bench/run
+	@bench/table
 
 fmt:
 	@for crate in crates/*/; do (cd $$crate && rt fmt); done

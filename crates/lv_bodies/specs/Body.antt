@@ -15,8 +15,9 @@ pub record Operations (S : Type 0) : Type 0 where
 abbrev pub fold_of : {S : Type 0} → Operations S → List ℤ → S
 fold_of o xs = fold (λ s x. o.join s (o.lift x)) o.identity xs
 
--- the laws of a body, where `within s n` says that s can be the summary of n elements: for summaries of at
--- most 2 ^ 20 elements together the join is associative, and the identity is neutral on both sides
+-- the laws of a body. `within s n` is a bound that every summary of n elements keeps, and others may too: the identity keeps
+-- it, each element's summary, and each join. For summaries that keep it, of at most 2 ^ 20 elements together, the join is
+-- associative and the identity neutral on both sides
 pub record BodyLaws {S : Type 0} (o : Operations S) (within : S → ℕ → Type 0) : Type 0 where
   pub identity_within : within o.identity 0
   pub lift_within : (x : ℤ) → IsElement x → within (o.lift x) 1
@@ -25,7 +26,7 @@ pub record BodyLaws {S : Type 0} (o : Operations S) (within : S → ℕ → Type
   pub right_identity : (s : S) (n : ℕ) → within s n → n ≤ 2 ^ 20 → o.join s o.identity ≡ s
   pub associative : (s t u : S) (n m k : ℕ) → within s n → within t m → within u k → n + m + k ≤ 2 ^ 20 → o.join (o.join s t) u ≡ o.join s (o.join t u)
 
--- two summaries may be joined: they can be those of at most 2 ^ 20 elements together
+-- two summaries may be joined: they keep the bound for at most 2 ^ 20 elements together
 pub record CanJoin {S : Type 0} (within : S → ℕ → Type 0) (s t : S) : Type 0 where
   pub left : ℕ
   pub right : ℕ

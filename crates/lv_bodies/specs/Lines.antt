@@ -4,7 +4,7 @@ use Rattle.lv_bodies.specs.Body.{Operations}
 use Rattle.lv_bodies.specs.Plain.{remainder, over_256}
 use Rattle.lv_bodies.specs.declared.affine.Line.{Line}
 
--- an element is the map by its number of 256s, and the rest
+-- an element x is the map from y to a * y + b, where a is x / 256 rounded down, and b the rest
 abbrev pub line_of : ℤ → Line
 line_of x = record { a = remainder (over_256 x) (2 ^ 32); b = remainder x 256 }
 

@@ -16,6 +16,6 @@ optional_operations lift join = record {
   join = join_of_both join;
 }
 
--- what is there can be the summary of n elements
+-- what is there keeps the bound for n elements
 abbrev pub IsWithinIfSome : {T : Type 0} → (T → ℕ → Type 0) → Option T → ℕ → Type 0
 IsWithinIfSome within s n = IfSome s (λ t. within t n)

@@ -10,6 +10,6 @@ pair_operations o p = record {
   join = λ a b. (o.join a.0 b.0, p.join a.1 b.1);
 }
 
--- each side can be the summary of n elements
+-- each side keeps its bound for n elements
 abbrev pub IsPairWithin : {S T : Type 0} → (S → ℕ → Type 0) → (T → ℕ → Type 0) → S × T → ℕ → Type 0
 IsPairWithin within_first within_second s n = within_first s.0 n × within_second s.1 n

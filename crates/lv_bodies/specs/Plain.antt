@@ -1,4 +1,4 @@
--- The value of each kind over a list, stated without any join.
+-- The value of each kind over a whole list, stated without summaries and their joins.
 use Rattle.std.specs.Prelude.{◌≡◌, ◌↔◌, ℕ, ℤ, pos, ◌+ℤ◌, ◌-ℤ◌, ◌≤ℤ◌, ◌+◌, ◌*◌, ◌%◌, ◌^◌, ◌<◌, ◌≤◌, Option, IsNone, IfSome, List, [], length, take, drop, map, fold, All, Contains, slice_index, slice_range}
 use Rattle.std.specs.List.{flat_map, reduce, range_with_len, slice_index_or}
 use Rattle.std.specs.Int.{int_rem_euclid, int_div_euclid, int_min, int_max}
@@ -39,7 +39,7 @@ pub record IsPlainGreatest (xs : List ℤ) (r : Option ℤ) : Type 0 where
   pub reached : IfSome r (Contains xs)
   pub bound : IfSome r (λ greatest. All (λ x. x ≤ℤ greatest) xs)
 
--- the runs of a list: at least one neighbour, from some place to some later one
+-- the runs of a list: one or more elements that stand side by side
 abbrev pub runs_of : List ℤ → List (List ℤ)
 runs_of xs = flat_map (λ i. map (λ n. take (n + 1) (drop i xs)) (range_with_len 0 (length (drop i xs)))) (range_with_len 0 (length xs))
 
@@ -47,7 +47,7 @@ runs_of xs = flat_map (λ i. map (λ n. take (n + 1) (drop i xs)) (range_with_le
 abbrev pub plain_best : List ℤ → Option ℤ
 plain_best xs = plain_greatest (map total (runs_of xs))
 
--- what the best total of a list is: none exactly where the list is empty, else the greatest from some place up to a later one
+-- what the best total of a list is: none exactly where the list is empty, else the greatest total from some place up to a later one
 pub record IsPlainBest (xs : List ℤ) (r : Option ℤ) : Type 0 where
   pub none : IsNone r ↔ (xs ≡ [])
   pub reached : IfSome r (λ best. (i : ℕ) × (j : ℕ) × (i < j) × (j ≤ length xs) × (total (slice_range xs i j) ≡ best))

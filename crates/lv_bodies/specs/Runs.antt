@@ -6,7 +6,7 @@ use Rattle.lv_bodies.specs.Body.{Operations}
 use Rattle.lv_bodies.specs.Optional.{optional_operations, IsWithinIfSome}
 use Rattle.lv_bodies.specs.declared.best.Run.{Run}
 
--- one element is every run that it has
+-- of one element the only run is itself
 abbrev pub run_of : ℤ → Run
 run_of x = record { total = x; prefix = x; suffix = x; best = x }
 
@@ -23,17 +23,17 @@ join_runs a b = record {
 abbrev pub best_operations : Operations (Option Run)
 best_operations = optional_operations run_of join_runs
 
--- a number that n elements, or fewer, can add up to
+-- a number no further from 0 than n elements can get: n * 2 ^ 63
 abbrev pub IsTotalOf : ℕ → ℤ → Type 0
 IsTotalOf n x = unsigned_abs x ≤ n * 2 ^ 63
 
--- all four can be totals of n elements, or of fewer
+-- all four are within that of n elements
 pub record IsRunOf (r : Run) (n : ℕ) : Type 0 where
   pub total : IsTotalOf n r.total
   pub prefix : IsTotalOf n r.prefix
   pub suffix : IsTotalOf n r.suffix
   pub best : IsTotalOf n r.best
 
--- none, or a run of n elements
+-- none, or within that of n elements
 abbrev pub IsBest : Option Run → ℕ → Type 0
 IsBest = IsWithinIfSome IsRunOf

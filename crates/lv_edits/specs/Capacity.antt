@@ -19,11 +19,11 @@ longest edits = fold (λ most j. max most (length (list_of (take j edits)))) 0 (
 unfoldable pub most_reserved : List Edit → ℕ
 most_reserved edits = fold (λ most edit. max most (reserved_by edit)) 0 edits
 
--- the least of the capacities of 0 to 17 buckets that isn't below n
+-- the least of the capacities of 0 to 17 buckets that isn't below n; 0 where all of them are
 unfoldable pub least_capacity : ℕ → ℕ
 least_capacity n = unwrap_or (find (λ c. nat_le n c) (map capacity_of (range_with_len 0 18))) 0
 
--- the least capacity that ever sufficed
+-- the least capacity that sufficed at all times
 unfoldable pub capacity_after : List Edit → ℕ
 capacity_after edits = least_capacity (max (longest edits) (most_reserved edits))
 

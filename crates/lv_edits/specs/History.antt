@@ -20,7 +20,7 @@ replayed edits = fold (λ list edit. option_and_then (λ xs. applied xs edit) li
 abbrev pub IsLegal : List Edit → Type 0
 IsLegal edits = IsSome (replayed edits)
 
--- the list after legal edits
+-- the list after some edits; empty where one of them is not possible
 unfoldable pub list_of : List Edit → List ℤ
 list_of edits = unwrap_or (replayed edits) []
 

@@ -7,8 +7,8 @@ use Rattle.lv_edits.specs.declared.edit.Edit.{Edit}
 use Rattle.lv_edits.specs.declared.edit.Edit.TheVariants.{Push, Pop, Write, Reserve}
 use Rattle.lv_edits.specs.History.{History, list_of, replayed}
 
--- the journal is legal and within the limits, and so is the list, whose elements are numbers of 64 bits, and never more of
--- them than 17 buckets hold
+-- the limits are allowed; the journal is legal and keeps them; so does the list, which has at most the 1048568 elements of
+-- 17 buckets, each a number of 64 bits
 pub record InLimits (h : History) : Type 0 where
   pub allowed : AreAllowed h.limits.buckets h.limits.edits
   pub legal : replayed h.journal ≡ Some (list_of h.journal)

@@ -19,11 +19,11 @@ refused_on limits xs Pop = if nat_eq (length xs) 0 then Some Empty else None
 refused_on limits xs (Write i x) = if nat_lt i (length xs) then None else Some (OutOfRange (length xs))
 refused_on limits xs (Reserve n) = if nat_lt (capacity_of limits.buckets) n then Some (TooLarge (capacity_of limits.buckets)) else None
 
--- the first refusal that applies to an edit, or none: the limit of edits comes before all others
+-- the first refusal that applies to an edit, want of memory apart, or none: the limit of edits comes before all others
 abbrev pub verdict_of : Bounds → List Edit → Edit → Option Refusal
 verdict_of limits edits edit = if nat_eq (length edits) limits.edits then Some Worn else refused_on limits (list_of edits) edit
 
--- what an accepted edit answers: its number, and the place, the element dropped, the element before, or the capacity
+-- what an accepted edit is answered: its number, and the place, the element dropped, the element before, or the capacity
 abbrev pub receipt_of : List Edit → Edit → Receipt
 receipt_of edits (Push x) = Pushed (length edits + 1) (length (list_of edits))
 receipt_of edits Pop = Popped (length edits + 1) (slice_index_or (list_of edits) (length (list_of edits) - 1) (pos 0))

@@ -1,5 +1,6 @@
 use super::*;
 use lv_geometry::{Limits, Refusal};
+use std::alloc::Global;
 
 #[test]
 fn edits_and_receipts(rt: HostRuntime) {
@@ -31,51 +32,74 @@ fn edits_and_receipts(rt: HostRuntime) {
     assert_eq!(rt; journal[3], Edit::Pop);
 }
 
-#[test]
-fn applied_edits_and_verdicts(rt: HostRuntime) -> Result<(), Refusal> {
-    let mut edits = Edits::new(rt.alloc(), Limits::new(1, 11)?);
-    assert_eq!(rt; edits.apply(Edit::Pop), Err(Refusal::Empty));
-    assert_eq!(rt;
-        edits.apply(Edit::Reserve(9)),
-        Err(Refusal::TooLarge { limit: 8 })
-    );
-    for index in 0..8 {
-        assert_eq!(rt;
-            edits.apply(Edit::Push(7)),
-            Ok(Receipt::Pushed {
-                edit: index + 1,
-                index
-            })
-        );
+// A vector of at most 8 elements and 11 edits, filled with 7.
+fn full(alloc: Global) -> Result<Edits, Refusal> {
+    let mut edits = Edits::new(alloc, Limits::new(1, 11)?);
+    for _ in 0..8 {
+        edits.apply(Edit::Push(7))?;
     }
-    assert_eq!(rt; edits.verdict(&Edit::Push(7)), Some(Refusal::Full));
-    assert_eq!(rt;
-        edits.apply(Edit::Write {
-            index: 7,
-            value: -3
-        }),
-        Ok(Receipt::Written { edit: 9, before: 7 })
-    );
-    assert_eq!(rt;
-        edits.apply(Edit::Pop),
-        Ok(Receipt::Popped {
-            edit: 10,
-            value: -3
-        })
-    );
-    assert_eq!(rt; edits.verdict(&Edit::Push(7)), None);
-    assert_eq!(rt;
-        edits.apply(Edit::Reserve(1)),
-        Ok(Receipt::Reserved {
-            edit: 11,
-            capacity: 8
-        })
-    );
-    assert_eq!(rt; edits.verdict(&Edit::Pop), Some(Refusal::Worn));
-    assert_eq!(rt; edits.push(1), Err(Refusal::Worn));
+    Ok(edits)
+}
+
+#[test]
+fn every_edit_is_applied(rt: HostRuntime) -> Result<(), Refusal> {
+    let mut edits = full(rt.alloc())?;
+    for (edit, receipt) in [
+        (
+            Edit::Write {
+                index: 7,
+                value: -3,
+            },
+            Receipt::Written { edit: 9, before: 7 },
+        ),
+        (
+            Edit::Pop,
+            Receipt::Popped {
+                edit: 10,
+                value: -3,
+            },
+        ),
+        (
+            Edit::Reserve(1),
+            Receipt::Reserved {
+                edit: 11,
+                capacity: 8,
+            },
+        ),
+    ] {
+        assert_eq!(rt; edits.apply(edit), Ok(receipt));
+    }
     if edits.size() > 6 {
         assert_eq!(rt; edits.read(6), 7);
     }
+    Ok(())
+}
+
+#[test]
+fn edits_are_refused_at_the_limits(rt: HostRuntime) -> Result<(), Refusal> {
+    let mut none = Edits::new(rt.alloc(), Limits::new(1, 11)?);
+    assert_eq!(rt; none.apply(Edit::Pop), Err(Refusal::Empty));
+    assert_eq!(rt;
+        none.apply(Edit::Reserve(9)),
+        Err(Refusal::TooLarge { limit: 8 })
+    );
+    let mut edits = full(rt.alloc())?;
+    assert_eq!(rt; edits.verdict(&Edit::Push(7)), Some(Refusal::Full));
+    assert_eq!(rt;
+        edits.apply(Edit::Pop),
+        Ok(Receipt::Popped { edit: 9, value: 7 })
+    );
+    assert_eq!(rt; edits.verdict(&Edit::Push(7)), None);
+    assert_eq!(rt;
+        edits.apply(Edit::Push(2)),
+        Ok(Receipt::Pushed { edit: 10, index: 7 })
+    );
+    assert_eq!(rt;
+        edits.apply(Edit::Pop),
+        Ok(Receipt::Popped { edit: 11, value: 2 })
+    );
+    assert_eq!(rt; edits.verdict(&Edit::Pop), Some(Refusal::Worn));
+    assert_eq!(rt; edits.push(1), Err(Refusal::Worn));
     Ok(())
 }
 

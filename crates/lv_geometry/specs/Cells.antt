@@ -24,7 +24,7 @@ pub record IsPlaceOf (i : ℕ) (p : Place) : Type 0 where
   pub bucket : IsHighestBit (i + 8) (p.bucket + 3)
   pub cell : i + 8 ≡ 2 ^ (p.bucket + 3) + p.cell
 
--- k buckets hold n cells, and no fewer do
+-- k buckets have room for n elements, and no fewer do
 pub record AreFewest (n k : ℕ) : Type 0 where
   pub enough : n ≤ capacity_of k
   pub fewest : (fewer : ℕ) → n ≤ capacity_of fewer → k ≤ fewer

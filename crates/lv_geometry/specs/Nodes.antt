@@ -1,4 +1,4 @@
--- The nodes that summaries stand for, and the indices that each has.
+-- The nodes that summaries stand for, and the indices that each has. A node of level 1 is called a block.
 use Rattle.std.specs.Prelude.{ℕ, ◌+◌, ◌-◌, ◌*◌, ◌/◌, ◌^◌, Bool, ◌&&◌, nat_eq, nat_le}
 use Rattle.lv_geometry.specs.declared.nodes.Node.{Node}
 

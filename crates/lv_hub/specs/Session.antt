@@ -63,7 +63,7 @@ claim_of kind lo hi answer = record { edit = answer.edit; kind = kind; lo = lo; 
 abbrev pub with_claim : SessionState → Claimed → SessionState
 with_claim s claim = record s { claims = s.claims ++ claim ∷ [] }
 
--- a reduction was answered and listed; or it was refused, which changes nothing: at the latest for want of room in the list
+-- a reduction was answered and listed; or it was refused, for its range or because the list had no room, and nothing changed
 abbrev pub Lists : SessionState → Kind → ℕ → ℕ → Result (Answer SixSummary) Refusal → List ℕ → SessionState → Type 0
 Lists old kind lo hi (Ok answer) text new =
     ((text ≡ answer_text answer.edit kind (face_of kind answer.value)) × (new ≡ with_claim old (claim_of kind lo hi answer)))
@@ -96,7 +96,7 @@ module _ (operations : Six → Operations SixSummary) (limits : Bounds) where
     pub text_is : text ≡ scan_reply_text inclusive kind result
     pub state : new ≡ old
 
-  -- what a request is answered; line n says nothing that a session knows where it asks for anything else
+  -- what a request is answered; a line that asks for anything else is bad, by its number
   abbrev pub RequestAnswer : SessionState → ℕ → Request → List ℕ → SessionState → Type 0
   RequestAnswer old n (request.Edited e) text new = TellsEdit limits old e text new
   RequestAnswer old n (request.Reduced kind lo hi) text new = TellsReduction old kind lo hi text new

@@ -25,26 +25,26 @@ pub record IsVector (limits : Bounds) (h : History) : Type 0 where
   pub limits_are : h.limits ≡ limits
   pub within : InLimits h
 
--- an edit was answered by some legal edits before it
+-- an edit was answered as after some legal edits
 pub record EditTold (limits : Bounds) (edit : Edit) (result : Result Receipt Refusal) : Type 0 where
   pub before : History
   pub after : History
   pub vector : IsVector limits before
   pub answers : Answers before edit result after
 
--- a reduction was answered at some legal edits, by a body of this type
+-- a reduction was answered as after some legal edits, by a body of this type
 pub record ReductionTold {B S : Type 0} (operations : B → Operations S) (limits : Bounds) (lo hi : ℕ) (result : Result (Answer S) Refusal) : Type 0 where
   pub state : LiveState B S
   pub vector : IsVector limits state.history
   pub reduces : Reduces (operations state.body) (recorded state) lo hi result
 
--- a scan was answered so
+-- a scan was answered as after some legal edits, by a body of this type
 pub record ScanTold {B S : Type 0} (operations : B → Operations S) (limits : Bounds) (lo hi : ℕ) (inclusive : Bool) (result : Result (Scan S) Refusal) : Type 0 where
   pub state : LiveState B S
   pub vector : IsVector limits state.history
   pub scans : Scans (operations state.body) (recorded state) lo hi inclusive result
 
--- a claim was answered so: by the least node that wants a job, or by none
+-- a claim was answered as after some legal edits: by the least node that wants a job, or by none
 pub record ClaimTold {B S : Type 0} (limits : Bounds) (result : Option (Carried B S)) : Type 0 where
   pub state : LiveState B S
   pub vector : IsVector limits state.history
@@ -55,12 +55,13 @@ abbrev pub Gives : Record → Type 0 → {B S : Type 0} → Carried B S → Resu
 Gives r vouched outcome (Ok accepted) = vouched × (accepted ≡ delivery_of r outcome.node outcome.version)
 Gives r vouched outcome (Err refusal) = (¬ vouched) × (refusal ≡ Stranger)
 
--- whether a vector vouches for an outcome: its body means the same, and what it carries stands here
+-- a vector vouches for an outcome: its node isn't whole, or was touched by another edit last; or else its body means the same, and
+-- what it carries stands here
 abbrev pub VouchedBy : {B S M : Type 0} → (B → M) → (M → Operations S) → LiveState B S → Carried B S → Type 0
 VouchedBy meaning operations state outcome =
     Vouched (operations (meaning state.body)) (recorded state) (meaning state.body ≡ meaning outcome.body) outcome.node outcome.version outcome.contents
 
--- an outcome was taken or refused so
+-- an outcome was taken or refused as after some legal edits
 pub record GiveTold {B S M : Type 0} (meaning : B → M) (operations : M → Operations S) (limits : Bounds) (outcome : Carried B S) (result : Result Accepted Refusal) : Type 0 where
   pub state : LiveState B S
   pub vector : IsVector limits state.history

@@ -26,7 +26,7 @@ is_refresh (event.Scan lo hi inclusive) = false
 abbrev pub without_refresh : List Event → List Event
 without_refresh events = filter (λ e. not (is_refresh e)) events
 
--- the edits after one that nothing refuses, or that was refused
+-- the edits after one more, which is added where nothing refuses it
 abbrev pub edits_with : List Edit → Edit → Option Refusal → List Edit
 edits_with edits edit None = edits ++ edit ∷ []
 edits_with edits edit (Some refusal) = edits
@@ -82,7 +82,8 @@ module _ {S : Type 0} where
       reply.Scanned record { edit = length edits; values = scan_of inclusive o (slice_of edits lo hi) }
   plain_scan o edits lo hi inclusive (Some refusal) = reply.Refused refusal
 
-  -- what an edit or a query is answered after some edits
+  -- what an edit or a query is answered after some edits; of claims, deliveries and forgetting nothing is said here, and
+  -- `Settled` stands in their places
   abbrev pub plain_answer : Operations S → Bounds → List Edit → Event → Reply S
   plain_answer o limits edits (event.Edit edit) = plain_receipt edits edit (verdict_of limits edits edit)
   plain_answer o limits edits event.Settle = reply.Settled

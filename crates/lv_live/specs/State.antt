@@ -20,18 +20,19 @@ pub record LiveState (B S : Type 0) : Type 0 where
   pub table : Table S
   pub claims : ClaimTable
 
--- a vector's record: its edits, what is claimed and what is kept; the jobs that were issued are told by who keeps them
+-- a vector's record: its edits, what is claimed and what is kept; its list of issued jobs is empty, and who keeps them puts them in
 abbrev pub recorded : {B S : Type 0} → LiveState B S → Record
 recorded s = record_of s.history.journal s.table s.claims
 
--- the summaries agree with the journal, every node that wants a job is hinted, and each index has its room for claims
+-- the vector is within its limits, the summaries agree with the journal, every node that wants a job is hinted at, and each index
+-- has its room for claims
 pub record IsLive {B S : Type 0} (o : Operations S) (s : LiveState B S) : Type 0 where
   pub limits : InLimits s.history
   pub agrees : Agrees o s.history.journal s.table
   pub hints : AreHints (recorded s) s.claims
   pub grown : s.table.size ≤ 8 * claim_blocks s.claims
 
--- two states have the same body, edits, claims and kept versions
+-- two states have the same body, limits, edits, claims and kept versions
 pub record SameLive {B S : Type 0} (old new : LiveState B S) : Type 0 where
   pub body : new.body ≡ old.body
   pub history : new.history ≡ old.history

@@ -8,6 +8,7 @@ use lv_edits::Edits;
 use lv_geometry::{Limits, Node, Refusal};
 use lv_summary::{Accepted, Summaries};
 use std::alloc::Global;
+use std::process::Abort;
 use std::test::Fail;
 
 // Twenty-four elements 1, and a table that notes them and agrees with them.
@@ -56,22 +57,35 @@ fn has(scan: &Scan<u64>, edit: u32, values: &[u64]) -> bool {
 #[test]
 fn a_range_is_read_by_its_blocks(rt: HostRuntime) -> Result<(), Fail> {
     let (edits, mut table) = ones(rt.alloc())?;
-    let delivered = (
-        deliver(&edits, &mut table, 0)?,
-        deliver(&edits, &mut table, 1)?,
-        deliver(&edits, &mut table, 2)?,
-    );
-    assert_eq!(rt;
-        delivered,
-        (
-            (8, 8, Accepted::Installed),
-            (16, 8, Accepted::Installed),
-            (24, 8, Accepted::Installed)
-        )
-    );
+    let delivered = check_blocks(&rt, &edits, &mut table);
+    check_ranges(&rt, &edits, &table);
+    check_refusals(&rt, rt.alloc(), &edits, &table);
+    drop(table);
+    drop(edits);
+    delivered
+}
+
+// Delivers each of the three blocks.
+fn check_blocks(rt: &impl Abort, edits: &Edits, table: &mut Summaries<u64>) -> Result<(), Fail>
+    requires { Agrees sum_operations edits.now.journal table.old }
+    ensures { Agrees sum_operations edits.now.journal table.new }
+{
+    let first = deliver(edits, table, 0)?;
+    let second = deliver(edits, table, 1)?;
+    let third = deliver(edits, table, 2)?;
+    assert_eq!(rt; first, (8, 8, Accepted::Installed));
+    assert_eq!(rt; second, (16, 8, Accepted::Installed));
+    assert_eq!(rt; third, (24, 8, Accepted::Installed));
+    Ok(())
+}
+
+// Reduces ranges, and counts what is read for them.
+fn check_ranges(rt: &impl Abort, edits: &Edits, table: &Summaries<u64>)
+    requires { Agrees sum_operations edits.now.journal table.now }
+{
     let view = View {
-        cells: &edits,
-        table: &table,
+        cells: edits,
+        table,
     };
     for (lo, hi, value, cells_read, summaries_read) in [
         (1, 23, 22, 14, 1),
@@ -90,6 +104,16 @@ fn a_range_is_read_by_its_blocks(rt: HostRuntime) -> Result<(), Fail> {
             "{lo} {hi}"
         );
     }
+}
+
+// Asks for ranges that there are not.
+fn check_refusals(rt: &impl Abort, alloc: Global, edits: &Edits, table: &Summaries<u64>)
+    requires { Agrees sum_operations edits.now.journal table.now }
+{
+    let view = View {
+        cells: edits,
+        table,
+    };
     for (lo, hi, refusal) in [
         (2, 1, Refusal::BadRange),
         (30, 29, Refusal::BadRange),
@@ -97,26 +121,38 @@ fn a_range_is_read_by_its_blocks(rt: HostRuntime) -> Result<(), Fail> {
     ] {
         assert_eq!(rt; reduce(view, &Sum, lo, hi), Err(refusal), "{lo} {hi}");
         assert!(rt;
-            matches!(scan_inclusive(rt.alloc(), view, &Sum, lo, hi), Err(reason) if reason == refusal)
+            matches!(scan_inclusive(alloc, view, &Sum, lo, hi), Err(reason) if reason == refusal)
         );
     }
-    Ok(())
 }
 
 #[test]
 fn scans_of_one_two_three(rt: HostRuntime) -> Result<(), Fail> {
     let mut edits = Edits::new(rt.alloc(), Limits::greatest());
+    let table = Summaries::new(rt.alloc(), 0);
+    let done = check_scans(&rt, rt.alloc(), &mut edits, &table);
+    drop(table);
+    drop(edits);
+    done
+}
+
+// Pushes 1, 2 and 3, and scans them and nothing.
+fn check_scans(
+    rt: &impl Abort,
+    alloc: Global,
+    edits: &mut Edits,
+    table: &Summaries<u64>,
+) -> Result<(), Fail> {
     for x in 1..4 {
         edits.push(x)?;
     }
-    let table = Summaries::new(rt.alloc(), 0);
     let view = View {
-        cells: &edits,
-        table: &table,
+        cells: edits,
+        table,
     };
-    let inclusive = scan_inclusive(rt.alloc(), view, &Sum, 0, 3)?;
-    let exclusive = scan_exclusive(rt.alloc(), view, &Sum, 0, 3)?;
-    let nothing = scan_exclusive(rt.alloc(), view, &Sum, 2, 2)?;
+    let inclusive = scan_inclusive(alloc, view, &Sum, 0, 3)?;
+    let exclusive = scan_exclusive(alloc, view, &Sum, 0, 3)?;
+    let nothing = scan_exclusive(alloc, view, &Sum, 2, 2)?;
     assert!(rt; has(&inclusive, 3, &[1, 3, 6]));
     assert!(rt; has(&exclusive, 3, &[0, 1, 3]));
     assert!(rt; has(&nothing, 3, &[]));

@@ -10,8 +10,8 @@ use Rattle.lv_refresh.specs.Record.{Record, is_fresh, is_version}
 abbrev pub children_fresh : Record → Node → Bool
 children_fresh r n = list_all (λ k. is_fresh r (child n k)) (range_with_len 0 8)
 
--- whether a node wants a job: it is whole and not fresh, it isn't claimed since it was touched last, and above level 1
--- its eight children are fresh
+-- whether a node wants a job: it is whole and not fresh, no claim of it at the number of the edit that touched it last still
+-- stands, and above level 1 its eight children are fresh
 abbrev pub wants_job : Record → Node → Bool
 wants_job r n =
     is_whole r.edits n && not (is_fresh r n) && not (is_version (touched_by r.edits n) (r.claimed n)) && (nat_eq n.level 1 || children_fresh r n)

@@ -1,5 +1,5 @@
--- Claims, node by node: at which version each was claimed last since claims were last forgotten, and which nodes are
--- hinted at: each node that wants a job is, and others may be.
+-- Claims and hints, node by node. A claim is the version at which a node was claimed last, since claims were last forgotten.
+-- Each node that wants a job is hinted at; others may be.
 use Rattle.std.specs.Prelude.{◌≡◌, ℕ, ◌-◌, Bool, true, ◌&&◌, Option, Some, None, option_map, List, [], slice_index, nat_lt, length, if◌then◌else◌}
 use Rattle.std.specs.List.{slice_index_or}
 use Rattle.lv_geometry.specs.declared.nodes.Node.{Node}
@@ -44,7 +44,7 @@ is_hinted c n = is_node n && is_marked (claim_rows_for c n).hints n.number
 unfoldable pub claim_blocks : ClaimTable → ℕ
 claim_blocks c = length (slice_index_or c.levels 0 no_claims).claimed
 
--- what a vector has seen, as far as it decides which job comes next
+-- what a vector has seen, as far as it decides which job comes next: the list of issued jobs, which does not, is left empty
 abbrev pub record_of : {S : Type 0} → List Edit → Table S → ClaimTable → Record
 record_of edits t c =
     record {

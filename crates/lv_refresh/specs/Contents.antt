@@ -15,7 +15,7 @@ abbrev pub fold_of_contents : {S : Type 0} → Operations S → Contents S → S
 fold_of_contents o (Elements xs) = fold_of o xs
 fold_of_contents o (Children summaries) = fold o.join o.identity (in_order summaries)
 
--- contents that can be folded: elements of 64 bits, or summaries of at most 2 ^ 17 elements each
+-- contents that can be folded: eight elements of 64 bits, or eight summaries of one number of elements, at most 2 ^ 17
 abbrev pub CanFoldContents : {S : Type 0} → (S → ℕ → Type 0) → Contents S → Type 0
 CanFoldContents within (Elements xs) = (length xs ≡ 8) × All IsElement xs
 CanFoldContents within (Children summaries) = (count : ℕ) × (8 * count ≤ 2 ^ 20) × All (λ s. within s count) (in_order summaries)

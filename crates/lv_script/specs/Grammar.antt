@@ -142,7 +142,7 @@ other_forms =
 abbrev pub forms : Forms
 forms = element_forms ++ (range_forms ++ other_forms)
 
--- the command that a first word and the words after it are, by the form of that first word
+-- the command that a line is, by its first word and the words after it
 abbrev pub read_by : Forms → List ℕ → List (List ℕ) → Option Command
 read_by [] verb words = None
 read_by (form ∷ rest) verb words = if bytes_eq verb form.0 then form.1 words else read_by rest verb words

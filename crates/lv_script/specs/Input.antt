@@ -16,7 +16,7 @@ abbrev pub lines_of : List ℕ → List (List ℕ)
 lines_of [] = []
 lines_of (byte ∷ bytes) = if byte == 10 then [] ∷ lines_of bytes else begun_with byte (lines_of bytes)
 
--- those that are ended by LF
+-- the lines that LF ends
 abbrev pub whole_lines_of : List ℕ → List (List ℕ)
 whole_lines_of [] = []
 whole_lines_of (byte ∷ bytes) = if byte == 10 then [] ∷ whole_lines_of bytes else put_before byte (whole_lines_of bytes)

@@ -17,15 +17,15 @@ abbrev pub allowed : {X : Type 0} → (X → Bool) → Option X → Option X
 allowed test None = None
 allowed test (Some x) = if test x then Some x else None
 
--- whether a number has 32 bits
+-- whether a number fits into 32 bits
 abbrev pub is_number : ℕ → Bool
 is_number n = nat_lt n (2 ^ 32)
 
--- whether a number has 64 bits
+-- whether a number fits into 64 bits
 abbrev pub fits_64 : ℕ → Bool
 fits_64 n = nat_lt n (2 ^ 64)
 
--- a number: one or more digits, and 32 bits
+-- a number: one or more digits, whose value fits into 32 bits
 unfoldable pub number_in : List ℕ → Option ℕ
 number_in word = allowed is_number (numeral_in word)
 
@@ -33,11 +33,11 @@ number_in word = allowed is_number (numeral_in word)
 abbrev pub signed_numeral_in : List ℕ → Option ℤ
 signed_numeral_in word = if starts_with nat_eq word (codes "-") then option_map (λ n. neg_ℤ (pos n)) (numeral_in (drop 1 word)) else option_map pos (numeral_in word)
 
--- whether an integer has 64 bits, one of them for the sign
+-- whether an integer fits into 64 bits, one of them for the sign
 abbrev pub is_element : ℤ → Bool
 is_element (pos n) = nat_lt n (2 ^ 63)
 is_element (negsuc n) = nat_lt n (2 ^ 63)
 
--- an element: an optional `-`, one or more digits, and 64 bits
+-- an element: an optional `-` and one or more digits, whose value fits into 64 bits
 unfoldable pub element_in : List ℕ → Option ℤ
 element_in word = allowed is_element (signed_numeral_in word)

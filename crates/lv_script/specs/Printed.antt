@@ -59,7 +59,7 @@ arguments_of (Answer name) = name ∷ []
 abbrev pub printed : Command → List ℕ
 printed command = spaced (verb_of command ∷ arguments_of command)
 
--- numbers of a command that have 32 bits
+-- two numbers of a command that fit into 32 bits
 abbrev pub AreBounds : ℕ → ℕ → Type 0
 AreBounds lo hi = (lo < 2 ^ 32) × (hi < 2 ^ 32)
 

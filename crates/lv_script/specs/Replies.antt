@@ -22,7 +22,7 @@ module _ {S : Type 0} (step : S → ℕ → List ℕ → List ℕ → S → Type
     pub second : Answered mid (n + length xs) ys rest new
     pub joined : text ≡ front ++ rest
 
-  -- from state old line n was answered, to state new, and its reply written
+  -- from state old line n was answered, to state new, and its reply put after what was held: sent, or held still
   pub record Replies (old : S) (n : ℕ) (line : List ℕ) (new : S) (old_contents : Option (List ℕ)) (old_held : List ℕ) (new_contents : Option (List ℕ)) (new_held : List ℕ) : Type 0 where
     pub reply : List ℕ
     pub answered : step old n line reply new
@@ -56,7 +56,8 @@ module _ {S : Type 0} (step : S → ℕ → List ℕ → List ℕ → S → Type
     pub answered : Answered old 1 front text new
     pub written : WritesFront old_contents [] new_contents text
 
-  -- how a conversation ended, by the bytes that were seen: at the end of the input, where a read failed (or the input is too long), where a write failed, or before it began
+  -- how a conversation ended, by the bytes that were seen. Ok: at the end of the input. ReadFault: a read failed, or the input is
+  -- too long. WriteFault: a write failed. NoMemory: it never began
   abbrev pub Ends : {T : Type 0} → S → S → Option (List ℕ) → Option (List ℕ) → Option (List ℕ) → Option (List ℕ) → List ℕ → Result T Fault → Type 0
   Ends old new remaining_old remaining_new contents_old contents_new seen (Ok _) =
       IsAtEnd remaining_new × (length seen ≤ 2 ^ 30) × AnswersAll old (lines_of seen) new contents_old contents_new

@@ -74,7 +74,7 @@ pub record TellsEdit (old : ScriptState) (e : Edit) (text : List ℕ) (new : Scr
   pub notes_are : AreNotes old.seen.edits new.seen.edits old.queries notes
   pub text_is : text ≡ edit_text answer ++ notes_text notes
 
--- what an event is answered, as a line; of a reduction it is what was read for it
+-- what an event is answered, as a line; of a reduction it is what was read for it, and no line asks for a scan as an event
 abbrev pub reply_text : Reply SixSummary → List ℕ
 reply_text (reply.Did receipt) = receipt_text receipt
 reply_text reply.Settled = settled_text

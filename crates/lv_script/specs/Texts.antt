@@ -23,7 +23,7 @@ reply_line text = text ++ 10 ∷ []
 abbrev pub refused_text : Refusal → List ℕ
 refused_text refusal = reply_line (codes "refused " ++ decimal (number_of refusal))
 
--- what a line that says nothing known is answered by: its number
+-- the reply to a line that is not understood: its number
 abbrev pub bad_text : ℕ → List ℕ
 bad_text n = reply_line (codes "bad " ++ decimal n)
 
@@ -47,7 +47,7 @@ element_text (Err refusal) = refused_text refusal
 abbrev pub size_text : ℕ → ℕ → List ℕ
 size_text size edit = reply_line (codes "size " ++ decimal size ++ codes " edit " ++ decimal edit)
 
--- how many elements the open buckets hold
+-- how many elements the open buckets have room for
 abbrev pub capacity_text : ℕ → List ℕ
 capacity_text cells = reply_line (codes "capacity " ++ decimal cells)
 

@@ -79,7 +79,8 @@ AreAccepted limits edits = AreAcceptedAfter limits [] edits
 abbrev pub AreInOrder : List Claimed → Type 0
 AreInOrder claims = IsNonDecreasingBy (λ claim. claim.edit) claims
 
--- a claim is true of a journal: its edit is one of it, its range lies in the list after that edit, and its value is the plain one
+-- a claim is true of a journal: its edit is at most the number of edits (0 stands for before the first), its range lies in the list
+-- after that edit, and its value is the plain one there
 pub record IsTrueClaim (edits : List Edit) (claim : Claimed) : Type 0 where
   pub edit : claim.edit ≤ length edits
   pub range : claim.lo ≤ claim.hi
@@ -105,7 +106,7 @@ verdict_text Yes = reply_line (codes "yes")
 verdict_text (No n) = reply_line (codes "no " ++ decimal n)
 verdict_text (Bad n) = bad_text n
 
--- a verdict on bytes is right: it is yes exactly where they are a sound transcript
+-- a verdict on bytes is right: it is yes exactly where they are a sound transcript (which line `no` and `bad` name is not said here)
 abbrev pub IsRight : List ℕ → Verdict → Type 0
 IsRight bytes verdict = (verdict ≡ Yes) ↔ IsSoundTranscript bytes
 
@@ -133,7 +134,7 @@ pub record Audited (remaining_old remaining_new contents_old contents_new : Opti
 
 -- ---- how it is written
 
--- an edit whose numbers have their bits
+-- an edit whose numbers fit their types
 abbrev pub IsEdit : Edit → Type 0
 IsEdit (Push x) = IsElement x
 IsEdit Pop = Unit {0}

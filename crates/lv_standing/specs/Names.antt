@@ -6,7 +6,7 @@ use Rattle.std.specs.List.{list_all, before_first}
 abbrev pub is_name_byte : ℕ → Bool
 is_name_byte b = (nat_le 97 b && nat_le b 122) || (nat_le 48 b && nat_le b 57) || nat_eq b 95
 
--- whether bytes are a name: 1 to 16 of them, each a name's
+-- whether bytes are a name: 1 to 16 of them, each of them one that a name may have
 abbrev pub is_name : List ℕ → Bool
 is_name bytes = nat_le 1 (length bytes) && nat_le (length bytes) 16 && list_all is_name_byte bytes
 

@@ -34,7 +34,8 @@ IsCurrent edits entry = entry.1.value ≡ watch_answer edits (query_at entry)
 abbrev pub refreshed : List Edit → List ℕ × Watch → List ℕ × Watch
 refreshed edits entry = (entry.0, record entry.1 { value = watch_answer edits (query_at entry) })
 
--- the body is the program's six, there are at most 64 queries, and each watch keeps the answer at the last edit
+-- the vector is within its limits, its body is the program's six, there are at most 64 queries, and each watch keeps the answer at
+-- the last edit
 pub record IsStanding (meaning : SixMeaning) (live : LiveState Six SixSummary) (entries : List (List ℕ × Watch)) : Type 0 where
   pub limits : InLimits live.history
   pub six : meaning ≡ six_meaning

@@ -36,7 +36,7 @@ kept_in t n =
     let stamp = slice_index (rows_for t n).stamps n.number in
     if is_node n && nat_lt 0 stamp then option_map (λ s. (stamp - 1, s)) (slice_get (rows_for t n).kept n.number) else None
 
--- whether every index of a node is below the size
+-- whether a node is whole: of a level that is kept, with every index below the size
 abbrev pub whole_in : {S : Type 0} → Table S → Node → Bool
 whole_in t n = is_node n && is_below n t.size
 

@@ -1,5 +1,5 @@
-//! A worked program on the crates as a library: the total of a sliding window over readings, kept current while they are
-//! overwritten, answered from summaries that were computed beside the vector.
+//! A worked program on the crates as a library: the total of a window that slides over readings, and of the window in which one
+//! of them is overwritten, answered from summaries that were computed beside the vector.
 #![tactic(auto)]
 
 use lv_bodies::Sum;
@@ -11,6 +11,9 @@ use std::{fmt, io};
 
 /// How many readings there are.
 const READINGS: u32 = 512;
+
+/// The windows, as they slide: the first reading of each, and the first behind it.
+const WINDOWS: [(u32, u32); 3] = [(0, 200), (100, 300), (200, 400)];
 
 // Why the program ends early.
 #[derive(Debug, Drop)]
@@ -38,16 +41,25 @@ fn main(rt: HostRuntime) -> Result<(), Failure> {
     done
 }
 
-// Shows a window before and after one of its readings is overwritten.
+// Slides over the readings, and then overwrites one of them.
 fn slide<R: Print>(rt: &R, live: &mut Live<Sum>) -> Result<(), Failure> {
     push_all(live)?;
-    refresh_and_show(rt, live)?;
+    println!(rt; "{} summaries computed", refresh(live))?;
+    for (first, end) in WINDOWS {
+        show(rt, live, first, end)?;
+    }
+    overwrite(rt, live)
+}
+
+// Overwrites a reading, and shows its window before and after the summaries follow.
+fn overwrite<R: Print>(rt: &R, live: &mut Live<Sum>) -> Result<(), Failure> {
     live.apply(Edit::Write {
         index: 100,
         value: 1_000_000,
     })?;
-    show(rt, live)?;
-    refresh_and_show(rt, live)
+    show(rt, live, 0, 200)?;
+    println!(rt; "{} summaries computed", refresh(live))?;
+    show(rt, live, 0, 200)
 }
 
 // Pushes the readings, in order.
@@ -56,13 +68,6 @@ fn push_all(live: &mut Live<Sum>) -> Result<(), Refusal> {
         live.apply(Edit::Push(reading.into()))?;
     }
     Ok(())
-}
-
-// Computes what is wanted, and shows the window.
-fn refresh_and_show<R: Print>(rt: &R, live: &mut Live<Sum>) -> Result<(), Failure> {
-    let jobs = refresh(live);
-    println!(rt; "{jobs} summaries computed")?;
-    show(rt, live)
 }
 
 // Computes the summaries that are wanted, and gives them to the vector; says how many.
@@ -80,16 +85,16 @@ fn refresh(live: &mut Live<Sum>) -> u32 {
     READINGS
 }
 
-// Shows the total of the window, at which edit it holds, and how many elements and summaries were read for it.
-fn show<R: Print>(rt: &R, live: &Live<Sum>) -> Result<(), Failure> {
+// Shows the total of a window, at which edit it holds, and how many elements and summaries were read for it.
+fn show<R: Print>(rt: &R, live: &Live<Sum>, first: u32, end: u32) -> Result<(), Failure> {
     let Answer {
         edit,
         value,
         cells_read,
         summaries_read,
-    } = live.reduce(1, READINGS - 1)?;
+    } = live.reduce(first, end)?;
     println!(rt;
-        "after edit {edit}: {value} in all, of {cells_read} elements and {summaries_read} summaries"
+        "{first} to {end} after edit {edit}: {value}, of {cells_read} elements and {summaries_read} summaries"
     )?;
     Ok(())
 }
