@@ -1,9 +1,9 @@
 -- That the best total which the fold finds is the greatest of all runs.
-use Rattle.std.specs.Prelude.{true, false, cond, int_lt, ◌≡◌, ◌⊎◌, ℕ, ℤ, pos, ◌+◌, ◌-◌, ◌<◌, ◌≤◌, ◌+ℤ◌, ◌≤ℤ◌, Option, Some, None, option_map, List, [], ◌∷◌, ◌++◌, length, take, drop, fold, slice_range, refl}
+use Rattle.std.specs.Prelude.{true, false, cond, int_lt, ◌≡◌, ◌⊎◌, ℕ, ℤ, pos, ◌-◌, ◌<◌, ◌≤◌, ◌+ℤ◌, ◌≤ℤ◌, Option, Some, None, option_map, List, [], ◌∷◌, ◌++◌, length, take, drop, fold, slice_range, refl}
 use Rattle.std.specs.Int.{int_max}
-use Rattle.std.proofs.Common.{arith, ap, sym, ◌∙◌, subst, inl, inr, append_assoc, length-append}
+use Rattle.std.proofs.Common.{arith, ap, sym, ◌∙◌, subst, inl, inr, append_assoc}
 use Rattle.std.proofs.lemmas.Int.{ints, clamps}
-use Rattle.std.proofs.lemmas.List.{append-nil, take-append-le, drop-append-le, drop_all, take_all, length-drop}
+use Rattle.std.proofs.lemmas.List.{append-nil, take-append-le, drop-append-le, drop_all, take_all, length-drop, length_push}
 use Rattle.std.proofs.lemmas.Bool.{cases_lt}
 use Rattle.std.proofs.lemmas.List.Sums.{fold_push}
 use Rattle.lv_bodies.specs.Body.{fold_of}
@@ -60,20 +60,16 @@ module _ (xs : List ℤ) (x : ℤ) where
   last_alone : total (drop (length xs) (xs ++ x ∷ [])) ≡ x
   last_alone = end_of_push xs x (length xs) (omega arith) ∙ ap (λ zs. total zs +ℤ x) (drop_all (length xs) xs (omega arith)) ∙ total-single x
 
-  -- one more element makes the list longer by one
-  longer : length (xs ++ x ∷ []) ≡ length xs + 1
-  longer = length-append xs (x ∷ [])
-
 -- with one more element, what is kept stays true
 module _ (xs : List ℤ) (r : Run) (x : ℤ) (h : IsKept xs r) where
   -- the greatest total that ends with it is that of some end
   next_suffix_reached : (i : ℕ) × (i < length (xs ++ x ∷ [])) × (total (drop i (xs ++ x ∷ [])) ≡ int_max x (x +ℤ r.suffix))
   next_suffix_reached =
       elim (max_cases x (x +ℤ r.suffix)) [
-        | inl e ↦ (length xs, omega (arith, longer xs x), last_alone xs x ∙ sym e)
+        | inl e ↦ (length xs, omega (arith, length_push xs x), last_alone xs x ∙ sym e)
         | inr e ↦
             let (i, within, is) = h.suffix_reached in
-            (i, omega (arith, longer xs x), omega (arith, ints, end_of_push xs x i (omega arith), is, e))
+            (i, omega (arith, length_push xs x), omega (arith, ints, end_of_push xs x i (omega arith), is, e))
       ]
 
   -- no end has a greater total
@@ -81,7 +77,7 @@ module _ (xs : List ℤ) (r : Run) (x : ℤ) (h : IsKept xs r) where
   next_suffix_bound i p =
       elim (cases_lt i (length xs)) [
         | inl q ↦ omega (arith, ints, clamps, end_of_push xs x i (omega arith), h.suffix_bound i q)
-        | inr q ↦ let e : i ≡ length xs = omega (arith, longer xs x) in rw e (rw (last_alone xs x) (omega (arith, ints, clamps)))
+        | inr q ↦ let e : i ≡ length xs = omega (arith, length_push xs x) in rw e (rw (last_alone xs x) (omega (arith, ints, clamps)))
       ]
 
   -- the best total is that of some run
@@ -91,14 +87,14 @@ module _ (xs : List ℤ) (r : Run) (x : ℤ) (h : IsKept xs r) where
         | inl e ↦ elim (max_cases r.best x) [
           | inl f ↦
               let (i, j, before, within, is) = h.best_reached in
-              (i, j, before, omega (arith, longer xs x), ap total (run_before xs x i j before within) ∙ is ∙ sym (e ∙ f))
-          | inr f ↦ (length xs, length (xs ++ x ∷ []), omega (arith, longer xs x), omega arith, ap total (run_to_end (xs ++ x ∷ []) (length xs)) ∙ last_alone xs x ∙ sym (e ∙ f))
+              (i, j, before, omega (arith, length_push xs x), ap total (run_before xs x i j before within) ∙ is ∙ sym (e ∙ f))
+          | inr f ↦ (length xs, length (xs ++ x ∷ []), omega (arith, length_push xs x), omega arith, ap total (run_to_end (xs ++ x ∷ []) (length xs)) ∙ last_alone xs x ∙ sym (e ∙ f))
         ]
         | inr e ↦
             let (i, within, is) = h.suffix_reached in (
               i,
               length (xs ++ x ∷ []),
-              omega (arith, longer xs x),
+              omega (arith, length_push xs x),
               omega arith,
               ap total (run_to_end (xs ++ x ∷ []) i) ∙ end_of_push xs x i (omega arith) ∙ ap (λ t. t +ℤ x) is ∙ sym e,
             )
@@ -109,7 +105,7 @@ module _ (xs : List ℤ) (r : Run) (x : ℤ) (h : IsKept xs r) where
   next_best_bound i j p q =
       elim (cases_lt (length xs) j) [
         | inl s ↦
-            let e : j ≡ length (xs ++ x ∷ []) = omega (arith, longer xs x) in
+            let e : j ≡ length (xs ++ x ∷ []) = omega (arith, length_push xs x) in
             rw (e, run_to_end (xs ++ x ∷ []) i) (omega (arith, ints, clamps, next_suffix_bound i (omega arith)))
         | inr s ↦ rw (run_before xs x i j p s) (omega (arith, ints, clamps, h.best_bound i j p s))
       ]

@@ -2,6 +2,7 @@
 use Rattle.std.specs.Prelude.{IsTrue, ◌&&◌, ◌↔◌, ◌≡◌, ℕ, ℤ, ◌+◌, ◌≤◌, ◌+ℤ◌}
 use Rattle.std.specs.Int.{int_max}
 use Rattle.std.proofs.Common.{arith, ap, sym, ◌∙◌}
+use Rattle.std.proofs.Math.IntN.{+ℤ_assoc}
 use Rattle.std.proofs.lemmas.Int.{ints, clamps}
 use Rattle.std.specs.Ordering.{int_eq}
 use Rattle.std.proofs.lemmas.Bool.Decides.{Decides-int_eq}
@@ -18,10 +19,6 @@ pub same_runs : (r s : Run) → r.total ≡ s.total → r.prefix ≡ s.prefix �
 same_runs r s t p u b =
     ap (λ x. record r { total = x }) t ∙ ap (λ x. record r { total = s.total; prefix = x }) p
     ∙ ap (λ x. record s { suffix = x; best = r.best }) u ∙ ap (λ x. record s { best = x }) b
-
--- sums may be taken in either order
-add_assoc_int : (x y z : ℤ) → (x +ℤ y) +ℤ z ≡ x +ℤ (y +ℤ z)
-add_assoc_int x y z = omega (arith, ints)
 
 -- what begins on the left: of three parts it ends in the first, the second or the third
 prefix_assoc : (p t q u r : ℤ) → int_max (int_max p (t +ℤ q)) ((t +ℤ u) +ℤ r) ≡ int_max p (t +ℤ int_max q (u +ℤ r))
@@ -81,7 +78,7 @@ best_assoc a b c x y z u v =
 -- of three parts the first two or the last two may be joined first
 runs_associative : (r s t : Run) → join_runs (join_runs r s) t ≡ join_runs r (join_runs s t)
 runs_associative r s t =
-    same_runs _ _ (add_assoc_int r.total s.total t.total) (prefix_assoc r.prefix r.total s.prefix s.total t.prefix)
+    same_runs _ _ (+ℤ_assoc r.total s.total t.total) (prefix_assoc r.prefix r.total s.prefix s.total t.prefix)
     (suffix_assoc t.suffix t.total s.suffix s.total r.suffix)
     (best_assoc r.best s.best t.best r.suffix s.prefix s.suffix s.total t.prefix)
 

@@ -3,17 +3,19 @@ use Rattle.std.proofs.Common.{◌≡◌, ℕ, ℤ, zero, suc, ◌+◌, ◌-◌, 
 use Rattle.std.specs.List.{range_with_len}
 use Rattle.std.specs.Option.{option_map_or}
 use Rattle.std.proofs.lemmas.Bool.{and_from, and_parts, cases_Bool, cases_lt, cond-false, cond-true, eqb-false, eq-eqb, eqb-true, le-leb, leb-true}
-use Rattle.std.proofs.lemmas.List.{drop-append-le, drop-set-add, drop-set-lt, drop-take, get_or_append_left, get_or_push, length-drop, length_push, length-set, length-take, take_all, take_at, take-append-le, take-set-le, take-take}
+use Rattle.std.proofs.lemmas.List.{get_or_append_left, get_or_push, length-drop, length_push, length-set, length-take, take_all, take_at, take-append-le}
 use Rattle.std.proofs.lemmas.List.Sums.{fold_push}
 use Rattle.std.proofs.lemmas.Option.{cond_some, same_Some, slice_get-get_or}
-use Rattle.std.proofs.Math.Nat.{div-div-eq-div-mul, div-eq_of_lt-le, one-le-pow}
+use Rattle.std.proofs.Math.Nat.{div-div-eq-div-mul, div-eq_of_lt-le}
 use Rattle.std.proofs.lemmas.Grind.{pow_more}
 use Rattle.lv_geometry.specs.Nodes.{covers, is_node}
 use Rattle.lv_geometry.specs.declared.nodes.Node.{Node}
+use Rattle.lv_geometry.proofs.NodeLaws.{some_width}
 use Rattle.lv_edits.specs.declared.edit.Edit.{Edit}
 use Rattle.lv_edits.specs.declared.edit.Edit.TheVariants.{Push, Pop, Write, Reserve}
 use Rattle.lv_edits.specs.History.{applied, list_of, replayed}
 use Rattle.lv_edits.proofs.Ranges.{range_more}
+use Rattle.lv_edits.proofs.Slices.{part_of_push, part_of_set, part_of_take}
 use Rattle.lv_edits.proofs.HistoryLaws.{by_last_edit, list_of_replayed, list_of-snoc, replayed-nil}
 use Rattle.lv_edits.specs.Touch.{cells_of, is_whole, touched_by, touches, touches_at}
 
@@ -100,10 +102,6 @@ touched_by-none n = touched_by_is [] n ∙ last_pass-none _
 pub touched_by-le : (es : List Edit) (n : Node) → touched_by es n ≤ length es
 touched_by-le es n = omega (arith, touched_by_is es n, last_pass_le (touches_at es n) (length es))
 
--- a node has at least one index
-one_index : (n : Node) → 1 ≤ 8 ^ n.level
-one_index n = one-le-pow n.level 8 (omega arith)
-
 -- an index that a node does not have comes before its first or after its last
 outside : (n : Node) (i : ℕ) → covers n i ≡ false → (i < n.number * 8 ^ n.level) ⊎ ((n.number + 1) * 8 ^ n.level ≤ i)
 outside n i not_there =
@@ -115,31 +113,13 @@ outside n i not_there =
       ]
     ]
 
--- the elements of a part of a list stay where one more is put at its end
-part_of_push : (xs : List ℤ) (x : ℤ) (from size : ℕ) → from + size ≤ length xs → take size (drop from (xs ++ x ∷ [])) ≡ take size (drop from xs)
-part_of_push xs x from size within =
-    ap (take size) (drop-append-le from xs (x ∷ []) (omega arith)) ∙ take-append-le size (drop from xs) (x ∷ []) (omega (arith, length-drop from xs))
-
--- and where the list is cut behind the part
-part_of_take : (xs : List ℤ) (k from size : ℕ) → from + size ≤ k → take size (drop from (take k xs)) ≡ take size (drop from xs)
-part_of_take xs k from size within =
-    let rest : from + (k - from) ≡ k = omega arith in
-    ap (λ j. take size (drop from (take j xs))) (sym rest) ∙ ap (take size) (drop-take from (k - from) xs) ∙ take-take size (k - from) (drop from xs) (omega arith)
-
--- and where an element outside of the part is overwritten
-part_of_set : (xs : List ℤ) (i : ℕ) (x : ℤ) (from size : ℕ) → (i < from) ⊎ (from + size ≤ i) → take size (drop from (slice_set xs i x)) ≡ take size (drop from xs)
-part_of_set xs i x from size (inl before) = ap (take size) (drop-set-lt from xs i x before)
-part_of_set xs i x from size (inr after) =
-    let there : from + (i - from) ≡ i = omega arith in
-    ap (λ j. take size (drop from (slice_set xs j x))) (sym there) ∙ ap (take size) (drop-set-add from xs (i - from) x) ∙ take-set-le size (drop from xs) (i - from) x (omega arith)
-
 -- an edit that does not touch a node, all of whose indices exist after it, leaves them and their elements as they were
 pub untouched_cells : (xs ys : List ℤ) (e : Edit) (n : Node) → applied xs e ≡ Some ys → touches xs e n ≡ false → (n.number + 1) * 8 ^ n.level ≤ length ys → ((n.number + 1) * 8 ^ n.level ≤ length xs) × (take (8 ^ n.level) (drop (n.number * 8 ^ n.level) ys) ≡ take (8 ^ n.level) (drop (n.number * 8 ^ n.level) xs))
 untouched_cells xs ys (Push x) n made untouched whole =
     let next : ys ≡ xs ++ x ∷ [] = sym (same_Some _ _ made) in
     let long : (n.number + 1) * 8 ^ n.level ≤ length xs + 1 = omega (arith, ap length next, length_push xs x) in
     let below : (n.number + 1) * 8 ^ n.level ≤ length xs = elim (outside n (length xs) untouched) [
-      | inl before ↦ absurd (omega (arith, one_index n))
+      | inl before ↦ absurd (omega (arith, some_width n.level))
       | inr after ↦ after
     ] in
     (below, ap (λ l. take (8 ^ n.level) (drop (n.number * 8 ^ n.level) l)) next ∙ part_of_push xs x (n.number * 8 ^ n.level) (8 ^ n.level) (omega arith))
@@ -163,6 +143,10 @@ untouched_cells xs ys (Reserve k) n made untouched whole =
 pub whole_below : (es : List Edit) (n : Node) → is_whole es n ≡ true → (n.number + 1) * 8 ^ n.level ≤ length (list_of es)
 whole_below es n whole = leb-true _ _ (and_parts _ _ whole).1
 
+-- no node of an empty vector is whole
+pub none_whole : (n : Node) → is_whole [] n ≡ true → ⊥
+none_whole n whole = omega (arith, whole_below [] n whole, some_width n.level, ap length (list_of_replayed [] [] replayed-nil))
+
 -- a node of a level that is kept is whole where all its indices are below the size
 pub whole_from : (es : List Edit) (n : Node) → is_node n ≡ true → (n.number + 1) * 8 ^ n.level ≤ length (list_of es) → is_whole es n ≡ true
 whole_from es n node below = and_from _ _ node (le-leb _ _ below)
@@ -184,7 +168,7 @@ cells_of-length es n whole =
 pub whole_was_touched : (es : List Edit) (n : Node) → replayed es ≡ Some (list_of es) → is_whole es n ≡ true → 1 ≤ touched_by es n
 whole_was_touched es n legal =
     by_last_edit (λ es. is_whole es n ≡ true → 1 ≤ touched_by es n)
-    (λ whole. absurd (omega (arith, whole_below [] n whole, one_index n, ap length (list_of_replayed [] [] replayed-nil))))
+    (λ whole. absurd (none_whole n whole))
     (λ es e ys legal possible before whole. elim (cases_Bool (touches (list_of es) e n)) [
       | inl touched ↦ omega (arith, touched_by-snoc es e n ∙ cond-true _ _ _ touched)
       | inr untouched ↦ omega (arith, touched_by-snoc es e n ∙ cond-false _ _ _ untouched, before (untouched_keeps es e ys n legal possible untouched whole).0)

@@ -1,1 +1,2 @@
 pub mod HighestBits
+pub mod NodeLaws

@@ -1,15 +1,16 @@
 -- What an outcome that is vouched for brings, and what a claim takes.
-use Rattle.std.proofs.Common.{◌≡◌, ◌↔◌, ℕ, ◌+◌, ◌*◌, ◌^◌, ◌≤◌, Bool, true, false, ◌&&◌, ◌||◌, IsTrue, cond, Option, Some, None, option_map, IfSome, IfNone, if◌then◌else◌, refl, sym, ap, ◌∙◌, arith}
+use Rattle.std.proofs.Common.{◌≡◌, ◌↔◌, ℕ, ◌+◌, ◌*◌, ◌^◌, ◌≤◌, Bool, true, ◌&&◌, ◌||◌, IsTrue, Option, Some, None, option_map, IfSome, IfNone, if◌then◌else◌, refl, sym, ap, ◌∙◌, arith}
 use Rattle.std.proofs.lemmas.Bool.{and_from, and_parts, le-leb, leb-true, or_left, or_right}
 use Rattle.lv_geometry.specs.declared.nodes.Node.{Node}
 use Rattle.lv_geometry.specs.Nodes.{is_below, is_node, parent}
-use Rattle.lv_bodies.specs.Body.{BodyLaws, CanFold, Operations, fold_of}
-use Rattle.lv_edits.specs.History.{list_of}
+use Rattle.lv_bodies.specs.Body.{BodyLaws, Operations, fold_of}
 use Rattle.lv_edits.specs.Touch.{cells_of, is_whole, touched_by}
 use Rattle.lv_summary.specs.declared.accepted.Accepted.{Accepted}
 use Rattle.lv_summary.specs.declared.accepted.Accepted.TheVariants.{Held, Installed, Stale}
 use Rattle.lv_summary.specs.Table.{AfterDelivery, Keeps, Table, delivery_in, kept_in, same_node, touched_in, whole_in}
-use Rattle.lv_summary.proofs.TableLaws.{current_of_installed, same_node-self}
+use Rattle.lv_summary.proofs.AgreesLaws.{whole_agrees}
+use Rattle.lv_summary.proofs.FoldableLaws.{can_fold}
+use Rattle.lv_summary.proofs.TableLaws.{current_of_installed, same_node-self, version_kept}
 use Rattle.lv_refresh.specs.declared.contents.Contents.{Contents}
 use Rattle.lv_refresh.specs.Carried.{Carried}
 use Rattle.lv_refresh.specs.Claim.{IsNextJob}
@@ -27,20 +28,16 @@ pub record HintsParent (old new : ClaimTable) (node : Node) : Type 0 where
   pub blocks : claim_blocks new ≡ claim_blocks old
 
 module _ {B S : Type 0} (o : Operations S) (within : S → ℕ → Type 0) (laws : BodyLaws o within) (s : LiveState B S) (live : IsLive o s) where
-  -- the elements of a live vector can be folded
-  can_fold : CanFold (list_of s.history.journal)
-  can_fold = record { few = omega (arith, live.limits.few); elements = live.limits.elements }
-
   -- what is vouched for, and is installed, is the fold of its node's elements, by the vector's body
   pub installed_fold : (n : Node) (v : ℕ) (contents : Contents S) (same : Type 0) → Vouched o (recorded s) same n v contents → delivery_in s.table n v ≡ Installed
       → same × (fold_of_contents o contents ≡ fold_of o (cells_of s.history.journal n)) × (whole_in s.table n ≡ true) × (touched_in s.table n ≡ v)
   installed_fold n v contents same vouched installed =
       let current = current_of_installed s.table n v installed in
       let node = (and_parts _ _ current.0).0 in
-      let whole : is_whole s.history.journal n ≡ true = ap (λ size. is_node n && is_below n size) (sym live.agrees.size) ∙ current.0 in
+      let whole : is_whole s.history.journal n ≡ true = whole_agrees o s.history.journal s.table live.agrees n ∙ current.0 in
       let touched : touched_by s.history.journal n ≡ v = sym (live.agrees.touched n node) ∙ current.1 in
       let stands = vouched whole touched in
-      (stands.0, fold_of_standing o within laws (recorded s) n contents can_fold stands.1, current.0, current.1)
+      (stands.0, fold_of_standing o within laws (recorded s) n contents (can_fold s.history live.limits) stands.1, current.0, current.1)
 
   -- its node has its room for claims
   pub installed_inside : (n : Node) (v : ℕ) → delivery_in s.table n v ≡ Installed → is_below n (8 * claim_blocks s.claims) ≡ true
@@ -51,11 +48,7 @@ module _ {B S : Type 0} (o : Operations S) (within : S → ℕ → Type 0) (laws
   -- a delivery, by what became of it
   pub delivered : (t : Table S) (c : ClaimTable) (n : Node) (v : ℕ) (summary : S) (accepted : Accepted) → ((n : Node) → claimed_in c n ≡ claimed_in s.claims n) → AfterDelivery s.table t n v summary accepted → HasDelivery s (record s { table = t; claims = c }) n v accepted
   delivered t c n v summary Installed claimed after =
-      record { body = refl; history = refl; claimed = claimed; kept = λ m. ap (option_map (λ kept. kept.0)) (after.kept m) ∙ map_of_choice (same_node m n) (v, summary) (kept_in s.table m) }
-    where
-      map_of_choice : (b : Bool) (new : ℕ × S) (old : Option (ℕ × S)) → option_map (λ kept. kept.0) (cond b (Some new) old) ≡ cond b (Some new.0) (option_map (λ kept. kept.0) old)
-      map_of_choice true new old = refl
-      map_of_choice false new old = refl
+      record { body = refl; history = refl; claimed = claimed; kept = version_kept s.table t n v summary after }
   delivered t c n v summary Held claimed after = record { body = refl; history = refl; claimed = claimed; kept = λ m. ap (λ t. option_map (λ kept. kept.0) (kept_in t m)) after }
   delivered t c n v summary (Stale now) claimed after = record { body = refl; history = refl; claimed = claimed; kept = λ m. ap (λ t. option_map (λ kept. kept.0) (kept_in t m)) after }
 
@@ -84,6 +77,6 @@ module _ {B S : Type 0} (o : Operations S) (within : S → ℕ → Type 0) (laws
   pub vouched_where : (n : Node) (v : ℕ) (contents : Contents S) (same : Type 0) (told : Bool) → whole_in s.table n ≡ true → touched_in s.table n ≡ v → same → (IsTrue told ↔ Stands o (recorded s) n contents) → IsTrue told ↔ Vouched o (recorded s) same n v contents
   vouched_where n v contents same told whole touched is stands =
       let node = (and_parts _ _ whole).0 in
-      let whole_then : is_whole s.history.journal n ≡ true = ap (λ size. is_node n && is_below n size) (sym live.agrees.size) ∙ whole in
+      let whole_then : is_whole s.history.journal n ≡ true = whole_agrees o s.history.journal s.table live.agrees n ∙ whole in
       let touched_then : touched_by s.history.journal n ≡ v = sym (live.agrees.touched n node) ∙ touched in
       (λ y w t. (is, stands.0 y), λ vouched. stands.1 (vouched whole_then touched_then).1)

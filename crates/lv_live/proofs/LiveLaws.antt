@@ -1,10 +1,9 @@
 -- What a live vector keeps through each of its changes.
-use Rattle.std.proofs.Common.{◌≡◌, ℕ, ◌+◌, ◌-◌, ◌*◌, ◌^◌, ◌≤◌, Bool, true, false, ◌&&◌, cond, Option, Some, None, option_map, List, [], ◌∷◌, ◌++◌, length, nat_eq, if◌then◌else◌, refl, sym, ap, ◌∙◌, inl, inr, arith}
+use Rattle.std.proofs.Common.{◌≡◌, ℕ, ◌+◌, ◌-◌, ◌*◌, ◌^◌, ◌≤◌, true, false, ◌&&◌, cond, Option, Some, None, option_map, List, [], ◌∷◌, ◌++◌, length, nat_eq, if◌then◌else◌, refl, sym, ap, ◌∙◌, inl, inr, arith}
 use Rattle.std.specs.Prelude.{ℤ}
 use Rattle.std.specs.Option.{option_map_or}
 use Rattle.std.proofs.lemmas.List.{length-set, length-take, length_push}
 use Rattle.std.proofs.lemmas.Option.{cond_some, same_Some}
-use Rattle.std.proofs.Math.Nat.{one-le-pow}
 use Rattle.std.proofs.lemmas.Bool.{and_parts, cases_Bool, le-leb, leb-true, true≢false}
 use Rattle.lv_geometry.specs.declared.nodes.Node.{Node}
 use Rattle.lv_geometry.specs.Nodes.{covers, is_below, is_node, parent}
@@ -15,23 +14,21 @@ use Rattle.lv_edits.specs.History.{History, applied, list_of, replayed, with_edi
 use Rattle.lv_edits.specs.Kept.{InLimits}
 use Rattle.lv_edits.specs.Touch.{cells_of, index_written, is_whole, touched_by, touches}
 use Rattle.lv_edits.specs.Verdict.{verdict_of}
-use Rattle.lv_edits.proofs.HistoryLaws.{accepted_is_possible, list_of_replayed, list_of-snoc, replayed-nil}
+use Rattle.lv_edits.proofs.HistoryLaws.{accepted_is_possible, list_of-snoc}
+use Rattle.lv_edits.proofs.TouchLaws.{none_whole}
 use Rattle.lv_summary.specs.declared.accepted.Accepted.TheVariants.{Held, Installed, Stale}
 use Rattle.lv_summary.specs.Agrees.{Agrees}
-use Rattle.lv_summary.specs.Table.{AnswersAlike, Keeps, Table, delivery_in, fresh_in, has_version, kept_in, same_node, touched_in, whole_in}
-use Rattle.lv_summary.proofs.AgreesLaws.{agrees_after_size, agrees_after_touch, agrees_alike, agrees_empty, agrees_installed, same_node-eq}
+use Rattle.lv_summary.specs.Table.{AnswersAlike, Keeps, Table, delivery_in, has_version, kept_in, same_node, touched_in, whole_in}
+use Rattle.lv_summary.proofs.AgreesLaws.{agrees_after_size, agrees_after_touch, agrees_alike, agrees_empty, agrees_installed, whole_agrees}
+use Rattle.lv_summary.proofs.TableLaws.{same_node-eq, version_kept}
 use Rattle.lv_refresh.specs.Claimed.{AreHints, ClaimTable, claim_blocks, claimed_in, is_hinted, record_of}
 use Rattle.lv_refresh.specs.Delivery.{delivery_of}
-use Rattle.lv_refresh.specs.Record.{SameRecord, is_fresh, is_version}
+use Rattle.lv_refresh.specs.Record.{SameRecord}
 use Rattle.lv_refresh.proofs.HonestyLaws.{whole_of_wanted}
+use Rattle.lv_refresh.proofs.RecordLaws.{same_version}
 use Rattle.lv_refresh.proofs.WantLaws.{wants_before_edit, wants_before_install, wants_job-same}
 use Rattle.lv_live.specs.Follows.{ClaimsAlike, ClaimsFollow, HasRow, TableFollows}
 use Rattle.lv_live.specs.State.{IsLive, LiveState, recorded}
-
--- what is kept has a version where its version is that
-same_version : {S : Type 0} (v : ℕ) (kept : Option (ℕ × S)) → has_version v kept ≡ is_version v (option_map (λ kept. kept.0) kept)
-same_version v None = refl
-same_version v (Some kept) = refl
 
 -- the list after an edit has its room where the index that it wrote at, if any, has
 pub room_after : (xs ys : List ℤ) (e : Edit) (index : Option ℕ) (blocks : ℕ) → applied xs e ≡ Some ys → index_written xs e ≡ index → length xs ≤ 8 * blocks → HasRow blocks index → length ys ≤ 8 * blocks
@@ -49,19 +46,6 @@ kept_followed t u (Some i) edit size (mid, touch, sized) n = sized.kept n ∙ to
 kept_followed t u None edit size sized n = sized.kept n
 
 module _ {S : Type 0} (o : Operations S) where
-  -- the nodes that are fresh in a table that agrees are those that are fresh by the record
-  pub fresh_agrees : (es : List Edit) (t : Table S) (c : ClaimTable) → Agrees o es t → (n : Node) → fresh_in t n ≡ is_fresh (record_of es t c) n
-  fresh_agrees es t c agrees n =
-      elim (cases_Bool (is_node n)) [
-        | inl node ↦
-            ap (λ size. (is_node n && is_below n size) && has_version (touched_in t n) (kept_in t n)) agrees.size
-            ∙ ap (λ v. is_whole es n && has_version v (kept_in t n)) (agrees.touched n node)
-            ∙ ap (λ has. is_whole es n && has) (same_version (touched_by es n) (kept_in t n))
-        | inr outside ↦
-            ap (λ b. (b && is_below n t.size) && has_version (touched_in t n) (kept_in t n)) outside
-            ∙ sym (ap (λ b. (b && is_below n (length (list_of es))) && is_version (touched_by es n) (option_map (λ kept. kept.0) (kept_in t n))) outside)
-      ]
-
   -- tables that answer alike, with claims that answer alike, have the same record
   pub same_record : (es : List Edit) (t u : Table S) (c d : ClaimTable) → ((n : Node) → kept_in u n ≡ kept_in t n) → ((n : Node) → claimed_in d n ≡ claimed_in c n) → SameRecord (record_of es t c) (record_of es u d)
   same_record es t u c d kept claimed =
@@ -146,11 +130,11 @@ module _ {S : Type 0} (o : Operations S) where
       let es = s.history.journal in
       let node = (and_parts _ _ whole).0 in
       let next = record_of es t c in
-      let kept : (m : Node) → next.kept m ≡ (if same_node m n then Some v else (recorded s).kept m) = λ m. ap (option_map (λ kept. kept.0)) (keeps.kept m) ∙ option_map_cond (same_node m n) (v, summary) (kept_in s.table m) in
+      let kept : (m : Node) → next.kept m ≡ (if same_node m n then Some v else (recorded s).kept m) = version_kept s.table t n v summary keeps in
       record {
         limits = live.limits;
         agrees = agrees_installed o es s.table t n v summary live.agrees keeps whole touched is;
-        hints = λ m wants. elim (wants_before_install (recorded s) next n v refl claims.claimed kept (ap (λ size. is_node n && is_below n size) (sym live.agrees.size) ∙ whole) (sym (live.agrees.touched n node) ∙ touched) m wants) [
+        hints = λ m wants. elim (wants_before_install (recorded s) next n v refl claims.claimed kept (whole_agrees o es s.table live.agrees n ∙ whole) (sym (live.agrees.touched n node) ∙ touched) m wants) [
           | inl before ↦ claims.hints m (live.hints m before)
           | inr parent_is ↦
               let one : m ≡ parent n = same_node-eq m (parent n) parent_is in
@@ -159,10 +143,6 @@ module _ {S : Type 0} (o : Operations S) where
         ];
         grown = omega (arith, live.grown, keeps.size, claims.more);
       }
-    where
-      option_map_cond : (b : Bool) (new : ℕ × S) (old : Option (ℕ × S)) → option_map (λ kept. kept.0) (cond b (Some new) old) ≡ cond b (Some new.0) (option_map (λ kept. kept.0) old)
-      option_map_cond true new old = refl
-      option_map_cond false new old = refl
 
   -- claims that were forgotten, with every node hinted that the claims have room for: all is kept
   pub live_after_forget : {B : Type 0} (s : LiveState B S) (c : ClaimTable) → IsLive o s → claim_blocks c ≡ claim_blocks s.claims
@@ -177,14 +157,6 @@ module _ {S : Type 0} (o : Operations S) where
             all n whole.0 (le-leb _ _ (omega (arith, below, live.agrees.size, live.grown)));
         grown = omega (arith, live.grown, blocks);
       }
-
-  -- no node of an empty vector is whole
-  none_whole : (n : Node) → is_whole [] n ≡ true → ⊥
-  none_whole n whole =
-      let below : (n.number + 1) * 8 ^ n.level ≤ length (list_of []) = leb-true ((n.number + 1) * 8 ^ n.level) (length (list_of [])) (and_parts _ _ whole).1 in
-      let none : length (list_of []) ≡ 0 = ap length (list_of_replayed [] [] replayed-nil) in
-      let some : 1 ≤ 8 ^ n.level = one-le-pow n.level 8 (omega arith) in
-      omega arith
 
   -- an empty vector, for which nothing is claimed and nothing kept
   pub live_empty : {B : Type 0} (s : LiveState B S) → s.history.journal ≡ [] → InLimits s.history → s.table.size ≡ 0 → ((n : Node) → touched_in s.table n ≡ 0) → ((n : Node) → kept_in s.table n ≡ None) → IsLive o s

@@ -10,8 +10,8 @@ use Rattle.lv_refresh.specs.Record.{is_fresh}
 use Rattle.lv_reduce.specs.declared.reductions.Answer.{Answer}
 use Rattle.lv_reduce.specs.Answer.{IsAnswer, range_refusal}
 use Rattle.lv_reduce.specs.Cost.{IsCost, IsFew}
+use Rattle.lv_refresh.proofs.RecordLaws.{fresh_agrees}
 use Rattle.lv_live.specs.Step.{Reduces}
-use Rattle.lv_live.proofs.LiveLaws.{fresh_agrees}
 
 module _ {S : Type 0} (o : Operations S) (es : List Edit) (t : Table S) (c : ClaimTable) (agrees : Agrees o es t) where
   -- the same nodes are fresh by table and by record

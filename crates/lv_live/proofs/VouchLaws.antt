@@ -1,5 +1,5 @@
 -- Contents gathered from a table that agrees are those that stand, and no others are.
-use Rattle.std.proofs.Common.{◌≡◌, ℕ, ◌<◌, Bool, true, false, ◌&&◌, Some, List, get_or, slice_get, sym, ap, ◌∙◌}
+use Rattle.std.proofs.Common.{◌≡◌, ℕ, ◌<◌, true, false, Some, List, get_or, slice_get, sym, ap, ◌∙◌}
 use Rattle.std.proofs.lemmas.Bool.{true≢false}
 use Rattle.lv_geometry.specs.declared.nodes.Node.{Node}
 use Rattle.lv_geometry.specs.Nodes.{child}
@@ -17,7 +17,7 @@ use Rattle.lv_refresh.specs.Contents.{in_order}
 use Rattle.lv_refresh.specs.Honesty.{Stands}
 use Rattle.lv_refresh.specs.Inner.{children_fresh_in}
 use Rattle.lv_refresh.proofs.HonestyLaws.{each_child_fresh, summaries_in_order}
-use Rattle.lv_live.proofs.LiveLaws.{fresh_agrees}
+use Rattle.lv_refresh.proofs.RecordLaws.{children_agree, fresh_agrees}
 
 -- eight summaries are known by their list
 eight_of_list : {S : Type 0} (x y : Eight S) → in_order x ≡ in_order y → x ≡ y
@@ -37,10 +37,6 @@ module _ {S : Type 0} (o : Operations S) (within : S → ℕ → Type 0) (laws :
   abbrev HaveEntries : Node → Eight S → Type 0
   HaveEntries n x = (k : ℕ) → k < 8 → slice_get (in_order x) k ≡ entry_in t (child n k)
 
-  -- the children of a node are fresh by table and by record
-  children_agree : (n : Node) → children_fresh_in t n ≡ children_fresh (record_of es t c) n
-  children_agree n = ap (λ (fresh : Node → Bool). fresh (child n 0) && (fresh (child n 1) && (fresh (child n 2) && (fresh (child n 3) && (fresh (child n 4) && (fresh (child n 5) && (fresh (child n 6) && (fresh (child n 7) && true)))))))) (λ i n. fresh_agrees o es t c agrees n i)
-
   -- the summary of a fresh child is the fold of its elements
   child_entry : (n : Node) (k : ℕ) → k < 8 → children_fresh (record_of es t c) n ≡ true → entry_in t (child n k) ≡ Some (fold_of o (cells_of es (child n k)))
   child_entry n k small fresh =
@@ -50,7 +46,7 @@ module _ {S : Type 0} (o : Operations S) (within : S → ℕ → Type 0) (laws :
   -- gathered summaries stand
   pub stands_of_children : (n : Node) (x : Eight S) → 1 < n.level → children_fresh_in t n ≡ true → HaveEntries n x → Stands o (record_of es t c) n (Children x)
   stands_of_children n x above ready are =
-      let fresh = sym (children_agree n) ∙ ready in
+      let fresh = sym (children_agree o es t c agrees n) ∙ ready in
       (above, fresh, λ k small. are k small ∙ child_entry n k small fresh)
 
   -- summaries that stand are those gathered
@@ -61,4 +57,4 @@ module _ {S : Type 0} (o : Operations S) (within : S → ℕ → Type 0) (laws :
 
   -- where a child isn't fresh no summaries stand
   pub nothing_stands : (n : Node) (y : Eight S) → children_fresh_in t n ≡ false → Stands o (record_of es t c) n (Children y) → ⊥
-  nothing_stands n y stale stands = true≢false (sym (children_agree n ∙ stands.1) ∙ stale)
+  nothing_stands n y stale stands = true≢false (sym (children_agree o es t c agrees n ∙ stands.1) ∙ stale)

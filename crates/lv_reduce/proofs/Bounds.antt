@@ -9,9 +9,10 @@ use Rattle.std.proofs.lemmas.List.Sums.{sum_by-le}
 use Rattle.std.proofs.Math.Nat.{div-div-eq-div-mul, div-lt_iff_lt-mul, le-div_iff_mul-le, mul-div_cancel}
 use Rattle.lv_geometry.specs.declared.nodes.Node.{Node}
 use Rattle.lv_geometry.specs.Nodes.{first_index, over}
+use Rattle.lv_geometry.proofs.NodeLaws.{some_width}
 use Rattle.lv_reduce.specs.Cost.{AllFresh, IsCost, IsFew, cells_of_range, is_bare, is_top, stale_blocks, summaries_of}
 use Rattle.lv_reduce.proofs.Counting.{passes_below, passes_below-is, passes_eighths, passes_either, passes_mono, passes_multiples, passes_nowhere, passes_within}
-use Rattle.lv_reduce.proofs.NodeLaws.{first_of_aligned, some_width}
+use Rattle.lv_reduce.proofs.NodeLaws.{first_of_aligned}
 use Rattle.lv_reduce.proofs.UsedLaws.{bare_parts, in_greater_some, top_parts, used_from, used_parts}
 
 -- a number lies behind a bound that its eight begin before, or before one that its eight end behind

@@ -2,15 +2,12 @@
 use Rattle.std.proofs.Common.{◌≡◌, ℕ, ◌+◌, ◌*◌, ◌/◌, ◌%◌, ◌^◌, ◌<◌, ◌≤◌, sym, ap, ◌∙◌, inl, inr, arith}
 use Rattle.std.proofs.lemmas.Bool.{cases_lt}
 use Rattle.std.proofs.lemmas.Nat.{div-add-mod', mul-le}
-use Rattle.std.proofs.Math.Nat.{add-mod_right, div-eq_of_lt-le, div-mul-le_self, lt-div-mul-add, mul-mod_left, one-le-pow}
+use Rattle.std.proofs.Math.Nat.{add-mod_right, div-eq_of_lt-le, div-mul-le_self, lt-div-mul-add, mul-mod_left}
 use Rattle.std.proofs.Math.Pow.{pow_mono}
 use Rattle.lv_geometry.specs.Nodes.{first_index, over}
+use Rattle.lv_geometry.proofs.NodeLaws.{some_width}
 use Rattle.lv_reduce.specs.Pieces.{Fits}
 use Rattle.lv_reduce.proofs.Zeros.{lesser_power, width_in_twos}
-
--- a node has at least one index
-pub some_width : (level : ℕ) → 1 ≤ 8 ^ level
-some_width level = one-le-pow level 8 (omega arith)
 
 -- a lesser level is no wider
 pub no_wider : (lesser level : ℕ) → lesser ≤ level → 8 ^ lesser ≤ 8 ^ level

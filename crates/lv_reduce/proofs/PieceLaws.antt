@@ -1,18 +1,16 @@
 -- The fold of a range with a node's elements at its end.
 use Rattle.std.proofs.Common.{◌≡◌, ℕ, ℤ, ◌+◌, ◌-◌, ◌^◌, ◌≤◌, List, ◌++◌, length, drop, take, slice_range, sym, ap, subst, ◌∙◌, arith}
 use Rattle.std.proofs.lemmas.List.{drop-drop}
-use Rattle.std.proofs.lemmas.List.Elements.{All-drop, All-take}
 use Rattle.std.proofs.Math.Seq.{take-add}
-use Rattle.lv_geometry.specs.Elements.{IsElement}
 use Rattle.lv_geometry.specs.Nodes.{over}
 use Rattle.lv_bodies.specs.Body.{BodyLaws, CanFold, CanJoin, Operations, fold_of}
 use Rattle.lv_bodies.specs.FoldLaws.{fold_of-append, fold_of-within}
 use Rattle.lv_edits.specs.declared.edit.Edit.{Edit}
-use Rattle.lv_edits.specs.History.{History, list_of}
-use Rattle.lv_edits.specs.Kept.{InLimits}
+use Rattle.lv_edits.specs.History.{list_of}
 use Rattle.lv_edits.proofs.Slices.{length-slice_range}
 use Rattle.lv_summary.specs.Agrees.{Agrees}
 use Rattle.lv_summary.specs.Table.{Table}
+use Rattle.lv_summary.proofs.FoldableLaws.{part_can_fold}
 use Rattle.lv_reduce.specs.Pieces.{IsGreatestFresh}
 use Rattle.lv_reduce.proofs.NodeLaws.{first_of_aligned}
 
@@ -29,29 +27,18 @@ slice_range-append xs lo at end low high =
 pub slice-nothing : {S : Type 0} (o : Operations S) (xs : List ℤ) (lo : ℕ) → o.identity ≡ fold_of o (slice_range xs lo lo)
 slice-nothing o xs lo = let nothing : 0 ≡ lo - lo = omega arith in ap (λ n. fold_of o (take n (drop lo xs))) nothing
 
--- a fold may go over a slice of what a fold may go over
-can_slice : (xs : List ℤ) (lo hi : ℕ) → lo ≤ hi → hi ≤ length xs → CanFold xs → CanFold (slice_range xs lo hi)
-can_slice xs lo hi order inside can = record {
-  few = omega (arith, length-slice_range xs lo hi order inside, can.few);
-  elements = All-take IsElement (hi - lo) (drop lo xs) (All-drop IsElement lo xs can.elements);
-}
-
--- a vector's elements are such
-pub can_fold : (h : History) → InLimits h → CanFold (list_of h.journal)
-can_fold h limits = record { few = omega (arith, limits.few); elements = limits.elements }
-
 module _ {S : Type 0} (o : Operations S) (within : S → ℕ → Type 0) (laws : BodyLaws o within) (xs : List ℤ) (can : CanFold xs) where
   -- the fold of a range is within its width
   pub slice-within : (lo hi : ℕ) → lo ≤ hi → hi ≤ length xs → within (fold_of o (slice_range xs lo hi)) (hi - lo)
   slice-within lo hi order inside =
       subst (λ n. within (fold_of o (slice_range xs lo hi)) n) (length-slice_range xs lo hi order inside)
-      (fold_of-within o within laws (slice_range xs lo hi) (can_slice xs lo hi order inside can))
+      (fold_of-within o within laws (slice_range xs lo hi) (part_can_fold (hi - lo) lo xs can))
 
   -- the join of the folds of two parts of a range is the fold of the range
   pub slice-joined : (lo at hi : ℕ) → lo ≤ at → at ≤ hi → hi ≤ length xs → (s t r : S) → s ≡ fold_of o (slice_range xs lo at) → t ≡ fold_of o (slice_range xs at hi) → r ≡ o.join s t → r ≡ fold_of o (slice_range xs lo hi)
   slice-joined lo at hi low high inside s t r left right is =
       let parts = slice_range-append xs lo at hi low high in
-      let whole : CanFold (slice_range xs lo hi) = can_slice xs lo hi (omega arith) inside can in
+      let whole : CanFold (slice_range xs lo hi) = part_can_fold (hi - lo) lo xs can in
       let joined = ap (fold_of o) parts ∙ fold_of-append o within laws (slice_range xs lo at) (slice_range xs at hi) (subst CanFold parts whole) in
       is ∙ ap (λ u. o.join u t) left ∙ ap (o.join (fold_of o (slice_range xs lo at))) right ∙ sym joined
 

@@ -6,10 +6,11 @@ use Rattle.std.proofs.lemmas.Bool.{cases_lt, cond-true, false≢true, false_from
 use Rattle.std.proofs.Math.Nat.{add-mod_right}
 use Rattle.lv_geometry.specs.declared.nodes.Node.{Node}
 use Rattle.lv_geometry.specs.Nodes.{first_index, over}
+use Rattle.lv_geometry.proofs.NodeLaws.{some_width}
 use Rattle.lv_reduce.specs.Cost.{IsCost, is_bare, is_top, is_used}
 use Rattle.lv_reduce.specs.Pieces.{Fits, NoneFresh}
 use Rattle.lv_reduce.proofs.Counting.{all_stay, one_greater, passes_below, passes_below-is, passes_below-next, passes_first, passes_none, passes_nowhere}
-use Rattle.lv_reduce.proofs.NodeLaws.{aligned_of_first, first_le, first_of_aligned, lesser_aligned, multiples_apart, over_same, some_width, still_over}
+use Rattle.lv_reduce.proofs.NodeLaws.{aligned_of_first, first_le, first_of_aligned, lesser_aligned, multiples_apart, over_same, still_over}
 use Rattle.lv_reduce.proofs.UsedLaws.{bare_before, bare_from, bare_parts, in_greater_none, in_greater_some, top_before, top_from, top_parts, used_at_start, used_from, used_parts}
 
 -- how many summaries are read before an index

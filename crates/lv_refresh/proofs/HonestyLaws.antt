@@ -6,7 +6,7 @@ use Rattle.std.proofs.Math.Nat.{mul-le-mul_right, mul_comm}
 use Rattle.std.proofs.Math.Seq.{take-add, take-append_seam, drop-append_seam}
 use Rattle.std.proofs.lemmas.Bool.{and_from, and_parts, cases_Bool, cases_lt, cond-false, cond-true, eq-eqb, le-leb, leb-true}
 use Rattle.std.proofs.lemmas.Grind.{pow_more}
-use Rattle.std.proofs.lemmas.List.{drop-drop, length-append, length-drop, length-take, length_push, take-append-le}
+use Rattle.std.proofs.lemmas.List.{drop-drop, length-append, length_push, take-append-le}
 use Rattle.std.proofs.lemmas.List.Elements.{All-drop, All-from_get_or, All-get_or, All-same, All-take}
 use Rattle.std.proofs.lemmas.List.FromFn.{fill_by_all, get_or-range_with_len, length-range_with_len}
 use Rattle.std.proofs.lemmas.List.Sums.{AllPass-from_list_all, fold-append, list_all-from_AllPass}
@@ -21,7 +21,8 @@ use Rattle.lv_edits.specs.History.{list_of, replayed}
 use Rattle.lv_edits.specs.Touch.{cells_of, is_whole, touched_by}
 use Rattle.lv_edits.proofs.TouchLaws.{cells_of-length, touched_by-le, touched_by_grows, touched_by_parent, untouched_since, whole_below, whole_from}
 use Rattle.lv_summary.specs.Table.{same_node}
-use Rattle.lv_summary.proofs.AgreesLaws.{same_node-eq}
+use Rattle.lv_summary.proofs.FoldableLaws.{part_can_fold}
+use Rattle.lv_summary.proofs.TableLaws.{same_node-eq}
 use Rattle.lv_refresh.specs.declared.contents.Contents.{Contents}
 use Rattle.lv_refresh.specs.declared.contents.Contents.TheVariants.{Children, Elements}
 use Rattle.lv_refresh.specs.declared.contents.Eight.{Eight}
@@ -252,13 +253,7 @@ module _ {S : Type 0} (o : Operations S) (within : S → ℕ → Type 0) (laws :
 
   -- the elements of any node can be folded where those of the whole list can
   pub cells_can_fold : (es : List Edit) (n : Node) → CanFold (list_of es) → CanFold (cells_of es n)
-  cells_can_fold es n can =
-      let w = 8 ^ n.level in
-      let first = n.number * w in
-      record {
-        few = omega (arith, can.few, length-take w (drop first (list_of es)), length-drop first (list_of es));
-        elements = All-take IsElement w (drop first (list_of es)) (All-drop IsElement first (list_of es) can.elements);
-      }
+  cells_can_fold es n can = part_can_fold (8 ^ n.level) (n.number * 8 ^ n.level) (list_of es) can
 
   -- summaries that are, one by one, the folds of the children's elements are the list of those folds
   pub summaries_in_order : (es : List Edit) (n : Node) (summaries : Eight S) → ((k : ℕ) → k < 8 → slice_get (in_order summaries) k ≡ Some (fold_of o (cells_of es (child n k)))) → in_order summaries ≡ map (λ k. fold_of o (cells_of es (child n k))) (range_with_len 0 8)

@@ -1,8 +1,13 @@
 mod ClaimLaws
 mod GatherLaws
+mod HintLaws
 mod JoinLaws
 mod MarkLaws
 mod NextLaws
+mod PickLaws
+mod RowLaws
 mod TestLaws
+mod TurnLaws
 pub mod HonestyLaws
+pub mod RecordLaws
 pub mod WantLaws

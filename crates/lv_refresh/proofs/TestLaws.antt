@@ -1,7 +1,6 @@
 -- How the vector of the tests goes on to be kept.
-use Rattle.std.proofs.Common.{◌≡◌, ℕ, ◌+◌, ◌*◌, ◌^◌, ◌<◌, ◌≤◌, true, false, ◌&&◌, ◌||◌, Option, Some, None, option_map, List, [], ◌∷◌, ◌++◌, length, refl, sym, ap, ◌∙◌, inl, inr, arith}
-use Rattle.std.specs.Prelude.{ℤ, Bool, cond}
-use Rattle.std.proofs.Math.Nat.{one-le-pow}
+use Rattle.std.proofs.Common.{◌≡◌, ℕ, ◌+◌, ◌*◌, ◌^◌, ◌<◌, ◌≤◌, true, ◌&&◌, ◌||◌, Some, None, option_map, List, [], ◌∷◌, ◌++◌, length, refl, sym, ap, ◌∙◌, inl, inr, arith}
+use Rattle.std.specs.Prelude.{ℤ}
 use Rattle.std.proofs.lemmas.Bool.{and_from, and_parts, cases_Bool, leb-true, le-leb, or_left, or_right}
 use Rattle.std.proofs.lemmas.List.{length_push}
 use Rattle.lv_geometry.specs.declared.nodes.Node.{Node}
@@ -14,12 +13,13 @@ use Rattle.lv_edits.specs.declared.edit.Edit.TheVariants.{Push}
 use Rattle.lv_edits.specs.History.{History, list_of, replayed}
 use Rattle.lv_edits.specs.Kept.{InLimits}
 use Rattle.lv_edits.specs.Touch.{cells_of, is_whole, touches}
-use Rattle.lv_edits.proofs.HistoryLaws.{list_of_replayed, replayed-nil}
+use Rattle.lv_edits.proofs.TouchLaws.{none_whole}
 use Rattle.lv_summary.specs.declared.accepted.Accepted.{Accepted}
 use Rattle.lv_summary.specs.declared.accepted.Accepted.TheVariants.{Held, Installed, Stale}
 use Rattle.lv_summary.specs.Table.{AfterDelivery, AnswersAlike, HasSize, Keeps, Table, Touches, blocks_in, delivery_in, kept_in, same_node, touched_in}
-use Rattle.lv_summary.proofs.AgreesLaws.{agrees_after_touch, agrees_alike, agrees_empty, agrees_installed}
-use Rattle.lv_summary.proofs.TableLaws.{current_of_installed}
+use Rattle.lv_summary.proofs.AgreesLaws.{agrees_after_touch, agrees_alike, agrees_empty, agrees_installed, whole_agrees}
+use Rattle.lv_summary.proofs.FoldableLaws.{can_fold}
+use Rattle.lv_summary.proofs.TableLaws.{current_of_installed, version_kept}
 use Rattle.lv_refresh.specs.declared.contents.Contents.{Contents}
 use Rattle.lv_refresh.specs.Claimed.{AreHints, ClaimTable, claim_blocks, claimed_in, is_hinted, record_of}
 use Rattle.lv_refresh.specs.Contents.{fold_of_contents}
@@ -28,14 +28,6 @@ use Rattle.lv_refresh.specs.Record.{Record, SameRecord}
 use Rattle.lv_refresh.specs.Tested.{IsKept}
 use Rattle.lv_refresh.proofs.HonestyLaws.{fold_of_standing, whole_of_wanted}
 use Rattle.lv_refresh.proofs.WantLaws.{wants_before_edit, wants_before_install}
-
--- no node of an empty vector is whole
-none_whole : (n : Node) → is_whole [] n ≡ true → ⊥
-none_whole n whole =
-    let below : (n.number + 1) * 8 ^ n.level ≤ length (list_of []) = leb-true ((n.number + 1) * 8 ^ n.level) (length (list_of [])) (and_parts (is_node n) (is_below n (length (list_of []))) whole).1 in
-    let none : length (list_of []) ≡ 0 = ap length (list_of_replayed [] [] replayed-nil) in
-    let some : 1 ≤ 8 ^ n.level = one-le-pow n.level 8 (omega arith) in
-    omega arith
 
 -- an empty vector, with rows for eight blocks
 pub kept_new : (edits : List Edit) (t u : Table ℕ) (c : ClaimTable) → edits ≡ [] → t.size ≡ 0 → ((n : Node) → touched_in t n ≡ 0) → ((n : Node) → kept_in t n ≡ None) → AnswersAlike t u → 8 ≤ blocks_in u → 8 ≤ claim_blocks c → IsKept edits u c
@@ -99,23 +91,18 @@ installed_inside es t c n v kept installed =
     let whole = and_parts (is_node n) (is_below n t.size) (current_of_installed t n v installed).0 in
     (whole.0, le-leb _ _ (omega (arith, leb-true ((n.number + 1) * 8 ^ n.level) t.size whole.1, kept.few, kept.claim_rows)))
 
--- the version of what is kept, where something was put in place of it
-option_map_cond : (b : Bool) (new : ℕ × ℕ) (old : Option (ℕ × ℕ)) → option_map (λ kept. kept.0) (cond b (Some new) old) ≡ cond b (Some new.0) (option_map (λ kept. kept.0) old)
-option_map_cond true new old = refl
-option_map_cond false new old = refl
-
 -- after the sum of contents that stand was installed, and the node's parent was hinted at
 pub kept_installed : (h : History) (t u : Table ℕ) (c d : ClaimTable) (r : Record) (n : Node) (v s : ℕ) (contents : Contents ℕ) → InLimits h → r.edits ≡ h.journal → Stands sum_operations r n contents → s ≡ fold_of_contents sum_operations contents → delivery_in t n v ≡ Installed → Keeps t u n v s → ((m : Node) → claimed_in d m ≡ claimed_in c m) → ((m : Node) → is_hinted d m ≡ ((is_node m && same_node m (parent n)) || is_hinted c m)) → claim_blocks d ≡ claim_blocks c → IsKept h.journal t c → IsKept h.journal u d
 kept_installed h t u c d r n v s contents limits edits stands folded installed keeps claimed hinted blocks kept =
     let es = h.journal in
     let current = current_of_installed t n v installed in
     let member = (and_parts (is_node n) (is_below n t.size) current.0).0 in
-    let can : CanFold (list_of r.edits) = rw edits record { few = omega (arith, limits.few); elements = limits.elements } in
+    let can : CanFold (list_of r.edits) = rw edits (can_fold h limits) in
     let sum : s ≡ fold_of sum_operations (cells_of es n) = folded ∙ fold_of_standing sum_operations IsSum sum_laws r n contents can stands ∙ ap (λ es. fold_of sum_operations (cells_of es n)) edits in
-    let now = λ (m : Node). ap (option_map (λ (kept : ℕ × ℕ). kept.0)) (keeps.kept m) ∙ option_map_cond (same_node m n) (v, s) (kept_in t m) in
+    let now = version_kept t u n v s keeps in
     record {
       agrees = agrees_installed sum_operations es t u n v s kept.agrees keeps current.0 current.1 sum;
-      hints = λ m wants. hinted m ∙ elim (wants_before_install (record_of es t c) (record_of es u d) n v refl claimed now (ap (λ size. is_node n && is_below n size) (sym kept.agrees.size) ∙ current.0) (sym (kept.agrees.touched n member) ∙ current.1) m wants) [
+      hints = λ m wants. hinted m ∙ elim (wants_before_install (record_of es t c) (record_of es u d) n v refl claimed now (whole_agrees sum_operations es t kept.agrees n ∙ current.0) (sym (kept.agrees.touched n member) ∙ current.1) m wants) [
         | inl before ↦ or_right (is_node m && same_node m (parent n)) (is_hinted c m) (kept.hints m before)
         | inr above ↦
             let inside : is_node m ≡ true = (and_parts (is_node m) (is_below m (length (list_of es))) (whole_of_wanted (record_of es u d) m wants)).0 in

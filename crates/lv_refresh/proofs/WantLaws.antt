@@ -2,7 +2,7 @@
 -- whole node when claims are forgotten.
 use Rattle.std.proofs.Common.{◌≡◌, ◌⊎◌, ℕ, ◌+◌, ◌-◌, ◌*◌, ◌/◌, ◌<◌, Bool, true, false, ◌&&◌, ◌||◌, not, Some, List, [], ◌∷◌, ◌++◌, nat_eq, if◌then◌else◌, refl, sym, ap, ◌∙◌, inl, inr, arith}
 use Rattle.std.specs.Prelude.{ℤ}
-use Rattle.std.proofs.lemmas.Bool.{and_from, and_parts, cases_Bool, cond-false, cond-true, eq-eqb, eqb-false, eqb-true, leb-true, or_left, true≢false}
+use Rattle.std.proofs.lemmas.Bool.{and_from, and_parts, cases_Bool, cond-false, cond-true, eq-eqb, eqb-false, eqb-true, leb-true, not-true, or_left, true≢false}
 use Rattle.lv_geometry.specs.declared.nodes.Node.{Node}
 use Rattle.lv_geometry.specs.Nodes.{child, is_node, parent}
 use Rattle.lv_edits.specs.declared.edit.Edit.{Edit}
@@ -10,8 +10,7 @@ use Rattle.lv_edits.specs.History.{applied, list_of, replayed}
 use Rattle.lv_edits.specs.Touch.{is_whole, touched_by, touches}
 use Rattle.lv_edits.proofs.TouchLaws.{touched_by-snoc, touches_parent, untouched_keeps}
 use Rattle.lv_summary.specs.Table.{same_node}
-use Rattle.lv_summary.proofs.AgreesLaws.{same_node-eq}
-use Rattle.lv_summary.proofs.TableLaws.{same_node-self}
+use Rattle.lv_summary.proofs.TableLaws.{same_node-eq, same_node-self}
 use Rattle.lv_refresh.proofs.HonestyLaws.{children_fresh_from, each_child_fresh}
 use Rattle.lv_refresh.specs.Claim.{children_fresh, wants_job}
 use Rattle.lv_refresh.specs.Record.{Record, SameRecord, is_fresh, is_version}
@@ -23,18 +22,13 @@ pub record Wants (r : Record) (n : Node) : Type 0 where
   pub unclaimed : is_version (touched_by r.edits n) (r.claimed n) ≡ false
   pub children : nat_eq n.level 1 || children_fresh r n ≡ true
 
--- a denied truth value is false
-of_not : (b : Bool) → not b ≡ true → b ≡ false
-of_not true denied = sym denied
-of_not false denied = refl
-
 -- a node that wants a job has the parts of a want
 pub wants_parts : (r : Record) (n : Node) → wants_job r n ≡ true → Wants r n
 wants_parts r n wants =
     let first = and_parts (is_whole r.edits n && not (is_fresh r n) && not (is_version (touched_by r.edits n) (r.claimed n))) (nat_eq n.level 1 || children_fresh r n) wants in
     let second = and_parts (is_whole r.edits n && not (is_fresh r n)) (not (is_version (touched_by r.edits n) (r.claimed n))) first.0 in
     let third = and_parts (is_whole r.edits n) (not (is_fresh r n)) second.0 in
-    record { whole = third.0; stale = of_not _ third.1; unclaimed = of_not _ second.1; children = first.1 }
+    record { whole = third.0; stale = not-true _ third.1; unclaimed = not-true _ second.1; children = first.1 }
 
 -- a node with the parts of a want wants a job
 pub wants_from : (r : Record) (n : Node) → Wants r n → wants_job r n ≡ true

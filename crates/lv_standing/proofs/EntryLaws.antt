@@ -151,12 +151,6 @@ some_query entries name w found = subst IsSome (sym (query_there entries name w 
     IsSome-Some : (q : Query) → IsSome (Some q)
     IsSome-Some q = refl
 
--- there is an element at each index
-pub there_is : {A : Type 0} (xs : List A) (i : ℕ) → i < length xs → (e : A) × (slice_get xs i ≡ Some e)
-there_is [] i h = absurd (omega arith)
-there_is (x ∷ xs) zero h = (x, refl)
-there_is (x ∷ xs) (suc i) h = there_is xs i (omega arith)
-
 -- what holds of all elements holds of the one at an index
 pub all_at : {A : Type 0} (P : A → Type 0) (xs : List A) (i : ℕ) (e : A) → AllByRecursion P xs → slice_get xs i ≡ Some e → P e
 all_at P [] i e all at = absurd (cc)

@@ -1,10 +1,9 @@
 -- Ranges of a list that reach past its end, and what an edit elsewhere leaves of a range.
-use Rattle.std.proofs.Common.{◌≡◌, ℕ, ℤ, pos, zero, suc, ◌+◌, ◌-◌, ◌⊎◌, min, ◌<◌, ◌≤◌, false, List, [], ◌∷◌, ◌++◌, length, take, drop, slice_range, slice_set, Some, None, ltb, ◌&&◌, refl, sym, ap, ◌∙◌, inl, inr, arith, length-drop, length-append, subst, get_or}
+use Rattle.std.proofs.Common.{◌≡◌, ℕ, ℤ, pos, ◌+◌, ◌-◌, ◌⊎◌, min, ◌<◌, ◌≤◌, false, List, [], ◌∷◌, ◌++◌, length, take, drop, slice_range, slice_set, Some, None, ltb, ◌&&◌, sym, ap, ◌∙◌, inl, inr, arith, length-drop, length-append, subst, get_or}
 use Rattle.std.proofs.lemmas.Bool.{cases_lt, lt-ltb, le-ltb, le-leb, false≢true}
 use Rattle.std.proofs.lemmas.Option.{cond_some}
-use Rattle.std.proofs.lemmas.List.{take_all, take-append-le, drop-append-le, drop-set-lt, drop-set-add, take-set-le, take_more, length-take-le}
-use Rattle.std.proofs.lemmas.List.Elements.{All-take, All-drop}
-use Rattle.lv_geometry.specs.Elements.{IsElement}
+use Rattle.std.proofs.Math.Seq.{take-nil}
+use Rattle.std.proofs.lemmas.List.{drop_all, take_all, take_more, length-take-le}
 use Rattle.lv_bodies.specs.Body.{CanFold}
 use Rattle.lv_edits.specs.declared.edit.Edit.{Edit}
 use Rattle.lv_edits.specs.declared.edit.Edit.TheVariants.{Push, Pop, Write, Reserve}
@@ -12,23 +11,13 @@ use Rattle.lv_edits.specs.History.{History, applied, list_of, replayed}
 use Rattle.lv_edits.specs.Kept.{InLimits}
 use Rattle.lv_edits.specs.Verdict.{verdict_of}
 use Rattle.lv_edits.proofs.HistoryLaws.{accepted_is_possible, list_of-snoc}
+use Rattle.lv_edits.proofs.Slices.{part_of_push, part_of_set}
+use Rattle.lv_summary.proofs.FoldableLaws.{can_fold, part_can_fold}
 use Rattle.lv_standing.specs.Standings.{has_index, index_changed}
-
--- past the end nothing is left
-drop_past : {A : Type 0} (xs : List A) (n : ℕ) → length xs ≤ n → drop n xs ≡ []
-drop_past [] zero h = refl
-drop_past [] (suc n) h = refl
-drop_past (x ∷ xs) zero h = absurd (omega (arith, h))
-drop_past (x ∷ xs) (suc n) h = drop_past xs n (omega (arith, h))
-
--- of nothing nothing is taken
-take_of_nothing : {A : Type 0} (n : ℕ) → take {A = A} n [] ≡ []
-take_of_nothing zero = refl
-take_of_nothing (suc n) = refl
 
 -- a range that starts past the end is empty
 empty_past : {A : Type 0} (xs : List A) (lo hi : ℕ) → length xs ≤ lo → slice_range xs lo hi ≡ []
-empty_past xs lo hi h = ap (take (hi - lo)) (drop_past xs lo h) ∙ take_of_nothing (hi - lo)
+empty_past xs lo hi h = ap (take (hi - lo)) (drop_all lo xs h) ∙ take-nil (hi - lo)
 
 -- a range that ends where it starts, or before, is empty
 empty_backwards : {A : Type 0} (xs : List A) (lo hi : ℕ) → hi ≤ lo → slice_range xs lo hi ≡ []
@@ -59,18 +48,7 @@ range_cut xs lo hi lo' hi' end start =
 
 -- a range of what a fold may go over is such
 pub range_can_fold : (h : History) (lo hi : ℕ) → InLimits h → CanFold (slice_range (list_of h.journal) lo hi)
-range_can_fold h lo hi limits = record {
-  few = omega (arith, length_of_range (list_of h.journal) lo hi, limits.few);
-  elements = All-take IsElement (hi - lo) (drop lo (list_of h.journal)) (All-drop IsElement lo (list_of h.journal) limits.elements);
-}
-  where
-    length_take : {A : Type 0} (n : ℕ) (xs : List A) → length (take n xs) ≤ length xs
-    length_take zero xs = omega arith
-    length_take (suc n) [] = omega arith
-    length_take (suc n) (x ∷ xs) = omega (arith, length_take n xs)
-
-    length_of_range : {A : Type 0} (xs : List A) (lo hi : ℕ) → length (slice_range xs lo hi) ≤ length xs
-    length_of_range xs lo hi = omega (arith, length_take (hi - lo) (drop lo xs), length-drop lo xs)
+range_can_fold h lo hi limits = part_can_fold (hi - lo) lo (list_of h.journal) (can_fold h limits)
 
 -- a range without an index ends at or before it, or starts after it
 pub without_index : (lo hi i : ℕ) → has_index lo hi (Some i) ≡ false → (hi ≤ i) ⊎ (i < lo)
@@ -89,22 +67,16 @@ more_elsewhere xs x lo hi (inr past) =
     empty_past (xs ++ x ∷ []) lo hi (omega (arith, length-append xs (x ∷ []))) ∙ sym (empty_past xs lo hi (omega arith))
 more_elsewhere xs x lo hi (inl inside) =
     elim (cases_lt lo hi) [
-      | inl before ↦
-          ap (take (hi - lo)) (drop-append-le lo xs (x ∷ []) (omega arith))
-          ∙ take-append-le (hi - lo) (drop lo xs) (x ∷ []) (omega (arith, length-drop lo xs))
+      | inl before ↦ part_of_push xs x lo (hi - lo) (omega arith)
       | inr backwards ↦ empty_backwards (xs ++ x ∷ []) lo hi backwards ∙ sym (empty_backwards xs lo hi backwards)
     ]
 
 -- another element at an index leaves a range without it
 set_elsewhere : {A : Type 0} (xs : List A) (i : ℕ) (x : A) (lo hi : ℕ) → (hi ≤ i) ⊎ (i < lo) → slice_range (slice_set xs i x) lo hi ≡ slice_range xs lo hi
-set_elsewhere xs i x lo hi (inr before) = ap (take (hi - lo)) (drop-set-lt lo xs i x before)
+set_elsewhere xs i x lo hi (inr before) = part_of_set xs i x lo (hi - lo) (inl before)
 set_elsewhere xs i x lo hi (inl past) =
     elim (cases_lt lo hi) [
-      | inl order ↦
-          let there : lo + (i - lo) ≡ i = omega arith in
-          ap (λ j. take (hi - lo) (drop lo (slice_set xs j x))) (sym there)
-          ∙ ap (take (hi - lo)) (drop-set-add lo xs (i - lo) x)
-          ∙ take-set-le (hi - lo) (drop lo xs) (i - lo) x (omega arith)
+      | inl order ↦ part_of_set xs i x lo (hi - lo) (inr (omega arith))
       | inr backwards ↦ empty_backwards (slice_set xs i x) lo hi backwards ∙ sym (empty_backwards xs lo hi backwards)
     ]
 

@@ -1,7 +1,7 @@
 -- How a table goes on agreeing with the edits: from the empty table, by growth, by a summary that is installed, and by
 -- one more edit.
-use Rattle.std.proofs.Common.{◌≡◌, ℕ, ℤ, ◌+◌, true, false, ◌&&◌, cond, if◌then◌else◌, Some, None, option_map, List, [], ◌∷◌, ◌++◌, length, nat_eq, refl, sym, ap, ◌∙◌, inl, inr, arith}
-use Rattle.std.proofs.lemmas.Bool.{and_from, and_parts, cases_Bool, cond-false, cond-true, eqb-true, eq-eqb}
+use Rattle.std.proofs.Common.{◌≡◌, ℕ, ℤ, ◌+◌, true, false, ◌&&◌, cond, if◌then◌else◌, Some, None, option_map, List, [], ◌∷◌, ◌++◌, length, refl, sym, ap, ◌∙◌, inl, inr, arith}
+use Rattle.std.proofs.lemmas.Bool.{and_from, cases_Bool, cond-false, cond-true, eq-eqb}
 use Rattle.std.proofs.lemmas.List.{length_push}
 use Rattle.std.proofs.lemmas.Option.{none-some, same_Some}
 use Rattle.std.specs.Option.{option_map_or}
@@ -15,13 +15,7 @@ use Rattle.lv_edits.proofs.HistoryLaws.{list_of_replayed, list_of-snoc, replayed
 use Rattle.lv_edits.proofs.TouchLaws.{touched_by-le, touched_by-none, touched_by-snoc, untouched_keeps}
 use Rattle.lv_summary.specs.Agrees.{Agrees}
 use Rattle.lv_summary.specs.Table.{AnswersAlike, HasSize, Keeps, Table, Touches, entry_in, has_version, kept_in, same_node, touched_in, whole_in}
-use Rattle.lv_summary.proofs.TableLaws.{entry_in-alike, entry_in-kept, entry_in-other, entry_of_fresh, fresh_of_entry, node_of_whole, whole_of_fresh}
-
--- two nodes that are one are equal
-pub same_node-eq : (n m : Node) → same_node n m ≡ true → n ≡ m
-same_node-eq n m same =
-    let parts = and_parts (nat_eq n.level m.level) (nat_eq n.number m.number) same in
-    ap (λ l. record n { level = l }) (eqb-true n.level m.level parts.0) ∙ ap (λ i. record m { number = i }) (eqb-true n.number m.number parts.1)
+use Rattle.lv_summary.proofs.TableLaws.{entry_in-alike, entry_in-kept, entry_in-other, entry_of_fresh, fresh_of_entry, node_of_whole, same_node-eq, whole_of_fresh}
 
 -- what an edit makes of a table: it has the size of the list, and the nodes that the edit touches have its number; what is
 -- kept stays
@@ -55,6 +49,10 @@ module _ {S : Type 0} (o : Operations S) where
         versions = λ n version s is. absurd (none-some (version, s) (sym (kept n) ∙ is));
         folds = λ n s is. absurd (none-some (touched_in t n, s) (sym (kept n) ∙ (entry_parts t n s is).1));
       }
+
+  -- whole nodes are the same by the edits and by a table that agrees
+  pub whole_agrees : (es : List Edit) (t : Table S) → Agrees o es t → (n : Node) → is_whole es n ≡ whole_in t n
+  whole_agrees es t agrees n = ap (λ size. is_node n && is_below n size) (sym agrees.size)
 
   -- a table that answers like one that agrees, agrees
   pub agrees_alike : (es : List Edit) (old new : Table S) → AnswersAlike old new → Agrees o es old → Agrees o es new

@@ -2,15 +2,14 @@
 use Rattle.std.proofs.Common.{◌≡◌, ℕ, ◌+◌, ◌-◌, ◌*◌, ◌/◌, ◌^◌, ◌<◌, ◌≤◌, true, false, ◌&&◌, cond, if◌then◌else◌, None, Some, length, nat_eq, nat_le, refl, sym, ap, ◌∙◌, inl, inr, arith}
 use Rattle.std.proofs.lemmas.Bool.{cases_Bool, cond_both, eqb-true, ne_eqb, true≢false}
 use Rattle.std.proofs.lemmas.List.{length-set}
-use Rattle.std.proofs.Math.Nat.{mul-le-mul_right}
-use Rattle.std.specs.Int.{div_ceil}
 use Rattle.lv_geometry.specs.declared.nodes.Node.{Node}
 use Rattle.lv_geometry.specs.Nodes.{covers, is_node}
+use Rattle.lv_geometry.proofs.NodeLaws.{level_of_node}
 use Rattle.lv_summary.specs.Inner.{IsLevel, IsRowOf, IsSound, filled, with_kept, with_touch}
 use Rattle.lv_summary.specs.Table.{AnswersAlike, HasSize, Keeps, Rows, Table, Touches, blocks_in, kept_in, no_rows, rows_for, same_node, touched_in, whole_in}
 use Rattle.lv_summary.proofs.LevelLaws.{IsLevel-empty, IsLevel-filled, IsLevel-with_kept, IsLevel-with_touch, kept_at, kept_at-filled, kept_at-with_kept, length-lengthened, touched_at, touched_at-filled, touched_at-with_touch}
 use Rattle.lv_summary.proofs.TableLaws.{node_of_whole}
-use Rattle.lv_summary.proofs.NodeRows.{IsRowOf-whole, blocks_in-rows, cond-and_false, cond-and_true, kept_in-inside, kept_in-outside, level_of_node, row_of_index, rows_at, touched_in-inside, touched_in-outside}
+use Rattle.lv_summary.proofs.NodeRows.{IsRowOf-whole, blocks_in-rows, cond-and_false, cond-and_true, kept_in-inside, kept_in-outside, row_of_index, rows_at, touched_in-inside, touched_in-outside}
 
 -- a table is sound by its rows
 pub IsSound-by_rows : {S : Type 0} (t : Table S) (blocks : ℕ) → blocks_in t ≡ blocks → blocks ≤ 131071 → t.size ≤ 8 * blocks → ((level : ℕ) → 1 ≤ level → level ≤ 6 → IsLevel blocks level (rows_at t level)) → IsSound t
@@ -142,12 +141,6 @@ Keeps-at {S} {old} {new} sound size n k version s whole at rows =
 abbrev pub HasRowsFilled : {S : Type 0} → Table S → Table S → ℕ → S → Type 0
 HasRowsFilled old new more blank =
     (level : ℕ) → 1 ≤ level → level ≤ 6 → (n : ℕ) × (rows_at new level ≡ filled (rows_at old level) n blank) × (8 * more ≤ n * 8 ^ level)
-
--- what the rows of a level are enough for, an eighth of them, rounded up, are enough for on the level above
-pub enough_above : (needed rows above width : ℕ) → above ≡ div_ceil rows 8 → needed ≤ rows * width → needed ≤ above * (width * 8)
-enough_above needed rows above width eighth enough =
-    let most : rows * width ≤ above * 8 * width = mul-le-mul_right width (omega (arith, eighth)) in
-    omega arith
 
 -- the more of two numbers of blocks have rows
 blocks_in-filled : {S : Type 0} (old new : Table S) (more : ℕ) (blank : S) → rows_at new 1 ≡ filled (rows_at old 1) more blank → blocks_in new ≡ blocks_in old + (more - blocks_in old)

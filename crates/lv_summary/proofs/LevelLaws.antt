@@ -4,7 +4,7 @@ use Rattle.std.proofs.lemmas.Bool.{cases_eq, cases_lt, cond-false, cond-true, eq
 use Rattle.std.proofs.lemmas.List.{get_or-append_right, get_or-replicate, get_or-set_other, get_or-set_same, get_or_append_left, get_or_past, length-append, length-replicate, length-set}
 use Rattle.std.proofs.lemmas.List.Elements.{All-append, All-nil, All-replicate, All-set}
 use Rattle.std.proofs.lemmas.Option.{slice_get-get_or, slice_get_past}
-use Rattle.std.proofs.Math.Nat.{mul-le-mul_right}
+use Rattle.lv_geometry.proofs.NodeLaws.{covers_more}
 use Rattle.lv_summary.specs.Inner.{IsLevel, filled, lengthened, with_kept, with_touch}
 use Rattle.lv_summary.specs.Table.{Rows, no_rows}
 
@@ -132,15 +132,6 @@ IsLevel-with_kept blocks level rows number version s h =
       covers = h.covers;
       edits = h.edits;
     }
-
--- enough rows for some blocks, made as many as are enough for others, are enough for the more of them
-covers_more : (rows blocks more n width : ℕ) → 8 * more ≤ n * width → 8 * blocks ≤ rows * width → 8 * (blocks + (more - blocks)) ≤ (rows + (n - rows)) * width
-covers_more rows blocks more n width enough covers =
-    let few : rows ≤ rows + (n - rows) = omega arith in
-    let many : n ≤ rows + (n - rows) = omega arith in
-    let least : rows * width ≤ (rows + (n - rows)) * width = mul-le-mul_right width few in
-    let most : n * width ≤ (rows + (n - rows)) * width = mul-le-mul_right width many in
-    elim (cases_lt blocks more) [ inl above ↦ omega arith | inr within ↦ omega arith ]
 
 -- rows that are added serve more blocks, if they are enough
 pub IsLevel-filled : {S : Type 0} (blocks more level : ℕ) (rows : Rows S) (n : ℕ) (blank : S) → 8 * more ≤ n * 8 ^ level → IsLevel blocks level rows → IsLevel (blocks + (more - blocks)) level (filled rows n blank)

@@ -1,14 +1,15 @@
 -- What a table says of a node, by the rows of its level.
-use Rattle.std.proofs.Common.{◌≡◌, ℕ, ◌+◌, ◌-◌, ◌*◌, ◌/◌, ◌^◌, ◌<◌, ◌≤◌, Bool, true, false, ◌&&◌, cond, Some, None, List, length, get_or, nat_eq, nat_le, nat_lt, slice_get, option_map, refl, sym, ap, subst, ◌∙◌, inl, inr, arith}
+use Rattle.std.proofs.Common.{◌≡◌, ℕ, ◌+◌, ◌-◌, ◌*◌, ◌/◌, ◌^◌, ◌<◌, ◌≤◌, Bool, true, false, ◌&&◌, cond, Some, None, length, get_or, nat_eq, nat_le, nat_lt, slice_get, option_map, refl, sym, ap, ◌∙◌, inl, inr, arith}
 use Rattle.std.specs.List.{slice_index_or}
-use Rattle.std.proofs.lemmas.Bool.{and_from, and_parts, cases_eq, cases_lt, cond-false, cond-true, eq-eqb, eqb-true, le-leb, le-ltb, leb-true, lt-leb, lt-ltb, ne_eqb}
+use Rattle.std.proofs.lemmas.Bool.{and_parts, cases_eq, cases_lt, cond-false, cond-true, eq-eqb, eqb-true, le-leb, le-ltb, leb-true, lt-leb, lt-ltb, ne_eqb}
 use Rattle.std.proofs.lemmas.List.{get_or_past}
 use Rattle.std.proofs.lemmas.List.Elements.{All-get_or}
 use Rattle.std.proofs.lemmas.Nat.{div_below}
-use Rattle.std.proofs.lemmas.Option.{slice_get_cases}
-use Rattle.std.proofs.Math.Nat.{div-mul-le_self, le_of_mul-le-mul_right, lt-div-mul-add, mul-le-mul_right, one-le-pow}
+use Rattle.std.proofs.Math.Nat.{div-mul-le_self, lt-div-mul-add, mul-le-mul_right}
 use Rattle.lv_geometry.specs.declared.nodes.Node.{Node}
 use Rattle.lv_geometry.specs.Nodes.{is_below, is_node}
+use Rattle.lv_geometry.proofs.NodeLaws.{at_each_level, level_of_node, number_below, some_width}
+use Rattle.lv_edits.proofs.Slices.{there_is}
 use Rattle.lv_summary.specs.Inner.{IsLevelOf, IsRowOf, IsSound}
 use Rattle.lv_summary.specs.Table.{Rows, Table, blocks_in, entry_in, fresh_in, has_version, kept_in, no_rows, rows_for, touched_in, whole_in}
 use Rattle.lv_summary.proofs.TableLaws.{node_of_whole}
@@ -17,32 +18,6 @@ use Rattle.lv_summary.proofs.LevelLaws.{kept_at, kept_by, kept_by-none, kept_by-
 -- the rows of a level
 abbrev pub rows_at : {S : Type 0} → Table S → ℕ → Rows S
 rows_at t level = slice_index_or t.levels (level - 1) no_rows
-
--- what holds at each number from 1 to 6 holds of each level
-pub at_each_level : (P : ℕ → Type 0) → P 1 → P 2 → P 3 → P 4 → P 5 → P 6 → (level : ℕ) → 1 ≤ level → level ≤ 6 → P level
-at_each_level P p1 p2 p3 p4 p5 p6 level low high =
-    elim (cases_eq level 1) [
-      | inl is ↦ subst P (sym is) p1
-      | inr not_1 ↦ elim (cases_eq level 2) [
-        | inl is ↦ subst P (sym is) p2
-        | inr not_2 ↦ elim (cases_eq level 3) [
-          | inl is ↦ subst P (sym is) p3
-          | inr not_3 ↦ elim (cases_eq level 4) [
-            | inl is ↦ subst P (sym is) p4
-            | inr not_4 ↦ elim (cases_eq level 5) [
-              | inl is ↦ subst P (sym is) p5
-              | inr not_5 ↦ let is : level ≡ 6 = omega arith in subst P (sym is) p6
-            ]
-          ]
-        ]
-      ]
-    ]
-
--- the level of a node of the table is one of the six
-pub level_of_node : (n : Node) → is_node n ≡ true → (1 ≤ n.level) × (n.level ≤ 6)
-level_of_node n inside =
-    let parts = and_parts _ _ inside in
-    (leb-true 1 n.level parts.0, leb-true n.level 6 parts.1)
 
 -- a choice by two tests, of which the first passes, is by the second
 pub cond-and_true : {A : Type 0} (a b : Bool) (x y : A) → a ≡ true → cond (a && b) x y ≡ cond b x y
@@ -77,14 +52,6 @@ pub blocks_in-rows : {S : Type 0} (t : Table S) → blocks_in t ≡ length (rows
 unfolding blocks_in
 blocks_in-rows t = refl
 
--- a node of the table is of one of the six levels
-pub node_of_level : (n : Node) → 1 ≤ n.level → n.level ≤ 6 → is_node n ≡ true
-node_of_level n low high = and_from _ _ (le-leb 1 n.level low) (le-leb n.level 6 high)
-
--- a node has at least one index
-width_some : (level : ℕ) → 0 < 8 ^ level
-width_some level = one-le-pow level 8 (omega arith)
-
 -- one more than a number fits into a quotient where the number is below it
 lt-quotient : (number size width : ℕ) → 0 < width → nat_lt number (size / width) ≡ nat_le ((number + 1) * width) size
 lt-quotient number size width some =
@@ -101,14 +68,14 @@ lt-quotient number size width some =
 pub below_by_shift : (n : Node) (size : ℕ) → 1 ≤ n.level → n.level ≤ 6 → nat_lt n.number (size / 2 ^ (3 * n.level)) ≡ is_below n size
 below_by_shift n size low high =
     ap (λ width. nat_lt n.number (size / width)) (at_each_level (λ level. 2 ^ (3 * level) ≡ 8 ^ level) refl refl refl refl refl refl n.level low high)
-    ∙ lt-quotient n.number size (8 ^ n.level) (width_some n.level)
+    ∙ lt-quotient n.number size (8 ^ n.level) (some_width n.level)
 
 -- each index of the blocks has its row on each level
 pub row_of_index : {S : Type 0} (t : Table S) (i level : ℕ) → IsSound t → i / 8 < blocks_in t → 1 ≤ level → level ≤ 6 → i / 8 ^ level < length (rows_at t level).touched
 row_of_index t i level sound inside low high =
     let covers = (sound.levels level low high).covers in
     let below : i < 8 * blocks_in t = omega arith in
-    div_below i (8 ^ level) (length (rows_at t level).touched) (width_some level) (omega arith)
+    div_below i (8 ^ level) (length (rows_at t level).touched) (some_width level) (omega arith)
 
 -- the level of a node that is whole is one of the six
 pub levels_of_whole : {S : Type 0} (t : Table S) (n : Node) → whole_in t n ≡ true → (1 ≤ n.level) × (n.level ≤ 6)
@@ -120,8 +87,7 @@ IsRowOf-whole t n sound whole =
     let level = level_of_node n (node_of_whole t n whole) in
     let even = sound.levels n.level level.0 level.1 in
     let below : (n.number + 1) * 8 ^ n.level ≤ t.size = leb-true ((n.number + 1) * 8 ^ n.level) t.size (and_parts (is_node n) (is_below n t.size) whole).1 in
-    let rows : (n.number + 1) * 8 ^ n.level ≤ length (rows_for t n).touched * 8 ^ n.level = omega (arith, sound.size, even.covers) in
-    let inside : n.number + 1 ≤ length (rows_for t n).touched = le_of_mul-le-mul_right rows (width_some n.level) in
+    let inside : n.number < length (rows_for t n).touched = number_below n.number (length (rows_for t n).touched) (8 ^ n.level) t.size (some_width n.level) below (omega (arith, sound.size, even.covers)) in
     record {
       whole = whole;
       level = refl;
@@ -130,11 +96,6 @@ IsRowOf-whole t n sound whole =
       kept = omega (arith, even.kept);
       edit = All-get_or (λ edit. edit ≤ 16777215) (rows_for t n).touched n.number 0 (omega arith) even.edits;
     }
-
--- a place of a list has an element
-element_at : {A : Type 0} (xs : List A) (i : ℕ) → i < length xs → (x : A) × (slice_get xs i ≡ Some x)
-element_at xs i inside =
-    elim ((slice_get_cases xs i).1) [ inl (x, _, is, _) ↦ (x, is) | inr (past, _) ↦ absurd (omega arith) ]
 
 -- a row with a stamp has a summary
 inside_by_stamp : {S : Type 0} (rows : Rows S) (k : ℕ) → 0 < get_or rows.stamps k 0 → length rows.kept ≡ length rows.stamps → k < length rows.kept
@@ -168,7 +129,7 @@ kept_in-by_row t n row s is =
 -- a node that is whole is fresh where the stamp of its row is one more than the edit that touched it
 pub fresh_in-by_row : {S : Type 0} (t : Table S) (n : Node) → IsRowOf t n (rows_for t n) → fresh_in t n ≡ nat_eq (get_or (rows_for t n).stamps n.number 0) (get_or (rows_for t n).touched n.number 0 + 1)
 fresh_in-by_row t n row =
-    let kept = element_at (rows_for t n).kept n.number row.kept in
+    let kept = there_is (rows_for t n).kept n.number row.kept in
     ap (λ whole. whole && has_version (touched_in t n) (kept_in t n)) row.whole
     ∙ ap (has_version (touched_in t n)) (kept_in-by_row t n row kept.0 kept.1)
     ∙ has_version-kept_by (touched_in t n) _ kept.0
@@ -210,6 +171,6 @@ version-some t n rows of some =
     let level = level_of_node n of.member in
     let even = of.sound.levels n.level level.0 level.1 in
     let stamp : get_or rows.stamps n.number 0 ≡ get_or (rows_for t n).stamps n.number 0 = ap (λ r. get_or r.stamps n.number 0) of.level in
-    let kept = element_at (rows_for t n).kept n.number (inside_by_stamp (rows_for t n) n.number (omega arith) (even.kept ∙ sym even.stamps)) in
+    let kept = there_is (rows_for t n).kept n.number (inside_by_stamp (rows_for t n) n.number (omega arith) (even.kept ∙ sym even.stamps)) in
     ap (option_map (λ kept. kept.0)) (kept_in-inside t n of.member ∙ ap (kept_by (get_or (rows_for t n).stamps n.number 0)) kept.1 ∙ kept_by-some _ kept.0 (omega arith))
     ∙ ap (λ k. Some (k - 1)) (sym stamp)

@@ -1,5 +1,5 @@
 -- What each change of a table makes of its answers, for the crates above.
-use Rattle.std.proofs.Common.{◌≡◌, ℕ, true, false, ◌&&◌, cond, Option, Some, None, option_map, nat_eq, refl, sym, ap, ◌∙◌, inl, inr}
+use Rattle.std.proofs.Common.{◌≡◌, ℕ, Bool, true, false, ◌&&◌, cond, Option, Some, None, option_map, nat_eq, refl, sym, ap, ◌∙◌, inl, inr}
 use Rattle.std.proofs.lemmas.Bool.{and_from, and_parts, and_right, cases_Bool, cond-false, cond-true, eq-eqb, eqb-true, false≢true}
 use Rattle.std.proofs.lemmas.Option.{none-some}
 use Rattle.lv_geometry.specs.declared.nodes.Node.{Node}
@@ -10,6 +10,16 @@ use Rattle.lv_summary.specs.Table.{AnswersAlike, HasSize, Keeps, Table, Touches,
 -- a node is itself
 pub same_node-self : (n : Node) → same_node n n ≡ true
 same_node-self n = and_from _ _ (eq-eqb n.level n.level refl) (eq-eqb n.number n.number refl)
+
+-- two nodes that are one are equal
+pub same_node-eq : (n m : Node) → same_node n m ≡ true → n ≡ m
+same_node-eq n m same =
+    let parts = and_parts (nat_eq n.level m.level) (nat_eq n.number m.number) same in
+    ap (λ l. record n { level = l }) (eqb-true n.level m.level parts.0) ∙ ap (λ i. record m { number = i }) (eqb-true n.number m.number parts.1)
+
+-- a node that is another is of the table where the other is
+pub node_of_same : (n m : Node) → same_node n m ≡ true → is_node m ≡ true → is_node n ≡ true
+node_of_same n m same member = ap is_node (same_node-eq n m same) ∙ member
 
 module _ {S : Type 0} where
   -- tables of one size have the same whole nodes
@@ -98,6 +108,14 @@ module _ {S : Type 0} where
   -- what is kept for the node of a summary that was put in place
   pub kept_in-kept : (old new : Table S) (n : Node) (version : ℕ) (s : S) → Keeps old new n version s → kept_in new n ≡ Some (version, s)
   kept_in-kept old new n version s keeps = keeps.kept n ∙ cond-true _ _ _ (same_node-self n)
+
+  -- what is kept for each node has the version that it had, and that of the summary for its node
+  pub version_kept : (old new : Table S) (n : Node) (version : ℕ) (s : S) → Keeps old new n version s → (m : Node) → option_map (λ kept. kept.0) (kept_in new m) ≡ cond (same_node m n) (Some version) (option_map (λ kept. kept.0) (kept_in old m))
+  version_kept old new n version s keeps m = ap (option_map (λ kept. kept.0)) (keeps.kept m) ∙ option_map_cond (same_node m n) (version, s) (kept_in old m)
+    where
+      option_map_cond : (b : Bool) (new : ℕ × S) (old : Option (ℕ × S)) → option_map (λ kept. kept.0) (cond b (Some new) old) ≡ cond b (Some new.0) (option_map (λ kept. kept.0) old)
+      option_map_cond true new old = refl
+      option_map_cond false new old = refl
 
   -- the node of a summary that was put in place is fresh where it is whole and was touched last by the edit of that number
   pub fresh_in-kept : (old new : Table S) (n : Node) (version : ℕ) (s : S) → Keeps old new n version s → fresh_in new n ≡ whole_in old n && nat_eq version (touched_in old n)

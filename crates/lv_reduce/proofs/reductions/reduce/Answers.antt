@@ -1,11 +1,13 @@
 use Rattle.std.proofs.Common.{◌≡◌, ◌-◌, ◌+◌, ◌^◌, ◌<◌, ◌≤◌, FitsSigned, length, rules, refl, subst, sym, ◌∙◌, arith}
 use Rattle.std.specs.Int.{w64}
 use Rattle.std.proofs.lemmas.Int.{to_z-of_z}
+use Rattle.lv_geometry.proofs.NodeLaws.{some_width}
 use Rattle.lv_edits.specs.History.{list_of}
 use Rattle.lv_summary.specs.Table.{fresh_in}
 use Rattle.lv_reduce.proofs.Bounds.{few_reads}
-use Rattle.lv_reduce.proofs.NodeLaws.{cell_fits, some_width}
-use Rattle.lv_reduce.proofs.PieceLaws.{can_fold, piece_folds, slice-joined, slice-nothing, slice-within, slices_can_join}
+use Rattle.lv_reduce.proofs.NodeLaws.{cell_fits}
+use Rattle.lv_summary.proofs.FoldableLaws.{can_fold}
+use Rattle.lv_reduce.proofs.PieceLaws.{piece_folds, slice-joined, slice-nothing, slice-within, slices_can_join}
 use Rattle.lv_reduce.proofs.ScanLaws.{fold_of-slice-more}
 use Rattle.lv_reduce.proofs.GreatestLaws.{fresh_of_piece}
 use Rattle.lv_reduce.proofs.Walk.{walk_cell, walk_node, walk_ends, walk_starts}

@@ -1,6 +1,6 @@
 use Rattle.std.proofs.Common.{◌≡◌, ap, get_or, ◌∙◌, sym}
 use Rattle.lv_refresh.specs.Claimed.{version_of}
-use Rattle.lv_refresh.proofs.NextLaws.{Passes-from, Picks-from, hints_after, row_of_wanted}
+use Rattle.lv_refresh.proofs.PickLaws.{Passes-from, Picks-from, hints_after, row_of_wanted}
 use Rattle.lv_refresh.proofs.claims.next_of.Goals as goal
 
 pub claim-requires-clause-inside : goal.claim-requires-clause-inside

@@ -1,7 +1,8 @@
 use Rattle.std.proofs.Common.{ap, arith, sym, ◌∙◌}
 use Rattle.std.proofs.lemmas.Bool.{and_parts}
 use Rattle.lv_summary.specs.Table.{entry_in}
-use Rattle.lv_refresh.proofs.GatherLaws.{at_each_child, children_fit}
+use Rattle.lv_geometry.proofs.NodeLaws.{at_each_child}
+use Rattle.lv_refresh.proofs.GatherLaws.{children_fit}
 use Rattle.lv_refresh.proofs.gathering.children_of.Goals as goal
 
 pub child_of-requires-clause-fits : goal.child_of-requires-clause-fits

@@ -1,7 +1,8 @@
 use Rattle.std.proofs.Common.{◌≤◌, ap, arith, sym, ◌∙◌}
 use Rattle.lv_geometry.specs.Nodes.{is_below}
 use Rattle.std.specs.Prelude.{◌&&◌}
-use Rattle.lv_summary.proofs.NodeRows.{below_by_shift, node_of_level}
+use Rattle.lv_geometry.proofs.NodeLaws.{node_of_level}
+use Rattle.lv_summary.proofs.NodeRows.{below_by_shift}
 use Rattle.lv_summary.proofs.summaries.is_whole.Goals as goal
 
 pub returns : goal.returns

@@ -1,5 +1,5 @@
 use Rattle.std.proofs.Common.{arith, sym, ◌∙◌}
-use Rattle.lv_refresh.proofs.ClaimLaws.{claim_blocks-rows, rows_fit}
+use Rattle.lv_refresh.proofs.RowLaws.{claim_blocks-rows, rows_fit}
 use Rattle.lv_refresh.proofs.claims.Claims.blocks.Goals as goal
 
 pub overflow_cast-result : goal.overflow_cast-result

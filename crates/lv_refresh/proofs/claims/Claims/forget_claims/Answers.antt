@@ -1,5 +1,6 @@
 use Rattle.lv_refresh.specs.Inner.{claims_of}
-use Rattle.lv_refresh.proofs.ClaimLaws.{AreClaims-forgot, at_each_level, claim_blocks-forgot, claimed_in-forgot, is_hinted-forgot}
+use Rattle.lv_geometry.proofs.NodeLaws.{at_each_level}
+use Rattle.lv_refresh.proofs.ClaimLaws.{AreClaims-forgot, claim_blocks-forgot, claimed_in-forgot, is_hinted-forgot}
 use Rattle.lv_refresh.proofs.claims.Claims.forget_claims.Goals as goal
 
 pub invariant_of-self : goal.invariant_of-self

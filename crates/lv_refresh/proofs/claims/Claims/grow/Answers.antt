@@ -1,6 +1,7 @@
 use Rattle.std.proofs.Common.{◌*◌, ◌≤◌, arith}
 use Rattle.lv_refresh.specs.Inner.{FillsClaims, claims_of}
-use Rattle.lv_refresh.proofs.ClaimLaws.{AreClaims-filled, FillsAll, at_each_level, claim_blocks_enough, claim_blocks_more, claimed_in-filled, enough_above, is_hinted-filled}
+use Rattle.lv_geometry.proofs.NodeLaws.{at_each_level, enough_above}
+use Rattle.lv_refresh.proofs.ClaimLaws.{AreClaims-filled, FillsAll, claim_blocks_enough, claim_blocks_more, claimed_in-filled, is_hinted-filled}
 use Rattle.lv_refresh.proofs.claims.Claims.grow.Goals as goal
 
 -- every level is filled up to the rows that its indices need

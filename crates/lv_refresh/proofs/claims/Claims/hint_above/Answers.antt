@@ -1,5 +1,7 @@
 use Rattle.std.proofs.Common.{arith, refl}
-use Rattle.lv_refresh.proofs.ClaimLaws.{AreClaims-hinted, HintsNode-by_rows, at_each_level, hint_of_parent, level_hinted, level_stays}
+use Rattle.lv_geometry.proofs.NodeLaws.{at_each_level}
+use Rattle.lv_refresh.proofs.HintLaws.{AreClaims-hinted, HintsNode-by_rows, level_hinted, level_stays}
+use Rattle.lv_refresh.proofs.RowLaws.{hint_of_parent}
 use Rattle.lv_refresh.proofs.claims.Claims.hint_above.Goals as goal
 
 pub hint-requires : goal.hint-requires

@@ -1,4 +1,5 @@
-use Rattle.lv_refresh.proofs.ClaimLaws.{AreClaims-empty, at_each_level, claim_blocks-empty, claimed_in-empty}
+use Rattle.lv_geometry.proofs.NodeLaws.{at_each_level}
+use Rattle.lv_refresh.proofs.ClaimLaws.{AreClaims-empty, claim_blocks-empty, claimed_in-empty}
 use Rattle.lv_refresh.proofs.claims.Claims.new.Goals as goal
 
 pub invariant_of-result : goal.invariant_of-result

@@ -1,6 +1,6 @@
 use Rattle.std.proofs.Common.{arith, refl}
-use Rattle.lv_refresh.proofs.ClaimLaws.{at_each_level}
-use Rattle.lv_refresh.proofs.NextLaws.{AreClaims-last, AreClaims-served, CanServe-from, ServesNext-last, ServesNode-at, turn_left, turn_passed, turn_served}
+use Rattle.lv_geometry.proofs.NodeLaws.{at_each_level}
+use Rattle.lv_refresh.proofs.TurnLaws.{AreClaims-last, AreClaims-served, CanServe-from, ServesNext-last, ServesNode-at, turn_left, turn_passed, turn_served}
 use Rattle.lv_refresh.proofs.claims.Claims.next.Goals as goal
 
 pub next_of-requires : goal.next_of-requires

@@ -1,4 +1,5 @@
-use Rattle.lv_refresh.proofs.ClaimLaws.{AreClaims-touched, at_each_level, claim_blocks-touched, claimed_in-touched, is_hinted-touched}
+use Rattle.lv_geometry.proofs.NodeLaws.{at_each_level}
+use Rattle.lv_refresh.proofs.HintLaws.{AreClaims-touched, claim_blocks-touched, claimed_in-touched, is_hinted-touched}
 use Rattle.lv_refresh.proofs.claims.Claims.touch.Goals as goal
 
 pub invariant_of-self : goal.invariant_of-self

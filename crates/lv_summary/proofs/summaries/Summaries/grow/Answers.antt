@@ -1,7 +1,7 @@
 use Rattle.std.proofs.Common.{◌≡◌, ◌*◌, ◌≤◌, ap, arith, refl, ◌∙◌}
+use Rattle.lv_geometry.proofs.NodeLaws.{at_each_level, enough_above}
 use Rattle.lv_summary.specs.Inner.{filled, table_of}
-use Rattle.lv_summary.proofs.Changes.{AnswersAlike-by_rows, HasRowsFilled, IsSound-filled, blocks_in_enough, blocks_in_more, enough_above}
-use Rattle.lv_summary.proofs.NodeRows.{at_each_level}
+use Rattle.lv_summary.proofs.Changes.{AnswersAlike-by_rows, HasRowsFilled, IsSound-filled, blocks_in_enough, blocks_in_more}
 use Rattle.lv_summary.proofs.summaries.Summaries.grow.Given.{Over}
 use Rattle.lv_summary.proofs.summaries.Summaries.grow.Goals as goal
 

@@ -1,6 +1,7 @@
 use Rattle.std.proofs.Common.{◌≡◌, arith, refl}
 use Rattle.lv_summary.proofs.Changes.{IsSound-kept, Keeps-at}
-use Rattle.lv_summary.proofs.NodeRows.{at_each_level, levels_of_whole}
+use Rattle.lv_geometry.proofs.NodeLaws.{at_each_level}
+use Rattle.lv_summary.proofs.NodeRows.{levels_of_whole}
 use Rattle.lv_summary.proofs.summaries.Summaries.keep.Goals as goal
 
 pub invariant_of-self : goal.invariant_of-self

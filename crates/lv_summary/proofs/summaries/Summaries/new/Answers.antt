@@ -1,6 +1,6 @@
 use Rattle.std.proofs.Common.{refl}
+use Rattle.lv_geometry.proofs.NodeLaws.{at_each_level}
 use Rattle.lv_summary.proofs.Changes.{IsSound-empty, blocks_in-empty, kept_in-empty, touched_in-empty}
-use Rattle.lv_summary.proofs.NodeRows.{at_each_level}
 use Rattle.lv_summary.proofs.summaries.Summaries.new.Goals as goal
 
 pub invariant_of-result : goal.invariant_of-result

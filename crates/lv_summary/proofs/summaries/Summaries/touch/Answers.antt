@@ -1,6 +1,6 @@
 use Rattle.std.proofs.Common.{refl}
+use Rattle.lv_geometry.proofs.NodeLaws.{at_each_level}
 use Rattle.lv_summary.proofs.Changes.{IsSound-touched, Touches-by_rows}
-use Rattle.lv_summary.proofs.NodeRows.{at_each_level}
 use Rattle.lv_summary.proofs.summaries.Summaries.touch.Goals as goal
 
 pub invariant_of-self : goal.invariant_of-self
