@@ -3,9 +3,9 @@ use Rattle.std.proofs.Common.{◌≡◌, ℕ, ℤ, ◌+◌, ◌^◌, ◌≤◌, 
 use Rattle.std.specs.Int.{int_max, cast_signed, cast_unsigned, w128}
 use Rattle.std.proofs.lemmas.Int.{ints, to_z-of_z}
 use Rattle.lv_bodies.specs.Body.{CanJoin}
-use Rattle.lv_bodies.specs.Runs.{join_runs, IsTotalOf, IsRunOf}
-use Rattle.lv_bodies.specs.RunLaws.{same_runs, greater, more_elements, joined_elements}
-use Rattle.lv_bodies.specs.declared.best.Run.{Run}
+use Rattle.lv_bodies.specs.RunTotals.{join_totals, IsTotalOf, AreTotalsOf}
+use Rattle.lv_bodies.specs.TotalsLaws.{same_runs, greater, more_elements, joined_elements}
+use Rattle.lv_bodies.specs.declared.best.RunTotals.{RunTotals}
 
 -- a number as the code reads it back from its 128 bits
 abbrev pub read_back : ℤ → ℤ
@@ -23,14 +23,14 @@ sum_fits n m x y few p q =
     simp to_z-of_z (omega (arith, ints))
 
 -- the sums by which two runs are joined fit
-pub record SumsFit (r s : Run) : Type 0 where
+pub record SumsFit (r s : RunTotals) : Type 0 where
   pub total : FitsSigned w128 (read_back r.total +ℤ read_back s.total)
   pub prefix : FitsSigned w128 (read_back r.total +ℤ read_back s.prefix)
   pub suffix : FitsSigned w128 (read_back s.total +ℤ read_back r.suffix)
   pub best : FitsSigned w128 (read_back r.suffix +ℤ read_back s.prefix)
 
 -- they fit where the runs may be joined
-pub SumsFit-can_join : (r s : Run) → CanJoin IsRunOf r s → SumsFit r s
+pub SumsFit-can_join : (r s : RunTotals) → CanJoin AreTotalsOf r s → SumsFit r s
 SumsFit-can_join r s h =
     let n = h.left in
     let m = h.right in
@@ -61,12 +61,12 @@ greater_read : (x y a b : ℤ) → a ≡ x → b ≡ y → int_max a b ≡ int_m
 greater_read x y a b e f = ap (λ z. int_max z b) e ∙ ap (int_max x) f
 
 -- what the code computes is the runs joined
-pub joined_by_code : (r s : Run) → CanJoin IsRunOf r s → (prefix suffix inner best : ℤ)
+pub joined_by_code : (r s : RunTotals) → CanJoin AreTotalsOf r s → (prefix suffix inner best : ℤ)
     → prefix ≡ int_max (read_back r.prefix) (read_back (read_back r.total +ℤ read_back s.prefix))
     → suffix ≡ int_max (read_back s.suffix) (read_back (read_back s.total +ℤ read_back r.suffix))
     → inner ≡ int_max (read_back r.best) (read_back s.best)
     → best ≡ int_max (read_back inner) (read_back (read_back r.suffix +ℤ read_back s.prefix))
-    → ◌≡◌ {A = Run} record { total = read_back (read_back r.total +ℤ read_back s.total); prefix = read_back prefix; suffix = read_back suffix; best = read_back best } (join_runs r s)
+    → ◌≡◌ {A = RunTotals} record { total = read_back (read_back r.total +ℤ read_back s.total); prefix = read_back prefix; suffix = read_back suffix; best = read_back best } (join_totals r s)
 joined_by_code r s h prefix suffix inner best d e f g =
     let n = h.left in
     let m = h.right in
@@ -81,7 +81,7 @@ joined_by_code r s h prefix suffix inner best d e f g =
     let inner_is = f ∙ greater_read r.best _ _ _ (read_total n r.best (omega arith) p.best) (read_total m s.best (omega arith) q.best) in
     let inner_read = ap read_back inner_is ∙ read_total (n + m) (int_max r.best s.best) few (greater (n + m) r.best s.best left.best right.best) in
     let best_is = g ∙ greater_read (int_max r.best s.best) _ _ _ inner_read (read_sum n m r.suffix s.prefix few p.suffix q.prefix) in
-    same_runs _ (join_runs r s) (read_sum n m r.total s.total few p.total q.total)
+    same_runs _ (join_totals r s) (read_sum n m r.total s.total few p.total q.total)
     (ap read_back prefix_is ∙ read_total (n + m) _ few joined.prefix)
     (ap read_back suffix_is ∙ read_total (n + m) _ few joined.suffix)
     (ap read_back best_is ∙ read_total (n + m) _ few joined.best)

@@ -8,10 +8,10 @@ use Rattle.lv_bodies.specs.Sums.{sum_operations}
 use Rattle.lv_bodies.specs.SumLaws.{fold_of-sum}
 use Rattle.lv_bodies.specs.Extremes.{least_operations, greatest_operations}
 use Rattle.lv_bodies.specs.ExtremeLaws.{fold_of-least, fold_of-greatest}
-use Rattle.lv_bodies.specs.Runs.{best_operations}
+use Rattle.lv_bodies.specs.RunTotals.{best_operations}
 use Rattle.lv_bodies.specs.BestLaws.{fold_of-best}
-use Rattle.lv_bodies.specs.Lines.{affine_operations}
-use Rattle.lv_bodies.specs.LineLaws.{fold_of-affine, shown_alike}
+use Rattle.lv_bodies.specs.AffineMaps.{affine_operations}
+use Rattle.lv_bodies.specs.AffineLaws.{fold_of-affine, shown_alike}
 use Rattle.lv_bodies.specs.Tables.{automaton_operations}
 use Rattle.lv_bodies.specs.TableLaws.{fold_of-automaton}
 use Rattle.lv_bodies.specs.Six.{SixMeaning, SixSummary, six_operations, table_of_six, face_of}

@@ -10,8 +10,8 @@ use Rattle.lv_bodies.specs.Body.{fold_of}
 use Rattle.lv_bodies.specs.Plain.{total, plain_best, IsPlainBest}
 use Rattle.lv_bodies.specs.PlainLaws.{HasTotal, plain_best-is, same_best}
 use Rattle.lv_bodies.specs.Optional.{join_of_both}
-use Rattle.lv_bodies.specs.Runs.{run_of, join_runs, best_operations}
-use Rattle.lv_bodies.specs.declared.best.Run.{Run}
+use Rattle.lv_bodies.specs.RunTotals.{totals_of, join_totals, best_operations}
+use Rattle.lv_bodies.specs.declared.best.RunTotals.{RunTotals}
 
 -- one more element adds to the total
 total-push : (xs : List ℤ) (x : ℤ) → total (xs ++ x ∷ []) ≡ total xs +ℤ x
@@ -36,14 +36,14 @@ run_to_end : (xs : List ℤ) (i : ℕ) → slice_range xs i (length xs) ≡ drop
 run_to_end xs i = take_all (length xs - i) (drop i xs) (omega (arith, length-drop i xs))
 
 -- what is kept of some neighbours is true of them: the greatest total that ends with the last, and of all runs
-record IsKept (xs : List ℤ) (r : Run) : Type 0 where
+record IsKept (xs : List ℤ) (r : RunTotals) : Type 0 where
   suffix_reached : (i : ℕ) × (i < length xs) × (total (drop i xs) ≡ r.suffix)
   suffix_bound : (i : ℕ) → i < length xs → total (drop i xs) ≤ℤ r.suffix
   best_reached : HasTotal xs r.best
   best_bound : (i j : ℕ) → i < j → j ≤ length xs → total (slice_range xs i j) ≤ℤ r.best
 
 -- what is kept of one element is true of it
-kept_of_one : (x : ℤ) → IsKept (x ∷ []) (run_of x)
+kept_of_one : (x : ℤ) → IsKept (x ∷ []) (totals_of x)
 kept_of_one x = record {
   suffix_reached = (0, omega arith, total-single x);
   suffix_bound = λ i p. let e : i ≡ 0 = omega arith in rw e (omega (arith, ints));
@@ -61,7 +61,7 @@ module _ (xs : List ℤ) (x : ℤ) where
   last_alone = end_of_push xs x (length xs) (omega arith) ∙ ap (λ zs. total zs +ℤ x) (drop_all (length xs) xs (omega arith)) ∙ total-single x
 
 -- with one more element, what is kept stays true
-module _ (xs : List ℤ) (r : Run) (x : ℤ) (h : IsKept xs r) where
+module _ (xs : List ℤ) (r : RunTotals) (x : ℤ) (h : IsKept xs r) where
   -- the greatest total that ends with it is that of some end
   next_suffix_reached : (i : ℕ) × (i < length (xs ++ x ∷ [])) × (total (drop i (xs ++ x ∷ [])) ≡ int_max x (x +ℤ r.suffix))
   next_suffix_reached =
@@ -111,7 +111,7 @@ module _ (xs : List ℤ) (r : Run) (x : ℤ) (h : IsKept xs r) where
       ]
 
   -- what is kept of the list and one more element is true of both
-  kept_of_more : IsKept (xs ++ x ∷ []) (join_runs r (run_of x))
+  kept_of_more : IsKept (xs ++ x ∷ []) (join_totals r (totals_of x))
   kept_of_more = record {
     suffix_reached = next_suffix_reached;
     suffix_bound = next_suffix_bound;
@@ -120,26 +120,26 @@ module _ (xs : List ℤ) (r : Run) (x : ℤ) (h : IsKept xs r) where
   }
 
 -- what is kept of a list is true of it, and nothing is kept of no elements
-KeepsBest : List ℤ → Option Run → Type 0
+KeepsBest : List ℤ → Option RunTotals → Type 0
 KeepsBest xs None = xs ≡ []
 KeepsBest xs (Some r) = IsKept xs r
 
 -- one step of the fold keeps it so
-keeps_more : (xs : List ℤ) (s : Option Run) (x : ℤ) → KeepsBest xs s → KeepsBest (xs ++ x ∷ []) (join_of_both join_runs s (Some (run_of x)))
+keeps_more : (xs : List ℤ) (s : Option RunTotals) (x : ℤ) → KeepsBest xs s → KeepsBest (xs ++ x ∷ []) (join_of_both join_totals s (Some (totals_of x)))
 unfolding KeepsBest
-keeps_more xs None x e = subst (λ ys. IsKept (ys ++ x ∷ []) (run_of x)) (sym e) (kept_of_one x)
+keeps_more xs None x e = subst (λ ys. IsKept (ys ++ x ∷ []) (totals_of x)) (sym e) (kept_of_one x)
 keeps_more xs (Some r) x h = kept_of_more xs r x h
 
 -- a fold that goes on keeps it so
-keeps_all : (xs : List ℤ) (s : Option Run) (ys : List ℤ) → KeepsBest xs s → KeepsBest (xs ++ ys) (fold (λ t x. join_of_both join_runs t (Some (run_of x))) s ys)
+keeps_all : (xs : List ℤ) (s : Option RunTotals) (ys : List ℤ) → KeepsBest xs s → KeepsBest (xs ++ ys) (fold (λ t x. join_of_both join_totals t (Some (totals_of x))) s ys)
 keeps_all xs s [] h = subst (λ zs. KeepsBest zs s) (sym (append-nil xs)) h
 keeps_all xs s (y ∷ ys) h =
-    let t = join_of_both join_runs s (Some (run_of y)) in
-    subst (λ zs. KeepsBest zs (fold (λ u x. join_of_both join_runs u (Some (run_of x))) t ys)) (append_assoc xs (y ∷ []) ys)
+    let t = join_of_both join_totals s (Some (totals_of y)) in
+    subst (λ zs. KeepsBest zs (fold (λ u x. join_of_both join_totals u (Some (totals_of x))) t ys)) (append_assoc xs (y ∷ []) ys)
     (keeps_all (xs ++ y ∷ []) t ys (keeps_more xs s y h))
 
 -- the best total that is kept is the plain one
-best_of_kept : (xs : List ℤ) (s : Option Run) → KeepsBest xs s → IsPlainBest xs (option_map (λ r. r.best) s)
+best_of_kept : (xs : List ℤ) (s : Option RunTotals) → KeepsBest xs s → IsPlainBest xs (option_map (λ r. r.best) s)
 unfolding KeepsBest
 best_of_kept xs None e = record { none = (λ _. e, λ _. refl); reached = _; bound = _ }
 best_of_kept [] (Some r) h = absurd (omega (arith, h.suffix_reached.1))

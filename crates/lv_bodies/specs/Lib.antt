@@ -6,8 +6,8 @@ pub mod EqualLaws
 pub mod ExtremeLaws
 pub mod Extremes
 pub mod FoldLaws
-pub mod LineLaws
-pub mod Lines
+pub mod AffineLaws
+pub mod AffineMaps
 pub mod Optional
 pub mod OptionalLaws
 pub mod PairLaws
@@ -15,8 +15,8 @@ pub mod Pairs
 pub mod Plain
 pub mod PlainLaws
 pub mod RemainderLaws
-pub mod RunLaws
-pub mod Runs
+pub mod TotalsLaws
+pub mod RunTotals
 pub mod Scan
 pub mod Six
 pub mod SumLaws

@@ -6,11 +6,11 @@ use Rattle.lv_bodies.specs.Plain.{program_table}
 use Rattle.lv_bodies.specs.Pairs.{pair_operations}
 use Rattle.lv_bodies.specs.Sums.{sum_operations}
 use Rattle.lv_bodies.specs.Extremes.{least_operations, greatest_operations}
-use Rattle.lv_bodies.specs.Runs.{best_operations}
-use Rattle.lv_bodies.specs.Lines.{affine_operations}
+use Rattle.lv_bodies.specs.RunTotals.{best_operations}
+use Rattle.lv_bodies.specs.AffineMaps.{affine_operations}
 use Rattle.lv_bodies.specs.Tables.{automaton_operations}
-use Rattle.lv_bodies.specs.declared.best.Run.{Run}
-use Rattle.lv_bodies.specs.declared.affine.Line.{Line}
+use Rattle.lv_bodies.specs.declared.best.RunTotals.{RunTotals}
+use Rattle.lv_bodies.specs.declared.affine.AffineMap.{AffineMap}
 use Rattle.lv_bodies.specs.declared.sixes.Six.{Six}
 use Rattle.lv_bodies.specs.declared.kinds.Kind.{Kind}
 use Rattle.lv_bodies.specs.declared.kinds.Kind.TheVariants.{Sum, Least, Greatest, Best, Affine, Automaton}
@@ -35,7 +35,7 @@ six_meaning = (tt, (tt, (tt, (tt, (tt, program_table)))))
 
 -- the six summaries
 abbrev pub SixSummary : Type 0
-SixSummary = ℕ × (Option ℤ × (Option ℤ × (Option Run × (Line × List ℕ))))
+SixSummary = ℕ × (Option ℤ × (Option ℤ × (Option RunTotals × (AffineMap × List ℕ))))
 
 -- each of the six by its own operations
 abbrev pub six_operations : SixMeaning → Operations SixSummary

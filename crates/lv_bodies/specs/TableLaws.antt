@@ -13,7 +13,7 @@ use Rattle.lv_bodies.specs.Body.{BodyLaws, fold_of}
 use Rattle.lv_bodies.specs.Plain.{remainder, state_from, plain_automaton}
 use Rattle.lv_bodies.specs.ElementLaws.{map-map, map_alike, All-range}
 use Rattle.lv_bodies.specs.EqualLaws.{both_true}
-use Rattle.lv_bodies.specs.Tables.{is_table, column_of, join_rows, automaton_operations, IsRow}
+use Rattle.lv_bodies.specs.Tables.{is_table, column_of, join_state_maps, automaton_operations, IsStateMap}
 
 -- what a row has for a state is a state, also past its end
 state_below : (row : List ℕ) (q : ℕ) → All (λ s. s < 8) row → slice_index row q < 8
@@ -35,7 +35,7 @@ all_states table h =
     table (AllPass-from_list_all (λ row. list_all (λ q. nat_lt q 8) row) table (both_true _ _ h).1)
 
 -- the states reached by an element are a row
-column_is_row : (table : List (List ℕ)) (x : ℤ) (n : ℕ) → IsTrue (is_table table) → IsRow (column_of table x) n
+column_is_row : (table : List (List ℕ)) (x : ℤ) (n : ℕ) → IsTrue (is_table table) → IsStateMap (column_of table x) n
 column_is_row table x n h = record {
   eight = length-map table _ ∙ eight_rows table h;
   states =
@@ -44,7 +44,7 @@ column_is_row table x n h = record {
 }
 
 -- two rows are joined to a row
-joined_is_row : (s t : List ℕ) (n m k : ℕ) → IsRow s n → IsRow t m → IsRow (join_rows s t) k
+joined_is_row : (s t : List ℕ) (n m k : ℕ) → IsStateMap s n → IsStateMap t m → IsStateMap (join_state_maps s t) k
 joined_is_row s t n m k p q = record {
   eight = length-map s (slice_index t) ∙ p.eight;
   states =
@@ -53,25 +53,25 @@ joined_is_row s t n m k p q = record {
 }
 
 -- to go nowhere first changes nothing
-identity_joined : (s : List ℕ) → length s ≡ 8 → join_rows (range_with_len 0 8) s ≡ s
+identity_joined : (s : List ℕ) → length s ≡ 8 → join_state_maps (range_with_len 0 8) s ≡ s
 identity_joined s h = sym (fill_by_all (slice_index s) s 8 0 h (λ k p. refl))
 
 -- to go nowhere afterwards changes nothing
-joined_identity : (s : List ℕ) → All (λ q. q < 8) s → join_rows s (range_with_len 0 8) ≡ s
+joined_identity : (s : List ℕ) → All (λ q. q < 8) s → join_state_maps s (range_with_len 0 8) ≡ s
 joined_identity s h =
     map_fixed (slice_index (range_with_len 0 8)) s
     (All-weaker (λ q. q < 8) (λ q. slice_index (range_with_len 0 8) q ≡ q) (λ q p. get_or-range_with_len 0 8 q 0 p ∙ omega arith) s h)
 
 -- of three rows the first two or the last two may be joined first
-rows_associative : (s t u : List ℕ) → All (λ q. q < 8) s → length t ≡ 8 → join_rows (join_rows s t) u ≡ join_rows s (join_rows t u)
+rows_associative : (s t u : List ℕ) → All (λ q. q < 8) s → length t ≡ 8 → join_state_maps (join_state_maps s t) u ≡ join_state_maps s (join_state_maps t u)
 rows_associative s t u h eight =
     map-map (slice_index t) (slice_index u) s
-    ∙ map_alike (λ q. slice_index u (slice_index t q)) (slice_index (join_rows t u)) s
-    (All-weaker (λ q. q < 8) (λ q. slice_index u (slice_index t q) ≡ slice_index (join_rows t u) q)
+    ∙ map_alike (λ q. slice_index u (slice_index t q)) (slice_index (join_state_maps t u)) s
+    (All-weaker (λ q. q < 8) (λ q. slice_index u (slice_index t q) ≡ slice_index (join_state_maps t u) q)
     (λ q p. sym (get_or-map (slice_index u) t q 0 0 (omega arith))) s h)
 
 -- an automaton meets the laws of a body
-pub automaton_laws : (table : List (List ℕ)) → IsTrue (is_table table) → BodyLaws (automaton_operations table) IsRow
+pub automaton_laws : (table : List (List ℕ)) → IsTrue (is_table table) → BodyLaws (automaton_operations table) IsStateMap
 automaton_laws table valid = record {
   identity_within = record { eight = refl; states = All-range (λ q. q < 8) 8 (λ q h. h) };
   lift_within = λ x h. column_is_row table x 1 valid;
@@ -88,11 +88,11 @@ column_at (row ∷ rows) c zero = refl
 column_at (row ∷ rows) c (suc s) = column_at rows c s
 
 -- a fold from the states g is, for each of them, the state that it goes to
-rows_along : (table : List (List ℕ)) (g : ℕ → ℕ) (starts : List ℕ) (xs : List ℤ) → fold (λ s x. join_rows s (column_of table x)) (map g starts) xs ≡ map (λ q. state_from table (g q) xs) starts
+rows_along : (table : List (List ℕ)) (g : ℕ → ℕ) (starts : List ℕ) (xs : List ℤ) → fold (λ s x. join_state_maps s (column_of table x)) (map g starts) xs ≡ map (λ q. state_from table (g q) xs) starts
 rows_along table g starts [] = refl
 rows_along table g starts (x ∷ xs) =
     let next = λ (q : ℕ). slice_index (slice_index_or table (g q) []) (remainder x 4) in
-    ap (λ row. fold (λ s y. join_rows s (column_of table y)) row xs)
+    ap (λ row. fold (λ s y. join_state_maps s (column_of table y)) row xs)
     (map-map g (slice_index (column_of table x)) starts
     ∙ map_alike (λ q. slice_index (column_of table x) (g q)) next starts (λ k d h. column_at table (remainder x 4) (g (get_or starts k d))))
     ∙ rows_along table next starts xs

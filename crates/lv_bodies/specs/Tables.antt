@@ -17,18 +17,18 @@ abbrev pub column_of : List (List ℕ) → ℤ → List ℕ
 column_of table x = map (λ row. slice_index row (remainder x 4)) table
 
 -- the states reached by the first row, and from there by the second
-abbrev pub join_rows : List ℕ → List ℕ → List ℕ
-join_rows first second = map (λ q. slice_index second q) first
+abbrev pub join_state_maps : List ℕ → List ℕ → List ℕ
+join_state_maps first second = map (λ q. slice_index second q) first
 
 -- no elements leave each state as it is
 abbrev pub automaton_operations : List (List ℕ) → Operations (List ℕ)
 automaton_operations table = record {
   identity = range_with_len 0 8;
   lift = column_of table;
-  join = join_rows;
+  join = join_state_maps;
 }
 
 -- a state for each of the eight, of however many elements
-pub record IsRow (row : List ℕ) (n : ℕ) : Type 0 where
+pub record IsStateMap (row : List ℕ) (n : ℕ) : Type 0 where
   pub eight : length row ≡ 8
   pub states : All (λ q. q < 8) row

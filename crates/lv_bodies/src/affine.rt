@@ -6,21 +6,21 @@ use crate::singles::Single;
 
 /// The map `y -> a * y + b` modulo 2^32.
 #[derive(Clone, Copy, Debug, PartialEq, Eq, Hash)]
-pub struct Line {
+pub struct AffineMap {
     pub a: u32,
     pub b: u32,
 }
 
-impl Line {
-    ghost use Rattle.lv_bodies.specs.Lines.{line_of, join_lines};
+impl AffineMap {
+    ghost use Rattle.lv_bodies.specs.AffineMaps.{map_of, join_maps};
 
     /// The map of one element: by its number of 256s, rounded down, and the rest.
     #[inline(always)]
-    fn of(x: i64) -> Line
-        ensures { result ≡ line_of x }
+    fn of(x: i64) -> AffineMap
+        ensures { result ≡ map_of x }
     {
         let bits = x.cast_unsigned();
-        Line {
+        AffineMap {
             a: (bits / 256 % (1 << 32)) as u32,
             b: (bits % 256) as u32,
         }
@@ -28,10 +28,10 @@ impl Line {
 
     /// This map, and then the next.
     #[inline(always)]
-    fn then(self, next: Line) -> Line
-        ensures { result ≡ join_lines self next }
+    fn then(self, next: AffineMap) -> AffineMap
+        ensures { result ≡ join_maps self next }
     {
-        Line {
+        AffineMap {
             a: self.a.wrapping_mul(next.a),
             b: next.a.wrapping_mul(self.b).wrapping_add(next.b),
         }
@@ -44,10 +44,10 @@ impl Line {
 pub struct Affine;
 
 impl Body for Affine {
-    ghost use Rattle.lv_bodies.specs.Lines.{affine_operations, IsLine};
-    ghost use Rattle.lv_bodies.specs.LineLaws.{affine_laws, exact_lines};
+    ghost use Rattle.lv_bodies.specs.AffineMaps.{affine_operations, IsAffineMap};
+    ghost use Rattle.lv_bodies.specs.AffineLaws.{affine_laws, exact_maps};
 
-    type S = Line;
+    type S = AffineMap;
 
     ghost Meaning = { Unit {0} };
 
@@ -55,22 +55,22 @@ impl Body for Affine {
 
     ghost operations = { λ _. affine_operations };
 
-    ghost is_within = { λ _. IsLine };
+    ghost is_within = { λ _. IsAffineMap };
 
     ghost laws = { λ _. affine_laws };
 
     #[inline(always)]
-    fn identity(&self) -> Line {
-        Line { a: 1, b: 0 }
+    fn identity(&self) -> AffineMap {
+        AffineMap { a: 1, b: 0 }
     }
 
     #[inline(always)]
-    fn lift(&self, x: i64) -> Line {
-        Line::of(x)
+    fn lift(&self, x: i64) -> AffineMap {
+        AffineMap::of(x)
     }
 
     #[inline(always)]
-    fn combine(&self, a: Line, b: Line) -> Line {
+    fn combine(&self, a: AffineMap, b: AffineMap) -> AffineMap {
         a.then(b)
     }
 
@@ -78,14 +78,14 @@ impl Body for Affine {
         true
     }
 
-    ghost equal = { exact_lines };
+    ghost equal = { exact_maps };
 }
 
 impl Single for Affine {
     ghost use Rattle.lv_bodies.specs.declared.kinds.Kind.TheVariants as kind;
     ghost use Rattle.lv_bodies.specs.declared.kinds.Shown.TheVariants as shown;
     ghost use Rattle.lv_bodies.specs.Plain.{plain_affine};
-    ghost use Rattle.lv_bodies.specs.LineLaws.{fold_of-affine, shown_alike};
+    ghost use Rattle.lv_bodies.specs.AffineLaws.{fold_of-affine, shown_alike};
 
     ghost the_kind = { kind.Affine };
 
@@ -97,7 +97,7 @@ impl Single for Affine {
         Kind::Affine
     }
 
-    fn shown(&self, s: Line) -> Shown {
+    fn shown(&self, s: AffineMap) -> Shown {
         Shown::Affine { a: s.a, b: s.b }
     }
 

@@ -1,6 +1,6 @@
 ghost use Rattle.std.specs.Prelude.{◌≡◌, ◌↔◌, ℕ, ◌<◌, ◌≤◌, IsTrue, IsOk, IfOk, IsErrOf, nat_lt, List, length, map, slice_index, All, Any};
 ghost use Rattle.std.specs.List.{list_all};
-ghost use Rattle.lv_bodies.specs.Tables.{is_table, has_states, join_rows};
+ghost use Rattle.lv_bodies.specs.Tables.{is_table, has_states, join_state_maps};
 
 use crate::bodies::Body;
 use crate::kinds::{Kind, Shown};
@@ -93,7 +93,7 @@ fn column(table: &[[u8; 4]; 8], remainder: usize) -> [u8; 8]
 #[inline(always)]
 fn follow(first: [u8; 8], second: [u8; 8]) -> [u8; 8]
     requires { All (λ q. q < 8) first }
-    ensures { result ≡ join_rows first second }
+    ensures { result ≡ join_state_maps first second }
 {
     let mut reached = [0; 8];
     for q in 0..8 {
@@ -104,7 +104,7 @@ fn follow(first: [u8; 8], second: [u8; 8]) -> [u8; 8]
 
 impl Body for Automaton {
     ghost use Rattle.lv_bodies.specs.Automata.{table_of};
-    ghost use Rattle.lv_bodies.specs.Tables.{automaton_operations, IsRow};
+    ghost use Rattle.lv_bodies.specs.Tables.{automaton_operations, IsStateMap};
     ghost use Rattle.lv_bodies.specs.TableLaws.{automaton_laws};
     ghost use Rattle.lv_bodies.specs.EqualLaws.{exact_numbers};
 
@@ -116,7 +116,7 @@ impl Body for Automaton {
 
     ghost operations = { automaton_operations };
 
-    ghost is_within = { λ _. IsRow };
+    ghost is_within = { λ _. IsStateMap };
 
     ghost laws = { λ a. automaton_laws a.table a.valid };
 

@@ -6,7 +6,7 @@ use crate::singles::Single;
 
 /// What is kept of some neighbours, of which there is at least one.
 #[derive(Clone, Copy, Debug, PartialEq, Eq, Hash)]
-pub struct Run {
+pub struct RunTotals {
     /// All of them added up.
     pub total: i128,
     /// The greatest total of some that begin with the first.
@@ -17,17 +17,17 @@ pub struct Run {
     pub best: i128,
 }
 
-impl Run {
+impl RunTotals {
     ghost use Rattle.lv_bodies.specs.Body.{CanJoin};
-    ghost use Rattle.lv_bodies.specs.Runs.{run_of, join_runs, IsRunOf};
+    ghost use Rattle.lv_bodies.specs.RunTotals.{totals_of, join_totals, AreTotalsOf};
 
     /// The run of one element.
     #[inline(always)]
-    fn of(x: i64) -> Run
-        ensures { result ≡ run_of x }
+    fn of(x: i64) -> RunTotals
+        ensures { result ≡ totals_of x }
     {
         let x = i128::from(x);
-        Run {
+        RunTotals {
             total: x,
             prefix: x,
             suffix: x,
@@ -37,11 +37,11 @@ impl Run {
 
     /// The run of neighbours and of those after them.
     #[inline(always)]
-    fn join(self, next: Run) -> Run
-        requires { CanJoin IsRunOf self next }
-        ensures { result ≡ join_runs self next }
+    fn join(self, next: RunTotals) -> RunTotals
+        requires { CanJoin AreTotalsOf self next }
+        ensures { result ≡ join_totals self next }
     {
-        Run {
+        RunTotals {
             total: self.total + next.total,
             prefix: self.prefix.max(self.total + next.prefix),
             suffix: next.suffix.max(next.total + self.suffix),
@@ -55,11 +55,11 @@ impl Run {
 pub struct Best;
 
 impl Body for Best {
-    ghost use Rattle.lv_bodies.specs.Runs.{best_operations, IsBest};
-    ghost use Rattle.lv_bodies.specs.RunLaws.{best_laws, exact_runs};
+    ghost use Rattle.lv_bodies.specs.RunTotals.{best_operations, IsBest};
+    ghost use Rattle.lv_bodies.specs.TotalsLaws.{best_laws, exact_totals};
     ghost use Rattle.lv_bodies.specs.EqualLaws.{exact_option};
 
-    type S = Option<Run>;
+    type S = Option<RunTotals>;
 
     ghost Meaning = { Unit {0} };
 
@@ -72,17 +72,17 @@ impl Body for Best {
     ghost laws = { λ _. best_laws };
 
     #[inline(always)]
-    fn identity(&self) -> Option<Run> {
+    fn identity(&self) -> Option<RunTotals> {
         None
     }
 
     #[inline(always)]
-    fn lift(&self, x: i64) -> Option<Run> {
-        Some(Run::of(x))
+    fn lift(&self, x: i64) -> Option<RunTotals> {
+        Some(RunTotals::of(x))
     }
 
     #[inline(always)]
-    fn combine(&self, a: Option<Run>, b: Option<Run>) -> Option<Run> {
+    fn combine(&self, a: Option<RunTotals>, b: Option<RunTotals>) -> Option<RunTotals> {
         match (a, b) {
             (Some(run), Some(next)) => Some(run.join(next)),
             (None, t) => t,
@@ -94,7 +94,7 @@ impl Body for Best {
         true
     }
 
-    ghost equal = { exact_option _ exact_runs };
+    ghost equal = { exact_option _ exact_totals };
 }
 
 impl Single for Best {
@@ -115,7 +115,7 @@ impl Single for Best {
         Kind::Best
     }
 
-    fn shown(&self, s: Option<Run>) -> Shown {
+    fn shown(&self, s: Option<RunTotals>) -> Shown {
         Shown::Best(s.map(|run| run.best))
     }
 

@@ -19,9 +19,9 @@ mod singles;
 mod sixes;
 mod sums;
 
-pub use affine::{Affine, Line};
+pub use affine::{Affine, AffineMap};
 pub use automata::Automaton;
-pub use best::{Best, Run};
+pub use best::{Best, RunTotals};
 pub use bodies::Body;
 pub use folds::{fold_more, fold_slice};
 pub use greatest::Greatest;

@@ -26,9 +26,9 @@ pub struct Six {
 impl Body for Six {
     ghost use Rattle.std.proofs.lemmas.Bool.Decides.{Decides-eqb, Decides-int_eq};
     ghost use Rattle.lv_bodies.specs.EqualLaws.{exact_numbers, exact_option};
-    ghost use Rattle.lv_bodies.specs.LineLaws.{exact_lines};
+    ghost use Rattle.lv_bodies.specs.AffineLaws.{exact_maps};
     ghost use Rattle.lv_bodies.specs.PairLaws.{exact_pair};
-    ghost use Rattle.lv_bodies.specs.RunLaws.{exact_runs};
+    ghost use Rattle.lv_bodies.specs.TotalsLaws.{exact_totals};
     ghost use Rattle.lv_bodies.specs.Six.{SixMeaning, six_operations};
 
     type S = <SixPairs as Body>::S;
@@ -63,7 +63,7 @@ impl Body for Six {
     }
 
     ghost equal = { exact_pair _ _ Decides-eqb (exact_pair _ _ (exact_option _ Decides-int_eq) (exact_pair _ _ (exact_option _ Decides-int_eq)
-        (exact_pair _ _ (exact_option _ exact_runs) (exact_pair _ _ exact_lines exact_numbers)))) };
+        (exact_pair _ _ (exact_option _ exact_totals) (exact_pair _ _ exact_maps exact_numbers)))) };
 }
 
 impl Six {

@@ -2,9 +2,9 @@ ghost use Rattle.std.specs.Prelude.{◌≡◌, ◌^◌, ◌≤◌, ℕ, ℤ, len
 ghost use Rattle.lv_bodies.specs.Plain.{plain_value};
 
 use crate::{
-    Affine, Automaton, Best, Body, Greatest, Kind, Least, Line, Pair, Run, Shown, Single, Six, Sum,
-    best_is_the_best_run, extremes_are_reached_bounds, face, fold_more, fold_slice,
-    pair_folds_apart,
+    Affine, AffineMap, Automaton, Best, Body, Greatest, Kind, Least, Pair, RunTotals, Shown,
+    Single, Six, Sum, best_is_the_best_run, extremes_are_reached_bounds, face, fold_more,
+    fold_slice, pair_folds_apart,
 };
 use lv_geometry::Refusal;
 use std::test::Fail;
@@ -120,7 +120,7 @@ fn bodies_join_left_with_right(rt: HostRuntime) {
         Greatest.combine(Greatest.lift(2), Greatest.lift(3)),
         Some(3)
     );
-    let run = Run {
+    let run = RunTotals {
         total: 2,
         prefix: 2,
         suffix: 2,
@@ -129,7 +129,7 @@ fn bodies_join_left_with_right(rt: HostRuntime) {
     assert_eq!(rt; Best.lift(2), Some(run));
     assert_eq!(rt;
         Affine.lift(-1),
-        Line {
+        AffineMap {
             a: 4_294_967_295,
             b: 255
         }

@@ -1,6 +1,6 @@
 -- What one more edit does to the list, and what is so of every legal journal.
-use Rattle.std.proofs.Common.{◌≡◌, ◌≢◌, ℕ, ℤ, ◌-◌, ◌<◌, ◌≤◌, ◌⊎◌, Some, None, option_and_then, unwrap_or, List, [], ◌∷◌, ◌++◌, length, All, take, Bool, true, false, cond, nat_eq, slice_set, refl, sym, ap, ◌∙◌, inl, inr, arith}
-use Rattle.std.proofs.lemmas.Bool.{cases_Bool, cases_lt, cond-false, cond-true, eqb-false, lt-ltb, ltb-false, ltb-true}
+use Rattle.std.proofs.Common.{◌≡◌, ◌≢◌, ℕ, ℤ, ◌-◌, ◌<◌, ◌≤◌, ◌⊎◌, Option, Some, None, IsSome, option_and_then, unwrap_or, List, [], ◌∷◌, ◌++◌, length, All, take, Bool, true, false, cond, nat_eq, slice_set, refl, sym, ap, ◌∙◌, inl, inr, arith}
+use Rattle.std.proofs.lemmas.Bool.{cases_Bool, cases_lt, cond-false, cond-true, eqb-false, false≢true, lt-ltb, ltb-false, ltb-true}
 use Rattle.std.proofs.lemmas.List.{append-nil, append_assoc, length_push, length-set, length-take, take-append-le, take_all}
 use Rattle.std.proofs.lemmas.List.Elements.{All-nil, All-push, All-same, All-set, All-take}
 use Rattle.std.proofs.lemmas.List.Sums.{fold_push}
@@ -11,7 +11,7 @@ use Rattle.lv_geometry.specs.Elements.{IsElement}
 use Rattle.lv_geometry.specs.declared.refusals.Refusal.TheVariants.{Empty, Full, OutOfRange, TooLarge, Worn}
 use Rattle.lv_edits.specs.declared.edit.Edit.{Edit}
 use Rattle.lv_edits.specs.declared.edit.Edit.TheVariants.{Push, Pop, Write, Reserve}
-use Rattle.lv_edits.specs.History.{applied, History, list_of, replayed, with_edit}
+use Rattle.lv_edits.specs.History.{applied, History, IsLegal, list_of, replayed, with_edit}
 use Rattle.lv_edits.specs.Kept.{CarriesElement, InLimits}
 use Rattle.lv_edits.proofs.Buckets.{capacity_of_most}
 use Rattle.lv_edits.specs.Verdict.{refused_on, verdict_of}
@@ -25,6 +25,17 @@ replayed-snoc es e = fold_push _ _ es e
 pub list_of_replayed : (es : List Edit) (xs : List ℤ) → replayed es ≡ Some xs → list_of es ≡ xs
 unfolding list_of
 list_of_replayed es xs made = ap (λ r. unwrap_or r []) made
+
+-- what is there of an option that there is
+there_is_one : (o : Option (List ℤ)) → IsSome o → (xs : List ℤ) × (o ≡ Some xs)
+there_is_one (Some xs) some = (xs, refl)
+there_is_one None some = absurd (false≢true some)
+
+-- legal edits make their list
+pub list_of_legal : (es : List Edit) → IsLegal es → replayed es ≡ Some (list_of es)
+list_of_legal es legal =
+    let one = there_is_one (replayed es) legal in
+    one.1 ∙ ap Some (sym (list_of_replayed es one.0 one.1))
 
 -- no edits make the empty list
 pub replayed-nil : replayed [] ≡ Some []

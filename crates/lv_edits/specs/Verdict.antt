@@ -30,6 +30,10 @@ receipt_of edits Pop = Popped (length edits + 1) (slice_index_or (list_of edits)
 receipt_of edits (Write i x) = Written (length edits + 1) (slice_index_or (list_of edits) i (pos 0))
 receipt_of edits (Reserve n) = Reserved (length edits + 1) (capacity_after (edits ++ Reserve n ∷ []))
 
+-- a refusal is the one that is known, or want of memory where none is
+abbrev pub IsRefusal : Option Refusal → Refusal → Type 0
+IsRefusal known refusal = (known ≡ Some refusal) ⊎ ((known ≡ None) × (refusal ≡ NoMemory))
+
 -- an edit was accepted: nothing refuses it, it answers its receipt, and the journal has it at its end
 pub record Accepts (old : History) (edit : Edit) (receipt : Receipt) (new : History) : Type 0 where
   pub verdict : verdict_of old.limits old.journal edit ≡ None
@@ -38,7 +42,7 @@ pub record Accepts (old : History) (edit : Edit) (receipt : Receipt) (new : Hist
 
 -- an edit was refused by the first refusal that applies, or for want of memory where none does; nothing has changed
 pub record Refuses (old : History) (edit : Edit) (refusal : Refusal) (new : History) : Type 0 where
-  pub verdict : (verdict_of old.limits old.journal edit ≡ Some refusal) ⊎ ((verdict_of old.limits old.journal edit ≡ None) × (refusal ≡ NoMemory))
+  pub verdict : IsRefusal (verdict_of old.limits old.journal edit) refusal
   pub same : new ≡ old
 
 -- what a call answers to an edit

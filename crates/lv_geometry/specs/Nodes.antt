@@ -6,6 +6,10 @@ use Rattle.lv_geometry.specs.declared.nodes.Node.{Node}
 abbrev pub is_node : Node → Bool
 is_node n = nat_le 1 n.level && nat_le n.level 6
 
+-- whether two nodes are one
+abbrev pub same_node : Node → Node → Bool
+same_node n m = nat_eq n.level m.level && nat_eq n.number m.number
+
 -- how many indices a node has
 abbrev pub width : Node → ℕ
 width n = 8 ^ n.level

@@ -17,7 +17,7 @@ use Rattle.lv_refresh.specs.Honesty.{Vouched}
 use Rattle.lv_refresh.specs.Record.{Record}
 use Rattle.lv_reduce.specs.declared.reductions.Answer.{Answer}
 use Rattle.lv_reduce.specs.declared.scans.Scan.{Scan}
-use Rattle.lv_live.specs.State.{LiveState, name_of, recorded}
+use Rattle.lv_live.specs.State.{LiveState, node_and_version, recorded}
 use Rattle.lv_live.specs.Step.{Reduces, Scans}
 
 -- a vector whose edits are legal, within these limits
@@ -48,7 +48,7 @@ pub record ScanTold {B S : Type 0} (operations : B → Operations S) (limits : B
 pub record ClaimTold {B S : Type 0} (limits : Bounds) (result : Option (Carried B S)) : Type 0 where
   pub state : LiveState B S
   pub vector : IsVector limits state.history
-  pub next : IsNextJob (recorded state) (option_map name_of result)
+  pub next : IsNextJob (recorded state) (option_map node_and_version result)
 
 -- an outcome is taken where it is vouched for, and becomes what becomes of a delivery; else it is a stranger
 abbrev pub Gives : Record → Type 0 → {B S : Type 0} → Carried B S → Result Accepted Refusal → Type 0

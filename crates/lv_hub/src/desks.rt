@@ -3,7 +3,7 @@ ghost use Rattle.lv_geometry.specs.declared.nodes.Node.{Node};
 ghost use Rattle.lv_edits.specs.Verdict.{Answers};
 ghost use Rattle.lv_refresh.specs.Claim.{IsNextJob};
 ghost use Rattle.lv_refresh.specs.Honesty.{IsHonest};
-ghost use Rattle.lv_live.specs.State.{HasClaim, HasDelivery, SameRefresh, name_of, recorded};
+ghost use Rattle.lv_live.specs.State.{HasClaim, HasDelivery, SameRefresh, node_and_version, recorded};
 ghost use Rattle.lv_hub.specs.Counting.{Counts};
 ghost use Rattle.lv_hub.specs.Told.{Gives, IsVector, VouchedBy};
 
@@ -77,8 +77,8 @@ impl<B: Body, N: Naming> Desk<B, N> {
 
     /// A job for the least node that wants one, or none. Takes no memory.
     pub fn claim(&mut self) -> Option<Job<B>>
-        ensures next { IsNextJob (recorded self.old) (option_map name_of result) }
-        ensures claimed { HasClaim self.old self.new (option_map name_of result) }
+        ensures next { IsNextJob (recorded self.old) (option_map node_and_version result) }
+        ensures claimed { HasClaim self.old self.new (option_map node_and_version result) }
         ensures body { IfSome result (λ job. job.body ≡ self.old.body) }
         ensures honest { IfSome result (λ job. IsHonest (B.operations (B.meaning self.old.body)) (recorded self.new) job.node job.version job.contents) }
         ensures vector { IsVector N.limits self.old.history }

@@ -2,12 +2,12 @@
 use Rattle.std.proofs.Common.{◌≡◌, ◌↔◌, ℕ, ◌+◌, ◌*◌, ◌^◌, ◌≤◌, Bool, true, ◌&&◌, ◌||◌, IsTrue, Option, Some, None, option_map, IfSome, IfNone, if◌then◌else◌, refl, sym, ap, ◌∙◌, arith}
 use Rattle.std.proofs.lemmas.Bool.{and_from, and_parts, le-leb, leb-true, or_left, or_right}
 use Rattle.lv_geometry.specs.declared.nodes.Node.{Node}
-use Rattle.lv_geometry.specs.Nodes.{is_below, is_node, parent}
+use Rattle.lv_geometry.specs.Nodes.{is_below, is_node, parent, same_node}
 use Rattle.lv_bodies.specs.Body.{BodyLaws, Operations, fold_of}
 use Rattle.lv_edits.specs.Touch.{cells_of, is_whole, touched_by}
 use Rattle.lv_summary.specs.declared.accepted.Accepted.{Accepted}
 use Rattle.lv_summary.specs.declared.accepted.Accepted.TheVariants.{Held, Installed, Stale}
-use Rattle.lv_summary.specs.Table.{AfterDelivery, Keeps, Table, delivery_in, kept_in, same_node, touched_in, whole_in}
+use Rattle.lv_summary.specs.Table.{AfterDelivery, Keeps, Table, delivery_in, kept_in, touched_in, whole_in}
 use Rattle.lv_summary.proofs.AgreesLaws.{whole_agrees}
 use Rattle.lv_summary.proofs.FoldableLaws.{can_fold}
 use Rattle.lv_summary.proofs.TableLaws.{current_of_installed, same_node-self, version_kept}
@@ -18,7 +18,7 @@ use Rattle.lv_refresh.specs.Claimed.{ClaimTable, claim_blocks, claimed_in, is_hi
 use Rattle.lv_refresh.specs.Contents.{fold_of_contents}
 use Rattle.lv_refresh.specs.Honesty.{IsHonest, Stands, Vouched}
 use Rattle.lv_refresh.proofs.HonestyLaws.{fold_of_standing, honest_at_claim, honest_same}
-use Rattle.lv_live.specs.State.{HasClaim, HasDelivery, IsLive, LiveState, name_of, recorded}
+use Rattle.lv_live.specs.State.{HasClaim, HasDelivery, IsLive, LiveState, node_and_version, recorded}
 use Rattle.lv_live.proofs.LiveLaws.{live_after_install}
 
 -- the parent of a node was hinted, and nothing else has changed
@@ -54,12 +54,12 @@ module _ {B S : Type 0} (o : Operations S) (within : S → ℕ → Type 0) (laws
 
   -- a claim, by whether there is a job
   pub claimed_by : (c : ClaimTable) (job : Option (Carried B S)) → IfSome job (λ job. (n : Node) → claimed_in c n ≡ (if same_node n job.node then Some job.version else claimed_in s.claims n)) → IfNone job ((n : Node) → claimed_in c n ≡ claimed_in s.claims n)
-      → HasClaim s (record s { claims = c }) (option_map name_of job)
+      → HasClaim s (record s { claims = c }) (option_map node_and_version job)
   claimed_by c (Some job) some none = record { body = refl; history = refl; claimed = some; kept = λ n. refl }
   claimed_by c None some none = record { body = refl; history = refl; claimed = none; kept = λ n. refl }
 
   -- a job is honest when it is handed out
-  pub honest_claim : (c : ClaimTable) (job : Option (Carried B S)) → IsNextJob (recorded s) (option_map name_of job) → IfSome job (λ job. Stands o (recorded s) job.node job.contents) → IfSome job (λ job. IsHonest o (recorded (record s { claims = c })) job.node job.version job.contents)
+  pub honest_claim : (c : ClaimTable) (job : Option (Carried B S)) → IsNextJob (recorded s) (option_map node_and_version job) → IfSome job (λ job. Stands o (recorded s) job.node job.contents) → IfSome job (λ job. IsHonest o (recorded (record s { claims = c })) job.node job.version job.contents)
   honest_claim c (Some job) next stands =
       honest_same o (recorded s) (recorded (record s { claims = c })) job.node job.version job.contents refl (λ n. refl) (honest_at_claim o (recorded s) job.node job.version job.contents live.limits.legal next.0 next.1 stands)
   honest_claim c None next stands = stands

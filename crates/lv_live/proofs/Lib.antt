@@ -1,5 +1,6 @@
 pub mod DeliverLaws
 pub mod EditLaws
+pub mod HonestSteps
 pub mod LiveLaws
 pub mod PlayLaws
 pub mod QueryLaws

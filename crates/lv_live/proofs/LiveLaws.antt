@@ -6,7 +6,7 @@ use Rattle.std.proofs.lemmas.List.{length-set, length-take, length_push}
 use Rattle.std.proofs.lemmas.Option.{cond_some, same_Some}
 use Rattle.std.proofs.lemmas.Bool.{and_parts, cases_Bool, le-leb, leb-true, true≢false}
 use Rattle.lv_geometry.specs.declared.nodes.Node.{Node}
-use Rattle.lv_geometry.specs.Nodes.{covers, is_below, is_node, parent}
+use Rattle.lv_geometry.specs.Nodes.{covers, is_below, is_node, parent, same_node}
 use Rattle.lv_bodies.specs.Body.{Operations, fold_of}
 use Rattle.lv_edits.specs.declared.edit.Edit.{Edit}
 use Rattle.lv_edits.specs.declared.edit.Edit.TheVariants.{Push, Pop, Write, Reserve}
@@ -18,7 +18,7 @@ use Rattle.lv_edits.proofs.HistoryLaws.{accepted_is_possible, list_of-snoc}
 use Rattle.lv_edits.proofs.TouchLaws.{none_whole}
 use Rattle.lv_summary.specs.declared.accepted.Accepted.TheVariants.{Held, Installed, Stale}
 use Rattle.lv_summary.specs.Agrees.{Agrees}
-use Rattle.lv_summary.specs.Table.{AnswersAlike, Keeps, Table, delivery_in, has_version, kept_in, same_node, touched_in, whole_in}
+use Rattle.lv_summary.specs.Table.{AnswersAlike, Keeps, Table, delivery_in, has_version, kept_in, touched_in, whole_in}
 use Rattle.lv_summary.proofs.AgreesLaws.{agrees_after_size, agrees_after_touch, agrees_alike, agrees_empty, agrees_installed, whole_agrees}
 use Rattle.lv_summary.proofs.TableLaws.{same_node-eq, version_kept}
 use Rattle.lv_refresh.specs.Claimed.{AreHints, ClaimTable, claim_blocks, claimed_in, is_hinted, record_of}

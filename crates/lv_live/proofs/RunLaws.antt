@@ -22,7 +22,7 @@ use Rattle.lv_live.specs.declared.events.Event.TheVariants as event
 use Rattle.lv_live.specs.declared.replies.Reply.{Reply}
 use Rattle.lv_live.specs.declared.replies.Reply.TheVariants as reply
 use Rattle.lv_live.specs.Step.{EditStep, Reduces, Run, Scans, Step, after_accepted, after_claim, after_delivery, edit_reply, job_of, reduction_reply, scan_reply}
-use Rattle.lv_live.specs.PlainAnswers.{AllHadRoom, answers_in, edits_after, edits_with, is_refresh, plain_answer, plain_answers, plain_receipt, plain_reduction, plain_scan, without_counts, without_refresh}
+use Rattle.lv_live.specs.PlainAnswers.{AllHadRoom, answers_in, edits_after, edits_with, is_refresh, plain_answer, plain_answers, plain_edit_reply, plain_reduction_reply, plain_scan_reply, without_counts, without_refresh}
 
 -- a delivery leaves the edits
 delivered_edits : (r : Record) (job : Option (Node × ℕ)) → (after_delivery r job).edits ≡ r.edits
@@ -46,35 +46,35 @@ module _ {S : Type 0} (o : Operations S) (limits : Bounds) where
 
   -- an edit that did not meet want of memory: its reply, and the edits after it
   plain_edit : (r next : Record) (edit : Edit) (answer : Result Receipt Refusal) → EditStep limits r edit answer next → edit_reply answer ≢ refused_for_want
-      → (without_counts {S = S} (edit_reply answer) ≡ plain_receipt r.edits edit (verdict_of limits r.edits edit)) × (next.edits ≡ edits_with r.edits edit (verdict_of limits r.edits edit))
+      → (without_counts {S = S} (edit_reply answer) ≡ plain_edit_reply r.edits edit (verdict_of limits r.edits edit)) × (next.edits ≡ edits_with r.edits edit (verdict_of limits r.edits edit))
   plain_edit r next edit (Ok receipt) step room =
-      (ap reply.Did step.1 ∙ ap (plain_receipt r.edits edit) (sym step.0), step.2.edits ∙ ap (edits_with r.edits edit) (sym step.0))
+      (ap reply.Did step.1 ∙ ap (plain_edit_reply r.edits edit) (sym step.0), step.2.edits ∙ ap (edits_with r.edits edit) (sym step.0))
   plain_edit r next edit (Err refusal) step room =
       elim step.0 [
-        | inl refused ↦ (ap (plain_receipt r.edits edit) (sym refused), step.1.edits ∙ ap (edits_with r.edits edit) (sym refused))
+        | inl refused ↦ (ap (plain_edit_reply r.edits edit) (sym refused), step.1.edits ∙ ap (edits_with r.edits edit) (sym refused))
         | inr want ↦ absurd (room (ap reply.Refused want.1))
       ]
 
   -- a reduction
   plain_reduces : (r : Record) (lo hi : ℕ) (answer : Result (Answer S) Refusal) → Reduces o r lo hi answer
-      → without_counts (reduction_reply answer) ≡ plain_reduction o r.edits lo hi (range_refusal r.edits lo hi)
+      → without_counts (reduction_reply answer) ≡ plain_reduction_reply o r.edits lo hi (range_refusal r.edits lo hi)
   plain_reduces r lo hi (Ok answer) reduces =
       let is = reduces.0 in
       ap (λ edit. reply.Answered record { edit = edit; value = answer.value; cells_read = 0; summaries_read = 0 }) is.edit
       ∙ ap (λ value. reply.Answered record { edit = length r.edits; value = value; cells_read = 0; summaries_read = 0 }) is.value
-      ∙ ap (plain_reduction o r.edits lo hi) (sym is.granted)
-  plain_reduces r lo hi (Err refusal) refused = ap (plain_reduction o r.edits lo hi) (sym refused)
+      ∙ ap (plain_reduction_reply o r.edits lo hi) (sym is.granted)
+  plain_reduces r lo hi (Err refusal) refused = ap (plain_reduction_reply o r.edits lo hi) (sym refused)
 
   -- a scan that did not meet want of memory
   plain_scans : (r : Record) (lo hi : ℕ) (inclusive : Bool) (answer : Result (Scan S) Refusal) → Scans o r lo hi inclusive answer → scan_reply answer ≢ reply.Refused NoMemory
-      → without_counts (scan_reply answer) ≡ plain_scan o r.edits lo hi inclusive (range_refusal r.edits lo hi)
+      → without_counts (scan_reply answer) ≡ plain_scan_reply o r.edits lo hi inclusive (range_refusal r.edits lo hi)
   plain_scans r lo hi inclusive (Ok scan) is room =
       ap (λ edit. reply.Scanned record { edit = edit; values = scan.values }) is.edit
       ∙ ap (λ values. reply.Scanned record { edit = length r.edits; values = values }) is.values_are
-      ∙ ap (plain_scan o r.edits lo hi inclusive) (sym is.granted)
+      ∙ ap (plain_scan_reply o r.edits lo hi inclusive) (sym is.granted)
   plain_scans r lo hi inclusive (Err refusal) is room =
       elim is [
-        | inl refused ↦ ap (plain_scan o r.edits lo hi inclusive) (sym refused)
+        | inl refused ↦ ap (plain_scan_reply o r.edits lo hi inclusive) (sym refused)
         | inr want ↦ absurd (room (ap reply.Refused want.1))
       ]
 

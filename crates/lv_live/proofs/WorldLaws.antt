@@ -16,7 +16,7 @@ use Rattle.lv_edits.specs.declared.receipt.Receipt.{Receipt}
 use Rattle.lv_edits.specs.Kept.{InLimits}
 use Rattle.lv_edits.specs.Touch.{is_whole, touched_by}
 use Rattle.lv_edits.specs.Verdict.{Answers}
-use Rattle.lv_summary.specs.Table.{same_node}
+use Rattle.lv_geometry.specs.Nodes.{same_node}
 use Rattle.lv_summary.specs.declared.accepted.Accepted.{Accepted}
 use Rattle.lv_summary.specs.declared.accepted.Accepted.TheVariants.{Held, Installed, Stale}
 use Rattle.lv_reduce.specs.declared.reductions.Answer.{Answer}
@@ -31,7 +31,7 @@ use Rattle.lv_live.specs.declared.events.Event.{Event}
 use Rattle.lv_live.specs.declared.replies.Reply.{Reply}
 use Rattle.lv_live.specs.declared.events.Event.TheVariants as event
 use Rattle.lv_live.specs.declared.replies.Reply.TheVariants as reply
-use Rattle.lv_live.specs.State.{AllOwn, HasClaim, HasDelivery, HasNoClaims, IsOwn, IsWorld, LiveState, SameLive, SameRefresh, SameSetting, job_at, jobs_with, name_of, recorded, with_issued}
+use Rattle.lv_live.specs.State.{AllOwn, HasClaim, HasDelivery, HasNoClaims, IsOwn, IsWorld, LiveState, SameLive, SameRefresh, SameSetting, job_at, jobs_with, node_and_version, recorded, with_issued}
 use Rattle.lv_live.specs.Step.{Reduces, Run, Scans, Step, after_accepted, after_delivery, after_edit, claim_reply, delivery_reply, edit_reply, job_of, reduction_reply, scan_reply}
 
 -- what holds of each element holds of each in another way
@@ -47,7 +47,7 @@ module _ {S : Type 0} (o : Operations S) (limits : Bounds) where
   run_goes_on r mid next (e ∷ events) (y ∷ replies) event reply (first, done, run) step = (first, done, run_goes_on first mid next events replies event reply run step)
 
 -- what was installed passed the test
-installed_test : (b held : Bool) (now : ℕ) → cond b (cond held Held Installed) (Stale now) ≡ Installed → b ≡ true
+pub installed_test : (b held : Bool) (now : ℕ) → cond b (cond held Held Installed) (Stale now) ≡ Installed → b ≡ true
 installed_test true held now is = refl
 installed_test false held now is = cc
 
@@ -56,15 +56,15 @@ SameRecord-self : {r : Record} → SameRecord r r
 SameRecord-self = record { edits = refl; issued = refl; claimed = λ n. refl; kept = λ n. refl }
 
 -- the name of a job of a number is that of the job
-job_of_names : {B S : Type 0} (s : LiveState B S) (jobs : List (Carried B S)) (k : ℕ) → job_of (with_issued s jobs) k ≡ option_map name_of (job_at jobs k)
+job_of_names : {B S : Type 0} (s : LiveState B S) (jobs : List (Carried B S)) (k : ℕ) → job_of (with_issued s jobs) k ≡ option_map node_and_version (job_at jobs k)
 job_of_names s jobs k = by_number (nat_eq k 0)
   where
-    by_number : (none : Bool) → cond none None (slice_get (map name_of jobs) (k - 1)) ≡ option_map name_of (cond none None (slice_get jobs (k - 1)))
+    by_number : (none : Bool) → cond none None (slice_get (map node_and_version jobs) (k - 1)) ≡ option_map node_and_version (cond none None (slice_get jobs (k - 1)))
     by_number true = refl
-    by_number false = slice_get-map name_of jobs (k - 1)
+    by_number false = slice_get-map node_and_version jobs (k - 1)
 
 -- the record after a delivery
-same_delivered : {B S : Type 0} (old new : LiveState B S) (job : Carried B S) (jobs : List (Carried B S)) → HasDelivery old new job.node job.version (delivery_of (recorded old) job.node job.version) → SameRecord (after_delivery (with_issued old jobs) (Some (name_of job))) (with_issued new jobs)
+same_delivered : {B S : Type 0} (old new : LiveState B S) (job : Carried B S) (jobs : List (Carried B S)) → HasDelivery old new job.node job.version (delivery_of (recorded old) job.node job.version) → SameRecord (after_delivery (with_issued old jobs) (Some (node_and_version job))) (with_issued new jobs)
 same_delivered old new job jobs has = by_accepted (delivery_of (recorded old) job.node job.version) has
   where
     by_accepted : (accepted : Accepted) → HasDelivery old new job.node job.version accepted → SameRecord (after_accepted (with_issued old jobs) job.node job.version accepted) (with_issued new jobs)
@@ -117,15 +117,15 @@ module _ {B S : Type 0} (o : Operations S) where
   setting_edit old new e (Err refusal) same refuses = record { body = same.body; limits = ap (λ h. h.limits) refuses.same }
 
   -- a claim is a step, and its job, if there is one, is issued
-  pub step_claim : (old new : LiveState B S) (job : Option (Carried B S)) (jobs : List (Carried B S)) → IsNextJob (recorded old) (option_map name_of job) → HasClaim old new (option_map name_of job)
-      → Step o old.history.limits (with_issued old jobs) event.Claim (claim_reply (length jobs + 1) (option_map name_of job)) (with_issued new (jobs_with jobs job))
+  pub step_claim : (old new : LiveState B S) (job : Option (Carried B S)) (jobs : List (Carried B S)) → IsNextJob (recorded old) (option_map node_and_version job) → HasClaim old new (option_map node_and_version job)
+      → Step o old.history.limits (with_issued old jobs) event.Claim (claim_reply (length jobs + 1) (option_map node_and_version job)) (with_issued new (jobs_with jobs job))
   step_claim old new (Some job) jobs next has =
-      (Some (name_of job), next, ap (λ k. claim_reply (k + 1) (Some (name_of job))) (sym (length-map jobs name_of)), record { edits = ap (λ h. h.journal) has.history; issued = map-append name_of jobs (job ∷ []); claimed = has.claimed; kept = has.kept })
+      (Some (node_and_version job), next, ap (λ k. claim_reply (k + 1) (Some (node_and_version job))) (sym (length-map jobs node_and_version)), record { edits = ap (λ h. h.journal) has.history; issued = map-append node_and_version jobs (job ∷ []); claimed = has.claimed; kept = has.kept })
   step_claim old new None jobs next has =
       (None, next, refl, record { edits = ap (λ h. h.journal) has.history; issued = refl; claimed = has.claimed; kept = has.kept })
 
   -- jobs stay own under a claim, and so is its job
-  pub own_claim : (old new : LiveState B S) (job : Option (Carried B S)) (jobs : List (Carried B S)) → HasClaim old new (option_map name_of job) → IfSome job (λ job. job.body ≡ old.body) → IfSome job (λ job. IsHonest o (recorded new) job.node job.version job.contents) → AllOwn o old jobs → AllOwn o new (jobs_with jobs job)
+  pub own_claim : (old new : LiveState B S) (job : Option (Carried B S)) (jobs : List (Carried B S)) → HasClaim old new (option_map node_and_version job) → IfSome job (λ job. job.body ≡ old.body) → IfSome job (λ job. IsHonest o (recorded new) job.node job.version job.contents) → AllOwn o old jobs → AllOwn o new (jobs_with jobs job)
   own_claim old new (Some job) jobs has body honest own = All-push (IsOwn o new) jobs job (own_same old new jobs has.body has.history has.kept own) (body ∙ sym has.body, honest)
   own_claim old new None jobs has body honest own = own_same old new jobs has.body has.history has.kept own
 
@@ -133,13 +133,13 @@ module _ {B S : Type 0} (o : Operations S) where
   pub step_delivery : (old new : LiveState B S) (k : ℕ) (job : Carried B S) (jobs : List (Carried B S)) → job_at jobs k ≡ Some job → HasDelivery old new job.node job.version (delivery_of (recorded old) job.node job.version)
       → Step o old.history.limits (with_issued old jobs) (event.Deliver k) (reply.Gave (delivery_of (recorded old) job.node job.version)) (with_issued new jobs)
   step_delivery old new k job jobs is has =
-      let issued : job_of (with_issued old jobs) k ≡ Some (name_of job) = job_of_names old jobs k ∙ ap (option_map name_of) is in
+      let issued : job_of (with_issued old jobs) k ≡ Some (node_and_version job) = job_of_names old jobs k ∙ ap (option_map node_and_version) is in
       (ap (delivery_reply (with_issued old jobs)) (sym issued), rw issued (same_delivered old new job jobs has))
 
   -- a delivery of no issued job is a step that changes nothing
   pub step_no_job : (s : LiveState B S) (k : ℕ) (jobs : List (Carried B S)) → job_at jobs k ≡ None → Step o s.history.limits (with_issued s jobs) (event.Deliver k) (reply.Refused NoJob) (with_issued s jobs)
   step_no_job s k jobs none =
-      let issued : job_of (with_issued s jobs) k ≡ None = job_of_names s jobs k ∙ ap (option_map name_of) none in
+      let issued : job_of (with_issued s jobs) k ≡ None = job_of_names s jobs k ∙ ap (option_map node_and_version) none in
       (ap (delivery_reply (with_issued s jobs)) (sym issued), rw issued SameRecord-self)
 
   -- that claims are forgotten is a step
@@ -181,7 +181,7 @@ module _ {B S : Type 0} (o : Operations S) where
   world_edit old new e answer jobs same answers limits world = record { limits = limits; own = own_edit old new e answer jobs same answers world.own }
 
   -- under a claim
-  pub world_claim : (old new : LiveState B S) (job : Option (Carried B S)) (jobs : List (Carried B S)) → HasClaim old new (option_map name_of job) → IfSome job (λ job. job.body ≡ old.body) → IfSome job (λ job. IsHonest o (recorded new) job.node job.version job.contents) → IsWorld o old jobs → IsWorld o new (jobs_with jobs job)
+  pub world_claim : (old new : LiveState B S) (job : Option (Carried B S)) (jobs : List (Carried B S)) → HasClaim old new (option_map node_and_version job) → IfSome job (λ job. job.body ≡ old.body) → IfSome job (λ job. IsHonest o (recorded new) job.node job.version job.contents) → IsWorld o old jobs → IsWorld o new (jobs_with jobs job)
   world_claim old new job jobs has body honest world = world_same old new jobs (jobs_with jobs job) has.history world (own_claim old new job jobs has body honest world.own)
 
   -- under a delivery

@@ -66,32 +66,32 @@ module _ {S : Type 0} where
   AllHadRoom replies = All (λ answered. answered ≢ reply.Refused NoMemory) replies
 
   -- an edit's receipt where nothing refuses it, else its refusal
-  abbrev pub plain_receipt : List Edit → Edit → Option Refusal → Reply S
-  plain_receipt edits edit None = reply.Did (receipt_of edits edit)
-  plain_receipt edits edit (Some refusal) = reply.Refused refusal
+  abbrev pub plain_edit_reply : List Edit → Edit → Option Refusal → Reply S
+  plain_edit_reply edits edit None = reply.Did (receipt_of edits edit)
+  plain_edit_reply edits edit (Some refusal) = reply.Refused refusal
 
   -- the plain left fold of a range, where nothing refuses it
-  abbrev pub plain_reduction : Operations S → List Edit → ℕ → ℕ → Option Refusal → Reply S
-  plain_reduction o edits lo hi None =
+  abbrev pub plain_reduction_reply : Operations S → List Edit → ℕ → ℕ → Option Refusal → Reply S
+  plain_reduction_reply o edits lo hi None =
       reply.Answered record { edit = length edits; value = fold_of o (slice_of edits lo hi); cells_read = 0; summaries_read = 0 }
-  plain_reduction o edits lo hi (Some refusal) = reply.Refused refusal
+  plain_reduction_reply o edits lo hi (Some refusal) = reply.Refused refusal
 
   -- the running folds of a range, where nothing refuses it
-  abbrev pub plain_scan : Operations S → List Edit → ℕ → ℕ → Bool → Option Refusal → Reply S
-  plain_scan o edits lo hi inclusive None =
+  abbrev pub plain_scan_reply : Operations S → List Edit → ℕ → ℕ → Bool → Option Refusal → Reply S
+  plain_scan_reply o edits lo hi inclusive None =
       reply.Scanned record { edit = length edits; values = scan_of inclusive o (slice_of edits lo hi) }
-  plain_scan o edits lo hi inclusive (Some refusal) = reply.Refused refusal
+  plain_scan_reply o edits lo hi inclusive (Some refusal) = reply.Refused refusal
 
   -- what an edit or a query is answered after some edits; of claims, deliveries and forgetting nothing is said here, and
   -- `Settled` stands in their places
   abbrev pub plain_answer : Operations S → Bounds → List Edit → Event → Reply S
-  plain_answer o limits edits (event.Edit edit) = plain_receipt edits edit (verdict_of limits edits edit)
+  plain_answer o limits edits (event.Edit edit) = plain_edit_reply edits edit (verdict_of limits edits edit)
   plain_answer o limits edits event.Settle = reply.Settled
   plain_answer o limits edits event.Claim = reply.Settled
   plain_answer o limits edits (event.Deliver k) = reply.Settled
   plain_answer o limits edits event.Forget = reply.Settled
-  plain_answer o limits edits (event.Reduce lo hi) = plain_reduction o edits lo hi (range_refusal edits lo hi)
-  plain_answer o limits edits (event.Scan lo hi inclusive) = plain_scan o edits lo hi inclusive (range_refusal edits lo hi)
+  plain_answer o limits edits (event.Reduce lo hi) = plain_reduction_reply o edits lo hi (range_refusal edits lo hi)
+  plain_answer o limits edits (event.Scan lo hi inclusive) = plain_scan_reply o edits lo hi inclusive (range_refusal edits lo hi)
 
   -- what edits and queries are answered, each after the edits accepted before it
   abbrev pub plain_answers : Operations S → Bounds → List Edit → List Event → List (Reply S)

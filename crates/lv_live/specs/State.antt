@@ -72,8 +72,8 @@ pub record HasDelivery {B S : Type 0} (old new : LiveState B S) (node : Node) (v
   pub kept : (n : Node) → (recorded new).kept n ≡ (after_accepted (recorded old) node version accepted).kept n
 
 -- node and version of a job
-abbrev pub name_of : {B S : Type 0} → Carried B S → Node × ℕ
-name_of job = (job.node, job.version)
+abbrev pub node_and_version : {B S : Type 0} → Carried B S → Node × ℕ
+node_and_version job = (job.node, job.version)
 
 -- a live vector with every job that it handed out, in order
 pub record WorldState (B S : Type 0) : Type 0 where
@@ -82,7 +82,7 @@ pub record WorldState (B S : Type 0) : Type 0 where
 
 -- the record of a live vector, with the jobs that were issued
 abbrev pub with_issued : {B S : Type 0} → LiveState B S → List (Carried B S) → Record
-with_issued live jobs = record (recorded live) { issued = map name_of jobs }
+with_issued live jobs = record (recorded live) { issued = map node_and_version jobs }
 
 -- the record of a world
 abbrev pub world_record : {B S : Type 0} → WorldState B S → Record

@@ -3,14 +3,14 @@ use Rattle.std.specs.Prelude.{◌≡◌, ◌⊎◌, ℕ, ◌+◌, ◌-◌, Bool,
 use Rattle.lv_geometry.specs.Bounds.{Bounds}
 use Rattle.lv_geometry.specs.declared.nodes.Node.{Node}
 use Rattle.lv_geometry.specs.declared.refusals.Refusal.{Refusal}
-use Rattle.lv_geometry.specs.declared.refusals.Refusal.TheVariants.{NoJob, NoMemory}
+use Rattle.lv_geometry.specs.declared.refusals.Refusal.TheVariants.{NoJob}
 use Rattle.lv_bodies.specs.Body.{Operations}
 use Rattle.lv_edits.specs.declared.edit.Edit.{Edit}
 use Rattle.lv_edits.specs.declared.receipt.Receipt.{Receipt}
-use Rattle.lv_edits.specs.Verdict.{receipt_of, verdict_of}
+use Rattle.lv_edits.specs.Verdict.{receipt_of, verdict_of, IsRefusal}
 use Rattle.lv_summary.specs.declared.accepted.Accepted.{Accepted}
 use Rattle.lv_summary.specs.declared.accepted.Accepted.TheVariants.{Held, Installed, Stale}
-use Rattle.lv_summary.specs.Table.{same_node}
+use Rattle.lv_geometry.specs.Nodes.{same_node}
 use Rattle.lv_refresh.specs.Claim.{IsNextJob}
 use Rattle.lv_refresh.specs.Delivery.{delivery_of}
 use Rattle.lv_refresh.specs.Record.{Record, SameRecord, is_fresh}
@@ -82,7 +82,7 @@ abbrev pub EditStep : Bounds → Record → Edit → Result Receipt Refusal → 
 EditStep limits r edit (Ok receipt) next =
     (verdict_of limits r.edits edit ≡ None) × (receipt ≡ receipt_of r.edits edit) × SameRecord (after_edit r edit) next
 EditStep limits r edit (Err refusal) next =
-    ((verdict_of limits r.edits edit ≡ Some refusal) ⊎ ((verdict_of limits r.edits edit ≡ None) × (refusal ≡ NoMemory))) × SameRecord r next
+    IsRefusal (verdict_of limits r.edits edit) refusal × SameRecord r next
 
 -- the record after a delivery
 abbrev pub after_delivery : Record → Option (Node × ℕ) → Record

@@ -17,7 +17,10 @@ mod worlds;
 pub use events::Event;
 pub use live::Live;
 pub use replies::Reply;
-pub use theorems::{answers_are_plain, refresh_changes_no_answer, refusals_change_nothing};
+pub use theorems::{
+    answers_are_plain, honest_outcomes_are_vouched_for, honesty_lasts, refresh_changes_no_answer,
+    refusals_change_nothing,
+};
 pub use worlds::{World, run};
 
 #[cfg(test)]

@@ -9,7 +9,7 @@ ghost use Rattle.lv_refresh.specs.Delivery.{delivery_of};
 ghost use Rattle.lv_refresh.specs.Honesty.{IsHonest, Vouched};
 ghost use Rattle.lv_refresh.specs.Record.{is_fresh};
 ghost use Rattle.lv_reduce.specs.Cost.{IsFew};
-ghost use Rattle.lv_live.specs.State.{HasClaim, HasDelivery, HasNoClaims, SameLive, SameRefresh, name_of, recorded};
+ghost use Rattle.lv_live.specs.State.{HasClaim, HasDelivery, HasNoClaims, SameLive, SameRefresh, node_and_version, recorded};
 ghost use Rattle.lv_live.specs.Step.{Reduces, Scans};
 
 use crate::following::{follow, make_room, touched_index};
@@ -159,8 +159,8 @@ impl<B: Body> Live<B> {
     /// A job for the least node that wants one, or none. Takes no memory.
     #[inline(always)]
     pub fn claim(&mut self) -> Option<Job<B>>
-        ensures next { IsNextJob (recorded self.old) (option_map name_of result) }
-        ensures claimed { HasClaim self.old self.new (option_map name_of result) }
+        ensures next { IsNextJob (recorded self.old) (option_map node_and_version result) }
+        ensures claimed { HasClaim self.old self.new (option_map node_and_version result) }
         ensures body { IfSome result (λ job. job.body ≡ self.old.body) }
         ensures honest { IfSome result (λ job. IsHonest (B.operations (B.meaning self.old.body)) (recorded self.new) job.node job.version job.contents) }
     {

@@ -1,6 +1,10 @@
-ghost use Rattle.std.specs.Prelude.{◌≡◌, List};
+ghost use Rattle.std.specs.Prelude.{◌≡◌, ℕ, List};
 ghost use Rattle.lv_geometry.specs.Bounds.{Bounds};
+ghost use Rattle.lv_geometry.specs.declared.nodes.Node.{Node};
 ghost use Rattle.lv_geometry.specs.declared.refusals.Refusal.{Refusal};
+ghost use Rattle.lv_edits.specs.History.{IsLegal};
+ghost use Rattle.lv_refresh.specs.declared.contents.Contents.{Contents};
+ghost use Rattle.lv_refresh.specs.Honesty.{IsHonest, Vouched};
 ghost use Rattle.lv_refresh.specs.Record.{Record, SameRecord};
 ghost use Rattle.lv_live.specs.PlainAnswers.{AllHadRoom, answers_in, plain_answers, without_refresh};
 ghost use Rattle.lv_live.specs.Step.{Run, Step};
@@ -11,7 +15,7 @@ ghost use Rattle.lv_live.specs.declared.replies.Reply.TheVariants.{Refused};
 use lv_bodies::Body;
 
 /// In every run edits and queries are answered by the edits alone: each reduction is the plain left fold of its range, and
-/// each scan its running folds, after the edits accepted before it. Runs that meet want of memory apart.
+/// each scan its running folds, after the edits accepted before it, counts of reads apart. Runs that meet want of memory apart.
 pub fn answers_are_plain<B: Body>()
     ensures { (m : B.Meaning) (limits : Bounds) (r next : Record) (events : List Event) (replies : List (Reply B.S)) →
         Run (B.operations m) limits r events replies next → AllHadRoom replies →
@@ -19,7 +23,7 @@ pub fn answers_are_plain<B: Body>()
 {}
 
 /// Refresh changes no answer: two runs from the same edits, whose events differ in claims, deliveries and forgetting alone,
-/// answer their edits and queries alike.
+/// answer their edits and queries alike, counts of reads apart. Runs that meet want of memory apart.
 pub fn refresh_changes_no_answer<B: Body>()
     ensures { (m : B.Meaning) (limits : Bounds) (r next q after : Record) (events others : List Event) (replies answers : List (Reply B.S)) →
         Run (B.operations m) limits r events replies next → AllHadRoom replies →
@@ -32,4 +36,19 @@ pub fn refresh_changes_no_answer<B: Body>()
 pub fn refusals_change_nothing<B: Body>()
     ensures { (m : B.Meaning) (limits : Bounds) (r next : Record) (event : Event) (refusal : Refusal) →
         Step (B.operations m) limits r event (Refused refusal) next → SameRecord r next }
+{}
+
+/// Honesty lasts: contents that were taken honestly at a version stay so through every event, whatever is edited, claimed,
+/// delivered or forgotten.
+pub fn honesty_lasts<B: Body>()
+    ensures { (m : B.Meaning) (limits : Bounds) (r next : Record) (event : Event) (answered : Reply B.S) (n : Node) (v : ℕ) (contents : Contents B.S) →
+        IsLegal r.edits → Step (B.operations m) limits r event answered next →
+        IsHonest (B.operations m) r n v contents → IsHonest (B.operations m) next n v contents }
+{}
+
+/// What is honest is vouched for, where the body is the vector's. So vetting says yes, for good, to each outcome of a job that
+/// the vector handed out.
+pub fn honest_outcomes_are_vouched_for<B: Body>()
+    ensures { (m other : B.Meaning) (r : Record) (n : Node) (v : ℕ) (contents : Contents B.S) →
+        m ≡ other → IsLegal r.edits → IsHonest (B.operations m) r n v contents → Vouched (B.operations m) r (m ≡ other) n v contents }
 {}

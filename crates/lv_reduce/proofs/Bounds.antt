@@ -10,7 +10,7 @@ use Rattle.std.proofs.Math.Nat.{div-div-eq-div-mul, div-lt_iff_lt-mul, le-div_if
 use Rattle.lv_geometry.specs.declared.nodes.Node.{Node}
 use Rattle.lv_geometry.specs.Nodes.{first_index, over}
 use Rattle.lv_geometry.proofs.NodeLaws.{some_width}
-use Rattle.lv_reduce.specs.Cost.{AllFresh, IsCost, IsFew, cells_of_range, is_bare, is_top, stale_blocks, summaries_of}
+use Rattle.lv_reduce.specs.Cost.{AllFresh, IsCost, IsFew, count_cells, is_bare, is_top, unfresh_blocks, count_summaries}
 use Rattle.lv_reduce.proofs.Counting.{passes_below, passes_below-is, passes_eighths, passes_either, passes_mono, passes_multiples, passes_nowhere, passes_within}
 use Rattle.lv_reduce.proofs.NodeLaws.{first_of_aligned}
 use Rattle.lv_reduce.proofs.UsedLaws.{bare_parts, in_greater_some, top_parts, used_from, used_parts}
@@ -110,7 +110,7 @@ module _ (fresh : Node → Bool) (lo hi : ℕ) where
       ]
 
   -- the cells that are read are those of stale blocks, and at most 14 more
-  few_cells : cells_of_range fresh lo hi ≤ 14 + 8 * stale_blocks fresh lo hi
+  few_cells : count_cells fresh lo hi ≤ 14 + 8 * unfresh_blocks fresh lo hi
   unfolding is_bare_at_end
   few_cells =
       let longer : hi + (8 * hi - hi) ≡ 8 * hi = omega arith in
@@ -125,7 +125,7 @@ module _ (fresh : Node → Bool) (lo hi : ℕ) where
       omega (arith, ends, either, stale, all, passes_eighths is_stale hi, passes_below-is (is_bare fresh lo hi) hi, passes_below-is is_stale hi)
 
   -- where every node inside the range is fresh, no block inside it is stale
-  none_stale : AllFresh fresh lo hi → stale_blocks fresh lo hi ≡ 0
+  none_stale : AllFresh fresh lo hi → unfresh_blocks fresh lo hi ≡ 0
   none_stale all =
       passes_below-is is_stale hi
       ∙ passes_nowhere is_stale hi
@@ -182,7 +182,7 @@ module _ (fresh : Node → Bool) (lo hi : ℕ) where
       ]
 
   -- and few summaries in all
-  few_summaries : AllFresh fresh lo hi → hi ≤ 1048576 → summaries_of fresh lo hi ≤ 84
+  few_summaries : AllFresh fresh lo hi → hi ≤ 1048576 → count_summaries fresh lo hi ≤ 84
   few_summaries all small =
       sum_by-le (λ l. count_by (is_top fresh lo hi l) (range_with_len 0 hi)) 14 (range_with_len 1 6)
       (λ k d within.

@@ -7,7 +7,7 @@ use Rattle.std.proofs.Math.Nat.{add-mod_right}
 use Rattle.lv_geometry.specs.declared.nodes.Node.{Node}
 use Rattle.lv_geometry.specs.Nodes.{first_index, over}
 use Rattle.lv_geometry.proofs.NodeLaws.{some_width}
-use Rattle.lv_reduce.specs.Cost.{IsCost, is_bare, is_top, is_used}
+use Rattle.lv_reduce.specs.Cost.{IsCost, is_bare, is_top, is_fresh_inside}
 use Rattle.lv_reduce.specs.Pieces.{Fits, NoneFresh}
 use Rattle.lv_reduce.proofs.Counting.{all_stay, one_greater, passes_below, passes_below-is, passes_below-next, passes_first, passes_none, passes_nowhere}
 use Rattle.lv_reduce.proofs.NodeLaws.{aligned_of_first, first_le, first_of_aligned, lesser_aligned, multiples_apart, over_same, still_over}
@@ -21,7 +21,7 @@ summaries_below fresh lo hi at = sum_by (λ l. passes_below (is_top fresh lo hi 
 pub record IsWalk (fresh : Node → Bool) (lo hi at cells summaries : ℕ) : Type 0 where
   pub low : lo ≤ at
   pub high : at ≤ hi
-  pub begins : (level : ℕ) → 1 ≤ level → level ≤ 6 → is_used fresh lo hi (over level at) ≡ true → at % 8 ^ level ≡ 0
+  pub begins : (level : ℕ) → 1 ≤ level → level ≤ 6 → is_fresh_inside fresh lo hi (over level at) ≡ true → at % 8 ^ level ≡ 0
   pub cells_are : cells ≡ passes_below (is_bare fresh lo hi) at
   pub summaries_are : summaries ≡ summaries_below fresh lo hi at
   pub few : cells + summaries ≤ at - lo
@@ -49,7 +49,7 @@ walk_ends fresh lo hi at cells summaries walk end =
 -- a walk that stands at an index where a level is the greatest of which a fresh node begins there, or 0
 module _ (fresh : Node → Bool) (lo hi at cells summaries level : ℕ) (walk : IsWalk fresh lo hi at cells summaries) (low : level ≤ 6) (fits : Fits at hi level) (none : NoneFresh fresh at hi level) where
   -- no node of a greater level over the index is used
-  none_above : (l : ℕ) → level < l → l ≤ 6 → is_used fresh lo hi (over l at) ≡ false
+  none_above : (l : ℕ) → level < l → l ≤ 6 → is_fresh_inside fresh lo hi (over l at) ≡ false
   none_above l above few =
       false_from_ne_true _ (λ is.
       let aligned = walk.begins l (omega arith) few is in
@@ -58,14 +58,14 @@ module _ (fresh : Node → Bool) (lo hi at cells summaries level : ℕ) (walk : 
       false≢true (sym (none l above few fits_too) ∙ used.fresh_is))
 
   -- a used node over the index past the node of this level begins there
-  next_begins : (l : ℕ) → 1 ≤ l → l ≤ 6 → is_used fresh lo hi (over l (at + 8 ^ level)) ≡ true → (at + 8 ^ level) % 8 ^ l ≡ 0
+  next_begins : (l : ℕ) → 1 ≤ l → l ≤ 6 → is_fresh_inside fresh lo hi (over l (at + 8 ^ level)) ≡ true → (at + 8 ^ level) % 8 ^ l ≡ 0
   next_begins l some few is =
       elim (cases_lt level l) [
         | inr no_above ↦ lesser_aligned (at + 8 ^ level) l level no_above (add-mod_right at (8 ^ level) ∙ fits.begins)
         | inl above ↦ elim (cases_lt (first_index (over l (at + 8 ^ level))) (at + 8 ^ level)) [
           | inl before ↦
               let same = still_over at level l (omega arith) fits.begins before in
-              absurd (false≢true (sym (none_above l above few) ∙ ap (is_used fresh lo hi) same ∙ is))
+              absurd (false≢true (sym (none_above l above few) ∙ ap (is_fresh_inside fresh lo hi) same ∙ is))
           | inr from ↦ aligned_of_first l (at + 8 ^ level) (omega (arith, first_le l (at + 8 ^ level)))
         ]
       ]
@@ -80,7 +80,7 @@ module _ (fresh : Node → Bool) (lo hi at cells summaries level : ℕ) (walk : 
         | inl behind ↦ absurd (omega (arith, multiples_apart (8 ^ level) at i fits.begins narrow behind))
         | inr here ↦
             let same : at ≡ i = omega arith in
-            false≢true (sym (none_above l above few) ∙ ap (λ j. is_used fresh lo hi (over l j)) same ∙ top.used)
+            false≢true (sym (none_above l above few) ∙ ap (λ j. is_fresh_inside fresh lo hi (over l j)) same ∙ top.used)
       ])
 
   -- where no fresh node begins, one cell is read
@@ -93,7 +93,7 @@ module _ (fresh : Node → Bool) (lo hi at cells summaries level : ℕ) (walk : 
       record {
         low = omega (arith, walk.low);
         high = omega arith;
-        begins = λ l low few is. ap (λ j. j % 8 ^ l) (sym next) ∙ next_begins l low few (ap (λ j. is_used fresh lo hi (over l j)) next ∙ is);
+        begins = λ l low few is. ap (λ j. j % 8 ^ l) (sym next) ∙ next_begins l low few (ap (λ j. is_fresh_inside fresh lo hi (over l j)) next ∙ is);
         cells_are = omega (arith, passes_below-next (is_bare fresh lo hi) at, walk.cells_are);
         summaries_are =
             walk.summaries_are
@@ -105,16 +105,16 @@ module _ (fresh : Node → Bool) (lo hi at cells summaries level : ℕ) (walk : 
   -- else the summary of a fresh node
   module _ (some : 1 ≤ level) (is_fresh : fresh (over level at) ≡ true) where
     -- the node is used
-    node_used : is_used fresh lo hi (over level at) ≡ true
+    node_used : is_fresh_inside fresh lo hi (over level at) ≡ true
     node_used =
         let first = first_of_aligned level at fits.begins in
         used_from fresh lo hi (over level at) record { fresh_is = is_fresh; low = omega (arith, walk.low); high = omega (arith, fits.ends) }
 
     -- and so is the node of its level over each of its indices
-    inside_used : (i : ℕ) → at ≤ i → i < at + 8 ^ level → is_used fresh lo hi (over level i) ≡ true
+    inside_used : (i : ℕ) → at ≤ i → i < at + 8 ^ level → is_fresh_inside fresh lo hi (over level i) ≡ true
     inside_used i from below =
         let first = first_of_aligned level at fits.begins in
-        ap (is_used fresh lo hi) (over_same level at i (omega arith) (omega arith)) ∙ node_used
+        ap (is_fresh_inside fresh lo hi) (over_same level at i (omega arith) (omega arith)) ∙ node_used
 
     -- none of them is bare
     none_bare : (i : ℕ) → at ≤ i → i < at + 8 ^ level → is_bare fresh lo hi i ≡ false

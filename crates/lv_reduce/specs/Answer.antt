@@ -2,11 +2,12 @@
 use Rattle.std.specs.Prelude.{◌≡◌, ◌⊎◌, ℕ, Bool, ℤ, Option, Some, None, List, length, nat_lt, if◌then◌else◌}
 use Rattle.std.specs.List.{slice_range}
 use Rattle.lv_geometry.specs.declared.refusals.Refusal.{Refusal}
-use Rattle.lv_geometry.specs.declared.refusals.Refusal.TheVariants.{BadRange, NoMemory, OutOfRange}
+use Rattle.lv_geometry.specs.declared.refusals.Refusal.TheVariants.{BadRange, OutOfRange}
 use Rattle.lv_bodies.specs.Body.{Operations, fold_of}
 use Rattle.lv_bodies.specs.Scan.{exclusive_scan, inclusive_scan}
 use Rattle.lv_edits.specs.declared.edit.Edit.{Edit}
 use Rattle.lv_edits.specs.History.{list_of}
+use Rattle.lv_edits.specs.Verdict.{IsRefusal}
 use Rattle.lv_reduce.specs.declared.reductions.Answer.{Answer}
 use Rattle.lv_reduce.specs.declared.scans.Scan.{Scan}
 
@@ -36,4 +37,4 @@ pub record IsScan {S : Type 0} (edits : List Edit) (lo hi : ℕ) (values : List 
 
 -- a scan was refused because its range is, or else for want of memory
 abbrev pub IsScanRefusal : List Edit → ℕ → ℕ → Refusal → Type 0
-IsScanRefusal edits lo hi refusal = (range_refusal edits lo hi ≡ Some refusal) ⊎ ((range_refusal edits lo hi ≡ None) × (refusal ≡ NoMemory))
+IsScanRefusal edits lo hi refusal = IsRefusal (range_refusal edits lo hi) refusal

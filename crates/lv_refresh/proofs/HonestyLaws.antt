@@ -13,14 +13,13 @@ use Rattle.std.proofs.lemmas.List.Sums.{AllPass-from_list_all, fold-append, list
 use Rattle.std.proofs.lemmas.Option.{get_or_from_slice_get}
 use Rattle.lv_geometry.specs.declared.nodes.Node.{Node}
 use Rattle.lv_geometry.specs.Elements.{IsElement}
-use Rattle.lv_geometry.specs.Nodes.{child, is_below, is_node}
+use Rattle.lv_geometry.specs.Nodes.{child, is_below, is_node, same_node}
 use Rattle.lv_bodies.specs.Body.{BodyLaws, CanFold, Operations, fold_of}
 use Rattle.lv_bodies.specs.FoldLaws.{fold_of-within, going_on-is_join}
 use Rattle.lv_edits.specs.declared.edit.Edit.{Edit}
 use Rattle.lv_edits.specs.History.{list_of, replayed}
 use Rattle.lv_edits.specs.Touch.{cells_of, is_whole, touched_by}
 use Rattle.lv_edits.proofs.TouchLaws.{cells_of-length, touched_by-le, touched_by_grows, touched_by_parent, untouched_since, whole_below, whole_from}
-use Rattle.lv_summary.specs.Table.{same_node}
 use Rattle.lv_summary.proofs.FoldableLaws.{part_can_fold}
 use Rattle.lv_summary.proofs.TableLaws.{same_node-eq}
 use Rattle.lv_refresh.specs.declared.contents.Contents.{Contents}

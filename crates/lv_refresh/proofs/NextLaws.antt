@@ -4,14 +4,14 @@ use Rattle.std.specs.Option.{IfNone, IfSome}
 use Rattle.std.proofs.lemmas.Bool.{and_left, and_parts, cases_Bool, false≢true, ne_eqb, true≢false}
 use Rattle.std.proofs.lemmas.Option.{slice_get-get_or}
 use Rattle.lv_geometry.specs.declared.nodes.Node.{Node}
-use Rattle.lv_geometry.specs.Nodes.{child, is_below, is_node}
+use Rattle.lv_geometry.specs.Nodes.{child, is_below, is_node, same_node}
 use Rattle.lv_bodies.specs.Body.{BodyLaws, CanFold, Operations}
 use Rattle.lv_edits.specs.declared.edit.Edit.{Edit}
 use Rattle.lv_edits.specs.History.{History, list_of}
 use Rattle.lv_edits.specs.Kept.{InLimits}
 use Rattle.lv_edits.specs.Touch.{touched_by}
 use Rattle.lv_summary.specs.Agrees.{Agrees}
-use Rattle.lv_summary.specs.Table.{Table, entry_in, fresh_in, same_node, touched_in, whole_in}
+use Rattle.lv_summary.specs.Table.{Table, entry_in, fresh_in, touched_in, whole_in}
 use Rattle.lv_summary.proofs.AgreesLaws.{whole_agrees}
 use Rattle.lv_summary.proofs.FoldableLaws.{can_fold}
 use Rattle.lv_summary.proofs.TableLaws.{fresh_of_entry}

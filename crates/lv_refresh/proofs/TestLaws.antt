@@ -4,7 +4,7 @@ use Rattle.std.specs.Prelude.{ℤ}
 use Rattle.std.proofs.lemmas.Bool.{and_from, and_parts, cases_Bool, leb-true, le-leb, or_left, or_right}
 use Rattle.std.proofs.lemmas.List.{length_push}
 use Rattle.lv_geometry.specs.declared.nodes.Node.{Node}
-use Rattle.lv_geometry.specs.Nodes.{covers, is_below, is_node, parent}
+use Rattle.lv_geometry.specs.Nodes.{covers, is_below, is_node, parent, same_node}
 use Rattle.lv_bodies.specs.Body.{CanFold, fold_of}
 use Rattle.lv_bodies.specs.SumLaws.{sum_laws}
 use Rattle.lv_bodies.specs.Sums.{IsSum, sum_operations}
@@ -16,7 +16,7 @@ use Rattle.lv_edits.specs.Touch.{cells_of, is_whole, touches}
 use Rattle.lv_edits.proofs.TouchLaws.{none_whole}
 use Rattle.lv_summary.specs.declared.accepted.Accepted.{Accepted}
 use Rattle.lv_summary.specs.declared.accepted.Accepted.TheVariants.{Held, Installed, Stale}
-use Rattle.lv_summary.specs.Table.{AfterDelivery, AnswersAlike, HasSize, Keeps, Table, Touches, blocks_in, delivery_in, kept_in, same_node, touched_in}
+use Rattle.lv_summary.specs.Table.{AfterDelivery, AnswersAlike, HasSize, Keeps, Table, Touches, blocks_in, delivery_in, kept_in, touched_in}
 use Rattle.lv_summary.proofs.AgreesLaws.{agrees_after_touch, agrees_alike, agrees_empty, agrees_installed, whole_agrees}
 use Rattle.lv_summary.proofs.FoldableLaws.{can_fold}
 use Rattle.lv_summary.proofs.TableLaws.{current_of_installed, version_kept}

@@ -3,9 +3,9 @@ use Rattle.std.proofs.Common.{◌≡◌, ◌≢◌, ℕ, ◌+◌, ◌*◌, ◌<�
 use Rattle.std.proofs.lemmas.Bool.{and_from, and_left, and_parts, and_right, cases_Bool, cases_eq, cases_lt, cond-false, cond-true, eq-eqb, false_from_ne_true, false≢true, ne_eqb}
 use Rattle.std.proofs.lemmas.List.{get_or-set_other, get_or-set_same, length-set}
 use Rattle.lv_geometry.specs.declared.nodes.Node.{Node}
-use Rattle.lv_geometry.specs.Nodes.{is_below, is_node}
+use Rattle.lv_geometry.specs.Nodes.{is_below, is_node, same_node}
 use Rattle.lv_geometry.proofs.NodeLaws.{level_of_node, node_of_level}
-use Rattle.lv_summary.specs.Table.{Table, same_node}
+use Rattle.lv_summary.specs.Table.{Table}
 use Rattle.lv_summary.proofs.TableLaws.{node_of_same}
 use Rattle.lv_refresh.specs.Claim.{Before}
 use Rattle.lv_refresh.specs.Claimed.{ClaimTable, claim_blocks, claimed_in, is_hinted, version_of}

@@ -4,12 +4,11 @@ use Rattle.std.proofs.Common.{◌≡◌, ◌⊎◌, ℕ, ◌+◌, ◌-◌, ◌*�
 use Rattle.std.specs.Prelude.{ℤ}
 use Rattle.std.proofs.lemmas.Bool.{and_from, and_parts, cases_Bool, cond-false, cond-true, eq-eqb, eqb-false, eqb-true, leb-true, not-true, or_left, true≢false}
 use Rattle.lv_geometry.specs.declared.nodes.Node.{Node}
-use Rattle.lv_geometry.specs.Nodes.{child, is_node, parent}
+use Rattle.lv_geometry.specs.Nodes.{child, is_node, parent, same_node}
 use Rattle.lv_edits.specs.declared.edit.Edit.{Edit}
 use Rattle.lv_edits.specs.History.{applied, list_of, replayed}
 use Rattle.lv_edits.specs.Touch.{is_whole, touched_by, touches}
 use Rattle.lv_edits.proofs.TouchLaws.{touched_by-snoc, touches_parent, untouched_keeps}
-use Rattle.lv_summary.specs.Table.{same_node}
 use Rattle.lv_summary.proofs.TableLaws.{same_node-eq, same_node-self}
 use Rattle.lv_refresh.proofs.HonestyLaws.{children_fresh_from, each_child_fresh}
 use Rattle.lv_refresh.specs.Claim.{children_fresh, wants_job}

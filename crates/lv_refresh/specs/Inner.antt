@@ -2,10 +2,10 @@
 use Rattle.std.specs.Prelude.{◌≡◌, ℕ, ◌+◌, ◌-◌, ◌*◌, ◌^◌, ◌<◌, ◌≤◌, Bool, true, false, ◌&&◌, ◌||◌, not, Option, Some, None, List, [], ◌∷◌, ◌++◌, length, replicate, slice_get, slice_index, slice_set, sum, nat_eq, if◌then◌else◌}
 use Rattle.std.specs.List.{list_all, range_with_len, slice_index_or}
 use Rattle.lv_geometry.specs.declared.nodes.Node.{Node}
-use Rattle.lv_geometry.specs.Nodes.{child, is_node}
+use Rattle.lv_geometry.specs.Nodes.{child, is_node, same_node}
 use Rattle.lv_edits.specs.declared.edit.Edit.{Edit}
 use Rattle.lv_edits.specs.Touch.{cells_of}
-use Rattle.lv_summary.specs.Table.{Table, entry_in, fresh_in, same_node, touched_in, whole_in}
+use Rattle.lv_summary.specs.Table.{Table, entry_in, fresh_in, touched_in, whole_in}
 use Rattle.lv_refresh.specs.declared.contents.Contents.{Contents}
 use Rattle.lv_refresh.specs.declared.contents.Contents.TheVariants.{Elements, Children}
 use Rattle.lv_refresh.specs.Carried.{Carried}

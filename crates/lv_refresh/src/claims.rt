@@ -1,7 +1,7 @@
 ghost use Rattle.std.specs.Prelude.{◌≡◌, ℕ, ◌+◌, ◌*◌, ◌/◌, ◌^◌, ◌<◌, ◌≤◌, ◌&&◌, ◌||◌, Bool, true, false, None, Some, option_map, length, IfSome, IfNone, OnOk, OnErr, IfErr, if◌then◌else◌};
-ghost use Rattle.lv_geometry.specs.Nodes.{covers, is_below, is_node, parent};
+ghost use Rattle.lv_geometry.specs.Nodes.{covers, is_below, is_node, parent, same_node};
 ghost use Rattle.lv_summary.specs.Agrees.{Agrees};
-ghost use Rattle.lv_summary.specs.Table.{same_node, whole_in};
+ghost use Rattle.lv_summary.specs.Table.{whole_in};
 ghost use Rattle.lv_refresh.specs.Claim.{IsNextJob};
 ghost use Rattle.lv_refresh.specs.Claimed.{AreHints, claim_blocks, claimed_in, is_hinted, record_of};
 ghost use Rattle.lv_refresh.specs.Honesty.{Stands};

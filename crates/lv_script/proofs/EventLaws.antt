@@ -29,7 +29,7 @@ use Rattle.lv_reduce.specs.declared.scans.Scan.{Scan}
 use Rattle.lv_reduce.specs.Answer.{range_refusal, scan_of, slice_of}
 use Rattle.lv_live.specs.declared.events.Event.TheVariants as event
 use Rattle.lv_live.specs.declared.replies.Reply.TheVariants as reply
-use Rattle.lv_live.specs.State.{HasClaim, HasDelivery, HasNoClaims, SameLive, SameRefresh, job_at, jobs_with, name_of, recorded}
+use Rattle.lv_live.specs.State.{HasClaim, HasDelivery, HasNoClaims, SameLive, SameRefresh, job_at, jobs_with, node_and_version, recorded}
 use Rattle.lv_live.specs.Step.{Reduces, Scans, claim_reply, reduction_reply}
 use Rattle.lv_live.proofs.WorldLaws.{step_claim, step_delivery, step_edit, step_forget, step_no_job, step_reduction, step_settle}
 use Rattle.lv_standing.specs.declared.notes.Note.{Note}
@@ -49,11 +49,11 @@ pub unchanged : (s : StandingState) (jobs : List (Carried Six SixSummary)) → H
 unchanged s jobs = record { limits = refl; seen = record { edits = refl; issued = refl; claimed = λ n. refl; kept = λ n. refl }; queries_are = refl }
 
 -- a claim
-pub tells_claim : (old new : StandingState) (job : Option (Carried Six SixSummary)) (jobs : List (Carried Six SixSummary)) → IsNextJob (recorded old.live) (option_map name_of job) → HasClaim old.live new.live (option_map name_of job) → new.queries ≡ old.queries
-    → TellsEvent (state_of old jobs) event.Claim (reply_text (claim_reply (length jobs + 1) (option_map name_of job))) (state_of new (jobs_with jobs job))
+pub tells_claim : (old new : StandingState) (job : Option (Carried Six SixSummary)) (jobs : List (Carried Six SixSummary)) → IsNextJob (recorded old.live) (option_map node_and_version job) → HasClaim old.live new.live (option_map node_and_version job) → new.queries ≡ old.queries
+    → TellsEvent (state_of old jobs) event.Claim (reply_text (claim_reply (length jobs + 1) (option_map node_and_version job))) (state_of new (jobs_with jobs job))
 tells_claim old new job jobs next has queries =
     record {
-      answered = claim_reply (length jobs + 1) (option_map name_of job);
+      answered = claim_reply (length jobs + 1) (option_map node_and_version job);
       does = record { step = step_claim program_operations old.live new.live job jobs next has; limits = ap (λ h. h.limits) has.history; queries = queries };
       text_is = refl;
     }

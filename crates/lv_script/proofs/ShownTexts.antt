@@ -14,13 +14,13 @@ use Rattle.lv_bodies.specs.Plain.{plain_value, plain_sum, plain_least, plain_gre
 use Rattle.lv_bodies.specs.RemainderLaws.{remainder_below}
 use Rattle.lv_bodies.specs.Extremes.{least_operations, greatest_operations, IsExtreme}
 use Rattle.lv_bodies.specs.ExtremeLaws.{least_laws, greatest_laws, fold_of-least, fold_of-greatest}
-use Rattle.lv_bodies.specs.declared.best.Run.{Run}
-use Rattle.lv_bodies.specs.Runs.{best_operations, IsBest}
-use Rattle.lv_bodies.specs.RunLaws.{best_laws}
+use Rattle.lv_bodies.specs.declared.best.RunTotals.{RunTotals}
+use Rattle.lv_bodies.specs.RunTotals.{best_operations, IsBest}
+use Rattle.lv_bodies.specs.TotalsLaws.{best_laws}
 use Rattle.lv_bodies.specs.BestLaws.{fold_of-best}
-use Rattle.lv_bodies.specs.Lines.{affine_operations, IsLine}
-use Rattle.lv_bodies.specs.LineLaws.{affine_laws, fold_of-affine}
-use Rattle.lv_bodies.specs.Tables.{automaton_operations, IsRow}
+use Rattle.lv_bodies.specs.AffineMaps.{affine_operations, IsAffineMap}
+use Rattle.lv_bodies.specs.AffineLaws.{affine_laws, fold_of-affine}
+use Rattle.lv_bodies.specs.Tables.{automaton_operations, IsStateMap}
 use Rattle.lv_bodies.specs.TableLaws.{automaton_laws, fold_of-automaton}
 use Rattle.lv_script.specs.Texts.{shown_text, some_number}
 use Rattle.lv_script.specs.Words.{spaced}
@@ -74,7 +74,7 @@ extreme_small None n within = tt
 extreme_small (Some x) n within = element_small x within
 
 -- the best run's total is no greater than that
-best_small : (r : Option Run) (n : ℕ) → n ≤ 2 ^ 20 → IsBest r n → IfSome (option_map (λ r. r.best) r) (λ y. unsigned_abs y < 10 ^ 40)
+best_small : (r : Option RunTotals) (n : ℕ) → n ≤ 2 ^ 20 → IsBest r n → IfSome (option_map (λ r. r.best) r) (λ y. unsigned_abs y < 10 ^ 40)
 best_small None n few within = tt
 best_small (Some r) n few within = omega (arith, within.best)
 
@@ -121,11 +121,11 @@ shown_plain Best xs can =
     shown_some (plain_best xs)
     (subst (λ (x : Option ℤ). IfSome x (λ y. unsigned_abs y < 10 ^ 40)) (fold_of-best xs) (best_small (fold_of best_operations xs) (length xs) can.few within))
 shown_plain Affine xs can =
-    let within = fold_of-within affine_operations IsLine affine_laws xs can in
+    let within = fold_of-within affine_operations IsAffineMap affine_laws xs can in
     let same = fold_of-affine xs can in
     two_numbers (plain_affine xs).0 (plain_affine xs).1 (omega (arith, within.a, same.0)) (omega (arith, within.b, same.1))
 shown_plain Automaton xs can =
-    let row : IsRow (plain_automaton program_table xs) (length xs) =
-    subst (λ (r : List ℕ). IsRow r (length xs)) (fold_of-automaton program_table xs) (fold_of-within (automaton_operations program_table) IsRow (automaton_laws program_table refl) xs can) in
+    let row : IsStateMap (plain_automaton program_table xs) (length xs) =
+    subst (λ (r : List ℕ). IsStateMap r (length xs)) (fold_of-automaton program_table xs) (fold_of-within (automaton_operations program_table) IsStateMap (automaton_laws program_table refl) xs can) in
     let text = states_text (plain_automaton program_table xs) row.states in
     record { short = omega (arith, text.0, row.eight); printable = text.1 }

@@ -4,7 +4,7 @@ use Rattle.lv_script.specs.declared.fault.Fault.{Fault}
 use Rattle.lv_script.specs.declared.fault.Fault.TheVariants.{NoMemory, ReadFault, WriteFault}
 
 -- the number by which a fault is shown
-abbrev pub number_of : Fault → ℕ
-number_of NoMemory = 6
-number_of ReadFault = 13
-number_of WriteFault = 14
+abbrev pub fault_number : Fault → ℕ
+fault_number NoMemory = 6
+fault_number ReadFault = 13
+fault_number WriteFault = 14

@@ -17,11 +17,11 @@ pub enum Fault {
 }
 
 impl Fault {
-    ghost use Rattle.lv_script.specs.Faults.{number_of};
+    ghost use Rattle.lv_script.specs.Faults.{fault_number};
 
     /// The number by which the program shows it.
     pub fn number(self) -> u32
-        ensures { result ≡ number_of self }
+        ensures { result ≡ fault_number self }
     {
         match self {
             Fault::NoMemory => 6,

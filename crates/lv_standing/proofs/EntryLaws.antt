@@ -15,7 +15,8 @@ use Rattle.lv_geometry.specs.declared.refusals.Refusal.TheVariants.{BadRange, Na
 use Rattle.lv_edits.specs.declared.edit.Edit.{Edit}
 use Rattle.lv_standing.specs.declared.watches.Watch.{Watch}
 use Rattle.lv_standing.specs.Queries.{Query, name_refusal, query_of, watch_refusal, without_query}
-use Rattle.lv_standing.specs.Standings.{IsCurrent, asked, has_index, queries_of, query_at, refreshed}
+use Rattle.lv_standing.specs.Inner.{asked, has_index, refreshed}
+use Rattle.lv_standing.specs.Standings.{IsCurrent, queries_of, query_at}
 use Rattle.lv_standing.proofs.KeptNames.{same_name}
 
 -- a test says yes or no

@@ -6,7 +6,8 @@ use Rattle.lv_edits.specs.declared.edit.Edit.{Edit}
 use Rattle.lv_standing.specs.declared.notes.Note.{Note}
 use Rattle.lv_standing.specs.declared.watches.Watch.{Watch}
 use Rattle.lv_standing.specs.Queries.{AreNotes, Query, watch_answer}
-use Rattle.lv_standing.specs.Standings.{IsCurrent, IsToldAt, asked, queries_of, query_at, refreshed}
+use Rattle.lv_standing.specs.Inner.{IsToldAt, asked, refreshed}
+use Rattle.lv_standing.specs.Standings.{IsCurrent, queries_of, query_at}
 use Rattle.lv_edits.proofs.Slices.{there_is}
 use Rattle.lv_standing.proofs.EntryLaws.{asked_more, at_seam, front_is, rest_is, set_at_seam, set_same}
 

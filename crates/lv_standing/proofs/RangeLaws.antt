@@ -13,7 +13,7 @@ use Rattle.lv_edits.specs.Verdict.{verdict_of}
 use Rattle.lv_edits.proofs.HistoryLaws.{accepted_is_possible, list_of-snoc}
 use Rattle.lv_edits.proofs.Slices.{part_of_push, part_of_set}
 use Rattle.lv_summary.proofs.FoldableLaws.{can_fold, part_can_fold}
-use Rattle.lv_standing.specs.Standings.{has_index, index_changed}
+use Rattle.lv_standing.specs.Inner.{has_index, index_changed}
 
 -- a range that starts past the end is empty
 empty_past : {A : Type 0} (xs : List A) (lo hi : ℕ) → length xs ≤ lo → slice_range xs lo hi ≡ []

@@ -1,3 +1,4 @@
+pub mod Inner
 pub mod Names
 pub mod Queries
 pub mod Standings

@@ -2,11 +2,11 @@ ghost use Rattle.std.specs.Prelude.{◌≡◌, ◌↔◌, ◌⊎◌, ◌≤◌, 
 ghost use Rattle.lv_geometry.specs.declared.nodes.Node.{Node};
 ghost use Rattle.lv_bodies.specs.Six.{SixMeaning, six_meaning, six_operations};
 ghost use Rattle.lv_edits.specs.Kept.{InLimits};
-ghost use Rattle.lv_edits.specs.Verdict.{Accepts, Refuses};
+ghost use Rattle.lv_edits.specs.Verdict.{Accepts, IsRefusal, Refuses};
 ghost use Rattle.lv_refresh.specs.Claim.{IsNextJob};
 ghost use Rattle.lv_refresh.specs.Delivery.{delivery_of};
 ghost use Rattle.lv_refresh.specs.Honesty.{IsHonest, Vouched};
-ghost use Rattle.lv_live.specs.State.{HasClaim, HasDelivery, HasNoClaims, SameLive, SameRefresh, name_of, recorded};
+ghost use Rattle.lv_live.specs.State.{HasClaim, HasDelivery, HasNoClaims, SameLive, SameRefresh, node_and_version, recorded};
 ghost use Rattle.lv_standing.specs.Queries.{AreNotes, Query, query_of, watch_answer, watch_refusal, without_query};
 
 use crate::names::Name;
@@ -59,8 +59,7 @@ impl Standing {
     pub fn watch(&mut self, name: Name, kind: Kind, lo: u32, hi: u32) -> Result<(), Refusal>
         ensures ok { OnOk result ((watch_refusal self.old.queries name lo hi ≡ None)
             × (self.new.queries ≡ self.old.queries ++ record { name = name; kind = kind; lo = lo; hi = hi } ∷ [])) }
-        ensures err { IfErr result (λ refusal. (watch_refusal self.old.queries name lo hi ≡ Some refusal)
-            ⊎ ((watch_refusal self.old.queries name lo hi ≡ None) × (refusal ≡ Refusal.NoMemory))) }
+        ensures err { IfErr result (λ refusal. IsRefusal (watch_refusal self.old.queries name lo hi) refusal) }
         ensures unchanged { OnErr result (self.new.queries ≡ self.old.queries) }
         ensures live { self.new.live ≡ self.old.live }
     {
@@ -157,8 +156,8 @@ impl Standing {
 
     /// A job for the least node that wants one, or none. Takes no memory.
     pub fn claim(&mut self) -> Option<Job<Six>>
-        ensures next { IsNextJob (recorded self.old.live) (option_map name_of result) }
-        ensures claimed { HasClaim self.old.live self.new.live (option_map name_of result) }
+        ensures next { IsNextJob (recorded self.old.live) (option_map node_and_version result) }
+        ensures claimed { HasClaim self.old.live self.new.live (option_map node_and_version result) }
         ensures body { IfSome result (λ job. job.body ≡ self.old.live.body) }
         ensures honest { IfSome result (λ job. IsHonest (six_operations six_meaning)
             (recorded self.new.live) job.node job.version job.contents) }

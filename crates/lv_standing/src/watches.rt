@@ -7,7 +7,8 @@ ghost use Rattle.lv_edits.specs.declared.edit.Edit.{Edit as Change};
 ghost use Rattle.lv_edits.specs.History.{list_of};
 ghost use Rattle.lv_edits.specs.Kept.{InLimits};
 ghost use Rattle.lv_standing.specs.Queries.{AreNotes};
-ghost use Rattle.lv_standing.specs.Standings.{AtIndex, IsCurrent, IsToldAt, SameElsewhere, asked, has_index, index_changed, queries_of, refreshed};
+ghost use Rattle.lv_standing.specs.Inner.{AtIndex, IsToldAt, SameElsewhere, asked, has_index, index_changed, refreshed};
+ghost use Rattle.lv_standing.specs.Standings.{IsCurrent, queries_of};
 
 use crate::names::Name;
 use crate::notes::Note;

@@ -6,7 +6,7 @@ use Rattle.std.proofs.lemmas.List.{length_push}
 use Rattle.std.proofs.lemmas.Option.{none-some, same_Some}
 use Rattle.std.specs.Option.{option_map_or}
 use Rattle.lv_geometry.specs.declared.nodes.Node.{Node}
-use Rattle.lv_geometry.specs.Nodes.{covers, is_below, is_node}
+use Rattle.lv_geometry.specs.Nodes.{covers, is_below, is_node, same_node}
 use Rattle.lv_bodies.specs.Body.{Operations, fold_of}
 use Rattle.lv_edits.specs.declared.edit.Edit.{Edit}
 use Rattle.lv_edits.specs.History.{applied, list_of, replayed}
@@ -14,7 +14,7 @@ use Rattle.lv_edits.specs.Touch.{cells_of, index_written, is_whole, touches}
 use Rattle.lv_edits.proofs.HistoryLaws.{list_of_replayed, list_of-snoc, replayed-nil}
 use Rattle.lv_edits.proofs.TouchLaws.{touched_by-le, touched_by-none, touched_by-snoc, untouched_keeps}
 use Rattle.lv_summary.specs.Agrees.{Agrees}
-use Rattle.lv_summary.specs.Table.{AnswersAlike, HasSize, Keeps, Table, Touches, entry_in, has_version, kept_in, same_node, touched_in, whole_in}
+use Rattle.lv_summary.specs.Table.{AnswersAlike, HasSize, Keeps, Table, Touches, entry_in, has_version, kept_in, touched_in, whole_in}
 use Rattle.lv_summary.proofs.TableLaws.{entry_in-alike, entry_in-kept, entry_in-other, entry_of_fresh, fresh_of_entry, node_of_whole, same_node-eq, whole_of_fresh}
 
 -- what an edit makes of a table: it has the size of the list, and the nodes that the edit touches have its number; what is

@@ -3,10 +3,10 @@ use Rattle.std.proofs.Common.{◌≡◌, ℕ, ◌+◌, ◌-◌, ◌*◌, ◌/◌
 use Rattle.std.proofs.lemmas.Bool.{cases_Bool, cond_both, eqb-true, ne_eqb, true≢false}
 use Rattle.std.proofs.lemmas.List.{length-set}
 use Rattle.lv_geometry.specs.declared.nodes.Node.{Node}
-use Rattle.lv_geometry.specs.Nodes.{covers, is_node}
+use Rattle.lv_geometry.specs.Nodes.{covers, is_node, same_node}
 use Rattle.lv_geometry.proofs.NodeLaws.{level_of_node}
 use Rattle.lv_summary.specs.Inner.{IsLevel, IsRowOf, IsSound, filled, with_kept, with_touch}
-use Rattle.lv_summary.specs.Table.{AnswersAlike, HasSize, Keeps, Rows, Table, Touches, blocks_in, kept_in, no_rows, rows_for, same_node, touched_in, whole_in}
+use Rattle.lv_summary.specs.Table.{AnswersAlike, HasSize, Keeps, Rows, Table, Touches, blocks_in, kept_in, no_rows, rows_for, touched_in, whole_in}
 use Rattle.lv_summary.proofs.LevelLaws.{IsLevel-empty, IsLevel-filled, IsLevel-with_kept, IsLevel-with_touch, kept_at, kept_at-filled, kept_at-with_kept, length-lengthened, touched_at, touched_at-filled, touched_at-with_touch}
 use Rattle.lv_summary.proofs.TableLaws.{node_of_whole}
 use Rattle.lv_summary.proofs.NodeRows.{IsRowOf-whole, blocks_in-rows, cond-and_false, cond-and_true, kept_in-inside, kept_in-outside, row_of_index, rows_at, touched_in-inside, touched_in-outside}

@@ -3,9 +3,9 @@ use Rattle.std.proofs.Common.{◌≡◌, ℕ, Bool, true, false, ◌&&◌, cond,
 use Rattle.std.proofs.lemmas.Bool.{and_from, and_parts, and_right, cases_Bool, cond-false, cond-true, eq-eqb, eqb-true, false≢true}
 use Rattle.std.proofs.lemmas.Option.{none-some}
 use Rattle.lv_geometry.specs.declared.nodes.Node.{Node}
-use Rattle.lv_geometry.specs.Nodes.{covers, is_below, is_node}
+use Rattle.lv_geometry.specs.Nodes.{covers, is_below, is_node, same_node}
 use Rattle.lv_summary.specs.declared.accepted.Accepted.TheVariants.{Held, Installed, Stale}
-use Rattle.lv_summary.specs.Table.{AnswersAlike, HasSize, Keeps, Table, Touches, delivery_in, entry_in, fresh_in, has_version, kept_in, same_node, touched_in, whole_in}
+use Rattle.lv_summary.specs.Table.{AnswersAlike, HasSize, Keeps, Table, Touches, delivery_in, entry_in, fresh_in, has_version, kept_in, touched_in, whole_in}
 
 -- a node is itself
 pub same_node-self : (n : Node) → same_node n n ≡ true

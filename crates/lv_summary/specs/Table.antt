@@ -2,7 +2,7 @@
 use Rattle.std.specs.Prelude.{◌≡◌, ℕ, ◌-◌, Bool, false, ◌&&◌, Option, Some, None, option_map, List, [], slice_get, slice_index, nat_eq, nat_lt, length, if◌then◌else◌}
 use Rattle.std.specs.List.{slice_index_or}
 use Rattle.lv_geometry.specs.declared.nodes.Node.{Node}
-use Rattle.lv_geometry.specs.Nodes.{covers, is_below, is_node}
+use Rattle.lv_geometry.specs.Nodes.{covers, is_below, is_node, same_node}
 use Rattle.lv_summary.specs.declared.accepted.Accepted.{Accepted}
 use Rattle.lv_summary.specs.declared.accepted.Accepted.TheVariants.{Installed, Held, Stale}
 
@@ -76,10 +76,6 @@ pub record Touches {S : Type 0} (old new : Table S) (i edit : ℕ) : Type 0 wher
   pub blocks : blocks_in new ≡ blocks_in old
   pub touched : (n : Node) → touched_in new n ≡ (if is_node n && covers n i then edit else touched_in old n)
   pub kept : (n : Node) → kept_in new n ≡ kept_in old n
-
--- whether two nodes are one
-abbrev pub same_node : Node → Node → Bool
-same_node n m = nat_eq n.level m.level && nat_eq n.number m.number
 
 -- a summary of this version was put in place of what was kept for a node, and nothing else has changed
 pub record Keeps {S : Type 0} (old new : Table S) (node : Node) (version : ℕ) (s : S) : Type 0 where

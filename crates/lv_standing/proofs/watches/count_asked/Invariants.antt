@@ -1,5 +1,5 @@
 use Rattle.std.proofs.Common.{◌≡◌, ◌≤◌, length, take}
-use Rattle.lv_standing.specs.Standings.{asked}
+use Rattle.lv_standing.specs.Inner.{asked}
 use Rattle.lv_standing.proofs.watches.count_asked.Given as goal
 
 abbrev pub invariant-loop-i : goal.invariant-loop-i

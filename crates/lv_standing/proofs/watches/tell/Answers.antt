@@ -1,5 +1,6 @@
 use Rattle.std.proofs.Common.{◌≡◌, ◌∙◌, ◌+◌, ap, sym, arith, length, drop, vec_capacity, ◌<◌}
-use Rattle.lv_standing.specs.Standings.{IsCurrent, asked}
+use Rattle.lv_standing.specs.Inner.{asked}
+use Rattle.lv_standing.specs.Standings.{IsCurrent}
 use Rattle.lv_edits.proofs.Slices.{there_is}
 use Rattle.lv_standing.proofs.EntryLaws.{all_at, asked_more, rest_is}
 use Rattle.lv_standing.proofs.NoteLaws.{as_before, as_long, told_entries, told_notes, told_room}

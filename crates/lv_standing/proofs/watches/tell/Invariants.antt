@@ -1,6 +1,7 @@
 use Rattle.std.proofs.Common.{◌≡◌, ◌+◌, ◌≤◌, ◌++◌, length, map, take, drop, vec_capacity}
 use Rattle.lv_standing.specs.Queries.{AreNotes}
-use Rattle.lv_standing.specs.Standings.{asked, queries_of, refreshed}
+use Rattle.lv_standing.specs.Inner.{asked, refreshed}
+use Rattle.lv_standing.specs.Standings.{queries_of}
 use Rattle.lv_standing.proofs.watches.tell.Given as goal
 
 abbrev pub ghost-tell_one : goal.ghost-tell_one

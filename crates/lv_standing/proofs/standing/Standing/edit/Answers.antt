@@ -5,7 +5,8 @@ use Rattle.lv_bodies.specs.declared.sixes.Six.{Six}
 use Rattle.lv_bodies.specs.Six.{SixMeaning, six_meaning}
 use Rattle.lv_edits.specs.declared.edit.Edit.{Edit}
 use Rattle.lv_edits.specs.History.{History, list_of}
-use Rattle.lv_standing.specs.Standings.{IsCurrent, has_index, index_changed, queries_of, query_at, refreshed}
+use Rattle.lv_standing.specs.Inner.{has_index, index_changed, refreshed}
+use Rattle.lv_standing.specs.Standings.{IsCurrent, queries_of, query_at}
 use Rattle.lv_standing.proofs.EntryLaws.{all_refreshed, queries_refreshed}
 use Rattle.lv_standing.proofs.NoteLaws.{before_last, few_notes}
 use Rattle.lv_standing.proofs.RangeLaws.{edit_elsewhere}

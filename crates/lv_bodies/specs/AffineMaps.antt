@@ -2,25 +2,25 @@
 use Rattle.std.specs.Prelude.{ℕ, ℤ, ◌+◌, ◌*◌, ◌%◌, ◌^◌, ◌<◌}
 use Rattle.lv_bodies.specs.Body.{Operations}
 use Rattle.lv_bodies.specs.Plain.{remainder, over_256}
-use Rattle.lv_bodies.specs.declared.affine.Line.{Line}
+use Rattle.lv_bodies.specs.declared.affine.AffineMap.{AffineMap}
 
 -- an element x is the map from y to a * y + b, where a is x / 256 rounded down, and b the rest
-abbrev pub line_of : ℤ → Line
-line_of x = record { a = remainder (over_256 x) (2 ^ 32); b = remainder x 256 }
+abbrev pub map_of : ℤ → AffineMap
+map_of x = record { a = remainder (over_256 x) (2 ^ 32); b = remainder x 256 }
 
 -- the map p, and then the map q
-abbrev pub join_lines : Line → Line → Line
-join_lines p q = record { a = (p.a * q.a) % 2 ^ 32; b = (q.a * p.b + q.b) % 2 ^ 32 }
+abbrev pub join_maps : AffineMap → AffineMap → AffineMap
+join_maps p q = record { a = (p.a * q.a) % 2 ^ 32; b = (q.a * p.b + q.b) % 2 ^ 32 }
 
 -- no elements leave each number as it is
-abbrev pub affine_operations : Operations Line
+abbrev pub affine_operations : Operations AffineMap
 affine_operations = record {
   identity = record { a = 1; b = 0 };
-  lift = line_of;
-  join = join_lines;
+  lift = map_of;
+  join = join_maps;
 }
 
 -- any map of numbers below 2 ^ 32, of however many elements
-pub record IsLine (p : Line) (n : ℕ) : Type 0 where
+pub record IsAffineMap (p : AffineMap) (n : ℕ) : Type 0 where
   pub a : p.a < 2 ^ 32
   pub b : p.b < 2 ^ 32

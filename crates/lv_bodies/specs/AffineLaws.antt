@@ -11,12 +11,12 @@ use Rattle.lv_bodies.specs.FoldLaws.{fold_of-within}
 use Rattle.lv_bodies.specs.Plain.{remainder, over_256, affine_from, plain_affine}
 use Rattle.lv_bodies.specs.EqualLaws.{both_true, all_true}
 use Rattle.lv_bodies.specs.RemainderLaws.{remainder_below, remainder_by}
-use Rattle.lv_bodies.specs.Lines.{line_of, join_lines, affine_operations, IsLine}
-use Rattle.lv_bodies.specs.declared.affine.Line.{Line}
+use Rattle.lv_bodies.specs.AffineMaps.{map_of, join_maps, affine_operations, IsAffineMap}
+use Rattle.lv_bodies.specs.declared.affine.AffineMap.{AffineMap}
 use Rattle.lv_bodies.specs.declared.kinds.Shown.TheVariants as shown
 
 -- two equal numbers make equal maps
-pub same_lines : (p q : Line) → p.a ≡ q.a → p.b ≡ q.b → p ≡ q
+pub same_lines : (p q : AffineMap) → p.a ≡ q.a → p.b ≡ q.b → p ≡ q
 same_lines p q e f = ap (λ x. record p { a = x }) e ∙ ap (λ x. record q { b = x }) f
 
 module _ (m : ℕ) where
@@ -37,7 +37,7 @@ module _ (m : ℕ) where
       ∙ sym (add-mod-mod ((y * z) % m * b) (z * c + d) m)
 
 -- of three maps the first two or the last two may be joined first
-lines_associative : (p q r : Line) → join_lines (join_lines p q) r ≡ join_lines p (join_lines q r)
+lines_associative : (p q r : AffineMap) → join_maps (join_maps p q) r ≡ join_maps p (join_maps q r)
 lines_associative p q r = same_lines _ _ (slope_assoc (2 ^ 32) p.a q.a r.a) (start_assoc (2 ^ 32) p.b q.a q.b r.a r.b)
 
 -- a remainder by 256 is below 2 ^ 32
@@ -45,7 +45,7 @@ small : {r : ℕ} → r < 256 → r < 2 ^ 32
 small h = omega arith
 
 -- the affine map meets the laws of a body
-pub affine_laws : BodyLaws affine_operations IsLine
+pub affine_laws : BodyLaws affine_operations IsAffineMap
 affine_laws = record {
   identity_within = record { a = omega arith; b = omega arith };
   lift_within = λ x h. record { a = remainder_below (over_256 x) (2 ^ 32) (omega arith); b = small (remainder_below x 256 (omega arith)) };
@@ -58,7 +58,7 @@ affine_laws = record {
 -- a number goes where the map of the fold takes it
 goes : (y : ℕ) (xs : List ℤ) → y < 2 ^ 32 → let p = fold_of affine_operations xs in affine_from y xs ≡ (p.a * y + p.b) % 2 ^ 32
 goes y xs h =
-    fold_along (λ z x. (remainder (over_256 x) (2 ^ 32) * z + remainder x 256) % 2 ^ 32) (λ p x. join_lines p (line_of x))
+    fold_along (λ z x. (remainder (over_256 x) (2 ^ 32) * z + remainder x 256) % 2 ^ 32) (λ p x. join_maps p (map_of x))
     (λ z p. z ≡ (p.a * y + p.b) % 2 ^ 32)
     (λ z p x e.
     ap (λ w. (remainder (over_256 x) (2 ^ 32) * w + remainder x 256) % 2 ^ 32) e
@@ -78,12 +78,12 @@ known_from a b at_one at_zero h k e f =
 pub fold_of-affine : (xs : List ℤ) → CanFold xs → let p = fold_of affine_operations xs in (p.a ≡ (plain_affine xs).0) × (p.b ≡ (plain_affine xs).1)
 fold_of-affine xs can =
     let p = fold_of affine_operations xs in
-    let within = fold_of-within affine_operations IsLine affine_laws xs can in
+    let within = fold_of-within affine_operations IsAffineMap affine_laws xs can in
     known_from p.a p.b (affine_from 1 xs) (affine_from 0 xs) within.a within.b (goes 1 xs (omega arith)) (goes 0 xs (omega arith))
 
 -- the test of both numbers is true exactly of equal maps
-pub exact_lines : (p q : Line) → IsTrue ((p.a == q.a) && (p.b == q.b)) ↔ (p ≡ q)
-exact_lines p q = (
+pub exact_maps : (p q : AffineMap) → IsTrue ((p.a == q.a) && (p.b == q.b)) ↔ (p ≡ q)
+exact_maps p q = (
   λ h. let (a, b) = both_true (p.a == q.a) _ h in same_lines p q ((Decides-eqb _ _).0 a) ((Decides-eqb _ _).0 b),
   λ e. all_true _ _ ((Decides-eqb p.a q.a).1 (ap (λ x. x.a) e)) ((Decides-eqb p.b q.b).1 (ap (λ x. x.b) e)),
 )

@@ -1,5 +1,5 @@
 use Rattle.lv_bodies.proofs.RunSums.{SumsFit-can_join, joined_by_code}
-use Rattle.lv_bodies.proofs.best.Run.join.Goals as goal
+use Rattle.lv_bodies.proofs.best.RunTotals.join.Goals as goal
 
 pub overflow_add-next : goal.overflow_add-next
 overflow_add-next c = (SumsFit-can_join c.args.self c.args.next c.requires).suffix

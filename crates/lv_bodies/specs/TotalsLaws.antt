@@ -11,11 +11,11 @@ use Rattle.lv_geometry.specs.Elements.{IsElement}
 use Rattle.lv_bodies.specs.Body.{BodyLaws}
 use Rattle.lv_bodies.specs.OptionalLaws.{optional_laws}
 use Rattle.lv_bodies.specs.ExtremeLaws.{int_max_assoc}
-use Rattle.lv_bodies.specs.Runs.{run_of, join_runs, best_operations, IsTotalOf, IsRunOf, IsBest}
-use Rattle.lv_bodies.specs.declared.best.Run.{Run}
+use Rattle.lv_bodies.specs.RunTotals.{totals_of, join_totals, best_operations, IsTotalOf, AreTotalsOf, IsBest}
+use Rattle.lv_bodies.specs.declared.best.RunTotals.{RunTotals}
 
 -- four equal numbers make equal runs
-pub same_runs : (r s : Run) → r.total ≡ s.total → r.prefix ≡ s.prefix → r.suffix ≡ s.suffix → r.best ≡ s.best → r ≡ s
+pub same_runs : (r s : RunTotals) → r.total ≡ s.total → r.prefix ≡ s.prefix → r.suffix ≡ s.suffix → r.best ≡ s.best → r ≡ s
 same_runs r s t p u b =
     ap (λ x. record r { total = x }) t ∙ ap (λ x. record r { total = s.total; prefix = x }) p
     ∙ ap (λ x. record s { suffix = x; best = r.best }) u ∙ ap (λ x. record s { best = x }) b
@@ -29,15 +29,15 @@ suffix_assoc : (s t q u r : ℤ) → int_max s (t +ℤ int_max q (u +ℤ r)) ≡
 suffix_assoc s t q u r = omega (arith, ints, clamps)
 
 -- the test of all four numbers is true exactly of equal runs
-pub exact_runs : (r s : Run) → IsTrue (int_eq r.total s.total && (int_eq r.prefix s.prefix && (int_eq r.suffix s.suffix && int_eq r.best s.best))) ↔ (r ≡ s)
-exact_runs r s = (
+pub exact_totals : (r s : RunTotals) → IsTrue (int_eq r.total s.total && (int_eq r.prefix s.prefix && (int_eq r.suffix s.suffix && int_eq r.best s.best))) ↔ (r ≡ s)
+exact_totals r s = (
   λ h.
       let (total, later) = both_true (int_eq r.total s.total) _ h in
       let (prefix, last) = both_true (int_eq r.prefix s.prefix) _ later in
       let (suffix, best) = both_true (int_eq r.suffix s.suffix) _ last in
       same_runs r s ((Decides-int_eq _ _).0 total) ((Decides-int_eq _ _).0 prefix) ((Decides-int_eq _ _).0 suffix) ((Decides-int_eq _ _).0 best),
   λ e.
-      let number : (f : Run → ℤ) → IsTrue (int_eq (f r) (f s)) = λ f. (Decides-int_eq (f r) (f s)).1 (ap f e) in
+      let number : (f : RunTotals → ℤ) → IsTrue (int_eq (f r) (f s)) = λ f. (Decides-int_eq (f r) (f s)).1 (ap f e) in
       all_true _ _ (number (λ x. x.total)) (all_true _ _ (number (λ x. x.prefix)) (all_true _ _ (number (λ x. x.suffix)) (number (λ x. x.best)))),
 )
 
@@ -76,7 +76,7 @@ best_assoc a b c x y z u v =
     ∙ ap (int_max (int_max a (int_max (int_max b c) (z +ℤ v)))) (sym (add-max x y (u +ℤ v)))
 
 -- of three parts the first two or the last two may be joined first
-runs_associative : (r s t : Run) → join_runs (join_runs r s) t ≡ join_runs r (join_runs s t)
+runs_associative : (r s t : RunTotals) → join_totals (join_totals r s) t ≡ join_totals r (join_totals s t)
 runs_associative r s t =
     same_runs _ _ (+ℤ_assoc r.total s.total t.total) (prefix_assoc r.prefix r.total s.prefix s.total t.prefix)
     (suffix_assoc t.suffix t.total s.suffix s.total r.suffix)
@@ -95,13 +95,13 @@ more : (n m : ℕ) (x : ℤ) → n ≤ m → IsTotalOf n x → IsTotalOf m x
 more n m x h p = omega arith
 
 -- the run of an element is a run of one
-one_element : (x : ℤ) → IsElement x → IsRunOf (run_of x) 1
+one_element : (x : ℤ) → IsElement x → AreTotalsOf (totals_of x) 1
 one_element x p =
     let q : IsTotalOf 1 x = omega (arith, ints) in
     record { total = q; prefix = q; suffix = q; best = q }
 
 -- a run of n elements is one of more
-pub more_elements : (r : Run) (n m : ℕ) → n ≤ m → IsRunOf r n → IsRunOf r m
+pub more_elements : (r : RunTotals) (n m : ℕ) → n ≤ m → AreTotalsOf r n → AreTotalsOf r m
 more_elements r n m h p = record {
   total = more n m r.total h p.total;
   prefix = more n m r.prefix h p.prefix;
@@ -110,7 +110,7 @@ more_elements r n m h p = record {
 }
 
 -- runs of n elements and of m are joined to one of n + m
-pub joined_elements : (r s : Run) (n m : ℕ) → IsRunOf r n → IsRunOf s m → IsRunOf (join_runs r s) (n + m)
+pub joined_elements : (r s : RunTotals) (n m : ℕ) → AreTotalsOf r n → AreTotalsOf s m → AreTotalsOf (join_totals r s) (n + m)
 joined_elements r s n m p q =
     let k = n + m in
     let left = more_elements r n k (omega arith) p in
@@ -126,7 +126,7 @@ joined_elements r s n m p q =
 
 -- the best run meets the laws of a body
 pub best_laws : BodyLaws best_operations IsBest
-best_laws = optional_laws run_of join_runs IsRunOf record {
+best_laws = optional_laws totals_of join_totals AreTotalsOf record {
   lift_within = one_element;
   join_within = λ r s n m p q few. joined_elements r s n m p q;
   more_within = more_elements;
