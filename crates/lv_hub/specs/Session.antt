@@ -6,7 +6,7 @@ use Rattle.lv_geometry.specs.declared.refusals.Refusal.TheVariants.{NoMemory}
 use Rattle.lv_bodies.specs.declared.kinds.Kind.{Kind}
 use Rattle.lv_bodies.specs.declared.sixes.Six.{Six}
 use Rattle.lv_bodies.specs.Body.{Operations}
-use Rattle.lv_bodies.specs.Six.{SixSummary, face_of}
+use Rattle.lv_bodies.specs.Six.{SixSummary, face_of, meaning_of_six, six_operations}
 use Rattle.lv_edits.specs.declared.edit.Edit.{Edit}
 use Rattle.lv_edits.specs.declared.edit.Edit.TheVariants as edit
 use Rattle.lv_edits.specs.declared.receipt.Receipt.{Receipt}
@@ -22,12 +22,21 @@ use Rattle.lv_script.specs.Script.{edit_text}
 use Rattle.lv_script.specs.Texts.{answer_text, bad_text, refused_text, scan_text}
 use Rattle.lv_hub.specs.declared.requests.Request.{Request}
 use Rattle.lv_hub.specs.declared.requests.Request.TheVariants as request
+use Rattle.lv_hub.specs.Counting.{Holding}
 use Rattle.lv_hub.specs.Told.{EditTold, ReductionTold, ScanTold}
 
 -- how many edits the session's share counts, and the reductions that were answered, in order
 pub record SessionState : Type 0 where
   pub count : ℕ
   pub claims : List Claimed
+
+-- the state of a session with this share, where these reductions were answered
+abbrev pub session_at : Holding → List Claimed → SessionState
+session_at share claims = record { count = share.count; claims = claims }
+
+-- what a body of all six computes
+abbrev pub operations_of_six : Six → Operations SixSummary
+operations_of_six six = six_operations (meaning_of_six six)
 
 -- what a command asks of a hub: an edit, a reduction or a scan; sessions know no other
 abbrev pub requested : Command → Request
@@ -75,30 +84,30 @@ abbrev pub scan_reply_text : Bool → Kind → Result (Scan SixSummary) Refusal 
 scan_reply_text inclusive kind (Ok scan) = scan_text scan.edit inclusive kind (map (face_of kind) scan.values)
 scan_reply_text inclusive kind (Err refusal) = refused_text refusal
 
--- an edit is answered by its receipt or its refusal
-pub record TellsEdit (limits : Bounds) (old : SessionState) (e : Edit) (text : List ℕ) (new : SessionState) : Type 0 where
-  pub result : Result Receipt Refusal
-  pub told : EditTold limits e result
-  pub text_is : text ≡ edit_text result
-  pub state : new ≡ after_edit old result
+module _ (limits : Bounds) where
+  -- an edit is answered by its receipt or its refusal
+  pub record TellsEdit (old : SessionState) (e : Edit) (text : List ℕ) (new : SessionState) : Type 0 where
+    pub result : Result Receipt Refusal
+    pub told : EditTold limits e result
+    pub text_is : text ≡ edit_text result
+    pub state : new ≡ after_edit old result
 
-module _ (operations : Six → Operations SixSummary) (limits : Bounds) where
   -- a reduction is answered by its value, and listed; or by its refusal
   pub record TellsReduction (old : SessionState) (kind : Kind) (lo hi : ℕ) (text : List ℕ) (new : SessionState) : Type 0 where
     pub result : Result (Answer SixSummary) Refusal
-    pub told : ReductionTold operations limits lo hi result
+    pub told : ReductionTold operations_of_six limits lo hi result
     pub lists : Lists old kind lo hi result text new
 
   -- a scan is answered by its values or its refusal, and changes nothing
   pub record TellsScan (old : SessionState) (inclusive : Bool) (kind : Kind) (lo hi : ℕ) (text : List ℕ) (new : SessionState) : Type 0 where
     pub result : Result (Scan SixSummary) Refusal
-    pub told : ScanTold operations limits lo hi inclusive result
+    pub told : ScanTold operations_of_six limits lo hi inclusive result
     pub text_is : text ≡ scan_reply_text inclusive kind result
     pub state : new ≡ old
 
   -- what a request is answered; a line that asks for anything else is bad, by its number
   abbrev pub RequestAnswer : SessionState → ℕ → Request → List ℕ → SessionState → Type 0
-  RequestAnswer old n (request.Edited e) text new = TellsEdit limits old e text new
+  RequestAnswer old n (request.Edited e) text new = TellsEdit old e text new
   RequestAnswer old n (request.Reduced kind lo hi) text new = TellsReduction old kind lo hi text new
   RequestAnswer old n (request.Scanned inclusive kind lo hi) text new = TellsScan old inclusive kind lo hi text new
   RequestAnswer old n request.Unknown text new = (text ≡ bad_text n) × (new ≡ old)

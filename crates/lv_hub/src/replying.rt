@@ -1,8 +1,8 @@
 ghost use Rattle.std.specs.Prelude.{◌≡◌, ◌+◌, ◌≤◌, ◌++◌, ℕ, List, OnOk, IfErr, vec_len, vec_capacity};
-ghost use Rattle.lv_bodies.specs.declared.sixes.Six.{Six};
 ghost use Rattle.lv_script.specs.declared.transcripts.Claimed.{Claimed};
 ghost use Rattle.lv_script.specs.Output.{Writes, WritesFront};
-ghost use Rattle.lv_hub.specs.Session.{LineAnswer, RequestAnswer, SessionState, TellsEdit, TellsReduction, TellsScan};
+ghost use Rattle.lv_hub.specs.Counting.{Holding};
+ghost use Rattle.lv_hub.specs.Session.{LineAnswer, RequestAnswer, SessionState, TellsEdit, TellsReduction, TellsScan, operations_of_six, session_at};
 ghost use Rattle.lv_hub.specs.Told.{ScanTold};
 
 use crate::hubs::Hub;
@@ -34,12 +34,10 @@ pub fn answer_line<N: Naming, T: Wait, W: Write>(
 ) -> Result<(), Fault>
     requires { vec_len held.old + LINE ≤ vec_capacity held.old }
     ensures ok { OnOk result ((reply : List ℕ)
-        × LineAnswer (λ (six : Six). ⟦<Six as Body>⟧.operations (⟦<Six as Body>⟧.meaning six)) N.limits record { count = share.old.count; claims = claims.old.items } number line reply
-        record { count = share.new.count; claims = claims.new.items }
+        × LineAnswer N.limits (session_at share.old claims.old.items) number line reply (session_at share.new claims.new.items)
         × Writes (W.contents writer.old) held.old.items (W.contents writer.new) held.new.items reply) }
     ensures fault { IfErr result (λ fault. (fault ≡ Fault.WriteFault) × (reply : List ℕ)
-        × LineAnswer (λ (six : Six). ⟦<Six as Body>⟧.operations (⟦<Six as Body>⟧.meaning six)) N.limits record { count = share.old.count; claims = claims.old.items } number line reply
-        record { count = share.new.count; claims = claims.new.items }
+        × LineAnswer N.limits (session_at share.old claims.old.items) number line reply (session_at share.new claims.new.items)
         × WritesFront (W.contents writer.old) held.old.items (W.contents writer.new) reply) }
     ensures parts { share.new.parts ≡ share.old.parts }
     ensures more { share.old.count ≤ share.new.count }
@@ -79,12 +77,10 @@ fn answer<N: Naming, T: Wait, W: Write>(
 ) -> Result<(), Fault>
     requires { vec_len held.old + LINE ≤ vec_capacity held.old }
     ensures ok { OnOk result ((reply : List ℕ)
-        × RequestAnswer (λ (six : Six). ⟦<Six as Body>⟧.operations (⟦<Six as Body>⟧.meaning six)) N.limits record { count = share.old.count; claims = claims.old.items } number request reply
-        record { count = share.new.count; claims = claims.new.items }
+        × RequestAnswer N.limits (session_at share.old claims.old.items) number request reply (session_at share.new claims.new.items)
         × Writes (W.contents writer.old) held.old.items (W.contents writer.new) held.new.items reply) }
     ensures fault { IfErr result (λ fault. (fault ≡ Fault.WriteFault) × (reply : List ℕ)
-        × RequestAnswer (λ (six : Six). ⟦<Six as Body>⟧.operations (⟦<Six as Body>⟧.meaning six)) N.limits record { count = share.old.count; claims = claims.old.items } number request reply
-        record { count = share.new.count; claims = claims.new.items }
+        × RequestAnswer N.limits (session_at share.old claims.old.items) number request reply (session_at share.new claims.new.items)
         × WritesFront (W.contents writer.old) held.old.items (W.contents writer.new) reply) }
     ensures parts { share.new.parts ≡ share.old.parts }
     ensures more { share.old.count ≤ share.new.count }
@@ -114,7 +110,7 @@ fn put_edit<N: Naming, T: Wait>(
 )
     requires { vec_len held.old + LINE ≤ vec_capacity held.old }
     ensures answer { (reply : List ℕ)
-        × ((claims : List Claimed) → TellsEdit N.limits record { count = share.old.count; claims = claims } edit reply record { count = share.new.count; claims = claims })
+        × ((claims : List Claimed) → TellsEdit N.limits (session_at share.old claims) edit reply (session_at share.new claims))
         × (held.new.items ≡ held.old.items ++ reply) }
     ensures parts { share.new.parts ≡ share.old.parts }
     ensures more { share.old.count ≤ share.new.count }
@@ -138,7 +134,7 @@ fn put_reduction<N: Naming, T: Wait>(
 )
     requires { vec_len held.old + LINE ≤ vec_capacity held.old }
     ensures answer { (reply : List ℕ)
-        × ((count : ℕ) → TellsReduction (λ (six : Six). ⟦<Six as Body>⟧.operations (⟦<Six as Body>⟧.meaning six)) N.limits record { count = count; claims = claims.old.items } kind lo hi reply record { count = count; claims = claims.new.items })
+        × ((holding : Holding) → TellsReduction N.limits (session_at holding claims.old.items) kind lo hi reply (session_at holding claims.new.items))
         × (held.new.items ≡ held.old.items ++ reply) }
     ensures room { vec_capacity held.old ≤ vec_capacity held.new }
 {
@@ -175,10 +171,10 @@ fn put_scanned<N: Naming, T: Wait, W: Write>(
 ) -> Result<(), Fault>
     requires { vec_len held.old + LINE ≤ vec_capacity held.old }
     ensures ok { OnOk result ((reply : List ℕ)
-        × ((state : SessionState) → TellsScan (λ (six : Six). ⟦<Six as Body>⟧.operations (⟦<Six as Body>⟧.meaning six)) N.limits state inclusive kind lo hi reply state)
+        × ((state : SessionState) → TellsScan N.limits state inclusive kind lo hi reply state)
         × Writes (W.contents writer.old) held.old.items (W.contents writer.new) held.new.items reply) }
     ensures fault { IfErr result (λ fault. (fault ≡ Fault.WriteFault) × (reply : List ℕ)
-        × ((state : SessionState) → TellsScan (λ (six : Six). ⟦<Six as Body>⟧.operations (⟦<Six as Body>⟧.meaning six)) N.limits state inclusive kind lo hi reply state)
+        × ((state : SessionState) → TellsScan N.limits state inclusive kind lo hi reply state)
         × WritesFront (W.contents writer.old) held.old.items (W.contents writer.new) reply) }
     ensures room { vec_capacity held.old ≤ vec_capacity held.new }
 {
@@ -207,7 +203,7 @@ fn scan<N: Naming, T: Wait>(
     lo: u32,
     hi: u32,
 ) -> Result<Scan<<Six as Body>::S>, Refusal>
-    ensures { ScanTold (λ (six : Six). ⟦<Six as Body>⟧.operations (⟦<Six as Body>⟧.meaning six)) N.limits lo hi inclusive result }
+    ensures { ScanTold operations_of_six N.limits lo hi inclusive result }
 {
     if inclusive {
         hub.scan_inclusive(rt, alloc, lo, hi)

@@ -1,17 +1,16 @@
 ghost use Rattle.std.specs.Prelude.{◌≡◌, ◌+◌, ◌≤◌, ◌++◌, ℕ, List, [], Ok, Err, MatchResult, OnOk, OnErr, IfOk, IfErr, vec_len, vec_capacity};
-ghost use Rattle.lv_bodies.specs.declared.sixes.Six.{Six};
 ghost use Rattle.lv_script.specs.declared.transcripts.Claimed.{Claimed};
 ghost use Rattle.lv_script.specs.Replies.{Conversed};
 ghost use Rattle.lv_script.specs.Transcript.{AreInOrder};
 ghost use Rattle.std.specs.List.Sorted.{IsPermutation};
 ghost use Rattle.lv_hub.specs.Counting.{Holding};
-ghost use Rattle.lv_hub.specs.Session.{SessionState, SessionStep};
+ghost use Rattle.lv_hub.specs.Session.{SessionState, SessionStep, session_at};
 
 use crate::hubs::Hub;
 use crate::naming::Naming;
 use crate::replying::answer_line;
 use crate::shares::Share;
-use lv_bodies::{Body, Six};
+use lv_bodies::Six;
 use lv_script::{Claimed, Fault, LINE, Responder, converse, make_room, read_line};
 use std::alloc::{AllocError, Global};
 use std::io::{Read, Write};
@@ -33,7 +32,7 @@ pub fn run_session<N: Naming, T: Wait, R: Read, W: Write>(
     writer: &mut W,
 ) -> Result<Vec<Claimed>, Fault>
     ensures conversed { (last : SessionState)
-        × Conversed (SessionStep (λ (six : Six). ⟦<Six as Body>⟧.operations (⟦<Six as Body>⟧.meaning six)) N.limits) record { count = share.old.count; claims = [] } last
+        × Conversed (SessionStep N.limits) (session_at share.old []) last
         (R.remaining reader.old) (R.remaining reader.new) (W.contents writer.old) (W.contents writer.new) result
         × (share.new.count ≡ last.count)
         × IfOk result (λ claims. claims.items ≡ last.claims) }
@@ -84,8 +83,7 @@ fn hold<K: Lent, N: Naming, T: Wait, R: Read, W: Write>(
     writer: &mut W,
 ) -> (Share<N>, Vec<Claimed>, Result<(), Fault>)
     requires { share ≡ K.holding }
-    ensures conversed { Conversed (SessionStep (λ (six : Six). ⟦<Six as Body>⟧.operations (⟦<Six as Body>⟧.meaning six)) N.limits)
-        record { count = share.count; claims = [] } record { count = result.0.count; claims = result.1.items }
+    ensures conversed { Conversed (SessionStep N.limits) (session_at share []) (session_at result.0 result.1.items)
         (R.remaining reader.old) (R.remaining reader.new) (W.contents writer.old) (W.contents writer.new) result.2 }
     ensures parts { result.0.parts ≡ share.parts }
     ensures more { share.count ≤ result.0.count }
@@ -116,11 +114,11 @@ struct Session<'a, N: Naming, T: Wait, K: Lent> {
 
 impl<'a, N: Naming, T: Wait, K: Lent> Model for Session<'a, N, T, K> {
     ghost use Rattle.std.specs.Prelude.{◌≡◌, ◌≤◌};
-    ghost use Rattle.lv_hub.specs.Session.{SessionState};
+    ghost use Rattle.lv_hub.specs.Session.{SessionState, session_at};
 
     ghost Value = { SessionState };
 
-    ghost view = { λ s. record { count = s.share.count; claims = s.claims.items } };
+    ghost view = { λ s. session_at s.share s.claims.items };
 
     ghost invariant = { λ s. (s.share.parts ≡ K.holding.parts) × (K.holding.count ≤ s.share.count) };
 }
@@ -130,7 +128,7 @@ impl<'a, N: Naming, T: Wait, K: Lent> Responder for Session<'a, N, T, K> {
 
     ghost state = { λ s. s };
 
-    ghost step = { SessionStep (λ (six : Six). ⟦<Six as Body>⟧.operations (⟦<Six as Body>⟧.meaning six)) N.limits };
+    ghost step = { SessionStep N.limits };
 
     fn respond<W: Write>(
         &mut self,
