@@ -1,6 +1,9 @@
 ghost use Rattle.std.specs.Prelude.{◌≡◌, ◌⊎◌, ◌+◌, ◌*◌, ◌<◌, ◌≤◌, ◌++◌, false, List, ℕ, length, OnOk, vec_len, vec_capacity};
 ghost use Rattle.lv_bodies.specs.Six.{SixSummary};
 ghost use Rattle.lv_bodies.specs.declared.sixes.Six.{Six};
+ghost use Rattle.lv_edits.specs.Capacity.{capacity_after};
+ghost use Rattle.lv_edits.specs.History.{list_of};
+ghost use Rattle.lv_edits.specs.Verdict.{element_at};
 ghost use Rattle.lv_refresh.specs.Carried.{Carried};
 ghost use Rattle.lv_reduce.specs.Answer.{range_refusal};
 ghost use Rattle.lv_live.specs.State.{IsWorld, job_at};
@@ -8,6 +11,7 @@ ghost use Rattle.lv_live.specs.declared.events.Event.TheVariants as event;
 ghost use Rattle.lv_standing.specs.Queries.{query_of};
 ghost use Rattle.lv_script.specs.Script.{CommandAnswer, TellsEdit, TellsEvent, TellsUnwatch, TellsWatch, Tells, named_answer_text, notes_text, program_operations, reduced_text};
 ghost use Rattle.lv_script.specs.Scripted.{IsTask, is_scan, state_of};
+ghost use Rattle.lv_script.specs.Texts.{capacity_text, element_text, size_text};
 
 use crate::command::Command;
 use crate::refresh_replies::{put_accepted, put_cost, put_forgotten, put_idle, put_job};
@@ -16,9 +20,10 @@ use crate::replies::{
 };
 use crate::scans::{Asked, reduce};
 use crate::watch_replies::{put_named, put_note, put_unwatched, put_watching};
-use lv_bodies::{Kind, Six, face};
+use lv_bodies::{Body, Kind, Six, face};
 use lv_edits::Edit;
-use lv_geometry::Refusal;
+use lv_geometry::{Node, Refusal};
+use lv_live::Live;
 use lv_refresh::Job;
 use lv_standing::{Name, Note, Standing};
 use std::alloc::Global;
@@ -81,9 +86,9 @@ pub fn answer(
         ),
         Command::Reserve(cells) => put_edit(alloc, standing, Edit::Reserve(cells), held),
         Command::Settle => put_settle(standing, held),
-        Command::Get(i) => put_value(held, standing.live().get(i)),
-        Command::Size => put_size(held, standing.live().size(), standing.live().edit()),
-        Command::Capacity => put_capacity(held, standing.live().capacity()),
+        Command::Get(i) => put_element_at(standing, i, held),
+        Command::Size => put_extent(standing, held),
+        Command::Capacity => put_room(standing, held),
         Command::Reduce { kind, lo, hi } => put_reduced(standing, kind, lo, hi, held),
         Command::Cost { lo, hi } => put_reads(standing, lo, hi, held),
         Command::Claim => put_claim(standing, jobs, held),
@@ -134,6 +139,51 @@ fn put_settle(standing: &mut Standing, held: &mut Vec<u8>)
 {
     standing.settle();
     put_settled(held);
+}
+
+// The element at an index, or that there is none.
+fn put_element_at(standing: &Standing, i: u32, held: &mut Vec<u8>)
+    requires { vec_len held.old + ROOM ≤ vec_capacity held.old }
+    ensures text { held.new.items ≡ held.old.items ++ element_text (element_at standing.now.live.history.journal i) }
+    ensures room { vec_capacity held.old ≤ vec_capacity held.new }
+{
+    put_value(held, standing.live().get(i));
+}
+
+// How many elements there are, and the number of the last edit.
+fn put_extent(standing: &Standing, held: &mut Vec<u8>)
+    requires { vec_len held.old + ROOM ≤ vec_capacity held.old }
+    ensures text { let edits = standing.now.live.history.journal in held.new.items ≡ held.old.items ++ size_text (length (list_of edits)) (length edits) }
+    ensures room { vec_capacity held.old ≤ vec_capacity held.new }
+{
+    let extent = extent_of(standing.live());
+    put_size(held, extent.size, extent.edit);
+}
+
+// How many elements fit into the open buckets.
+fn put_room(standing: &Standing, held: &mut Vec<u8>)
+    requires { vec_len held.old + ROOM ≤ vec_capacity held.old }
+    ensures text { held.new.items ≡ held.old.items ++ capacity_text (capacity_after standing.now.live.history.journal) }
+    ensures room { vec_capacity held.old ≤ vec_capacity held.new }
+{
+    put_capacity(held, standing.live().capacity());
+}
+
+// How long a vector is: its elements and its edits.
+#[derive(Clone, Copy)]
+struct Extent {
+    size: u32,
+    edit: u32,
+}
+
+fn extent_of<B: Body>(live: &Live<B>) -> Extent
+    ensures size { result.size ≡ length (list_of live.now.history.journal) }
+    ensures edit { result.edit ≡ length live.now.history.journal }
+{
+    Extent {
+        size: live.size(),
+        edit: live.edit(),
+    }
 }
 
 // The value of a kind over a range, or why the range is refused.
@@ -194,9 +244,17 @@ fn put_next_job(standing: &mut Standing, jobs: &mut Vec<Job<Six>>, held: &mut Ve
         put_idle(held);
         return;
     };
-    let (node, version) = (job.node(), job.version());
+    let (node, version) = node_and_version(&job);
     jobs.push_reserved(job);
     put_job(held, jobs.len() as u64, node, version);
+}
+
+// The node that a job is for, and the version.
+fn node_and_version<B: Body>(job: &Job<B>) -> (Node, u32)
+    ensures node { result.0 ≡ job.now.node }
+    ensures version { result.1 ≡ job.now.version }
+{
+    (job.node(), job.version())
 }
 
 // Delivers the outcome of a job, where there is one of that number.

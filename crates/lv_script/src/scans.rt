@@ -14,6 +14,7 @@ use crate::replies::{LINE, put_refusal};
 use crate::scan_replies::put_scan;
 use lv_bodies::{Body, Kind, Six};
 use lv_geometry::Refusal;
+use lv_live::Live;
 use lv_reduce::{Answer, Scan};
 use lv_standing::Standing;
 use std::alloc::Global;
@@ -69,7 +70,13 @@ fn scan(
     ensures scan { Scans program_operations (recorded standing.now.live) asked.now.lo asked.now.hi asked.now.inclusive result }
     ensures limits { InLimits standing.now.live.history }
 {
-    let live = standing.live();
+    scan_of(alloc, standing.live(), asked)
+}
+
+// The scan of a vector with any body.
+fn scan_of<B: Body>(alloc: Global, live: &Live<B>, asked: &Asked) -> Result<Scan<B::S>, Refusal>
+    ensures { Scans (B.operations (B.meaning live.now.body)) (recorded live.now) asked.now.lo asked.now.hi asked.now.inclusive result }
+{
     if asked.inclusive {
         live.scan_inclusive(alloc, asked.lo, asked.hi)
     } else {

@@ -1,4 +1,4 @@
-ghost use Rattle.std.specs.Prelude.{◌≡◌, ℕ, [], ◌∷◌, ◌++◌, length};
+ghost use Rattle.std.specs.Prelude.{◌≡◌, ℕ, ◌+◌, ◌≤◌, [], ◌∷◌, ◌++◌, length, vec_len, vec_capacity};
 ghost use Rattle.std.specs.Fmt.{decimal};
 
 use crate::conversation::hear;
@@ -8,6 +8,7 @@ use crate::*;
 use std::alloc::{AllocError, Global};
 use std::io;
 use std::io::{Error, ErrorKind, Write};
+use std::process::Abort;
 use std::test::Fail;
 
 /// Answers a line by its number and its length, up to 121.
@@ -49,6 +50,21 @@ fn writer(alloc: Global, step: usize, left: usize) -> Result<FailingWriter, Allo
     })
 }
 
+// Has an echo answer what a reader gives, and compares how that ends and what was written.
+fn check_echo(
+    rt: &impl Abort,
+    alloc: Global,
+    reader: &mut FailingReader<'_>,
+    writer: &mut FailingWriter,
+    end: Result<(), Fault>,
+    replies: &[u8],
+) {
+    let mut echo = Echo { last: 0 };
+    let result = converse(alloc, &mut echo, reader, writer);
+    assert_eq!(rt; result, end);
+    assert_eq!(rt; writer.taken.as_slice(), replies);
+}
+
 const INPUT: &[u8] = b"push 1\n\nab\nlast";
 
 const REPLIES: &[u8] = b"1 6\n2 0\n3 2\n4 4\n";
@@ -81,12 +97,13 @@ fn inputs_and_their_lines(rt: HostRuntime) -> Result<(), Fail> {
         (b"a\r\n\xff", b"1 2\n2 1\n"),
     ];
     for (input, replies) in table {
-        let mut echo = Echo { last: 0 };
-        let mut reader = input;
+        let mut reader = FailingReader {
+            rest: input,
+            step: 1000,
+            left: 1000,
+        };
         let mut writer = writer(rt.alloc(), 1000, 1000)?;
-        let result = converse(rt.alloc(), &mut echo, &mut reader, &mut writer);
-        assert_eq!(rt; result, Ok(()));
-        assert_eq!(rt; writer.taken.as_slice(), replies, "to {input:?}");
+        check_echo(&rt, rt.alloc(), &mut reader, &mut writer, Ok(()), replies);
     }
     Ok(())
 }
@@ -104,16 +121,14 @@ fn failing_reads(rt: HostRuntime) -> Result<(), Fail> {
     ];
     for (left, replies) in table {
         for step in [1, 1000] {
-            let mut echo = Echo { last: 0 };
             let mut reader = FailingReader {
                 rest: INPUT,
                 step,
                 left,
             };
             let mut writer = writer(rt.alloc(), 1000, 1000)?;
-            let result = converse(rt.alloc(), &mut echo, &mut reader, &mut writer);
-            assert_eq!(rt; result, Err(Fault::ReadFault));
-            assert_eq!(rt; writer.taken.as_slice(), replies, "after {left} bytes");
+            let end = Err(Fault::ReadFault);
+            check_echo(&rt, rt.alloc(), &mut reader, &mut writer, end, replies);
         }
     }
     Ok(())
@@ -123,13 +138,22 @@ fn failing_reads(rt: HostRuntime) -> Result<(), Fail> {
 fn failing_writes(rt: HostRuntime) -> Result<(), Fail> {
     for failure in [Failure::Refuses, Failure::Stalls] {
         for left in 0..REPLIES.len() {
-            let mut echo = Echo { last: 0 };
-            let mut reader = INPUT;
+            let mut reader = FailingReader {
+                rest: INPUT,
+                step: 1000,
+                left: 1000,
+            };
             let mut writer = writer(rt.alloc(), 3, left)?;
             writer.failure = failure;
-            let result = converse(rt.alloc(), &mut echo, &mut reader, &mut writer);
-            assert_eq!(rt; result, Err(Fault::WriteFault));
-            assert_eq!(rt; writer.taken.as_slice(), &REPLIES[..left], "{failure:?}");
+            let end = Err(Fault::WriteFault);
+            check_echo(
+                &rt,
+                rt.alloc(),
+                &mut reader,
+                &mut writer,
+                end,
+                &REPLIES[..left],
+            );
         }
     }
     Ok(())
@@ -188,16 +212,13 @@ fn long_lines(rt: HostRuntime) -> Result<(), Fail> {
         for step in [100, 1_000_000] {
             let mut input = Vec::from_elem(rt.alloc(), b'x', len)?;
             input.extend_from_slice(b"\ny")?;
-            let mut echo = Echo { last: 0 };
             let mut reader = FailingReader {
                 rest: input.as_slice(),
                 step,
                 left: 1_000_000,
             };
             let mut writer = writer(rt.alloc(), 1000, 1000)?;
-            let result = converse(rt.alloc(), &mut echo, &mut reader, &mut writer);
-            assert_eq!(rt; result, Ok(()));
-            assert_eq!(rt; writer.taken.as_slice(), replies, "a line of {len} bytes");
+            check_echo(&rt, rt.alloc(), &mut reader, &mut writer, Ok(()), replies);
         }
     }
     Ok(())
@@ -246,16 +267,24 @@ fn inputs_of_at_most_some_bytes(rt: HostRuntime) -> Result<(), Fail> {
     Ok(())
 }
 
+// Puts the longest numbers and the shortest, with one space between.
+fn put_numbers(held: &mut Vec<u8>)
+    requires { vec_len held.old + 200 ≤ vec_capacity held.old }
+    ensures { vec_capacity held.old ≤ vec_capacity held.new }
+{
+    put_number(held, u64::MAX);
+    put(held, b" ");
+    put_element(held, i64::MIN);
+    put(held, b" ");
+    put_wide(held, i128::MIN);
+    put(held, b" ");
+    put_number(held, 0);
+}
+
 #[test]
 fn numbers_in_decimal(rt: HostRuntime) -> Result<(), Fail> {
     let mut held = Vec::with_capacity(rt.alloc(), 200)?;
-    put_number(&mut held, u64::MAX);
-    put(&mut held, b" ");
-    put_element(&mut held, i64::MIN);
-    put(&mut held, b" ");
-    put_wide(&mut held, i128::MIN);
-    put(&mut held, b" ");
-    put_number(&mut held, 0);
+    put_numbers(&mut held);
     let mut writer = Vec::new(rt.alloc());
     assert_eq!(rt; make_room(&mut writer, &mut held, 10), Ok(()));
     assert!(rt; writer.is_empty());

@@ -92,10 +92,7 @@ fn scans_of_three(rt: HostRuntime) -> Result<(), Fail> {
 #[test]
 fn scans_longer_than_what_is_held(rt: HostRuntime) -> Result<(), Fail> {
     let none = fold_slice(&Six::program(), &[]);
-    let mut values = Vec::new(rt.alloc());
-    for _ in 0..5_000 {
-        values.push(none)?;
-    }
+    let values = Vec::from_elem(rt.alloc(), none, 5_000)?;
     let mut held = Vec::with_capacity(rt.alloc(), HELD)?;
     let room = held.capacity();
     let mut writer = Vec::new(rt.alloc());
@@ -116,10 +113,7 @@ fn scans_longer_than_what_is_held(rt: HostRuntime) -> Result<(), Fail> {
 #[test]
 fn scans_that_are_not_written(rt: HostRuntime) -> Result<(), Fail> {
     let none = fold_slice(&Six::program(), &[]);
-    let mut values = Vec::new(rt.alloc());
-    for _ in 0..5_000 {
-        values.push(none)?;
-    }
+    let values = Vec::from_elem(rt.alloc(), none, 5_000)?;
     for failure in [Failure::Refuses, Failure::Stalls] {
         let mut held = Vec::with_capacity(rt.alloc(), HELD)?;
         let mut writer = FailingWriter {

@@ -69,61 +69,98 @@ fn false_lines(rt: HostRuntime) {
     }
 }
 
-#[test]
-fn lines_of_another_form(rt: HostRuntime) {
-    let table: [(&str, u32, &str); 32] = [
-        ("", 1, "bad 1\n"),
-        ("\n", 1, "bad 1\n"),
-        ("livevec 1", 2, "bad 2\n"),
-        ("livevec 2\nend\n", 1, "bad 1\n"),
-        ("livevec 1 \nend\n", 1, "bad 1\n"),
-        ("livevec 1\r\nend\n", 1, "bad 1\n"),
-        ("livevec 1\nj push 05\nend\n", 2, "bad 2\n"),
-        ("livevec 1\nj push -0\nend\n", 2, "bad 2\n"),
-        ("livevec 1\nj push  5\nend\n", 2, "bad 2\n"),
-        ("livevec 1\nj push 5 \nend\n", 2, "bad 2\n"),
-        ("livevec 1\nj push 5\r\nend\n", 2, "bad 2\n"),
-        ("livevec 1\nj push 9223372036854775808\n", 2, "bad 2\n"),
-        ("livevec 1\nj reserve 4294967296\n", 2, "bad 2\n"),
-        ("livevec 1\nj settle\nend\n", 2, "bad 2\n"),
-        ("livevec 1\npush 5\nend\n", 2, "bad 2\n"),
-        ("livevec 1\n j push 5\nend\n", 2, "bad 2\n"),
-        ("livevec 1\n# a comment\nend\n", 2, "bad 2\n"),
-        ("livevec 1\n\nend\n", 2, "bad 2\n"),
-        ("livevec 1\na 0 sum 0 0\nend\n", 2, "bad 2\n"),
-        ("livevec 1\na 0 max 0 0 0\nend\n", 2, "bad 2\n"),
-        ("livevec 1\na 00 sum 0 0 0\nend\n", 2, "bad 2\n"),
-        ("livevec 1\na 0  sum 0 0 0\nend\n", 2, "bad 2\n"),
-        ("livevec 1\na 0 sum 0 4294967296 0\nend\n", 2, "bad 2\n"),
-        ("livevec 1\nb 0 sum 0 0 0\nend\n", 2, "bad 2\n"),
-        (
-            "livevec 1\nj push 1\na 1 sum 0 1 1\na 0 sum 0 0 0\nend\n",
-            4,
-            "bad 4\n",
-        ),
-        (
-            "livevec 1\nj push 1\na 1 sum 0 1 1\nj push 1\nend\n",
-            4,
-            "bad 4\n",
-        ),
-        ("livevec 1\nend\nend\n", 3, "bad 3\n"),
-        ("livevec 1\nend\n\n", 3, "bad 3\n"),
-        ("livevec 1\nend \n", 2, "bad 2\n"),
-        ("livevec 1\nj push 1\na 1 sum 0 1 1\n", 4, "bad 4\n"),
-        (
-            "livevec 1\nj push 5\nj push -7\na 2 sum 0 2 18446744073709551614\n",
-            5,
-            "bad 5\n",
-        ),
-        (
-            "livevec 1\na 0 sum 0 0 0000000000000000000000000000000000000000000000000000000000000000000000000000000000000000000000000000000000000\nend\n",
-            2,
-            "bad 2\n",
-        ),
-    ];
+fn check_bad(rt: &impl Abort, alloc: Global, table: &[(&str, u32, &str)]) {
     for (transcript, line, text) in table {
-        check_verdict(&rt, rt.alloc(), transcript, Verdict::Bad(line), text);
+        check_verdict(rt, alloc, transcript, Verdict::Bad(*line), text);
     }
+}
+
+#[test]
+fn first_lines_of_another_form(rt: HostRuntime) {
+    check_bad(
+        &rt,
+        rt.alloc(),
+        &[
+            ("", 1, "bad 1\n"),
+            ("\n", 1, "bad 1\n"),
+            ("livevec 1", 2, "bad 2\n"),
+            ("livevec 2\nend\n", 1, "bad 1\n"),
+            ("livevec 1 \nend\n", 1, "bad 1\n"),
+            ("livevec 1\r\nend\n", 1, "bad 1\n"),
+        ],
+    );
+}
+
+#[test]
+fn edits_of_another_form(rt: HostRuntime) {
+    check_bad(
+        &rt,
+        rt.alloc(),
+        &[
+            ("livevec 1\nj push 05\nend\n", 2, "bad 2\n"),
+            ("livevec 1\nj push -0\nend\n", 2, "bad 2\n"),
+            ("livevec 1\nj push  5\nend\n", 2, "bad 2\n"),
+            ("livevec 1\nj push 5 \nend\n", 2, "bad 2\n"),
+            ("livevec 1\nj push 5\r\nend\n", 2, "bad 2\n"),
+            ("livevec 1\nj push 9223372036854775808\n", 2, "bad 2\n"),
+            ("livevec 1\nj reserve 4294967296\n", 2, "bad 2\n"),
+            ("livevec 1\nj settle\nend\n", 2, "bad 2\n"),
+            ("livevec 1\npush 5\nend\n", 2, "bad 2\n"),
+            ("livevec 1\n j push 5\nend\n", 2, "bad 2\n"),
+            ("livevec 1\n# a comment\nend\n", 2, "bad 2\n"),
+            ("livevec 1\n\nend\n", 2, "bad 2\n"),
+        ],
+    );
+}
+
+#[test]
+fn claims_of_another_form(rt: HostRuntime) {
+    check_bad(
+        &rt,
+        rt.alloc(),
+        &[
+            ("livevec 1\na 0 sum 0 0\nend\n", 2, "bad 2\n"),
+            ("livevec 1\na 0 max 0 0 0\nend\n", 2, "bad 2\n"),
+            ("livevec 1\na 00 sum 0 0 0\nend\n", 2, "bad 2\n"),
+            ("livevec 1\na 0  sum 0 0 0\nend\n", 2, "bad 2\n"),
+            ("livevec 1\na 0 sum 0 4294967296 0\nend\n", 2, "bad 2\n"),
+            ("livevec 1\nb 0 sum 0 0 0\nend\n", 2, "bad 2\n"),
+            (
+                "livevec 1\nj push 1\na 1 sum 0 1 1\na 0 sum 0 0 0\nend\n",
+                4,
+                "bad 4\n",
+            ),
+            (
+                "livevec 1\nj push 1\na 1 sum 0 1 1\nj push 1\nend\n",
+                4,
+                "bad 4\n",
+            ),
+            (
+                "livevec 1\na 0 sum 0 0 0000000000000000000000000000000000000000000000000000000000000000000000000000000000000000000000000000000000000\nend\n",
+                2,
+                "bad 2\n",
+            ),
+        ],
+    );
+}
+
+#[test]
+fn last_lines_of_another_form(rt: HostRuntime) {
+    check_bad(
+        &rt,
+        rt.alloc(),
+        &[
+            ("livevec 1\nend\nend\n", 3, "bad 3\n"),
+            ("livevec 1\nend\n\n", 3, "bad 3\n"),
+            ("livevec 1\nend \n", 2, "bad 2\n"),
+            ("livevec 1\nj push 1\na 1 sum 0 1 1\n", 4, "bad 4\n"),
+            (
+                "livevec 1\nj push 5\nj push -7\na 2 sum 0 2 18446744073709551614\n",
+                5,
+                "bad 5\n",
+            ),
+        ],
+    );
 }
 
 #[test]
@@ -186,6 +223,20 @@ fn more_lines_than_are_held(rt: HostRuntime) -> Result<(), Fail> {
     Ok(())
 }
 
+// Audits what a reader gives, and compares how that ends and what was written.
+fn check_audit(
+    rt: &impl Abort,
+    alloc: Global,
+    reader: &mut FailingReader<'_>,
+    writer: &mut FailingWriter,
+    end: Result<Verdict, Fault>,
+    text: &[u8],
+) {
+    let result = audit(alloc, reader, writer);
+    assert_eq!(rt; result, end);
+    assert_eq!(rt; writer.taken.as_slice(), text);
+}
+
 #[test]
 fn a_reader_fails_under_an_audit(rt: HostRuntime) -> Result<(), Fail> {
     for left in [0, 9, 10, 60] {
@@ -196,10 +247,8 @@ fn a_reader_fails_under_an_audit(rt: HostRuntime) -> Result<(), Fail> {
                 left,
             };
             let mut writer = writer(rt.alloc(), 1000, 1000)?;
-            let result = audit(rt.alloc(), &mut reader, &mut writer);
-            assert_eq!(rt; result, Err(Fault::ReadFault));
-            assert_eq!(rt; result.err().map(Fault::number), Some(13));
-            assert!(rt; writer.taken.is_empty());
+            let end = Err(Fault::ReadFault);
+            check_audit(&rt, rt.alloc(), &mut reader, &mut writer, end, b"");
         }
     }
     Ok(())
@@ -210,21 +259,29 @@ fn a_writer_fails_under_an_audit(rt: HostRuntime) -> Result<(), Fail> {
     let table: [(usize, &[u8]); 3] = [(0, b""), (2, b"ye"), (3, b"yes")];
     for failure in [Failure::Refuses, Failure::Stalls] {
         for (left, text) in table {
+            let mut reader = FailingReader {
+                rest: SOUND.as_bytes(),
+                step: 1000,
+                left: 1000,
+            };
             let mut writer = writer(rt.alloc(), 1000, left)?;
             writer.failure = failure;
-            let result = audit(rt.alloc(), &mut SOUND.as_bytes(), &mut writer);
-            assert_eq!(rt; result, Err(Fault::WriteFault));
-            assert_eq!(rt; writer.taken.as_slice(), text, "{failure:?}");
+            let end = Err(Fault::WriteFault);
+            check_audit(&rt, rt.alloc(), &mut reader, &mut writer, end, text);
         }
     }
-    let mut writer = writer(rt.alloc(), 1, 100)?;
+    Ok(())
+}
+
+#[test]
+fn an_audit_by_steps_of_one(rt: HostRuntime) -> Result<(), Fail> {
     let mut reader = FailingReader {
         rest: SOUND.as_bytes(),
         step: 1,
         left: 1000,
     };
-    let result = audit(rt.alloc(), &mut reader, &mut writer);
-    assert_eq!(rt; result, Ok(Verdict::Yes));
-    assert_eq!(rt; writer.taken.as_slice(), b"yes\n".as_slice());
+    let mut writer = writer(rt.alloc(), 1, 100)?;
+    let end = Ok(Verdict::Yes);
+    check_audit(&rt, rt.alloc(), &mut reader, &mut writer, end, b"yes\n");
     Ok(())
 }

@@ -13,7 +13,7 @@ returns-clause-answer c =
     let count : c.len.result ≡ length c.args.jobs.now.items + 1 = omega (arith, c.len.ensures, c.push_reserved.ensures.len) in (
       _,
       rw c.push_reserved.ensures.items (tells_claim c.args.standing.now c.claim.new.self (Some c.in-Some.job) c.args.jobs.now.items c.in-Some.ensures.next c.in-Some.ensures.claimed c.in-Some.ensures.queries),
-      rw count at (rw c.node-node.ensures at (rw c.version-version.ensures at c.put_job.ensures.text)),
+      rw count at (rw c.node_and_version-version.ensures.node at (rw c.node_and_version-version.ensures.version at c.put_job.ensures.text)),
     )
 
 pub returns-clause-world : goal.returns-clause-world
