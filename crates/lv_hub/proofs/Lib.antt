@@ -1,1 +1,2 @@
+mod OrderLaws
 mod SessionLaws

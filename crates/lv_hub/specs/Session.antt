@@ -1,5 +1,5 @@
 -- What each line of a session is answered, and what it leaves: how many edits are counted, and which reductions were answered.
-use Rattle.std.specs.Prelude.{◌≡◌, ◌⊎◌, ℕ, ◌+◌, Bool, true, false, Result, Ok, Err, List, [], ◌∷◌, ◌++◌, map}
+use Rattle.std.specs.Prelude.{◌≡◌, ◌⊎◌, ℕ, ◌+◌, Bool, true, false, Result, Ok, Err, List, [], ◌∷◌, ◌++◌, map, filter, nat_eq}
 use Rattle.lv_geometry.specs.Bounds.{Bounds}
 use Rattle.lv_geometry.specs.declared.refusals.Refusal.{Refusal}
 use Rattle.lv_geometry.specs.declared.refusals.Refusal.TheVariants.{NoMemory}
@@ -63,6 +63,10 @@ requested (command.Answer name) = request.Unknown
 abbrev pub after_edit : SessionState → Result Receipt Refusal → SessionState
 after_edit s (Ok receipt) = record s { count = s.count + 1 }
 after_edit s (Err refusal) = s
+
+-- the reductions at each edit stand in the order that they had
+abbrev pub KeepTies : List Claimed → List Claimed → Type 0
+KeepTies old new = (edit : ℕ) → filter (λ claim. nat_eq claim.edit edit) new ≡ filter (λ claim. nat_eq claim.edit edit) old
 
 -- a reduction as it is listed
 abbrev pub claim_of : Kind → ℕ → ℕ → Answer SixSummary → Claimed

@@ -1,5 +1,5 @@
 -- What a hub tells: each answer is that of a vector within the hub's limits, at some moment.
-use Rattle.std.specs.Prelude.{◌≡◌, Bool, ℕ, Option, option_map, Result, Ok, Err}
+use Rattle.std.specs.Prelude.{◌≡◌, Bool, ℕ, Option, IfSome, option_map, Result, Ok, Err}
 use Rattle.lv_geometry.specs.Bounds.{Bounds}
 use Rattle.lv_geometry.specs.declared.refusals.Refusal.{Refusal}
 use Rattle.lv_geometry.specs.declared.refusals.Refusal.TheVariants.{Stranger}
@@ -13,11 +13,11 @@ use Rattle.lv_summary.specs.declared.accepted.Accepted.{Accepted}
 use Rattle.lv_refresh.specs.Carried.{Carried}
 use Rattle.lv_refresh.specs.Claim.{IsNextJob}
 use Rattle.lv_refresh.specs.Delivery.{delivery_of}
-use Rattle.lv_refresh.specs.Honesty.{Vouched}
+use Rattle.lv_refresh.specs.Honesty.{IsHonest, Vouched}
 use Rattle.lv_refresh.specs.Record.{Record}
 use Rattle.lv_reduce.specs.declared.reductions.Answer.{Answer}
 use Rattle.lv_reduce.specs.declared.scans.Scan.{Scan}
-use Rattle.lv_live.specs.State.{LiveState, node_and_version, recorded}
+use Rattle.lv_live.specs.State.{HasClaim, LiveState, node_and_version, recorded}
 use Rattle.lv_live.specs.Step.{Reduces, Scans}
 
 -- a vector whose edits are legal, within these limits
@@ -44,11 +44,15 @@ pub record ScanTold {B S : Type 0} (operations : B → Operations S) (limits : B
   pub vector : IsVector limits state.history
   pub scans : Scans (operations state.body) (recorded state) lo hi inclusive result
 
--- a claim was answered as after some legal edits: by the least node that wants a job, or by none
-pub record ClaimTold {B S : Type 0} (limits : Bounds) (result : Option (Carried B S)) : Type 0 where
-  pub state : LiveState B S
-  pub vector : IsVector limits state.history
-  pub next : IsNextJob (recorded state) (option_map node_and_version result)
+-- a claim was answered as after some legal edits: by the least node that wants a job, whose contents were taken honestly, or by none
+pub record ClaimTold {B S : Type 0} (operations : B → Operations S) (limits : Bounds) (result : Option (Carried B S)) : Type 0 where
+  pub before : LiveState B S
+  pub after : LiveState B S
+  pub vector : IsVector limits before.history
+  pub next : IsNextJob (recorded before) (option_map node_and_version result)
+  pub claimed : HasClaim before after (option_map node_and_version result)
+  pub body : IfSome result (λ job. job.body ≡ before.body)
+  pub honest : IfSome result (λ job. IsHonest (operations before.body) (recorded after) job.node job.version job.contents)
 
 -- an outcome is taken where it is vouched for, and becomes what becomes of a delivery; else it is a stranger
 abbrev pub Gives : Record → Type 0 → {B S : Type 0} → Carried B S → Result Accepted Refusal → Type 0

@@ -97,12 +97,13 @@ impl<B: Body, N: Naming> Hub<B, N> {
 
     /// A job for the least node that wants one, or none. Takes no memory.
     pub fn claim<R: Wait>(&self, rt: &R) -> Option<Job<B>>
-        ensures { ClaimTold N.limits result }
+        ensures { ClaimTold (λ (body : B). B.operations (B.meaning body)) N.limits result }
     {
         self.desk.lock(rt).claim()
     }
 
-    /// Takes an outcome in. Refused with `Stranger` where it isn't this vector's. Takes no memory.
+    /// Takes an outcome in. Refused with `Stranger` where its node is whole and was touched last by the edit that it names, and its
+    /// body or contents are not this vector's. Takes no memory.
     pub fn give<R: Wait>(&self, rt: &R, outcome: Outcome<B>) -> Result<Accepted, Refusal>
         ensures { GiveTold B.meaning B.operations N.limits outcome result }
     {

@@ -4,7 +4,7 @@ ghost use Rattle.lv_script.specs.Replies.{Conversed};
 ghost use Rattle.lv_script.specs.Transcript.{AreInOrder};
 ghost use Rattle.std.specs.List.Sorted.{IsPermutation};
 ghost use Rattle.lv_hub.specs.Counting.{Holding};
-ghost use Rattle.lv_hub.specs.Session.{SessionState, SessionStep, session_at};
+ghost use Rattle.lv_hub.specs.Session.{KeepTies, SessionState, SessionStep, session_at};
 
 use crate::hubs::Hub;
 use crate::naming::Naming;
@@ -19,7 +19,7 @@ use std::mem;
 use std::sync::Wait;
 
 /// Answers the lines of a session on a hub: pushes, pops, writes, reserves, reductions and scans, as a script's; every other
-/// line is bad. Lists each reduction that was answered, in order; one whose entry finds no room is refused with `NoMemory`.
+/// line that says something is bad. Lists each reduction that was answered, in order; one whose entry finds no room is refused with `NoMemory`.
 ///
 /// The share counts the edits that were accepted. Ends with the faults of a script; edits accepted before a fault stay, and
 /// stay counted.
@@ -157,6 +157,7 @@ impl<'a, N: Naming, T: Wait, K: Lent> Responder for Session<'a, N, T, K> {
 pub fn in_order(claims: &mut Vec<Claimed>) -> Result<(), AllocError>
     ensures order { OnOk result (AreInOrder claims.new.items) }
     ensures same { IsPermutation claims.old.items claims.new.items }
+    ensures stable { KeepTies claims.old.items claims.new.items }
     ensures unmoved { OnErr result (claims.new.items ≡ claims.old.items) }
 {
     claims.sort_by_key(|claim: &Claimed| claim.edit)
