@@ -14,6 +14,7 @@ use std::alloc::{AllocError, Global};
 /// The command line of the program.
 pub fn command<'a>(alloc: Global) -> Result<Command<'a>, AllocError> {
     Command::new(alloc, "livevec")
+        .bin_name("livevec")?
         .about(help::ABOUT)
         .after_help(help::STATUSES)
         .subcommand_required(true)
@@ -115,7 +116,7 @@ fn turns<'a>(alloc: Global) -> Arg<'a> {
     Arg::new(alloc, "turns")
         .long("turns")
         .value_name("N")
-        .help("How many turns each worker takes, 0 to 1000000")
+        .help("How many turns each worker takes, a claim each, 0 to 1000000")
         .action(ArgAction::Set)
         .value_parser(value_parser!(u64).range(0..=1_000_000))
         .default_value("1000")

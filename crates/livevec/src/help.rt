@@ -55,13 +55,17 @@ pub const SERVE: &str =
 
 /// The lines of a session, and its files.
 pub const SESSIONS: &str = "\
-1 to 16 files, each named once, none of them another's FILE.out. The sessions share one vector.
+1 to 16 files, each named once, none of them another's FILE.out; a file under two spellings isn't
+noticed. The sessions share one vector.
 Each knows the lines push, pop, write, reserve, reduce, inc and exc, as `livevec run --help` tells
 them; any other is answered `bad N`.
 
-Each FILE is opened and its FILE.out made, in order, before a thread starts; the first that fails is
-the fault. The transcript goes to standard output: the journal, then each answered reduction in the
-order of edits; `livevec audit` says yes to it. Where a session ends with a fault none is written.";
+A turn that finds no job counts too: for long sessions give workers more of them.
+
+Each FILE is opened and its FILE.out made anew, in order, before a thread starts; the first that
+fails is the fault. The transcript goes to standard output: the journal, then each answered
+reduction in the order of edits; `livevec audit` says yes to it. Where a session ends with a fault
+none is written.";
 
 /// What `audit` does.
 pub const AUDIT: &str = "Says whether a transcript on standard input is sound";
