@@ -13,7 +13,7 @@ use Rattle.lv_edits.specs.Inner.{AreNeeded}
 use Rattle.lv_edits.specs.Capacity.{capacity_after, IsCapacityAfter, least_capacity, longest, most_reserved, reserved_by, Suffices}
 use Rattle.lv_edits.specs.History.{list_of, replayed}
 use Rattle.lv_edits.specs.Verdict.{refused_on, verdict_of}
-use Rattle.lv_edits.proofs.Buckets.{capacity_of_fewer, capacity_of_mono, capacity_of_more}
+use Rattle.lv_geometry.proofs.Capacities.{capacity_of_fewer, capacity_of_mono, capacity_of_more}
 use Rattle.lv_edits.proofs.HistoryLaws.{accepted_is_possible, length_after, list_of-snoc, not_refused, unrefused_reserve}
 use Rattle.lv_edits.proofs.Ranges.{find_first, greatest, greatest_above, greatest_least, greatest-next, greatest_same}
 

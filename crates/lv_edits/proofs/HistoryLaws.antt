@@ -13,7 +13,7 @@ use Rattle.lv_edits.specs.declared.edit.Edit.{Edit}
 use Rattle.lv_edits.specs.declared.edit.Edit.TheVariants.{Push, Pop, Write, Reserve}
 use Rattle.lv_edits.specs.History.{applied, History, IsLegal, list_of, replayed, with_edit}
 use Rattle.lv_edits.specs.Kept.{CarriesElement, InLimits}
-use Rattle.lv_edits.proofs.Buckets.{capacity_of_most}
+use Rattle.lv_geometry.proofs.Capacities.{capacity_of_most}
 use Rattle.lv_edits.specs.Verdict.{refused_on, verdict_of}
 
 -- one more edit is applied to what the edits before it made

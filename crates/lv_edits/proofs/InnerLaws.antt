@@ -13,7 +13,7 @@ use Rattle.lv_edits.specs.History.{applied, list_of}
 use Rattle.lv_edits.specs.Inner.{AreNeeded, IsReplay}
 use Rattle.lv_edits.specs.Kept.{CarriesElement, InLimits}
 use Rattle.lv_edits.specs.Verdict.{refused_on, verdict_of}
-use Rattle.lv_edits.proofs.Buckets.{capacity_of_mono, capacity_of_more, capacity_of_most}
+use Rattle.lv_geometry.proofs.Capacities.{capacity_of_mono, capacity_of_more, capacity_of_most}
 use Rattle.lv_edits.proofs.CapacityLaws.{AreNeeded-beyond, AreNeeded-empty, AreNeeded-reserved, AreNeeded-within, capacity_after_needed, longest-snoc}
 use Rattle.lv_edits.proofs.HistoryLaws.{applied_pop, applied_write, InLimits-by, InLimits-snoc, list_of_replayed, list_of-snoc, not_refused, unrefused_pop, unrefused_push, unrefused_reserve, unrefused_write, replayed-nil}
 

@@ -1,4 +1,3 @@
-pub mod Buckets
 pub mod CapacityLaws
 pub mod HistoryLaws
 pub mod InnerLaws

@@ -7,7 +7,7 @@ use Rattle.lv_edits.specs.History.{History, list_of, with_edit}
 use Rattle.lv_edits.specs.Kept.{InLimits}
 use Rattle.lv_edits.specs.Touch.{index_written}
 use Rattle.lv_edits.specs.Verdict.{verdict_of}
-use Rattle.lv_edits.proofs.Buckets.{capacity_of_most}
+use Rattle.lv_geometry.proofs.Capacities.{capacity_of_most}
 use Rattle.lv_edits.proofs.HistoryLaws.{accepted_is_possible, list_of-snoc, not_refused, unrefused_push, unrefused_write}
 use Rattle.lv_summary.specs.Table.{AnswersAlike, Table}
 use Rattle.lv_refresh.specs.Claimed.{ClaimTable}

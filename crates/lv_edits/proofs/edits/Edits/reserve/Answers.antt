@@ -3,7 +3,7 @@ use Rattle.std.proofs.lemmas.List.{length_push}
 use Rattle.lv_edits.specs.declared.edit.Edit.TheVariants.{Reserve}
 use Rattle.lv_edits.specs.Capacity.{capacity_after}
 use Rattle.lv_edits.specs.Verdict.{verdict_of}
-use Rattle.lv_edits.proofs.Buckets.{capacity_of_most}
+use Rattle.lv_geometry.proofs.Capacities.{capacity_of_most}
 use Rattle.lv_edits.proofs.HistoryLaws.{unrefused_reserve}
 use Rattle.lv_edits.proofs.InnerLaws.{InLimits-replay, IsReplay-snoc, needed_by_reserve, unrefused_on_items}
 use Rattle.lv_edits.proofs.edits.Edits.reserve.Goals as goal

@@ -1,10 +1,14 @@
 -- How much more buckets hold than fewer.
-use Rattle.std.proofs.Common.{ℕ, ◌+◌, ◌^◌, ◌<◌, ◌≤◌, inl, inr, arith}
+use Rattle.std.proofs.Common.{◌≡◌, ℕ, ◌+◌, ◌*◌, ◌^◌, ◌<◌, ◌≤◌, inl, inr, arith}
 use Rattle.std.proofs.lemmas.Bool.{cases_lt}
 use Rattle.std.proofs.lemmas.Nat.{pow_pos}
 use Rattle.std.proofs.Math.Pow.{pow_mono}
 use Rattle.lv_geometry.specs.Cells.{capacity_of}
 use Rattle.lv_geometry.proofs.HighestBits.{twice}
+
+-- how many cells the bucket of a number has
+abbrev pub cells_in : ℕ → ℕ
+cells_in k = 8 * 2 ^ k
 
 -- more buckets hold no less
 pub capacity_of_mono : (j k : ℕ) → j ≤ k → capacity_of j ≤ capacity_of k
@@ -24,3 +28,7 @@ capacity_of_fewer j k less =
 -- one bucket more holds at least one element more
 pub capacity_of_more : (k : ℕ) → capacity_of k < capacity_of (k + 1)
 capacity_of_more k = omega (arith, twice k, pow_pos k)
+
+-- one bucket more holds its own cells more
+pub capacity_of_next : (k : ℕ) → capacity_of (k + 1) ≡ capacity_of k + cells_in k
+capacity_of_next k = omega (arith, twice k, pow_pos k)

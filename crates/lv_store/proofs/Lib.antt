@@ -1,0 +1,5 @@
+mod Blocks
+pub mod BucketLaws
+mod OpensLaws
+pub mod Ranges
+pub mod ShowsLaws

@@ -1,0 +1,18 @@
+use Rattle.std.proofs.Common.{arith, ◌∙◌}
+use Rattle.lv_store.proofs.BucketLaws.{as_many, buckets_of_more, with_bucket_more}
+use Rattle.lv_store.proofs.directories.Directory.open_to.Goals as goal
+
+pub open-requires : goal.open-requires
+open-requires g c =
+    record { room = omega (arith, buckets_of_more c.args.self.now c.loop.self c.loop.counter c.args.blank c.loop.invariant.opened) }
+
+pub loop-preserved : goal.loop-preserved
+loop-preserved g c = record {
+  opened = c.in_default.ensures.ok ∙ with_bucket_more c.args.self.now c.loop.self c.loop.counter c.args.blank (omega arith) c.loop.invariant.opened;
+  from = omega arith;
+  few = omega arith;
+}
+
+pub returns-clause-ok : goal.returns-clause-ok
+returns-clause-ok g c =
+    as_many c.args.self.now c.loop.self c.loop.counter c.args.buckets c.args.blank c.loop-test.false (omega arith) (omega arith) c.loop.invariant.opened

@@ -1,0 +1,6 @@
+use Rattle.lv_store.proofs.ShowsLaws.{Shows-announced}
+use Rattle.lv_store.proofs.stores.Store.announce.Goals as goal
+
+pub returns-clause-shows : goal.returns-clause-shows
+returns-clause-shows c =
+    rw (← c.self.view_is) (Shows-announced _ c.args.write c.args.size (rw (← c.self.view_is) at c.requires.settled) c.self.invariant.0)

@@ -1,0 +1,32 @@
+-- What announcements make of a store: of each edit the write that it announced, if it did.
+use Rattle.std.specs.Prelude.{◌≡◌, ℕ, ℤ, pos, ◌+◌, ◌/◌, Option, Bool, false, List, length, fold, slice_get, nat_eq, if◌then◌else◌}
+use Rattle.std.specs.List.{range_with_len}
+use Rattle.std.specs.Option.{option_map_or}
+use Rattle.lv_store.specs.State.{StoreState, block_version, value_in, written}
+
+-- what edits announced, in order
+abbrev pub Announcements : Type 0
+Announcements = List (Option (ℕ × ℤ))
+
+-- the element that was announced last for an index; 0 where none was
+unfoldable pub last_value : Announcements → ℕ → ℤ
+last_value announced i = fold (λ x write. written write i x) (pos 0) announced
+
+-- whether a write, if there is one, is in a block
+abbrev pub is_in : ℕ → Option (ℕ × ℤ) → Bool
+is_in block write = option_map_or (λ w. nat_eq (w.0 / 8) block) write false
+
+-- whether edit j + 1 wrote in a block
+abbrev pub writes_at : Announcements → ℕ → ℕ → Bool
+writes_at announced block j = option_map_or (is_in block) (slice_get announced j) false
+
+-- the number of the last edit that wrote in a block; 0 where none did
+unfoldable pub last_version : Announcements → ℕ → ℕ
+last_version announced block = fold (λ last j. if writes_at announced block j then j + 1 else last) 0 (range_with_len 0 (length announced))
+
+-- a store shows announcements: its edit is the number of them, each element the last one announced, and the version of each block
+-- that of the last edit that wrote in it
+pub record Shows (s : StoreState) (announced : Announcements) : Type 0 where
+  pub edit : s.descriptor.edit ≡ length announced
+  pub values : (i : ℕ) → value_in s i ≡ last_value announced i
+  pub versions : (block : ℕ) → block_version s block ≡ last_version announced block

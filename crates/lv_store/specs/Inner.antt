@@ -1,0 +1,25 @@
+-- What the fields of a store and of a two-level array keep.
+use Rattle.std.specs.Prelude.{◌≡◌, ◌<◌, ◌≤◌, ◌*◌, ◌^◌, IfSome, List, length, map, All}
+use Rattle.std.specs.List.{range_with_len}
+use Rattle.lv_geometry.specs.Bounds.{AreAllowed}
+use Rattle.lv_geometry.specs.Cells.{capacity_of}
+use Rattle.lv_geometry.specs.Elements.{IsElement}
+use Rattle.lv_store.specs.State.{StoreState}
+
+-- the first bucket has 8 cells, each further one twice as many, and there are at most 17
+pub record AreBuckets {T : Type 0} (buckets : List (List T)) : Type 0 where
+  pub sizes : map length buckets ≡ map (λ k. 8 * 2 ^ k) (range_with_len 0 (length buckets))
+  pub few : length buckets ≤ 17
+
+-- elements and versions for every open cell, within the limits; no version is of an edit to come; and a pending write is at a cell
+-- that is open
+pub record IsStore (s : StoreState) : Type 0 where
+  pub allowed : AreAllowed s.limits.buckets s.limits.edits
+  pub few : s.buckets ≤ s.limits.buckets
+  pub values : length s.values ≡ capacity_of s.buckets
+  pub versions : length s.versions ≡ capacity_of s.buckets
+  pub elements : All IsElement s.values
+  pub past : All (λ version. version ≤ s.descriptor.edit) s.versions
+  pub edits : s.descriptor.edit ≤ s.limits.edits
+  pub size : s.descriptor.size ≤ capacity_of s.buckets
+  pub pending : IfSome s.descriptor.pending (λ write. (write.0 < capacity_of s.buckets) × IsElement write.1)

@@ -1,0 +1,4 @@
+pub mod Announced
+pub mod Directory
+pub mod Inner
+pub mod State

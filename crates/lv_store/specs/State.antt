@@ -1,0 +1,71 @@
+-- What a store holds, and what it answers, by index.
+use Rattle.std.specs.Prelude.{◌≡◌, ℕ, ℤ, pos, ◌+◌, ◌*◌, Option, Some, None, Bool, false, List, [], ◌++◌, ◌-◌, fold, max, replicate, slice_index, slice_set, nat_eq, if◌then◌else◌}
+use Rattle.std.specs.List.{range_with_len, slice_index_or}
+use Rattle.lv_geometry.specs.Bounds.{Bounds}
+use Rattle.lv_geometry.specs.Cells.{AreFewest, capacity_of}
+use Rattle.lv_store.specs.declared.descriptors.Descriptor.{Descriptor}
+
+-- its limits, its descriptor, how many buckets are open, and of the cells the elements, and the numbers of the edits that wrote
+-- them, 0 where none did
+pub record StoreState : Type 0 where
+  pub limits : Bounds
+  pub descriptor : Descriptor
+  pub buckets : ℕ
+  pub values : List ℤ
+  pub versions : List ℕ
+
+-- whether a write, if there is one, is at an index
+abbrev pub is_at : ℕ → Option (ℕ × ℤ) → Bool
+is_at i None = false
+is_at i (Some write) = nat_eq write.0 i
+
+-- what a write, if there is one, makes of the element at an index
+abbrev pub written : Option (ℕ × ℤ) → ℕ → ℤ → ℤ
+written None i x = x
+written (Some write) i x = if nat_eq write.0 i then write.1 else x
+
+-- the element at an index: that of the pending write, where it is there, else that in its cell; 0 where nothing was written
+abbrev pub value_in : StoreState → ℕ → ℤ
+value_in s i = written s.descriptor.pending i (slice_index_or s.values i (pos 0))
+
+-- the number of the edit that wrote an index last, its write pending or not; 0 where none did
+abbrev pub version_in : StoreState → ℕ → ℕ
+version_in s i = if is_at i s.descriptor.pending then s.descriptor.edit else slice_index s.versions i
+
+-- the eight indices of a block
+abbrev pub indices_of : ℕ → List ℕ
+indices_of block = range_with_len (8 * block) 8
+
+-- the number of the last edit that wrote in a block: the greatest of its eight indices'
+abbrev pub block_version : StoreState → ℕ → ℕ
+block_version s block = fold (λ most i. max most (version_in s i)) 0 (indices_of block)
+
+-- an empty store, with no bucket open
+abbrev pub empty_store : Bounds → StoreState
+empty_store limits = record { limits = limits; descriptor = record { edit = 0; size = 0; pending = None }; buckets = 0; values = []; versions = [] }
+
+-- the store after one more edit, which announces a write or none, and leaves this size
+abbrev pub announced : StoreState → Option (ℕ × ℤ) → ℕ → StoreState
+announced s write size = record s { descriptor = record { edit = s.descriptor.edit + 1; size = size; pending = write } }
+
+-- the store with a write, if there is one, of the last edit in its cell, and none pending
+abbrev pub completed : StoreState → Option (ℕ × ℤ) → StoreState
+completed s None = s
+completed s (Some write) =
+    record s {
+      descriptor = record s.descriptor { pending = None };
+      values = slice_set s.values write.0 write.1;
+      versions = slice_set s.versions write.0 s.descriptor.edit;
+    }
+
+-- the store with what is pending in its cell
+abbrev pub settled : StoreState → StoreState
+settled s = completed s s.descriptor.pending
+
+-- buckets were opened until so many cells are open, if they weren't; what they hold was never written, and nothing else has changed
+pub record Opens (old new : StoreState) (cells : ℕ) : Type 0 where
+  pub buckets : (k : ℕ) → AreFewest cells k → new.buckets ≡ max old.buckets k
+  pub values : new.values ≡ old.values ++ replicate (capacity_of new.buckets - capacity_of old.buckets) (pos 0)
+  pub versions : new.versions ≡ old.versions ++ replicate (capacity_of new.buckets - capacity_of old.buckets) 0
+  pub descriptor : new.descriptor ≡ old.descriptor
+  pub limits : new.limits ≡ old.limits

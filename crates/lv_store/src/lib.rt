@@ -1,0 +1,17 @@
+//! The cells of the vector: buckets that are opened and never moved, and a descriptor with the number of the last edit, the
+//! size, and that edit's write until it is in its cell.
+//!
+//! The model of a `Store` is its descriptor and its cells, index by index. After any announcements, settled or not, a read is
+//! the element that was announced last for its index, and a block's version the number of the edit that wrote in it last
+//! (`Shows`). It keeps no journal, and refuses nothing but want of memory: its callers judge edits.
+#![tactic(auto)]
+
+mod descriptors;
+mod directories;
+mod stores;
+
+pub use descriptors::Descriptor;
+pub use stores::Store;
+
+#[cfg(test)]
+mod tests;
