@@ -91,9 +91,9 @@ all_nothing : (old new : AuditState) (lines : List (List ℕ)) (before after : O
 all_nothing old new lines before after a = rw (no_replies old 1 (map (take 121) lines) a.text new a.answered) at a.written
 
 -- nor did a front of them
-front_nothing : (old : AuditState) (lines : List (List ℕ)) (before after : Option (List ℕ)) → AnswersFront AuditStep old lines before after → Appends before after []
-front_nothing old lines before after a =
-    front_of_none before after (rw (no_replies old 1 a.front a.text a.new a.answered) at a.written)
+front_nothing : (old new : AuditState) (lines : List (List ℕ)) (before after : Option (List ℕ)) → AnswersFront AuditStep old lines new before after → Appends before after []
+front_nothing old new lines before after a =
+    front_of_none before after (rw (no_replies old 1 a.front a.text new a.answered) at a.written)
 
 module _ {remaining_old remaining_new before : Option (List ℕ)} (old new : AuditState) (after : Option (List ℕ)) where
   -- a conversation that ended by a fault wrote nothing
@@ -104,7 +104,7 @@ module _ {remaining_old remaining_new before : Option (List ℕ)} (old new : Aud
     seen = c.seen;
     read = c.read;
     few = c.few;
-    ends = elim c.ends [ inl a ↦ inl (front_nothing old _ before after a) | inr (end, few, a) ↦ inl (front_nothing old _ before after a) ];
+    ends = elim c.ends [ inl a ↦ inl (front_nothing old new _ before after a) | inr (end, few, a) ↦ inl (front_nothing old new _ before after a) ];
   }
 
   -- there was no memory for the edits

@@ -33,13 +33,12 @@ module _ {S : Type 0} (step : S → ℕ → List ℕ → List ℕ → S → Type
   }
 
   -- or a front of them
-  AnswersFront-Feeds : (contents : Option (List ℕ)) (seen : List ℕ) → FeedsFront step start contents seen → AnswersFront step start.state (whole_lines_of seen) start.contents contents
-  AnswersFront-Feeds contents seen f = record {
+  AnswersFront-Feeds : (new : Point S) (seen : List ℕ) → FeedsFront step start new seen → AnswersFront step start.state (whole_lines_of seen) new.state start.contents new.contents
+  AnswersFront-Feeds new seen f = record {
     front = f.front;
     rest = f.rest;
     all = rw first.kept at f.all;
     text = f.text;
-    new = f.new;
     answered = rw first.number at f.answered;
     written = rw first.held at f.written;
   }
@@ -64,8 +63,8 @@ module _ {S : Type 0} (step : S → ℕ → List ℕ → List ℕ → S → Type
       }
 
   -- or a front of them all
-  AnswersFront-Finishes : (mid : Point S) (contents : Option (List ℕ)) (seen : List ℕ) → Feeds step start mid seen → FinishesFront step mid contents → AnswersFront step start.state (lines_of seen) start.contents contents
-  AnswersFront-Finishes mid contents seen f g =
+  AnswersFront-Finishes : (mid new : Point S) (seen : List ℕ) → Feeds step start mid seen → FinishesFront step mid new → AnswersFront step start.state (lines_of seen) new.state start.contents new.contents
+  AnswersFront-Finishes mid new seen f g =
       let whole = map (take 121) (whole_lines_of seen) in
       let number : mid.number ≡ 1 + length whole = fed_number mid seen f in
       let kept : mid.kept ≡ take 121 (unended_of seen) = rw first.kept at f.kept in
@@ -76,19 +75,17 @@ module _ {S : Type 0} (step : S → ℕ → List ℕ → List ℕ → S → Type
             lines_of-kept 121 seen (omega arith) ∙ ap (λ (lines : List (List ℕ)). whole ++ lines) (rw kept at g.all)
             ∙ sym (append_assoc whole g.front g.rest);
         text = f.text ++ g.text;
-        new = g.new;
-        answered = Answered-append step start.state 1 whole g.front f.text g.text mid.state g.new (rw (first.number, first.kept) at f.answered) (rw number at g.answered);
+        answered = Answered-append step start.state 1 whole g.front f.text g.text mid.state new.state (rw (first.number, first.kept) at f.answered) (rw number at g.answered);
         written = rw first.held at (WritesFront-after f.written g.written);
       }
 
   -- what is left to write after the last line is not all written
-  FinishesFront-unsent : (mid new : Point S) (contents : Option (List ℕ)) → Finishes step mid new → WritesFront new.contents new.held contents [] → FinishesFront step mid contents
+  FinishesFront-unsent : (mid new : Point S) (contents : Option (List ℕ)) → Finishes step mid new → WritesFront new.contents new.held contents [] → FinishesFront step mid record new { contents = contents }
   FinishesFront-unsent mid new contents g unsent = record {
     front = last_line mid.kept;
     rest = [];
     all = sym (append-nil _);
     text = g.text;
-    new = new.state;
     answered = g.answered;
     written = rw append-nil at (WritesFront-after g.written unsent);
   }
@@ -111,23 +108,23 @@ module _ {S : Type 0} (step : S → ℕ → List ℕ → List ℕ → S → Type
   Conversed-stopped new remaining_old remaining_new ReadFault h =
       record { seen = h.seen; read = h.read; few = h.few; ends = AnswersAll-Feeds new h.seen h.stops.0 h.stops.1 }
   Conversed-stopped new remaining_old remaining_new WriteFault h =
-      record { seen = h.seen; read = h.read; few = h.few; ends = inl (AnswersFront-Feeds new.contents h.seen h.stops) }
+      record { seen = h.seen; read = h.read; few = h.few; ends = inl (AnswersFront-Feeds new h.seen h.stops) }
 
   -- at the last line
-  pub Conversed-unfinished : {T U : Type 0} (mid : Point S) (new : S) (remaining_old remaining_new contents : Option (List ℕ)) (x : U) → Hears step {T = U} start mid remaining_old remaining_new (2 ^ 30 + 1) (Ok x)
-      → FinishesFront step mid contents → Conversed step {T = T} start.state new remaining_old remaining_new start.contents contents (Err WriteFault)
-  Conversed-unfinished mid new remaining_old remaining_new contents x h g = record {
+  pub Conversed-unfinished : {T U : Type 0} (mid new : Point S) (remaining_old remaining_new : Option (List ℕ)) (x : U) → Hears step {T = U} start mid remaining_old remaining_new (2 ^ 30 + 1) (Ok x)
+      → FinishesFront step mid new → Conversed step {T = T} start.state new.state remaining_old remaining_new start.contents new.contents (Err WriteFault)
+  Conversed-unfinished mid new remaining_old remaining_new x h g = record {
     seen = h.seen;
     read = h.read;
     few = h.few;
-    ends = inr (h.stops.0, omega (arith, h.stops.1), AnswersFront-Finishes mid contents h.seen h.stops.2 g);
+    ends = inr (h.stops.0, omega (arith, h.stops.1), AnswersFront-Finishes mid new h.seen h.stops.2 g);
   }
 
   -- in the last sending
   pub Conversed-unsent : {T U : Type 0} (mid new : Point S) (remaining_old remaining_new contents : Option (List ℕ)) (x : U) → Hears step {T = U} start mid remaining_old remaining_new (2 ^ 30 + 1) (Ok x)
       → Finishes step mid new → WritesFront new.contents new.held contents [] → Conversed step {T = T} start.state new.state remaining_old remaining_new start.contents contents (Err WriteFault)
   Conversed-unsent mid new remaining_old remaining_new contents x h g unsent =
-      Conversed-unfinished mid new.state remaining_old remaining_new contents x h (FinishesFront-unsent mid new contents g unsent)
+      Conversed-unfinished mid record new { contents = contents } remaining_old remaining_new x h (FinishesFront-unsent mid new contents g unsent)
 
   -- or well
   pub Conversed-sent : {T U : Type 0} (mid new : Point S) (remaining_old remaining_new contents : Option (List ℕ)) (held : List ℕ) (x : U) (y : T) → Hears step {T = U} start mid remaining_old remaining_new (2 ^ 30 + 1) (Ok x)

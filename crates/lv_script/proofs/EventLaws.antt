@@ -200,6 +200,6 @@ module _ {S : Type 0} (step : S → ℕ → List ℕ → List ℕ → S → Type
 
   -- a reply of which a front was written, so
   pub fails_after : {T : Type 0} {a b : Option (List ℕ)} {h k : List ℕ} (c : Option (List ℕ)) (result : Result T Fault) (old new : S) (n : ℕ) (line : List ℕ) → Writes a h b k [] → IfErr result (λ fault. (fault ≡ WriteFault) × (reply : List ℕ) × step old n line reply new × WritesFront b k c reply)
-      → IfErr result (λ fault. (fault ≡ WriteFault) × FailsToReply step old n line a h c)
+      → IfErr result (λ fault. (fault ≡ WriteFault) × FailsToReply step old n line new a h c)
   fails_after c (Ok done) old new n line room answered = answered
-  fails_after c (Err fault) old new n line room (is, reply, answered, front) = (is, inr record { reply = reply; new = new; answered = answered; written = WritesFront-after room front })
+  fails_after c (Err fault) old new n line room (is, reply, answered, front) = (is, inr record { reply = reply; answered = answered; written = WritesFront-after room front })

@@ -9,9 +9,10 @@ use Rattle.lv_script.proofs.ProgressLemmas.{Feeds-sent, FeedsFront-sent}
 module _ {S : Type 0} (step : S → ℕ → List ℕ → List ℕ → S → Type 0) (start here : Point S) (seen : List ℕ) (fed : Feeds step start here seen)
     (remaining_old remaining_new : Option (List ℕ)) (most : ℕ) (read : Consumes remaining_old remaining_new seen) where
   -- what is held is not all sent
-  pub Hears-unsent : {T : Type 0} (new : Point S) → length seen ≤ most → WritesFront here.contents here.held new.contents []
-      → Hears step {T = T} start new remaining_old remaining_new most (Err WriteFault)
-  Hears-unsent new few unsent = record { seen = seen; read = read; few = few; stops = FeedsFront-sent step start here new.contents seen fed unsent }
+  pub Hears-unsent : {T : Type 0} (contents : Option (List ℕ)) (held : List ℕ) → length seen ≤ most → WritesFront here.contents here.held contents []
+      → Hears step {T = T} start record here { contents = contents; held = held } remaining_old remaining_new most (Err WriteFault)
+  Hears-unsent contents held few unsent =
+      record { seen = seen; read = read; few = few; stops = FeedsFront-sent step start here contents held seen fed unsent }
 
   -- what is held is sent, and then no more is read
   pub Hears-unread : {T : Type 0} (contents : Option (List ℕ)) (held : List ℕ) → length seen ≤ most → (held ≡ []) × Appends here.contents contents here.held

@@ -94,19 +94,18 @@ module _ {S : Type 0} (step : S → ℕ → List ℕ → List ℕ → S → Type
   }
 
   -- or not
-  pub FeedsFront-line : (old : Point S) (contents_new : Option (List ℕ)) (piece : List ℕ) → has_end old.kept ≡ false → has_end piece ≡ false
-      → FailsToReply step old.state old.number (take 121 (old.kept ++ piece)) old.contents old.held contents_new
-      → FeedsFront step old contents_new (piece ++ 10 ∷ [])
-  FeedsFront-line old contents_new piece begun none fails =
+  pub FeedsFront-line : (old new : Point S) (piece : List ℕ) → has_end old.kept ≡ false → has_end piece ≡ false
+      → FailsToReply step old.state old.number (take 121 (old.kept ++ piece)) new.state old.contents old.held new.contents
+      → FeedsFront step old new (piece ++ 10 ∷ [])
+  FeedsFront-line old new piece begun none fails =
       let line = take 121 (old.kept ++ piece) in
       elim fails [
-        | inl before ↦ record {
+        | inl (same, before) ↦ record {
           front = [];
           rest = line ∷ [];
           all = line_ended 121 old.kept piece begun none;
           text = [];
-          new = old.state;
-          answered = (refl, refl);
+          answered = (refl, same);
           written = before;
         }
         | inr part ↦ record {
@@ -114,7 +113,6 @@ module _ {S : Type 0} (step : S → ℕ → List ℕ → List ℕ → S → Type
           rest = [];
           all = line_ended 121 old.kept piece begun none;
           text = part.reply;
-          new = part.new;
           answered = Answered-one step _ _ _ _ _ part.answered;
           written = part.written;
         }
@@ -138,8 +136,8 @@ module _ {S : Type 0} (step : S → ℕ → List ℕ → List ℕ → S → Type
       }
 
   -- some bytes, and a front of what others bring
-  pub FeedsFront-after : (a b : Point S) (contents_new : Option (List ℕ)) (xs ys : List ℕ) → Feeds step a b xs → FeedsFront step b contents_new ys → FeedsFront step a contents_new (xs ++ ys)
-  FeedsFront-after a b contents_new xs ys f g =
+  pub FeedsFront-after : (a b c : Point S) (xs ys : List ℕ) → Feeds step a b xs → FeedsFront step b c ys → FeedsFront step a c (xs ++ ys)
+  FeedsFront-after a b c xs ys f g =
       let first = map (take 121) (whole_lines_of (a.kept ++ xs)) in
       let same : b.number ≡ a.number + length first = f.number ∙ ap (λ n. a.number + n) (sym (length-map (whole_lines_of (a.kept ++ xs)) (take 121))) in
       record {
@@ -149,14 +147,13 @@ module _ {S : Type 0} (step : S → ℕ → List ℕ → List ℕ → S → Type
             rw (← append_assoc a.kept xs ys, lines_after 121 (a.kept ++ xs) ys)
             (ap (λ (lines : List (List ℕ)). first ++ lines) (rw f.kept at g.all) ∙ sym (append_assoc first g.front g.rest));
         text = f.text ++ g.text;
-        new = g.new;
-        answered = Answered-append step a.state a.number first g.front f.text g.text b.state g.new f.answered (rw same at g.answered);
+        answered = Answered-append step a.state a.number first g.front f.text g.text b.state c.state f.answered (rw same at g.answered);
         written = WritesFront-after f.written g.written;
       }
 
   -- a front of what some bytes bring is one of what more bytes bring
-  pub FeedsFront-more : (a : Point S) (contents_new : Option (List ℕ)) (xs more : List ℕ) → FeedsFront step a contents_new xs → FeedsFront step a contents_new (xs ++ more)
-  FeedsFront-more a contents_new xs more f =
+  pub FeedsFront-more : (a b : Point S) (xs more : List ℕ) → FeedsFront step a b xs → FeedsFront step a b (xs ++ more)
+  FeedsFront-more a b xs more f =
       let later = map (take 121) (whole_lines_of (take 121 (unended_of (a.kept ++ xs)) ++ more)) in
       record {
         front = f.front;
@@ -165,7 +162,6 @@ module _ {S : Type 0} (step : S → ℕ → List ℕ → List ℕ → S → Type
             rw (← append_assoc a.kept xs more, lines_after 121 (a.kept ++ xs) more)
             (ap (λ (lines : List (List ℕ)). lines ++ later) f.all ∙ append_assoc f.front f.rest later);
         text = f.text;
-        new = f.new;
         answered = f.answered;
         written = f.written;
       }
@@ -184,13 +180,13 @@ module _ {S : Type 0} (step : S → ℕ → List ℕ → List ℕ → S → Type
   }
 
   -- or a front
-  pub FeedsFront-sent : (a b : Point S) (contents_new : Option (List ℕ)) (xs : List ℕ) → Feeds step a b xs → WritesFront b.contents b.held contents_new [] → FeedsFront step a contents_new xs
-  FeedsFront-sent a b contents_new xs f sent = record {
+  pub FeedsFront-sent : (a b : Point S) (contents : Option (List ℕ)) (held xs : List ℕ) → Feeds step a b xs → WritesFront b.contents b.held contents []
+      → FeedsFront step a record b { contents = contents; held = held } xs
+  FeedsFront-sent a b contents held xs f sent = record {
     front = map (take 121) (whole_lines_of (a.kept ++ xs));
     rest = [];
     all = sym (append-nil _);
     text = f.text;
-    new = b.state;
     answered = f.answered;
     written = rw (append-nil f.text) at (WritesFront-after f.written sent);
   }
@@ -206,18 +202,17 @@ module _ {S : Type 0} (step : S → ℕ → List ℕ → List ℕ → S → Type
   }
 
   -- one was, and is not answered, or in part
-  pub FinishesFront-line : (old : Point S) (contents_new : Option (List ℕ)) → (length old.kept == 0) ≡ false
-      → FailsToReply step old.state old.number old.kept old.contents old.held contents_new → FinishesFront step old contents_new
-  FinishesFront-line old contents_new some fails =
+  pub FinishesFront-line : (old new : Point S) → (length old.kept == 0) ≡ false
+      → FailsToReply step old.state old.number old.kept new.state old.contents old.held new.contents → FinishesFront step old new
+  FinishesFront-line old new some fails =
       let line = last_line-some old.kept some in
       elim fails [
-        | inl before ↦ record {
+        | inl (same, before) ↦ record {
           front = [];
           rest = old.kept ∷ [];
           all = line;
           text = [];
-          new = old.state;
-          answered = (refl, refl);
+          answered = (refl, same);
           written = before;
         }
         | inr part ↦ record {
@@ -225,7 +220,6 @@ module _ {S : Type 0} (step : S → ℕ → List ℕ → List ℕ → S → Type
           rest = [];
           all = line;
           text = part.reply;
-          new = part.new;
           answered = Answered-one step _ _ _ _ _ part.answered;
           written = part.written;
         }

@@ -38,14 +38,13 @@ module _ {S : Type 0} (step : S → ℕ → List ℕ → List ℕ → S → Type
     pub number : new.number ≡ old.number + length (whole_lines_of (old.kept ++ bytes))
 
   -- a front of those lines was answered, and no more than a front of the replies written
-  pub record FeedsFront (old : Point S) (contents_new : Option (List ℕ)) (bytes : List ℕ) : Type 0 where
+  pub record FeedsFront (old new : Point S) (bytes : List ℕ) : Type 0 where
     pub front : List (List ℕ)
     pub rest : List (List ℕ)
     pub all : map (take 121) (whole_lines_of (old.kept ++ bytes)) ≡ front ++ rest
     pub text : List ℕ
-    pub new : S
-    pub answered : Answered step old.state old.number front text new
-    pub written : WritesFront old.contents old.held contents_new text
+    pub answered : Answered step old.state old.number front text new.state
+    pub written : WritesFront old.contents old.held new.contents text
 
   -- the line that was begun was answered, where it isn't empty, and its reply written
   pub record Finishes (old new : Point S) : Type 0 where
@@ -54,20 +53,19 @@ module _ {S : Type 0} (step : S → ℕ → List ℕ → List ℕ → S → Type
     pub written : Writes old.contents old.held new.contents new.held text
 
   -- or not: no more than a front of what was held and of that reply
-  pub record FinishesFront (old : Point S) (contents_new : Option (List ℕ)) : Type 0 where
+  pub record FinishesFront (old new : Point S) : Type 0 where
     pub front : List (List ℕ)
     pub rest : List (List ℕ)
     pub all : last_line old.kept ≡ front ++ rest
     pub text : List ℕ
-    pub new : S
-    pub answered : Answered step old.state old.number front text new
-    pub written : WritesFront old.contents old.held contents_new text
+    pub answered : Answered step old.state old.number front text new.state
+    pub written : WritesFront old.contents old.held new.contents text
 
   -- how the reading ended, by the bytes that were seen: at the end of the input, where a read failed (or as many bytes were seen as may be), or where a write failed
   abbrev pub Stops : {T : Type 0} → Point S → Point S → Option (List ℕ) → ℕ → List ℕ → Result T Fault → Type 0
   Stops old new remaining_new most seen (Ok _) = IsAtEnd remaining_new × (length seen < most) × Feeds old new seen × (new.held ≡ [])
   Stops old new remaining_new most seen (Err ReadFault) = Feeds old new seen × (new.held ≡ [])
-  Stops old new remaining_new most seen (Err WriteFault) = FeedsFront old new.contents seen
+  Stops old new remaining_new most seen (Err WriteFault) = FeedsFront old new seen
   Stops old new remaining_new most seen (Err NoMemory) = ⊥
 
   -- at most so many bytes were read and fed

@@ -28,17 +28,16 @@ module _ {S : Type 0} (step : S → ℕ → List ℕ → List ℕ → S → Type
     pub answered : step old n line reply new
     pub written : Writes old_contents old_held new_contents new_held reply
 
-  -- from state old line n is answered with a reply of which, after what was held, no more than a front was written
-  pub record RepliesInPart (old : S) (n : ℕ) (line : List ℕ) (old_contents : Option (List ℕ)) (old_held : List ℕ) (new_contents : Option (List ℕ)) : Type 0 where
+  -- from state old line n was answered, to state new, with a reply of which, after what was held, no more than a front was written
+  pub record RepliesInPart (old : S) (n : ℕ) (line : List ℕ) (new : S) (old_contents : Option (List ℕ)) (old_held : List ℕ) (new_contents : Option (List ℕ)) : Type 0 where
     pub reply : List ℕ
-    pub new : S
     pub answered : step old n line reply new
     pub written : WritesFront old_contents old_held new_contents reply
 
-  -- no more than a front of what was held was written, or of that and a reply to line n
-  abbrev pub FailsToReply : S → ℕ → List ℕ → Option (List ℕ) → List ℕ → Option (List ℕ) → Type 0
-  FailsToReply old n line old_contents old_held new_contents =
-      WritesFront old_contents old_held new_contents [] ⊎ RepliesInPart old n line old_contents old_held new_contents
+  -- nothing was answered, and no more than a front of what was held was written; or line n was, to state new, and no more than a front of that and its reply
+  abbrev pub FailsToReply : S → ℕ → List ℕ → S → Option (List ℕ) → List ℕ → Option (List ℕ) → Type 0
+  FailsToReply old n line new old_contents old_held new_contents =
+      ((new ≡ old) × WritesFront old_contents old_held new_contents []) ⊎ RepliesInPart old n line new old_contents old_held new_contents
 
   -- the lines, of each its first 121 bytes, were answered in turn from number 1, and all replies written
   pub record AnswersAll (old : S) (lines : List (List ℕ)) (new : S) (old_contents new_contents : Option (List ℕ)) : Type 0 where
@@ -46,13 +45,12 @@ module _ {S : Type 0} (step : S → ℕ → List ℕ → List ℕ → S → Type
     pub answered : Answered old 1 (map (take 121) lines) text new
     pub written : Appends old_contents new_contents text
 
-  -- a front of the lines was answered so, and no more than a front of the replies written
-  pub record AnswersFront (old : S) (lines : List (List ℕ)) (old_contents new_contents : Option (List ℕ)) : Type 0 where
+  -- a front of the lines was answered so, to state new, and no more than a front of the replies written
+  pub record AnswersFront (old : S) (lines : List (List ℕ)) (new : S) (old_contents new_contents : Option (List ℕ)) : Type 0 where
     pub front : List (List ℕ)
     pub rest : List (List ℕ)
     pub all : map (take 121) lines ≡ front ++ rest
     pub text : List ℕ
-    pub new : S
     pub answered : Answered old 1 front text new
     pub written : WritesFront old_contents [] new_contents text
 
@@ -64,8 +62,8 @@ module _ {S : Type 0} (step : S → ℕ → List ℕ → List ℕ → S → Type
   Ends old new remaining_old remaining_new contents_old contents_new seen (Err ReadFault) =
       AnswersAll old (whole_lines_of seen) new contents_old contents_new
   Ends old new remaining_old remaining_new contents_old contents_new seen (Err WriteFault) =
-      AnswersFront old (whole_lines_of seen) contents_old contents_new
-      ⊎ (IsAtEnd remaining_new × (length seen ≤ 2 ^ 30) × AnswersFront old (lines_of seen) contents_old contents_new)
+      AnswersFront old (whole_lines_of seen) new contents_old contents_new
+      ⊎ (IsAtEnd remaining_new × (length seen ≤ 2 ^ 30) × AnswersFront old (lines_of seen) new contents_old contents_new)
   Ends old new remaining_old remaining_new contents_old contents_new seen (Err NoMemory) =
       (new ≡ old) × (remaining_new ≡ remaining_old) × (contents_new ≡ contents_old)
 

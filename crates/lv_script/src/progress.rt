@@ -51,7 +51,8 @@ impl Progress {
         ensures ok { OnOk result (Feeds A.step (point_of (A.state responder.old) self.old (W.contents writer.old))
             (point_of (A.state responder.new) self.new (W.contents writer.new)) bytes.now) }
         ensures fault { IfErr result (λ fault. (fault ≡ Fault.WriteFault)
-            × FeedsFront A.step (point_of (A.state responder.old) self.old (W.contents writer.old)) (W.contents writer.new) bytes.now) }
+            × FeedsFront A.step (point_of (A.state responder.old) self.old (W.contents writer.old))
+            (point_of (A.state responder.new) self.new (W.contents writer.new)) bytes.now) }
         ensures ready { OnOk result (IsReady self.new) }
     {
         let mut rest = bytes;
@@ -79,7 +80,7 @@ impl Progress {
         ensures kept { OnOk result (self.new.kept.items ≡ []) }
         ensures room { OnOk result (HELD ≤ vec_capacity self.new.held) }
         ensures fault { IfErr result (λ fault. (fault ≡ Fault.WriteFault)
-            × FailsToReply A.step (A.state responder.old) self.old.number (take 121 (self.old.kept.items ++ piece.now))
+            × FailsToReply A.step (A.state responder.old) self.old.number (take 121 (self.old.kept.items ++ piece.now)) (A.state responder.new)
             (W.contents writer.old) self.old.held.items (W.contents writer.new)) }
     {
         if self.kept.is_empty() {
@@ -105,7 +106,8 @@ impl Progress {
         ensures kept { self.new.kept ≡ self.old.kept }
         ensures room { OnOk result (HELD ≤ vec_capacity self.new.held) }
         ensures fault { IfErr result (λ fault. (fault ≡ Fault.WriteFault)
-            × FailsToReply A.step (A.state responder.old) self.old.number line.now (W.contents writer.old) self.old.held.items (W.contents writer.new)) }
+            × FailsToReply A.step (A.state responder.old) self.old.number line.now (A.state responder.new)
+            (W.contents writer.old) self.old.held.items (W.contents writer.new)) }
     {
         responder.respond(self.number, line, writer, &mut self.held)?;
         self.number += 1;
@@ -126,7 +128,8 @@ impl Progress {
         ensures kept { OnOk result (self.new.kept.items ≡ []) }
         ensures room { OnOk result (HELD ≤ vec_capacity self.new.held) }
         ensures fault { IfErr result (λ fault. (fault ≡ Fault.WriteFault)
-            × FailsToReply A.step (A.state responder.old) self.old.number self.old.kept.items (W.contents writer.old) self.old.held.items (W.contents writer.new)) }
+            × FailsToReply A.step (A.state responder.old) self.old.number self.old.kept.items (A.state responder.new)
+            (W.contents writer.old) self.old.held.items (W.contents writer.new)) }
     {
         responder.respond(self.number, self.kept.as_slice(), writer, &mut self.held)?;
         self.kept.clear();
@@ -145,7 +148,8 @@ impl Progress {
         ensures ok { OnOk result (Finishes A.step (point_of (A.state responder.old) self.old (W.contents writer.old))
             (point_of (A.state responder.new) self.new (W.contents writer.new))) }
         ensures fault { IfErr result (λ fault. (fault ≡ Fault.WriteFault)
-            × FinishesFront A.step (point_of (A.state responder.old) self.old (W.contents writer.old)) (W.contents writer.new)) }
+            × FinishesFront A.step (point_of (A.state responder.old) self.old (W.contents writer.old))
+            (point_of (A.state responder.new) self.new (W.contents writer.new))) }
     {
         if self.kept.is_empty() {
             return Ok(());

@@ -30,6 +30,7 @@ pub trait Responder {
         ensures ok { OnOk result (Replies step (state self.old) number line.now (state self.new)
             (W.contents writer.old) held.old.items (W.contents writer.new) held.new.items) }
         ensures fault { IfErr result (λ fault. (fault ≡ Fault.WriteFault)
-            × FailsToReply step (state self.old) number line.now (W.contents writer.old) held.old.items (W.contents writer.new)) }
+            × FailsToReply step (state self.old) number line.now (state self.new)
+            (W.contents writer.old) held.old.items (W.contents writer.new)) }
         ensures room { OnOk result (HELD ≤ vec_capacity held.new) };
 }

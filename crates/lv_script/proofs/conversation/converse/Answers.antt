@@ -26,8 +26,9 @@ returns-in_err-finish g c =
       kept = c.new-progress.ensures.kept;
       held = c.new-progress.ensures.held ∙ c.in-Ok-with_capacity.ensures.items;
     } in
+    let end = point_of (g.A.Responder.state c.finish.new.responder) c.finish.new.self (g.W.Write.contents c.finish.new.writer) in
     let fails = c.in_err-finish.ensures.fault in
-    rw (p.1, p.2, fails.0) (Conversed-unfinished g.A.Responder.step start first stop _ _ _ _ _ c.in_ok-hear.ensures.hears fails.1)
+    rw (p.1, p.2, fails.0) (Conversed-unfinished g.A.Responder.step start first stop end _ _ _ c.in_ok-hear.ensures.hears fails.1)
 
 pub returns : goal.returns
 returns g c =

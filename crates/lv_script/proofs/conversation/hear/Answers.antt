@@ -25,9 +25,8 @@ returns-in_err-send-clause-hears g c =
     let here = point_of (g.A.Responder.state c.loop-left.responder) c.loop-left.progress (g.W.Write.contents c.loop-left.writer) in
     let loop = c.loop-left.invariant in
     let unsent = c.in_err-send.ensures.fault in
-    let new = point_of (g.A.Responder.state c.loop-left.responder) record c.loop-left.progress { held = c.send.new.held } (g.W.Write.contents c.send.new.writer) in
     rw (p.1, p.2, unsent.0)
-    (Hears-unsent g.A.Responder.step start here loop.seen loop.fed _ _ c.args.most loop.read new (omega (arith, loop.count)) unsent.1)
+    (Hears-unsent g.A.Responder.step start here loop.seen loop.fed _ _ c.args.most loop.read _ c.send.new.held.items (omega (arith, loop.count)) unsent.1)
 
 pub returns-in_err-count-clause-hears : goal.returns-in_err-count-clause-hears
 returns-in_err-count-clause-hears g c =
@@ -71,6 +70,7 @@ returns-in_err-feed-clause-hears g c =
     let step = g.A.Responder.step in
     let start = point_of (g.A.Responder.state c.args.responder.now) c.args.progress.now (g.W.Write.contents c.args.writer.now) in
     let here = point_of (g.A.Responder.state c.loop-left.responder) c.loop-left.progress (g.W.Write.contents c.loop-left.writer) in
+    let stop = point_of (g.A.Responder.state c.feed.new.responder) c.feed.new.self (g.W.Write.contents c.feed.new.writer) in
     let contents = g.W.Write.contents c.send.new.writer in
     let held = c.send.new.held.items in
     let loop = c.loop-left.invariant in
@@ -82,7 +82,7 @@ returns-in_err-feed-clause-hears g c =
       seen = loop.seen ++ bytes;
       read = Consumes-trans _ _ _ loop.seen bytes loop.read c.in_ok-count.ensures.read;
       few = omega (arith, loop.count, length-append loop.seen bytes, fit, c.in_ok-count.ensures.few);
-      stops = FeedsFront-after step start record here { contents = contents; held = held } (g.W.Write.contents c.feed.new.writer) loop.seen bytes sent fails.1;
+      stops = FeedsFront-after step start record here { contents = contents; held = held } stop loop.seen bytes sent fails.1;
     }
 
 pub loop-left-preserved : goal.loop-left-preserved
@@ -112,9 +112,8 @@ returns-in_err-send-2-clause-hears g c =
     let here = point_of (g.A.Responder.state c.loop-left.responder) c.loop-left.progress (g.W.Write.contents c.loop-left.writer) in
     let loop = c.loop-left.invariant in
     let unsent = c.in_err-send-2.ensures.fault in
-    let new = point_of (g.A.Responder.state c.loop-left.responder) record c.loop-left.progress { held = c.send-2.new.held } (g.W.Write.contents c.send-2.new.writer) in
     rw (p.1, p.2, unsent.0)
-    (Hears-unsent g.A.Responder.step start here loop.seen loop.fed _ _ c.args.most loop.read new (omega (arith, loop.count)) unsent.1)
+    (Hears-unsent g.A.Responder.step start here loop.seen loop.fed _ _ c.args.most loop.read _ c.send-2.new.held.items (omega (arith, loop.count)) unsent.1)
 
 pub returns-clause-hears : goal.returns-clause-hears
 returns-clause-hears g c =

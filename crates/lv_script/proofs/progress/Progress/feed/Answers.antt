@@ -23,15 +23,15 @@ returns-in_err-end_line-clause-fault g c =
     let loop = c.loop-end.invariant in
     let rest = c.loop-end.rest.now in
     let piece = c.split_at.result.0.now in
-    let contents = g.W.Write.contents c.end_line.new.writer in
     let start = point_of (g.A.Responder.state c.args.responder.now) c.args.self.now (g.W.Write.contents c.args.writer.now) in
     let here = point_of (g.A.Responder.state c.loop-end.responder) c.loop-end.self (g.W.Write.contents c.loop-end.writer) in
+    let stop = point_of (g.A.Responder.state c.end_line.new.responder) c.end_line.new.self (g.W.Write.contents c.end_line.new.writer) in
     let ends = EndsAt-from_position rest c.in-Some.end c.in-Some.ensures in
     let none : has_end piece ≡ false = rw c.split_at.ensures.front ends.before in
-    let fails = FeedsFront-line step here contents piece loop.ready.begun none c.in_err-end_line.ensures.fault.1 in
-    let more = FeedsFront-more step here contents (piece ++ 10 ∷ []) (drop (c.in-Some.end + 1) rest) fails in
+    let fails = FeedsFront-line step here stop piece loop.ready.begun none c.in_err-end_line.ensures.fault.1 in
+    let more = FeedsFront-more step here stop (piece ++ 10 ∷ []) (drop (c.in-Some.end + 1) rest) fails in
     let cut : rest ≡ (piece ++ 10 ∷ []) ++ drop (c.in-Some.end + 1) rest = rw c.split_at.ensures.front ends.cut in
-    rw (p.1, p.2) (c.in_err-end_line.ensures.fault.0, rw loop.cut (FeedsFront-after step start here contents loop.done rest loop.fed (rw (← cut) at more)))
+    rw (p.1, p.2) (c.in_err-end_line.ensures.fault.0, rw loop.cut (FeedsFront-after step start here stop loop.done rest loop.fed (rw (← cut) at more)))
 
 pub loop-end-preserved : goal.loop-end-preserved
 loop-end-preserved g c =
