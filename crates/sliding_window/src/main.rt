@@ -2,6 +2,10 @@
 //! of them is overwritten, answered from summaries that were computed beside the vector.
 #![tactic(auto)]
 
+ghost use Rattle.std.specs.Prelude.{◌≡◌, IfOk};
+ghost use Rattle.lv_bodies.specs.Plain.{plain_sum};
+ghost use Rattle.lv_reduce.specs.Answer.{slice_of};
+
 use lv_bodies::Sum;
 use lv_edits::Edit;
 use lv_geometry::{Limits, Refusal};
@@ -92,9 +96,16 @@ fn show<R: Print>(rt: &R, live: &Live<Sum>, first: u32, end: u32) -> Result<(), 
         value,
         cells_read,
         summaries_read,
-    } = live.reduce(first, end)?;
+    } = total(live, first, end)?;
     println!(rt;
         "{first} to {end} after edit {edit}: {value}, of {cells_read} elements and {summaries_read} summaries"
     )?;
     Ok(())
+}
+
+// The total of a window's readings, modulo 2^64. That it is the plain sum is proved from the vector's own contract.
+fn total(live: &Live<Sum>, first: u32, end: u32) -> Result<Answer<u64>, Refusal>
+    ensures { IfOk result (λ answer. answer.value ≡ plain_sum (slice_of live.now.history.journal first end)) }
+{
+    live.reduce(first, end)
 }
