@@ -13,9 +13,9 @@ use Rattle.lv_edits.specs.Inner.{AreNeeded}
 use Rattle.lv_edits.specs.Capacity.{capacity_after, IsCapacityAfter, least_capacity, longest, most_reserved, reserved_by, Suffices}
 use Rattle.lv_edits.specs.History.{list_of, replayed}
 use Rattle.lv_edits.specs.Verdict.{refused_on, verdict_of}
-use Rattle.lv_geometry.proofs.Capacities.{capacity_of_fewer, capacity_of_mono, capacity_of_more}
+use Rattle.lv_geometry.proofs.Capacities.{capacity_of_fewer, capacity_of_mono}
 use Rattle.lv_edits.proofs.HistoryLaws.{accepted_is_possible, length_after, list_of-snoc, not_refused, unrefused_reserve}
-use Rattle.lv_edits.proofs.Ranges.{find_first, greatest, greatest_above, greatest_least, greatest-next, greatest_same}
+use Rattle.lv_geometry.proofs.Ranges.{find_first, greatest, greatest_above, greatest_least, greatest-next, greatest_same}
 
 -- fewer buckets than the fewest that hold n do not
 fewer_fail : (n k j : ℕ) → AreFewest n k → j < k → nat_le n (capacity_of j) ≡ false
@@ -79,7 +79,7 @@ length_at : List Edit → ℕ → ℕ
 length_at es j = length (list_of (take j es))
 
 -- the most elements that the list ever had are the greatest length at any beginning
-longest_is : (es : List Edit) → longest es ≡ greatest (length_at es) (length es + 1)
+longest_is : (es : List Edit) → longest es ≡ greatest (length_at es) 0 (length es + 1)
 unfolding longest greatest length_at
 longest_is es = refl
 
@@ -97,14 +97,15 @@ length_at_end es = ap (λ l. length (list_of l)) (take_all (length es) es (omega
 pub longest-snoc : (es : List Edit) (e : Edit) → longest (es ++ e ∷ []) ≡ max (longest es) (length (list_of (es ++ e ∷ [])))
 longest-snoc es e =
     let more = es ++ e ∷ [] in
-    let before : greatest (length_at more) (length more) ≡ longest es = ap (greatest (length_at more)) (length_push es e) ∙ greatest_same (length_at more) (length_at es) (length es + 1) (length_at_before es e) ∙ sym (longest_is es) in
-    longest_is more ∙ greatest-next (length_at more) (length more) ∙ rw (before, length_at_end more)
+    let before : greatest (length_at more) 0 (length more) ≡ longest es = ap (greatest (length_at more) 0) (length_push es e) ∙ greatest_same (length_at more) (length_at es) 0 (length es + 1) (λ j from below. length_at_before es e j (omega arith)) ∙ sym (longest_is es) in
+    let last : 0 + length more ≡ length more = omega arith in
+    longest_is more ∙ greatest-next (length_at more) 0 (length more) ∙ rw (last, before, length_at_end more)
 
 -- what is not below all that is needed suffices
 pub suffices_above : (es : List Edit) (c : ℕ) → max (longest es) (most_reserved es) ≤ c → Suffices es c
 unfolding most_reserved length_at
 suffices_above es c above = record {
-  lists = λ j within. omega (arith, greatest_above (length_at es) (length es + 1) j (omega arith), longest_is es);
+  lists = λ j within. omega (arith, greatest_above (length_at es) 0 (length es + 1) j (omega arith) (omega arith), longest_is es);
   reserves = (fold_max_above reserved_by 0 es c (omega arith)).1;
 }
 
@@ -112,7 +113,7 @@ suffices_above es c above = record {
 pub needed_within : (es : List Edit) (c : ℕ) → Suffices es c → max (longest es) (most_reserved es) ≤ c
 unfolding most_reserved length_at
 needed_within es c enough =
-    omega (arith, longest_is es, greatest_least (length_at es) (length es + 1) c (λ j below. enough.lists j (omega arith)), fold_max_least reserved_by 0 es c (omega arith) enough.reserves)
+    omega (arith, longest_is es, greatest_least (length_at es) 0 (length es + 1) c (λ j from below. enough.lists j (omega arith)), fold_max_least reserved_by 0 es c (omega arith) enough.reserves)
 
 -- the least capacity that ever sufficed is that of the buckets that are needed
 pub capacity_after_needed : (es : List Edit) (k : ℕ) → AreNeeded es k → k ≤ 17 → capacity_after es ≡ capacity_of k
@@ -159,13 +160,6 @@ AreNeeded-empty = record { enough = omega (arith, longest-nil); fewest = λ fewe
 fewest_of_none : AreFewest 0 0
 fewest_of_none = record { enough = omega arith; fewest = λ fewer enough. omega arith }
 
--- one more than k buckets hold needs one bucket more
-pub fewest_of_next : (k : ℕ) → AreFewest (capacity_of k + 1) (k + 1)
-fewest_of_next k = record {
-  enough = let more = capacity_of_more k in omega arith;
-  fewest = λ fewer enough. let less = capacity_of_fewer k fewer (omega arith) in omega arith;
-}
-
 -- the buckets that are needed after one more edit, where m stands for what it needs beyond the capacity before it
 pub AreNeeded-snoc : (es : List Edit) (e : Edit) (k j m : ℕ) → AreNeeded es k → AreFewest m j → m ≤ max (length (list_of (es ++ e ∷ []))) (reserved_by e) → max (length (list_of (es ++ e ∷ []))) (reserved_by e) ≤ max m (capacity_of k) → AreNeeded (es ++ e ∷ []) (max k j)
 AreNeeded-snoc es e k j m needed more no_more no_less =
@@ -182,16 +176,6 @@ pub AreNeeded-within : (es : List Edit) (e : Edit) (k : ℕ) → AreNeeded es k 
 AreNeeded-within es e k needed list reserved =
     let same : max k 0 ≡ k = omega arith in
     subst (AreNeeded (es ++ e ∷ [])) same (AreNeeded-snoc es e k 0 0 needed fewest_of_none (omega arith) (omega arith))
-
--- one element beyond the capacity needs one bucket more
-pub AreNeeded-beyond : (es : List Edit) (e : Edit) (k : ℕ) → AreNeeded es k → length (list_of (es ++ e ∷ [])) ≡ capacity_of k + 1 → reserved_by e ≤ capacity_of k → AreNeeded (es ++ e ∷ []) (k + 1)
-AreNeeded-beyond es e k needed list reserved =
-    let same : max k (k + 1) ≡ k + 1 = omega arith in
-    subst (AreNeeded (es ++ e ∷ [])) same (AreNeeded-snoc es e k (k + 1) (capacity_of k + 1) needed (fewest_of_next k) (omega arith) (omega arith))
-
--- a reserve needs the buckets for what it reserves
-pub AreNeeded-reserved : (es : List Edit) (e : Edit) (k j : ℕ) → AreNeeded es k → AreFewest (reserved_by e) j → length (list_of (es ++ e ∷ [])) ≤ capacity_of k → AreNeeded (es ++ e ∷ []) (max k j)
-AreNeeded-reserved es e k j needed more list = AreNeeded-snoc es e k j (reserved_by e) needed more (omega arith) (omega arith)
 
 -- one more edit within the capacity leaves it as it was
 pub capacity_after-within : (es : List Edit) (e : Edit) → Suffices es (capacity_of 17) → length (list_of (es ++ e ∷ [])) ≤ capacity_after es → reserved_by e ≤ capacity_after es → capacity_after (es ++ e ∷ []) ≡ capacity_after es

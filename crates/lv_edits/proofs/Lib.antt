@@ -1,6 +1,6 @@
 pub mod CapacityLaws
 pub mod HistoryLaws
+pub mod HoldsLaws
 pub mod InnerLaws
-pub mod Ranges
 pub mod TouchLaws
 pub mod Slices

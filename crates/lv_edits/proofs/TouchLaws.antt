@@ -1,10 +1,8 @@
 -- Which edit touched a node last, after one more edit, and what an edit leaves as it was.
-use Rattle.std.proofs.Common.{◌≡◌, ℕ, ℤ, zero, suc, ◌+◌, ◌-◌, ◌*◌, ◌/◌, ◌^◌, ◌⊎◌, min, ◌<◌, ◌≤◌, Bool, true, false, cond, if◌then◌else◌, List, [], ◌∷◌, ◌++◌, length, take, drop, fold, Option, None, Some, slice_get, slice_set, refl, sym, ap, ◌∙◌, add-one, inl, inr, arith}
-use Rattle.std.specs.List.{range_with_len}
+use Rattle.std.proofs.Common.{◌≡◌, ℕ, ℤ, suc, ◌+◌, ◌-◌, ◌*◌, ◌/◌, ◌^◌, ◌⊎◌, min, ◌<◌, ◌≤◌, true, false, if◌then◌else◌, List, [], ◌∷◌, ◌++◌, length, take, drop, Option, None, Some, slice_get, slice_set, refl, sym, ap, ◌∙◌, add-one, inl, inr, arith}
 use Rattle.std.specs.Option.{option_map_or}
 use Rattle.std.proofs.lemmas.Bool.{and_from, and_parts, cases_Bool, cases_lt, cond-false, cond-true, eqb-false, eq-eqb, eqb-true, le-leb, leb-true}
 use Rattle.std.proofs.lemmas.List.{get_or_append_left, get_or_push, length-drop, length_push, length-set, length-take, take_all, take_at, take-append-le}
-use Rattle.std.proofs.lemmas.List.Sums.{fold_push}
 use Rattle.std.proofs.lemmas.Option.{cond_some, same_Some, slice_get-get_or}
 use Rattle.std.proofs.Math.Nat.{div-div-eq-div-mul, div-eq_of_lt-le}
 use Rattle.std.proofs.lemmas.Grind.{pow_more}
@@ -14,59 +12,10 @@ use Rattle.lv_geometry.proofs.NodeLaws.{some_width}
 use Rattle.lv_edits.specs.declared.edit.Edit.{Edit}
 use Rattle.lv_edits.specs.declared.edit.Edit.TheVariants.{Push, Pop, Write, Reserve}
 use Rattle.lv_edits.specs.History.{applied, list_of, replayed}
-use Rattle.lv_edits.proofs.Ranges.{range_more}
+use Rattle.lv_geometry.proofs.Ranges.{last_pass, last_pass-more, last_pass-none, last_pass_le, last_pass_mono, last_pass_same}
 use Rattle.lv_edits.proofs.Slices.{part_of_push, part_of_set, part_of_take}
 use Rattle.lv_edits.proofs.HistoryLaws.{by_last_edit, list_of_replayed, list_of-snoc, replayed-nil}
 use Rattle.lv_edits.specs.Touch.{cells_of, is_whole, touched_by, touches, touches_at}
-
--- the last place below k that passes a test, counted from 1, and 0 where none does
-last_pass : (ℕ → Bool) → ℕ → ℕ
-last_pass p k = fold (λ last j. if p j then j + 1 else last) 0 (range_with_len 0 k)
-
--- there is none where no place is looked at
-last_pass-none : (p : ℕ → Bool) → last_pass p 0 ≡ 0
-unfolding last_pass
-last_pass-none p = refl
-
--- one place more
-last_pass-next : (p : ℕ → Bool) (k : ℕ) → last_pass p (k + 1) ≡ cond (p k) (k + 1) (last_pass p k)
-unfolding last_pass
-last_pass-next p k = ap (fold (λ last j. if p j then j + 1 else last) 0) (range_more k) ∙ fold_push _ 0 (range_with_len 0 k) k
-
--- the same at a successor
-last_pass-more : (p : ℕ → Bool) (k : ℕ) → last_pass p (suc k) ≡ cond (p k) (suc k) (last_pass p k)
-last_pass-more p k = rw add-one at (last_pass-next p k)
-
--- no place is above all that are looked at
-last_pass_le : (p : ℕ → Bool) (k : ℕ) → last_pass p k ≤ k
-last_pass_le p zero = omega (arith, last_pass-none p)
-last_pass_le p (suc k) =
-    elim (cases_Bool (p k)) [
-      | inl passes ↦ omega (arith, last_pass-more p k ∙ cond-true _ _ _ passes)
-      | inr fails ↦ omega (arith, last_pass-more p k ∙ cond-false _ _ _ fails, last_pass_le p k)
-    ]
-
--- two tests that agree below k pass last at the same place
-last_pass_same : (p q : ℕ → Bool) (k : ℕ) → ((j : ℕ) → j < k → p j ≡ q j) → last_pass p k ≡ last_pass q k
-last_pass_same p q zero same = last_pass-none p ∙ sym (last_pass-none q)
-last_pass_same p q (suc k) same =
-    let before = last_pass_same p q k (λ j h. same j (omega arith)) in
-    let here : p k ≡ q k = same k (omega arith) in
-    last_pass-more p k ∙ rw (here, before) (sym (last_pass-more q k))
-
--- a test that passes wherever another does passes last no earlier
-last_pass_mono : (p q : ℕ → Bool) (k : ℕ) → ((j : ℕ) → p j ≡ true → q j ≡ true) → last_pass p k ≤ last_pass q k
-last_pass_mono p q zero more = omega (arith, last_pass-none p)
-last_pass_mono p q (suc k) more =
-    elim (cases_Bool (p k)) [
-      | inl passes ↦ omega (arith, last_pass-more p k ∙ cond-true _ _ _ passes, last_pass-more q k ∙ cond-true _ _ _ (more k passes))
-      | inr fails ↦
-          let before = last_pass_mono p q k more in
-          elim (cases_Bool (q k)) [
-            | inl passes ↦ omega (arith, last_pass_le p k, last_pass-more p k ∙ cond-false _ _ _ fails, last_pass-more q k ∙ cond-true _ _ _ passes)
-            | inr neither ↦ omega (arith, last_pass-more p k ∙ cond-false _ _ _ fails, last_pass-more q k ∙ cond-false _ _ _ neither)
-          ]
-    ]
 
 -- the edits before the last one touch what they did without it
 touches_at_before : (es : List Edit) (e : Edit) (n : Node) (j : ℕ) → j < length es → touches_at (es ++ e ∷ []) n j ≡ touches_at es n j

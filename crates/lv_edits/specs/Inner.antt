@@ -3,6 +3,8 @@ use Rattle.std.specs.Prelude.{◌≡◌, ℕ, ℤ, Some, ◌≤◌, max, List, l
 use Rattle.lv_geometry.specs.Bounds.{AreAllowed, Bounds}
 use Rattle.lv_geometry.specs.Cells.{AreFewest, capacity_of}
 use Rattle.lv_geometry.specs.Elements.{IsElement}
+use Rattle.lv_store.specs.Inner.{IsStore}
+use Rattle.lv_store.specs.State.{StoreState, elements_of}
 use Rattle.lv_edits.specs.declared.edit.Edit.{Edit}
 use Rattle.lv_edits.specs.Capacity.{capacity_after, longest, most_reserved}
 use Rattle.lv_edits.specs.History.{replayed}
@@ -20,3 +22,11 @@ pub record IsReplay (items : List ℤ) (journal : List Edit) (limits : Bounds) (
 -- so many buckets are needed, and no fewer, for all that the list ever had and all that was ever reserved
 abbrev pub AreNeeded : List Edit → ℕ → Type 0
 AreNeeded journal buckets = AreFewest (max (longest journal) (most_reserved journal)) buckets
+
+-- a store holds what a journal leaves: its elements are the journal replayed, its edit is the journal's last, and so many buckets are
+-- open as are needed
+pub record HoldsReplay (store : StoreState) (journal : List Edit) : Type 0 where
+  pub sound : IsStore store
+  pub replay : IsReplay (elements_of store) journal store.limits store.buckets
+  pub needed : AreNeeded journal store.buckets
+  pub edit : store.descriptor.edit ≡ length journal

@@ -1,6 +1,8 @@
-ghost use Rattle.std.specs.Prelude.{◌≡◌, ◌+◌, ◌<◌, ◌≤◌, [], ◌∷◌, ◌++◌, length, OnOk, IfErr, vec_len, vec_capacity, nat_eq, if◌then◌else◌};
+ghost use Rattle.std.specs.Prelude.{◌≡◌, ℕ, ◌<◌, ◌≤◌, max, None, [], ◌∷◌, ◌++◌, length, OnOk, OnErr, IfErr, vec_len, vec_capacity};
 ghost use Rattle.std.specs.List.{slice_index_or};
-ghost use Rattle.lv_geometry.specs.Cells.{capacity_of};
+ghost use Rattle.lv_geometry.specs.Cells.{AreFewest, capacity_of};
+ghost use Rattle.lv_store.specs.Inner.{IsStore};
+ghost use Rattle.lv_store.specs.State.{AreAlike};
 ghost use Rattle.lv_edits.specs.Capacity.{capacity_after, IsCapacityAfter};
 ghost use Rattle.lv_edits.specs.History.{History, list_of};
 ghost use Rattle.lv_edits.specs.Kept.{InLimits};
@@ -8,17 +10,16 @@ ghost use Rattle.lv_edits.specs.Verdict.{Answers, element_at, verdict_of};
 
 use crate::edit::Edit;
 use crate::receipt::Receipt;
-use lv_geometry::{Limits, Refusal, buckets_for, capacity};
+use lv_geometry::{Limits, Refusal, capacity};
+use lv_store::Store;
 use std::alloc::Global;
 use std::marker::Model;
 
 /// A vector of `i64` with the journal of its edits.
 #[derive(Drop)]
 pub struct Edits {
-    items: Vec<i64>,
+    store: Store,
     journal: Vec<Edit>,
-    limits: Limits,
-    buckets: u32,
 }
 
 impl Model for Edits {
@@ -26,11 +27,11 @@ impl Model for Edits {
 
     ghost Value = { History };
 
-    ghost use Rattle.lv_edits.specs.Inner.{AreNeeded, IsReplay};
+    ghost use Rattle.lv_edits.specs.Inner.{HoldsReplay};
 
-    ghost view = { λ a. record { limits = a.limits; journal = a.journal.items } };
+    ghost view = { λ a. record { limits = a.store.limits; journal = a.journal.items } };
 
-    ghost invariant = { λ a. IsReplay a.items.items a.journal.items a.limits a.buckets × AreNeeded a.journal.items a.buckets };
+    ghost invariant = { λ a. HoldsReplay a.store a.journal.items };
 }
 
 impl Edits {
@@ -39,18 +40,14 @@ impl Edits {
         ensures history { result ≡ record { limits = limits; journal = [] } }
         ensures limits { InLimits result }
     {
-        // The limits tell of themselves that they are allowed ones.
-        let _allowed = limits.buckets();
         Edits {
-            items: Vec::new(alloc),
+            store: Store::new(alloc, limits),
             journal: Vec::new(alloc),
-            limits,
-            buckets: 0,
         }
     }
 
-    /// Puts `x` at the end. Refused with `Worn`, `Full`, then `NoMemory`; the room for the element, its bucket
-    /// and the journal is made before anything changes.
+    /// Puts `x` at the end. Refused with `Worn`, `Full`, then `NoMemory`; the room in the journal, then the element's bucket,
+    /// is made before anything changes.
     pub fn push(&mut self, x: i64) -> Result<Receipt, Refusal>
         ensures answer { Answers self.old (Edit.Push x) result self.new }
         ensures limits { InLimits self.new }
@@ -59,14 +56,12 @@ impl Edits {
         if let Some(refusal) = self.verdict(&edit) {
             return Err(refusal);
         }
-        let index = self.items.len() as u32;
-        let buckets = opened_for_one_more(index, self.buckets);
-        make_room(&mut self.items, &mut self.journal, capacity(buckets))?;
-        append(&mut self.items, x);
+        let index = self.store.size();
+        make_room(&mut self.store, &mut self.journal, index + 1)?;
+        self.store.announce(Some((index, x)), index + 1);
         append(&mut self.journal, edit);
-        self.buckets = buckets;
         Ok(Receipt::Pushed {
-            edit: self.journal.len() as u32,
+            edit: self.store.edit(),
             index,
         })
     }
@@ -79,13 +74,13 @@ impl Edits {
         if let Some(refusal) = self.verdict(&Edit::Pop) {
             return Err(refusal);
         }
-        let last = self.items.len() - 1;
-        make_room(&mut self.items, &mut self.journal, 0)?;
-        let value = self.items[last];
-        self.items.truncate(last);
+        let last = self.store.size() - 1;
+        let value = self.store.read(last);
+        make_room(&mut self.store, &mut self.journal, 0)?;
+        self.store.announce(None, last);
         append(&mut self.journal, Edit::Pop);
         Ok(Receipt::Popped {
-            edit: self.journal.len() as u32,
+            edit: self.store.edit(),
             value,
         })
     }
@@ -99,12 +94,13 @@ impl Edits {
         if let Some(refusal) = self.verdict(&edit) {
             return Err(refusal);
         }
-        make_room(&mut self.items, &mut self.journal, 0)?;
-        let before = self.items[index as usize];
-        self.items[index as usize] = value;
+        let before = self.store.read(index);
+        make_room(&mut self.store, &mut self.journal, 0)?;
+        let size = self.store.size();
+        self.store.announce(Some((index, value)), size);
         append(&mut self.journal, edit);
         Ok(Receipt::Written {
-            edit: self.journal.len() as u32,
+            edit: self.store.edit(),
             before,
         })
     }
@@ -119,13 +115,13 @@ impl Edits {
         if let Some(refusal) = self.verdict(&edit) {
             return Err(refusal);
         }
-        let buckets = self.buckets.max(buckets_for(cells));
-        make_room(&mut self.items, &mut self.journal, capacity(buckets))?;
+        make_room(&mut self.store, &mut self.journal, cells)?;
+        let size = self.store.size();
+        self.store.announce(None, size);
         append(&mut self.journal, edit);
-        self.buckets = buckets;
         Ok(Receipt::Reserved {
-            edit: self.journal.len() as u32,
-            capacity: capacity(buckets),
+            edit: self.store.edit(),
+            capacity: capacity(self.store.buckets()),
         })
     }
 
@@ -146,11 +142,12 @@ impl Edits {
     pub fn verdict(&self, edit: &Edit) -> Option<Refusal>
         ensures { result ≡ verdict_of self.now.limits self.now.journal edit.now }
     {
-        if self.edit() == self.limits.edits() {
+        let limits = self.store.limits();
+        if self.edit() == limits.edits() {
             return Some(Refusal::Worn);
         }
         let size = self.size();
-        let limit = self.limits.capacity();
+        let limit = limits.capacity();
         match *edit {
             Edit::Push(_) => (size == limit).then_some(Refusal::Full),
             Edit::Pop => (size == 0).then_some(Refusal::Empty),
@@ -159,10 +156,12 @@ impl Edits {
         }
     }
 
-    /// Completes a write that is still pending. Here every edit is complete at once, so there is none.
+    /// Completes the write of the last edit, if it is still pending. Every edit does so for the one before it.
     pub fn settle(&mut self)
         ensures { self.new ≡ self.old }
-    {}
+    {
+        self.store.settle();
+    }
 
     /// The element at index `i`. Refused with `OutOfRange`.
     pub fn get(&self, i: u32) -> Result<i64, Refusal>
@@ -182,7 +181,7 @@ impl Edits {
         ensures value { result ≡ slice_index_or (list_of self.now.journal) i result }
         ensures limits { InLimits self.now }
     {
-        self.items[i as usize]
+        self.store.read(i)
     }
 
     /// How many elements there are.
@@ -191,7 +190,7 @@ impl Edits {
         ensures value { result ≡ length (list_of self.now.journal) }
         ensures limits { InLimits self.now }
     {
-        self.items.len() as u32
+        self.store.size()
     }
 
     /// How many elements the open buckets hold.
@@ -200,7 +199,7 @@ impl Edits {
         ensures least { IsCapacityAfter self.now.journal result }
         ensures limits { InLimits self.now }
     {
-        capacity(self.buckets)
+        capacity(self.store.buckets())
     }
 
     /// The number of the last edit, 0 before the first.
@@ -209,7 +208,7 @@ impl Edits {
         ensures value { result ≡ length self.now.journal }
         ensures limits { InLimits self.now }
     {
-        self.journal.len() as u32
+        self.store.edit()
     }
 
     /// All edits that were accepted, the first of them first.
@@ -224,35 +223,29 @@ impl Edits {
     pub fn limits(&self) -> Limits
         ensures { result ≡ self.now.limits }
     {
-        self.limits
+        self.store.limits()
     }
 }
 
-// How many buckets are open once one element more than `size` is held: one more where they are full.
-fn opened_for_one_more(size: u32, buckets: u32) -> u32
-    requires { buckets ≤ 17 }
-    ensures { result ≡ (if nat_eq size (capacity_of buckets) then buckets + 1 else buckets) }
-{
-    if size == capacity(buckets) {
-        buckets + 1
-    } else {
-        buckets
-    }
-}
-
-// Makes room for `cells` elements in all, and for one more edit. Changes neither list.
-fn make_room(items: &mut Vec<i64>, journal: &mut Vec<Edit>, cells: u32) -> Result<(), Refusal>
-    ensures items { items.new.items ≡ items.old.items }
+// Completes the write that is pending, and makes room for one more edit, then for so many cells. Changes no element.
+fn make_room(store: &mut Store, journal: &mut Vec<Edit>, cells: u32) -> Result<(), Refusal>
+    requires few { cells ≤ capacity_of store.old.limits.buckets }
+    requires sound { IsStore store.old }
+    ensures alike { AreAlike store.old store.new }
+    ensures settled { store.new.descriptor.pending ≡ None }
+    ensures sound { IsStore store.new }
+    ensures buckets { OnOk result ((k : ℕ) → AreFewest cells k → store.new.buckets ≡ max store.old.buckets k) }
+    ensures enough { OnOk result (cells ≤ capacity_of store.new.buckets) }
+    ensures closed { OnErr result (store.new.buckets ≡ store.old.buckets) }
     ensures journal { journal.new.items ≡ journal.old.items }
-    ensures cells { OnOk result (cells ≤ vec_capacity items.new) }
     ensures edit { OnOk result (vec_len journal.new < vec_capacity journal.new) }
     ensures err { IfErr result (λ refusal. refusal ≡ Refusal.NoMemory) }
 {
-    let more = (cells as usize).saturating_sub(items.len());
-    if items.reserve_exact(more).is_err() || journal.reserve(1).is_err() {
+    store.settle();
+    if journal.reserve(1).is_err() {
         return Err(Refusal::NoMemory);
     }
-    Ok(())
+    store.open_to(cells)
 }
 
 // Puts an item where there is room for it.

@@ -76,6 +76,19 @@ fn every_edit_is_applied(rt: HostRuntime) -> Result<(), Refusal> {
 }
 
 #[test]
+fn a_pending_write_is_read(rt: HostRuntime) {
+    let mut edits = Edits::new(rt.alloc(), Limits::greatest());
+    assert!(rt; edits.push(5).is_ok());
+    let pushed = edits.get(0);
+    edits.settle();
+    let settled = edits.get(0);
+    assert!(rt; edits.write(0, -3).is_ok());
+    let written = edits.get(0);
+    assert_eq!(rt; (pushed, settled, written), (Ok(5), Ok(5), Ok(-3)));
+    assert_eq!(rt; edits.pop(), Ok(Receipt::Popped { edit: 3, value: -3 }));
+}
+
+#[test]
 fn edits_are_refused_at_the_limits(rt: HostRuntime) -> Result<(), Refusal> {
     let mut none = Edits::new(rt.alloc(), Limits::new(1, 11)?);
     assert_eq!(rt; none.apply(Edit::Pop), Err(Refusal::Empty));

@@ -25,10 +25,6 @@ pub capacity_of_fewer : (j k : ℕ) → capacity_of j < capacity_of k → j < k
 capacity_of_fewer j k less =
     elim (cases_lt j k) [ inl below ↦ below | inr above ↦ let no_less = capacity_of_mono k j above in absurd (omega arith) ]
 
--- one bucket more holds at least one element more
-pub capacity_of_more : (k : ℕ) → capacity_of k < capacity_of (k + 1)
-capacity_of_more k = omega (arith, twice k, pow_pos k)
-
 -- one bucket more holds its own cells more
 pub capacity_of_next : (k : ℕ) → capacity_of (k + 1) ≡ capacity_of k + cells_in k
 capacity_of_next k = omega (arith, twice k, pow_pos k)

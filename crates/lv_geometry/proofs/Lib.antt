@@ -1,3 +1,4 @@
 pub mod Capacities
 pub mod HighestBits
 pub mod NodeLaws
+pub mod Ranges

@@ -5,7 +5,7 @@ use Rattle.std.proofs.lemmas.Bool.{cases_Bool, cases_eq, cases_lt, cond-false, c
 use Rattle.std.proofs.lemmas.List.Sums.{sum_by-cons, sum_by_push}
 use Rattle.std.proofs.lemmas.Nat.{mul-le}
 use Rattle.std.proofs.Math.Nat.{mul-mod_left}
-use Rattle.lv_edits.proofs.Ranges.{range_more}
+use Rattle.lv_geometry.proofs.Ranges.{below_more}
 use Rattle.lv_reduce.proofs.NodeLaws.{multiples_apart}
 
 -- how many of the numbers below n pass a test
@@ -20,7 +20,7 @@ passes_below-is p n = refl
 -- one number more
 pub passes_below-next : (p : ℕ → Bool) (n : ℕ) → passes_below p (n + 1) ≡ passes_below p n + cond (p n) 1 0
 unfolding passes_below
-passes_below-next p n = ap (count_by p) (range_more n) ∙ sum_by_push (λ x. cond (p x) 1 0) (range_with_len 0 n) n
+passes_below-next p n = ap (count_by p) (below_more n) ∙ sum_by_push (λ x. cond (p x) 1 0) (range_with_len 0 n) n
 
 -- the same at a successor
 passes_next : (p : ℕ → Bool) (n : ℕ) → passes_below p (suc n) ≡ passes_below p n + cond {A = ℕ} (p n) 1 0

@@ -7,7 +7,7 @@ use Rattle.std.proofs.lemmas.List.Folds.{fold-map}
 use Rattle.std.proofs.lemmas.List.FromFn.{get_or-map-range_with_len, length-map-range_with_len}
 use Rattle.lv_store.specs.Announced.{is_in}
 use Rattle.lv_store.specs.State.{StoreState, indices_of, value_in, written}
-use Rattle.lv_store.proofs.Ranges.{greatest}
+use Rattle.lv_geometry.proofs.Ranges.{greatest}
 
 -- neighbours in a list are what it has at their indices
 pub part_is : {T : Type 0} (xs : List T) (a n : ℕ) (d : T) → a + n ≤ length xs → take n (drop a xs) ≡ map (λ i. get_or xs i d) (range_with_len a n)

@@ -1,5 +1,5 @@
 mod Blocks
 pub mod BucketLaws
+pub mod ElementsLaws
 mod OpensLaws
-pub mod Ranges
 pub mod ShowsLaws

@@ -10,7 +10,7 @@ use Rattle.lv_store.specs.Announced.{Announcements, Shows, is_in, last_value, la
 use Rattle.lv_store.specs.Inner.{IsStore}
 use Rattle.lv_store.specs.State.{Opens, StoreState, announced, block_version, completed, empty_store, is_at, value_in, version_in, written}
 use Rattle.lv_geometry.specs.Bounds.{Bounds}
-use Rattle.lv_store.proofs.Ranges.{greatest, greatest_above, greatest_least, greatest_same, last_pass, last_pass-next, last_pass_same}
+use Rattle.lv_geometry.proofs.Ranges.{greatest, greatest_above, greatest_least, greatest_same, last_pass, last_pass-next, last_pass_same}
 
 -- a block's version is the greatest at its indices
 pub block_version_is : (s : StoreState) (block : ℕ) → block_version s block ≡ greatest (version_in s) (8 * block) 8
@@ -88,11 +88,15 @@ get_or-longer xs n x k =
       | inr past ↦ get_or-append_right xs (replicate n x) (length xs) k x refl past ∙ get_or_copies n (k - length xs) x ∙ sym (get_or_past xs k x past)
     ]
 
--- open buckets change no answer
+-- open buckets change no element
+pub value_in-opens : (old new : StoreState) (cells : ℕ) → Opens old new cells → (i : ℕ) → value_in new i ≡ value_in old i
+value_in-opens old new cells h i =
+    ap (λ d. written d.pending i (get_or new.values i (pos 0))) h.descriptor ∙ ap (written old.descriptor.pending i) (ap (λ xs. get_or xs i (pos 0)) h.values ∙ get_or-longer old.values _ (pos 0) i)
+
+-- and no answer
 pub Shows-opens : (old new : StoreState) (cells : ℕ) → Opens old new cells → (all : Announcements) → Shows old all → Shows new all
 Shows-opens old new cells h =
-    Shows-same old new (ap (λ d. d.edit) h.descriptor)
-    (λ i. ap (λ d. written d.pending i (get_or new.values i (pos 0))) h.descriptor ∙ ap (written old.descriptor.pending i) (ap (λ xs. get_or xs i (pos 0)) h.values ∙ get_or-longer old.values _ (pos 0) i))
+    Shows-same old new (ap (λ d. d.edit) h.descriptor) (value_in-opens old new cells h)
     (λ i. ap (λ d. if is_at i d.pending then d.edit else get_or new.versions i 0) h.descriptor ∙ ap (λ n. if is_at i old.descriptor.pending then old.descriptor.edit else n) (ap (λ xs. get_or xs i 0) h.versions ∙ get_or-longer old.versions _ 0 i))
 
 -- an element that is put into a list is read there, and the others elsewhere
@@ -103,13 +107,19 @@ get_or-put xs j x d i inside =
       | inr other ↦ get_or-set_other xs j i x d other ∙ sym (cond-false _ _ _ (ne_eqb j i (λ same. other (sym same))))
     ]
 
--- a write that is completed changes no answer
+-- a write that is completed changes no element
+pub value_in-completed : (s : StoreState) (write : Option (ℕ × ℤ)) → s.descriptor.pending ≡ write → IsStore s → (i : ℕ) → value_in (completed s write) i ≡ value_in s i
+value_in-completed s None is sound i = refl
+value_in-completed s (Some w) is sound i =
+    let inside = rw is at sound.pending in
+    get_or-put s.values w.0 w.1 (pos 0) i (omega (arith, inside.0, sound.values)) ∙ ap (λ p. written p i (get_or s.values i (pos 0))) (sym is)
+
+-- and no answer
 pub Shows-completed : (s : StoreState) (write : Option (ℕ × ℤ)) → s.descriptor.pending ≡ write → IsStore s → (all : Announcements) → Shows s all → Shows (completed s write) all
 Shows-completed s None is sound all h = h
 Shows-completed s (Some w) is sound all h =
     let inside = rw is at sound.pending in
-    Shows-same s (completed s (Some w)) refl
-    (λ i. get_or-put s.values w.0 w.1 (pos 0) i (omega (arith, inside.0, sound.values)) ∙ ap (λ p. written p i (get_or s.values i (pos 0))) (sym is))
+    Shows-same s (completed s (Some w)) refl (value_in-completed s (Some w) is sound)
     (λ i. get_or-put s.versions w.0 s.descriptor.edit 0 i (omega (arith, inside.0, sound.versions)) ∙ ap (λ p. if is_at i p then s.descriptor.edit else get_or s.versions i 0) (sym is))
     all h
 

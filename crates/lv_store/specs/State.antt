@@ -1,5 +1,5 @@
 -- What a store holds, and what it answers, by index.
-use Rattle.std.specs.Prelude.{◌≡◌, ℕ, ℤ, pos, ◌+◌, ◌*◌, Option, Some, None, Bool, false, List, [], ◌++◌, ◌-◌, fold, max, replicate, slice_index, slice_set, nat_eq, if◌then◌else◌}
+use Rattle.std.specs.Prelude.{◌≡◌, ℕ, ℤ, pos, ◌+◌, ◌*◌, Option, Some, None, Bool, false, List, [], ◌++◌, ◌-◌, fold, map, max, replicate, slice_index, slice_set, nat_eq, if◌then◌else◌}
 use Rattle.std.specs.List.{range_with_len, slice_index_or}
 use Rattle.lv_geometry.specs.Bounds.{Bounds}
 use Rattle.lv_geometry.specs.Cells.{AreFewest, capacity_of}
@@ -27,6 +27,10 @@ written (Some write) i x = if nat_eq write.0 i then write.1 else x
 -- the element at an index: that of the pending write, where it is there, else that in its cell; 0 where nothing was written
 abbrev pub value_in : StoreState → ℕ → ℤ
 value_in s i = written s.descriptor.pending i (slice_index_or s.values i (pos 0))
+
+-- the elements: those at the indices below the size
+abbrev pub elements_of : StoreState → List ℤ
+elements_of s = map (value_in s) (range_with_len 0 s.descriptor.size)
 
 -- the number of the edit that wrote an index last, its write pending or not; 0 where none did
 abbrev pub version_in : StoreState → ℕ → ℕ
@@ -69,3 +73,10 @@ pub record Opens (old new : StoreState) (cells : ℕ) : Type 0 where
   pub versions : new.versions ≡ old.versions ++ replicate (capacity_of new.buckets - capacity_of old.buckets) 0
   pub descriptor : new.descriptor ≡ old.descriptor
   pub limits : new.limits ≡ old.limits
+
+-- two stores of the same limits, edit and size, which read the same at each index
+pub record AreAlike (s t : StoreState) : Type 0 where
+  pub limits : t.limits ≡ s.limits
+  pub edit : t.descriptor.edit ≡ s.descriptor.edit
+  pub size : t.descriptor.size ≡ s.descriptor.size
+  pub values : (i : ℕ) → value_in t i ≡ value_in s i

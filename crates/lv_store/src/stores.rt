@@ -36,6 +36,7 @@ impl Store {
     pub fn new(alloc: Global, limits: Limits) -> Store
         ensures state { result ≡ empty_store limits }
         ensures shows { Shows result [] }
+        ensures sound { IsStore result }
     {
         // The limits tell of themselves that they are allowed ones.
         let _allowed = limits.buckets();
@@ -60,6 +61,7 @@ impl Store {
         ensures err { IfErr result (λ refusal. refusal ≡ Refusal.NoMemory) }
         ensures unchanged { OnErr result (self.new ≡ self.old) }
         ensures shows { (all : Announcements) → Shows self.old all → Shows self.new all }
+        ensures sound { IsStore self.new }
     {
         let open = self.values.buckets();
         let buckets = buckets_for(cells);
@@ -81,6 +83,7 @@ impl Store {
         requires size { size ≤ capacity_of self.old.buckets }
         ensures state { self.new ≡ announced self.old write size }
         ensures shows { (all : Announcements) → Shows self.old all → Shows self.new (all ++ write ∷ []) }
+        ensures sound { IsStore self.new }
     {
         self.descriptor = Descriptor {
             edit: self.descriptor.edit + 1,
@@ -94,6 +97,7 @@ impl Store {
     pub fn settle(&mut self)
         ensures state { self.new ≡ settled self.old }
         ensures shows { (all : Announcements) → Shows self.old all → Shows self.new all }
+        ensures sound { IsStore self.new }
     {
         let Some((index, element)) = self.descriptor.pending else {
             return;
@@ -174,6 +178,13 @@ impl Store {
         ensures sound { IsStore self.now }
     {
         self.values.buckets()
+    }
+
+    /// The limits that it was made with.
+    pub fn limits(&self) -> Limits
+        ensures { result ≡ self.now.limits }
+    {
+        self.limits
     }
 
     /// What the last edit changed.

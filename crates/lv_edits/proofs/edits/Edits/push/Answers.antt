@@ -1,63 +1,68 @@
-use Rattle.std.proofs.Common.{◌≡◌, ◌+◌, ◌<◌, ◌≤◌, ◌++◌, ◌∷◌, [], None, length, refl, sym, ap, ◌∙◌, arith}
+use Rattle.std.proofs.Common.{◌≡◌, ◌+◌, ◌≤◌, None, sym, ap, ◌∙◌, arith}
 use Rattle.std.specs.Int.{w64}
 use Rattle.std.proofs.lemmas.Int.{to_z-of_z}
-use Rattle.std.proofs.lemmas.List.{length_push}
 use Rattle.lv_geometry.specs.Cells.{capacity_of}
+use Rattle.lv_geometry.proofs.Capacities.{capacity_of_most}
 use Rattle.lv_edits.specs.declared.edit.Edit.TheVariants.{Push}
-use Rattle.lv_edits.specs.History.{list_of}
-use Rattle.lv_edits.specs.Inner.{AreNeeded}
 use Rattle.lv_edits.specs.Verdict.{verdict_of}
-use Rattle.lv_edits.proofs.InnerLaws.{InLimits-replay, IsReplay-snoc, items_are_list, items_few, needed_by_push}
+use Rattle.lv_edits.proofs.HoldsLaws.{InLimits-alike, InLimits-held, push_fits, push_held, size_held}
 use Rattle.lv_edits.proofs.edits.Edits.push.Goals as goal
-use Rattle.lv_edits.proofs.edits.Edits.push.Goals.{After-opened_for_one_more-buckets}
+use Rattle.lv_edits.proofs.edits.Edits.push.Goals.{After-size-index}
 
 -- nothing refuses the push
-free : (c : After-opened_for_one_more-buckets) → verdict_of c.self.inside.limits c.self.inside.journal.items (Push c.args.x) ≡ None
+free : (c : After-size-index) → verdict_of c.self.inside.store.limits c.self.inside.journal.items (Push c.args.x) ≡ None
 free c = rw (← c.self.view_is) at (sym c.verdict.ensures ∙ c.in_default.is)
 
--- the buckets that are open afterwards are within the limits, hold one more, and are those that are needed
-opened : (c : After-opened_for_one_more-buckets) → (c.opened_for_one_more-buckets.result ≤ c.self.inside.limits.buckets) × (length c.self.inside.items.items < capacity_of c.opened_for_one_more-buckets.result) × AreNeeded (c.self.inside.journal.items ++ Push c.args.x ∷ []) c.opened_for_one_more-buckets.result
-opened c =
-    let size = c.len-index.ensures ∙ c.self.inside.items.ok.0 in
-    let more = rw size at c.opened_for_one_more-buckets.ensures in
-    needed_by_push _ _ _ _ _ c.args.x c.self.invariant.0 c.self.invariant.1 (free c) more
+-- it has room within the limits, and these are allowed
+fits : (c : After-size-index) → (c.size-index.result + 1 ≤ capacity_of c.self.inside.store.limits.buckets) × (c.size-index.result + 1 ≤ 1048568)
+fits c =
+    let within = push_fits _ _ c.args.x c.self.invariant (free c) in
+    let allowed = c.self.invariant.sound.allowed in
+    (omega (arith, c.size-index.ensures.value, within), omega (arith, c.size-index.ensures.value, within, capacity_of_most c.self.inside.store.limits.buckets allowed.few_buckets))
 
 pub returns-in-Some-clause-limits : goal.returns-in-Some-clause-limits
-returns-in-Some-clause-limits c = rw (← c.self.view_is) (InLimits-replay _ _ _ _ c.self.invariant.0)
+returns-in-Some-clause-limits c = rw (← c.self.view_is) (InLimits-held _ _ c.self.invariant)
 
-pub overflow_cast-index : goal.overflow_cast-index
-overflow_cast-index c = omega (arith, c.len-index.ensures, c.self.inside.items.ok.0, items_few _ _ _ _ c.self.invariant.0)
+pub overflow_add-index : goal.overflow_add-index
+overflow_add-index c = omega (arith, (fits (goal.at.overflow_add-index c).After-size-index).1)
 
-pub capacity-requires : goal.capacity-requires
-capacity-requires c =
-    omega (arith, (opened (goal.at.capacity-requires c).After-opened_for_one_more-buckets).0, c.self.invariant.0.allowed.few_buckets)
+pub make_room-requires-clause-few : goal.make_room-requires-clause-few
+make_room-requires-clause-few c = (fits (goal.at.make_room-requires-clause-few c).After-size-index).0
 
 pub returns-in_err-make_room-clause-limits : goal.returns-in_err-make_room-clause-limits
-returns-in_err-make_room-clause-limits c = rw c.make_room.ensures.journal (InLimits-replay _ _ _ _ c.self.invariant.0)
+returns-in_err-make_room-clause-limits c =
+    let e = c.in_err-make_room.ensures in
+    rw e.journal (InLimits-alike _ _ _ c.self.invariant e.alike)
 
-pub append-requires : goal.append-requires
-append-requires c =
-    let room = (opened (goal.at.append-requires c).After-opened_for_one_more-buckets).1 in
-    omega (arith, c.make_room.new.items.ok.0, ap length c.make_room.ensures.items, c.capacity.ensures.value, c.in_ok-make_room.ensures.cells)
+pub overflow_add-index-2 : goal.overflow_add-index-2
+overflow_add-index-2 c = omega (arith, (fits (goal.at.overflow_add-index-2 c).After-size-index).1)
+
+pub announce-requires-clause-index : goal.announce-requires-clause-index
+announce-requires-clause-index c = omega (arith, c.in_ok-make_room.ensures.enough)
+
+pub announce-requires-clause-size : goal.announce-requires-clause-size
+announce-requires-clause-size c = omega (arith, c.in_ok-make_room.ensures.enough)
 
 pub invariant_of-self-2 : goal.invariant_of-self-2
 invariant_of-self-2 c =
+    let e = c.in_ok-make_room.ensures in
     let same = to_z-of_z w64 c.args.x c.ranges.x in
-    let needed = opened (goal.at.invariant_of-self-2 c).After-opened_for_one_more-buckets in
-    rw (c.append.ensures, c.append-2.ensures, same, c.make_room.ensures.items, c.make_room.ensures.journal)
-    (IsReplay-snoc _ _ _ _ _ _ (Push c.args.x) c.self.invariant.0 (free (goal.at.invariant_of-self-2 c).After-opened_for_one_more-buckets) refl c.ranges.x needed.2 needed.0, needed.2)
+    rw (c.announce.ensures.state, c.append.ensures, same, e.journal)
+    (push_held _ _ _ c.args.x _ c.size-index.ensures.value c.self.invariant (free (goal.at.invariant_of-self-2 c).After-size-index) c.ranges.x e.alike e.settled e.buckets (rw (c.announce.ensures.state, same) at c.announce.ensures.sound))
 
 pub returns-clause-answer : goal.returns-clause-answer
 returns-clause-answer c =
+    let e = c.in_ok-make_room.ensures in
+    let held = c.self.invariant in
     let same = to_z-of_z w64 c.args.x c.ranges.x in
-    let edits = rw (c.make_room.ensures.journal, same) at c.append-2.ensures in
-    let number : c.len.result ≡ length c.self.inside.journal.items + 1 = c.len.ensures ∙ c.append-2.new.list.ok.0 ∙ ap length edits ∙ length_push _ _ in
-    let place : c.len-index.result ≡ length (list_of c.self.inside.journal.items) = c.len-index.ensures ∙ c.self.inside.items.ok.0 ∙ ap length (sym (items_are_list _ _ _ _ c.self.invariant.0)) in
+    let edits = rw (e.journal, same) at c.append.ensures in
+    let number = c.edit.ensures.value ∙ ap (λ s. s.descriptor.edit) c.announce.ensures.state ∙ ap (λ n. n + 1) (e.alike.edit ∙ held.edit) in
+    let place = c.size-index.ensures.value ∙ size_held _ _ held in
     rw (← c.self.view_is) record {
-      verdict = free (goal.at.returns-clause-answer c).After-opened_for_one_more-buckets;
+      verdict = free (goal.at.returns-clause-answer c).After-size-index;
       receipt_is = rw (number, place);
-      journal = rw edits;
+      journal = rw (c.announce.ensures.state, edits, e.alike.limits);
     }
 
 pub returns-clause-limits : goal.returns-clause-limits
-returns-clause-limits c = InLimits-replay _ _ _ _ (invariant_of-self-2 c).0
+returns-clause-limits c = InLimits-held _ _ (invariant_of-self-2 c)

@@ -1,19 +1,26 @@
-use Rattle.std.proofs.Common.{arith}
+use Rattle.std.proofs.Common.{◌<◌, arith, ◌∙◌}
 use Rattle.std.specs.Int.{w64}
 use Rattle.std.proofs.lemmas.Int.{to_z-of_z}
-use Rattle.lv_edits.proofs.InnerLaws.{InLimits-replay, item_fits, items_are_list}
+use Rattle.lv_edits.proofs.HoldsLaws.{InLimits-held, fits_held, read_held, size_held}
 use Rattle.lv_edits.proofs.edits.Edits.read.Goals as goal
+use Rattle.lv_edits.proofs.edits.Edits.read.Goals.{After-read}
 
-pub index-requires : goal.index-requires
-index-requires c =
-    let within = rw (← c.self.view_is, items_are_list _ _ _ _ c.self.invariant.0) at c.requires in
-    omega (arith, c.self.inside.items.ok.0, within)
+pub read-requires : goal.read-requires
+read-requires c =
+    let within = rw (← c.self.view_is) at c.requires in
+    omega (arith, within, size_held _ _ c.self.invariant, c.self.invariant.sound.size)
+
+-- the index is below the size
+inside : (c : After-read) → c.args.i < c.self.inside.store.descriptor.size
+inside c =
+    let within = rw (← c.self.view_is) at c.requires in
+    omega (arith, within, size_held _ _ c.self.invariant)
 
 pub returns-clause-value : goal.returns-clause-value
 returns-clause-value c =
-    let within = rw (← c.self.view_is, items_are_list _ _ _ _ c.self.invariant.0) at c.requires in
-    let fits = item_fits _ _ _ _ c.self.invariant.0 c.args.i c.index.result.now within c.index.ensures in
-    rw (to_z-of_z w64 c.index.result.now fits, ← c.self.view_is, items_are_list _ _ _ _ c.self.invariant.0) c.index.ensures
+    let held = c.self.invariant in
+    rw (to_z-of_z w64 c.read.result (rw c.read.ensures (fits_held _ _ c.args.i held (inside c))), ← c.self.view_is)
+    (c.read.ensures ∙ read_held _ _ c.args.i c.read.result held (inside c))
 
 pub returns-clause-limits : goal.returns-clause-limits
-returns-clause-limits c = rw (← c.self.view_is) (InLimits-replay _ _ _ _ c.self.invariant.0)
+returns-clause-limits c = rw (← c.self.view_is) (InLimits-held _ _ c.self.invariant)

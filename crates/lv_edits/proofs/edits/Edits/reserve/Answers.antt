@@ -1,48 +1,44 @@
-use Rattle.std.proofs.Common.{◌≡◌, ◌+◌, None, length, refl, sym, ap, ◌∙◌, arith}
-use Rattle.std.proofs.lemmas.List.{length_push}
+use Rattle.std.proofs.Common.{◌≡◌, ◌+◌, None, sym, ap, ◌∙◌}
 use Rattle.lv_edits.specs.declared.edit.Edit.TheVariants.{Reserve}
 use Rattle.lv_edits.specs.Capacity.{capacity_after}
 use Rattle.lv_edits.specs.Verdict.{verdict_of}
-use Rattle.lv_geometry.proofs.Capacities.{capacity_of_most}
-use Rattle.lv_edits.proofs.HistoryLaws.{unrefused_reserve}
-use Rattle.lv_edits.proofs.InnerLaws.{InLimits-replay, IsReplay-snoc, needed_by_reserve, unrefused_on_items}
+use Rattle.lv_edits.proofs.HoldsLaws.{InLimits-alike, InLimits-held, reserve_fits, reserve_held}
 use Rattle.lv_edits.proofs.edits.Edits.reserve.Goals as goal
 use Rattle.lv_edits.proofs.edits.Edits.reserve.Goals.{In_default}
 
 -- nothing refuses the reserve
-free : (c : In_default) → verdict_of c.self.inside.limits c.self.inside.journal.items (Reserve c.args.cells) ≡ None
+free : (c : In_default) → verdict_of c.self.inside.store.limits c.self.inside.journal.items (Reserve c.args.cells) ≡ None
 free c = rw (← c.self.view_is) at (sym c.verdict.ensures ∙ c.in_default.is)
 
 pub returns-in-Some-clause-limits : goal.returns-in-Some-clause-limits
-returns-in-Some-clause-limits c = rw (← c.self.view_is) (InLimits-replay _ _ _ _ c.self.invariant.0)
+returns-in-Some-clause-limits c = rw (← c.self.view_is) (InLimits-held _ _ c.self.invariant)
 
-pub buckets_for-requires : goal.buckets_for-requires
-buckets_for-requires c =
-    let allowed = c.self.invariant.0.allowed in
-    let within = unrefused_reserve c.self.inside.limits c.self.inside.items.items c.args.cells (unrefused_on_items _ _ _ _ (Reserve c.args.cells) c.self.invariant.0 (free c)) in
-    omega (arith, within, capacity_of_most c.self.inside.limits.buckets allowed.few_buckets)
+pub make_room-requires-clause-few : goal.make_room-requires-clause-few
+make_room-requires-clause-few c = reserve_fits _ _ c.args.cells c.self.invariant (free (goal.at.make_room-requires-clause-few c).In_default)
 
 pub returns-in_err-make_room-clause-limits : goal.returns-in_err-make_room-clause-limits
-returns-in_err-make_room-clause-limits c = rw c.make_room.ensures.journal (InLimits-replay _ _ _ _ c.self.invariant.0)
+returns-in_err-make_room-clause-limits c =
+    let e = c.in_err-make_room.ensures in
+    rw e.journal (InLimits-alike _ _ _ c.self.invariant e.alike)
 
 pub invariant_of-self-2 : goal.invariant_of-self-2
 invariant_of-self-2 c =
-    let at = goal.at.invariant_of-self-2 c in
-    let needed = needed_by_reserve _ _ _ _ _ c.args.cells c.self.invariant.0 c.self.invariant.1 (free at.In_default) c.buckets_for.ensures.fewest in
-    rw (c.append.ensures, c.make_room.ensures.items, c.make_room.ensures.journal, c.max-buckets.ensures)
-    (IsReplay-snoc _ _ _ _ _ _ (Reserve c.args.cells) c.self.invariant.0 (free at.In_default) refl tt needed.1 needed.0, needed.1)
+    let e = c.in_ok-make_room.ensures in
+    rw (c.announce.ensures.state, c.append.ensures, e.journal)
+    (reserve_held _ _ _ c.args.cells _ c.size-size.ensures.value c.self.invariant (free (goal.at.invariant_of-self-2 c).In_default) e.alike e.settled e.buckets (rw c.announce.ensures.state at c.announce.ensures.sound))
 
 pub returns-clause-answer : goal.returns-clause-answer
 returns-clause-answer c =
-    let at = goal.at.returns-clause-answer c in
-    let edits = rw c.make_room.ensures.journal at c.append.ensures in
-    let number : c.len.result ≡ length c.self.inside.journal.items + 1 = c.len.ensures ∙ c.append.new.list.ok.0 ∙ ap length edits ∙ length_push _ _ in
-    let capacity = c.capacity-2.ensures.value ∙ (invariant_of-self-2 c).0.opened ∙ ap capacity_after edits in
+    let e = c.in_ok-make_room.ensures in
+    let held = c.self.invariant in
+    let edits = rw e.journal at c.append.ensures in
+    let number = c.edit.ensures.value ∙ ap (λ s. s.descriptor.edit) c.announce.ensures.state ∙ ap (λ n. n + 1) (e.alike.edit ∙ held.edit) in
+    let cells = c.capacity.ensures.value ∙ rw c.buckets.ensures.value ((invariant_of-self-2 c).replay.opened) ∙ ap capacity_after edits in
     rw (← c.self.view_is) record {
-      verdict = free at.In_default;
-      receipt_is = rw (number, capacity);
-      journal = rw edits;
+      verdict = free (goal.at.returns-clause-answer c).In_default;
+      receipt_is = rw (number, cells);
+      journal = rw (c.announce.ensures.state, edits, e.alike.limits);
     }
 
 pub returns-clause-limits : goal.returns-clause-limits
-returns-clause-limits c = InLimits-replay _ _ _ _ (invariant_of-self-2 c).0
+returns-clause-limits c = InLimits-held _ _ (invariant_of-self-2 c)

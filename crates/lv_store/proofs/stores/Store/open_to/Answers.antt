@@ -30,3 +30,6 @@ pub returns-clause-shows : goal.returns-clause-shows
 returns-clause-shows c all shown =
     rw (c.in_ok-open_to.ensures.ok, c.in_default.ensures.ok, c.self.invariant.1)
     (Shows-opens _ _ c.args.cells (Opens-opened _ c.args.cells c.buckets_for-buckets.result c.buckets_for-buckets.ensures.fewest) all (rw (← c.self.view_is) at shown))
+
+pub returns-clause-sound : goal.returns-clause-sound
+returns-clause-sound c = (invariant_of-self-in_default c).0

@@ -2,7 +2,7 @@ use Rattle.std.proofs.Common.{◌≡◌, ◌+◌, ◌*◌, ◌≤◌, max, true,
 use Rattle.std.proofs.lemmas.Bool.{cases_lt, ne_eqb}
 use Rattle.lv_store.specs.Announced.{is_in}
 use Rattle.lv_store.proofs.Blocks.{greatest_of_part}
-use Rattle.lv_store.proofs.Ranges.{greatest}
+use Rattle.lv_geometry.proofs.Ranges.{greatest}
 use Rattle.lv_store.proofs.ShowsLaws.{none_past, unwritten_version}
 use Rattle.lv_store.proofs.stores.Store.version.Goals as goal
 use Rattle.lv_store.proofs.stores.Store.version.Goals.{After-has_block, in-Some+else-index-block, in_default}

@@ -1,0 +1,146 @@
+-- A store that holds what a journal leaves: what it tells of the history, and that it goes on to hold it through each kind of edit.
+use Rattle.std.proofs.Common.{◌≡◌, ℕ, ℤ, pos, ◌+◌, ◌-◌, ◌<◌, ◌≤◌, max, Some, None, Option, List, [], ◌∷◌, ◌++◌, length, take, slice_set, get_or, refl, sym, ap, subst, ◌∙◌, arith}
+use Rattle.std.proofs.lemmas.List.{length_push, length-set, length-take}
+use Rattle.std.proofs.lemmas.List.Elements.{All-get_or}
+use Rattle.lv_geometry.specs.Bounds.{Bounds}
+use Rattle.lv_geometry.specs.Cells.{AreFewest, capacity_of}
+use Rattle.lv_geometry.specs.Elements.{IsElement}
+use Rattle.lv_store.specs.Inner.{IsStore}
+use Rattle.lv_store.specs.State.{AreAlike, StoreState, announced, elements_of, empty_store, value_in}
+use Rattle.lv_store.proofs.ElementsLaws.{elements-popped, elements-pushed, elements-unwritten, elements-written, elements_alike, get_or-elements, length-elements}
+use Rattle.lv_geometry.proofs.Capacities.{capacity_of_mono}
+use Rattle.lv_edits.specs.declared.edit.Edit.{Edit}
+use Rattle.lv_edits.specs.declared.edit.Edit.TheVariants.{Push, Pop, Write, Reserve}
+use Rattle.lv_edits.specs.Capacity.{reserved_by}
+use Rattle.lv_edits.specs.History.{applied, list_of}
+use Rattle.lv_edits.specs.Inner.{HoldsReplay}
+use Rattle.lv_edits.specs.Kept.{CarriesElement, InLimits}
+use Rattle.lv_edits.specs.Verdict.{verdict_of}
+use Rattle.lv_edits.proofs.CapacityLaws.{AreNeeded-empty}
+use Rattle.lv_edits.proofs.HistoryLaws.{applied_pop, applied_write, unrefused_pop, unrefused_push, unrefused_reserve, unrefused_write}
+use Rattle.lv_edits.proofs.InnerLaws.{InLimits-replay, IsReplay-empty, IsReplay-snoc, items_are_list, needed_after, unrefused_on_items}
+
+-- the history is within the limits
+pub InLimits-held : (s : StoreState) (journal : List Edit) → HoldsReplay s journal → InLimits record { limits = s.limits; journal = journal }
+InLimits-held s journal held = InLimits-replay (elements_of s) journal s.limits s.buckets held.replay
+
+-- the list has as many elements as the store
+pub size_held : (s : StoreState) (journal : List Edit) → HoldsReplay s journal → s.descriptor.size ≡ length (list_of journal)
+size_held s journal held =
+    sym (ap length (items_are_list (elements_of s) journal s.limits s.buckets held.replay) ∙ length-elements s)
+
+-- what the store reads at an index of the list is the list's element
+pub read_held : (s : StoreState) (journal : List Edit) (i : ℕ) (d : ℤ) → HoldsReplay s journal → i < s.descriptor.size → value_in s i ≡ get_or (list_of journal) i d
+read_held s journal i d held inside =
+    sym (ap (λ xs. get_or xs i d) (items_are_list (elements_of s) journal s.limits s.buckets held.replay) ∙ get_or-elements s i d inside)
+
+-- and a number of 64 bits
+pub fits_held : (s : StoreState) (journal : List Edit) (i : ℕ) → HoldsReplay s journal → i < s.descriptor.size → IsElement (value_in s i)
+fits_held s journal i held inside =
+    subst IsElement (get_or-elements s i (pos 0) inside) (All-get_or IsElement (elements_of s) i (pos 0) (omega (arith, length-elements s)) held.replay.elements)
+
+-- no edits are held by an empty store
+pub HoldsReplay-empty : (limits : Bounds) → IsStore (empty_store limits) → HoldsReplay (empty_store limits) []
+HoldsReplay-empty limits sound = record {
+  sound = sound;
+  replay = IsReplay-empty limits sound.allowed;
+  needed = AreNeeded-empty;
+  edit = refl;
+}
+
+-- a store that reads alike, with the same buckets, holds the same
+pub HoldsReplay-alike : (s t : StoreState) (journal : List Edit) → HoldsReplay s journal → AreAlike s t → t.buckets ≡ s.buckets → IsStore t → HoldsReplay t journal
+HoldsReplay-alike s t journal held alike buckets sound = record {
+  sound = sound;
+  replay = rw (elements_alike s t alike, alike.limits, buckets) held.replay;
+  needed = rw buckets held.needed;
+  edit = alike.edit ∙ held.edit;
+}
+
+-- and tells the same of the history
+pub InLimits-alike : (s t : StoreState) (journal : List Edit) → HoldsReplay s journal → AreAlike s t → InLimits record { limits = t.limits; journal = journal }
+InLimits-alike s t journal held alike = rw alike.limits (InLimits-held s journal held)
+
+-- what an accepted edit asks of the cells: n of them are enough for it beyond the open ones, it needs no more, and the limits allow them
+record Asks (s : StoreState) (e : Edit) (ys : List ℤ) (n : ℕ) : Type 0 where
+  no_more : n ≤ max (length ys) (reserved_by e)
+  no_less : max (length ys) (reserved_by e) ≤ max n (capacity_of s.buckets)
+  within : n ≤ capacity_of s.limits.buckets
+
+-- an edit that is announced to a store that reads alike, with the cells open that it asks for, is held
+HoldsReplay-announced : (s m : StoreState) (journal : List Edit) (e : Edit) (ys : List ℤ) (n : ℕ) (write : Option (ℕ × ℤ)) (size : ℕ) → HoldsReplay s journal → verdict_of s.limits journal e ≡ None → applied (elements_of s) e ≡ Some ys → CarriesElement e → Asks s e ys n → AreAlike s m → ((k : ℕ) → AreFewest n k → m.buckets ≡ max s.buckets k) → IsStore (announced m write size) → elements_of (announced m write size) ≡ ys → HoldsReplay (announced m write size) (journal ++ e ∷ [])
+HoldsReplay-announced s m journal e ys n write size held free made carried asks alike opens sound elements =
+    let needed = needed_after (elements_of s) ys journal s.limits s.buckets m.buckets n e held.replay held.needed made asks.no_more asks.no_less asks.within opens in
+    let few : m.buckets ≤ s.limits.buckets = omega (arith, sound.few, ap (λ l. l.buckets) alike.limits) in
+    record {
+      sound = sound;
+      replay = rw (elements, alike.limits) (IsReplay-snoc (elements_of s) ys journal s.limits s.buckets m.buckets e held.replay free made carried needed few);
+      needed = needed;
+      edit = omega (arith, alike.edit, held.edit, length_push journal e);
+    }
+
+-- an accepted push has room within the limits
+pub push_fits : (s : StoreState) (journal : List Edit) (x : ℤ) → HoldsReplay s journal → verdict_of s.limits journal (Push x) ≡ None → s.descriptor.size + 1 ≤ capacity_of s.limits.buckets
+push_fits s journal x held free =
+    let not_full = unrefused_push s.limits (elements_of s) x (unrefused_on_items _ _ _ _ (Push x) held.replay free) in
+    omega (arith, not_full, length-elements s, held.sound.size, capacity_of_mono s.buckets s.limits.buckets held.sound.few)
+
+-- and is held once it is announced
+pub push_held : (s m : StoreState) (journal : List Edit) (x : ℤ) (i : ℕ) → i ≡ s.descriptor.size → HoldsReplay s journal → verdict_of s.limits journal (Push x) ≡ None → IsElement x → AreAlike s m → m.descriptor.pending ≡ None → ((k : ℕ) → AreFewest (i + 1) k → m.buckets ≡ max s.buckets k) → IsStore (announced m (Some (i, x)) (i + 1)) → HoldsReplay (announced m (Some (i, x)) (i + 1)) (journal ++ Push x ∷ [])
+push_held s m journal x i at held free fits alike settled opens sound =
+    let place : i ≡ m.descriptor.size = at ∙ sym alike.size in
+    let elements : elements_of (announced m (Some (i, x)) (i + 1)) ≡ elements_of s ++ x ∷ [] = rw place (elements-pushed m x settled) ∙ ap (λ xs. xs ++ x ∷ []) (elements_alike s m alike) in
+    let long : length (elements_of s ++ x ∷ []) ≡ i + 1 = length_push (elements_of s) x ∙ ap (λ n. n + 1) (length-elements s ∙ sym at) in
+    HoldsReplay-announced s m journal (Push x) (elements_of s ++ x ∷ []) (i + 1) (Some (i, x)) (i + 1) held free refl fits record {
+      no_more = omega arith;
+      no_less = omega arith;
+      within = omega (arith, push_fits s journal x held free);
+    } alike opens sound elements
+
+-- there is an element where a pop is accepted
+pub pop_fits : (s : StoreState) (journal : List Edit) → HoldsReplay s journal → verdict_of s.limits journal Pop ≡ None → 1 ≤ s.descriptor.size
+pop_fits s journal held free =
+    omega (arith, unrefused_pop s.limits (elements_of s) (unrefused_on_items _ _ _ _ Pop held.replay free), length-elements s)
+
+-- and it is held once one element fewer is announced
+pub pop_held : (s m : StoreState) (journal : List Edit) (last : ℕ) → last ≡ s.descriptor.size - 1 → HoldsReplay s journal → verdict_of s.limits journal Pop ≡ None → AreAlike s m → m.descriptor.pending ≡ None → ((k : ℕ) → AreFewest 0 k → m.buckets ≡ max s.buckets k) → IsStore (announced m None last) → HoldsReplay (announced m None last) (journal ++ Pop ∷ [])
+pop_held s m journal last at held free alike settled opens sound =
+    let size = length-elements s in
+    let last_is : last ≡ length (elements_of s) - 1 = at ∙ ap (λ n. n - 1) (sym size) in
+    let elements : elements_of (announced m None last) ≡ take (length (elements_of s) - 1) (elements_of s) = elements-popped m last settled (omega (arith, alike.size)) ∙ ap (take last) (elements_alike s m alike) ∙ ap (λ n. take n (elements_of s)) last_is in
+    HoldsReplay-announced s m journal Pop (take (length (elements_of s) - 1) (elements_of s)) 0 None last held free (applied_pop (elements_of s) (omega (arith, pop_fits s journal held free))) tt record {
+      no_more = omega arith;
+      no_less = omega (arith, length-take (length (elements_of s) - 1) (elements_of s), held.sound.size);
+      within = omega arith;
+    } alike opens sound elements
+
+-- the index of an accepted write is that of an element
+pub write_fits : (s : StoreState) (journal : List Edit) (i : ℕ) (x : ℤ) → HoldsReplay s journal → verdict_of s.limits journal (Write i x) ≡ None → i < s.descriptor.size
+write_fits s journal i x held free =
+    omega (arith, unrefused_write s.limits (elements_of s) i x (unrefused_on_items _ _ _ _ (Write i x) held.replay free), length-elements s)
+
+-- and it is held once it is announced
+pub write_held : (s m : StoreState) (journal : List Edit) (i : ℕ) (x : ℤ) (size : ℕ) → size ≡ m.descriptor.size → HoldsReplay s journal → verdict_of s.limits journal (Write i x) ≡ None → IsElement x → AreAlike s m → m.descriptor.pending ≡ None → ((k : ℕ) → AreFewest 0 k → m.buckets ≡ max s.buckets k) → IsStore (announced m (Some (i, x)) size) → HoldsReplay (announced m (Some (i, x)) size) (journal ++ Write i x ∷ [])
+write_held s m journal i x size at held free fits alike settled opens sound =
+    let inside = write_fits s journal i x held free in
+    let elements : elements_of (announced m (Some (i, x)) size) ≡ slice_set (elements_of s) i x = rw at (elements-written m i x settled (omega (arith, alike.size))) ∙ ap (λ xs. slice_set xs i x) (elements_alike s m alike) in
+    HoldsReplay-announced s m journal (Write i x) (slice_set (elements_of s) i x) 0 (Some (i, x)) size held free (applied_write (elements_of s) i x (omega (arith, length-elements s))) fits record {
+      no_more = omega arith;
+      no_less = omega (arith, length-set (elements_of s) i x, length-elements s, held.sound.size);
+      within = omega arith;
+    } alike opens sound elements
+
+-- what an accepted reserve asks for is within the limits
+pub reserve_fits : (s : StoreState) (journal : List Edit) (n : ℕ) → HoldsReplay s journal → verdict_of s.limits journal (Reserve n) ≡ None → n ≤ capacity_of s.limits.buckets
+reserve_fits s journal n held free =
+    unrefused_reserve s.limits (elements_of s) n (unrefused_on_items _ _ _ _ (Reserve n) held.replay free)
+
+-- and it is held once its number is announced
+pub reserve_held : (s m : StoreState) (journal : List Edit) (n size : ℕ) → size ≡ m.descriptor.size → HoldsReplay s journal → verdict_of s.limits journal (Reserve n) ≡ None → AreAlike s m → m.descriptor.pending ≡ None → ((k : ℕ) → AreFewest n k → m.buckets ≡ max s.buckets k) → IsStore (announced m None size) → HoldsReplay (announced m None size) (journal ++ Reserve n ∷ [])
+reserve_held s m journal n size at held free alike settled opens sound =
+    let elements : elements_of (announced m None size) ≡ elements_of s = rw at (elements-unwritten m settled) ∙ elements_alike s m alike in
+    HoldsReplay-announced s m journal (Reserve n) (elements_of s) n None size held free refl tt record {
+      no_more = omega arith;
+      no_less = omega (arith, length-elements s, held.sound.size);
+      within = reserve_fits s journal n held free;
+    } alike opens sound elements

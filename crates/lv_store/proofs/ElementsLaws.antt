@@ -1,0 +1,88 @@
+-- The elements of a store as a list: what is at an index of it, and what each change of the store makes of it.
+use Rattle.std.proofs.Common.{◌≡◌, ℕ, ℤ, pos, ◌+◌, ◌<◌, ◌≤◌, if◌then◌else◌, Some, None, Option, [], ◌∷◌, ◌++◌, length, map, take, get_or, set, nat_eq, refl, sym, ap, ◌∙◌, arith}
+use Rattle.std.specs.List.{range_with_len}
+use Rattle.std.proofs.lemmas.Bool.{cond-false, cond-true, eq-eqb, ne_eqb}
+use Rattle.std.proofs.lemmas.List.{ext_get_or, get_or-take, length-take-le}
+use Rattle.std.proofs.lemmas.List.FromFn.{get_or-map-range_with_len, length-map-range_with_len, map-range_with_len_more}
+use Rattle.lv_store.specs.Inner.{IsStore}
+use Rattle.lv_store.specs.State.{AreAlike, Opens, StoreState, announced, completed, elements_of, settled, value_in, written}
+use Rattle.lv_store.proofs.Blocks.{put_among, same_at}
+use Rattle.lv_store.proofs.ShowsLaws.{value_in-completed, value_in-opens}
+
+-- there are as many as the size says
+pub length-elements : (s : StoreState) → length (elements_of s) ≡ s.descriptor.size
+length-elements s = length-map-range_with_len (value_in s) 0 s.descriptor.size
+
+-- the element at an index below the size
+pub get_or-elements : (s : StoreState) (i : ℕ) (d : ℤ) → i < s.descriptor.size → get_or (elements_of s) i d ≡ value_in s i
+get_or-elements s i d inside = get_or-map-range_with_len (value_in s) 0 s.descriptor.size i i d inside (omega arith)
+
+-- stores that read alike have the same elements
+pub elements_alike : (s t : StoreState) → AreAlike s t → elements_of t ≡ elements_of s
+elements_alike s t alike =
+    ap (λ n. map (value_in t) (range_with_len 0 n)) alike.size ∙ same_at (value_in t) (value_in s) 0 s.descriptor.size (pos 0) (λ i from below. alike.values i)
+
+-- a write that is completed leaves all alike, and no bucket more open
+completed_alike : (s : StoreState) (write : Option (ℕ × ℤ)) → s.descriptor.pending ≡ write → IsStore s → AreAlike s (completed s write) × ((completed s write).buckets ≡ s.buckets) × ((completed s write).descriptor.pending ≡ None)
+completed_alike s None is sound = (record { limits = refl; edit = refl; size = refl; values = λ i. refl }, refl, is)
+completed_alike s (Some w) is sound = (record { limits = refl; edit = refl; size = refl; values = value_in-completed s (Some w) is sound }, refl, refl)
+
+-- and so does a store that is settled
+pub settled_alike : (s : StoreState) → IsStore s → AreAlike s (settled s) × ((settled s).buckets ≡ s.buckets) × ((settled s).descriptor.pending ≡ None)
+settled_alike s sound = completed_alike s s.descriptor.pending refl sound
+
+-- buckets that are opened leave all alike
+pub opens_alike : (s t : StoreState) (cells : ℕ) → Opens s t cells → AreAlike s t
+opens_alike s t cells h = record {
+  limits = h.limits;
+  edit = ap (λ d. d.edit) h.descriptor;
+  size = ap (λ d. d.size) h.descriptor;
+  values = value_in-opens s t cells h;
+}
+
+-- a store reads as it does
+pub alike_to_itself : (s : StoreState) → AreAlike s s
+alike_to_itself s = record { limits = refl; edit = refl; size = refl; values = λ i. refl }
+
+-- what is alike to one of two that are alike is so to the other
+pub alike_through : (s t u : StoreState) → AreAlike s t → AreAlike t u → AreAlike s u
+alike_through s t u first second = record {
+  limits = second.limits ∙ first.limits;
+  edit = second.edit ∙ first.edit;
+  size = second.size ∙ first.size;
+  values = λ i. second.values i ∙ first.values i;
+}
+
+-- nothing pending is read in the cells
+unpending : (s : StoreState) (i : ℕ) → s.descriptor.pending ≡ None → value_in s i ≡ get_or s.values i (pos 0)
+unpending s i none = ap (λ p. written p i (get_or s.values i (pos 0))) none
+
+-- an element that is announced at the size is one more at the end
+pub elements-pushed : (s : StoreState) (x : ℤ) → s.descriptor.pending ≡ None → elements_of (announced s (Some (s.descriptor.size, x)) (s.descriptor.size + 1)) ≡ elements_of s ++ x ∷ []
+elements-pushed s x none =
+    let n = s.descriptor.size in
+    let f = value_in (announced s (Some (n, x)) (n + 1)) in
+    map-range_with_len_more f 0 n n (omega arith)
+    ∙ ap (λ xs. xs ++ f n ∷ []) (same_at f (value_in s) 0 n (pos 0) (λ i from below. cond-false _ _ _ (ne_eqb n i (λ same. absurd (omega arith))) ∙ sym (unpending s i none)))
+    ∙ ap (λ y. elements_of s ++ y ∷ []) (cond-true _ _ _ (eq-eqb n n refl))
+
+-- no write, and one element fewer, is all but the last
+pub elements-popped : (s : StoreState) (n : ℕ) → s.descriptor.pending ≡ None → n ≤ s.descriptor.size → elements_of (announced s None n) ≡ take n (elements_of s)
+elements-popped s n none fewer =
+    let t = announced s None n in
+    let long : length (take n (elements_of s)) ≡ n = length-take-le n (elements_of s) (omega (arith, length-elements s)) in
+    ext_get_or (pos 0) _ _ (length-elements t ∙ sym long) (λ i below.
+    let inside : i < n = omega (arith, length-elements t) in
+    get_or-elements t i (pos 0) inside ∙ sym (get_or-take n (elements_of s) i (pos 0) inside ∙ get_or-elements s i (pos 0) (omega arith) ∙ unpending s i none))
+
+-- an element that is announced below the size is set there
+pub elements-written : (s : StoreState) (i : ℕ) (x : ℤ) → s.descriptor.pending ≡ None → i < s.descriptor.size → elements_of (announced s (Some (i, x)) s.descriptor.size) ≡ set (elements_of s) i x
+elements-written s i x none inside =
+    let n = s.descriptor.size in
+    sym (
+    put_among (value_in s) 0 n i i x (pos 0) inside (omega arith)
+    ∙ same_at (λ k. if nat_eq i k then x else value_in s k) (value_in (announced s (Some (i, x)) n)) 0 n (pos 0) (λ k from below. ap (λ y. if nat_eq i k then x else y) (unpending s k none)))
+
+-- no write, and the same size, leaves the elements
+pub elements-unwritten : (s : StoreState) → s.descriptor.pending ≡ None → elements_of (announced s None s.descriptor.size) ≡ elements_of s
+elements-unwritten s none = same_at _ (value_in s) 0 s.descriptor.size (pos 0) (λ i from below. sym (unpending s i none))
