@@ -107,26 +107,26 @@ impl Summary for Greatest {
 }
 
 #[derive(Clone, Copy, Debug, PartialEq)]
-struct Run {
+struct RunTotals {
     total: i128,
     prefix: i128,
     suffix: i128,
     best: i128,
 }
 
-type Best = Option<Run>;
+type Best = Option<RunTotals>;
 
 impl Summary for Best {
     const EMPTY: Best = None;
 
     fn of(x: i64) -> Best {
         let x = i128::from(x);
-        Some(Run { total: x, prefix: x, suffix: x, best: x })
+        Some(RunTotals { total: x, prefix: x, suffix: x, best: x })
     }
 
     fn join(self, next: Best) -> Best {
         match (self, next) {
-            (Some(a), Some(b)) => Some(Run {
+            (Some(a), Some(b)) => Some(RunTotals {
                 total: a.total + b.total,
                 prefix: a.prefix.max(a.total + b.prefix),
                 suffix: b.suffix.max(b.total + a.suffix),
@@ -138,20 +138,20 @@ impl Summary for Best {
 }
 
 #[derive(Clone, Copy, Debug, PartialEq)]
-struct Line {
+struct AffineMap {
     a: u32,
     b: u32,
 }
 
-impl Summary for Line {
-    const EMPTY: Line = Line { a: 1, b: 0 };
+impl Summary for AffineMap {
+    const EMPTY: AffineMap = AffineMap { a: 1, b: 0 };
 
-    fn of(x: i64) -> Line {
-        Line { a: (x >> 8) as u32, b: (x & 255) as u32 }
+    fn of(x: i64) -> AffineMap {
+        AffineMap { a: (x >> 8) as u32, b: (x & 255) as u32 }
     }
 
-    fn join(self, next: Line) -> Line {
-        Line { a: self.a.wrapping_mul(next.a), b: next.a.wrapping_mul(self.b).wrapping_add(next.b) }
+    fn join(self, next: AffineMap) -> AffineMap {
+        AffineMap { a: self.a.wrapping_mul(next.a), b: next.a.wrapping_mul(self.b).wrapping_add(next.b) }
     }
 }
 
@@ -175,13 +175,13 @@ impl Summary for Automaton {
     }
 }
 
-type Six = (Sum, Least, Greatest, Best, Line, Automaton);
+type Six = (Sum, Least, Greatest, Best, AffineMap, Automaton);
 
 impl Summary for Six {
-    const EMPTY: Six = (Sum::EMPTY, Least::EMPTY, Greatest::EMPTY, Best::EMPTY, Line::EMPTY, Automaton::EMPTY);
+    const EMPTY: Six = (Sum::EMPTY, Least::EMPTY, Greatest::EMPTY, Best::EMPTY, AffineMap::EMPTY, Automaton::EMPTY);
 
     fn of(x: i64) -> Six {
-        (Sum::of(x), Least::of(x), Greatest::of(x), Best::of(x), Line::of(x), Automaton::of(x))
+        (Sum::of(x), Least::of(x), Greatest::of(x), Best::of(x), AffineMap::of(x), Automaton::of(x))
     }
 
     fn join(self, next: Six) -> Six {
@@ -203,7 +203,7 @@ fn show_folds() {
     show_fold::<Least>("fold least", &elements, 1_000_000);
     show_fold::<Greatest>("fold greatest", &elements, 1_000_000);
     show_fold::<Best>("fold best", &elements, 1_000_000);
-    show_fold::<Line>("fold affine", &elements, 1_000_000);
+    show_fold::<AffineMap>("fold affine", &elements, 1_000_000);
     show_fold::<Automaton>("fold automaton", &elements, 1_000_000);
     show_fold::<Six>("fold six", &elements, 1_048_560);
     show_fold::<Sum>("fold all sum", &elements, 1_048_560);

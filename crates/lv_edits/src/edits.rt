@@ -1,4 +1,4 @@
-ghost use Rattle.std.specs.Prelude.{◌≡◌, ℕ, ◌<◌, ◌≤◌, max, None, [], ◌∷◌, ◌++◌, length, OnOk, OnErr, IfErr, vec_len, vec_capacity};
+ghost use Rattle.std.specs.Prelude.{◌≡◌, ℕ, ◌+◌, ◌*◌, ◌<◌, ◌≤◌, max, None, [], ◌∷◌, ◌++◌, length, take, drop, OnOk, OnErr, IfErr, vec_len, vec_capacity};
 ghost use Rattle.std.specs.List.{slice_index_or};
 ghost use Rattle.lv_geometry.specs.Cells.{AreFewest, capacity_of};
 ghost use Rattle.lv_store.specs.Inner.{IsStore};
@@ -182,6 +182,16 @@ impl Edits {
         ensures limits { InLimits self.now }
     {
         self.store.read(i)
+    }
+
+    /// The elements of a block, all of whose indices are below the size.
+    #[inline(always)]
+    pub fn block(&self, block: u32) -> [i64; 8]
+        requires { (block + 1) * 8 ≤ length (list_of self.now.journal) }
+        ensures value { result ≡ take 8 (drop (block * 8) (list_of self.now.journal)) }
+        ensures limits { InLimits self.now }
+    {
+        self.store.cells(block)
     }
 
     /// How many elements there are.

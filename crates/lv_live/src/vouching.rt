@@ -10,7 +10,7 @@ ghost use Rattle.lv_refresh.specs.Honesty.{Stands};
 use lv_bodies::Body;
 use lv_edits::Edits;
 use lv_geometry::Node;
-use lv_refresh::{Contents, Eight, children_of, elements_of};
+use lv_refresh::{Contents, Eight, children_of};
 use lv_summary::Summaries;
 
 /// Whether contents are what stands at a whole node now.
@@ -41,7 +41,7 @@ fn have_elements(cells: &Edits, block: Node, elements: &[i64; 8]) -> bool
     requires whole { is_below block (length (list_of cells.now.journal)) ≡ true }
     ensures { IsTrue result ↔ (elements.now ≡ cells_of cells.now.journal block) }
 {
-    *elements == elements_of(cells, block.number)
+    *elements == cells.block(block.number)
 }
 
 // Whether summaries are those of a whole node's children, which are fresh. The cells are those that the table is of.

@@ -8,7 +8,7 @@ ghost use Rattle.lv_refresh.specs.Honesty.{Stands};
 ghost use Rattle.lv_refresh.specs.Inner.{CanServe, GivesNext, HintsNode, HintsWants, IsJobOf, ServesNext, children_fresh_in};
 
 use crate::contents::Contents;
-use crate::gathering::{children_of, elements_of};
+use crate::gathering::children_of;
 use crate::jobs::{Job, JobOf};
 use crate::level::Level;
 use crate::wants::wants;
@@ -263,7 +263,7 @@ fn block_job<B: Body>(
 {
     // The elements are few enough for a fold, and of 64 bits.
     let _size = cells.size();
-    let elements = elements_of(cells, node.number);
+    let elements = cells.block(node.number);
     Some(JobOf::new(node, version, Contents::Elements(elements), body))
 }
 

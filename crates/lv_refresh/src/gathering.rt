@@ -1,29 +1,12 @@
-ghost use Rattle.std.specs.Prelude.{◌≡◌, ℕ, ◌+◌, ◌-◌, ◌*◌, ◌^◌, ◌<◌, ◌≤◌, true, false, length, take, drop, slice_get, IfSome, IfNone};
+ghost use Rattle.std.specs.Prelude.{◌≡◌, ℕ, ◌+◌, ◌*◌, ◌^◌, ◌<◌, true, false, slice_get, IfSome, IfNone};
 ghost use Rattle.lv_geometry.specs.Nodes.{child};
-ghost use Rattle.lv_edits.specs.History.{list_of};
 ghost use Rattle.lv_summary.specs.Table.{entry_in, whole_in};
 ghost use Rattle.lv_refresh.specs.Contents.{in_order};
 ghost use Rattle.lv_refresh.specs.Inner.{children_fresh_in};
 
 use crate::contents::Eight;
-use lv_edits::Edits;
 use lv_geometry::Node;
 use lv_summary::Summaries;
-
-/// The elements of a block.
-#[inline(always)]
-pub fn elements_of(cells: &Edits, block: u32) -> [i64; 8]
-    requires { (block + 1) * 8 ≤ length (list_of cells.now.journal) }
-    ensures { result ≡ take 8 (drop (block * 8) (list_of cells.now.journal)) }
-{
-    // The size tells that the block's indices are numbers of 32 bits.
-    let _size = cells.size();
-    let mut elements = [0; 8];
-    for k in 0..8 {
-        elements[k as usize] = cells.read(block * 8 + k);
-    }
-    elements
-}
 
 /// The summaries of a whole node's children; none where one of them is not fresh.
 pub fn children_of<S: Copy>(table: &Summaries<S>, node: Node) -> Option<Eight<S>>

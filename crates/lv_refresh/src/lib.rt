@@ -16,7 +16,7 @@ mod wants;
 
 pub use claims::Claims;
 pub use contents::{Contents, Eight};
-pub use gathering::{children_of, elements_of};
+pub use gathering::children_of;
 pub use jobs::{Job, JobOf};
 pub use outcomes::{Outcome, OutcomeOf};
 

@@ -1,12 +1,12 @@
 -- The elements of a store as a list: what is at an index of it, and what each change of the store makes of it.
-use Rattle.std.proofs.Common.{◌≡◌, ℕ, ℤ, pos, ◌+◌, ◌<◌, ◌≤◌, if◌then◌else◌, Some, None, Option, [], ◌∷◌, ◌++◌, length, map, take, get_or, set, nat_eq, refl, sym, ap, ◌∙◌, arith}
+use Rattle.std.proofs.Common.{◌≡◌, ◌*◌, ℕ, ℤ, pos, ◌+◌, ◌<◌, ◌≤◌, if◌then◌else◌, Some, None, Option, [], ◌∷◌, ◌++◌, length, map, take, drop, get_or, set, nat_eq, refl, sym, ap, ◌∙◌, arith}
 use Rattle.std.specs.List.{range_with_len}
 use Rattle.std.proofs.lemmas.Bool.{cond-false, cond-true, eq-eqb, ne_eqb}
 use Rattle.std.proofs.lemmas.List.{ext_get_or, get_or-take, length-take-le}
 use Rattle.std.proofs.lemmas.List.FromFn.{get_or-map-range_with_len, length-map-range_with_len, map-range_with_len_more}
 use Rattle.lv_store.specs.Inner.{IsStore}
-use Rattle.lv_store.specs.State.{AreAlike, Opens, StoreState, announced, completed, elements_of, settled, value_in, written}
-use Rattle.lv_store.proofs.Blocks.{put_among, same_at}
+use Rattle.lv_store.specs.State.{AreAlike, Opens, StoreState, announced, completed, elements_of, indices_of, settled, value_in, written}
+use Rattle.lv_store.proofs.Blocks.{part_is, put_among, same_at}
 use Rattle.lv_store.proofs.ShowsLaws.{value_in-completed, value_in-opens}
 
 -- there are as many as the size says
@@ -16,6 +16,11 @@ length-elements s = length-map-range_with_len (value_in s) 0 s.descriptor.size
 -- the element at an index below the size
 pub get_or-elements : (s : StoreState) (i : ℕ) (d : ℤ) → i < s.descriptor.size → get_or (elements_of s) i d ≡ value_in s i
 get_or-elements s i d inside = get_or-map-range_with_len (value_in s) 0 s.descriptor.size i i d inside (omega arith)
+
+-- the elements of a block that is below the size
+pub block_of_elements : (s : StoreState) (block : ℕ) → 8 * block + 8 ≤ s.descriptor.size → map (value_in s) (indices_of block) ≡ take 8 (drop (8 * block) (elements_of s))
+block_of_elements s block inside =
+    sym (part_is (elements_of s) (8 * block) 8 (pos 0) (omega (arith, length-elements s)) ∙ same_at (λ i. get_or (elements_of s) i (pos 0)) (value_in s) (8 * block) 8 (pos 0) (λ i from below. get_or-elements s i (pos 0) (omega arith)))
 
 -- stores that read alike have the same elements
 pub elements_alike : (s t : StoreState) → AreAlike s t → elements_of t ≡ elements_of s
