@@ -1,5 +1,5 @@
 -- What a hub tells: each answer is that of a vector within the hub's limits, at some moment.
-use Rattle.std.specs.Prelude.{◌≡◌, Bool, ℕ, Option, IfSome, option_map, Result, Ok, Err}
+use Rattle.std.specs.Prelude.{◌≡◌, Bool, ℕ, Option, IfSome, option_map, Result, Ok, Err, IfOk, IfErr}
 use Rattle.lv_geometry.specs.Bounds.{Bounds}
 use Rattle.lv_geometry.specs.declared.refusals.Refusal.{Refusal}
 use Rattle.lv_geometry.specs.declared.refusals.Refusal.TheVariants.{Stranger}
@@ -17,6 +17,8 @@ use Rattle.lv_refresh.specs.Honesty.{IsHonest, Vouched}
 use Rattle.lv_refresh.specs.Record.{Record}
 use Rattle.lv_reduce.specs.declared.reductions.Answer.{Answer}
 use Rattle.lv_reduce.specs.declared.scans.Scan.{Scan}
+use Rattle.lv_reduce.specs.Answer.{IsScanRefusal}
+use Rattle.lv_reduce.specs.Stretch.{IsStretch, StretchState}
 use Rattle.lv_live.specs.State.{HasClaim, LiveState, node_and_version, recorded}
 use Rattle.lv_live.specs.Step.{Reduces, Scans}
 
@@ -43,6 +45,14 @@ pub record ScanTold {B S : Type 0} (operations : B → Operations S) (limits : B
   pub state : LiveState B S
   pub vector : IsVector limits state.history
   pub scans : Scans (operations state.body) (recorded state) lo hi inclusive result
+
+-- a range was copied as after some legal edits, with a body of this type
+pub record StretchTold {B : Type 0} (S : Type 0) (limits : Bounds) (lo hi : ℕ) (result : Result (StretchState B) Refusal) : Type 0 where
+  pub state : LiveState B S
+  pub vector : IsVector limits state.history
+  pub range : IfOk result (λ stretch. IsStretch state.history.journal lo hi stretch)
+  pub body : IfOk result (λ stretch. stretch.body ≡ state.body)
+  pub refused : IfErr result (λ refusal. IsScanRefusal state.history.journal lo hi refusal)
 
 -- a claim was answered as after some legal edits: by the least node that wants a job, whose contents were taken honestly, or by none
 pub record ClaimTold {B S : Type 0} (operations : B → Operations S) (limits : Bounds) (result : Option (Carried B S)) : Type 0 where

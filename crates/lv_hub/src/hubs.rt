@@ -1,6 +1,6 @@
 ghost use Rattle.std.specs.Prelude.{◌≡◌, ◌↔◌, ◌<◌, true, false, length, Err};
 ghost use Rattle.lv_hub.specs.Counting.{Counts};
-ghost use Rattle.lv_hub.specs.Told.{ClaimTold, EditTold, GiveTold, IsVector, ReductionTold, ScanTold};
+ghost use Rattle.lv_hub.specs.Told.{ClaimTold, EditTold, GiveTold, IsVector, ReductionTold, ScanTold, StretchTold};
 
 use crate::desks::Desk;
 use crate::naming::Naming;
@@ -9,12 +9,13 @@ use lv_bodies::Body;
 use lv_edits::{Edit, Receipt};
 use lv_geometry::{Limits, Refusal};
 use lv_live::Live;
-use lv_reduce::{Answer, Scan};
+use lv_reduce::{Answer, Scan, Stretch};
 use lv_refresh::{Job, Outcome};
 use lv_summary::Accepted;
 use std::alloc::Global;
 use std::sync::ledger::Blank;
 use std::sync::{Mutex, Wait};
+use std::thread::Threads;
 
 /// A live vector that threads share. Each of its calls but `new` and `close` waits for the lock, and holds it for one call of
 /// its desk.
@@ -67,8 +68,9 @@ impl<B: Body, N: Naming> Hub<B, N> {
         self.desk.lock(rt).live().reduce(lo, hi)
     }
 
-    /// The running folds of the elements from index `lo` up to `hi`, each with its own. Refused as `Live::scan_inclusive` is.
-    pub fn scan_inclusive<R: Wait>(
+    /// The running folds of the elements from index `lo` up to `hi`, each with its own, computed from a copy by several threads once
+    /// the lock is free again. Refused as `Live::scan_inclusive` is.
+    pub fn scan_inclusive<R: Threads + Wait + Sync>(
         &self,
         rt: &R,
         alloc: Global,
@@ -78,11 +80,12 @@ impl<B: Body, N: Naming> Hub<B, N> {
         ensures told { ScanTold (λ (body : B). B.operations (B.meaning body)) N.limits lo hi true result }
         ensures bad_range { (result ≡ Err Refusal.BadRange) ↔ (hi < lo) }
     {
-        self.desk.lock(rt).live().scan_inclusive(alloc, lo, hi)
+        self.scan(rt, alloc, lo, hi, true)
     }
 
-    /// The running folds of the elements from index `lo` up to `hi`, each without its own. Refused as `Live::scan_exclusive` is.
-    pub fn scan_exclusive<R: Wait>(
+    /// The running folds of the elements from index `lo` up to `hi`, each without its own, computed as those with it are. Refused as
+    /// `Live::scan_exclusive` is.
+    pub fn scan_exclusive<R: Threads + Wait + Sync>(
         &self,
         rt: &R,
         alloc: Global,
@@ -92,7 +95,52 @@ impl<B: Body, N: Naming> Hub<B, N> {
         ensures told { ScanTold (λ (body : B). B.operations (B.meaning body)) N.limits lo hi false result }
         ensures bad_range { (result ≡ Err Refusal.BadRange) ↔ (hi < lo) }
     {
-        self.desk.lock(rt).live().scan_exclusive(alloc, lo, hi)
+        self.scan(rt, alloc, lo, hi, false)
+    }
+
+    // One of the two scans, of a copy that is made under the lock.
+    fn scan<R: Threads + Wait + Sync>(
+        &self,
+        rt: &R,
+        alloc: Global,
+        lo: u32,
+        hi: u32,
+        inclusive: bool,
+    ) -> Result<Scan<B::S>, Refusal>
+        ensures told { ScanTold (λ (body : B). B.operations (B.meaning body)) N.limits lo hi inclusive result }
+        ensures bad_range { (result ≡ Err Refusal.BadRange) ↔ (hi < lo) }
+    {
+        let stretch = self.copy_range(rt, alloc, lo, hi)?;
+        stretch.scan(rt, alloc, inclusive)
+    }
+
+    // The same by the thread that asks, as a session has one of its own.
+    pub(crate) fn scan_alone<R: Wait>(
+        &self,
+        rt: &R,
+        alloc: Global,
+        lo: u32,
+        hi: u32,
+        inclusive: bool,
+    ) -> Result<Scan<B::S>, Refusal>
+        ensures told { ScanTold (λ (body : B). B.operations (B.meaning body)) N.limits lo hi inclusive result }
+        ensures bad_range { (result ≡ Err Refusal.BadRange) ↔ (hi < lo) }
+    {
+        let stretch = self.copy_range(rt, alloc, lo, hi)?;
+        stretch.scan_alone(alloc, inclusive)
+    }
+
+    // The elements of a range, copied under the lock.
+    fn copy_range<R: Wait>(
+        &self,
+        rt: &R,
+        alloc: Global,
+        lo: u32,
+        hi: u32,
+    ) -> Result<Stretch<B>, Refusal>
+        ensures { StretchTold B.S N.limits lo hi result }
+    {
+        self.desk.lock(rt).live().copy_range(alloc, lo, hi)
     }
 
     /// A job for the least node that wants one, or none. Takes no memory.

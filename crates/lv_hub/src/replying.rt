@@ -3,16 +3,14 @@ ghost use Rattle.lv_script.specs.declared.transcripts.Claimed.{Claimed};
 ghost use Rattle.lv_script.specs.Output.{Writes, WritesFront};
 ghost use Rattle.lv_hub.specs.Counting.{Holding};
 ghost use Rattle.lv_hub.specs.Session.{LineAnswer, RequestAnswer, SessionState, TellsEdit, TellsReduction, TellsScan, operations_of_six, session_at};
-ghost use Rattle.lv_hub.specs.Told.{ScanTold};
 
 use crate::hubs::Hub;
 use crate::naming::Naming;
 use crate::requests::{Request, request_of};
 use crate::shares::Share;
-use lv_bodies::{Body, Kind, Six, face};
+use lv_bodies::{Kind, Six, face};
 use lv_edits::Edit;
 use lv_geometry::Refusal;
-use lv_reduce::Scan;
 use lv_script::{
     Claimed, Fault, LINE, Line, put_answer, put_bad, put_receipt, put_refusal, put_scan,
 };
@@ -178,7 +176,7 @@ fn put_scanned<N: Naming, T: Wait, W: Write>(
         × WritesFront (W.contents writer.old) held.old.items (W.contents writer.new) reply) }
     ensures room { vec_capacity held.old ≤ vec_capacity held.new }
 {
-    match scan(rt, alloc, hub, inclusive, lo, hi) {
+    match hub.scan_alone(rt, alloc, lo, hi, inclusive) {
         Ok(scan) => put_scan(
             writer,
             held,
@@ -191,23 +189,5 @@ fn put_scanned<N: Naming, T: Wait, W: Write>(
             put_refusal(held, refusal);
             Ok(())
         }
-    }
-}
-
-// One of the two scans.
-fn scan<N: Naming, T: Wait>(
-    rt: &T,
-    alloc: Global,
-    hub: &Hub<Six, N>,
-    inclusive: bool,
-    lo: u32,
-    hi: u32,
-) -> Result<Scan<<Six as Body>::S>, Refusal>
-    ensures { ScanTold operations_of_six N.limits lo hi inclusive result }
-{
-    if inclusive {
-        hub.scan_inclusive(rt, alloc, lo, hi)
-    } else {
-        hub.scan_exclusive(rt, alloc, lo, hi)
     }
 }

@@ -8,7 +8,9 @@ ghost use Rattle.lv_refresh.specs.Claim.{IsNextJob};
 ghost use Rattle.lv_refresh.specs.Delivery.{delivery_of};
 ghost use Rattle.lv_refresh.specs.Honesty.{IsHonest, Vouched};
 ghost use Rattle.lv_refresh.specs.Record.{is_fresh};
+ghost use Rattle.lv_reduce.specs.Answer.{IsScanRefusal};
 ghost use Rattle.lv_reduce.specs.Cost.{IsFew};
+ghost use Rattle.lv_reduce.specs.Stretch.{IsStretch};
 ghost use Rattle.lv_live.specs.State.{HasClaim, HasDelivery, HasNoClaims, SameLive, SameRefresh, node_and_version, recorded};
 ghost use Rattle.lv_live.specs.Step.{Reduces, Scans};
 
@@ -17,7 +19,7 @@ use crate::vouching::stands_here;
 use lv_bodies::Body;
 use lv_edits::{Edit, Edits, Receipt};
 use lv_geometry::{Limits, Refusal};
-use lv_reduce::{Answer, Scan, View};
+use lv_reduce::{Answer, Scan, Stretch, View};
 use lv_refresh::{Claims, Job, Outcome};
 use lv_summary::{Accepted, Summaries};
 use std::alloc::Global;
@@ -154,6 +156,15 @@ impl<B: Body> Live<B> {
         ensures { Scans (B.operations (B.meaning self.now.body)) (recorded self.now) lo hi false result }
     {
         lv_reduce::scan_exclusive(alloc, self.view(), &self.body, lo, hi)
+    }
+
+    /// The elements from index `lo` up to `hi`, copied, to be scanned while the vector is edited. Refused as a scan is.
+    pub fn copy_range(&self, alloc: Global, lo: u32, hi: u32) -> Result<Stretch<B>, Refusal>
+        ensures ok { IfOk result (λ stretch. IsStretch self.now.history.journal lo hi stretch) }
+        ensures body { IfOk result (λ stretch. stretch.body ≡ self.now.body) }
+        ensures err { IfErr result (λ refusal. IsScanRefusal self.now.history.journal lo hi refusal) }
+    {
+        Stretch::copy(alloc, &self.cells, self.body, lo, hi)
     }
 
     /// A job for the least node that wants one, or none. Takes no memory.

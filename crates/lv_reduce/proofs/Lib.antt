@@ -1,4 +1,5 @@
 mod Bounds
+mod ChunkLaws
 mod Counting
 mod GreatestLaws
 mod NodeLaws

@@ -1,5 +1,5 @@
 -- What a query over a range of the vector answers.
-use Rattle.std.specs.Prelude.{◌≡◌, ◌⊎◌, ℕ, Bool, ℤ, Option, Some, None, List, length, nat_lt, if◌then◌else◌}
+use Rattle.std.specs.Prelude.{◌≡◌, ℕ, Bool, ℤ, Option, Some, None, List, length, nat_lt, if◌then◌else◌}
 use Rattle.std.specs.List.{slice_range}
 use Rattle.lv_geometry.specs.declared.refusals.Refusal.{Refusal}
 use Rattle.lv_geometry.specs.declared.refusals.Refusal.TheVariants.{BadRange, OutOfRange}
@@ -28,6 +28,12 @@ pub record IsAnswer {S : Type 0} (o : Operations S) (edits : List Edit) (lo hi :
   pub granted : range_refusal edits lo hi ≡ None
   pub edit : answer.edit ≡ length edits
   pub value : answer.value ≡ fold_of o (slice_of edits lo hi)
+
+-- the same, told as the number of the last edit and the fold
+pub record IsTotal {S : Type 0} (o : Operations S) (edits : List Edit) (lo hi : ℕ) (answer : ℕ × S) : Type 0 where
+  pub granted : range_refusal edits lo hi ≡ None
+  pub edit : answer.0 ≡ length edits
+  pub value : answer.1 ≡ fold_of o (slice_of edits lo hi)
 
 -- a scan's answer: nothing refuses the range, and it has these values at the last edit
 pub record IsScan {S : Type 0} (edits : List Edit) (lo hi : ℕ) (values : List S) (scan : Scan S) : Type 0 where

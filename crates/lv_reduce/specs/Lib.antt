@@ -1,3 +1,5 @@
 pub mod Answer
 pub mod Cost
 pub mod Pieces
+pub mod Running
+pub mod Stretch

@@ -2,6 +2,8 @@ ghost use Rattle.std.specs.Prelude.{◌≡◌, ◌≤◌, IfOk};
 ghost use Rattle.lv_bodies.specs.Sums.{sum_operations};
 ghost use Rattle.lv_summary.specs.Agrees.{Agrees};
 
+mod parallel;
+
 use super::*;
 use lv_bodies::Sum;
 use lv_edits::Edits;

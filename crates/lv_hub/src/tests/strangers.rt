@@ -14,6 +14,7 @@ use std::process::Abort;
 use std::sync::Wait;
 use std::sync::ledger::Blank;
 use std::test::Fail;
+use std::thread::Threads;
 
 // Makes a new hub one of eight equal elements, and computes its first job.
 fn outcome_of_eight<B: Body, N: Naming, R: Wait>(
@@ -100,7 +101,7 @@ fn assert_own_alone<N: Naming, R: Wait + Abort>(
 }
 
 // Sees that a hub of eight elements 1 follows a write of 5, and that the other's outcome is late now.
-fn assert_follows<N: Naming, R: Wait + Abort>(
+fn assert_follows<N: Naming, R: Threads + Wait + Abort + Sync>(
     rt: &R,
     alloc: Global,
     hub: &Hub<Sum, N>,
@@ -112,7 +113,7 @@ fn assert_follows<N: Naming, R: Wait + Abort>(
 }
 
 // Sees both scans of the elements 5 and 1 that a hub begins with at edit 9.
-fn assert_scans<N: Naming, R: Wait + Abort>(
+fn assert_scans<N: Naming, R: Threads + Wait + Abort + Sync>(
     rt: &R,
     alloc: Global,
     hub: &Hub<Sum, N>,
@@ -123,7 +124,7 @@ fn assert_scans<N: Naming, R: Wait + Abort>(
 }
 
 // Makes a new hub one of eight elements 1, and gives it an outcome of another before and after a write.
-fn assert_strangers<N: Naming, R: Wait + Abort>(
+fn assert_strangers<N: Naming, R: Threads + Wait + Abort + Sync>(
     rt: &R,
     alloc: Global,
     hub: &Hub<Sum, N>,
@@ -139,7 +140,7 @@ fn assert_strangers<N: Naming, R: Wait + Abort>(
 }
 
 // A hub of eight elements 1, given an outcome of another before and after a write, and closed.
-fn one_hub_of_two<N: Naming, R: Wait + Abort>(
+fn one_hub_of_two<N: Naming, R: Threads + Wait + Abort + Sync>(
     rt: &R,
     alloc: Global,
     limits: Limits,

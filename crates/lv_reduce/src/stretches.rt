@@ -1,0 +1,95 @@
+ghost use Rattle.std.specs.Prelude.{◌≡◌, IfOk, IfErr};
+ghost use Rattle.lv_reduce.specs.Answer.{IsScanRefusal, scan_of};
+ghost use Rattle.lv_reduce.specs.Stretch.{IsStretch};
+
+use crate::parallel::{copy_range, par_scan_slice, scan_alone};
+use crate::scans::Scan;
+use crate::values::Values;
+use crate::views::refusal_of;
+use lv_bodies::Body;
+use lv_edits::Edits;
+use lv_geometry::Refusal;
+use std::alloc::Global;
+use std::marker::Model;
+use std::thread::Threads;
+
+/// The elements of a range, copied out of a vector, so that it may be edited while they are scanned.
+#[derive(Drop)]
+pub struct Stretch<B> {
+    body: B,
+    edit: u32,
+    elements: Vec<i64>,
+}
+
+impl<B> Model for Stretch<B> {
+    ghost use Rattle.std.specs.Prelude.{◌≤◌, ◌^◌, length};
+    ghost use Rattle.lv_reduce.specs.Stretch.{StretchState};
+
+    ghost Value = { StretchState B };
+
+    ghost view = { λ a. record { body = a.body; edit = a.edit; elements = a.elements.items } };
+
+    ghost invariant = { λ a. length a.elements.items ≤ 2 ^ 20 };
+}
+
+impl<B: Body> Stretch<B> {
+    /// Copies the elements from index `lo` up to `hi`. Refused with `BadRange`, `OutOfRange`, then `NoMemory`; the room for all is
+    /// made at once.
+    pub fn copy(
+        alloc: Global,
+        cells: &Edits,
+        body: B,
+        lo: u32,
+        hi: u32,
+    ) -> Result<Stretch<B>, Refusal>
+        ensures ok { IfOk result (λ stretch. IsStretch cells.now.journal lo hi stretch) }
+        ensures body { IfOk result (λ stretch. stretch.body ≡ body) }
+        ensures err { IfErr result (λ refusal. IsScanRefusal cells.now.journal lo hi refusal) }
+    {
+        if let Some(refusal) = refusal_of(cells, lo, hi) {
+            return Err(refusal);
+        }
+        let Ok(elements) = copy_range(alloc, cells, lo, hi) else {
+            return Err(Refusal::NoMemory);
+        };
+        Ok(Stretch {
+            body,
+            edit: cells.edit(),
+            elements,
+        })
+    }
+
+    /// One of the two scans of the elements, told with the number of the edit after which they were copied, by as many threads as
+    /// there are processors. Refused with `NoMemory` alone.
+    pub fn scan<R: Threads + Sync>(
+        &self,
+        rt: &R,
+        alloc: Global,
+        inclusive: bool,
+    ) -> Result<Scan<B::S>, Refusal>
+        ensures edit { IfOk result (λ scan. scan.edit ≡ self.now.edit) }
+        ensures values { IfOk result (λ scan. scan.values ≡ scan_of inclusive (B.operations (B.meaning self.now.body)) self.now.elements) }
+        ensures err { IfErr result (λ refusal. refusal ≡ Refusal.NoMemory) }
+    {
+        let values = par_scan_slice(rt, alloc, &self.body, self.elements.as_slice(), inclusive)?;
+        Ok(Scan {
+            edit: self.edit,
+            values,
+        })
+    }
+
+    /// The same by the thread that asks. Refused with `NoMemory` alone.
+    pub fn scan_alone(&self, alloc: Global, inclusive: bool) -> Result<Scan<B::S>, Refusal>
+        ensures edit { IfOk result (λ scan. scan.edit ≡ self.now.edit) }
+        ensures values { IfOk result (λ scan. scan.values ≡ scan_of inclusive (B.operations (B.meaning self.now.body)) self.now.elements) }
+        ensures err { IfErr result (λ refusal. refusal ≡ Refusal.NoMemory) }
+    {
+        let Ok(values) = scan_alone(alloc, &self.body, self.elements.as_slice(), inclusive) else {
+            return Err(Refusal::NoMemory);
+        };
+        Ok(Scan {
+            edit: self.edit,
+            values: Values::from_vec(values),
+        })
+    }
+}
