@@ -12,12 +12,15 @@ pub mod Optional
 pub mod OptionalLaws
 pub mod PairLaws
 pub mod Pairs
+pub mod Parts
+pub mod PartsLaws
 pub mod Plain
 pub mod PlainLaws
 pub mod RemainderLaws
 pub mod TotalsLaws
 pub mod RunTotals
 pub mod Scan
+pub mod ShortLaws
 pub mod Six
 pub mod SumLaws
 pub mod Sums

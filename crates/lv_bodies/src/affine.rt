@@ -2,6 +2,7 @@ ghost use Rattle.std.specs.Prelude.{◌≡◌};
 
 use crate::bodies::Body;
 use crate::kinds::{Kind, Shown};
+use crate::parts::Parted;
 use crate::singles::Single;
 
 /// The map `y -> a * y + b` modulo 2^32.
@@ -102,4 +103,35 @@ impl Single for Affine {
     }
 
     ghost shows_plain = { λ _ xs can. let same = fold_of-affine xs can in shown_alike _ _ _ _ same.0 same.1 };
+}
+
+impl Parted for Affine {
+    ghost use Rattle.lv_bodies.specs.Parts.{affine_parts, affine_of_parts};
+    ghost use Rattle.lv_bodies.specs.PartsLaws.{affine-are_parts, affine-has_parts};
+    ghost use Rattle.std.proofs.Common.{lit≤};
+
+    ghost PARTS = { 2 };
+
+    const PARTS: u32 = 2;
+
+    ghost some = { (lit≤ tt, lit≤ tt) };
+
+    ghost parts_of = { affine_parts };
+
+    ghost whole_of = { affine_of_parts };
+
+    ghost are_parts = { affine-are_parts };
+
+    fn to_parts(s: AffineMap) -> [u32; 4] {
+        [s.a, s.b, 0, 0]
+    }
+
+    fn of_parts(parts: [u32; 4]) -> AffineMap {
+        AffineMap {
+            a: parts[0],
+            b: parts[1],
+        }
+    }
+
+    ghost has_parts = { λ _. affine-has_parts };
 }

@@ -1,9 +1,11 @@
 ghost use Rattle.std.specs.Prelude.{◌≡◌, ◌↔◌, ℕ, ◌<◌, ◌≤◌, IsTrue, IsOk, IfOk, IsErrOf, nat_lt, List, length, map, slice_index, All, Any};
 ghost use Rattle.std.specs.List.{list_all};
 ghost use Rattle.lv_bodies.specs.Tables.{is_table, has_states, join_state_maps};
+ghost use Rattle.lv_bodies.specs.Parts.{packed_states, states_in};
 
 use crate::bodies::Body;
 use crate::kinds::{Kind, Shown};
+use crate::parts::Parted;
 use crate::singles::Single;
 use lv_geometry::Refusal;
 use std::alloc::AllocError;
@@ -165,4 +167,51 @@ impl Single for Automaton {
     }
 
     ghost shows_plain = { λ a xs _. ap shown.Automaton (fold_of-automaton (table_of a) xs) };
+}
+
+/// Eight states in three bits each: bits `3 * q + 2` to `3 * q` have that of `q`.
+fn pack(states: [u8; 8]) -> u32
+    ensures { result ≡ packed_states states }
+{
+    let [a, b, c, d, e, f, g, h] = states.map(|state| u32::from(state % 8));
+    a + (b << 3) + (c << 6) + (d << 9) + (e << 12) + (f << 15) + (g << 18) + (h << 21)
+}
+
+/// The eight states in these bits.
+fn unpack(bits: u32) -> [u8; 8]
+    ensures { result ≡ states_in bits }
+{
+    let mut states = [0; 8];
+    for q in 0..8 {
+        states[q] = ((bits >> (3 * q)) % 8) as u8;
+    }
+    states
+}
+
+impl Parted for Automaton {
+    ghost use Rattle.lv_bodies.specs.Parts.{automaton_parts, automaton_of_parts};
+    ghost use Rattle.lv_bodies.specs.PartsLaws.{automaton-are_parts, automaton-has_parts};
+    ghost use Rattle.std.proofs.Common.{lit≤};
+
+    ghost PARTS = { 1 };
+
+    const PARTS: u32 = 1;
+
+    ghost some = { (lit≤ tt, lit≤ tt) };
+
+    ghost parts_of = { automaton_parts };
+
+    ghost whole_of = { automaton_of_parts };
+
+    ghost are_parts = { automaton-are_parts };
+
+    fn to_parts(s: [u8; 8]) -> [u32; 4] {
+        [pack(s), 0, 0, 0]
+    }
+
+    fn of_parts(parts: [u32; 4]) -> [u8; 8] {
+        unpack(parts[0])
+    }
+
+    ghost has_parts = { λ a. automaton-has_parts a.table a.valid };
 }

@@ -2,6 +2,7 @@ ghost use Rattle.std.specs.Prelude.{◌≡◌};
 
 use crate::bodies::Body;
 use crate::kinds::{Kind, Shown};
+use crate::parts::{Parted, low_bits};
 use crate::singles::Single;
 
 /// What is kept of some neighbours, of which there is at least one.
@@ -120,4 +121,46 @@ impl Single for Best {
     }
 
     ghost shows_plain = { λ _ xs _. ap shown.Best (fold_of-best xs) };
+}
+
+impl Parted for Best {
+    ghost use Rattle.lv_bodies.specs.Parts.{best_parts, best_of_parts};
+    ghost use Rattle.lv_bodies.specs.PartsLaws.{best-are_parts, best-has_parts};
+    ghost use Rattle.std.proofs.Common.{lit≤};
+
+    ghost PARTS = { 4 };
+
+    const PARTS: u32 = 4;
+
+    ghost some = { (lit≤ tt, lit≤ tt) };
+
+    ghost parts_of = { best_parts };
+
+    ghost whole_of = { best_of_parts };
+
+    ghost are_parts = { best-are_parts };
+
+    fn to_parts(s: Option<RunTotals>) -> [u32; 4] {
+        let Some(run) = s else {
+            return [0; 4];
+        };
+        [
+            low_bits(run.total),
+            low_bits(run.prefix),
+            low_bits(run.suffix),
+            low_bits(run.best),
+        ]
+    }
+
+    fn of_parts(parts: [u32; 4]) -> Option<RunTotals> {
+        let [total, prefix, suffix, best] = parts.map(|part| i128::from(part.cast_signed()));
+        Some(RunTotals {
+            total,
+            prefix,
+            suffix,
+            best,
+        })
+    }
+
+    ghost has_parts = { λ _. best-has_parts };
 }

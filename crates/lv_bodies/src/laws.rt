@@ -1,9 +1,11 @@
 ghost use Rattle.std.specs.Prelude.{◌≡◌, ℤ, List};
 ghost use Rattle.lv_bodies.specs.Body.{fold_of};
+ghost use Rattle.lv_bodies.specs.Parts.{HasParts};
 ghost use Rattle.lv_bodies.specs.Plain.{plain_least, plain_greatest, plain_best, IsPlainLeast, IsPlainGreatest, IsPlainBest};
 
 use crate::bodies::Body;
 use crate::pairs::Pair;
+use crate::parts::Parted;
 
 /// The plain least and greatest are reached bounds: there is none exactly where there are no elements, and else it is
 /// an element that no element goes below, or above.
@@ -22,4 +24,9 @@ pub fn best_is_the_best_run()
 pub fn pair_folds_apart<A: Body, B: Body>()
     ensures { (m : A.Meaning) (n : B.Meaning) (xs : List ℤ) →
         fold_of (⟦<Pair<A, B> as Body>⟧.operations (m, n)) xs ≡ (fold_of (A.operations m) xs, fold_of (B.operations n) xs) }
+{}
+
+/// The fold of eight elements of 16 bits is the whole of its parts.
+pub fn eight_come_back_from_parts<B: Parted>()
+    ensures { (b : B) → HasParts B.parts_of B.whole_of (B.operations (B.meaning b)) }
 {}

@@ -1,5 +1,6 @@
 use crate::bodies::Body;
 use crate::kinds::{Kind, Shown};
+use crate::parts::{Parted, low_bits};
 use crate::singles::Single;
 
 /// The least element, if there is one.
@@ -71,4 +72,32 @@ impl Single for Least {
     }
 
     ghost shows_plain = { λ _ xs _. ap shown.Least (fold_of-least xs) };
+}
+
+impl Parted for Least {
+    ghost use Rattle.lv_bodies.specs.Parts.{extreme_parts, extreme_of_parts};
+    ghost use Rattle.lv_bodies.specs.PartsLaws.{extreme-are_parts, least-has_parts};
+    ghost use Rattle.std.proofs.Common.{lit≤};
+
+    ghost PARTS = { 1 };
+
+    const PARTS: u32 = 1;
+
+    ghost some = { (lit≤ tt, lit≤ tt) };
+
+    ghost parts_of = { extreme_parts };
+
+    ghost whole_of = { extreme_of_parts };
+
+    ghost are_parts = { extreme-are_parts };
+
+    fn to_parts(s: Option<i64>) -> [u32; 4] {
+        [low_bits(i128::from(s.unwrap_or(0))), 0, 0, 0]
+    }
+
+    fn of_parts(parts: [u32; 4]) -> Option<i64> {
+        Some(i64::from(parts[0].cast_signed()))
+    }
+
+    ghost has_parts = { λ _. least-has_parts };
 }

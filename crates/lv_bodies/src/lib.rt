@@ -15,6 +15,7 @@ mod kinds;
 mod laws;
 mod least;
 mod pairs;
+mod parts;
 mod singles;
 mod sixes;
 mod sums;
@@ -26,12 +27,12 @@ pub use bodies::Body;
 pub use folds::{fold_more, fold_slice};
 pub use greatest::Greatest;
 pub use kinds::{Kind, Shown};
-pub use laws::{best_is_the_best_run, extremes_are_reached_bounds, pair_folds_apart};
+pub use laws::{
+    best_is_the_best_run, eight_come_back_from_parts, extremes_are_reached_bounds, pair_folds_apart,
+};
 pub use least::Least;
 pub use pairs::Pair;
+pub use parts::Parted;
 pub use singles::Single;
 pub use sixes::{Six, SixPairs, face};
 pub use sums::Sum;
-
-#[cfg(test)]
-mod tests;

@@ -2,6 +2,7 @@ ghost use Rattle.std.specs.Prelude.{◌≡◌, ◌↔◌, ℕ, ℤ, IsTrue};
 
 use crate::bodies::Body;
 use crate::kinds::{Kind, Shown};
+use crate::parts::Parted;
 use crate::singles::Single;
 
 /// The sum of the elements modulo 2^64.
@@ -69,4 +70,32 @@ impl Single for Sum {
     }
 
     ghost shows_plain = { λ _ xs _. ap shown.Sum (fold_of-sum xs) };
+}
+
+impl Parted for Sum {
+    ghost use Rattle.lv_bodies.specs.Parts.{sum_parts, sum_of_parts};
+    ghost use Rattle.lv_bodies.specs.PartsLaws.{sum-are_parts, sum-has_parts};
+    ghost use Rattle.std.proofs.Common.{lit≤};
+
+    ghost PARTS = { 1 };
+
+    const PARTS: u32 = 1;
+
+    ghost some = { (lit≤ tt, lit≤ tt) };
+
+    ghost parts_of = { sum_parts };
+
+    ghost whole_of = { sum_of_parts };
+
+    ghost are_parts = { sum-are_parts };
+
+    fn to_parts(s: u64) -> [u32; 4] {
+        [(s % (1 << 32)) as u32, 0, 0, 0]
+    }
+
+    fn of_parts(parts: [u32; 4]) -> u64 {
+        i64::from(parts[0].cast_signed()).cast_unsigned()
+    }
+
+    ghost has_parts = { λ _. sum-has_parts };
 }

@@ -1,0 +1,41 @@
+ghost use Rattle.std.specs.Prelude.{◌≡◌, ℕ, ◌≤◌, List};
+ghost use Rattle.lv_bodies.specs.Parts.{AreParts, HasParts, low_32};
+
+use crate::singles::Single;
+
+/// A body of one kind, whose summary of eight elements of 16 bits (-32768 to 32767) fits one to four numbers of 32 bits,
+/// its parts. Of other summaries the parts may tell less.
+pub trait Parted: Single {
+    ghost PARTS: { ℕ };
+
+    /// How many parts a summary has: 1 to 4.
+    const PARTS: u32;
+
+    ghost some: { (1 ≤ PARTS) × (PARTS ≤ 4) };
+
+    ghost parts_of: { Self.S → List ℕ };
+
+    ghost whole_of: { List ℕ → Self.S };
+
+    // Four numbers of 32 bits, of which those from `PARTS` on are 0.
+    ghost are_parts: { AreParts PARTS parts_of };
+
+    /// The parts of a summary, of which there are `PARTS`; the rest are 0.
+    fn to_parts(s: Self::S) -> [u32; 4]
+        ensures { result ≡ parts_of s };
+
+    /// The summary that has these parts, where they are those of eight elements of 16 bits.
+    fn of_parts(parts: [u32; 4]) -> Self::S
+        ensures { result ≡ whole_of parts };
+
+    /// The summary of eight elements of 16 bits is that of its parts.
+    ghost has_parts: { (b : Self) → HasParts parts_of whole_of (Self.operations (Self.meaning b)) };
+}
+
+/// The low 32 bits of a number, as those of two's complement.
+#[inline(always)]
+pub(crate) fn low_bits(x: i128) -> u32
+    ensures { result ≡ low_32 x }
+{
+    (x.cast_unsigned() % (1 << 32)) as u32
+}
