@@ -12,6 +12,3 @@ mod receipt;
 pub use edit::Edit;
 pub use edits::Edits;
 pub use receipt::Receipt;
-
-#[cfg(test)]
-mod tests;

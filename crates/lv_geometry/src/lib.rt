@@ -16,6 +16,3 @@ pub use limits::Limits;
 pub use nodes::{Node, block_of};
 pub use places::Place;
 pub use refusals::Refusal;
-
-#[cfg(test)]
-mod tests;

@@ -2,3 +2,4 @@ pub mod Follows
 pub mod PlainAnswers
 pub mod State
 pub mod Step
+pub mod Turns

@@ -22,6 +22,3 @@ pub use theorems::{
     refusals_change_nothing,
 };
 pub use worlds::{World, run};
-
-#[cfg(test)]
-mod tests;

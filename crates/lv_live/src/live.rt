@@ -1,4 +1,4 @@
-ghost use Rattle.std.specs.Prelude.{◌≡◌, ◌↔◌, ◌+◌, ◌*◌, ◌/◌, ◌<◌, ◌≤◌, IsTrue, None, option_map, [], length, IfOk, IfSome, OnOk, OnErr, IfErr, true, false};
+ghost use Rattle.std.specs.Prelude.{◌≡◌, ◌↔◌, ◌+◌, ◌*◌, ◌/◌, ◌<◌, ◌≤◌, IsTrue, None, Some, option_map, [], length, IfOk, IfSome, OnOk, OnErr, IfErr, true, false};
 ghost use Rattle.lv_geometry.specs.declared.nodes.Node.{Node};
 ghost use Rattle.lv_edits.specs.Capacity.{capacity_after};
 ghost use Rattle.lv_edits.specs.History.{list_of};
@@ -8,11 +8,15 @@ ghost use Rattle.lv_refresh.specs.Claim.{IsNextJob};
 ghost use Rattle.lv_refresh.specs.Delivery.{delivery_of};
 ghost use Rattle.lv_refresh.specs.Honesty.{IsHonest, Vouched};
 ghost use Rattle.lv_refresh.specs.Record.{is_fresh};
-ghost use Rattle.lv_reduce.specs.Answer.{IsScanRefusal};
+ghost use Rattle.lv_summary.specs.Agrees.{Agrees};
+ghost use Rattle.lv_summary.specs.Table.{OnlyLearns, known_in};
+ghost use Rattle.lv_reduce.specs.Answer.{IsAnswer, IsScanRefusal, range_refusal};
+ghost use Rattle.lv_reduce.specs.Asked.{AreTopsKnown, IsFewAsked};
 ghost use Rattle.lv_reduce.specs.Cost.{IsFew};
 ghost use Rattle.lv_reduce.specs.Stretch.{IsStretch};
 ghost use Rattle.lv_live.specs.State.{HasClaim, HasDelivery, HasNoClaims, SameLive, SameRefresh, node_and_version, recorded};
 ghost use Rattle.lv_live.specs.Step.{Reduces, Scans};
+ghost use Rattle.lv_live.specs.Turns.{TakesTurns};
 
 use crate::following::{follow, make_room, touched_index};
 use crate::vouching::stands_here;
@@ -143,6 +147,23 @@ impl<B: Body> Live<B> {
         lv_reduce::reduce(self.view(), &self.body, lo, hi)
     }
 
+    /// What `reduce` answers, keeping what is computed for it: so a range that was asked for costs at most 14 cells and 84 summaries
+    /// until an edit touches it. Edits, claims and delivered versions stay as they are, and so does what `reduce` counts. Refused
+    /// with `BadRange`, then `OutOfRange`. Takes no memory.
+    pub fn ask(&mut self, lo: u32, hi: u32) -> Result<Answer<B::S>, Refusal>
+        ensures ok { IfOk result (λ answer. IsAnswer (B.operations (B.meaning self.old.body)) self.old.history.journal lo hi answer) }
+        ensures err { IfErr result (λ refusal. range_refusal self.old.history.journal lo hi ≡ Some refusal) }
+        ensures same { SameLive self.old self.new }
+        ensures unchanged { OnErr result (self.new.table ≡ self.old.table) }
+        ensures agrees { Agrees (B.operations (B.meaning self.new.body)) self.new.history.journal self.new.table }
+        ensures learns { OnlyLearns self.old.table self.new.table }
+        ensures known { IfOk result (λ _. AreTopsKnown (known_in self.new.table) lo hi) }
+        ensures quiet { AreTopsKnown (known_in self.old.table) lo hi → self.new.table ≡ self.old.table }
+        ensures few { IfOk result (λ answer. IsFewAsked (known_in self.old.table) (known_in self.new.table) lo hi answer.cells_read answer.summaries_read) }
+    {
+        lv_reduce::ask(&self.cells, &mut self.table, &self.body, lo, hi)
+    }
+
     /// The running folds of the elements from index `lo` up to `hi`, each with its own. Refused with `BadRange`, `OutOfRange`,
     /// then `NoMemory`.
     pub fn scan_inclusive(&self, alloc: Global, lo: u32, hi: u32) -> Result<Scan<B::S>, Refusal>
@@ -176,6 +197,24 @@ impl<B: Body> Live<B> {
         ensures honest { IfSome result (λ job. IsHonest (B.operations (B.meaning self.old.body)) (recorded self.new) job.node job.version job.contents) }
     {
         self.claims.claim(&self.cells, &self.table, self.body)
+    }
+
+    /// Does jobs in place, the least first, at most so many: each is claimed, run and delivered. Tells how many it did; fewer than
+    /// it might where no node wants a job any longer. Takes no memory.
+    pub fn refresh(&mut self, jobs: u32) -> u32
+        ensures turns { TakesTurns (B.operations (B.meaning self.old.body)) self.old self.new result }
+        ensures most { result ≤ jobs }
+        ensures idle { result < jobs → IsNextJob (recorded self.new) None }
+    {
+        // Each edit is within the limits.
+        let _size = self.cells.size();
+        for done in 0..jobs {
+            let Some(job) = self.claim() else {
+                return done;
+            };
+            let _ = self.accept(job.run());
+        }
+        jobs
     }
 
     /// Forgets all claims. Jobs that were handed out stay good. Takes no memory.

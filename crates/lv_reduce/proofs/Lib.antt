@@ -1,10 +1,12 @@
+mod AskLaws
 mod Bounds
 mod ChunkLaws
 mod Counting
 mod GreatestLaws
-mod NodeLaws
-mod PieceLaws
-mod ScanLaws
+pub mod KnowLaws
+pub mod NodeLaws
+pub mod PieceLaws
+pub mod ScanLaws
 mod UsedLaws
 mod Walk
 mod Zeros

@@ -1,4 +1,5 @@
 pub mod Answer
+pub mod Asked
 pub mod Cost
 pub mod Pieces
 pub mod Running

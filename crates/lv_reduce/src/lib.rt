@@ -2,10 +2,11 @@
 //!
 //! The model of an answer is plain: the fold of the range's elements, by definition, at the number of the last edit.
 //! `reduce` joins the summaries of the greatest fresh nodes in the range, and lifts no cell that such a node has; what
-//! it read is told, and is stated of the fresh nodes alone. It changes no table, and keeps nothing. The parallel
-//! forms copy the range and answer the same by several threads.
+//! it read is told, and is stated of the fresh nodes alone. It changes no table, and keeps nothing. `ask` answers the same, and
+//! keeps in the table what it computed. The parallel forms copy the range and answer the same by several threads.
 #![tactic(auto)]
 
+mod asking;
 mod parallel;
 mod reductions;
 mod scans;
@@ -13,12 +14,10 @@ mod stretches;
 mod values;
 mod views;
 
+pub use asking::ask;
 pub use parallel::{par_reduce, par_scan_exclusive, par_scan_inclusive, par_scan_slice};
 pub use reductions::{Answer, reduce};
 pub use scans::{Scan, scan_exclusive, scan_inclusive};
 pub use stretches::Stretch;
 pub use values::Values;
 pub use views::View;
-
-#[cfg(test)]
-mod tests;

@@ -84,9 +84,9 @@ fn greatest_fresh<S: Copy>(table: &Summaries<S>, at: u32, hi: u32) -> Option<Pie
     None
 }
 
-// The greatest level of which a node begins at index `at` and ends at or before `hi`, at most 6; 0 stands for a cell.
+/// The greatest level of which a node begins at index `at` and ends at or before `hi`, at most 6; 0 stands for a cell.
 #[inline(always)]
-fn greatest_level(at: u32, hi: u32) -> u32
+pub fn greatest_level(at: u32, hi: u32) -> u32
     requires { at < hi }
     ensures bound { result ≤ 6 }
     ensures fits { Fits at hi result }
@@ -95,18 +95,18 @@ fn greatest_level(at: u32, hi: u32) -> u32
     at.trailing_zeros().min((hi - at).ilog2()).min(18) / 3
 }
 
-// How many indices a node of a level has.
+/// How many indices a node of a level has.
 #[inline(always)]
-fn width(level: u32) -> u32
+pub fn width(level: u32) -> u32
     requires { level ≤ 6 }
     ensures { result ≡ 8 ^ level }
 {
     1 << (3 * level)
 }
 
-// A fold with the fold of what follows joined at its end.
+/// A fold with the fold of what follows joined at its end.
 #[inline(always)]
-fn join<B: Body>(body: &B, sum: B::S, more: B::S) -> B::S
+pub fn join<B: Body>(body: &B, sum: B::S, more: B::S) -> B::S
     requires { CanJoin (B.is_within (B.meaning body.now)) sum more }
     ensures value { result ≡ (B.operations (B.meaning body.now)).join sum more }
     ensures within { (n m : ℕ) → B.is_within (B.meaning body.now) sum n → B.is_within (B.meaning body.now) more m

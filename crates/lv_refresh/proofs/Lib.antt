@@ -6,7 +6,6 @@ mod MarkLaws
 mod NextLaws
 mod PickLaws
 mod RowLaws
-mod TestLaws
 mod TurnLaws
 pub mod HonestyLaws
 pub mod RecordLaws

@@ -7,4 +7,3 @@ pub mod Honesty
 pub mod Inner
 pub mod Marks
 pub mod Record
-pub mod Tested

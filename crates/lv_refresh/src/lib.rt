@@ -19,6 +19,3 @@ pub use contents::{Contents, Eight};
 pub use gathering::children_of;
 pub use jobs::{Job, JobOf};
 pub use outcomes::{Outcome, OutcomeOf};
-
-#[cfg(test)]
-mod tests;

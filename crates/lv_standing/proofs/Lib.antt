@@ -3,3 +3,4 @@ pub mod KeptNames
 pub mod NoteLaws
 pub mod RangeLaws
 mod ProgramLaws
+mod SameLaws

@@ -13,6 +13,3 @@ mod watches;
 pub use names::Name;
 pub use notes::{Answered, Note};
 pub use standing::Standing;
-
-#[cfg(test)]
-mod tests;

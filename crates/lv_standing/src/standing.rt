@@ -3,6 +3,9 @@ ghost use Rattle.lv_geometry.specs.declared.nodes.Node.{Node};
 ghost use Rattle.lv_bodies.specs.Six.{SixMeaning, six_meaning, six_operations};
 ghost use Rattle.lv_edits.specs.Kept.{InLimits};
 ghost use Rattle.lv_edits.specs.Verdict.{Accepts, IsRefusal, Refuses};
+ghost use Rattle.lv_summary.specs.Table.{OnlyLearns, known_in};
+ghost use Rattle.lv_reduce.specs.Answer.{IsAnswer, range_refusal};
+ghost use Rattle.lv_reduce.specs.Asked.{AreTopsKnown, IsFewAsked};
 ghost use Rattle.lv_refresh.specs.Claim.{IsNextJob};
 ghost use Rattle.lv_refresh.specs.Delivery.{delivery_of};
 ghost use Rattle.lv_refresh.specs.Honesty.{IsHonest, Vouched};
@@ -17,6 +20,7 @@ use lv_bodies::{Body, Kind, Six};
 use lv_edits::{Edit, Receipt};
 use lv_geometry::{Limits, Refusal};
 use lv_live::Live;
+use lv_reduce::Answer;
 use lv_refresh::{Job, Outcome};
 use lv_summary::Accepted;
 use std::alloc::Global;
@@ -133,8 +137,23 @@ impl Standing {
             return Err(Refusal::NoMemory);
         };
         let receipt = self.live.apply(edit)?;
-        tell(&self.live, &mut self.watches, index, &mut notes);
+        tell(&mut self.live, &mut self.watches, index, &mut notes);
         Ok((receipt, notes))
+    }
+
+    /// The fold of the elements from index `lo` up to `hi` by all six, keeping what is computed for it: so a range that was asked
+    /// for is cheap until an edit touches it. Refused with `BadRange`, then `OutOfRange`. Takes no memory.
+    pub fn ask(&mut self, lo: u32, hi: u32) -> Result<Answer<<Six as Body>::S>, Refusal>
+        ensures ok { IfOk result (λ answer. IsAnswer (six_operations six_meaning) self.old.live.history.journal lo hi answer) }
+        ensures err { IfErr result (λ refusal. range_refusal self.old.live.history.journal lo hi ≡ Some refusal) }
+        ensures live { SameLive self.old.live self.new.live }
+        ensures learns { OnlyLearns self.old.live.table self.new.live.table }
+        ensures known { IfOk result (λ _. AreTopsKnown (known_in self.new.live.table) lo hi) }
+        ensures few { IfOk result (λ answer. IsFewAsked (known_in self.old.live.table) (known_in self.new.live.table) lo hi answer.cells_read answer.summaries_read) }
+        ensures queries { self.new.queries ≡ self.old.queries }
+        ensures limits { InLimits self.new.live.history }
+    {
+        self.live.ask(lo, hi)
     }
 
     /// The live vector.

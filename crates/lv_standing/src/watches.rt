@@ -6,6 +6,7 @@ ghost use Rattle.lv_bodies.specs.Six.{SixMeaning, six_meaning};
 ghost use Rattle.lv_edits.specs.declared.edit.Edit.{Edit as Change};
 ghost use Rattle.lv_edits.specs.History.{list_of};
 ghost use Rattle.lv_edits.specs.Kept.{InLimits};
+ghost use Rattle.lv_live.specs.State.{SameLive};
 ghost use Rattle.lv_standing.specs.Queries.{AreNotes};
 ghost use Rattle.lv_standing.specs.Inner.{AtIndex, IsToldAt, SameElsewhere, asked, has_index, index_changed, refreshed};
 ghost use Rattle.lv_standing.specs.Standings.{IsCurrent, queries_of};
@@ -64,6 +65,22 @@ pub fn ask(live: &Live<Six>, kind: Kind, lo: u32, hi: u32) -> Shown
     }
 }
 
+/// The same of a vector that may keep what is computed for it, so that a range is cheap to ask for after one edit more. Takes no
+/// memory.
+pub fn ask_keeping(live: &mut Live<Six>, kind: Kind, lo: u32, hi: u32) -> Shown
+    requires limits { InLimits live.old.history }
+    requires six { ◌≡◌ {A = SixMeaning} (⟦<Six as Body>⟧.meaning live.old.body) six_meaning }
+    ensures value { result ≡ plain_value kind (slice_range (list_of live.old.history.journal) lo hi) }
+    ensures live { SameLive live.old live.new }
+{
+    let end = hi.min(live.size());
+    let start = lo.min(end);
+    match live.ask(start, end) {
+        Ok(answer) => face(&Six::program(), kind, answer.value),
+        Err(_) => unreachable!(),
+    }
+}
+
 // The entry at an index.
 fn watch_at(watches: &IndexMap<Name, Watch>, i: usize) -> (Name, Watch)
     requires { i < index_map_len watches.now }
@@ -90,21 +107,22 @@ pub fn count_asked(watches: &IndexMap<Name, Watch>, index: Option<u32>) -> usize
 }
 
 // The answer of a query, where it may have changed since an edit and did.
-fn changed(live: &Live<Six>, watch: &Watch, index: Option<u32>) -> Option<Shown>
+fn changed(live: &mut Live<Six>, watch: &Watch, index: Option<u32>) -> Option<Shown>
     ghost old: { List Change }
-    requires limits { InLimits live.now.history }
-    requires six { ◌≡◌ {A = SixMeaning} (⟦<Six as Body>⟧.meaning live.now.body) six_meaning }
+    requires limits { InLimits live.old.history }
+    requires six { ◌≡◌ {A = SixMeaning} (⟦<Six as Body>⟧.meaning live.old.body) six_meaning }
     requires current { IsCurrent old ([], watch.now) }
-    requires elsewhere { SameElsewhere index old live.now.history.journal }
-    ensures same { IfNone result (IsCurrent live.now.history.journal ([], watch.now)) }
-    ensures value { IfSome result (λ value. value ≡ plain_value watch.now.kind (slice_range (list_of live.now.history.journal) watch.now.lo watch.now.hi)) }
+    requires elsewhere { SameElsewhere index old live.old.history.journal }
+    ensures same { IfNone result (IsCurrent live.old.history.journal ([], watch.now)) }
+    ensures value { IfSome result (λ value. value ≡ plain_value watch.now.kind (slice_range (list_of live.old.history.journal) watch.now.lo watch.now.hi)) }
     ensures other { IfSome result (λ value. value ≢ watch.now.value) }
     ensures asked { IfSome result (λ value. IsTrue (has_index watch.now.lo watch.now.hi index)) }
+    ensures live { SameLive live.old live.new }
 {
     if !watch.has_index(index) {
         return None;
     }
-    let value = ask(live, watch.kind, watch.lo, watch.hi);
+    let value = ask_keeping(live, watch.kind, watch.lo, watch.hi);
     if value == watch.value {
         return None;
     }
@@ -113,21 +131,22 @@ fn changed(live: &Live<Six>, watch: &Watch, index: Option<u32>) -> Option<Shown>
 
 // Asks one query anew where its range has the index, keeps the answer, and notes it where it is another than before.
 fn tell_one(
-    live: &Live<Six>,
+    live: &mut Live<Six>,
     watches: &mut IndexMap<Name, Watch>,
     i: usize,
     index: Option<u32>,
     notes: &mut Vec<Note>,
 )
     ghost old: { List Change }
-    requires limits { InLimits live.now.history }
-    requires six { ◌≡◌ {A = SixMeaning} (⟦<Six as Body>⟧.meaning live.now.body) six_meaning }
-    requires elsewhere { SameElsewhere index old live.now.history.journal }
+    requires limits { InLimits live.old.history }
+    requires six { ◌≡◌ {A = SixMeaning} (⟦<Six as Body>⟧.meaning live.old.body) six_meaning }
+    requires elsewhere { SameElsewhere index old live.old.history.journal }
     requires within { i < index_map_len watches.old }
     requires current { AtIndex watches.old.entries i (IsCurrent old) }
     requires room { AtIndex watches.old.entries i (λ e. vec_len notes.old + length (asked index (e ∷ [])) ≤ vec_capacity notes.old) }
-    ensures told { AtIndex watches.old.entries i (IsToldAt index old live.now.history.journal watches.old.entries watches.new.entries i notes.old.items notes.new.items) }
+    ensures told { AtIndex watches.old.entries i (IsToldAt index old live.old.history.journal watches.old.entries watches.new.entries i notes.old.items notes.new.items) }
     ensures capacity { vec_capacity notes.new ≡ vec_capacity notes.old }
+    ensures live { SameLive live.old live.new }
 {
     let (name, watch) = watch_at(watches, i);
     let Some(value) = changed(live, &watch, index) else {
@@ -142,20 +161,21 @@ fn tell_one(
 /// Asks each query anew whose range has the index that an edit changed, in order of registration; keeps the answers, and notes
 /// those that are others than before.
 pub fn tell(
-    live: &Live<Six>,
+    live: &mut Live<Six>,
     watches: &mut IndexMap<Name, Watch>,
     index: Option<u32>,
     notes: &mut Vec<Note>,
 )
     ghost old: { List Change }
-    requires limits { InLimits live.now.history }
-    requires six { ◌≡◌ {A = SixMeaning} (⟦<Six as Body>⟧.meaning live.now.body) six_meaning }
-    requires elsewhere { SameElsewhere index old live.now.history.journal }
+    requires limits { InLimits live.old.history }
+    requires six { ◌≡◌ {A = SixMeaning} (⟦<Six as Body>⟧.meaning live.old.body) six_meaning }
+    requires elsewhere { SameElsewhere index old live.old.history.journal }
     requires current { AllByRecursion (IsCurrent old) watches.old.entries }
     requires empty { notes.old.items ≡ [] }
     requires room { length (asked index watches.old.entries) ≤ vec_capacity notes.old }
-    ensures entries { watches.new.entries ≡ map (refreshed live.now.history.journal) watches.old.entries }
-    ensures notes { AreNotes old live.now.history.journal (queries_of watches.old.entries) notes.new.items }
+    ensures entries { watches.new.entries ≡ map (refreshed live.old.history.journal) watches.old.entries }
+    ensures notes { AreNotes old live.old.history.journal (queries_of watches.old.entries) notes.new.items }
+    ensures live { SameLive live.old live.new }
 {
     for i in 0..watches.len() {
         tell_one(live, watches, i, index, notes);

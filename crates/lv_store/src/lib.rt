@@ -12,6 +12,3 @@ mod stores;
 
 pub use descriptors::Descriptor;
 pub use stores::Store;
-
-#[cfg(test)]
-mod tests;

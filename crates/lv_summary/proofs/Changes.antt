@@ -1,15 +1,15 @@
 -- What a change of the rows of every level makes of a table.
-use Rattle.std.proofs.Common.{◌≡◌, ℕ, ◌+◌, ◌-◌, ◌*◌, ◌/◌, ◌^◌, ◌<◌, ◌≤◌, true, false, ◌&&◌, cond, if◌then◌else◌, None, Some, length, nat_eq, nat_le, refl, sym, ap, ◌∙◌, inl, inr, arith}
+use Rattle.std.proofs.Common.{◌≡◌, ℕ, ◌+◌, ◌-◌, ◌*◌, ◌/◌, ◌^◌, ◌<◌, ◌≤◌, true, false, ◌&&◌, cond, if◌then◌else◌, Option, None, Some, length, get_or, nat_eq, nat_le, refl, sym, ap, ◌∙◌, inl, inr, arith}
 use Rattle.std.proofs.lemmas.Bool.{cases_Bool, cond_both, eqb-true, ne_eqb, true≢false}
 use Rattle.std.proofs.lemmas.List.{length-set}
 use Rattle.lv_geometry.specs.declared.nodes.Node.{Node}
 use Rattle.lv_geometry.specs.Nodes.{covers, is_node, same_node}
 use Rattle.lv_geometry.proofs.NodeLaws.{level_of_node}
-use Rattle.lv_summary.specs.Inner.{IsLevel, IsRowOf, IsSound, filled, with_kept, with_touch}
-use Rattle.lv_summary.specs.Table.{AnswersAlike, HasSize, Keeps, Rows, Table, Touches, blocks_in, kept_in, no_rows, rows_for, touched_in, whole_in}
-use Rattle.lv_summary.proofs.LevelLaws.{IsLevel-empty, IsLevel-filled, IsLevel-with_kept, IsLevel-with_touch, kept_at, kept_at-filled, kept_at-with_kept, length-lengthened, touched_at, touched_at-filled, touched_at-with_touch}
+use Rattle.lv_summary.specs.Inner.{IsLevel, IsSound, filled, with_kept, with_learnt, with_touch}
+use Rattle.lv_summary.specs.Table.{AnswersAlike, HasSize, Keeps, Learns, Rows, Table, Touches, beside, blocks_in, computed_in, kept_in, no_rows, rows_for, touched_in, whole_in}
+use Rattle.lv_summary.proofs.LevelLaws.{IsLevel-empty, IsLevel-filled, IsLevel-with_kept, IsLevel-with_learnt, IsLevel-with_touch, computed_at, computed_at-filled, computed_at-with_kept, computed_at-with_learnt, kept_at, kept_at-filled, kept_at-with_kept, kept_at-with_learnt, length-lengthened, touched_at, touched_at-filled, touched_at-with_touch}
 use Rattle.lv_summary.proofs.TableLaws.{node_of_whole}
-use Rattle.lv_summary.proofs.NodeRows.{IsRowOf-whole, blocks_in-rows, cond-and_false, cond-and_true, kept_in-inside, kept_in-outside, row_of_index, rows_at, touched_in-inside, touched_in-outside}
+use Rattle.lv_summary.proofs.NodeRows.{IsRowOf-whole, blocks_in-rows, computed_in-inside, computed_in-outside, cond-and_false, cond-and_true, kept_in-inside, kept_in-outside, row_of_index, rows_at, touched_in-inside, touched_in-outside}
 
 -- a table is sound by its rows
 pub IsSound-by_rows : {S : Type 0} (t : Table S) (blocks : ℕ) → blocks_in t ≡ blocks → blocks ≤ 131071 → t.size ≤ 8 * blocks → ((level : ℕ) → 1 ≤ level → level ≤ 6 → IsLevel blocks level (rows_at t level)) → IsSound t
@@ -58,84 +58,157 @@ Touches-by_rows {S} {old} {new} sound size i edit inside rows =
             kept_in-inside new n member ∙ ap (λ r. kept_at r n.number) (rows n.level level.0 level.1) ∙ sym (kept_in-inside old n member)
         | inr stranger ↦ kept_in-outside new n stranger ∙ sym (kept_in-outside old n stranger)
       ];
+      computed = λ n. elim (cases_Bool (is_node n)) [
+        | inl member ↦
+            let level = level_of_node n member in
+            computed_in-inside new n member ∙ ap (λ r. computed_at r n.number) (rows n.level level.0 level.1) ∙ sym (computed_in-inside old n member)
+        | inr stranger ↦ computed_in-outside new n stranger ∙ sym (computed_in-outside old n stranger)
+      ];
     }
 
 -- nodes of one level are both of the table, or both not
 same_membership : (m n : Node) → m.level ≡ n.level → is_node m ≡ is_node n
 same_membership m n same = ap (λ level. nat_le 1 level && nat_le level 6) same
 
+-- the rows of every level after those of one level were changed
+abbrev pub HasRowsChanged : {S : Type 0} → Table S → Table S → ℕ → (Rows S → Rows S) → Type 0
+HasRowsChanged old new k change =
+    (level : ℕ) → 1 ≤ level → level ≤ 6 → rows_at new level ≡ if nat_eq level k then change (rows_at old k) else rows_at old level
+
 -- the rows of every level after a summary was put into the row of a node
 abbrev pub HasRowsKept : {S : Type 0} → Table S → Table S → Node → ℕ → ℕ → S → Type 0
-HasRowsKept old new n k version s =
-    (level : ℕ) → 1 ≤ level → level ≤ 6 → rows_at new level ≡ if nat_eq level k then with_kept (rows_at old k) n.number version s else rows_at old level
+HasRowsKept old new n k version s = HasRowsChanged old new k (λ rows. with_kept rows n.number version s)
 
--- a summary that is put into the row of a node changes the edit of no row
-touched_at-kept : {S : Type 0} (old : Table S) (n m : Node) (version : ℕ) (s : S) → touched_at (if nat_eq m.level n.level then with_kept (rows_for old n) n.number version s else rows_for old m) m.number ≡ touched_at (rows_for old m) m.number
-touched_at-kept old n m version s =
-    cond_both (nat_eq m.level n.level) _ _ (λ rows. touched_at rows m.number ≡ touched_at (rows_for old m) m.number)
-    (λ same. ap (λ level. touched_at (rows_at old level) m.number) (sym (eqb-true m.level n.level same)))
-    (λ other. refl)
+-- the rows of every level after a summary was learnt for a node
+abbrev pub HasRowsLearnt : {S : Type 0} → Table S → Table S → Node → ℕ → S → Type 0
+HasRowsLearnt old new n k s = HasRowsChanged old new k (λ rows. with_learnt rows n.number s)
 
--- a summary that is put into the row of a node changes what is kept in that row alone
-kept_at-kept : {S : Type 0} (old : Table S) (n m : Node) (version : ℕ) (s : S) → IsRowOf old n (rows_for old n) → kept_at (if nat_eq m.level n.level then with_kept (rows_for old n) n.number version s else rows_for old m) m.number ≡ if same_node m n then Some (version, s) else kept_at (rows_for old m) m.number
-kept_at-kept old n m version s row =
-    cond_both (nat_eq m.level n.level) _ _ (λ rows. kept_at rows m.number ≡ cond (same_node m n) (Some (version, s)) (kept_at (rows_for old m) m.number))
+-- a change of one level that leaves the edits of its rows
+module _ {S : Type 0} (change : Rows S → Rows S) (same_edits : (rows : Rows S) → (change rows).touched ≡ rows.touched) where
+  -- changes the edit of no row
+  touched_at-changed : (old : Table S) (n m : Node) → touched_at (if nat_eq m.level n.level then change (rows_for old n) else rows_for old m) m.number ≡ touched_at (rows_for old m) m.number
+  touched_at-changed old n m =
+      cond_both (nat_eq m.level n.level) _ _ (λ rows. touched_at rows m.number ≡ touched_at (rows_for old m) m.number)
+      (λ same.
+      ap (λ edits. get_or edits m.number 0) (same_edits (rows_for old n))
+      ∙ ap (λ level. touched_at (rows_at old level) m.number) (sym (eqb-true m.level n.level same)))
+      (λ other. refl)
+
+  -- leaves the blocks of a table
+  blocks_in-changed : (old new : Table S) (k : ℕ) → HasRowsChanged old new k change → blocks_in new ≡ blocks_in old
+  blocks_in-changed old new k rows =
+      blocks_in-rows new
+      ∙ ap (λ r. length r.touched) (rows 1 (omega arith) (omega arith))
+      ∙ cond_both (nat_eq 1 k) _ _ (λ (r : Rows S). length r.touched ≡ length (rows_at old 1).touched)
+      (λ same. ap length (same_edits (rows_at old k)) ∙ ap (λ level. length (rows_at old level).touched) (sym (eqb-true 1 k same)))
+      (λ other. refl)
+      ∙ sym (blocks_in-rows old)
+
+  -- keeps a sound table so, where it keeps each level as it must be
+  IsSound-changed : ((blocks level : ℕ) (rows : Rows S) → IsLevel blocks level rows → IsLevel blocks level (change rows)) → (old new : Table S) → IsSound old → new.size ≡ old.size → (k : ℕ) → HasRowsChanged old new k change → IsSound new
+  IsSound-changed keeps old new sound size k rows =
+      IsSound-by_rows new (blocks_in old) (blocks_in-changed old new k rows) sound.few (omega (arith, sound.size))
+      (λ level low high. rw (rows level low high) (
+      cond_both (nat_eq level k) _ _ (IsLevel (blocks_in old) level)
+      (λ same. rw (← eqb-true level k same) (keeps (blocks_in old) level (rows_at old level) (sound.levels level low high)))
+      (λ other. sound.levels level low high)))
+
+  -- and touches no node
+  touched_in-changed : (old new : Table S) (n : Node) → HasRowsChanged old new n.level change → (m : Node) → touched_in new m ≡ touched_in old m
+  touched_in-changed old new n rows m =
+      elim (cases_Bool (is_node m)) [
+        | inl member ↦
+            let level = level_of_node m member in
+            touched_in-inside new m member ∙ ap (λ r. touched_at r m.number) (rows m.level level.0 level.1) ∙ touched_at-changed old n m ∙ sym (touched_in-inside old m member)
+        | inr stranger ↦ touched_in-outside new m stranger ∙ sym (touched_in-outside old m stranger)
+      ]
+
+-- what rows say of a number, where a change of one level changes that for one node alone
+read-changed : {S A : Type 0} (read : Rows S → ℕ → A) (change : Rows S → Rows S) (other : A → A) (old : Table S) (n m : Node)
+    → ((k : ℕ) → read (change (rows_for old n)) k ≡ if nat_eq k n.number then other (read (rows_for old n) k) else read (rows_for old n) k)
+    → read (if nat_eq m.level n.level then change (rows_for old n) else rows_for old m) m.number ≡ if same_node m n then other (read (rows_for old m) m.number) else read (rows_for old m) m.number
+read-changed read change other old n m is =
+    cond_both (nat_eq m.level n.level) _ _ (λ rows. read rows m.number ≡ cond (same_node m n) (other (read (rows_for old m) m.number)) (read (rows_for old m) m.number))
     (λ same.
-    kept_at-with_kept (rows_for old n) n.number version s m.number row.stamps row.kept
-    ∙ ap (λ level. cond (nat_eq m.number n.number) (Some (version, s)) (kept_at (rows_at old level) m.number)) (sym (eqb-true m.level n.level same))
+    is m.number
+    ∙ ap (λ level. cond (nat_eq m.number n.number) (other (read (rows_at old level) m.number)) (read (rows_at old level) m.number)) (sym (eqb-true m.level n.level same))
     ∙ sym (cond-and_true (nat_eq m.level n.level) _ _ _ same))
-    (λ other. sym (cond-and_false (nat_eq m.level n.level) _ _ _ other))
+    (λ apart. sym (cond-and_false (nat_eq m.level n.level) _ _ _ apart))
 
--- a summary that is kept leaves the blocks of a table
-blocks_in-kept : {S : Type 0} (old new : Table S) (n : Node) (k version : ℕ) (s : S) → HasRowsKept old new n k version s → blocks_in new ≡ blocks_in old
-blocks_in-kept {S} old new n k version s rows =
-    blocks_in-rows new
-    ∙ ap (λ r. length r.touched) (rows 1 (omega arith) (omega arith))
-    ∙ cond_both (nat_eq 1 k) _ _ (λ (r : Rows S). length r.touched ≡ length (rows_at old 1).touched) (λ same. ap (λ level. length (rows_at old level).touched) (sym (eqb-true 1 k same))) (λ other. refl)
-    ∙ sym (blocks_in-rows old)
+-- a node that is none of the table is another than one of it
+stranger_is_other : (n m : Node) → is_node n ≡ true → is_node m ≡ false → nat_eq m.level n.level ≡ false
+stranger_is_other n m member stranger = ne_eqb m.level n.level (λ same. true≢false (sym member ∙ sym (same_membership m n same) ∙ stranger))
 
--- a level stays as it must be when a summary is put into a row
-IsLevel-kept : {S : Type 0} (old : Table S) (n : Node) (k version level : ℕ) (s : S) → IsSound old → 1 ≤ level → level ≤ 6 → IsLevel (blocks_in old) level (if nat_eq level k then with_kept (rows_at old k) n.number version s else rows_at old level)
-IsLevel-kept old n k version level s sound low high =
-    cond_both (nat_eq level k) _ _ (IsLevel (blocks_in old) level)
-    (λ same. rw (← eqb-true level k same) (IsLevel-with_kept (blocks_in old) level (rows_at old level) n.number version s (sound.levels level low high)))
-    (λ other. sound.levels level low high)
+-- what is kept for each node, where a change of the rows of a node's level changes that in its row alone
+kept_in-changed : {S : Type 0} (old new : Table S) (n : Node) (change : Rows S → Rows S) (other : Option (ℕ × S) → Option (ℕ × S)) → is_node n ≡ true → HasRowsChanged old new n.level change
+    → ((k : ℕ) → kept_at (change (rows_for old n)) k ≡ if nat_eq k n.number then other (kept_at (rows_for old n) k) else kept_at (rows_for old n) k)
+    → (m : Node) → kept_in new m ≡ if same_node m n then other (kept_in old m) else kept_in old m
+kept_in-changed old new n change other node rows is m =
+    elim (cases_Bool (is_node m)) [
+      | inl member ↦
+          let level = level_of_node m member in
+          kept_in-inside new m member
+          ∙ ap (λ r. kept_at r m.number) (rows m.level level.0 level.1)
+          ∙ read-changed kept_at change other old n m is
+          ∙ ap (λ kept. cond (same_node m n) (other kept) kept) (sym (kept_in-inside old m member))
+      | inr stranger ↦
+          kept_in-outside new m stranger ∙ sym (kept_in-outside old m stranger) ∙ sym (cond-and_false (nat_eq m.level n.level) _ _ _ (stranger_is_other n m node stranger))
+    ]
+
+-- and what was computed, likewise
+computed_in-changed : {S : Type 0} (old new : Table S) (n : Node) (change : Rows S → Rows S) (other : Option (ℕ × S) → Option (ℕ × S)) → is_node n ≡ true → HasRowsChanged old new n.level change
+    → ((k : ℕ) → computed_at (change (rows_for old n)) k ≡ if nat_eq k n.number then other (computed_at (rows_for old n) k) else computed_at (rows_for old n) k)
+    → (m : Node) → computed_in new m ≡ if same_node m n then other (computed_in old m) else computed_in old m
+computed_in-changed old new n change other node rows is m =
+    elim (cases_Bool (is_node m)) [
+      | inl member ↦
+          let level = level_of_node m member in
+          computed_in-inside new m member
+          ∙ ap (λ r. computed_at r m.number) (rows m.level level.0 level.1)
+          ∙ read-changed computed_at change other old n m is
+          ∙ ap (λ kept. cond (same_node m n) (other kept) kept) (sym (computed_in-inside old m member))
+      | inr stranger ↦
+          computed_in-outside new m stranger ∙ sym (computed_in-outside old m stranger) ∙ sym (cond-and_false (nat_eq m.level n.level) _ _ _ (stranger_is_other n m node stranger))
+    ]
 
 -- a sound table stays so when a summary is kept
 pub IsSound-kept : {S : Type 0} {old new : Table S} → IsSound old → new.size ≡ old.size → (n : Node) (k version : ℕ) (s : S) → HasRowsKept old new n k version s → IsSound new
 IsSound-kept {S} {old} {new} sound size n k version s rows =
-    IsSound-by_rows new (blocks_in old) (blocks_in-kept old new n k version s rows) sound.few (omega (arith, sound.size))
-    (λ level low high. rw (rows level low high) (IsLevel-kept old n k version level s sound low high))
+    IsSound-changed (λ rows. with_kept rows n.number version s) (λ rows. refl) (λ blocks level rows is. IsLevel-with_kept blocks level rows n.number version s is) old new sound size k rows
 
--- putting a summary into the row of a node keeps it for that node alone
-Keeps-by_rows : {S : Type 0} (old new : Table S) (n : Node) (version : ℕ) (s : S) → IsRowOf old n (rows_for old n) → new.size ≡ old.size → HasRowsKept old new n n.level version s → Keeps old new n version s
-Keeps-by_rows {S} old new n version s row size rows =
-    record {
-      size = size;
-      blocks = blocks_in-kept old new n n.level version s rows;
-      touched = λ m. elim (cases_Bool (is_node m)) [
-        | inl member ↦
-            let level = level_of_node m member in
-            touched_in-inside new m member ∙ ap (λ r. touched_at r m.number) (rows m.level level.0 level.1) ∙ touched_at-kept old n m version s ∙ sym (touched_in-inside old m member)
-        | inr stranger ↦ touched_in-outside new m stranger ∙ sym (touched_in-outside old m stranger)
-      ];
-      kept = λ m. elim (cases_Bool (is_node m)) [
-        | inl member ↦
-            let level = level_of_node m member in
-            kept_in-inside new m member
-            ∙ ap (λ r. kept_at r m.number) (rows m.level level.0 level.1)
-            ∙ kept_at-kept old n m version s row
-            ∙ ap (cond (same_node m n) (Some (version, s))) (sym (kept_in-inside old m member))
-        | inr stranger ↦
-            let other : nat_eq m.level n.level ≡ false = ne_eqb m.level n.level (λ same. true≢false (sym (node_of_whole old n row.whole) ∙ sym (same_membership m n same) ∙ stranger)) in
-            kept_in-outside new m stranger ∙ sym (kept_in-outside old m stranger) ∙ sym (cond-and_false (nat_eq m.level n.level) _ _ _ other)
-      ];
-    }
+-- and when one is learnt
+pub IsSound-learnt : {S : Type 0} {old new : Table S} → IsSound old → new.size ≡ old.size → (n : Node) (k : ℕ) (s : S) → HasRowsLearnt old new n k s → IsSound new
+IsSound-learnt {S} {old} {new} sound size n k s rows =
+    IsSound-changed (λ rows. with_learnt rows n.number s) (λ rows. refl) (λ blocks level rows is. IsLevel-with_learnt blocks level rows n.number s is) old new sound size k rows
 
 -- putting a summary into the row of a whole node, on the level that its number says, keeps it for that node alone
 pub Keeps-at : {S : Type 0} {old new : Table S} → IsSound old → new.size ≡ old.size → (n : Node) (k version : ℕ) (s : S) → whole_in old n ≡ true → n.level ≡ k → HasRowsKept old new n k version s → Keeps old new n version s
-Keeps-at {S} {old} {new} sound size n k version s whole at rows =
-    Keeps-by_rows old new n version s (IsRowOf-whole old n sound whole) size (λ level low high. rw (← at) at (rows level low high))
+Keeps-at {S} {old} {new} sound size n k version s whole at changed =
+    let row = IsRowOf-whole old n sound whole in
+    let node = node_of_whole old n whole in
+    let rows : HasRowsKept old new n n.level version s = λ level low high. rw (← at) at (changed level low high) in
+    record {
+      size = size;
+      blocks = blocks_in-changed (λ rows. with_kept rows n.number version s) (λ rows. refl) old new n.level rows;
+      touched = touched_in-changed (λ rows. with_kept rows n.number version s) (λ rows. refl) old new n rows;
+      kept = kept_in-changed old new n (λ rows. with_kept rows n.number version s) (λ kept. Some (version, s)) node rows (λ k. kept_at-with_kept (rows_for old n) n.number version s k row.stamps row.kept);
+      computed = computed_in-changed old new n (λ rows. with_kept rows n.number version s) (beside s) node rows (λ k. computed_at-with_kept (rows_for old n) n.number version s k row.kept);
+    }
+
+-- and so does learning it
+pub Learns-at : {S : Type 0} {old new : Table S} → IsSound old → new.size ≡ old.size → (n : Node) (k : ℕ) (s : S) → whole_in old n ≡ true → n.level ≡ k → HasRowsLearnt old new n k s → Learns old new n s
+Learns-at {S} {old} {new} sound size n k s whole at changed =
+    let row = IsRowOf-whole old n sound whole in
+    let node = node_of_whole old n whole in
+    let rows : HasRowsLearnt old new n n.level s = λ level low high. rw (← at) at (changed level low high) in
+    record {
+      size = size;
+      blocks = blocks_in-changed (λ rows. with_learnt rows n.number s) (λ rows. refl) old new n.level rows;
+      touched = touched_in-changed (λ rows. with_learnt rows n.number s) (λ rows. refl) old new n rows;
+      kept = kept_in-changed old new n (λ rows. with_learnt rows n.number s) (beside s) node rows (λ k. kept_at-with_learnt (rows_for old n) n.number s k row.kept);
+      computed = computed_in-changed old new n (λ rows. with_learnt rows n.number s) (λ kept. Some (touched_in old n, s)) node rows
+          (λ k. computed_at-with_learnt (rows_for old n) n.number s k row.computed row.kept ∙ ap (λ edit. cond (nat_eq k n.number) (Some (edit, s)) (computed_at (rows_for old n) k)) (sym (touched_in-inside old n node)));
+    }
 
 -- every level was filled up, so that there are rows for all indices of so many blocks
 abbrev pub HasRowsFilled : {S : Type 0} → Table S → Table S → ℕ → S → Type 0
@@ -183,6 +256,14 @@ AnswersAlike-by_rows {S} {old} {new} sound size more blank rows =
             kept_in-inside new m member ∙ ap (λ r. kept_at r m.number) added.1 ∙ kept_at-filled (rows_for old m) added.0 blank m.number (even.kept ∙ sym even.stamps) ∙ sym (kept_in-inside old m member)
         | inr stranger ↦ kept_in-outside new m stranger ∙ sym (kept_in-outside old m stranger)
       ];
+      computed = λ m. elim (cases_Bool (is_node m)) [
+        | inl member ↦
+            let level = level_of_node m member in
+            let added = rows m.level level.0 level.1 in
+            let even = sound.levels m.level level.0 level.1 in
+            computed_in-inside new m member ∙ ap (λ r. computed_at r m.number) added.1 ∙ computed_at-filled (rows_for old m) added.0 blank m.number (even.kept ∙ sym even.computed) ∙ sym (computed_in-inside old m member)
+        | inr stranger ↦ computed_in-outside new m stranger ∙ sym (computed_in-outside old m stranger)
+      ];
     }
 
 -- a sound table stays so at another size that its rows have room for
@@ -204,6 +285,10 @@ HasSize-by_rows t size =
       kept = λ m. elim (cases_Bool (is_node m)) [
         | inl member ↦ kept_in-inside sized m member ∙ sym (kept_in-inside t m member)
         | inr stranger ↦ kept_in-outside sized m stranger ∙ sym (kept_in-outside t m stranger)
+      ];
+      computed = λ m. elim (cases_Bool (is_node m)) [
+        | inl member ↦ computed_in-inside sized m member ∙ sym (computed_in-inside t m member)
+        | inr stranger ↦ computed_in-outside sized m stranger ∙ sym (computed_in-outside t m stranger)
       ];
     }
 
@@ -230,4 +315,12 @@ kept_in-empty t rows n =
     elim (cases_Bool (is_node n)) [
       | inl member ↦ let level = level_of_node n member in kept_in-inside t n member ∙ ap (λ r. kept_at r n.number) (rows n.level level.0 level.1)
       | inr stranger ↦ kept_in-outside t n stranger
+    ]
+
+-- and nothing was computed
+pub computed_in-empty : {S : Type 0} (t : Table S) → ((level : ℕ) → 1 ≤ level → level ≤ 6 → rows_at t level ≡ no_rows) → (n : Node) → computed_in t n ≡ None
+computed_in-empty t rows n =
+    elim (cases_Bool (is_node n)) [
+      | inl member ↦ let level = level_of_node n member in computed_in-inside t n member ∙ ap (λ r. computed_at r n.number) (rows n.level level.0 level.1)
+      | inr stranger ↦ computed_in-outside t n stranger
     ]

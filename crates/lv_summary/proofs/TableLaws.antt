@@ -1,11 +1,11 @@
 -- What each change of a table makes of its answers, for the crates above.
-use Rattle.std.proofs.Common.{◌≡◌, ℕ, Bool, true, false, ◌&&◌, cond, Option, Some, None, option_map, nat_eq, refl, sym, ap, ◌∙◌, inl, inr}
-use Rattle.std.proofs.lemmas.Bool.{and_from, and_parts, and_right, cases_Bool, cond-false, cond-true, eq-eqb, eqb-true, false≢true}
-use Rattle.std.proofs.lemmas.Option.{none-some}
+use Rattle.std.proofs.Common.{◌≡◌, ℕ, Bool, true, false, ◌&&◌, ◌||◌, ◌⊎◌, cond, Option, Some, None, option_map, nat_eq, refl, sym, ap, ◌∙◌, inl, inr}
+use Rattle.std.proofs.lemmas.Bool.{and_from, and_parts, and_right, cases_Bool, cond-false, cond-true, eq-eqb, eqb-true, false≢true, or_parts}
+use Rattle.std.proofs.lemmas.Option.{none-some, same_Some}
 use Rattle.lv_geometry.specs.declared.nodes.Node.{Node}
 use Rattle.lv_geometry.specs.Nodes.{covers, is_below, is_node, same_node}
 use Rattle.lv_summary.specs.declared.accepted.Accepted.TheVariants.{Held, Installed, Stale}
-use Rattle.lv_summary.specs.Table.{AnswersAlike, HasSize, Keeps, Table, Touches, delivery_in, entry_in, fresh_in, has_version, kept_in, touched_in, whole_in}
+use Rattle.lv_summary.specs.Table.{AnswersAlike, HasSize, Keeps, Learns, OnlyLearns, Table, Touches, beside, computed_entry_in, computed_in, delivery_in, entry_in, fresh_in, has_version, is_computed_in, kept_in, known_entry_in, known_in, touched_in, whole_in}
 
 -- a node is itself
 pub same_node-self : (n : Node) → same_node n n ≡ true
@@ -39,9 +39,43 @@ module _ {S : Type 0} where
       ap (λ f. cond f (option_map (λ kept. kept.1) (kept_in new n)) None) fresh
       ∙ ap (λ k. cond (fresh_in old n) (option_map (λ kept. kept.1) k) None) kept
 
+  -- a node was computed in both of two tables, or in neither, where they say the same of it
+  is_computed_in-same : (old new : Table S) (n : Node) → whole_in new n ≡ whole_in old n → touched_in new n ≡ touched_in old n → computed_in new n ≡ computed_in old n → is_computed_in new n ≡ is_computed_in old n
+  is_computed_in-same old new n whole touched computed =
+      ap (λ w. w && has_version (touched_in new n) (computed_in new n)) whole
+      ∙ ap (λ edit. whole_in old n && has_version edit (computed_in new n)) touched
+      ∙ ap (λ k. whole_in old n && has_version (touched_in old n) k) computed
+
+  -- two tables know the same of a node of which they say the same
+  pub known_entry_in-same : (old new : Table S) (n : Node) → whole_in new n ≡ whole_in old n → touched_in new n ≡ touched_in old n → kept_in new n ≡ kept_in old n → computed_in new n ≡ computed_in old n → (known_in new n ≡ known_in old n) × (known_entry_in new n ≡ known_entry_in old n)
+  known_entry_in-same old new n whole touched kept computed =
+      let fresh = fresh_in-same old new n whole touched kept in
+      let entry = entry_in-same old new n fresh kept in
+      let is_computed = is_computed_in-same old new n whole touched computed in (
+        ap (λ f. f || is_computed_in new n) fresh ∙ ap (λ c. fresh_in old n || c) is_computed,
+        ap (λ f. cond f (entry_in new n) (computed_entry_in new n)) fresh
+            ∙ ap (λ e. cond (fresh_in old n) e (computed_entry_in new n)) entry
+            ∙ ap (λ c. cond (fresh_in old n) (entry_in old n) (cond c (option_map (λ computed. computed.1) (computed_in new n)) None)) is_computed
+            ∙ ap (λ k. cond (fresh_in old n) (entry_in old n) (cond (is_computed_in old n) (option_map (λ computed. computed.1) k) None)) computed,
+      )
+
+  -- a fresh node is known by its summary
+  pub known_entry_in-fresh : (t : Table S) (n : Node) → fresh_in t n ≡ true → known_entry_in t n ≡ entry_in t n
+  known_entry_in-fresh t n fresh = cond-true (fresh_in t n) _ _ fresh
+
+  -- a node that isn't is known by what was computed
+  pub known_entry_in-computed : (t : Table S) (n : Node) → fresh_in t n ≡ false → is_computed_in t n ≡ true → known_entry_in t n ≡ option_map (λ computed. computed.1) (computed_in t n)
+  known_entry_in-computed t n stale computed = cond-false (fresh_in t n) _ _ stale ∙ cond-true (is_computed_in t n) _ _ computed
+
+  -- an unknown node has no summary
+  pub known_entry_in-unknown : (t : Table S) (n : Node) → known_in t n ≡ false → known_entry_in t n ≡ None
+  known_entry_in-unknown t n unknown =
+      let parts = or_parts (fresh_in t n) (is_computed_in t n) unknown in
+      cond-false (fresh_in t n) _ _ parts.0 ∙ cond-false (is_computed_in t n) _ _ parts.1
+
   -- a table answers like itself
   pub AnswersAlike-self : (t : Table S) → AnswersAlike t t
-  AnswersAlike-self t = record { size = refl; touched = λ n. refl; kept = λ n. refl }
+  AnswersAlike-self t = record { size = refl; touched = λ n. refl; kept = λ n. refl; computed = λ n. refl }
 
   -- a table that answers like one that answers like a third answers like the third
   pub AnswersAlike-along : (t u v : Table S) → AnswersAlike t u → AnswersAlike u v → AnswersAlike t v
@@ -50,6 +84,7 @@ module _ {S : Type 0} where
         size = then.size ∙ first.size;
         touched = λ n. then.touched n ∙ first.touched n;
         kept = λ n. then.kept n ∙ first.kept n;
+        computed = λ n. then.computed n ∙ first.computed n;
       }
 
   -- tables that answer alike have the same whole nodes
@@ -193,3 +228,162 @@ module _ {S : Type 0} where
             ]
         | inr fails ↦ let stale : Stale (touched_in t n) ≡ Held = sym (cond-false _ _ _ fails) ∙ is in cc
       ]
+
+  -- what was computed has a summary
+  computed_parts : (t : Table S) (n : Node) → is_computed_in t n ≡ true → (s : S) × (computed_in t n ≡ Some (touched_in t n, s))
+  computed_parts t n computed = has_version_kept (touched_in t n) (computed_in t n) (and_parts (whole_in t n) _ computed).1
+
+  -- a known node has a summary
+  pub entry_of_known : (t : Table S) (n : Node) → known_in t n ≡ true → (s : S) × (known_entry_in t n ≡ Some s)
+  entry_of_known t n known =
+      elim (cases_Bool (fresh_in t n)) [
+        | inl fresh ↦ let entry = entry_of_fresh t n fresh in (entry.0, known_entry_in-fresh t n fresh ∙ entry.1)
+        | inr stale ↦
+            let computed : is_computed_in t n ≡ true = sym (ap (λ fresh. fresh || is_computed_in t n) stale) ∙ known in
+            let summary = computed_parts t n computed in
+            (summary.0, known_entry_in-computed t n stale computed ∙ ap (option_map (λ computed. computed.1)) summary.1)
+      ]
+
+  -- a node with a summary is known
+  pub known_of_entry : (t : Table S) (n : Node) (s : S) → known_entry_in t n ≡ Some s → known_in t n ≡ true
+  known_of_entry t n s is =
+      elim (cases_Bool (known_in t n)) [
+        | inl known ↦ known
+        | inr unknown ↦ absurd (none-some s (sym (known_entry_in-unknown t n unknown) ∙ is))
+      ]
+
+  -- a node without one is not
+  pub unknown_of_none : (t : Table S) (n : Node) → known_entry_in t n ≡ None → known_in t n ≡ false
+  unknown_of_none t n none =
+      elim (cases_Bool (known_in t n)) [
+        | inl known ↦ let found = entry_of_known t n known in absurd (none-some found.0 (sym none ∙ found.1))
+        | inr unknown ↦ unknown
+      ]
+
+  -- a known node is whole, and its summary was delivered or computed at the number of the edit that touched it last
+  pub known_parts : (t : Table S) (n : Node) (s : S) → known_entry_in t n ≡ Some s → (whole_in t n ≡ true) × ((kept_in t n ≡ Some (touched_in t n, s)) ⊎ (computed_in t n ≡ Some (touched_in t n, s)))
+  known_parts t n s is =
+      elim (cases_Bool (fresh_in t n)) [
+        | inl fresh ↦
+            let kept = entry_of_fresh t n fresh in
+            let same : kept.0 ≡ s = same_Some _ _ (sym kept.1 ∙ sym (known_entry_in-fresh t n fresh) ∙ is) in
+            (whole_of_fresh t n fresh, inl (kept.2 ∙ ap (λ s. Some (touched_in t n, s)) same))
+        | inr stale ↦
+            let computed : is_computed_in t n ≡ true = sym (ap (λ fresh. fresh || is_computed_in t n) stale) ∙ known_of_entry t n s is in
+            let summary = computed_parts t n computed in
+            let same : summary.0 ≡ s = same_Some _ _ (sym (known_entry_in-computed t n stale computed ∙ ap (option_map (λ computed. computed.1)) summary.1) ∙ is) in
+            ((and_parts (whole_in t n) _ computed).0, inr (summary.1 ∙ ap (λ s. Some (touched_in t n, s)) same))
+      ]
+
+  -- another summary beside a version leaves the version
+  version_beside : (s : S) (kept : Option (ℕ × S)) → option_map (λ kept. kept.0) (beside s kept) ≡ option_map (λ kept. kept.0) kept
+  version_beside s None = refl
+  version_beside s (Some kept) = refl
+
+  -- and what has it
+  has_version-beside : (v : ℕ) (s : S) (kept : Option (ℕ × S)) → has_version v (beside s kept) ≡ has_version v kept
+  has_version-beside v s None = refl
+  has_version-beside v s (Some kept) = refl
+
+  -- a version that stands beside a summary stood there before
+  pub version_before : (v : ℕ) (s t : S) (kept : Option (ℕ × S)) → beside s kept ≡ Some (v, t) → (before : S) × (kept ≡ Some (v, before))
+  version_before v s t None is = absurd (none-some (v, t) is)
+  version_before v s t (Some kept) is = (kept.1, ap (λ v. Some (v, kept.1)) (ap (λ (pair : ℕ × S). pair.0) (same_Some _ _ is)))
+
+  -- a table that learnt the summary of a whole node
+  module _ (old new : Table S) (n : Node) (s : S) (learns : Learns old new n s) where
+    -- has the same whole nodes
+    learnt_whole : (m : Node) → whole_in new m ≡ whole_in old m
+    learnt_whole m = whole_in-size old new learns.size m
+
+    -- and the same delivered versions
+    learnt_version : (m : Node) → option_map (λ kept. kept.0) (kept_in new m) ≡ option_map (λ kept. kept.0) (kept_in old m)
+    learnt_version m =
+        elim (cases_Bool (same_node m n)) [
+          | inl same ↦ ap (option_map (λ kept. kept.0)) (learns.kept m ∙ cond-true _ _ _ same) ∙ version_beside s (kept_in old m)
+          | inr other ↦ ap (option_map (λ kept. kept.0)) (learns.kept m ∙ cond-false _ _ _ other)
+        ]
+
+    -- so the same nodes are fresh
+    learnt_fresh : (m : Node) → fresh_in new m ≡ fresh_in old m
+    learnt_fresh m =
+        let has : has_version (touched_in old m) (kept_in new m) ≡ has_version (touched_in old m) (kept_in old m) =
+        elim (cases_Bool (same_node m n)) [
+          | inl same ↦ ap (has_version (touched_in old m)) (learns.kept m ∙ cond-true _ _ _ same) ∙ has_version-beside (touched_in old m) s (kept_in old m)
+          | inr other ↦ ap (has_version (touched_in old m)) (learns.kept m ∙ cond-false _ _ _ other)
+        ] in
+        ap (λ w. w && has_version (touched_in new m) (kept_in new m)) (learnt_whole m)
+        ∙ ap (λ edit. whole_in old m && has_version edit (kept_in new m)) (learns.touched m)
+        ∙ ap (λ has. whole_in old m && has) has
+
+    -- what is kept for the node is the summary, where the node is fresh
+    learnt_entry : fresh_in old n ≡ true → entry_in new n ≡ Some s
+    learnt_entry fresh =
+        let kept = entry_of_fresh old n fresh in
+        cond-true (fresh_in new n) _ _ (learnt_fresh n ∙ fresh)
+        ∙ ap (option_map (λ kept. kept.1)) (learns.kept n ∙ cond-true _ _ _ (same_node-self n) ∙ ap (beside s) kept.2)
+
+    -- it was computed, where it is whole
+    learnt_computed : whole_in old n ≡ true → is_computed_in new n ≡ true
+    learnt_computed whole =
+        ap (λ w. w && has_version (touched_in new n) (computed_in new n)) (learnt_whole n ∙ whole)
+        ∙ ap (λ edit. has_version edit (computed_in new n)) (learns.touched n)
+        ∙ ap (has_version (touched_in old n)) (learns.computed n ∙ cond-true _ _ _ (same_node-self n))
+        ∙ eq-eqb (touched_in old n) (touched_in old n) refl
+
+    -- so it is known by that summary
+    pub known_entry_in-learnt : whole_in old n ≡ true → known_entry_in new n ≡ Some s
+    known_entry_in-learnt whole =
+        elim (cases_Bool (fresh_in old n)) [
+          | inl fresh ↦ known_entry_in-fresh new n (learnt_fresh n ∙ fresh) ∙ learnt_entry fresh
+          | inr stale ↦
+              known_entry_in-computed new n (learnt_fresh n ∙ stale) (learnt_computed whole)
+              ∙ ap (option_map (λ computed. computed.1)) (learns.computed n ∙ cond-true _ _ _ (same_node-self n))
+        ]
+
+    -- and of other nodes it knows what it knew
+    pub known_entry_in-learnt_other : (m : Node) → same_node m n ≡ false → (known_in new m ≡ known_in old m) × (known_entry_in new m ≡ known_entry_in old m)
+    known_entry_in-learnt_other m other =
+        known_entry_in-same old new m (learnt_whole m) (learns.touched m) (learns.kept m ∙ cond-false _ _ _ other) (learns.computed m ∙ cond-false _ _ _ other)
+
+    -- all that was delivered is as before, where the summary is what lay there, if the node was fresh
+    pub learns_only : whole_in old n ≡ true → (fresh_in old n ≡ true → entry_in old n ≡ Some s) → OnlyLearns old new
+    learns_only whole alike =
+        record {
+          size = learns.size;
+          blocks = learns.blocks;
+          touched = learns.touched;
+          versions = learnt_version;
+          fresh = learnt_fresh;
+          entries = λ m. elim (cases_Bool (same_node m n)) [
+            | inr other ↦ entry_in-same old new m (learnt_fresh m) (learns.kept m ∙ cond-false _ _ _ other)
+            | inl same ↦
+                let one = same_node-eq m n same in
+                let here : entry_in new n ≡ entry_in old n = elim (cases_Bool (fresh_in old n)) [
+                  | inl fresh ↦ learnt_entry fresh ∙ sym (alike fresh)
+                  | inr stale ↦ cond-false (fresh_in new n) _ _ (learnt_fresh n ∙ stale) ∙ sym (cond-false (fresh_in old n) _ _ stale)
+                ] in
+                ap (entry_in new) one ∙ here ∙ ap (entry_in old) (sym one)
+          ];
+          known = λ m known. elim (cases_Bool (same_node m n)) [
+            | inr other ↦ (known_entry_in-learnt_other m other).0 ∙ known
+            | inl same ↦ ap (known_in new) (same_node-eq m n same) ∙ known_of_entry new n s (known_entry_in-learnt whole)
+          ];
+        }
+
+  -- a table that learnt nothing
+  pub OnlyLearns-self : (t : Table S) → OnlyLearns t t
+  OnlyLearns-self t = record { size = refl; blocks = refl; touched = λ n. refl; versions = λ n. refl; fresh = λ n. refl; entries = λ n. refl; known = λ n known. known }
+
+  -- a table that learnt twice
+  pub OnlyLearns-along : (t u v : Table S) → OnlyLearns t u → OnlyLearns u v → OnlyLearns t v
+  OnlyLearns-along t u v first then =
+      record {
+        size = then.size ∙ first.size;
+        blocks = then.blocks ∙ first.blocks;
+        touched = λ n. then.touched n ∙ first.touched n;
+        versions = λ n. then.versions n ∙ first.versions n;
+        fresh = λ n. then.fresh n ∙ first.fresh n;
+        entries = λ n. then.entries n ∙ first.entries n;
+        known = λ n known. then.known n (first.known n known);
+      }

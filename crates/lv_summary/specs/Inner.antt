@@ -20,6 +20,7 @@ filled rows n blank =
     record {
       touched = lengthened rows.touched n 0;
       stamps = lengthened rows.stamps n 0;
+      computed = lengthened rows.computed n 0;
       kept = lengthened rows.kept n blank;
     }
 
@@ -32,13 +33,19 @@ abbrev pub with_kept : {S : Type 0} → Rows S → ℕ → ℕ → S → Rows S
 with_kept rows number version s =
     record rows { stamps = slice_set rows.stamps number (version + 1); kept = slice_set rows.kept number s }
 
+-- rows with a summary for the node of a number that was computed at its touched number
+abbrev pub with_learnt : {S : Type 0} → Rows S → ℕ → S → Rows S
+with_learnt rows number s =
+    record rows { computed = slice_set rows.computed number (slice_index rows.touched number + 1); kept = slice_set rows.kept number s }
+
 -- a table of six levels
 abbrev pub table_of : {S : Type 0} → ℕ → Rows S → Rows S → Rows S → Rows S → Rows S → Rows S → Table S
 table_of size l1 l2 l3 l4 l5 l6 = record { size = size; levels = l1 ∷ l2 ∷ l3 ∷ l4 ∷ l5 ∷ l6 ∷ [] }
 
--- a row of a level has its three parts, every index of the blocks has its row, and no edit is past the last that is possible
+-- a row of a level has its four parts, every index of the blocks has its row, and no edit is past the last that is possible
 pub record IsLevel {S : Type 0} (blocks level : ℕ) (rows : Rows S) : Type 0 where
   pub stamps : length rows.stamps ≡ length rows.touched
+  pub computed : length rows.computed ≡ length rows.touched
   pub kept : length rows.kept ≡ length rows.touched
   pub covers : 8 * blocks ≤ length rows.touched * 8 ^ level
   pub edits : All (λ edit. edit ≤ 16777215) rows.touched
@@ -61,5 +68,6 @@ pub record IsRowOf {S : Type 0} (t : Table S) (n : Node) (rows : Rows S) : Type 
   pub level : rows ≡ rows_for t n
   pub touched : n.number < length rows.touched
   pub stamps : n.number < length rows.stamps
+  pub computed : n.number < length rows.computed
   pub kept : n.number < length rows.kept
   pub edit : slice_index rows.touched n.number ≤ 16777215

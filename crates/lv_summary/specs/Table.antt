@@ -1,5 +1,6 @@
--- A table of summaries, node by node: by which edit each was touched last, and which summary is kept for it.
-use Rattle.std.specs.Prelude.{◌≡◌, ℕ, ◌-◌, Bool, false, ◌&&◌, Option, Some, None, option_map, List, [], slice_get, slice_index, nat_eq, nat_lt, length, if◌then◌else◌}
+-- A table of summaries, node by node: by which edit each was touched last, and which summary is kept for it, delivered or
+-- computed by who asked.
+use Rattle.std.specs.Prelude.{◌≡◌, ℕ, ◌-◌, Bool, true, false, ◌&&◌, ◌||◌, Option, Some, None, option_map, List, [], slice_get, slice_index, nat_eq, nat_lt, length, if◌then◌else◌}
 use Rattle.std.specs.List.{slice_index_or}
 use Rattle.lv_geometry.specs.declared.nodes.Node.{Node}
 use Rattle.lv_geometry.specs.Nodes.{covers, is_below, is_node, same_node}
@@ -7,10 +8,12 @@ use Rattle.lv_summary.specs.declared.accepted.Accepted.{Accepted}
 use Rattle.lv_summary.specs.declared.accepted.Accepted.TheVariants.{Installed, Held, Stale}
 
 -- the rows of one level, by the node's number: the edit that touched it last, one more than the version of the
--- summary kept for it (0 where none is), and that summary
+-- summary that was delivered for it (0 where none was), one more than the version at which who asks computed it, and the
+-- summary that lies there
 pub record Rows (S : Type 0) : Type 0 where
   pub touched : List ℕ
   pub stamps : List ℕ
+  pub computed : List ℕ
   pub kept : List S
 
 -- the rows of the six levels, from the lowest, and the size of the vector
@@ -20,7 +23,7 @@ pub record Table (S : Type 0) : Type 0 where
 
 -- a level that has no rows
 abbrev pub no_rows : {S : Type 0} → Rows S
-no_rows = record { touched = []; stamps = []; kept = [] }
+no_rows = record { touched = []; stamps = []; computed = []; kept = [] }
 
 -- the rows of a node's level
 abbrev pub rows_for : {S : Type 0} → Table S → Node → Rows S
@@ -30,10 +33,16 @@ rows_for t n = slice_index_or t.levels (n.level - 1) no_rows
 unfoldable pub touched_in : {S : Type 0} → Table S → Node → ℕ
 touched_in t n = if is_node n then slice_index (rows_for t n).touched n.number else 0
 
--- the version and the summary kept for a node, if there are any
+-- the version that was delivered for a node, if one was, with the summary that lies in its row
 unfoldable pub kept_in : {S : Type 0} → Table S → Node → Option (ℕ × S)
 kept_in t n =
     let stamp = slice_index (rows_for t n).stamps n.number in
+    if is_node n && nat_lt 0 stamp then option_map (λ s. (stamp - 1, s)) (slice_get (rows_for t n).kept n.number) else None
+
+-- the version at which who asks computed a node's summary, if any, with the summary that lies in its row
+unfoldable pub computed_in : {S : Type 0} → Table S → Node → Option (ℕ × S)
+computed_in t n =
+    let stamp = slice_index (rows_for t n).computed n.number in
     if is_node n && nat_lt 0 stamp then option_map (λ s. (stamp - 1, s)) (slice_get (rows_for t n).kept n.number) else None
 
 -- whether a node is whole: of a level that is kept, with every index below the size
@@ -53,6 +62,22 @@ fresh_in t n = whole_in t n && has_version (touched_in t n) (kept_in t n)
 abbrev pub entry_in : {S : Type 0} → Table S → Node → Option S
 entry_in t n = if fresh_in t n then option_map (λ kept. kept.1) (kept_in t n) else None
 
+-- whether a node is whole, and its summary was computed at the number of the last edit that touched it
+abbrev pub is_computed_in : {S : Type 0} → Table S → Node → Bool
+is_computed_in t n = whole_in t n && has_version (touched_in t n) (computed_in t n)
+
+-- whether a node is known: it is fresh, or computed
+abbrev pub known_in : {S : Type 0} → Table S → Node → Bool
+known_in t n = fresh_in t n || is_computed_in t n
+
+-- the summary of a node that was computed
+abbrev pub computed_entry_in : {S : Type 0} → Table S → Node → Option S
+computed_entry_in t n = if is_computed_in t n then option_map (λ computed. computed.1) (computed_in t n) else None
+
+-- the summary of a known node
+abbrev pub known_entry_in : {S : Type 0} → Table S → Node → Option S
+known_entry_in t n = if fresh_in t n then entry_in t n else computed_entry_in t n
+
 -- how many blocks the table has rows for
 unfoldable pub blocks_in : {S : Type 0} → Table S → ℕ
 blocks_in t = length (slice_index_or t.levels 0 no_rows).touched
@@ -62,6 +87,7 @@ pub record AnswersAlike {S : Type 0} (old new : Table S) : Type 0 where
   pub size : new.size ≡ old.size
   pub touched : (n : Node) → touched_in new n ≡ touched_in old n
   pub kept : (n : Node) → kept_in new n ≡ kept_in old n
+  pub computed : (n : Node) → computed_in new n ≡ computed_in old n
 
 -- the vector has another size, and nothing else has changed
 pub record HasSize {S : Type 0} (old new : Table S) (size : ℕ) : Type 0 where
@@ -69,6 +95,7 @@ pub record HasSize {S : Type 0} (old new : Table S) (size : ℕ) : Type 0 where
   pub blocks : blocks_in new ≡ blocks_in old
   pub touched : (n : Node) → touched_in new n ≡ touched_in old n
   pub kept : (n : Node) → kept_in new n ≡ kept_in old n
+  pub computed : (n : Node) → computed_in new n ≡ computed_in old n
 
 -- edit `edit` touched every node that has index i, and nothing else has changed
 pub record Touches {S : Type 0} (old new : Table S) (i edit : ℕ) : Type 0 where
@@ -76,6 +103,11 @@ pub record Touches {S : Type 0} (old new : Table S) (i edit : ℕ) : Type 0 wher
   pub blocks : blocks_in new ≡ blocks_in old
   pub touched : (n : Node) → touched_in new n ≡ (if is_node n && covers n i then edit else touched_in old n)
   pub kept : (n : Node) → kept_in new n ≡ kept_in old n
+  pub computed : (n : Node) → computed_in new n ≡ computed_in old n
+
+-- a version, if there is one, beside another summary
+abbrev pub beside : {S : Type 0} → S → Option (ℕ × S) → Option (ℕ × S)
+beside s kept = option_map (λ kept. (kept.0, s)) kept
 
 -- a summary of this version was put in place of what was kept for a node, and nothing else has changed
 pub record Keeps {S : Type 0} (old new : Table S) (node : Node) (version : ℕ) (s : S) : Type 0 where
@@ -83,6 +115,26 @@ pub record Keeps {S : Type 0} (old new : Table S) (node : Node) (version : ℕ) 
   pub blocks : blocks_in new ≡ blocks_in old
   pub touched : (n : Node) → touched_in new n ≡ touched_in old n
   pub kept : (n : Node) → kept_in new n ≡ (if same_node n node then Some (version, s) else kept_in old n)
+  pub computed : (n : Node) → computed_in new n ≡ (if same_node n node then beside s (computed_in old n) else computed_in old n)
+
+-- a summary that who asks computed at a node's touched number was put in place of what lay there; what was delivered keeps its
+-- version, and nothing else has changed
+pub record Learns {S : Type 0} (old new : Table S) (node : Node) (s : S) : Type 0 where
+  pub size : new.size ≡ old.size
+  pub blocks : blocks_in new ≡ blocks_in old
+  pub touched : (n : Node) → touched_in new n ≡ touched_in old n
+  pub computed : (n : Node) → computed_in new n ≡ (if same_node n node then Some (touched_in old node, s) else computed_in old n)
+  pub kept : (n : Node) → kept_in new n ≡ (if same_node n node then beside s (kept_in old n) else kept_in old n)
+
+-- a table learnt some summaries, if any: all that was delivered is as before, and what was known still is
+pub record OnlyLearns {S : Type 0} (old new : Table S) : Type 0 where
+  pub size : new.size ≡ old.size
+  pub blocks : blocks_in new ≡ blocks_in old
+  pub touched : (n : Node) → touched_in new n ≡ touched_in old n
+  pub versions : (n : Node) → option_map (λ kept. kept.0) (kept_in new n) ≡ option_map (λ kept. kept.0) (kept_in old n)
+  pub fresh : (n : Node) → fresh_in new n ≡ fresh_in old n
+  pub entries : (n : Node) → entry_in new n ≡ entry_in old n
+  pub known : (n : Node) → known_in old n ≡ true → known_in new n ≡ true
 
 -- what becomes of a summary that is delivered for a node: stale where the node isn't whole, or was touched by another
 -- edit last; held where what is kept has its version; else installed

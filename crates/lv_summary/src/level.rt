@@ -1,5 +1,5 @@
-ghost use Rattle.std.specs.Prelude.{◌≡◌, ◌+◌, ◌-◌, ◌<◌, ◌≤◌, ◌++◌, ◌==◌, length, replicate, slice_index, slice_get, Some, OnOk, IfErr, vec_len, vec_capacity};
-ghost use Rattle.lv_summary.specs.Inner.{filled, with_kept, with_touch};
+ghost use Rattle.std.specs.Prelude.{◌≡◌, ◌+◌, ◌-◌, ◌<◌, ◌≤◌, ◌++◌, ◌==◌, ◌||◌, length, replicate, slice_index, slice_get, Some, OnOk, IfErr, vec_len, vec_capacity};
+ghost use Rattle.lv_summary.specs.Inner.{filled, with_kept, with_learnt, with_touch};
 ghost use Rattle.lv_summary.specs.Table.{no_rows};
 
 use lv_geometry::Refusal;
@@ -11,6 +11,7 @@ use std::marker::Model;
 pub struct Level<S> {
     touched: Vec<u32>,
     stamps: Vec<u32>,
+    computed: Vec<u32>,
     kept: Vec<S>,
 }
 
@@ -20,7 +21,7 @@ impl<S> Model for Level<S> {
 
     ghost Value = { Shelf S };
 
-    ghost view = { λ a. record { rows = record { touched = a.touched.items; stamps = a.stamps.items; kept = a.kept.items }; capacity = min (vec_capacity a.touched) (min (vec_capacity a.stamps) (vec_capacity a.kept)) } };
+    ghost view = { λ a. record { rows = record { touched = a.touched.items; stamps = a.stamps.items; computed = a.computed.items; kept = a.kept.items }; capacity = min (min (vec_capacity a.touched) (vec_capacity a.stamps)) (min (vec_capacity a.computed) (vec_capacity a.kept)) } };
 }
 
 impl<S: Copy> Level<S> {
@@ -31,6 +32,7 @@ impl<S: Copy> Level<S> {
         Level {
             touched: Vec::new(alloc),
             stamps: Vec::new(alloc),
+            computed: Vec::new(alloc),
             kept: Vec::new(alloc),
         }
     }
@@ -50,6 +52,7 @@ impl<S: Copy> Level<S> {
     {
         make_room(&mut self.touched, rows as usize)?;
         make_room(&mut self.stamps, rows as usize)?;
+        make_room(&mut self.computed, rows as usize)?;
         make_room(&mut self.kept, rows as usize)
     }
 
@@ -60,6 +63,7 @@ impl<S: Copy> Level<S> {
     {
         lengthen(&mut self.touched, rows as usize, 0);
         lengthen(&mut self.stamps, rows as usize, 0);
+        lengthen(&mut self.computed, rows as usize, 0);
         lengthen(&mut self.kept, rows as usize, blank);
     }
 
@@ -80,7 +84,7 @@ impl<S: Copy> Level<S> {
         self.touched.get(number as usize).copied().unwrap_or(0)
     }
 
-    /// One more than the version of the summary that is kept for a node; 0 where none is.
+    /// One more than the version of the summary that was delivered for a node; 0 where none was.
     #[inline(always)]
     pub fn stamp(&self, number: u32) -> u32
         ensures { result ≡ slice_index self.now.rows.stamps number }
@@ -88,7 +92,7 @@ impl<S: Copy> Level<S> {
         self.stamps.get(number as usize).copied().unwrap_or(0)
     }
 
-    /// Whether what is kept for a node has the number of the edit that touched it last.
+    /// Whether what was delivered for a node has the number of the edit that touched it last.
     #[inline(always)]
     pub fn is_current(&self, number: u32) -> bool
         requires touched { number < length self.now.rows.touched }
@@ -98,6 +102,21 @@ impl<S: Copy> Level<S> {
     {
         let number = number as usize;
         self.stamps[number] == self.touched[number] + 1
+    }
+
+    /// Whether what was delivered for a node, or computed by who asks, has the number of the edit that touched it last.
+    #[inline(always)]
+    pub fn is_known(&self, number: u32) -> bool
+        requires touched { number < length self.now.rows.touched }
+        requires stamps { number < length self.now.rows.stamps }
+        requires computed { number < length self.now.rows.computed }
+        requires edit { slice_index self.now.rows.touched number ≤ 16777215 }
+        ensures { result ≡ ((slice_index self.now.rows.stamps number == slice_index self.now.rows.touched number + 1)
+            || (slice_index self.now.rows.computed number == slice_index self.now.rows.touched number + 1)) }
+    {
+        let number = number as usize;
+        let stamp = self.touched[number] + 1;
+        self.stamps[number] == stamp || self.computed[number] == stamp
     }
 
     /// The summary in the row of a node.
@@ -118,6 +137,19 @@ impl<S: Copy> Level<S> {
     {
         self.stamps[number as usize] = version + 1;
         self.kept[number as usize] = s;
+    }
+
+    /// Puts a summary that was computed at its touched number in the row of a node.
+    pub fn learn(&mut self, number: u32, s: S)
+        requires touched { number < length self.old.rows.touched }
+        requires computed { number < length self.old.rows.computed }
+        requires kept { number < length self.old.rows.kept }
+        requires edit { slice_index self.old.rows.touched number ≤ 16777215 }
+        ensures { self.new.rows ≡ with_learnt self.old.rows number s }
+    {
+        let number = number as usize;
+        self.computed[number] = self.touched[number] + 1;
+        self.kept[number] = s;
     }
 }
 

@@ -11,6 +11,3 @@ mod summaries;
 
 pub use accepted::Accepted;
 pub use summaries::Summaries;
-
-#[cfg(test)]
-mod tests;

@@ -1,7 +1,7 @@
 ghost use Rattle.std.specs.Prelude.{◌≡◌, ◌/◌, ◌*◌, ◌<◌, ◌≤◌, ◌&&◌, true, false, option_map, None, IfSome, IfNone, OnOk, OnErr, IfErr};
 ghost use Rattle.lv_geometry.specs.Nodes.{is_below, is_node};
 ghost use Rattle.lv_summary.specs.Inner.{IsLevelOf, IsRowOf};
-ghost use Rattle.lv_summary.specs.Table.{AfterDelivery, AnswersAlike, HasSize, Keeps, Touches, blocks_in, delivery_in, entry_in, fresh_in, kept_in, touched_in, whole_in};
+ghost use Rattle.lv_summary.specs.Table.{AfterDelivery, AnswersAlike, HasSize, Keeps, Learns, Touches, blocks_in, computed_in, delivery_in, entry_in, fresh_in, kept_in, known_entry_in, touched_in, whole_in};
 
 use crate::accepted::Accepted;
 use crate::level::Level;
@@ -41,6 +41,7 @@ impl<S: Copy> Summaries<S> {
         ensures blocks { blocks_in result ≡ 0 }
         ensures untouched { (n : Node) → touched_in result n ≡ 0 }
         ensures nothing_kept { (n : Node) → kept_in result n ≡ None }
+        ensures nothing_computed { (n : Node) → computed_in result n ≡ None }
     {
         Summaries {
             level_1: Level::new(alloc),
@@ -167,7 +168,20 @@ impl<S: Copy> Summaries<S> {
         }
     }
 
-    /// The version of the summary that is kept for a node, fresh or not; none where none is.
+    /// The summary of a node, where it is known: it is fresh, or was computed since it was touched last.
+    #[inline(always)]
+    pub fn known(&self, node: Node) -> Option<S>
+        ensures { result ≡ known_entry_in self.now node }
+    {
+        let level = self.whole_level(node)?;
+        if level.is_known(node.number) {
+            Some(level.kept(node.number))
+        } else {
+            None
+        }
+    }
+
+    /// The version of the summary that was delivered for a node, fresh or not; none where none was.
     pub fn kept_version(&self, node: Node) -> Option<u32>
         ensures { result ≡ option_map (λ kept. kept.0) (kept_in self.now node) }
     {
@@ -190,6 +204,22 @@ impl<S: Copy> Summaries<S> {
         }
         self.keep(node, version, s);
         Accepted::Installed
+    }
+
+    /// Keeps a summary that who asks computed for a whole node, so that the node is known until it is touched again. What was
+    /// delivered keeps its version, and no node gets fresh or stale by it.
+    pub fn learn(&mut self, node: Node, s: S)
+        requires whole { whole_in self.old node ≡ true }
+        ensures { Learns self.old self.new node s }
+    {
+        match node.level {
+            1 => self.level_1.learn(node.number, s),
+            2 => self.level_2.learn(node.number, s),
+            3 => self.level_3.learn(node.number, s),
+            4 => self.level_4.learn(node.number, s),
+            5 => self.level_5.learn(node.number, s),
+            _ => self.level_6.learn(node.number, s),
+        }
     }
 
     // Keeps a summary of a version for a whole node.

@@ -1,9 +1,11 @@
 use Rattle.std.proofs.Common.{◌≡◌, ◌∙◌, ◌+◌, ap, sym, arith, length, drop, vec_capacity, ◌<◌}
-use Rattle.lv_standing.specs.Inner.{asked}
+use Rattle.lv_edits.specs.Kept.{InLimits}
+use Rattle.lv_standing.specs.Inner.{SameElsewhere, asked}
 use Rattle.lv_standing.specs.Standings.{IsCurrent}
 use Rattle.lv_edits.proofs.Slices.{there_is}
 use Rattle.lv_standing.proofs.EntryLaws.{all_at, asked_more, rest_is}
 use Rattle.lv_standing.proofs.NoteLaws.{as_before, as_long, told_entries, told_notes, told_room}
+use Rattle.lv_standing.proofs.SameLaws.{same_live-along, still_six}
 use Rattle.lv_standing.proofs.watches.tell.Goals as goal
 
 pub tell_one-requires : goal.tell_one-requires
@@ -12,12 +14,14 @@ tell_one-requires g c =
     let all = c.args.watches.now.entries in
     let inside : c.loop-i.i < length all = omega (arith, c.len-i-end.ensures.len) in
     let same : length c.loop-i.watches.entries ≡ length all = as_long new all c.loop-i.watches.entries c.loop-i.i inside c.loop-i.invariant.entries in
-    let kept = as_before new all c.loop-i.watches.entries c.loop-i.i inside c.loop-i.invariant.entries in (
-      c.requires.0,
+    let kept = as_before new all c.loop-i.watches.entries c.loop-i.i inside c.loop-i.invariant.entries in
+    let limits : InLimits c.loop-i.live.history = rw c.loop-i.invariant.live.history c.requires.0 in
+    let elsewhere : SameElsewhere c.args.index g.old c.loop-i.live.history.journal = rw c.loop-i.invariant.live.history c.requires.1.1.0 in (
+      limits,
       (
-        c.requires.1.0,
+        still_six c.args.live.now.body c.loop-i.live.body c.loop-i.invariant.live.body c.requires.1.0,
         (
-          c.requires.1.1.0,
+          elsewhere,
           (
             omega (arith, inside, same),
             (
@@ -36,8 +40,9 @@ loop-i-preserved g c =
     let inside : c.loop-i.i < length all = omega (arith, c.len-i-end.ensures.len) in
     let there = there_is all c.loop-i.i inside in
     let kept = as_before new all c.loop-i.watches.entries c.loop-i.i inside c.loop-i.invariant.entries in
-    let told = c.tell_one.ensures.told there.0 (kept ∙ there.1) in
+    let told = rw c.loop-i.invariant.live.history at (c.tell_one.ensures.told there.0 (kept ∙ there.1)) in
     record {
+      live = same_live-along c.args.live.now c.loop-i.live c.tell_one.new.live c.loop-i.invariant.live c.tell_one.ensures.live;
       entries = told_entries g.old new c.args.index all c.loop-i.watches.entries c.tell_one.new.watches.entries c.loop-i.i c.loop-i.notes.items c.tell_one.new.notes.items there.0 there.1 inside c.loop-i.invariant.entries told;
       notes = told_notes g.old new c.args.index all c.loop-i.watches.entries c.tell_one.new.watches.entries c.loop-i.i c.loop-i.notes.items c.tell_one.new.notes.items there.0 there.1 inside c.loop-i.invariant.entries told c.loop-i.invariant.notes;
       room = told_room g.old new c.args.index all c.loop-i.watches.entries c.tell_one.new.watches.entries c.loop-i.i c.loop-i.notes.items c.tell_one.new.notes.items there.0 there.1 inside c.loop-i.invariant.entries told (vec_capacity c.tell_one.new.notes)

@@ -1,4 +1,5 @@
 use Rattle.std.proofs.Common.{◌≡◌, ◌+◌, ◌≤◌, ◌++◌, length, map, take, drop, vec_capacity}
+use Rattle.lv_live.specs.State.{SameLive}
 use Rattle.lv_standing.specs.Queries.{AreNotes}
 use Rattle.lv_standing.specs.Inner.{asked, refreshed}
 use Rattle.lv_standing.specs.Standings.{queries_of}
@@ -9,9 +10,10 @@ ghost-tell_one g a = g.old
 
 abbrev pub invariant-loop-i : goal.invariant-loop-i
 invariant-loop-i g l =
-    let new = l.live.history.journal in
+    let new = l.initial.live.history.journal in
     let all = l.initial.watches.entries in
     record {
+      live : SameLive l.initial.live l.live;
       entries : l.watches.entries ≡ map (refreshed new) (take l.i all) ++ drop l.i all;
       notes : AreNotes g.old new (queries_of (take l.i all)) l.notes.items;
       room : length l.notes.items + length (asked l.index (drop l.i all)) ≤ vec_capacity l.notes;

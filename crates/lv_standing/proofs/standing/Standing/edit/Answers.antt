@@ -10,17 +10,13 @@ use Rattle.lv_standing.specs.Standings.{IsCurrent, queries_of, query_at}
 use Rattle.lv_standing.proofs.EntryLaws.{all_refreshed, queries_refreshed}
 use Rattle.lv_standing.proofs.NoteLaws.{before_last, few_notes}
 use Rattle.lv_standing.proofs.RangeLaws.{edit_elsewhere}
+use Rattle.lv_standing.proofs.SameLaws.{same_refresh-along, still_six}
 use Rattle.lv_standing.proofs.standing.Standing.edit.Goals as goal
 
 -- a history with one more edit, without that edit
 was : (old new : History) (edit : Edit) → new ≡ record old { journal = old.journal ++ edit ∷ [] } → take (length new.journal - 1) new.journal ≡ old.journal
 was old new edit grown =
     ap (λ (h : History). take (length h.journal - 1) h.journal) grown ∙ before_last old.journal edit
-
--- a body that is the same means the same
-still_six : (old new : Six) → new ≡ old → ◌≡◌ {A = SixMeaning} (tt, (tt, (tt, (tt, (tt, old.pairs.second.second.second.second.second.table))))) six_meaning
-    → ◌≡◌ {A = SixMeaning} (tt, (tt, (tt, (tt, (tt, new.pairs.second.second.second.second.second.table))))) six_meaning
-still_six old new same is = subst (λ (b : Six). ◌≡◌ {A = SixMeaning} (tt, (tt, (tt, (tt, (tt, b.pairs.second.second.second.second.second.table))))) six_meaning) (sym same) is
 
 pub tell-requires : goal.tell-requires
 tell-requires c =
@@ -47,10 +43,10 @@ tell-requires c =
 
 pub invariant_of-self-2 : goal.invariant_of-self-2
 invariant_of-self-2 c = record {
-  limits = c.apply.ensures.limits;
-  six = still_six _ _ c.apply.ensures.refresh.body c.self.invariant.six;
+  limits = rw c.tell.ensures.live.history c.apply.ensures.limits;
+  six = still_six _ _ c.tell.ensures.live.body (still_six _ _ c.apply.ensures.refresh.body c.self.invariant.six);
   few = omega (arith, ap length c.tell.ensures.entries, length-map c.self.inside.watches.entries (refreshed c.apply.new.self.history.journal), c.self.invariant.few);
-  current = subst (AllByRecursion (IsCurrent c.apply.new.self.history.journal)) (sym c.tell.ensures.entries) (all_refreshed c.apply.new.self.history.journal c.self.inside.watches.entries);
+  current = rw c.tell.ensures.live.history (subst (AllByRecursion (IsCurrent c.apply.new.self.history.journal)) (sym c.tell.ensures.entries) (all_refreshed c.apply.new.self.history.journal c.self.inside.watches.entries));
 }
 
 pub returns-clause-few : goal.returns-clause-few

@@ -1,6 +1,0 @@
-mod bodies;
-mod common;
-mod memory;
-mod queries;
-mod refreshes;
-mod vectors;

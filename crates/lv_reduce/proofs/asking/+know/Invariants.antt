@@ -1,0 +1,16 @@
+use Rattle.std.proofs.Common.{◌≡◌, ◌<◌, true, false}
+use Rattle.lv_edits.specs.History.{list_of}
+use Rattle.lv_bodies.specs.Body.{CanFold}
+use Rattle.lv_summary.specs.Table.{known_in, whole_in}
+use Rattle.lv_reduce.proofs.KnowLaws.{Gathers}
+use Rattle.lv_reduce.proofs.asking.+know.Given as goal
+
+-- the levels below
+abbrev pub decreases-know : goal.decreases-know
+decreases-know g l = l.node.level
+
+-- so many children were asked
+abbrev pub invariant-loop-k : goal.invariant-loop-k
+invariant-loop-k g l =
+    let meaning = g.B.Body.meaning l.body in
+    (can : CanFold (list_of l.cells.journal)) × Gathers (g.B.Body.operations meaning) (g.B.Body.is_within meaning) (g.B.Body.laws l.body) l.cells.journal can l.initial.table l.table l.node l.k l.summary l.cells_read l.summaries_read

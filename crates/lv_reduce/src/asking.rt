@@ -1,0 +1,133 @@
+ghost use Rattle.std.specs.Prelude.{◌≡◌, ◌+◌, ◌*◌, ◌≤◌, true, false, length, IfOk, IfErr, OnErr};
+ghost use Rattle.lv_edits.specs.History.{list_of};
+ghost use Rattle.lv_summary.specs.Agrees.{Agrees};
+ghost use Rattle.lv_summary.specs.Table.{OnlyLearns, known_in, whole_in};
+ghost use Rattle.lv_reduce.specs.Answer.{IsAnswer, range_refusal};
+ghost use Rattle.lv_reduce.specs.Asked.{AreTopsKnown, IsFewAsked, Knows};
+
+use crate::reductions::{Answer, greatest_level, join, width};
+use crate::views::refusal_of;
+use lv_bodies::{Body, fold_more, fold_slice};
+use lv_edits::Edits;
+use lv_geometry::{Node, Refusal};
+use lv_summary::Summaries;
+
+/// The summary of a node, and how many cells and summaries were read for it.
+#[derive(Clone, Copy)]
+pub struct Known<S> {
+    pub summary: S,
+    pub cells_read: u32,
+    pub summaries_read: u32,
+}
+
+/// The fold of the elements from index `lo` up to `hi`, `hi` excluded, as `reduce` answers it; what is computed for it is kept in
+/// the table. So a range that was asked for costs at most 14 cells and 84 summaries until an edit touches it. Refused with `BadRange`,
+/// then `OutOfRange`: the table is then unchanged. Takes no memory.
+pub fn ask<B: Body>(
+    cells: &Edits,
+    table: &mut Summaries<B::S>,
+    body: &B,
+    lo: u32,
+    hi: u32,
+) -> Result<Answer<B::S>, Refusal>
+    requires agrees { Agrees (B.operations (B.meaning body.now)) cells.now.journal table.old }
+    ensures ok { IfOk result (λ answer. IsAnswer (B.operations (B.meaning body.now)) cells.now.journal lo hi answer) }
+    ensures err { IfErr result (λ refusal. range_refusal cells.now.journal lo hi ≡ Some refusal) }
+    ensures unchanged { OnErr result (table.new ≡ table.old) }
+    ensures agrees { Agrees (B.operations (B.meaning body.now)) cells.now.journal table.new }
+    ensures learns { OnlyLearns table.old table.new }
+    ensures known { IfOk result (λ _. AreTopsKnown (known_in table.new) lo hi) }
+    ensures quiet { AreTopsKnown (known_in table.old) lo hi → table.new ≡ table.old }
+    ensures few { IfOk result (λ answer. IsFewAsked (known_in table.old) (known_in table.new) lo hi answer.cells_read answer.summaries_read) }
+{
+    if let Some(refusal) = refusal_of(cells, lo, hi) {
+        return Err(refusal);
+    }
+    let mut value = body.identity();
+    let mut cells_read = 0;
+    let mut summaries_read = 0;
+    let mut at = lo;
+    while at < hi {
+        let level = greatest_level(at, hi);
+        if level == 0 {
+            value = fold_more(body, value, cells.read(at));
+            at += 1;
+            cells_read += 1;
+        } else {
+            let number = at >> (3 * level);
+            let known = know(cells, table, body, Node { level, number });
+            value = join(body, value, known.summary);
+            at += width(level);
+            cells_read += known.cells_read;
+            summaries_read += known.summaries_read;
+        }
+    }
+    Ok(Answer {
+        edit: cells.edit(),
+        value,
+        cells_read,
+        summaries_read,
+    })
+}
+
+// The summary of a whole node: what is known, or else computed from the node's children, which are asked first.
+fn know<B: Body>(cells: &Edits, table: &mut Summaries<B::S>, body: &B, node: Node) -> Known<B::S>
+    requires agrees { Agrees (B.operations (B.meaning body.now)) cells.now.journal table.old }
+    requires whole { whole_in table.old node ≡ true }
+    ensures { Knows (B.operations (B.meaning body.now)) cells.now.journal table.old table.new node result }
+{
+    if let Some(summary) = table.known(node) {
+        return Known {
+            summary,
+            cells_read: 0,
+            summaries_read: 1,
+        };
+    }
+    // The elements are few enough for a fold.
+    let _size = cells.size();
+    if node.level == 1 {
+        return know_block(cells, table, body, node);
+    }
+    let mut summary = body.identity();
+    let mut cells_read = 0;
+    let mut summaries_read = 0;
+    for k in 0..8 {
+        let child = Node {
+            level: node.level - 1,
+            number: 8 * node.number + k,
+        };
+        let known = know(cells, table, body, child);
+        summary = join(body, summary, known.summary);
+        cells_read += known.cells_read;
+        summaries_read += known.summaries_read;
+    }
+    table.learn(node, summary);
+    Known {
+        summary,
+        cells_read,
+        summaries_read,
+    }
+}
+
+// The summary of a whole block that is not known, computed from its elements.
+fn know_block<B: Body>(
+    cells: &Edits,
+    table: &mut Summaries<B::S>,
+    body: &B,
+    block: Node,
+) -> Known<B::S>
+    requires agrees { Agrees (B.operations (B.meaning body.now)) cells.now.journal table.old }
+    requires whole { whole_in table.old block ≡ true }
+    requires level { block.level ≡ 1 }
+    requires unknown { known_in table.old block ≡ false }
+    ensures { Knows (B.operations (B.meaning body.now)) cells.now.journal table.old table.new block result }
+{
+    let elements = cells.block(block.number);
+    let summary = fold_slice(body, &elements);
+    table.learn(block, summary);
+    Known {
+        summary,
+        cells_read: 8,
+        summaries_read: 0,
+    }
+}

@@ -1,0 +1,34 @@
+-- A vector that learnt something is as it was for its queries.
+use Rattle.std.proofs.Common.{◌≡◌, ◌∙◌, refl, subst, sym}
+use Rattle.lv_bodies.specs.declared.sixes.Six.{Six}
+use Rattle.lv_bodies.specs.Six.{SixMeaning, six_meaning}
+use Rattle.lv_live.specs.State.{LiveState, SameLive, SameRefresh}
+
+-- a body that is the same means the same
+pub still_six : (old new : Six) → new ≡ old → ◌≡◌ {A = SixMeaning} (tt, (tt, (tt, (tt, (tt, old.pairs.second.second.second.second.second.table))))) six_meaning
+    → ◌≡◌ {A = SixMeaning} (tt, (tt, (tt, (tt, (tt, new.pairs.second.second.second.second.second.table))))) six_meaning
+still_six old new same is = subst (λ (b : Six). ◌≡◌ {A = SixMeaning} (tt, (tt, (tt, (tt, (tt, b.pairs.second.second.second.second.second.table))))) six_meaning) (sym same) is
+
+module _ {B S : Type 0} where
+  -- a vector is as it is
+  pub same_live-self : (s : LiveState B S) → SameLive s s
+  same_live-self s = record { body = refl; history = refl; claimed = λ n. refl; kept = λ n. refl }
+
+  -- and as it was where it was so before
+  pub same_live-along : (s t u : LiveState B S) → SameLive s t → SameLive t u → SameLive s u
+  same_live-along s t u first then =
+      record {
+        body = then.body ∙ first.body;
+        history = then.history ∙ first.history;
+        claimed = λ n. then.claimed n ∙ first.claimed n;
+        kept = λ n. then.kept n ∙ first.kept n;
+      }
+
+  -- after an edit too its claims and versions are those before
+  pub same_refresh-along : (s t u : LiveState B S) → SameRefresh s t → SameLive t u → SameRefresh s u
+  same_refresh-along s t u first then =
+      record {
+        body = then.body ∙ first.body;
+        claimed = λ n. then.claimed n ∙ first.claimed n;
+        kept = λ n. then.kept n ∙ first.kept n;
+      }

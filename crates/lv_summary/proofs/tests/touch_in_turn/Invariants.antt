@@ -1,6 +1,0 @@
-use Rattle.std.proofs.Common.{◌≡◌}
-use Rattle.lv_summary.specs.Table.{blocks_in}
-use Rattle.lv_summary.proofs.tests.touch_in_turn.Given as goal
-
-abbrev pub invariant-loop-i : goal.invariant-loop-i
-invariant-loop-i l = blocks_in l.table ≡ blocks_in l.initial.table
