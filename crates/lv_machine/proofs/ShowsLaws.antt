@@ -1,0 +1,169 @@
+-- What moves do to words that show a history: they show it still, or the longer one.
+use Rattle.std.proofs.Common.{◌≡◌, ◌⊎◌, ℕ, ◌+◌, ◌*◌, ◌/◌, ◌<◌, ◌≤◌, max, Option, Some, None, List, [], ◌∷◌, ◌++◌, length, take, true, false, nat_eq, unwrap_or, refl, sym, ap, ◌∙◌, inl, inr, arith}
+use Rattle.std.specs.Prelude.{if◌then◌else◌}
+use Rattle.std.specs.Option.{option_map_or}
+use Rattle.std.proofs.lemmas.Bool.{cases_Bool, cases_lt, cond-false, cond-true, eqb-true, eq-eqb, false≢true}
+use Rattle.std.proofs.lemmas.List.{length_push, take-append-le}
+use Rattle.lv_geometry.specs.Bounds.{Bounds}
+use Rattle.lv_geometry.specs.Cells.{capacity_of}
+use Rattle.lv_geometry.specs.Nodes.{covers}
+use Rattle.lv_edits.specs.Touch.{index_written, touches}
+use Rattle.lv_edits.proofs.TouchLaws.{touched_by-le, touched_by-snoc}
+use Rattle.lv_machine.specs.declared.entries.Entry.{Entry}
+use Rattle.lv_machine.specs.History.{cell_of, descriptor_of, edits_of, elements_of, Ends, index_written_by, IsLegal}
+use Rattle.lv_machine.specs.Layout.{count_of, place}
+use Rattle.lv_machine.specs.Moves.{completing}
+use Rattle.lv_machine.specs.Shows.{block, Fits, FitsPart, mark_of}
+use Rattle.lv_machine.specs.Terms.{AreTerms, blocks_of, Folding, Terms}
+use Rattle.lv_machine.specs.Words.{bits_written, cell_version, cell_word, edit_of, HasPending, index_of}
+use Rattle.lv_machine.proofs.EndsLaws.{Ends-cases, grown}
+use Rattle.lv_machine.proofs.HistoryLaws.{cell_of-below, cell_of-elsewhere, cell_of-there, decoded, edits_of-cons, few_cells, index_of-cons, index_of-nil, length-edits_of, value_of-cons, written_within}
+use Rattle.lv_machine.proofs.WordLaws.{cell_version-least}
+
+pub place_is : (b r : ℕ) → place b r ≡ 1 + 16 * b + r
+unfolding place
+place_is b r = refl
+
+-- two places of blocks are one only where block and place are
+pub one_place : (b r c s : ℕ) → r < 16 → s < 16 → place b r ≡ place c s → (b ≡ c) × (r ≡ s)
+one_place b r c s short brief same = let p = place_is b r in let q = place_is c s in (omega arith, omega arith)
+
+-- each place lies among the words
+pub place_within : (limits : Bounds) (b r : ℕ) → b < blocks_of limits → r < 16 → place b r < count_of limits
+place_within limits b r near short = omega (arith, place_is b r)
+
+-- there are at most 511 blocks
+pub few_blocks : (t : Terms) → AreTerms t → blocks_of t.limits ≤ 511
+few_blocks t terms = omega (arith, few_cells t terms)
+
+-- the greater of two numbers is one of them
+pub max_either : (a b : ℕ) → (max a b ≡ a) ⊎ (max a b ≡ b)
+max_either a b = elim (cases_lt a b) [
+  | inl less ↦ inr (omega arith)
+  | inr more ↦ inl (omega arith)
+]
+
+-- what shows f, raised to what shows f of an earlier history, shows f
+pub fits_raised : (t : Terms) (f : List Entry → ℕ) → ((h : List Entry) (e : Entry) → IsLegal t (e ∷ h) → f h ≤ f (e ∷ h)) → (k h : List Entry) (word : ℕ) → Ends k h → IsLegal t h → Fits f h word → Fits f h (max word (f k))
+fits_raised t f grows k [] word ends legal fits =
+    let less = grown t f grows k [] ends legal in
+    elim fits.shown [
+      | inl is ↦ record { shown = inl (omega arith) }
+      | inr is ↦ record { shown = inl (omega arith) }
+    ]
+fits_raised t f grows k (e ∷ h) word ends legal fits =
+    let less = grown t f grows k (e ∷ h) ends legal in
+    let step = grows h e legal in
+    elim fits.shown [
+      | inl is ↦ record { shown = inl (omega arith) }
+      | inr is ↦ elim (Ends-cases k h e ends) [
+        | inl whole ↦ record { shown = inl (omega (arith, ap f whole)) }
+        | inr before ↦ let under = grown t f grows k h before legal.0 in record { shown = inr (omega arith) }
+      ]
+    ]
+
+-- a touched block is that of the index that is written
+touched_there : (o : Option ℕ) (b : ℕ) → option_map_or (covers (block b)) o false ≡ true → unwrap_or o 4095 / 8 ≡ b
+touched_there None b touched = absurd (false≢true touched)
+touched_there (Some i) b touched = eqb-true _ _ touched
+
+there_touched : (o : Option ℕ) → unwrap_or o 4095 < 4088 → option_map_or (covers (block (unwrap_or o 4095 / 8))) o false ≡ true
+there_touched None near = absurd (omega arith)
+there_touched (Some i) near = eq-eqb _ _ refl
+
+touched_at : (h : List Entry) (e : Entry) (b : ℕ) → touches (elements_of h) e.edit (block b) ≡ true → index_written_by h e / 8 ≡ b
+unfolding index_written_by
+touched_at h e b touched = touched_there (index_written (elements_of h) e.edit) b touched
+
+at_touched : (h : List Entry) (e : Entry) → index_written_by h e < 4088 → touches (elements_of h) e.edit (block (index_written_by h e / 8)) ≡ true
+unfolding index_written_by
+at_touched h e near = there_touched (index_written (elements_of h) e.edit) near
+
+pub mark_of-cons : (b : ℕ) (e : Entry) (h : List Entry) → mark_of b (e ∷ h) ≡ if touches (elements_of h) e.edit (block b) then length h + 1 else mark_of b h
+mark_of-cons b e h = rw (edits_of-cons e h, touched_by-snoc, length-edits_of)
+
+pub mark_of-le : (b : ℕ) (h : List Entry) → mark_of b h ≤ length h
+mark_of-le b h = omega (arith, touched_by-le (edits_of h) (block b), length-edits_of h)
+
+-- a cell that the last entry did not write, or whose version says that it was written since, is that of the history
+pub current_cell : (t : Terms) (i : ℕ) (h : List Entry) (word : ℕ) → AreTerms t → IsLegal t h → Fits (cell_of i) h word → (index_of (descriptor_of h) ≡ i → length h ≤ cell_version word) → word ≡ cell_of i h
+current_cell t i [] word terms legal fits complete = elim fits.shown [
+  | inl is ↦ is
+  | inr is ↦ is
+]
+current_cell t i (e ∷ h) word terms legal fits complete = elim fits.shown [
+  | inl is ↦ is
+  | inr is ↦ elim (cases_Bool (nat_eq (index_written_by h e) i)) [
+    | inl there ↦
+        let late = complete (index_of-cons t h e terms legal ∙ eqb-true _ _ there) in
+        absurd (omega (arith, cell_of-below t i h legal.0, cell_version-least (length h + 1) word (omega arith)))
+    | inr elsewhere ↦ is ∙ sym (cell_of-elsewhere i e h elsewhere)
+  ]
+]
+
+-- and so is such a mark
+pub current_mark : (t : Terms) (b : ℕ) (h : List Entry) (word : ℕ) → AreTerms t → b < blocks_of t.limits → IsLegal t h → Fits (mark_of b) h word → (HasPending (descriptor_of h) → index_of (descriptor_of h) / 8 ≡ b → length h ≤ word) → word ≡ mark_of b h
+current_mark t b [] word terms near legal fits complete = elim fits.shown [
+  | inl is ↦ is
+  | inr is ↦ is
+]
+current_mark t b (e ∷ h) word terms near legal fits complete = elim fits.shown [
+  | inl is ↦ is
+  | inr is ↦ elim (cases_Bool (touches (elements_of h) e.edit (block b))) [
+    | inl touched ↦
+        let at = touched_at h e b touched in
+        let index = index_of-cons t h e terms legal in
+        elim (written_within t h e terms legal) [
+          | inl none ↦ absurd (omega (arith, few_blocks t terms))
+          | inr some ↦
+              let late = complete (omega (arith, few_cells t terms)) (ap (λ i. i / 8) index ∙ at) in
+              absurd (omega (arith, mark_of-le b h))
+        ]
+    | inr untouched ↦ is ∙ sym (mark_of-cons b e h ∙ cond-false _ _ _ untouched)
+  ]
+]
+
+-- a pending write: it lies in a cell, and this is what completes it
+pub record IsPending (t : Terms) (k : List Entry) : Type 0 where
+  pub within : index_of (descriptor_of k) < capacity_of t.limits.buckets
+  pub cell : completing (descriptor_of k) ≡ cell_of (index_of (descriptor_of k)) k
+  pub mark : edit_of (descriptor_of k) ≡ mark_of (index_of (descriptor_of k) / 8) k
+
+pub pending : (t : Terms) (k : List Entry) → AreTerms t → IsLegal t k → HasPending (descriptor_of k) → IsPending t k
+pending t [] terms legal has = absurd (omega (arith, index_of-nil))
+pending t (e ∷ k) terms legal has =
+    let index = index_of-cons t k e terms legal in
+    let edit = (decoded t (e ∷ k) terms legal).edit in
+    let touched = at_touched k e (omega arith) in
+    record {
+      within = elim (written_within t k e terms legal) [
+        | inl none ↦ absurd (omega arith)
+        | inr some ↦ omega arith
+      ];
+      cell = rw (edit, value_of-cons t k e terms legal, cell_of-there (index_of (descriptor_of (e ∷ k))) e k (sym index)) (ap (λ n. cell_word n (bits_written e.edit)) (omega arith));
+      mark = edit ∙ rw (index, mark_of-cons, touched, cond-true) (omega arith);
+    }
+
+-- a part stays one as the history grows
+pub part_grows : (f : Folding) (h : List Entry) (e : Entry) (b p word : ℕ) → FitsPart f h b p word → FitsPart f (e ∷ h) b p word
+part_grows f h e b p word fits = elim fits.shown [
+  | inl none ↦ record { shown = inl none }
+  | inr (v, part) ↦
+      let front : take v (edits_of h ++ e.edit ∷ []) ≡ take v (edits_of h) = take-append-le v (edits_of h) (e.edit ∷ []) part.within in
+      let whole = part.whole in
+      let touched = part.touched in
+      let is = part.word_is in
+      let within = part.within in
+      record {
+        shown = inr (
+          v,
+          rw edits_of-cons (record {
+            some = part.some;
+            within = omega (arith, length_push (edits_of h) e.edit);
+            whole = rw front whole;
+            touched = rw front touched;
+            word_is = rw front is;
+          }),
+        );
+      }
+]

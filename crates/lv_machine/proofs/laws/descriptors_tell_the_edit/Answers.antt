@@ -1,0 +1,5 @@
+use Rattle.lv_machine.proofs.ReadLaws.{between}
+use Rattle.lv_machine.proofs.laws.descriptors_tell_the_edit.Goals as goal
+
+pub returns : goal.returns
+returns c = between

@@ -1,0 +1,10 @@
+use Rattle.std.proofs.Common.{◌≡◌, ◌+◌, ◌≤◌, ◌-◌, replicate, vec_capacity, vec_len}
+use Rattle.lv_machine.specs.Machine.{idle}
+use Rattle.lv_machine.proofs.machines.idle_actors.Given as goal
+
+-- so many idle actors are there, and there is room for the others
+abbrev pub invariant-loop-number : goal.invariant-loop-number
+invariant-loop-number g l = record {
+  items : l.actors.items ≡ replicate l._number idle;
+  room : vec_len l.actors + (l.count - l._number) ≤ vec_capacity l.actors;
+}

@@ -1,0 +1,10 @@
+pub mod History
+pub mod Layout
+pub mod Machine
+pub mod Moves
+pub mod Progress
+pub mod Ready
+pub mod Schedules
+pub mod Shows
+pub mod Terms
+pub mod Words

@@ -1,0 +1,142 @@
+-- The atomic steps of the lock-free form, and the states that they reach.
+use Rattle.std.specs.Prelude.{◌≡◌, ℕ, ◌*◌, ◌/◌, ◌<◌, ◌≤◌, max, Option, Some, None, List, [], ◌∷◌, nat_eq, nat_lt, replicate, slice_index, slice_set, if◌then◌else◌}
+use Rattle.lv_geometry.specs.Bounds.{Bounds}
+use Rattle.lv_geometry.specs.Cells.{capacity_of}
+use Rattle.lv_geometry.specs.declared.refusals.Refusal.{Refusal}
+use Rattle.lv_geometry.specs.declared.refusals.Refusal.TheVariants.{Empty, Full, OutOfRange, TooLarge, Worn}
+use Rattle.lv_edits.specs.declared.edit.Edit.{Edit}
+use Rattle.lv_edits.specs.declared.edit.Edit.TheVariants.{Push, Pop, Write, Reserve}
+use Rattle.lv_machine.specs.declared.entries.Entry.{Entry}
+use Rattle.lv_machine.specs.History.{descriptor_of, IsLegal, IsShortEdit}
+use Rattle.lv_machine.specs.Layout.{cell_place, mark_place, part_place}
+use Rattle.lv_machine.specs.Shows.{FitsPart, ShowsHistory}
+use Rattle.lv_machine.specs.Terms.{AreTerms, blocks_of, Terms}
+use Rattle.lv_machine.specs.Words.{cell_version, cell_word, descriptor_after, edit_between, edit_of, HasPending, index_of, size_of, value_of}
+
+-- a state: the words, the history that led to them, and the descriptor that each actor saw last
+pub record Config : Type 0 where
+  pub words : List ℕ
+  pub history : List Entry
+  pub looks : ℕ → ℕ
+
+-- one atomic step on one word, by an actor
+pub data Move : Type 0 where
+  -- load of the descriptor; the look becomes what was loaded
+  Look : ℕ → Move
+  -- compare-exchange of the descriptor from the look, for an edit
+  Exchange : ℕ → Edit → Move
+  -- fetch-max of the cell of the look's pending write
+  HelpCell : ℕ → Move
+  -- fetch-max of the mark of that cell's block
+  HelpMark : ℕ → Move
+  -- fetch-max of a part of a block with a word
+  Install : ℕ → ℕ → ℕ → ℕ → Move
+  -- load of a cell, a mark or a part; the split and the join of a seat
+  Read : ℕ → Move
+
+-- a look becomes another
+abbrev pub look_set : ℕ → ℕ → (ℕ → ℕ) → ℕ → ℕ
+look_set a word looks b = if nat_eq b a then word else looks b
+
+-- the word at a place becomes the greater of itself and n
+abbrev pub raised : Config → ℕ → ℕ → Config
+raised c at n = record c { words = slice_set c.words at (max (slice_index c.words at) n) }
+
+-- an actor's look becomes the descriptor
+abbrev pub looked : Config → ℕ → Config
+looked c a = record c { looks = look_set a (slice_index c.words 0) c.looks }
+
+-- an edit is accepted: the descriptor becomes the next one, and the actor's look with it
+abbrev pub accepted : Config → ℕ → Edit → Config
+accepted c a edit = record {
+  words = slice_set c.words 0 (descriptor_after (c.looks a) edit);
+  history = record { actor = a; edit = edit } ∷ c.history;
+  looks = look_set a (descriptor_after (c.looks a) edit) c.looks;
+}
+
+-- the word that completes a pending write
+abbrev pub completing : ℕ → ℕ
+completing look = cell_word (edit_of look) (value_of look)
+
+-- the state after a move
+abbrev pub moved : Config → Move → Config
+moved c (Look a) = looked c a
+moved c (Exchange a edit) = if nat_eq (slice_index c.words 0) (c.looks a) then accepted c a edit else looked c a
+moved c (HelpCell a) = raised c (cell_place (index_of (c.looks a))) (completing (c.looks a))
+moved c (HelpMark a) = raised c (mark_place (index_of (c.looks a) / 8)) (edit_of (c.looks a))
+moved c (Install a b p word) = raised c (part_place b p) word
+moved c (Read a) = c
+
+-- why an edit is refused at a size, while edits are left
+abbrev pub refused_at : Bounds → ℕ → Edit → Option Refusal
+refused_at limits size (Push x) = if nat_eq size (capacity_of limits.buckets) then Some Full else None
+refused_at limits size Pop = if nat_eq size 0 then Some Empty else None
+refused_at limits size (Write i x) = if nat_lt i size then None else Some (OutOfRange size)
+refused_at limits size (Reserve n) = if nat_lt (capacity_of limits.buckets) n then Some (TooLarge (capacity_of limits.buckets)) else None
+
+-- the first refusal that applies to an edit at a descriptor, or none
+abbrev pub verdict_at : Bounds → ℕ → Edit → Option Refusal
+verdict_at limits look edit = if nat_eq (edit_of look) limits.edits then Some Worn else refused_at limits (size_of look) edit
+
+-- the cell and the mark of a look's pending write have its number, or a greater one
+pub record IsComplete (words : List ℕ) (look : ℕ) : Type 0 where
+  pub cell : HasPending look → edit_of look ≤ cell_version (slice_index words (cell_place (index_of look)))
+  pub mark : HasPending look → edit_of look ≤ slice_index words (mark_place (index_of look / 8))
+
+-- an exchange may be made for an edit of 16 bits that nothing refuses at the look, whose pending write is complete
+pub record MayExchange (t : Terms) (c : Config) (a : ℕ) (edit : Edit) : Type 0 where
+  pub actor : a < t.seats
+  pub short : IsShortEdit edit
+  pub verdict : verdict_at t.limits (c.looks a) edit ≡ None
+  pub complete : IsComplete c.words (c.looks a)
+
+-- a part may be installed that a part's word may show
+pub record MayInstall (t : Terms) (c : Config) (b p word : ℕ) : Type 0 where
+  pub block : b < blocks_of t.limits
+  pub part : p < t.folding.parts
+  pub fits : FitsPart t.folding c.history b p word
+
+-- which moves may be made in a state
+abbrev pub MayMove : Terms → Config → Move → Type 0
+MayMove t c (Look a) = a < t.seats
+MayMove t c (Exchange a edit) = MayExchange t c a edit
+MayMove t c (HelpCell a) = HasPending (c.looks a)
+MayMove t c (HelpMark a) = HasPending (c.looks a)
+MayMove t c (Install a b p word) = MayInstall t c b p word
+MayMove t c (Read a) = Unit {0}
+
+-- the start: no edits, and nothing looked at but this
+abbrev pub start : Terms → Config
+start t = record {
+  words = descriptor_of [] ∷ replicate (16 * blocks_of t.limits) 0;
+  history = [];
+  looks = λ a. descriptor_of [];
+}
+
+-- the state after some moves, the newest first
+unfoldable pub reached : Terms → List Move → Config
+reached t [] = start t
+reached t (m ∷ ms) = moved (reached t ms) m
+
+-- each move may be made where it comes
+abbrev pub AreAllowed : Terms → List Move → Type 0
+AreAllowed t [] = Unit {0}
+AreAllowed t (m ∷ ms) = AreAllowed t ms × MayMove t (reached t ms) m
+
+-- a state that allowed moves reach from the start
+pub record IsReachable (t : Terms) (c : Config) : Type 0 where
+  pub moves : List Move
+  pub allowed : AreAllowed t moves
+  pub reached_is : reached t moves ≡ c
+
+-- a state's words show its history
+abbrev pub Shows : Terms → Config → Type 0
+Shows t c = ShowsHistory t c.words c.history c.looks
+
+-- the words of every reachable state show its history
+abbrev pub ReachableShows : Type 0
+ReachableShows = (t : Terms) (c : Config) → AreTerms t → IsReachable t c → Shows t c
+
+-- two descriptors that follow one another alone tell the edit between them
+abbrev pub DescriptorsTellEdits : Type 0
+DescriptorsTellEdits = (t : Terms) (h : List Entry) (e : Entry) → AreTerms t → IsLegal t (e ∷ h) → edit_between (descriptor_of h) (descriptor_of (e ∷ h)) ≡ e.edit

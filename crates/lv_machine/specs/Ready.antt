@@ -1,0 +1,89 @@
+-- When the next step of a call can be done, as numbers alone: what the code asks of a call under way.
+use Rattle.std.specs.Prelude.{◌≡◌, ℕ, ◌+◌, ◌<◌, ◌≤◌, List, slice_set}
+use Rattle.lv_edits.specs.declared.edit.Edit.{Edit}
+use Rattle.lv_edits.specs.declared.edit.Edit.TheVariants.{Push, Pop, Write, Reserve}
+use Rattle.lv_machine.specs.declared.tasks.Task.{Task}
+use Rattle.lv_machine.specs.declared.tasks.Task.TheVariants as task
+use Rattle.lv_machine.specs.declared.tasks.Keep.{Keep}
+use Rattle.lv_machine.specs.declared.tasks.Parts.{Parts}
+use Rattle.lv_machine.specs.declared.tasks.Walk.{Walk}
+use Rattle.lv_machine.specs.History.{IsShortEdit}
+use Rattle.lv_machine.specs.Machine.{place_of}
+use Rattle.lv_machine.specs.Words.{cell_version, edit_of, part_value, part_version, size_of}
+
+-- an index of twelve bits, where an edit has one
+abbrev pub IsIndexShort : Edit → Type 0
+IsIndexShort (Push x) = Unit {0}
+IsIndexShort Pop = Unit {0}
+IsIndexShort (Write i x) = i < 4096
+IsIndexShort (Reserve n) = Unit {0}
+
+-- the descriptor after an edit is a word
+pub record CanPack (look : ℕ) (edit : Edit) : Type 0 where
+  pub short : IsShortEdit edit
+  pub number : edit_of look + 1 < 16777216
+  pub size : size_of look + 1 < 4096
+  pub index : IsIndexShort edit
+
+-- a summary is that of at most n elements
+pub record Holds {S : Type 0} (within : S → ℕ → Type 0) (s : S) (n : ℕ) : Type 0 where
+  pub count : ℕ
+  pub held : within s count
+  pub most : count ≤ n
+
+-- a walk stands in its range, which lies among the indices, and counted no more than it passed
+pub record CanWalk {S : Type 0} (within : S → ℕ → Type 0) (walk : Walk S) : Type 0 where
+  pub order : walk.at < walk.hi
+  pub short : walk.hi ≤ 4088
+  pub holds : Holds within walk.sum walk.at
+  pub cells : walk.cells ≤ walk.at
+  pub summaries : walk.summaries ≤ walk.at
+
+-- a part can be taken: there are at most four; a block stands before the range's end; and with the last part the block's summary is that
+-- of at most eight elements
+pub record CanTake {S : Type 0} (within : S → ℕ → Type 0) (count : ℕ) (whole_of : List ℕ → S) (walk : Walk S) (parts : Parts) (found : ℕ) : Type 0 where
+  pub walks : CanWalk within walk
+  pub block : walk.at + 8 ≤ walk.hi
+  pub few : parts.number < 4
+  pub whole : part_version found ≡ parts.version → count ≤ parts.number + 1 → Holds within (whole_of (slice_set parts.values parts.number (part_value found))) 8
+
+-- a refresh can go on with a cell
+pub record CanKeep {S : Type 0} (within : S → ℕ → Type 0) (keep : Keep S) (found : ℕ) : Type 0 where
+  pub short : keep.at < 4088
+  pub holds : Holds within keep.sum keep.at
+  pub version : cell_version found < 16777216
+
+module _ {S : Type 0} where
+  -- what the step puts there can be made
+  abbrev pub CanMake : ℕ → Task S → Type 0
+  CanMake look (task.Look g) = Unit {0}
+  CanMake look (task.CompleteCell g) = Unit {0}
+  CanMake look (task.CompleteMark g) = Unit {0}
+  CanMake look (task.ReadBefore edit i) = Unit {0}
+  CanMake look (task.Exchange edit before) = CanPack look edit
+  CanMake look (task.ReadCell i) = Unit {0}
+  CanMake look (task.SumCell walk) = Unit {0}
+  CanMake look (task.SumMark walk) = Unit {0}
+  CanMake look (task.SumPart walk parts) = parts.number < 4
+  CanMake look (task.KeepMark b) = Unit {0}
+  CanMake look (task.KeepCell keep) = Unit {0}
+  CanMake look (task.KeepPart b parts) = parts.number < 4
+
+  -- the step's word is among the words, and can be made
+  abbrev pub CanMove : ℕ → ℕ → Task S → Type 0
+  CanMove n look t = (place_of look t < n) × CanMake look t
+
+  -- what the step found can be told, or put to what was loaded
+  abbrev pub CanAdvance : (within : S → ℕ → Type 0) (count : ℕ) (whole_of : List ℕ → S) → Task S → ℕ → Type 0
+  CanAdvance within count whole_of (task.Look g) found = Unit {0}
+  CanAdvance within count whole_of (task.CompleteCell g) found = Unit {0}
+  CanAdvance within count whole_of (task.CompleteMark g) found = Unit {0}
+  CanAdvance within count whole_of (task.ReadBefore edit i) found = cell_version found < 16777216
+  CanAdvance within count whole_of (task.Exchange edit before) found = Unit {0}
+  CanAdvance within count whole_of (task.ReadCell i) found = cell_version found < 16777216
+  CanAdvance within count whole_of (task.SumCell walk) found = CanWalk within walk × (cell_version found < 16777216)
+  CanAdvance within count whole_of (task.SumMark walk) found = found < 16777216
+  CanAdvance within count whole_of (task.SumPart walk parts) found = CanTake within count whole_of walk parts found
+  CanAdvance within count whole_of (task.KeepMark b) found = (b < 511) × (found < 16777216)
+  CanAdvance within count whole_of (task.KeepCell keep) found = CanKeep within keep found
+  CanAdvance within count whole_of (task.KeepPart b parts) found = parts.number < 4

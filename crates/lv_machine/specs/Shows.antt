@@ -1,0 +1,58 @@
+-- When words show a history.
+use Rattle.std.specs.Prelude.{◌≡◌, ◌⊎◌, ℕ, ◌+◌, ◌-◌, ◌*◌, ◌<◌, ◌≤◌, true, List, length, take, slice_index}
+use Rattle.lv_geometry.specs.declared.nodes.Node.{Node}
+use Rattle.lv_edits.specs.declared.edit.Edit.{Edit}
+use Rattle.lv_edits.specs.Touch.{cells_of, is_whole, touched_by}
+use Rattle.lv_machine.specs.declared.entries.Entry.{Entry}
+use Rattle.lv_machine.specs.History.{before_last, cell_of, descriptor_of, edits_of, Ends, IsLegal}
+use Rattle.lv_machine.specs.Layout.{count_of, place}
+use Rattle.lv_machine.specs.Terms.{blocks_of, Folding, Terms}
+use Rattle.lv_machine.specs.Words.{cell_version, part_word}
+
+-- a block, as a node of level 1
+abbrev pub block : ℕ → Node
+block b = record { level = 1; number = b }
+
+-- the number of the last edit of a history that touched a block, 0 if none did
+abbrev pub mark_of : ℕ → List Entry → ℕ
+mark_of b h = touched_by (edits_of h) (block b)
+
+-- a word shows what f says of a history, or of the history without its last entry, whose write may be pending
+pub record Fits (f : List Entry → ℕ) (h : List Entry) (word : ℕ) : Type 0 where
+  pub shown : (word ≡ f h) ⊎ (word ≡ f (before_last h))
+
+-- after the first v edits, of which the last touched it, the block was whole; this is part p of its fold then, with that version
+pub record IsPartAt (f : Folding) (edits : List Edit) (b p word v : ℕ) : Type 0 where
+  pub some : 1 ≤ v
+  pub within : v ≤ length edits
+  pub whole : is_whole (take v edits) (block b) ≡ true
+  pub touched : touched_by (take v edits) (block b) ≡ v
+  pub word_is : word ≡ part_word v (f.part p (cells_of (take v edits) (block b)))
+
+-- a word is 0, or such a part of some version
+pub record FitsPart (f : Folding) (h : List Entry) (b p word : ℕ) : Type 0 where
+  pub shown : (word ≡ 0) ⊎ ((v : ℕ) × IsPartAt f (edits_of h) b p word v)
+
+-- what the word at place r of block b shows
+pub record FitsPlace (f : Folding) (h : List Entry) (b r word : ℕ) : Type 0 where
+  pub cell : r < 8 → Fits (cell_of (8 * b + r)) h word
+  pub mark : r ≡ 8 → Fits (mark_of b) h word
+  pub part : 9 ≤ r → FitsPart f h b (r - 9) word
+
+-- the words show a history, which is legal; what each actor looked at showed an earlier one
+pub record ShowsHistory (t : Terms) (words : List ℕ) (h : List Entry) (looks : ℕ → ℕ) : Type 0 where
+  pub legal : IsLegal t h
+  pub count : length words ≡ count_of t.limits
+  pub first : slice_index words 0 ≡ descriptor_of h
+  pub places : (b r : ℕ) → b < blocks_of t.limits → r < 16 → FitsPlace t.folding h b r (slice_index words (place b r))
+  pub looked : (a : ℕ) → (k : List Entry) × Ends k h × (looks a ≡ descriptor_of k)
+
+-- what a loaded cell tells who knows an earlier history, and that its pending write is complete
+pub record IsCellRead (i : ℕ) (k h : List Entry) (word : ℕ) : Type 0 where
+  pub late : cell_version word ≤ length h
+  pub settled : cell_version word ≤ length k → word ≡ cell_of i k
+
+-- the same of a mark
+pub record IsMarkRead (b : ℕ) (k h : List Entry) (word : ℕ) : Type 0 where
+  pub late : word ≤ length h
+  pub settled : word ≤ length k → word ≡ mark_of b k

@@ -1,0 +1,25 @@
+/// What an actor may ask of a machine.
+#[derive(Clone, Copy, Debug, PartialEq, Eq)]
+pub enum Call {
+    /// Puts an element of 16 bits at the end.
+    Push(i64),
+    /// Drops the last element.
+    Pop,
+    /// Overwrites the element at an index by one of 16 bits.
+    Write { index: u32, value: i64 },
+    /// Reads the element at an index.
+    Get(u32),
+    /// Asks how many elements there are.
+    Size,
+    /// Asks for the fold of the elements from index `lo` up to `hi`.
+    Reduce { lo: u32, hi: u32 },
+    /// Makes the parts of a block's summary.
+    Refresh(u32),
+}
+
+/// What may happen to a machine: actor `actor`, counted from 0, starts a call, or does the next atomic step of its call.
+#[derive(Clone, Copy, Debug, PartialEq, Eq)]
+pub enum Event {
+    Call { actor: u32, call: Call },
+    Step { actor: u32 },
+}

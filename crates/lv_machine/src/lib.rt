@@ -1,0 +1,30 @@
+//! The lock-free form of the vector as a plain value, one atomic step at a time; and as plain data: its words, the histories that
+//! they show, and its atomic steps.
+//!
+//! A machine is the words of the lock-free form, and of each actor the descriptor that it last saw and its call, if one is under
+//! way. An event starts a call or does its next step; nothing happens between events. Its edits are those whose exchange found
+//! the descriptor unchanged, in that order; they are not stored. No thread is started here, and nothing waits.
+#![tactic(auto)]
+
+mod advances;
+mod entries;
+mod events;
+mod laws;
+mod machines;
+mod outcomes;
+mod packing;
+mod schedules;
+mod steps;
+mod tasks;
+
+pub use entries::Entry;
+pub use events::{Call, Event};
+pub use laws::{descriptors_tell_the_edit, earlier_edits_come_first, reachable_words_show_history};
+pub use machines::Machine;
+pub use outcomes::{Outcome, Read, Refreshed, Said, Sized};
+pub use packing::{
+    after_edit, cell_place_of, edit_in, element, fits_short, index_in, mark_place_of, pack,
+    pack_cell, pack_part, part_place_of, part_value_in, part_version_in, size_in, value_in,
+    version_in,
+};
+pub use schedules::every_event_is_one_move;

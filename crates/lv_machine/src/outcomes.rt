@@ -1,0 +1,54 @@
+use lv_edits::Receipt;
+use lv_geometry::Refusal;
+use lv_reduce::Answer;
+
+/// An element, and the number of the last edit where it was read.
+#[derive(Clone, Copy, Debug, PartialEq, Eq, Hash)]
+pub struct Read {
+    pub edit: u32,
+    pub value: i64,
+}
+
+/// How many elements there were after an edit.
+#[derive(Clone, Copy, Debug, PartialEq, Eq, Hash)]
+pub struct Sized {
+    pub edit: u32,
+    pub size: u32,
+}
+
+/// The parts of a block were made: after `edit`, the last edit that touched the block was `version`.
+#[derive(Clone, Copy, Debug, PartialEq, Eq, Hash)]
+pub struct Refreshed {
+    pub edit: u32,
+    pub version: u32,
+}
+
+/// What a call ends with.
+#[derive(Clone, Copy, Debug, PartialEq, Eq)]
+pub enum Said<S> {
+    /// An edit was accepted.
+    Did(Receipt),
+    /// An element.
+    Read(Read),
+    /// The size.
+    Sized(Sized),
+    /// A fold.
+    Answered(Answer<S>),
+    /// The parts of a block were made.
+    Refreshed(Refreshed),
+    /// The call was refused.
+    Refused(Refusal),
+}
+
+/// What an event comes to.
+#[derive(Clone, Copy, Debug, PartialEq, Eq)]
+pub enum Outcome<S> {
+    /// The call begins, and needs a step.
+    Started,
+    /// The step is done, and the call goes on.
+    Going,
+    /// The call has ended.
+    Done(Said<S>),
+    /// The event is refused with `NotNow`, and nothing has changed.
+    Refused(Refusal),
+}

@@ -1,0 +1,76 @@
+use crate::outcomes::Said;
+use lv_edits::Edit;
+
+/// What a call is for. Its edits have elements of 16 bits.
+#[derive(Clone, Copy, Debug, PartialEq, Eq)]
+pub enum Goal {
+    Edit(Edit),
+    Get(u32),
+    Size,
+    Reduce { lo: u32, hi: u32 },
+    Refresh(u32),
+}
+
+/// A reduction on its way: the summary of the elements from `lo` up to `at`, and what was read for it.
+#[derive(Clone, Copy, Debug, PartialEq, Eq)]
+pub struct Walk<S> {
+    pub lo: u32,
+    pub at: u32,
+    pub hi: u32,
+    pub sum: S,
+    pub cells: u32,
+    pub summaries: u32,
+}
+
+/// The parts of a block's summary, of a version: `number` is the next one.
+#[derive(Clone, Copy, Debug, PartialEq, Eq)]
+pub struct Parts {
+    pub version: u32,
+    pub number: u32,
+    pub values: [u32; 4],
+}
+
+/// A refresh on its way: the summary of the block's elements before index `at`, and the block's mark.
+#[derive(Clone, Copy, Debug, PartialEq, Eq)]
+pub struct Keep<S> {
+    pub block: u32,
+    pub version: u32,
+    pub at: u32,
+    pub sum: S,
+}
+
+/// A call under way, by the step that comes next, with what its steps have loaded so far.
+#[derive(Clone, Copy, Debug, PartialEq, Eq)]
+pub enum Task<S> {
+    /// Loads the descriptor.
+    Look(Goal),
+    /// Completes the cell of the write that is pending.
+    CompleteCell(Goal),
+    /// Completes the mark of that cell's block.
+    CompleteMark(Goal),
+    /// Loads the cell that a pop drops or a write overwrites.
+    ReadBefore { edit: Edit, index: u32 },
+    /// Exchanges the descriptor. `before` is the element that the edit drops or overwrites.
+    Exchange { edit: Edit, before: i64 },
+    /// Loads the cell that is asked for.
+    ReadCell(u32),
+    /// Loads the cell that the walk stands at.
+    SumCell(Walk<S>),
+    /// Loads the mark of the block that the walk stands at.
+    SumMark(Walk<S>),
+    /// Loads a part of that block; those before it were loaded.
+    SumPart { walk: Walk<S>, parts: Parts },
+    /// Loads the mark of the block that is refreshed.
+    KeepMark(u32),
+    /// Loads a cell of that block.
+    KeepCell(Keep<S>),
+    /// Raises a part of that block.
+    KeepPart { block: u32, parts: Parts },
+}
+
+/// What becomes of a call by a step: it goes on, or has ended.
+#[derive(Clone, Copy, Debug, PartialEq, Eq)]
+pub enum Advance<S> {
+    Goes(Task<S>),
+    Ends(Said<S>),
+}
