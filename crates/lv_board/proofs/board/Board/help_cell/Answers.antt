@@ -1,0 +1,37 @@
+use Rattle.std.proofs.Common.{◌≡◌, true, refl, ap, ◌∙◌}
+use Rattle.lv_machine.specs.Layout.{cell_place}
+use Rattle.lv_machine.specs.Words.{cell_word, edit_of, index_of}
+use Rattle.lv_board.specs.Rule.{folds}
+use Rattle.lv_board.proofs.Keeping.{helps_cell_at_key}
+use Rattle.lv_board.proofs.Seating.{based_after, cell_among, made_same, same_look, seat_after}
+use Rattle.lv_board.proofs.board.Board.help_cell.Goals as goal
+
+pub fetch_max-requires : goal.fetch_max-requires
+fetch_max-requires g c =
+    let seat = c.args.seat.now in
+    let look = c.args.seat.now.looks in
+    let near = look.pending c.requires.pending in (
+      c.requires.here.at,
+      cell_among c.args.seat.now.terms c.args.self.now.terms c.args.self.now.table.shared.table_id.words c.cell_place_of-at.result (index_of c.args.seat.now.look) c.requires.here.terms c.args.self.now.count near (c.cell_place_of-at.ensures ∙ ap cell_place c.index_in.ensures.value),
+      helps_cell_at_key (folds g.B.Parted.PARTS g.B.Parted.parts_of (λ b. g.B.Body.operations (g.B.Body.meaning b))) c.args.self.now.terms c.args.self.now.table.shared.key c.args.self.now.key c.args.self.now.table.shared.table_id.slots c.args.seat.now.token.id c.args.seat.now.token.me c.args.seat.now.sits c.args.seat.now.look _ _ look.shown c.requires.pending (c.cell_place_of-at.ensures ∙ ap cell_place c.index_in.ensures.value) (c.pack_cell-word.ensures ∙ ap (λ e. cell_word e c.value_in.result) c.edit_in.ensures.value ∙ ap (cell_word (edit_of c.args.seat.now.look)) c.value_in.ensures),
+    )
+
+pub invariant_of-seat : goal.invariant_of-seat
+invariant_of-seat g c =
+    let told = c.fetch_max.ensures.2 in
+    let same : c.fetch_max.new.seat.me.0.actor.seen ≡ c.args.seat.now.token.me.0.actor.seen = ap (λ v. v.actor.seen) told.1 in
+    record {
+      basis = c.args.seat.now.basis;
+      sits = seat_after c.args.seat.now.token.me.0 c.fetch_max.new.seat.me.0 (record (c.args.seat.now.token.me.0.actor) { helped = true }) told.1 c.args.seat.now.sits;
+      based = based_after c.args.seat.now.token.me.0 c.fetch_max.new.seat.me.0 c.args.seat.now.terms (record (c.args.seat.now.token.me.0.actor) { helped = true }) told.1 c.args.seat.now.based;
+      slots = told.0 ∙ c.args.seat.now.slots;
+      made = made_same c.args.seat.now.token.me.0.actor c.fetch_max.new.seat.me.0.actor (ap (λ v. v.actor.number) told.1) (ap (λ v. v.actor.known) told.1) (ap (λ v. v.actor.own) told.1) c.args.seat.now.made;
+      looks = same_look c.args.seat.now.terms.buckets c.args.seat.now.terms.edits c.args.seat.now.look c.args.seat.now.token.me.0.actor.seen c.fetch_max.new.seat.me.0.actor.seen same c.args.seat.now.looks;
+    }
+
+pub returns : goal.returns
+returns g c = record {
+  stays = record { table = c.fetch_max.ensures.0; terms = refl };
+  look = refl;
+  actor = ap (λ v. v.actor) c.fetch_max.ensures.2.1;
+}

@@ -1,0 +1,36 @@
+use Rattle.std.proofs.Common.{rules, ◌≡◌, ℕ, ◌+◌, ◌<◌, refl, sym, ap, ◌∙◌, subst, arith}
+use Rattle.lv_machine.specs.History.{own}
+use Rattle.lv_board.specs.declared.actors.View.{View}
+use Rattle.lv_board.specs.Rule.{folds, IsSeat}
+use Rattle.lv_board.proofs.Keeping.{installs_at_key}
+use Rattle.lv_board.proofs.Seating.{block_among, made_same, same_look}
+use Rattle.lv_board.proofs.board.Board.install.Goals as goal
+
+pub part_place_of-requires : goal.part_place_of-requires
+part_place_of-requires g c = omega (arith, c.requires.part, g.B.Parted.some.1)
+
+pub fetch_max-requires : goal.fetch_max-requires
+fetch_max-requires g c = (
+  c.requires.here.at,
+  block_among c.args.self.now.terms c.args.self.now.terms c.args.self.now.table.shared.table_id.words c.part_place_of.result c.args.b (9 + c.args.part) refl c.args.self.now.count c.requires.within (omega (arith, c.requires.part, g.B.Parted.some.1)) c.part_place_of.ensures,
+  installs_at_key (folds g.B.Parted.PARTS g.B.Parted.parts_of (λ b. g.B.Body.operations (g.B.Body.meaning b))) c.args.self.now.terms c.args.self.now.table.shared.key c.args.self.now.key c.args.self.now.table.shared.table_id.slots c.args.seat.now.token.id c.args.seat.now.token.me c.args.seat.now.sits c.args.b c.args.part c.part_place_of.result c.args.word (omega (arith, c.requires.within)) c.requires.part c.requires.whole c.requires.word c.part_place_of.ensures,
+)
+
+pub invariant_of-seat : goal.invariant_of-seat
+invariant_of-seat g c =
+    let same = c.fetch_max.ensures.2.1 in
+    record {
+      basis = c.args.seat.now.basis;
+      sits = record { sits = ap (λ v. v.sits) same ∙ c.args.seat.now.sits.sits; deals = ap (λ v. v.deals) same ∙ c.args.seat.now.sits.deals; more = ap (λ v. v.more) same ∙ c.args.seat.now.sits.more };
+      based = ap (λ v. v.bases) same ∙ c.args.seat.now.based;
+      slots = c.fetch_max.ensures.2.0 ∙ c.args.seat.now.slots;
+      made = made_same c.args.seat.now.token.me.0.actor c.fetch_max.new.seat.me.0.actor (ap (λ v. v.actor.number) same) (ap (λ v. v.actor.known) same) (ap (λ v. v.actor.own) same) c.args.seat.now.made;
+      looks = same_look c.args.seat.now.terms.buckets c.args.seat.now.terms.edits c.args.seat.now.look c.args.seat.now.token.me.0.actor.seen c.fetch_max.new.seat.me.0.actor.seen (ap (λ v. v.actor.seen) same) c.args.seat.now.looks;
+    }
+
+pub returns : goal.returns
+returns g c = record {
+  stays = record { table = c.fetch_max.ensures.0; terms = refl };
+  look = refl;
+  actor = ap (λ v. v.actor) c.fetch_max.ensures.2.1;
+}

@@ -1,0 +1,14 @@
+use Rattle.std.proofs.Common.{◌≡◌, ◌+◌, ◌-◌, ◌*◌, [], ◌∷◌, replicate, ap, ◌∙◌, arith}
+use Rattle.lv_machine.specs.History.{descriptor_of}
+use Rattle.lv_machine.specs.Terms.{blocks_of}
+use Rattle.lv_board.specs.Rule.{folds}
+use Rattle.lv_board.specs.Stands.{limits_of}
+use Rattle.lv_board.proofs.Opens.{are_terms, opens}
+use Rattle.lv_board.proofs.opening.lay.Goals as goal
+
+pub of_words-requires : goal.of_words-requires
+of_words-requires g c =
+    let words = c.as_slice.ensures.value in
+    let count : (1 + 2 * c.capacity.result) - 1 ≡ 16 * blocks_of (limits_of c.args.terms) = omega (arith, c.capacity.ensures.value) in
+    opens (Unit {0}) (folds g.B.Parted.PARTS g.B.Parted.parts_of (λ b. g.B.Body.operations (g.B.Body.meaning b))) c.args.terms c.as_slice.result.now (are_terms g.B.Parted.PARTS g.B.Parted.parts_of (λ b. g.B.Body.operations (g.B.Body.meaning b)) c.args.terms g.B.Parted.some.1 g.B.Parted.are_parts c.requires)
+    (words ∙ c.in_ok-words.ensures ∙ ap (λ n. descriptor_of [] ∷ replicate n 0) count)

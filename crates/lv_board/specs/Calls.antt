@@ -1,0 +1,75 @@
+-- What the calls of a board answer.
+use Rattle.std.specs.Prelude.{◌≡◌, ◌⊎◌, ℕ, ℤ, pos, ◌<◌, Some, None, Result, Ok, Err, List, ◌∷◌, length}
+use Rattle.std.specs.List.{slice_index_or}
+use Rattle.lv_geometry.specs.declared.refusals.Refusal.{Refusal}
+use Rattle.lv_geometry.specs.declared.refusals.Refusal.TheVariants.{Contended}
+use Rattle.lv_edits.specs.declared.edit.Edit.{Edit}
+use Rattle.lv_edits.specs.declared.receipt.Receipt.{Receipt}
+use Rattle.lv_edits.specs.Verdict.{element_at, receipt_of, verdict_of}
+use Rattle.lv_machine.specs.declared.entries.Entry.{Entry}
+use Rattle.lv_machine.specs.declared.outcomes.Read.{Read}
+use Rattle.lv_machine.specs.History.{edits_of, elements_of, Ends, IsLegal, own}
+use Rattle.lv_machine.specs.Terms.{Terms}
+use Rattle.lv_board.specs.declared.actors.Actor.{Actor}
+use Rattle.lv_board.specs.Plays.{IsAccepted, IsQuiet}
+use Rattle.lv_board.specs.Tells.{IsOvertaken}
+
+-- an actor looked and made no edit: all that it knew before is in what it sees, a legal history
+pub record HasLooked (t : Terms) (x y : Actor) : Type 0 where
+  pub quiet : IsQuiet x y
+  pub fresh : Ends x.known y.seen
+  pub legal : IsLegal t y.seen
+
+-- an edit was accepted, right after a history: it is the last entry of what the actor sees, and the last of its own
+pub record HasAdded (t : Terms) (x y : Actor) (edit : Edit) (h : List Entry) (receipt : Receipt) : Type 0 where
+  pub number : y.number ≡ x.number
+  pub seen : y.seen ≡ record { actor = x.number; edit = edit } ∷ h
+  pub known : y.known ≡ y.seen
+  pub knew : Ends x.known h
+  pub own_is : own x.number y.known ≡ record { actor = x.number; edit = edit } ∷ own x.number x.known
+  pub legal : IsLegal t y.seen
+  pub verdict : verdict_of t.limits (edits_of h) edit ≡ None
+  pub receipt_is : receipt ≡ receipt_of (edits_of h) edit
+
+-- another edit came before the exchange: the answer is the number of the last edit that is seen now, above that of the look that was used,
+-- where nothing refused the edit
+pub record IsContendedAt (t : Terms) (y : Actor) (edit : Edit) (looked : List Entry) (refusal : Refusal) : Type 0 where
+  pub refusal_is : refusal ≡ Contended (length y.seen)
+  pub before : length looked < length y.seen
+  pub verdict : verdict_of t.limits (edits_of looked) edit ≡ None
+
+-- why a try is refused: by its verdict at what it saw, or by a word of a later edit, or because another edit came first
+abbrev pub IsTryRefusal : Terms → Actor → Actor → Edit → Refusal → Type 0
+IsTryRefusal t x y edit refusal =
+    (verdict_of t.limits (edits_of y.seen) edit ≡ Some refusal)
+    ⊎ ((verdict_of t.limits (edits_of y.seen) edit ≡ None) × IsOvertaken y refusal)
+    ⊎ ((h : List Entry) × Ends x.known h × IsContendedAt t y edit h refusal)
+
+-- what a try that looks first answers
+abbrev pub TryAnswers : Terms → Actor → Actor → Edit → Result Receipt Refusal → Type 0
+TryAnswers t x y edit (Ok receipt) = (h : List Entry) × HasAdded t x y edit h receipt
+TryAnswers t x y edit (Err refusal) = HasLooked t x y × IsTryRefusal t x y edit refusal
+
+-- what an exchange from the look that a seat has answers: refused at its look, nothing has changed but that its write is complete
+abbrev pub LookedAnswers : Terms → Actor → Actor → Edit → Result Receipt Refusal → Type 0
+LookedAnswers t x y edit (Ok receipt) = HasAdded t x y edit x.seen receipt
+LookedAnswers t x y edit (Err refusal) =
+    ((verdict_of t.limits (edits_of x.seen) edit ≡ Some refusal) × (y ≡ x))
+    ⊎ (HasLooked t x y × IsContendedAt t y edit x.seen refusal)
+
+-- what a pop or a write answers that nothing refuses at its look: its number and the element at its index, or why it isn't made
+abbrev pub TakeAnswers : Terms → Actor → Actor → Edit → ℕ → Result (ℕ × ℤ) Refusal → Type 0
+TakeAnswers t x y edit i (Ok taken) =
+    (m : Actor) × IsQuiet x m × (m.seen ≡ x.seen) × IsAccepted t m y record { actor = m.number; edit = edit }
+    × (taken.0 ≡ length y.seen)
+    × (taken.1 ≡ slice_index_or (elements_of x.seen) i (pos 0))
+TakeAnswers t x y edit i (Err refusal) =
+    (IsQuiet x y × (y.seen ≡ x.seen) × IsOvertaken y refusal)
+    ⊎ ((m : Actor) × IsQuiet x m × (m.seen ≡ x.seen) × IsQuiet m y × Ends m.known y.seen × IsLegal t y.seen × (length x.seen < length y.seen) × (refusal ≡ Contended (length y.seen)))
+
+-- what a read of an element answers
+abbrev pub GetAnswers : ℕ → Actor → Result Read Refusal → Type 0
+GetAnswers i y (Ok read) = (read.edit ≡ length y.seen) × (element_at (edits_of y.seen) i ≡ Ok read.value)
+GetAnswers i y (Err refusal) =
+    (element_at (edits_of y.seen) i ≡ Err refusal)
+    ⊎ ((i < length (elements_of y.seen)) × IsOvertaken y refusal)

@@ -1,0 +1,39 @@
+use lv_machine::Entry;
+use std::collections::LinkedList;
+
+/// What a board is made with: its limits, how many seats it has, and its body.
+#[derive(Clone, Copy)]
+pub struct Basis<B: Copy> {
+    pub buckets: u32,
+    pub edits: u32,
+    pub seats: u32,
+    pub body: B,
+}
+
+/// What a seat knows. No value of it is made.
+pub struct Actor {
+    pub number: u32,
+    /// The history up to its look.
+    pub seen: LinkedList<Entry>,
+    /// The longest history that one of its steps showed, or that it was told of.
+    pub known: LinkedList<Entry>,
+    /// Its own entries among them.
+    pub own: LinkedList<Entry>,
+    /// The history that a note told of since it looked.
+    pub told: LinkedList<Entry>,
+    /// Whether the cell, and the mark, of its look's pending write are complete.
+    pub helped: bool,
+    pub marked: bool,
+}
+
+/// The view of a token at the table. No value of it is made.
+pub struct View<B: Copy> {
+    /// The actor of a seat; of a note, what it tells; of the dealer, the number of the next seat.
+    pub actor: Actor,
+    pub sits: bool,
+    pub deals: bool,
+    /// The board's basis, or nothing once the view is spent.
+    pub bases: LinkedList<Basis<B>>,
+    /// The actors of the seats that were gathered into this one.
+    pub more: LinkedList<Actor>,
+}

@@ -1,0 +1,57 @@
+//! Reads of an element.
+ghost use Rattle.std.specs.Prelude.{◌≡◌, ◌<◌, length, IfOk, IfErr};
+ghost use Rattle.lv_geometry.specs.Cells.{capacity_of};
+ghost use Rattle.lv_machine.specs.Words.{signed, value_of};
+ghost use Rattle.lv_machine.specs.History.{cell_of};
+ghost use Rattle.lv_board.specs.Calls.{GetAnswers, HasLooked};
+ghost use Rattle.lv_board.specs.Plays.{IsQuiet};
+ghost use Rattle.lv_board.specs.Rule.{folds, terms_of};
+ghost use Rattle.lv_board.specs.Stands.{IsReady};
+ghost use Rattle.lv_board.specs.Tells.{actor_of, IsAt, IsCellTaken, Stays};
+
+use crate::board::Board;
+use crate::seats::Seat;
+use crate::words::{cell_place_of, edit_in, element, size_in, value_in, version_in};
+use lv_bodies::Parted;
+use lv_geometry::Refusal;
+use lv_machine::Read;
+
+impl<B: Parted> Board<B> {
+    // The element in a cell, as the seat looked, or the later edit that wrote there since.
+    pub(crate) fn load_cell(&self, seat: &mut Seat<B>, i: u32) -> Result<i64, Refusal>
+        requires here { IsAt self.now.table.shared.table_id self.now.terms seat.old }
+        requires ready { IsReady (actor_of seat.old) seat.old.look }
+        requires within { i < capacity_of self.now.terms.buckets }
+        ensures { IsCellTaken (terms_of (folds B.PARTS B.parts_of (λ b. B.operations (B.meaning b))) self.now.terms) i result seat.old seat.new }
+    {
+        let cell = self.load_word(seat, cell_place_of(i));
+        let version = version_in(cell);
+        if version > u64::from(edit_in(seat.look)) {
+            return Err(Refusal::Overtaken {
+                edit: version as u32,
+            });
+        }
+        Ok(element(value_in(cell)))
+    }
+
+    /// The element at index `i`. Refused with `OutOfRange`, or with `Overtaken` where a later edit wrote there since the look. The
+    /// seat is one of this board's.
+    pub fn get(&self, seat: &mut Seat<B>, i: u32) -> Result<Read, Refusal>
+        requires { IsAt self.now.table.shared.table_id self.now.terms seat.old }
+        ensures stays { Stays seat.old seat.new }
+        ensures looked { HasLooked (terms_of (folds B.PARTS B.parts_of (λ b. B.operations (B.meaning b))) self.now.terms) (actor_of seat.old) (actor_of seat.new) }
+        ensures answer { GetAnswers i (actor_of seat.new) result }
+    {
+        self.load_descriptor(seat);
+        let size = size_in(seat.look);
+        if i >= size {
+            return Err(Refusal::OutOfRange { size });
+        }
+        self.help(seat);
+        let value = self.load_cell(seat, i)?;
+        Ok(Read {
+            edit: edit_in(seat.look),
+            value,
+        })
+    }
+}

@@ -1,0 +1,47 @@
+//! The steps on marks and parts: loads of both, and the fetch-max that installs a part.
+ghost use Rattle.std.specs.Prelude.{◌≡◌, ◌<◌, ◌*◌, true, IfOk, IfErr, IfSome};
+ghost use Rattle.lv_edits.specs.Touch.{cells_of, is_whole};
+ghost use Rattle.lv_geometry.specs.Cells.{capacity_of};
+ghost use Rattle.lv_machine.specs.History.{edits_of};
+ghost use Rattle.lv_machine.specs.Shows.{block, mark_of};
+ghost use Rattle.lv_machine.specs.Words.{part_word};
+ghost use Rattle.lv_board.specs.Rule.{folds, terms_of};
+ghost use Rattle.lv_board.specs.Stands.{IsReady};
+ghost use Rattle.lv_board.specs.Tells.{actor_of, IsAt, IsMarkTaken, IsSame};
+
+use crate::board::Board;
+use crate::plays::Install;
+use crate::seats::Seat;
+use crate::words::{edit_in, mark_place_of, part_place_of};
+use lv_bodies::Parted;
+use lv_geometry::Refusal;
+
+impl<B: Parted> Board<B> {
+    // The mark of a block, as the seat looked, or the later edit that touched the block since.
+    pub(crate) fn load_mark(&self, seat: &mut Seat<B>, b: u32) -> Result<u32, Refusal>
+        requires here { IsAt self.now.table.shared.table_id self.now.terms seat.old }
+        requires ready { IsReady (actor_of seat.old) seat.old.look }
+        requires within { 8 * b < capacity_of self.now.terms.buckets }
+        ensures { IsMarkTaken (terms_of (folds B.PARTS B.parts_of (λ b. B.operations (B.meaning b))) self.now.terms) b result seat.old seat.new }
+    {
+        let mark = self.load_word(seat, mark_place_of(b));
+        if mark > u64::from(edit_in(seat.look)) {
+            return Err(Refusal::Overtaken { edit: mark as u32 });
+        }
+        Ok(mark as u32)
+    }
+
+    // Installs a part of the summary of a block that is whole where the seat looked.
+    pub(crate) fn install(&self, seat: &mut Seat<B>, b: u32, part: u32, word: u64)
+        requires here { IsAt self.now.table.shared.table_id self.now.terms seat.old }
+        requires within { 8 * b < capacity_of self.now.terms.buckets }
+        requires part { part < B.PARTS }
+        requires whole { is_whole (edits_of (actor_of seat.old).seen) (block b) ≡ true }
+        requires word { word ≡ part_word (mark_of b (actor_of seat.old).seen) ((terms_of (folds B.PARTS B.parts_of (λ b. B.operations (B.meaning b))) self.now.terms).folding.part part (cells_of (edits_of (actor_of seat.old).seen) (block b))) }
+        ensures { IsSame seat.old seat.new }
+    {
+        self.table
+            .shared
+            .fetch_max::<Install>(&mut seat.token, part_place_of(b, part), word);
+    }
+}

@@ -1,0 +1,85 @@
+ghost use Rattle.lv_board.specs.Rule.{dealt, folds, fresh, gathered, informed, note, spent};
+ghost use Rattle.lv_board.specs.Plays.{Exchanges, HelpsCell, HelpsMark, Installs, Looks, Reads};
+
+use crate::actors::View;
+use atomic_table::{Join, Play, Split};
+use lv_bodies::Parted;
+use std::marker::PhantomData;
+
+pub(crate) struct LoadDescriptor<B> {
+    body: PhantomData<B>,
+}
+
+impl<B: Parted> Play<(), View<B>> for LoadDescriptor<B> {
+    ghost then = { Looks (folds B.PARTS B.parts_of (λ b. B.operations (B.meaning b))) };
+}
+
+pub(crate) struct LoadWord<B> {
+    body: PhantomData<B>,
+}
+
+impl<B: Parted> Play<(), View<B>> for LoadWord<B> {
+    ghost then = { Reads (folds B.PARTS B.parts_of (λ b. B.operations (B.meaning b))) };
+}
+
+pub(crate) struct HelpCell;
+
+impl<B: Copy> Play<(), View<B>> for HelpCell {
+    ghost then = { HelpsCell };
+}
+
+pub(crate) struct HelpMark;
+
+impl<B: Copy> Play<(), View<B>> for HelpMark {
+    ghost then = { HelpsMark };
+}
+
+pub(crate) struct Install;
+
+impl<B: Copy> Play<(), View<B>> for Install {
+    ghost then = { Installs };
+}
+
+pub(crate) struct Exchange<B> {
+    body: PhantomData<B>,
+}
+
+impl<B: Parted> Play<(), View<B>> for Exchange<B> {
+    ghost then = { Exchanges (folds B.PARTS B.parts_of (λ b. B.operations (B.meaning b))) };
+}
+
+/// A seat is dealt.
+pub(crate) struct Deal;
+
+impl<B: Copy> Split<View<B>> for Deal {
+    ghost left = { dealt };
+
+    ghost right = { fresh };
+}
+
+/// A note of what a seat knows is split off.
+pub(crate) struct Note;
+
+impl<B: Copy> Split<View<B>> for Note {
+    ghost left = { λ v. v };
+
+    ghost right = { note };
+}
+
+/// A note is read.
+pub(crate) struct Inform;
+
+impl<B: Copy> Join<View<B>> for Inform {
+    ghost both = { informed };
+
+    ghost spent = { spent };
+}
+
+/// A seat takes another's place beside its own.
+pub(crate) struct Gather;
+
+impl<B: Copy> Join<View<B>> for Gather {
+    ghost both = { gathered };
+
+    ghost spent = { spent };
+}

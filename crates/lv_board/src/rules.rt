@@ -1,0 +1,17 @@
+ghost use Rattle.lv_board.specs.Rule.{dealer, folds, Holds};
+
+use crate::actors::{Basis, View};
+use atomic_table::TableRule;
+use lv_bodies::Parted;
+use std::marker::PhantomData;
+
+/// The words are those of a reachable state, and each view fits it.
+pub struct Reached<B> {
+    body: PhantomData<B>,
+}
+
+impl<B: Parted> TableRule<(), View<B>, Basis<B>> for Reached<B> {
+    ghost holds = { Holds (folds B.PARTS B.parts_of (λ b. B.operations (B.meaning b))) };
+
+    ghost first = { dealer };
+}

@@ -1,0 +1,163 @@
+//! Tries to make an edit: each makes one exchange at most.
+ghost use Rattle.std.specs.Prelude.{◌≡◌, ◌<◌, ◌≤◌, ◌-◌, ℕ, length, None, Err, IfOk, IfErr};
+ghost use Rattle.lv_geometry.specs.declared.refusals.Refusal.{Refusal};
+ghost use Rattle.lv_bodies.specs.Parts.{IsShort};
+ghost use Rattle.lv_machine.specs.History.{elements_of, IsShortEdit};
+ghost use Rattle.lv_machine.specs.Moves.{verdict_at};
+ghost use Rattle.lv_board.specs.Calls.{LookedAnswers, TakeAnswers, TryAnswers};
+ghost use Rattle.lv_board.specs.Plays.{IsAccepted, IsContended};
+ghost use Rattle.lv_board.specs.Rule.{folds, terms_of};
+ghost use Rattle.lv_board.specs.Stands.{IsIndexShort, IsReady, limits_of};
+ghost use Rattle.lv_board.specs.Tells.{actor_of, entry_of, IsAt, IsSame, Stays};
+
+use crate::board::Board;
+use crate::seats::Seat;
+use crate::verdicts::verdict;
+use crate::words::{after_edit, edit_in, fits_short, size_in};
+use lv_bodies::Parted;
+use lv_edits::{Edit, Receipt};
+use lv_geometry::Refusal;
+
+impl<B: Parted> Board<B> {
+    // The exchange for an edit that nothing refuses at the look, whose pending write is complete. Gives the edit's number.
+    fn exchange_for(&self, seat: &mut Seat<B>, edit: Edit) -> Result<u32, Refusal>
+        requires here { IsAt self.now.table.shared.table_id self.now.terms seat.old }
+        requires ready { IsReady (actor_of seat.old) seat.old.look }
+        requires short { IsShortEdit edit }
+        requires index { IsIndexShort edit }
+        requires free { verdict_at (limits_of self.now.terms) seat.old.look edit ≡ None }
+        ensures stays { Stays seat.old seat.new }
+        ensures number { IfOk result (λ n. n ≡ length (actor_of seat.new).seen) }
+        ensures accepted { IfOk result (λ n. IsAccepted (terms_of (folds B.PARTS B.parts_of (λ b. B.operations (B.meaning b))) seat.old.terms) (actor_of seat.old) (actor_of seat.new) (entry_of seat.old edit)) }
+        ensures refusal { IfErr result (λ e. e ≡ Refusal.Contended (length (actor_of seat.new).seen)) }
+        ensures contended { IfErr result (λ e. IsContended (terms_of (folds B.PARTS B.parts_of (λ b. B.operations (B.meaning b))) seat.old.terms) (actor_of seat.old) (actor_of seat.new) seat.new.look) }
+    {
+        let new = after_edit(seat.look, edit);
+        if self.exchange(seat, edit, new) {
+            Ok(edit_in(seat.look))
+        } else {
+            Err(Refusal::Contended {
+                edit: edit_in(seat.look),
+            })
+        }
+    }
+
+    // Puts an element of 16 bits at the end, as the seat looked.
+    fn push_short(&self, seat: &mut Seat<B>, x: i64) -> Result<Receipt, Refusal>
+        requires here { IsAt self.now.table.shared.table_id self.now.terms seat.old }
+        requires short { IsShort x }
+        ensures stays { Stays seat.old seat.new }
+        ensures answer { LookedAnswers (terms_of (folds B.PARTS B.parts_of (λ b. B.operations (B.meaning b))) self.now.terms) (actor_of seat.old) (actor_of seat.new) (Edit.Push x) result }
+    {
+        let edit = Edit::Push(x);
+        if let Some(refusal) = verdict(&self.terms, seat.look, edit) {
+            return Err(refusal);
+        }
+        self.help(seat);
+        let index = size_in(seat.look);
+        match self.exchange_for(seat, edit) {
+            Err(refusal) => Err(refusal),
+            Ok(edit) => Ok(Receipt::Pushed { edit, index }),
+        }
+    }
+
+    /// Puts `x` at the end, where no edit came since the seat looked. Refused with `TooWide`, `Worn`, `Full`, or with `Contended`
+    /// where an edit came first: then the seat has looked again. The seat is one of this board's.
+    pub fn push_looked(&self, seat: &mut Seat<B>, x: i64) -> Result<Receipt, Refusal>
+        requires { IsAt self.now.table.shared.table_id self.now.terms seat.old }
+        ensures stays { Stays seat.old seat.new }
+        ensures short { IsShort x → LookedAnswers (terms_of (folds B.PARTS B.parts_of (λ b. B.operations (B.meaning b))) self.now.terms) (actor_of seat.old) (actor_of seat.new) (Edit.Push x) result }
+        ensures wide { ¬ IsShort x → (result ≡ Err Refusal.TooWide) × IsSame seat.old seat.new }
+    {
+        if !fits_short(x) {
+            return Err(Refusal::TooWide);
+        }
+        self.push_short(seat, x)
+    }
+
+    /// Looks, and puts `x` at the end. Refused with `TooWide`, `Worn`, `Full`, or with `Contended` where another edit came in
+    /// between. The seat is one of this board's.
+    pub fn try_push(&self, seat: &mut Seat<B>, x: i64) -> Result<Receipt, Refusal>
+        requires { IsAt self.now.table.shared.table_id self.now.terms seat.old }
+        ensures stays { Stays seat.old seat.new }
+        ensures short { IsShort x → TryAnswers (terms_of (folds B.PARTS B.parts_of (λ b. B.operations (B.meaning b))) self.now.terms) (actor_of seat.old) (actor_of seat.new) (Edit.Push x) result }
+        ensures wide { ¬ IsShort x → (result ≡ Err Refusal.TooWide) × IsSame seat.old seat.new }
+    {
+        if !fits_short(x) {
+            return Err(Refusal::TooWide);
+        }
+        self.look(seat);
+        self.push_short(seat, x)
+    }
+
+    // Replaces or drops the element at an index that the edit names, and gives it and the edit's number.
+    fn take_for(&self, seat: &mut Seat<B>, edit: Edit, i: u32) -> Result<(u32, i64), Refusal>
+        requires here { IsAt self.now.table.shared.table_id self.now.terms seat.old }
+        requires short { IsShortEdit edit }
+        requires index { IsIndexShort edit }
+        requires free { verdict_at (limits_of self.now.terms) seat.old.look edit ≡ None }
+        requires within { i < length (elements_of (actor_of seat.old).seen) }
+        ensures stays { Stays seat.old seat.new }
+        ensures answer { TakeAnswers (terms_of (folds B.PARTS B.parts_of (λ b. B.operations (B.meaning b))) self.now.terms) (actor_of seat.old) (actor_of seat.new) edit i result }
+    {
+        self.help(seat);
+        let value = match self.load_cell(seat, i) {
+            Err(refusal) => return Err(refusal),
+            Ok(value) => value,
+        };
+        match self.exchange_for(seat, edit) {
+            Err(refusal) => Err(refusal),
+            Ok(number) => Ok((number, value)),
+        }
+    }
+
+    /// Looks, and drops the last element. Refused with `Worn`, `Empty`, with `Overtaken` where its cell has a later edit, or with
+    /// `Contended` where another edit came in between. The seat is one of this board's.
+    pub fn try_pop(&self, seat: &mut Seat<B>) -> Result<Receipt, Refusal>
+        requires { IsAt self.now.table.shared.table_id self.now.terms seat.old }
+        ensures stays { Stays seat.old seat.new }
+        ensures answer { TryAnswers (terms_of (folds B.PARTS B.parts_of (λ b. B.operations (B.meaning b))) self.now.terms) (actor_of seat.old) (actor_of seat.new) Edit.Pop result }
+    {
+        self.look(seat);
+        if let Some(refusal) = verdict(&self.terms, seat.look, Edit::Pop) {
+            return Err(refusal);
+        }
+        let last = size_in(seat.look) - 1;
+        match self.take_for(seat, Edit::Pop, last) {
+            Err(refusal) => Err(refusal),
+            Ok((edit, value)) => Ok(Receipt::Popped { edit, value }),
+        }
+    }
+
+    // Overwrites the element at an index with one of 16 bits.
+    fn write_short(&self, seat: &mut Seat<B>, index: u32, value: i64) -> Result<Receipt, Refusal>
+        requires here { IsAt self.now.table.shared.table_id self.now.terms seat.old }
+        requires short { IsShort value }
+        ensures stays { Stays seat.old seat.new }
+        ensures answer { TryAnswers (terms_of (folds B.PARTS B.parts_of (λ b. B.operations (B.meaning b))) self.now.terms) (actor_of seat.old) (actor_of seat.new) (Edit.Write index value) result }
+    {
+        let edit = Edit::Write { index, value };
+        self.look(seat);
+        if let Some(refusal) = verdict(&self.terms, seat.look, edit) {
+            return Err(refusal);
+        }
+        match self.take_for(seat, edit, index) {
+            Err(refusal) => Err(refusal),
+            Ok((edit, before)) => Ok(Receipt::Written { edit, before }),
+        }
+    }
+
+    /// Looks, and overwrites the element at `index`. Refused with `TooWide`, `Worn`, `OutOfRange`, with `Overtaken` where its cell
+    /// has a later edit, or with `Contended` where another edit came in between. The seat is one of this board's.
+    pub fn try_write(&self, seat: &mut Seat<B>, index: u32, value: i64) -> Result<Receipt, Refusal>
+        requires { IsAt self.now.table.shared.table_id self.now.terms seat.old }
+        ensures stays { Stays seat.old seat.new }
+        ensures short { IsShort value → TryAnswers (terms_of (folds B.PARTS B.parts_of (λ b. B.operations (B.meaning b))) self.now.terms) (actor_of seat.old) (actor_of seat.new) (Edit.Write index value) result }
+        ensures wide { ¬ IsShort value → (result ≡ Err Refusal.TooWide) × IsSame seat.old seat.new }
+    {
+        if !fits_short(value) {
+            return Err(Refusal::TooWide);
+        }
+        self.write_short(seat, index, value)
+    }
+}

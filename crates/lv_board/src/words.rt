@@ -1,0 +1,171 @@
+//! How words are read and made, and where they lie.
+ghost use Rattle.std.specs.Prelude.{◌≡◌, ◌+◌, ◌*◌, ◌<◌, ◌↔◌, IsTrue, None, []};
+ghost use Rattle.lv_machine.specs.History.{descriptor_of, IsShortEdit};
+ghost use Rattle.lv_machine.specs.Moves.{verdict_at};
+ghost use Rattle.lv_board.specs.Stands.{CanPack, limits_of};
+ghost use Rattle.lv_bodies.specs.Parts.{IsShort};
+ghost use Rattle.lv_machine.specs.Layout.{cell_place, mark_place, part_place};
+ghost use Rattle.lv_machine.specs.Words.{bits_of, cell_version, cell_word, descriptor, descriptor_after, edit_of, index_of, part_value, part_version, part_word, signed, size_of, value_of};
+
+use lv_edits::Edit;
+
+/// The descriptor of no edits.
+#[tactic(auto, unfolding(lv_machine::specs::History::descriptor_of, lv_machine::specs::Words::descriptor))]
+pub(crate) fn first_descriptor() -> u64
+    ensures { result ≡ descriptor_of [] }
+{
+    268_369_920
+}
+
+/// The number of the last edit, of a descriptor.
+#[tactic(auto, unfolding(lv_machine::specs::Words::edit_of))]
+pub(crate) fn edit_in(word: u64) -> u32
+    ensures value { result ≡ edit_of word }
+    ensures bound { result < 16777216 }
+{
+    (word >> 40) as u32
+}
+
+/// How many elements there are, of a descriptor.
+#[tactic(auto, unfolding(lv_machine::specs::Words::size_of))]
+pub(crate) fn size_in(word: u64) -> u32
+    ensures value { result ≡ size_of word }
+    ensures bound { result < 4096 }
+{
+    ((word >> 28) % 4096) as u32
+}
+
+/// The index of the pending write, of a descriptor: 4095 where there is none.
+#[tactic(auto, unfolding(lv_machine::specs::Words::index_of))]
+pub(crate) fn index_in(word: u64) -> u32
+    ensures value { result ≡ index_of word }
+    ensures bound { result < 4096 }
+{
+    ((word >> 16) % 4096) as u32
+}
+
+/// The lowest 16 bits: the value of a cell, or of the pending write of a descriptor.
+#[tactic(auto, unfolding(lv_machine::specs::Words::value_of))]
+pub(crate) fn value_in(word: u64) -> u16
+    ensures { result ≡ value_of word }
+{
+    (word % 65536) as u16
+}
+
+/// The number of the edit that wrote a cell.
+#[tactic(auto, unfolding(lv_machine::specs::Words::cell_version))]
+pub(crate) fn version_in(cell: u64) -> u64
+    ensures { result ≡ cell_version cell }
+{
+    cell >> 16
+}
+
+/// The version of a part.
+#[tactic(auto, unfolding(lv_machine::specs::Words::part_version))]
+pub(crate) fn part_version_in(part: u64) -> u64
+    ensures { result ≡ part_version part }
+{
+    part >> 32
+}
+
+/// The 32 bits of a part.
+#[tactic(auto, unfolding(lv_machine::specs::Words::part_value))]
+pub(crate) fn part_value_in(part: u64) -> u32
+    ensures { result ≡ part_value part }
+{
+    (part % (1 << 32)) as u32
+}
+
+/// A cell that an edit wrote.
+#[tactic(auto, unfolding(lv_machine::specs::Words::cell_word))]
+pub(crate) fn pack_cell(version: u32, value: u16) -> u64
+    ensures { result ≡ cell_word version value }
+{
+    u64::from(version) * (1 << 16) + u64::from(value)
+}
+
+/// A part of a block's summary.
+#[tactic(auto, unfolding(lv_machine::specs::Words::part_word))]
+pub(crate) fn pack_part(version: u32, value: u32) -> u64
+    ensures { result ≡ part_word version value }
+{
+    u64::from(version) * (1 << 32) + u64::from(value)
+}
+
+/// Where a cell lies.
+#[tactic(auto, unfolding(lv_machine::specs::Layout::place))]
+pub(crate) fn cell_place_of(index: u32) -> usize
+    ensures { result ≡ cell_place index }
+{
+    1 + 16 * (index / 8) as usize + (index % 8) as usize
+}
+
+/// Where a block's mark lies.
+#[tactic(auto, unfolding(lv_machine::specs::Layout::place))]
+pub(crate) fn mark_place_of(block: u32) -> usize
+    ensures { result ≡ mark_place block }
+{
+    1 + 16 * block as usize + 8
+}
+
+/// Where a part of a block's summary lies.
+#[tactic(auto, unfolding(lv_machine::specs::Layout::place))]
+pub(crate) fn part_place_of(block: u32, number: u32) -> usize
+    requires { number < 4 }
+    ensures { result ≡ part_place block number }
+{
+    1 + 16 * block as usize + (9 + number) as usize
+}
+
+/// Whether an element fits 16 bits.
+pub(crate) fn fits_short(x: i64) -> bool
+    ensures { IsTrue result ↔ IsShort x }
+{
+    x >= -32768 && x <= 32767
+}
+
+/// The element that 16 bits stand for.
+#[tactic(auto, unfolding(lv_machine::specs::Words::signed))]
+pub(crate) fn element(bits: u16) -> i64
+    ensures { result ≡ signed bits }
+{
+    i64::from(bits.cast_signed())
+}
+
+// The 16 bits of an element.
+#[tactic(auto, unfolding(lv_machine::specs::Words::bits_of))]
+fn bits_in(x: i64) -> u16
+    requires { IsShort x }
+    ensures { result ≡ bits_of x }
+{
+    (x.cast_unsigned() % 65536) as u16
+}
+
+/// A descriptor.
+#[tactic(auto, unfolding(lv_machine::specs::Words::descriptor))]
+fn pack(edit: u32, size: u32, index: u32, value: u16) -> u64
+    requires edit { edit < 16777216 }
+    requires size { size < 4096 }
+    requires index { index < 4096 }
+    ensures { result ≡ descriptor edit size index value }
+{
+    u64::from(edit) * (1 << 40)
+        + u64::from(size) * (1 << 28)
+        + u64::from(index) * (1 << 16)
+        + u64::from(value)
+}
+
+/// The descriptor that an edit makes of one. The lock-free form has no reserve.
+pub(crate) fn after_edit(look: u64, edit: Edit) -> u64
+    requires { CanPack look edit }
+    ensures { result ≡ descriptor_after look edit }
+{
+    let number = edit_in(look) + 1;
+    let size = size_in(look);
+    match edit {
+        Edit::Push(x) => pack(number, size + 1, size, bits_in(x)),
+        Edit::Pop => pack(number, size.saturating_sub(1), 4095, 0),
+        Edit::Write { index, value } => pack(number, size, index, bits_in(value)),
+        Edit::Reserve(_) => look,
+    }
+}
