@@ -21,6 +21,7 @@ pub fn command<'a>(alloc: Global) -> Result<Command<'a>, AllocError> {
         .arg_required_else_help(true)
         .subcommand(run(alloc)?)?
         .subcommand(serve(alloc)?)?
+        .subcommand(schedule(alloc)?)?
         .subcommand(audit(alloc))
 }
 
@@ -38,6 +39,11 @@ pub fn plan(matches: &ArgMatches<'_>) -> Plan {
         workers: matches.get_one::<u32>("workers").unwrap_or(1),
         turns: matches.get_one::<u64>("turns").unwrap_or(1000),
     }
+}
+
+/// How many actors a schedule's machine has, by its options.
+pub fn actors(matches: &ArgMatches<'_>) -> u32 {
+    matches.get_one::<u32>("actors").unwrap_or(2)
 }
 
 /// That files can't be served together.
@@ -75,6 +81,16 @@ fn serve<'a>(alloc: Global) -> Result<Command<'a>, AllocError> {
         .arg(files(alloc))
 }
 
+// `livevec schedule`.
+fn schedule<'a>(alloc: Global) -> Result<Command<'a>, AllocError> {
+    Command::new(alloc, "schedule")
+        .about(help::SCHEDULE)
+        .after_help(help::EVENTS)
+        .arg(actor_count(alloc))?
+        .arg(few_buckets(alloc))?
+        .arg(edits(alloc))
+}
+
 // `livevec audit`.
 fn audit<'a>(alloc: Global) -> Command<'a> {
     Command::new(alloc, "audit")
@@ -90,6 +106,26 @@ fn buckets<'a>(alloc: Global) -> Arg<'a> {
         .action(ArgAction::Set)
         .value_parser(value_parser!(u32).range(1..=17))
         .default_value("17")
+}
+
+fn few_buckets<'a>(alloc: Global) -> Arg<'a> {
+    Arg::new(alloc, "buckets")
+        .long("buckets")
+        .value_name("N")
+        .help("At most how many buckets, 1 to 9: N hold 8 * (2^N - 1) elements")
+        .action(ArgAction::Set)
+        .value_parser(value_parser!(u32).range(1..=9))
+        .default_value("9")
+}
+
+fn actor_count<'a>(alloc: Global) -> Arg<'a> {
+    Arg::new(alloc, "actors")
+        .long("actors")
+        .value_name("N")
+        .help("How many actors there are, 1 to 8, with the numbers from 0 on")
+        .action(ArgAction::Set)
+        .value_parser(value_parser!(u32).range(1..=8))
+        .default_value("2")
 }
 
 fn edits<'a>(alloc: Global) -> Arg<'a> {

@@ -67,6 +67,58 @@ fails is the fault. The transcript goes to standard output: the journal, then ea
 reduction in the order of edits; `livevec audit` says yes to it. Where a session ends with a fault
 none is written.";
 
+/// What `schedule` does.
+pub const SCHEDULE: &str =
+    "Plays the lock-free machine one atomic step at a time, by a schedule on standard input";
+
+/// The lines of a schedule, their replies, and the steps of each call.
+pub const EVENTS: &str = "\
+The machine is a vector of 16-bit elements that several actors use at once, with no lock. An actor
+has at most one call under way. Nothing happens but what a line says.
+
+Lines (A is an actor, counted from 0; X an element; I, B, LO and HI are numbers, HI is excluded):
+  call A push X      call A pop       call A write I X
+  call A get I       call A size      call A reduce LO HI
+  call A refresh B   makes the summary of block B, the elements 8 * B to 8 * B + 7
+  step A             the next step of A's call
+Blank lines and lines that begin with # say nothing.
+
+Replies:
+  started A          the call has begun: its steps are to come
+  step A             the step is done, and the call goes on
+  done A REPLY       the call has ended with REPLY: edit E at I, edit E value X, edit E was X, value X,
+                     size N edit E, at E sum VALUE, fresh B version V or refused N
+  refused 20         nothing happened: there is no actor A, a step has no call, or a call comes
+                     while another is under way
+  bad N              line N says nothing known
+
+Steps of each call, in order; each is one atomic operation on one word:
+  push               look, help, exchange
+  pop, write         look, help, load the cell, exchange
+  get                look, help, load the cell
+  size               look
+  reduce             look, help; then from LO on, for each block of eight that begins there and ends
+                     by HI: load its mark, load its part, and its eight cells if the part is not
+                     fresh; where no such block begins: load the cell
+  refresh            look, help, load the mark, load the eight cells, install the part
+
+  look               loads the descriptor: the number of the last edit, the size, and that edit's
+                     write, which may not be in its cell yet
+  help               two steps where the look has such a write: help the cell (put the element there),
+                     then help the mark (note the edit's number for the block); else none
+  exchange           puts the descriptor of the next edit in place of the look, if it is there still
+  load, install      read a word; put a part with its version, unless a later one is there
+
+A cell, a mark and a part carry a version, the number of the edit that they are of.
+
+A call is refused
+  16 TooWide         before its first step: the element has more than 16 bits
+   7 BadRange        before its first step: LO above HI
+   1 2 3 5           at its look, as `livevec run --help` says
+  17 Contended       at its exchange: another edit came after the look; call again
+  18 Overtaken       at a cell or a mark of a later edit than its look: a reader was overtaken
+and 20 NotNow is above.";
+
 /// What `audit` does.
 pub const AUDIT: &str = "Says whether a transcript on standard input is sound";
 

@@ -11,9 +11,12 @@ mod serving;
 
 use clap::error::ErrorKind;
 use clap::{ArgMatches, Error};
-use lv_script::{Fault, Verdict, audit, run_script};
+use lv_bodies::Sum;
+use lv_machine::Machine;
+use lv_script::{Fault, Verdict, audit, run_schedule, run_script};
+use std::alloc::Global;
 use std::fs::Files;
-use std::io::Write;
+use std::io::{Read, Write};
 use std::process::ExitCode;
 use std::rt::Env;
 use std::sync::Wait;
@@ -74,8 +77,29 @@ where
     if let Some(asked) = matches.subcommand_matches("serve") {
         return serve(rt, asked, &mut writer);
     }
+    if let Some(asked) = matches.subcommand_matches("schedule") {
+        schedule(alloc, asked, &mut rt.reader(), &mut writer)?;
+        return Ok(0);
+    }
     let verdict = audit(alloc, &mut rt.reader(), &mut writer)?;
     Ok(status_of(verdict))
+}
+
+// Answers a schedule, on a new machine. Its options keep to the limits of machines.
+fn schedule<R: Read, W: Write>(
+    alloc: Global,
+    asked: &ArgMatches<'_>,
+    reader: &mut R,
+    writer: &mut W,
+) -> Result<(), Fault> {
+    let limits = command_line::limits(asked);
+    let actors = command_line::actors(asked);
+    let Ok(mut machine) = Machine::new(alloc, limits, actors, Sum) else {
+        return Err(Fault::NoMemory);
+    };
+    let ended = run_schedule(alloc, &mut machine, reader, writer);
+    drop(machine);
+    ended
 }
 
 // Serves the sessions that a command line names.

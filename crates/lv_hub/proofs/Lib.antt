@@ -1,3 +1,4 @@
+mod AskedLaws
 mod OrderLaws
 mod SessionLaws
 mod StretchLaws

@@ -1,5 +1,5 @@
 -- What a hub tells: each answer is that of a vector within the hub's limits, at some moment.
-use Rattle.std.specs.Prelude.{◌≡◌, Bool, ℕ, Option, IfSome, option_map, Result, Ok, Err, IfOk, IfErr}
+use Rattle.std.specs.Prelude.{◌≡◌, Bool, ℕ, Option, Some, IfSome, option_map, Result, Ok, Err, IfOk, IfErr}
 use Rattle.lv_geometry.specs.Bounds.{Bounds}
 use Rattle.lv_geometry.specs.declared.refusals.Refusal.{Refusal}
 use Rattle.lv_geometry.specs.declared.refusals.Refusal.TheVariants.{Stranger}
@@ -17,7 +17,7 @@ use Rattle.lv_refresh.specs.Honesty.{IsHonest, Vouched}
 use Rattle.lv_refresh.specs.Record.{Record}
 use Rattle.lv_reduce.specs.declared.reductions.Answer.{Answer}
 use Rattle.lv_reduce.specs.declared.scans.Scan.{Scan}
-use Rattle.lv_reduce.specs.Answer.{IsScanRefusal}
+use Rattle.lv_reduce.specs.Answer.{IsAnswer, IsScanRefusal, range_refusal}
 use Rattle.lv_reduce.specs.Stretch.{IsStretch, StretchState}
 use Rattle.lv_live.specs.State.{HasClaim, LiveState, node_and_version, recorded}
 use Rattle.lv_live.specs.Step.{Reduces, Scans}
@@ -39,6 +39,13 @@ pub record ReductionTold {B S : Type 0} (operations : B → Operations S) (limit
   pub state : LiveState B S
   pub vector : IsVector limits state.history
   pub reduces : Reduces (operations state.body) (recorded state) lo hi result
+
+-- a vector was asked for a range after some legal edits, with a body of this type, and answered the fold of it at the last edit
+pub record AskTold {B S : Type 0} (operations : B → Operations S) (limits : Bounds) (lo hi : ℕ) (result : Result (Answer S) Refusal) : Type 0 where
+  pub state : LiveState B S
+  pub vector : IsVector limits state.history
+  pub answered : IfOk result (λ answer. IsAnswer (operations state.body) state.history.journal lo hi answer)
+  pub refused : IfErr result (λ refusal. range_refusal state.history.journal lo hi ≡ Some refusal)
 
 -- a scan was answered as after some legal edits, by a body of this type
 pub record ScanTold {B S : Type 0} (operations : B → Operations S) (limits : Bounds) (lo hi : ℕ) (inclusive : Bool) (result : Result (Scan S) Refusal) : Type 0 where

@@ -1,9 +1,10 @@
-ghost use Rattle.std.specs.Prelude.{◌≡◌, ◌<◌, None, option_map, [], length, IfOk, IfSome, OnErr};
+ghost use Rattle.std.specs.Prelude.{◌≡◌, ◌<◌, None, Some, option_map, [], length, IfOk, IfErr, IfSome, OnErr};
 ghost use Rattle.lv_geometry.specs.declared.nodes.Node.{Node};
 ghost use Rattle.lv_edits.specs.Verdict.{Answers};
+ghost use Rattle.lv_reduce.specs.Answer.{IsAnswer, range_refusal};
 ghost use Rattle.lv_refresh.specs.Claim.{IsNextJob};
 ghost use Rattle.lv_refresh.specs.Honesty.{IsHonest};
-ghost use Rattle.lv_live.specs.State.{HasClaim, HasDelivery, SameRefresh, node_and_version, recorded};
+ghost use Rattle.lv_live.specs.State.{HasClaim, HasDelivery, SameLive, SameRefresh, node_and_version, recorded};
 ghost use Rattle.lv_hub.specs.Counting.{Counts};
 ghost use Rattle.lv_hub.specs.Told.{Gives, IsVector, VouchedBy};
 
@@ -13,6 +14,7 @@ use lv_bodies::Body;
 use lv_edits::{Edit, Receipt};
 use lv_geometry::{Limits, Refusal};
 use lv_live::Live;
+use lv_reduce::Answer;
 use lv_refresh::{Job, Outcome};
 use lv_summary::Accepted;
 use std::alloc::Global;
@@ -73,6 +75,17 @@ impl<B: Body, N: Naming> Desk<B, N> {
         let receipt = self.live.apply(edit)?;
         share.enter(&mut self.book);
         Ok(receipt)
+    }
+
+    /// The fold of the elements from index `lo` up to `hi`, keeping what is computed for it. Refused as `Live::ask` is. Takes no
+    /// memory.
+    pub fn ask(&mut self, lo: u32, hi: u32) -> Result<Answer<B::S>, Refusal>
+        ensures ok { IfOk result (λ answer. IsAnswer (B.operations (B.meaning self.old.body)) self.old.history.journal lo hi answer) }
+        ensures err { IfErr result (λ refusal. range_refusal self.old.history.journal lo hi ≡ Some refusal) }
+        ensures same { SameLive self.old self.new }
+        ensures vector { IsVector N.limits self.old.history }
+    {
+        self.live.ask(lo, hi)
     }
 
     /// A job for the least node that wants one, or none. Takes no memory.

@@ -1,6 +1,6 @@
 ghost use Rattle.std.specs.Prelude.{◌≡◌, ◌↔◌, ◌<◌, true, false, length, Err};
 ghost use Rattle.lv_hub.specs.Counting.{Counts};
-ghost use Rattle.lv_hub.specs.Told.{ClaimTold, EditTold, GiveTold, IsVector, ReductionTold, ScanTold, StretchTold};
+ghost use Rattle.lv_hub.specs.Told.{AskTold, ClaimTold, EditTold, GiveTold, IsVector, ReductionTold, ScanTold, StretchTold};
 
 use crate::desks::Desk;
 use crate::naming::Naming;
@@ -66,6 +66,15 @@ impl<B: Body, N: Naming> Hub<B, N> {
         ensures bad_range { (result ≡ Err Refusal.BadRange) ↔ (hi < lo) }
     {
         self.desk.lock(rt).live().reduce(lo, hi)
+    }
+
+    /// The same, keeping what is computed for it: so a range that was asked for is cheap until an edit touches it. Refused as
+    /// `Live::ask` is. Takes no memory.
+    pub fn ask<R: Wait>(&self, rt: &R, lo: u32, hi: u32) -> Result<Answer<B::S>, Refusal>
+        ensures told { AskTold (λ (body : B). B.operations (B.meaning body)) N.limits lo hi result }
+        ensures bad_range { (result ≡ Err Refusal.BadRange) ↔ (hi < lo) }
+    {
+        self.desk.lock(rt).ask(lo, hi)
     }
 
     /// The running folds of the elements from index `lo` up to `hi`, each with its own, computed from a copy by several threads once

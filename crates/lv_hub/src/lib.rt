@@ -23,6 +23,3 @@ pub use naming::Naming;
 pub use sessions::{in_order, run_session};
 pub use shares::Share;
 pub use workers::{Worked, work};
-
-#[cfg(test)]
-mod tests;

@@ -136,7 +136,7 @@ fn put_reduction<N: Naming, T: Wait>(
         × (held.new.items ≡ held.old.items ++ reply) }
     ensures room { vec_capacity held.old ≤ vec_capacity held.new }
 {
-    match hub.reduce(rt, lo, hi) {
+    match hub.ask(rt, lo, hi) {
         Ok(answer) => {
             let value = face(&Six::program(), kind, answer.value);
             let claim = Claimed {

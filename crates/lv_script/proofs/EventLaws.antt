@@ -40,7 +40,7 @@ use Rattle.lv_script.specs.declared.fault.Fault.TheVariants.{WriteFault}
 use Rattle.lv_script.specs.Output.{Writes, WritesFront}
 use Rattle.lv_script.specs.Replies.{FailsToReply, Replies}
 use Rattle.lv_script.proofs.OutputLemmas.{Writes-trans, WritesFront-after}
-use Rattle.lv_script.specs.Script.{HasQueries, TellsEdit, TellsEvent, TellsScan, edit_text, notes_text, plain_scan, program_operations, reduced_text, reply_text, scanned_range_text}
+use Rattle.lv_script.specs.Script.{HasQueries, Tells, TellsEdit, TellsEvent, TellsScan, edit_text, notes_text, plain_scan, program_operations, reduced_text, reply_text, scanned_range_text}
 use Rattle.lv_script.specs.Scripted.{state_of}
 use Rattle.lv_script.specs.Texts.{answer_text, refused_text, scan_text}
 
@@ -82,6 +82,17 @@ tells_forget old new jobs has queries =
 pub tells_settle : (old new : StandingState) (jobs : List (Carried Six SixSummary)) → SameLive old.live new.live → new.queries ≡ old.queries → TellsEvent (state_of old jobs) event.Settle (reply_text reply.Settled) (state_of new jobs)
 tells_settle old new jobs same queries =
     record { answered = reply.Settled; does = record { step = step_settle program_operations old.live new.live jobs same; limits = ap (λ h. h.limits) same.history; queries = queries }; text_is = refl }
+
+-- an answer of a vector that may have learnt something
+pub tells_still : (old new : StandingState) (text : List ℕ) (jobs : List (Carried Six SixSummary)) → SameLive old.live new.live → new.queries ≡ old.queries → Tells (state_of old jobs) text text (state_of new jobs)
+tells_still old new text jobs same queries = (
+  refl,
+  record {
+    limits = ap (λ h. h.limits) same.history;
+    seen = record { edits = ap (λ h. h.journal) same.history; issued = refl; claimed = same.claimed; kept = same.kept };
+    queries_are = queries;
+  },
+)
 
 -- what is read for a reduction
 pub tells_reads : (s : StandingState) (lo hi : ℕ) (answer : Result (Answer SixSummary) Refusal) (jobs : List (Carried Six SixSummary)) → Reduces program_operations (recorded s.live) lo hi answer

@@ -6,6 +6,7 @@ pub mod Output
 pub mod Printed
 pub mod Progress
 pub mod Replies
+pub mod Schedule
 pub mod Script
 pub mod Scripted
 pub mod Texts

@@ -117,6 +117,10 @@ accepted_text Installed = reply_line (codes "installed")
 accepted_text Held = reply_line (codes "held")
 accepted_text (Stale now) = reply_line (codes "stale " ++ decimal now)
 
+-- that the parts of a block's summary were made, at a version
+abbrev pub fresh_text : ℕ → ℕ → List ℕ
+fresh_text block version = reply_line (codes "fresh " ++ decimal block ++ codes " version " ++ decimal version)
+
 -- that every claim is void
 abbrev pub forgotten_text : List ℕ
 forgotten_text = reply_line (codes "forgotten")

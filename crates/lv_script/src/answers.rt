@@ -6,7 +6,7 @@ ghost use Rattle.lv_edits.specs.History.{list_of};
 ghost use Rattle.lv_edits.specs.Verdict.{element_at};
 ghost use Rattle.lv_refresh.specs.Carried.{Carried};
 ghost use Rattle.lv_reduce.specs.Answer.{range_refusal};
-ghost use Rattle.lv_live.specs.State.{IsWorld, job_at};
+ghost use Rattle.lv_live.specs.State.{IsWorld, SameLive, job_at};
 ghost use Rattle.lv_live.specs.declared.events.Event.TheVariants as event;
 ghost use Rattle.lv_standing.specs.Queries.{query_of};
 ghost use Rattle.lv_script.specs.Script.{CommandAnswer, TellsEdit, TellsEvent, TellsUnwatch, TellsWatch, Tells, named_answer_text, notes_text, program_operations, reduced_text};
@@ -186,13 +186,15 @@ fn extent_of<B: Body>(live: &Live<B>) -> Extent
     }
 }
 
-// The value of a kind over a range, or why the range is refused.
-fn put_reduced(standing: &Standing, kind: Kind, lo: u32, hi: u32, held: &mut Vec<u8>)
+// The value of a kind over a range, of which the vector keeps what it computes, or why the range is refused.
+fn put_reduced(standing: &mut Standing, kind: Kind, lo: u32, hi: u32, held: &mut Vec<u8>)
     requires { vec_len held.old + ROOM ≤ vec_capacity held.old }
-    ensures text { let edits = standing.now.live.history.journal in held.new.items ≡ held.old.items ++ reduced_text edits kind lo hi (range_refusal edits lo hi) }
+    ensures text { let edits = standing.old.live.history.journal in held.new.items ≡ held.old.items ++ reduced_text edits kind lo hi (range_refusal edits lo hi) }
+    ensures live { SameLive standing.old.live standing.new.live }
+    ensures queries { standing.new.queries ≡ standing.old.queries }
     ensures room { vec_capacity held.old ≤ vec_capacity held.new }
 {
-    match reduce(standing, lo, hi) {
+    match standing.ask(lo, hi) {
         Ok(answer) => put_answer(
             held,
             answer.edit,

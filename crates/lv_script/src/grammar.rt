@@ -9,7 +9,7 @@ use crate::words::{next_word, only_word};
 use lv_bodies::Kind;
 use lv_standing::Name;
 
-fn spells(word: &[u8], text: &str) -> bool
+pub(crate) fn spells(word: &[u8], text: &str) -> bool
     ensures { result ≡ bytes_eq word.now text.now }
 {
     word == text.as_bytes()
@@ -40,7 +40,7 @@ pub(crate) fn kind(word: &[u8]) -> Option<Kind>
     None
 }
 
-fn lone_number(words: &[u8]) -> Option<u32>
+pub(crate) fn lone_number(words: &[u8]) -> Option<u32>
     ensures { result ≡ lone_number (words_of words.now) }
 {
     number(only_word(words)?)
@@ -59,7 +59,7 @@ fn lone_name(words: &[u8]) -> Option<Name>
 }
 
 #[tactic(auto, unfolding(crate::specs::Grammar::bounds_in))]
-fn bounds(words: &[u8]) -> Option<(u32, u32)>
+pub(crate) fn bounds(words: &[u8]) -> Option<(u32, u32)>
     ensures { result ≡ bounds_in (words_of words.now) }
 {
     let (word, rest) = next_word(words)?;

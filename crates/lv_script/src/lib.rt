@@ -6,6 +6,8 @@
 //! the other and writes the replies joined end to end; a fault leaves a front of them. Memory is fixed, however long
 //! the input or a line of it is. It decides nothing about the vector: the layers below do.
 //!
+//! A schedule plays the lock-free machine, one event a line: `run_schedule` answers it in the same loop.
+//!
 //! A transcript is a journal and the reductions that were answered, as text. `write_transcript` writes it; `audit` answers yes
 //! exactly where the bytes are a transcript whose every line is true, and folds plain slices to see it.
 #![tactic(auto)]
@@ -28,6 +30,9 @@ mod replies;
 mod responder;
 mod scan_replies;
 mod scans;
+mod schedule_lines;
+mod schedule_replies;
+mod schedules;
 mod scripts;
 mod sender;
 mod transcript_lines;
@@ -48,9 +53,7 @@ pub use printing::print_command;
 pub use replies::{LINE, put_answer, put_bad, put_receipt, put_refusal};
 pub use responder::Responder;
 pub use scan_replies::put_scan;
+pub use schedules::run_schedule;
 pub use scripts::run_script;
 pub use sender::{HELD, make_room, put, put_element, put_number, put_wide, send};
 pub use transcripts::{Claimed, write_transcript};
-
-#[cfg(test)]
-mod tests;

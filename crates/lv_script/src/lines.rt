@@ -25,7 +25,7 @@ pub fn read_line(bytes: &[u8]) -> Line
     }
 }
 
-fn without_cr(bytes: &[u8]) -> &[u8]
+pub(crate) fn without_cr(bytes: &[u8]) -> &[u8]
     ensures { result.now ≡ without_cr bytes.now }
 {
     if bytes.ends_with(b"\r") {
@@ -34,7 +34,7 @@ fn without_cr(bytes: &[u8]) -> &[u8]
     bytes
 }
 
-fn is_comment(word: &[u8]) -> bool
+pub(crate) fn is_comment(word: &[u8]) -> bool
     ensures { result ≡ is_comment word.now }
 {
     word.starts_with(b"#")

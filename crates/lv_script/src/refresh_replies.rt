@@ -1,5 +1,5 @@
 ghost use Rattle.std.specs.Prelude.{◌≡◌, ◌+◌, ◌≤◌, ◌++◌, vec_len, vec_capacity};
-ghost use Rattle.lv_script.specs.Texts.{accepted_text, cost_text, forgotten_text, idle_text, job_text};
+ghost use Rattle.lv_script.specs.Texts.{accepted_text, cost_text, forgotten_text, fresh_text, idle_text, job_text};
 
 use crate::replies::LINE;
 use crate::sender::{put, put_number};
@@ -60,6 +60,19 @@ pub fn put_accepted(held: &mut Vec<u8>, accepted: Accepted)
             put(held, b"\n");
         }
     }
+}
+
+/// That the parts of a block's summary were made, at a version.
+pub fn put_fresh(held: &mut Vec<u8>, block: u32, version: u32)
+    requires { vec_len held.old + LINE ≤ vec_capacity held.old }
+    ensures text { held.new.items ≡ held.old.items ++ fresh_text block version }
+    ensures room { vec_capacity held.old ≤ vec_capacity held.new }
+{
+    put(held, b"fresh ");
+    put_number(held, block.into());
+    put(held, b" version ");
+    put_number(held, version.into());
+    put(held, b"\n");
 }
 
 /// That every claim is void.

@@ -1,7 +1,0 @@
-use Rattle.lv_hub.proofs.tests.desks.a_desk_without_threads.Given as goal
-
-abbrev pub ghosts-desk_alone-N-Ledger : goal.ghosts-desk_alone-N-Ledger
-ghosts-desk_alone-N-Ledger g a = record { name = a.blank.name; parts = a.blank.parts }
-
-abbrev pub ghosts-desk_alone-N-Naming : goal.ghosts-desk_alone-N-Naming
-ghosts-desk_alone-N-Naming g a = record { limits = a.limits }

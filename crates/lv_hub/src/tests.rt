@@ -1,9 +1,0 @@
-mod common;
-mod desks;
-mod held_jobs;
-mod late_workers;
-mod one_session;
-mod strangers;
-mod strangers_above;
-mod totals;
-mod two_sessions;

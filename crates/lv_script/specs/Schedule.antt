@@ -1,0 +1,139 @@
+-- Schedules of the lock-free machine: what each line says, and what it is answered.
+use Rattle.std.specs.Prelude.{◌≡◌, ℕ, if◌then◌else◌, List, [], ◌∷◌, ◌++◌, length, nat_lt, codes, decimal, Option, Some, None, option_map, unwrap_or}
+use Rattle.std.specs.Str.{bytes_eq}
+use Rattle.lv_bodies.specs.declared.kinds.Kind.TheVariants as kind
+use Rattle.lv_bodies.specs.declared.kinds.Shown.TheVariants as shown
+use Rattle.lv_bodies.specs.Parts.{sum_of_parts, sum_parts}
+use Rattle.lv_bodies.specs.Sums.{sum_operations}
+use Rattle.lv_bodies.specs.declared.sums.Sum.{Sum}
+use Rattle.lv_machine.specs.declared.events.Call.{Call}
+use Rattle.lv_machine.specs.declared.events.Call.TheVariants as call
+use Rattle.lv_machine.specs.declared.events.Event.{Event}
+use Rattle.lv_machine.specs.declared.events.Event.TheVariants as event
+use Rattle.lv_machine.specs.declared.outcomes.Outcome.{Outcome}
+use Rattle.lv_machine.specs.declared.outcomes.Outcome.TheVariants.{Started, Going, Done, Refused}
+use Rattle.lv_machine.specs.declared.outcomes.Said.{Said}
+use Rattle.lv_machine.specs.declared.outcomes.Said.TheVariants as said
+use Rattle.lv_machine.specs.Machine.{MachineState, block_refreshed, machine_step}
+use Rattle.lv_script.specs.declared.command.Command.{Command}
+use Rattle.lv_script.specs.declared.command.Command.TheVariants.{Push, Pop, Write, Reserve, Settle, Get, Size, Capacity, Reduce, Cost, Inclusive, Exclusive, Claim, Deliver, Forget, Watch, Unwatch, Answer}
+use Rattle.lv_script.specs.declared.schedule_lines.ScheduleLine.{ScheduleLine}
+use Rattle.lv_script.specs.declared.schedule_lines.ScheduleLine.TheVariants.{Nothing, Bad, Do}
+use Rattle.lv_script.specs.Grammar.{◌>>=◌, bounds_in, command_in, is_comment, lone_number, without_cr}
+use Rattle.lv_script.specs.Numbers.{number_in}
+use Rattle.lv_script.specs.Words.{words_of}
+use Rattle.lv_script.specs.Texts.{answer_text, bad_text, fresh_text, receipt_text, refused_text, reply_line, size_text, value_text}
+
+-- ---- what a line says
+
+-- the call that a command of scripts asks for, where a machine knows it
+abbrev pub call_of : Command → Option Call
+call_of (Push x) = Some (call.Push x)
+call_of Pop = Some call.Pop
+call_of (Write i x) = Some (call.Write i x)
+call_of (Reserve n) = None
+call_of Settle = None
+call_of (Get i) = Some (call.Get i)
+call_of Size = Some call.Size
+call_of Capacity = None
+call_of (Reduce kind lo hi) = None
+call_of (Cost lo hi) = None
+call_of (Inclusive kind lo hi) = None
+call_of (Exclusive kind lo hi) = None
+call_of Claim = None
+call_of (Deliver k) = None
+call_of Forget = None
+call_of (Watch name kind lo hi) = None
+call_of (Unwatch name) = None
+call_of (Answer name) = None
+
+-- the call that some words ask for: `reduce lo hi`, `refresh number`, or as a script asks for it
+unfoldable pub call_in : List (List ℕ) → Option Call
+call_in [] = None
+call_in (verb ∷ words) =
+    if bytes_eq verb (codes "reduce") then option_map (λ bounds. call.Reduce bounds.0 bounds.1) (bounds_in words)
+    else (if bytes_eq verb (codes "refresh") then option_map call.Refresh (lone_number words)
+    else command_in (verb ∷ words) >>= call_of)
+
+-- the call of an actor that some words are: its number, and the words of the call
+unfoldable pub called_in : List (List ℕ) → Option Event
+called_in [] = None
+called_in (word ∷ words) = do
+  actor ← number_in word
+  asked ← call_in words
+  Some (event.Call actor asked)
+
+-- the event that the words of a line are: `call`, and whose call it is; or `step`, and whose step
+unfoldable pub event_in : List (List ℕ) → Option Event
+event_in [] = None
+event_in (verb ∷ words) =
+    if bytes_eq verb (codes "call") then called_in words
+    else (if bytes_eq verb (codes "step") then option_map event.Step (lone_number words) else None)
+
+-- what is not read as an event is bad
+abbrev pub event_or_bad : Option Event → ScheduleLine
+event_or_bad None = Bad
+event_or_bad (Some e) = Do e
+
+-- what the words of a line say: nothing where there are none, or behind `#`
+abbrev pub schedule_line_in : List (List ℕ) → ScheduleLine
+schedule_line_in [] = Nothing
+schedule_line_in (word ∷ words) = if is_comment word then Nothing else event_or_bad (event_in (word ∷ words))
+
+-- what a line says, given without its LF: a line of more than 120 bytes is bad, whatever they are
+unfoldable pub schedule_line_of : List ℕ → ScheduleLine
+schedule_line_of bytes = if nat_lt 120 (length bytes) then Bad else schedule_line_in (words_of (without_cr bytes))
+
+-- ---- what an event is answered
+
+-- what a call ends with, as a line; a refresh is one of a block
+abbrev pub said_text : ℕ → Said ℕ → List ℕ
+said_text block (said.Did receipt) = receipt_text receipt
+said_text block (said.Read read) = value_text read.value
+said_text block (said.Sized sized) = size_text sized.size sized.edit
+said_text block (said.Answered answer) = answer_text answer.edit kind.Sum (shown.Sum answer.value)
+said_text block (said.Refreshed refreshed) = fresh_text block refreshed.version
+said_text block (said.Refused refusal) = refused_text refusal
+
+-- what an event of an actor comes to, as a line: its call has begun, goes on, or has ended; or the event is refused
+abbrev pub outcome_text : ℕ → ℕ → Outcome ℕ → List ℕ
+outcome_text actor block Started = reply_line (codes "started " ++ decimal actor)
+outcome_text actor block Going = reply_line (codes "step " ++ decimal actor)
+outcome_text actor block (Done answer) = codes "done " ++ decimal actor ++ codes " " ++ said_text block answer
+outcome_text actor block (Refused refusal) = refused_text refusal
+
+-- ---- what a line is answered, and what it changes
+
+-- a machine whose body is the sum
+abbrev pub SumMachine : Type 0
+SumMachine = MachineState Sum ℕ
+
+-- one event on it: the machine after it, and what it comes to
+abbrev pub sum_step : SumMachine → Event → SumMachine × Outcome ℕ
+sum_step m e = machine_step sum_operations 1 sum_parts sum_of_parts m e
+
+-- whose event it is
+abbrev pub actor_of : Event → ℕ
+actor_of (event.Call actor asked) = actor
+actor_of (event.Step actor) = actor
+
+-- what an event is answered: the text of what it comes to. A refresh that ends with it is one of the block that the actor's call refreshed
+abbrev pub event_text : SumMachine → Event → List ℕ
+event_text m e = outcome_text (actor_of e) (unwrap_or (block_refreshed m (actor_of e)) 0) (sum_step m e).1
+
+-- what a line is answered: one that says nothing by nothing, and one that says nothing known by its number
+abbrev pub line_text : SumMachine → ℕ → ScheduleLine → List ℕ
+line_text m n Nothing = []
+line_text m n Bad = bad_text n
+line_text m n (Do e) = event_text m e
+
+-- the machine after a line
+abbrev pub machine_after : SumMachine → ScheduleLine → SumMachine
+machine_after m Nothing = m
+machine_after m Bad = m
+machine_after m (Do e) = (sum_step m e).0
+
+-- one line of a schedule, by its bytes and its number: its reply, and the machine after it
+unfoldable pub ScheduleStep : SumMachine → ℕ → List ℕ → List ℕ → SumMachine → Type 0
+ScheduleStep old n line text new =
+    (text ≡ line_text old n (schedule_line_of line)) × (new ≡ machine_after old (schedule_line_of line))

@@ -1,0 +1,107 @@
+ghost use Rattle.std.specs.Prelude.{◌≡◌, ◌∷◌};
+ghost use Rattle.lv_script.specs.Words.{words_of};
+ghost use Rattle.lv_script.specs.Schedule.{call_of, call_in, called_in, event_in, schedule_line_of};
+
+use crate::command::Command;
+use crate::grammar::{bounds, command, lone_number, spells};
+use crate::lines::{is_comment, without_cr};
+use crate::numbers::number;
+use crate::words::next_word;
+use lv_machine::{Call, Event};
+
+/// What a line of a schedule is.
+#[derive(Clone, Copy, Debug, PartialEq, Eq)]
+pub enum ScheduleLine {
+    /// Blank, or a comment. It has no reply.
+    Nothing,
+    /// No line of a schedule, or too long.
+    Bad,
+    /// A call of an actor, or its next step.
+    Do(Event),
+}
+
+/// What a line of a schedule says. The bytes are those of one line, without the LF at its end.
+#[tactic(auto, unfolding(crate::specs::Schedule::schedule_line_of))]
+pub fn read_schedule_line(bytes: &[u8]) -> ScheduleLine
+    ensures { result ≡ schedule_line_of bytes.now }
+{
+    if bytes.len() > 120 {
+        return ScheduleLine::Bad;
+    }
+    let Some((verb, rest)) = next_word(without_cr(bytes)) else {
+        return ScheduleLine::Nothing;
+    };
+    if is_comment(verb) {
+        return ScheduleLine::Nothing;
+    }
+    match event(verb, rest) {
+        Some(event) => ScheduleLine::Do(event),
+        None => ScheduleLine::Bad,
+    }
+}
+
+// The event that a first word and the words after it say.
+#[tactic(auto, unfolding(crate::specs::Schedule::event_in))]
+fn event(verb: &[u8], words: &[u8]) -> Option<Event>
+    ensures { result ≡ event_in (verb.now ∷ words_of words.now) }
+{
+    if spells(verb, "call") {
+        return called(words);
+    }
+    if spells(verb, "step") {
+        return lone_number(words).map(|actor| Event::Step { actor });
+    }
+    None
+}
+
+// The call of an actor: the words `A`, and those of the call.
+#[tactic(auto, unfolding(crate::specs::Schedule::called_in))]
+fn called(words: &[u8]) -> Option<Event>
+    ensures { result ≡ called_in (words_of words.now) }
+{
+    let (word, rest) = next_word(words)?;
+    let actor = number(word)?;
+    let call = call(rest)?;
+    Some(Event::Call { actor, call })
+}
+
+// The call that words ask for.
+#[tactic(auto, unfolding(crate::specs::Schedule::call_in))]
+fn call(words: &[u8]) -> Option<Call>
+    ensures { result ≡ call_in (words_of words.now) }
+{
+    let (verb, rest) = next_word(words)?;
+    if spells(verb, "reduce") {
+        return bounds(rest).map(|(lo, hi)| Call::Reduce { lo, hi });
+    }
+    if spells(verb, "refresh") {
+        return lone_number(rest).map(Call::Refresh);
+    }
+    call_of(command(verb, rest)?)
+}
+
+// The call that a command of scripts asks for, where a machine knows it.
+fn call_of(command: Command) -> Option<Call>
+    ensures { result ≡ call_of command }
+{
+    match command {
+        Command::Push(x) => Some(Call::Push(x)),
+        Command::Pop => Some(Call::Pop),
+        Command::Write { index, value } => Some(Call::Write { index, value }),
+        Command::Get(index) => Some(Call::Get(index)),
+        Command::Size => Some(Call::Size),
+        Command::Reserve(_)
+        | Command::Settle
+        | Command::Capacity
+        | Command::Reduce { .. }
+        | Command::Cost { .. }
+        | Command::Inclusive { .. }
+        | Command::Exclusive { .. }
+        | Command::Claim
+        | Command::Deliver(_)
+        | Command::Forget
+        | Command::Watch { .. }
+        | Command::Unwatch(_)
+        | Command::Answer(_) => None,
+    }
+}

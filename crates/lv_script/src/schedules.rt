@@ -1,0 +1,87 @@
+ghost use Rattle.std.specs.Prelude.{◌≡◌, ◌+◌, ◌≤◌, ◌++◌, vec_len, vec_capacity};
+ghost use Rattle.lv_script.specs.Replies.{Conversed};
+ghost use Rattle.lv_script.specs.Schedule.{ScheduleStep, SumMachine, actor_of, event_text, line_text, machine_after, sum_step};
+
+use crate::conversation::converse;
+use crate::fault::Fault;
+use crate::replies::put_bad;
+use crate::responder::Responder;
+use crate::schedule_lines::{ScheduleLine, read_schedule_line};
+use crate::schedule_replies::{EVENT, put_outcome};
+use crate::sender::make_room;
+use lv_bodies::Sum;
+use lv_machine::{Event, Machine};
+use std::alloc::Global;
+use std::io::{Read, Write};
+
+/// Answers a schedule on a machine: reads its lines, does the event that each says, and writes what it comes to, until the
+/// reader ends. The machine may have calls under way when it begins, and when it ends.
+///
+/// Ends with the faults of a script. What was done before a fault stays done.
+pub fn run_schedule<R: Read, W: Write>(
+    alloc: Global,
+    machine: &mut Machine<Sum>,
+    reader: &mut R,
+    writer: &mut W,
+) -> Result<(), Fault>
+    ensures { Conversed ScheduleStep machine.old machine.new
+        (R.remaining reader.old) (R.remaining reader.new) (W.contents writer.old) (W.contents writer.new) result }
+{
+    converse(alloc, machine, reader, writer)
+}
+
+impl Responder for Machine<Sum> {
+    ghost State = { SumMachine };
+
+    ghost state = { λ m. m };
+
+    ghost step = { ScheduleStep };
+
+    fn respond<W: Write>(
+        &mut self,
+        number: u32,
+        line: &[u8],
+        writer: &mut W,
+        held: &mut Vec<u8>,
+    ) -> Result<(), Fault> {
+        make_room(writer, held, EVENT)?;
+        answer_line(self, number, read_schedule_line(line), held);
+        Ok(())
+    }
+}
+
+// Answers a line.
+fn answer_line(machine: &mut Machine<Sum>, number: u32, line: ScheduleLine, held: &mut Vec<u8>)
+    requires { vec_len held.old + EVENT ≤ vec_capacity held.old }
+    ensures machine { machine.new ≡ machine_after machine.old line }
+    ensures text { held.new.items ≡ held.old.items ++ line_text machine.old number line }
+    ensures room { vec_capacity held.old ≤ vec_capacity held.new }
+{
+    match line {
+        ScheduleLine::Nothing => {}
+        ScheduleLine::Bad => put_bad(held, number),
+        ScheduleLine::Do(event) => answer_event(machine, event, held),
+    }
+}
+
+// Does an event, and puts what it comes to. The block is that of the actor's call before the event.
+fn answer_event(machine: &mut Machine<Sum>, event: Event, held: &mut Vec<u8>)
+    requires { vec_len held.old + EVENT ≤ vec_capacity held.old }
+    ensures machine { machine.new ≡ (sum_step machine.old event).0 }
+    ensures text { held.new.items ≡ held.old.items ++ event_text machine.old event }
+    ensures room { vec_capacity held.old ≤ vec_capacity held.new }
+{
+    let actor = actor_of(event);
+    let block = machine.refreshing(actor).unwrap_or(0);
+    let outcome = machine.step(event);
+    put_outcome(held, actor, block, outcome);
+}
+
+// Whose event it is.
+fn actor_of(event: Event) -> u32
+    ensures { result ≡ actor_of event }
+{
+    match event {
+        Event::Call { actor, .. } | Event::Step { actor } => actor,
+    }
+}
