@@ -1,0 +1,7 @@
+use Rattle.livevec_tests.proofs.hub.late_workers.a_late_worker.Given as goal
+
+abbrev pub ghosts-late_worker-N-Ledger : goal.ghosts-late_worker-N-Ledger
+ghosts-late_worker-N-Ledger g a = record { name = a.blank.name; parts = a.blank.parts }
+
+abbrev pub ghosts-late_worker-N-Naming : goal.ghosts-late_worker-N-Naming
+ghosts-late_worker-N-Naming g a = record { limits = a.limits }

@@ -1,0 +1,13 @@
+use Rattle.livevec_tests.proofs.hub.strangers.equal_contents_are_no_stranger.Given as goal
+
+abbrev pub ghosts-first_outcome-N-Ledger : goal.ghosts-first_outcome-N-Ledger
+ghosts-first_outcome-N-Ledger g a = record { name = a.blank.name; parts = a.blank.parts }
+
+abbrev pub ghosts-first_outcome-N-Naming : goal.ghosts-first_outcome-N-Naming
+ghosts-first_outcome-N-Naming g a = record { limits = a.limits }
+
+abbrev pub ghosts-answer_to-N-Ledger : goal.ghosts-answer_to-N-Ledger
+ghosts-answer_to-N-Ledger g a = record { name = a.blank.name; parts = a.blank.parts }
+
+abbrev pub ghosts-answer_to-N-Naming : goal.ghosts-answer_to-N-Naming
+ghosts-answer_to-N-Naming g a = record { limits = a.limits }

@@ -1,0 +1,13 @@
+use Rattle.livevec_tests.proofs.hub.strangers.two_hubs.Given as goal
+
+abbrev pub ghosts-first_outcome-N-Ledger : goal.ghosts-first_outcome-N-Ledger
+ghosts-first_outcome-N-Ledger g a = record { name = a.blank.name; parts = a.blank.parts }
+
+abbrev pub ghosts-first_outcome-N-Naming : goal.ghosts-first_outcome-N-Naming
+ghosts-first_outcome-N-Naming g a = record { limits = a.limits }
+
+abbrev pub ghosts-one_hub_of_two-N-Ledger : goal.ghosts-one_hub_of_two-N-Ledger
+ghosts-one_hub_of_two-N-Ledger g a = record { name = a.blank.name; parts = a.blank.parts }
+
+abbrev pub ghosts-one_hub_of_two-N-Naming : goal.ghosts-one_hub_of_two-N-Naming
+ghosts-one_hub_of_two-N-Naming g a = record { limits = a.limits }

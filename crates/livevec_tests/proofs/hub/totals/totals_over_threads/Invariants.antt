@@ -1,0 +1,7 @@
+use Rattle.livevec_tests.proofs.hub.totals.totals_over_threads.Given as goal
+
+abbrev pub ghosts-total-N-Ledger : goal.ghosts-total-N-Ledger
+ghosts-total-N-Ledger g a = record { name = a.blank.name; parts = a.blank.parts }
+
+abbrev pub ghosts-total-N-Naming : goal.ghosts-total-N-Naming
+ghosts-total-N-Naming g a = record { limits = a.limits }

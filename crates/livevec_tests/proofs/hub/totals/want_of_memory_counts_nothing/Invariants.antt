@@ -1,0 +1,7 @@
+use Rattle.livevec_tests.proofs.hub.totals.want_of_memory_counts_nothing.Given as goal
+
+abbrev pub ghosts-nine_pushes-N-Ledger : goal.ghosts-nine_pushes-N-Ledger
+ghosts-nine_pushes-N-Ledger g a = record { name = a.blank.name; parts = a.blank.parts }
+
+abbrev pub ghosts-nine_pushes-N-Naming : goal.ghosts-nine_pushes-N-Naming
+ghosts-nine_pushes-N-Naming g a = record { limits = a.limits }

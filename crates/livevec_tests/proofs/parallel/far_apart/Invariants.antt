@@ -1,0 +1,6 @@
+use Rattle.std.proofs.Common.{◌≡◌, ◌+◌, vec_len}
+use Rattle.livevec_tests.proofs.parallel.far_apart.Given as goal
+
+-- one element more than were pushed in the loop
+abbrev pub invariant-loop : goal.invariant-loop
+invariant-loop l = vec_len l.xs ≡ l.counter + 1

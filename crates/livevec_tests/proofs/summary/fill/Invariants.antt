@@ -1,0 +1,6 @@
+use Rattle.std.proofs.Common.{◌≡◌}
+use Rattle.lv_summary.specs.Table.{blocks_in}
+use Rattle.livevec_tests.proofs.summary.fill.Given as goal
+
+abbrev pub invariant-loop-i : goal.invariant-loop-i
+invariant-loop-i l = blocks_in l.table ≡ blocks_in l.initial.table

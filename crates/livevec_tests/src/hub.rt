@@ -1,0 +1,8 @@
+//! Tests of the hub: threads on one vector, and the outcomes of others.
+mod common;
+mod desks;
+mod held_jobs;
+mod late_workers;
+mod strangers;
+mod strangers_above;
+mod totals;

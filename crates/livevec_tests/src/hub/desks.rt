@@ -1,0 +1,87 @@
+//! Tests a desk with no hub around it, and shares that are split and joined.
+ghost use Rattle.std.specs.Prelude.{◌≡◌};
+
+use lv_bodies::Sum;
+use lv_edits::Edit;
+use lv_geometry::{Limits, Refusal};
+use lv_hub::*;
+use lv_summary::Accepted;
+use std::alloc::Global;
+use std::marker::Brand;
+use std::process::Abort;
+use std::sync::ledger::Blank;
+use std::test::Fail;
+
+// The parts and the count of what is left as one of a share's three parts is cut off, of that one, and of both joined.
+fn split_and_join<N: Naming>(share: &mut Share<N>) -> [(u64, u64); 3]
+    requires { share.old.parts ≡ 3 }
+{
+    let one = share.split();
+    let left = (share.parts(), share.count());
+    let cut_off = (one.parts(), one.count());
+    share.join(one);
+    [left, cut_off, (share.parts(), share.count())]
+}
+
+// Pushes eight elements 1.
+fn push_eight<N: Naming>(desk: &mut Desk<Sum, N>, share: &mut Share<N>) -> Result<(), Refusal>
+    ensures { share.new.parts ≡ share.old.parts }
+{
+    for _ in 0..8 {
+        desk.edit(share, Edit::Push(1))?;
+    }
+    Ok(())
+}
+
+// Refreshes a desk of eight elements, and sees that nothing more is wanted.
+fn assert_refreshed<N: Naming>(rt: &impl Abort, desk: &mut Desk<Sum, N>) -> Result<(), Fail> {
+    let outcome = desk.claim().ok_or("a job is wanted")?.run();
+    assert_eq!(rt; desk.give(outcome), Ok(Accepted::Installed));
+    assert!(rt; desk.claim().is_none());
+    Ok(())
+}
+
+// Sees what a refreshed desk of eight elements 1 reads for their sum.
+fn assert_read<N: Naming>(rt: &impl Abort, desk: &Desk<Sum, N>) -> Result<(), Fail> {
+    let answer = desk.live().reduce(0, 8)?;
+    assert_eq!(rt; (answer.value, answer.summaries_read), (8, 1));
+    Ok(())
+}
+
+// Makes a new desk one of eight elements 1, which is refreshed; its share has three parts.
+fn assert_desk<N: Naming>(
+    rt: &impl Abort,
+    desk: &mut Desk<Sum, N>,
+    share: &mut Share<N>,
+) -> Result<(), Fail>
+    requires { share.old.parts ≡ 3 }
+{
+    push_eight(desk, share)?;
+    assert_refreshed(rt, desk)?;
+    assert_read(rt, desk)?;
+    assert_eq!(rt; split_and_join(share), [(2, 8), (1, 0), (3, 8)]);
+    Ok(())
+}
+
+// A desk with no hub around it, and a share of three parts.
+fn desk_alone<N: Naming>(
+    rt: &impl Abort,
+    alloc: Global,
+    limits: Limits,
+    blank: Blank,
+) -> Result<(), Fail>
+    requires name { blank.name ≡ N.name }
+    requires all { blank.parts ≡ N.parts }
+    requires three { blank.parts ≡ 3 }
+    requires limits { limits ≡ N.limits }
+{
+    let (mut desk, mut share) = Desk::<Sum, N>::new(alloc, limits, Sum, blank, 3);
+    let seen = assert_desk(rt, &mut desk, &mut share);
+    drop(desk);
+    seen
+}
+
+#[test]
+fn a_desk_without_threads(rt: HostRuntime) -> Result<(), Fail> {
+    desk_alone::<Brand>(&rt, rt.alloc(), Limits::greatest(), Blank::new(3))
+}

@@ -1,0 +1,167 @@
+//! Tests that a worker which stands at its gate, or within a body's `lift`, holds nobody up.
+ghost use Rattle.std.specs.Prelude.{◌≡◌};
+
+use super::common::*;
+use lv_bodies::Body;
+use lv_edits::{Edit, Receipt};
+use lv_geometry::{Limits, Refusal};
+use lv_hub::*;
+use lv_reduce::Answer;
+use std::alloc::Global;
+use std::marker::Brand;
+use std::process::Abort;
+use std::sync::Wait;
+use std::sync::atomic::{AtomicBool, Ordering};
+use std::sync::ledger::Blank;
+use std::test::Fail;
+use std::thread;
+use std::thread::Threads;
+
+// A gate, and a place within a body's `lift`, where the first call after the gate stands.
+#[derive(Drop)]
+struct Stage {
+    gate: Latch,
+    lift: Latch,
+    holds_next: AtomicBool,
+}
+
+impl Stage {
+    fn new() -> Stage {
+        Stage {
+            gate: Latch::new(),
+            lift: Latch::new(),
+            holds_next: AtomicBool::new(false),
+        }
+    }
+
+    fn was_in_time(&self) -> bool {
+        self.gate.was_in_time() && self.lift.was_in_time()
+    }
+}
+
+impl Gate for Stage {
+    fn hold(&self, _turn: u64) {
+        self.gate.stand();
+        self.holds_next.store(true, Ordering::SeqCst);
+    }
+}
+
+// The sum, by a body whose `lift` may stand. That is no part of its meaning.
+#[derive(Clone, Copy)]
+struct Held<'a> {
+    stage: &'a Stage,
+}
+
+impl<'a> Body for Held<'a> {
+    ghost use Rattle.lv_bodies.specs.Sums.{sum_operations, IsSum};
+    ghost use Rattle.std.proofs.Common.{rules};
+    ghost use Rattle.lv_bodies.specs.SumLaws.{sum_laws};
+
+    type S = u64;
+
+    ghost Meaning = { Unit {0} };
+
+    ghost meaning = { λ _. tt };
+
+    ghost operations = { λ _. sum_operations };
+
+    ghost is_within = { λ _. IsSum };
+
+    ghost laws = { λ _. sum_laws };
+
+    fn identity(&self) -> u64 {
+        0
+    }
+
+    fn lift(&self, x: i64) -> u64 {
+        if self.stage.holds_next.swap(false, Ordering::SeqCst) {
+            self.stage.lift.stand();
+        }
+        x.cast_unsigned()
+    }
+
+    fn combine(&self, a: u64, b: u64) -> u64 {
+        a.wrapping_add(b)
+    }
+
+    fn same(&self, _other: &Held<'a>) -> bool {
+        true
+    }
+
+    ghost equal = { λ s t. Prim.search rules };
+}
+
+// What the main thread is answered while a job is held: at the gate a push and a reduction, within `lift` another push.
+fn while_held<N: Naming, R: Wait>(
+    rt: &R,
+    hub: &Hub<Held<'_>, N>,
+    share: &mut Share<N>,
+    stage: &Stage,
+) -> Result<(Receipt, Answer<u64>, Receipt), Refusal> {
+    stage.gate.wait_for_it();
+    let first = hub.edit(rt, share, Edit::Push(1))?;
+    let answer = hub.reduce(rt, 0, 9)?;
+    stage.gate.release();
+    stage.lift.wait_for_it();
+    let second = hub.edit(rt, share, Edit::Push(1))?;
+    stage.lift.release();
+    Ok((first, answer, second))
+}
+
+// What was done while a job was held: by a worker with one turn, and what the main thread was answered.
+type HeldOnce = (Worked, (Receipt, Answer<u64>, Receipt));
+
+// Makes a new hub one of eight elements 1, whose first job is held.
+fn hold_once<N: Naming + Send + Sync, R: Threads + Wait + Sync>(
+    rt: &R,
+    hub: &Hub<Held<'_>, N>,
+    share: &mut Share<N>,
+    stage: &Stage,
+) -> Result<HeldOnce, Refusal> {
+    push_all(rt, hub, share, 8, 1)?;
+    let (worked, answers) = thread::join(
+        rt,
+        move || work(rt, hub, stage, 1),
+        move || while_held(rt, hub, share, stage),
+    );
+    Ok((worked, answers?))
+}
+
+// What was done while a job of a hub of eight elements 1 was held.
+fn hold_a_job<N: Naming + Send + Sync, R: Threads + Wait + Sync>(
+    rt: &R,
+    alloc: Global,
+    limits: Limits,
+    blank: Blank,
+    stage: &Stage,
+) -> Result<HeldOnce, Refusal>
+    requires name { blank.name ≡ N.name }
+    requires all { blank.parts ≡ N.parts }
+    requires one { blank.parts ≡ 1 }
+    requires limits { limits ≡ N.limits }
+{
+    let (hub, mut share) = Hub::<Held<'_>, N>::new(alloc, limits, Held { stage }, blank, 1);
+    let done = hold_once(rt, &hub, &mut share, stage);
+    drop(hub);
+    done
+}
+
+// Sees what was done while a job was held.
+fn assert_held(rt: &impl Abort, done: HeldOnce) {
+    let (worked, (first, answer, second)) = done;
+    let first_wanted = Receipt::Pushed { edit: 9, index: 8 };
+    let second_wanted = Receipt::Pushed { edit: 10, index: 9 };
+    assert_eq!(rt; (first, second), (first_wanted, second_wanted));
+    assert_eq!(rt; (answer.edit, answer.value), (9, 9));
+    assert_eq!(rt; worked, one_installed());
+}
+
+#[test]
+fn a_held_job_holds_nobody(rt: HostRuntime) -> Result<(), Fail> {
+    let stage = Stage::new();
+    let limits = Limits::greatest();
+    let done = hold_a_job::<Brand, _>(&rt, rt.alloc(), limits, Blank::new(1), &stage)?;
+    assert!(rt; stage.was_in_time());
+    assert_held(&rt, done);
+    Ok(())
+}

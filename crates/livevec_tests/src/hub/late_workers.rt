@@ -1,0 +1,108 @@
+//! Tests a worker whose outcome comes late, after another worker and an edit.
+ghost use Rattle.std.specs.Prelude.{◌≡◌};
+
+use super::common::*;
+use lv_bodies::Sum;
+use lv_edits::{Edit, Receipt};
+use lv_geometry::{Limits, Refusal};
+use lv_hub::*;
+use std::alloc::Global;
+use std::marker::Brand;
+use std::process::Abort;
+use std::sync::Wait;
+use std::sync::ledger::Blank;
+use std::test::Fail;
+use std::thread;
+use std::thread::Threads;
+
+// What a worker did whose one outcome was stale.
+fn one_stale() -> Worked {
+    Worked {
+        claimed: 1,
+        installed: 0,
+        held: 0,
+        stale: 1,
+        strangers: 0,
+    }
+}
+
+// While the first worker stands at its gate, a second one works for a turn, and then the first element is overwritten.
+fn overtake<N: Naming + Send + Sync, R: Threads + Wait + Sync>(
+    rt: &R,
+    hub: &Hub<Sum, N>,
+    share: &mut Share<N>,
+    gate: &Latch,
+) -> (Worked, Result<Receipt, Refusal>) {
+    gate.wait_for_it();
+    let (worked, ()) = thread::join(rt, move || work(rt, hub, &OpenGate, 1), || ());
+    let written = hub.edit(rt, share, Edit::Write { index: 0, value: 9 });
+    gate.release();
+    (worked, written)
+}
+
+// What the late worker did, and what another worker did and an edit was answered meanwhile.
+type DoneLate = (Worked, (Worked, Result<Receipt, Refusal>));
+
+// A worker that claimed the first block stands at its gate while another works and the main thread edits.
+fn work_late<N: Naming + Send + Sync, R: Threads + Wait + Sync>(
+    rt: &R,
+    hub: &Hub<Sum, N>,
+    share: &mut Share<N>,
+    gate: &Latch,
+) -> DoneLate {
+    thread::join(
+        rt,
+        move || work(rt, hub, gate, 1),
+        move || overtake(rt, hub, share, gate),
+    )
+}
+
+// Sees what was done while a worker was late.
+fn assert_done_late(rt: &impl Abort, done: DoneLate) {
+    let (first, (second, written)) = done;
+    assert_eq!(rt;
+        written,
+        Ok(Receipt::Written {
+            edit: 17,
+            before: 1
+        })
+    );
+    assert_eq!(rt; (first, second), (one_stale(), one_installed()));
+}
+
+// Makes a new hub one of 16 elements 1, where a worker is late.
+fn assert_late<N: Naming + Send + Sync, R: Threads + Wait + Abort + Sync>(
+    rt: &R,
+    hub: &Hub<Sum, N>,
+    share: &mut Share<N>,
+) -> Result<(), Fail> {
+    push_all(rt, hub, share, 16, 1)?;
+    let gate = Latch::new();
+    let done = work_late(rt, hub, share, &gate);
+    assert!(rt; gate.was_in_time());
+    assert_done_late(rt, done);
+    assert_sum(rt, hub, 16, 17, 24)
+}
+
+// A hub of 16 elements 1, where a worker is late.
+fn late_worker<N: Naming + Send + Sync, R: Threads + Wait + Abort + Sync>(
+    rt: &R,
+    alloc: Global,
+    limits: Limits,
+    blank: Blank,
+) -> Result<(), Fail>
+    requires name { blank.name ≡ N.name }
+    requires all { blank.parts ≡ N.parts }
+    requires one { blank.parts ≡ 1 }
+    requires limits { limits ≡ N.limits }
+{
+    let (hub, mut share) = Hub::<Sum, N>::new(alloc, limits, Sum, blank, 1);
+    let seen = assert_late(rt, &hub, &mut share);
+    drop(hub);
+    seen
+}
+
+#[test]
+fn a_late_worker(rt: HostRuntime) -> Result<(), Fail> {
+    late_worker::<Brand, _>(&rt, rt.alloc(), Limits::greatest(), Blank::new(1))
+}

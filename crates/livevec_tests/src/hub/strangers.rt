@@ -1,0 +1,219 @@
+//! Tests what a hub answers where it is given the outcome of another hub, and what both scans answer.
+ghost use Rattle.std.specs.Prelude.{◌≡◌};
+
+use super::common::*;
+use lv_bodies::{Automaton, Body, Sum};
+use lv_geometry::{Limits, Refusal};
+use lv_hub::*;
+use lv_reduce::Scan;
+use lv_refresh::Outcome;
+use lv_summary::Accepted;
+use std::alloc::Global;
+use std::marker::Brand;
+use std::process::Abort;
+use std::sync::Wait;
+use std::sync::ledger::Blank;
+use std::test::Fail;
+use std::thread::Threads;
+
+// Makes a new hub one of eight equal elements, and computes its first job.
+fn outcome_of_eight<B: Body, N: Naming, R: Wait>(
+    rt: &R,
+    hub: &Hub<B, N>,
+    share: &mut Share<N>,
+    x: i64,
+) -> Result<Outcome<B>, Fail> {
+    push_all(rt, hub, share, 8, x)?;
+    next_outcome(rt, hub)
+}
+
+// The outcome of the first job of a hub of eight equal elements.
+fn first_outcome<B: Body, N: Naming, R: Wait>(
+    rt: &R,
+    alloc: Global,
+    limits: Limits,
+    blank: Blank,
+    body: B,
+    x: i64,
+) -> Result<Outcome<B>, Fail>
+    requires name { blank.name ≡ N.name }
+    requires all { blank.parts ≡ N.parts }
+    requires one { blank.parts ≡ 1 }
+    requires limits { limits ≡ N.limits }
+{
+    let (hub, mut share) = Hub::<B, N>::new(alloc, limits, body, blank, 1);
+    let outcome = outcome_of_eight(rt, &hub, &mut share, x);
+    drop(hub);
+    outcome
+}
+
+// Makes a new hub one of eight equal elements, and gives it an outcome.
+fn give_to_eight<B: Body, N: Naming, R: Wait>(
+    rt: &R,
+    hub: &Hub<B, N>,
+    share: &mut Share<N>,
+    x: i64,
+    outcome: Outcome<B>,
+) -> Result<Accepted, Refusal> {
+    push_all(rt, hub, share, 8, x)?;
+    hub.give(rt, outcome)
+}
+
+// What a hub of eight equal elements answers where it is given an outcome.
+fn answer_to<B: Body, N: Naming, R: Wait>(
+    rt: &R,
+    alloc: Global,
+    limits: Limits,
+    blank: Blank,
+    body: B,
+    x: i64,
+    outcome: Outcome<B>,
+) -> Result<Accepted, Refusal>
+    requires name { blank.name ≡ N.name }
+    requires all { blank.parts ≡ N.parts }
+    requires one { blank.parts ≡ 1 }
+    requires limits { limits ≡ N.limits }
+{
+    let (hub, mut share) = Hub::<B, N>::new(alloc, limits, body, blank, 1);
+    let answer = give_to_eight(rt, &hub, &mut share, x, outcome);
+    drop(hub);
+    answer
+}
+
+// Sees the edit and the values of a scan.
+fn assert_scan(rt: &impl Abort, scan: &Scan<u64>, edit: u32, values: &[u64]) {
+    assert_eq!(rt; scan.edit, edit);
+    assert_eq!(rt; scan.values.as_slice(), values);
+}
+
+// Gives a hub of eight elements 1 the outcome of another, and then its own, twice.
+fn assert_own_alone<N: Naming, R: Wait + Abort>(
+    rt: &R,
+    hub: &Hub<Sum, N>,
+    strange: Outcome<Sum>,
+) -> Result<(), Fail> {
+    assert_given(rt, hub, strange, Err(Refusal::Stranger));
+    assert_sum(rt, hub, 8, 8, 8)?;
+    let own = next_outcome(rt, hub)?;
+    assert_given(rt, hub, own, Ok(Accepted::Installed));
+    assert_given(rt, hub, own, Ok(Accepted::Held));
+    Ok(())
+}
+
+// Sees that a hub of eight elements 1 follows a write of 5, and that the other's outcome is late now.
+fn assert_follows<N: Naming, R: Threads + Wait + Abort + Sync>(
+    rt: &R,
+    alloc: Global,
+    hub: &Hub<Sum, N>,
+    strange: Outcome<Sum>,
+) -> Result<(), Fail> {
+    assert_given(rt, hub, strange, Ok(Accepted::Stale { now: 9 }));
+    assert_sum(rt, hub, 8, 9, 12)?;
+    assert_scans(rt, alloc, hub)
+}
+
+// Sees both scans of the elements 5 and 1 that a hub begins with at edit 9.
+fn assert_scans<N: Naming, R: Threads + Wait + Abort + Sync>(
+    rt: &R,
+    alloc: Global,
+    hub: &Hub<Sum, N>,
+) -> Result<(), Fail> {
+    assert_scan(rt, &hub.scan_inclusive(rt, alloc, 0, 2)?, 9, &[5, 6]);
+    assert_scan(rt, &hub.scan_exclusive(rt, alloc, 0, 2)?, 9, &[0, 5]);
+    Ok(())
+}
+
+// Makes a new hub one of eight elements 1, and gives it an outcome of another before and after a write.
+fn assert_strangers<N: Naming, R: Threads + Wait + Abort + Sync>(
+    rt: &R,
+    alloc: Global,
+    hub: &Hub<Sum, N>,
+    share: &mut Share<N>,
+    strange: Outcome<Sum>,
+) -> Result<(), Fail>
+    ensures { share.new.parts ≡ share.old.parts }
+{
+    push_all(rt, hub, share, 8, 1)?;
+    assert_own_alone(rt, hub, strange)?;
+    overwrite_a_one(rt, hub, share, 0, 5, 9);
+    assert_follows(rt, alloc, hub, strange)
+}
+
+// A hub of eight elements 1, given an outcome of another before and after a write, and closed.
+fn one_hub_of_two<N: Naming, R: Threads + Wait + Abort + Sync>(
+    rt: &R,
+    alloc: Global,
+    limits: Limits,
+    blank: Blank,
+    strange: Outcome<Sum>,
+) -> Result<(), Fail>
+    requires name { blank.name ≡ N.name }
+    requires all { blank.parts ≡ N.parts }
+    requires one { blank.parts ≡ 1 }
+    requires limits { limits ≡ N.limits }
+{
+    let (hub, mut share) = Hub::<Sum, N>::new(alloc, limits, Sum, blank, 1);
+    let seen = assert_strangers(rt, alloc, &hub, &mut share, strange);
+    let counts = counts_at_close(hub, share);
+    seen?;
+    assert_eq!(rt; counts, (9, 9));
+    Ok(())
+}
+
+#[test]
+fn two_hubs(rt: HostRuntime) -> Result<(), Fail> {
+    let alloc = rt.alloc();
+    let limits = Limits::greatest();
+    let strange = first_outcome::<Sum, Brand, _>(&rt, alloc, limits, Blank::new(1), Sum, 2)?;
+    one_hub_of_two::<Brand, _>(&rt, alloc, limits, Blank::new(1), strange)
+}
+
+#[test]
+fn equal_contents_are_no_stranger(rt: HostRuntime) -> Result<(), Fail> {
+    let alloc = rt.alloc();
+    let limits = Limits::greatest();
+    let outcome = first_outcome::<Sum, Brand, _>(&rt, alloc, limits, Blank::new(1), Sum, 1)?;
+    let answer = answer_to::<Sum, Brand, _>(&rt, alloc, limits, Blank::new(1), Sum, 1, outcome);
+    assert_eq!(rt; answer, Ok(Accepted::Installed));
+    Ok(())
+}
+
+// The automaton that an element `x` leads from state `q` to `(q + x mod 4) mod 8`.
+fn adding() -> Result<Automaton, Refusal> {
+    Automaton::new([
+        [0, 1, 2, 3],
+        [1, 2, 3, 4],
+        [2, 3, 4, 5],
+        [3, 4, 5, 6],
+        [4, 5, 6, 7],
+        [5, 6, 7, 0],
+        [6, 7, 0, 1],
+        [7, 0, 1, 2],
+    ])
+}
+
+#[test]
+fn an_outcome_by_another_table_is_a_stranger(rt: HostRuntime) -> Result<(), Fail> {
+    let alloc = rt.alloc();
+    let limits = Limits::greatest();
+    let body = Automaton::program();
+    let outcome = first_outcome::<Automaton, Brand, _>(
+        &rt,
+        alloc,
+        limits,
+        Blank::new(1),
+        adding()?,
+        1,
+    )?;
+    let answer = answer_to::<Automaton, Brand, _>(
+        &rt,
+        alloc,
+        limits,
+        Blank::new(1),
+        body,
+        1,
+        outcome,
+    );
+    assert_eq!(rt; answer, Err(Refusal::Stranger));
+    Ok(())
+}

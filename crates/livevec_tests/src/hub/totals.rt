@@ -1,0 +1,118 @@
+//! Tests that shares count all edits and no other: where two threads edit, and where memory is wanting.
+ghost use Rattle.std.specs.Prelude.{◌≡◌};
+
+use super::common::*;
+use lv_bodies::Sum;
+use lv_edits::{Edit, Receipt};
+use lv_geometry::{Limits, Refusal};
+use lv_hub::*;
+use std::alloc::Global;
+use std::marker::Brand;
+use std::process::Abort;
+use std::sync::Wait;
+use std::sync::ledger::Blank;
+use std::test::Fail;
+use std::thread;
+use std::thread::Threads;
+
+// Pushes 500 elements on a share of its own, and hands it back.
+fn push_500<N: Naming, R: Wait>(
+    rt: &R,
+    hub: &Hub<Sum, N>,
+    share: Share<N>,
+) -> (Share<N>, Result<(), Refusal>)
+    ensures { result.0.parts ≡ share.parts }
+{
+    let mut share = share;
+    let pushed = push_all(rt, hub, &mut share, 500, 1);
+    (share, pushed)
+}
+
+// Two threads push 500 elements each; both shares together are handed back.
+fn push_from_two<N: Naming + Send + Sync, R: Threads + Wait + Sync>(
+    rt: &R,
+    hub: &Hub<Sum, N>,
+    share: Share<N>,
+) -> (Share<N>, Result<(), Refusal>)
+    requires { share.parts ≡ 2 }
+    ensures { result.0.parts ≡ 2 }
+{
+    let mut mine = share;
+    let theirs = mine.split();
+    let ((theirs, their_pushes), (mut all, pushes)) = thread::join(
+        rt,
+        move || push_500(rt, hub, theirs),
+        move || push_500(rt, hub, mine),
+    );
+    all.join(theirs);
+    (all, pushes.and(their_pushes))
+}
+
+// A hub that two threads edit, closed.
+fn total<N: Naming + Send + Sync, R: Threads + Wait + Abort + Sync>(
+    rt: &R,
+    alloc: Global,
+    limits: Limits,
+    blank: Blank,
+) -> Result<(), Fail>
+    requires name { blank.name ≡ N.name }
+    requires all { blank.parts ≡ N.parts }
+    requires two { blank.parts ≡ 2 }
+    requires limits { limits ≡ N.limits }
+{
+    let (hub, share) = Hub::<Sum, N>::new(alloc, limits, Sum, blank, 2);
+    let (share, pushed) = push_from_two(rt, &hub, share);
+    let counts = counts_at_close(hub, share);
+    pushed?;
+    assert_eq!(rt; counts, (1000, 1000));
+    Ok(())
+}
+
+#[test]
+fn totals_over_threads(rt: HostRuntime) -> Result<(), Fail> {
+    total::<Brand, _>(&rt, rt.alloc(), Limits::greatest(), Blank::new(2))
+}
+
+// Pushes a 1. Where memory is wanting it sees that the share counts nothing, and pushes again.
+fn push_or_again<N: Naming, R: Wait + Abort>(
+    rt: &R,
+    hub: &Hub<Sum, N>,
+    share: &mut Share<N>,
+) -> Result<Receipt, Refusal>
+    ensures { share.new.parts ≡ share.old.parts }
+{
+    let before = share.count();
+    let first = hub.edit(rt, share, Edit::Push(1));
+    if first == Err(Refusal::NoMemory) {
+        assert_eq!(rt; share.count(), before);
+        return hub.edit(rt, share, Edit::Push(1));
+    }
+    first
+}
+
+fn push_nine<N: Naming, R: Wait + Abort>(rt: &R, hub: &Hub<Sum, N>, share: &mut Share<N>)
+    ensures { share.new.parts ≡ share.old.parts }
+{
+    for index in 0..9 {
+        let receipt = push_or_again(rt, hub, share);
+        let edit = index + 1;
+        assert_eq!(rt; receipt, Ok(Receipt::Pushed { edit, index }));
+    }
+}
+
+fn nine_pushes<N: Naming, R: Wait + Abort>(rt: &R, alloc: Global, limits: Limits, blank: Blank)
+    requires name { blank.name ≡ N.name }
+    requires all { blank.parts ≡ N.parts }
+    requires one { blank.parts ≡ 1 }
+    requires limits { limits ≡ N.limits }
+{
+    let (hub, mut share) = Hub::<Sum, N>::new(alloc, limits, Sum, blank, 1);
+    push_nine(rt, &hub, &mut share);
+    assert_eq!(rt; counts_at_close(hub, share), (9, 9));
+}
+
+// To be run with each allocation failing in turn, too.
+#[test]
+fn want_of_memory_counts_nothing(rt: HostRuntime) {
+    nine_pushes::<Brand, _>(&rt, rt.alloc(), Limits::greatest(), Blank::new(1));
+}

@@ -1,0 +1,33 @@
+//! What only the library can show: values, threads, strangers, want of memory, readers and writers that fail, a body that counts
+//! its lifts. What lines can show stands in `examples/rows`.
+//!
+//! Here a function that owns a vector, a hub or a world lends it to another function and then drops it by a call: the proof of
+//! a body that drops it by itself is long.
+#![tactic(auto)]
+
+#[cfg(test)]
+mod bodies;
+#[cfg(test)]
+mod conversations;
+#[cfg(test)]
+mod geometry;
+#[cfg(test)]
+mod hub;
+#[cfg(test)]
+mod live;
+#[cfg(test)]
+mod machine;
+#[cfg(test)]
+mod memory;
+#[cfg(test)]
+mod parallel;
+#[cfg(test)]
+mod runs;
+#[cfg(test)]
+mod standing;
+#[cfg(test)]
+mod store;
+#[cfg(test)]
+mod summary;
+#[cfg(test)]
+mod transcripts;

@@ -1,0 +1,91 @@
+//! Tests what a live vector says of the outcomes of another.
+use lv_bodies::Sum;
+use lv_edits::Edit;
+use lv_geometry::{Limits, Node, Refusal};
+use lv_live::Live;
+use lv_refresh::Outcome;
+use lv_summary::Accepted;
+use std::alloc::Global;
+use std::process::Abort;
+use std::test::Fail;
+
+// Adds eight elements.
+fn push_eight(live: &mut Live<Sum>, x: i64) -> Result<(), Refusal> {
+    for _ in 0..8 {
+        live.apply(Edit::Push(x))?;
+    }
+    Ok(())
+}
+
+// Gives an outcome to a vector, if the vector vouches for it.
+fn give(live: &mut Live<Sum>, outcome: Outcome<Sum>) -> Option<Accepted> {
+    if live.vet(&outcome) {
+        Some(live.accept(outcome))
+    } else {
+        None
+    }
+}
+
+// The outcome of the first job of a new vector, made one of eight elements 2.
+fn first_outcome(live: &mut Live<Sum>) -> Result<Outcome<Sum>, Fail> {
+    push_eight(live, 2)?;
+    match live.claim() {
+        Some(job) => Ok(job.run()),
+        None => Err(Fail::new("no job")),
+    }
+}
+
+fn outcome_of_another(alloc: Global) -> Result<Outcome<Sum>, Fail> {
+    let mut other = Live::new(alloc, Limits::greatest(), Sum);
+    let outcome = first_outcome(&mut other);
+    drop(other);
+    outcome
+}
+
+// Gives an outcome at once, after a pop, and after a push.
+fn give_thrice(
+    live: &mut Live<Sum>,
+    outcome: Outcome<Sum>,
+) -> Result<[Option<Accepted>; 3], Refusal> {
+    let first = give(live, outcome);
+    live.apply(Edit::Pop)?;
+    let second = give(live, outcome);
+    live.apply(Edit::Push(1))?;
+    Ok([first, second, give(live, outcome)])
+}
+
+// Claims a job, and tells its node and version.
+fn next(live: &mut Live<Sum>) -> Option<(Node, u32)> {
+    let job = live.claim()?;
+    Some((job.node(), job.version()))
+}
+
+fn check_outcomes(
+    rt: &impl Abort,
+    live: &mut Live<Sum>,
+    outcome: Outcome<Sum>,
+) -> Result<(), Refusal> {
+    push_eight(live, 1)?;
+    let given = give_thrice(live, outcome)?;
+    let expected = [
+        None,
+        Some(Accepted::Stale { now: 8 }),
+        Some(Accepted::Stale { now: 10 }),
+    ];
+    assert_eq!(rt; given, expected);
+    let node = Node {
+        level: 1,
+        number: 0,
+    };
+    assert_eq!(rt; next(live), Some((node, 10)));
+    Ok(())
+}
+
+#[test]
+fn outcomes_of_another_vector(rt: HostRuntime) -> Result<(), Fail> {
+    let outcome = outcome_of_another(rt.alloc())?;
+    let mut live = Live::new(rt.alloc(), Limits::greatest(), Sum);
+    let seen = check_outcomes(&rt, &mut live, outcome);
+    drop(live);
+    Ok(seen?)
+}

@@ -1,0 +1,279 @@
+//! Tests the parallel forms: what they answer and refuse, and that two pieces are folded at once.
+ghost use Rattle.std.specs.Prelude.{◌^◌, ◌≤◌, length, IfOk};
+
+use lv_bodies::{Body, Sum};
+use lv_edits::Edits;
+use lv_geometry::{Limits, Refusal};
+use lv_reduce::{
+    Scan, Values, View, par_reduce, par_scan_exclusive, par_scan_inclusive, par_scan_slice,
+};
+use lv_summary::Summaries;
+use std::alloc::{AllocError, Global};
+use std::process::Abort;
+use std::sync::atomic::{AtomicBool, Ordering};
+use std::test::Fail;
+use std::thread;
+use std::thread::Threads;
+
+// Whether a scan at edit 4096 has as many values, which begin and end with these.
+fn goes(scan: &Scan<u64>, first: &[u64], last: u64) -> bool {
+    let values = scan.values.as_slice();
+    scan.edit == 4096
+        && values.len() == 4096
+        && values.starts_with(first)
+        && values.last() == Some(&last)
+}
+
+// Pushes 0 to 4095, and asks for their sum, their scans, and what is refused.
+fn check_answers<R: Threads + Sync + Abort>(
+    rt: &R,
+    alloc: Global,
+    edits: &mut Edits,
+    table: &Summaries<u64>,
+) -> Result<(), Fail> {
+    for x in 0..4096 {
+        edits.push(x)?;
+    }
+    let view = View {
+        cells: edits,
+        table,
+    };
+    assert_eq!(rt;
+        par_reduce(rt, alloc, view, &Sum, 0, 4096),
+        Ok((4096, 8_386_560))
+    );
+    let inclusive = par_scan_inclusive(rt, alloc, view, &Sum, 0, 4096)?;
+    let exclusive = par_scan_exclusive(rt, alloc, view, &Sum, 0, 4096)?;
+    assert!(rt; goes(&inclusive, &[0, 1, 3], 8_386_560));
+    assert!(rt; goes(&exclusive, &[0, 0, 1], 8_382_465));
+    for (lo, hi, refusal) in [
+        (2, 1, Refusal::BadRange),
+        (0, 4097, Refusal::OutOfRange { size: 4096 }),
+    ] {
+        check_refusal(rt, alloc, view, lo, hi, refusal);
+    }
+    Ok(())
+}
+
+// Sees that a range is refused by the three calls that take one.
+fn check_refusal<R: Threads + Sync + Abort>(
+    rt: &R,
+    alloc: Global,
+    view: View<'_, u64>,
+    lo: u32,
+    hi: u32,
+    refusal: Refusal,
+) {
+    assert_eq!(rt;
+        par_reduce(rt, alloc, view, &Sum, lo, hi),
+        Err(refusal),
+        "{lo} {hi}"
+    );
+    assert!(rt;
+        matches!(par_scan_inclusive(rt, alloc, view, &Sum, lo, hi), Err(reason) if reason == refusal)
+    );
+    assert!(rt;
+        matches!(par_scan_exclusive(rt, alloc, view, &Sum, lo, hi), Err(reason) if reason == refusal)
+    );
+}
+
+#[test]
+fn the_numbers_below_4096(rt: HostRuntime) -> Result<(), Fail> {
+    let mut edits = Edits::new(rt.alloc(), Limits::greatest());
+    let table = Summaries::new(rt.alloc(), 0);
+    let done = check_answers(&rt, rt.alloc(), &mut edits, &table);
+    drop(table);
+    drop(edits);
+    done
+}
+
+#[test]
+fn slices_of_one_two_three(rt: HostRuntime) -> Result<(), Fail> {
+    let inclusive = par_scan_slice(&rt, rt.alloc(), &Sum, &[1, 2, 3], true)?;
+    let exclusive = par_scan_slice(&rt, rt.alloc(), &Sum, &[1, 2, 3], false)?;
+    let nothing = par_scan_slice(&rt, rt.alloc(), &Sum, &[], true)?;
+    assert_eq!(rt; inclusive.as_slice(), [1, 3, 6].as_slice());
+    assert_eq!(rt; exclusive.as_slice(), [0, 1, 3].as_slice());
+    assert!(rt; nothing.is_empty());
+    Ok(())
+}
+
+// Where the `lift` of an element 1 waits until an element 2 is lifted.
+#[derive(Drop)]
+struct Meeting {
+    reached: AtomicBool,
+    missed: AtomicBool,
+}
+
+impl Meeting {
+    fn new() -> Meeting {
+        Meeting {
+            reached: AtomicBool::new(false),
+            missed: AtomicBool::new(false),
+        }
+    }
+
+    // Whether the other element is seen lifted within 1,000,000 yields.
+    fn is_seen(&self) -> bool {
+        for _ in 0..1_000_000 {
+            if self.reached.load(Ordering::SeqCst) {
+                return true;
+            }
+            thread::yield_now();
+        }
+        false
+    }
+
+    // Whether no wait was in vain, and the other element was lifted.
+    fn took_place(&self) -> bool {
+        self.reached.load(Ordering::SeqCst) && !self.missed.load(Ordering::SeqCst)
+    }
+}
+
+// The sum, by a body whose `lift` may wait. That is no part of its meaning.
+#[derive(Clone, Copy)]
+struct Met<'a> {
+    meeting: &'a Meeting,
+}
+
+impl<'a> Body for Met<'a> {
+    ghost use Rattle.lv_bodies.specs.Sums.{sum_operations, IsSum};
+    ghost use Rattle.std.proofs.Common.{rules};
+    ghost use Rattle.lv_bodies.specs.SumLaws.{sum_laws};
+
+    type S = u64;
+
+    ghost Meaning = { Unit {0} };
+
+    ghost meaning = { λ _. tt };
+
+    ghost operations = { λ _. sum_operations };
+
+    ghost is_within = { λ _. IsSum };
+
+    ghost laws = { λ _. sum_laws };
+
+    fn identity(&self) -> u64 {
+        0
+    }
+
+    fn lift(&self, x: i64) -> u64 {
+        if x == 2 {
+            self.meeting.reached.store(true, Ordering::SeqCst);
+        } else if x == 1 && !self.meeting.is_seen() {
+            self.meeting.missed.store(true, Ordering::SeqCst);
+        }
+        x.cast_unsigned()
+    }
+
+    fn combine(&self, a: u64, b: u64) -> u64 {
+        a.wrapping_add(b)
+    }
+
+    fn same(&self, _other: &Met<'a>) -> bool {
+        true
+    }
+
+    ghost equal = { λ s t. Prim.search rules };
+}
+
+// 65,536 elements, of which the first is 1, the last is 2 and all others 0.
+fn far_apart(alloc: Global) -> Result<Vec<i64>, AllocError>
+    ensures { IfOk result (λ xs. length xs.items ≤ 2 ^ 20) }
+{
+    let mut xs = Vec::with_capacity(alloc, 65_536)?;
+    xs.push(1)?;
+    for _ in 0..65_534u32 {
+        xs.push(0)?;
+    }
+    xs.push(2)?;
+    Ok(xs)
+}
+
+// Reduces a range by a new meeting, and sees that it took place.
+fn meet_in_reduce<R: Threads + Sync + Abort>(
+    rt: &R,
+    alloc: Global,
+    view: View<'_, u64>,
+) -> Result<(), Refusal> {
+    let meeting = Meeting::new();
+    let body = Met { meeting: &meeting };
+    let answer = par_reduce(rt, alloc, view, &body, 0, 65_536)?;
+    assert_eq!(rt; answer, (65_536, 3));
+    assert!(rt; meeting.took_place());
+    Ok(())
+}
+
+// The same by either scan of a range.
+fn meet_in_scan<R: Threads + Sync + Abort>(
+    rt: &R,
+    alloc: Global,
+    view: View<'_, u64>,
+    inclusive: bool,
+) -> Result<(), Refusal> {
+    let meeting = Meeting::new();
+    let body = Met { meeting: &meeting };
+    let scan = if inclusive {
+        par_scan_inclusive(rt, alloc, view, &body, 0, 65_536)?
+    } else {
+        par_scan_exclusive(rt, alloc, view, &body, 0, 65_536)?
+    };
+    assert_last(rt, &scan.values, inclusive);
+    assert!(rt; meeting.took_place());
+    Ok(())
+}
+
+// The same by the scan of a slice.
+fn meet_in_slice<R: Threads + Sync + Abort>(
+    rt: &R,
+    alloc: Global,
+    xs: &[i64],
+) -> Result<(), Refusal>
+    requires { length xs.now ≤ 2 ^ 20 }
+{
+    let meeting = Meeting::new();
+    let body = Met { meeting: &meeting };
+    let values = par_scan_slice(rt, alloc, &body, xs, true)?;
+    assert_last(rt, &values, true);
+    assert!(rt; meeting.took_place());
+    Ok(())
+}
+
+// Sees that as many values end with the sum of all, or of all but the last.
+fn assert_last(rt: &impl Abort, values: &Values<u64>, inclusive: bool) {
+    let last = if inclusive { 3 } else { 1 };
+    assert_eq!(rt; values.len(), 65_536);
+    assert_eq!(rt; values.as_slice().last(), Some(&last));
+}
+
+// Pushes the elements, and has the three calls that take a range meet over them.
+fn meet_in_ranges<R: Threads + Sync + Abort>(
+    rt: &R,
+    alloc: Global,
+    edits: &mut Edits,
+    table: &Summaries<u64>,
+    xs: &[i64],
+) -> Result<(), Refusal> {
+    for x in xs {
+        edits.push(*x)?;
+    }
+    let view = View {
+        cells: edits,
+        table,
+    };
+    meet_in_reduce(rt, alloc, view)?;
+    meet_in_scan(rt, alloc, view, true)?;
+    meet_in_scan(rt, alloc, view, false)
+}
+
+#[test]
+fn two_pieces_at_once(rt: HostRuntime) -> Result<(), Fail> {
+    let xs = far_apart(rt.alloc())?;
+    meet_in_slice(&rt, rt.alloc(), xs.as_slice())?;
+    let mut edits = Edits::new(rt.alloc(), Limits::greatest());
+    let table = Summaries::new(rt.alloc(), 0);
+    let met = meet_in_ranges(&rt, rt.alloc(), &mut edits, &table, xs.as_slice());
+    drop(table);
+    drop(edits);
+    Ok(met?)
+}

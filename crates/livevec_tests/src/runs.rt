@@ -1,0 +1,287 @@
+//! Tests of runs: the laws at a body, every event's reply as a value, and that a reduction lifts no more elements than it says.
+use lv_bodies::{Body, Sum};
+use lv_edits::{Edit, Receipt};
+use lv_geometry::{Limits, Refusal};
+use lv_live::{
+    Event, Live, Reply, World, answers_are_plain, refresh_changes_no_answer,
+    refusals_change_nothing, run,
+};
+use lv_reduce::{Answer, Scan};
+use lv_summary::Accepted;
+use std::alloc::Global;
+use std::process::Abort;
+use std::sync::atomic::{AtomicU32, Ordering};
+
+#[test]
+fn laws_hold_for_a_body() {
+    answers_are_plain::<Sum>();
+    refresh_changes_no_answer::<Sum>();
+    refusals_change_nothing::<Sum>();
+}
+
+// The sum, by a body that counts the elements that it lifts. The count is no part of its meaning.
+#[derive(Clone, Copy)]
+struct Counted<'a> {
+    lifts: &'a AtomicU32,
+}
+
+impl<'a> Body for Counted<'a> {
+    ghost use Rattle.lv_bodies.specs.Sums.{sum_operations, IsSum};
+    ghost use Rattle.std.proofs.Common.{rules};
+    ghost use Rattle.lv_bodies.specs.SumLaws.{sum_laws};
+
+    type S = u64;
+
+    ghost Meaning = { Unit {0} };
+
+    ghost meaning = { λ _. tt };
+
+    ghost operations = { λ _. sum_operations };
+
+    ghost is_within = { λ _. IsSum };
+
+    ghost laws = { λ _. sum_laws };
+
+    fn identity(&self) -> u64 {
+        0
+    }
+
+    fn lift(&self, x: i64) -> u64 {
+        self.lifts.fetch_add(1, Ordering::SeqCst);
+        x.cast_unsigned()
+    }
+
+    fn combine(&self, a: u64, b: u64) -> u64 {
+        a.wrapping_add(b)
+    }
+
+    fn same(&self, _other: &Counted<'a>) -> bool {
+        true
+    }
+
+    ghost equal = { λ s t. Prim.search rules };
+}
+
+// Claims a job, runs it and gives its outcome back, where there is a job.
+fn refresh_counted(live: &mut Live<Counted<'_>>) -> Option<Accepted> {
+    let outcome = live.claim()?.run();
+    if live.vet(&outcome) {
+        Some(live.accept(outcome))
+    } else {
+        None
+    }
+}
+
+fn check_lifts(
+    rt: &impl Abort,
+    live: &mut Live<Counted<'_>>,
+    lifts: &AtomicU32,
+) -> Result<(), Refusal> {
+    for _ in 0..64 {
+        live.apply(Edit::Push(1))?;
+    }
+    for block in 0..8 {
+        let accepted = refresh_counted(live);
+        assert_eq!(rt; accepted, Some(Accepted::Installed), "block {block}");
+    }
+    lifts.store(0, Ordering::SeqCst);
+    let answer = live.reduce(1, 63)?;
+    let counted = lifts.load(Ordering::SeqCst);
+    assert_eq!(rt;
+        (
+            answer.value,
+            answer.cells_read,
+            answer.summaries_read,
+            counted
+        ),
+        (62, 14, 6, 14)
+    );
+    Ok(())
+}
+
+#[test]
+fn lifts_are_counted(rt: HostRuntime) -> Result<(), Refusal> {
+    let lifts = AtomicU32::new(0);
+    let mut live = Live::new(rt.alloc(), Limits::greatest(), Counted { lifts: &lifts });
+    let seen = check_lifts(&rt, &mut live, &lifts);
+    drop(live);
+    seen
+}
+
+// What was asked for is known: asked again it lifts the cells at both ends alone. What `reduce` counts stays as it was.
+fn check_asked(
+    rt: &impl Abort,
+    live: &mut Live<Counted<'_>>,
+    lifts: &AtomicU32,
+) -> Result<(), Refusal> {
+    for _ in 0..64 {
+        live.apply(Edit::Push(1))?;
+    }
+    for (lifted, cells, summaries) in [(62, 62, 0), (14, 14, 6)] {
+        lifts.store(0, Ordering::SeqCst);
+        let asked = live.ask(1, 63)?;
+        let counted = lifts.load(Ordering::SeqCst);
+        assert_eq!(rt;
+            (
+                asked.edit,
+                asked.value,
+                asked.cells_read,
+                asked.summaries_read,
+                counted
+            ),
+            (64, 62, cells, summaries, lifted)
+        );
+    }
+    let reduced = live.reduce(1, 63)?;
+    assert_eq!(rt; (reduced.cells_read, reduced.summaries_read), (62, 0));
+    Ok(())
+}
+
+#[test]
+fn what_is_asked_is_kept(rt: HostRuntime) -> Result<(), Refusal> {
+    let lifts = AtomicU32::new(0);
+    let mut live = Live::new(rt.alloc(), Limits::greatest(), Counted { lifts: &lifts });
+    let seen = check_asked(&rt, &mut live, &lifts);
+    drop(live);
+    seen
+}
+
+// Three jobs are those of the first three blocks; five blocks and their parent are left.
+fn check_refreshed(rt: &impl Abort, live: &mut Live<Sum>) -> Result<(), Refusal> {
+    for _ in 0..64 {
+        live.apply(Edit::Push(1))?;
+    }
+    assert_eq!(rt; live.refresh(3), 3);
+    let some = live.reduce(0, 64)?;
+    assert_eq!(rt; (some.cells_read, some.summaries_read), (40, 3));
+    assert_eq!(rt; live.refresh(100), 6);
+    let all = live.reduce(0, 64)?;
+    assert_eq!(rt; (all.value, all.cells_read, all.summaries_read), (64, 0, 1));
+    Ok(())
+}
+
+#[test]
+fn a_vector_refreshes_itself(rt: HostRuntime) -> Result<(), Refusal> {
+    let mut live = Live::new(rt.alloc(), Limits::greatest(), Sum);
+    let seen = check_refreshed(&rt, &mut live);
+    drop(live);
+    seen
+}
+
+// A reply, as a value that can be compared. Of a scan the edit, and whether the values are 1, 3 and 6.
+#[derive(Clone, Copy, Debug, PartialEq, Eq)]
+enum Told {
+    Did(Receipt),
+    Settled,
+    Job(u64, u32, u32, u32),
+    Idle,
+    Gave(Accepted),
+    Forgotten,
+    Answered(Answer<u64>),
+    Scanned(u32, bool),
+    Refused(Refusal),
+}
+
+fn tell(reply: &Reply<u64>) -> Told {
+    match reply {
+        Reply::Did(receipt) => Told::Did(*receipt),
+        Reply::Settled => Told::Settled,
+        Reply::Claimed { job, node, version } => {
+            Told::Job(*job, node.level, node.number, *version)
+        }
+        Reply::Idle => Told::Idle,
+        Reply::Gave(accepted) => Told::Gave(*accepted),
+        Reply::Forgotten => Told::Forgotten,
+        Reply::Answered(answer) => Told::Answered(*answer),
+        Reply::Scanned(scan) => Told::Scanned(scan.edit, is_1_3_6(scan)),
+        Reply::Refused(refusal) => Told::Refused(*refusal),
+    }
+}
+
+fn is_1_3_6(scan: &Scan<u64>) -> bool {
+    scan.values.as_slice() == [1, 3, 6].as_slice()
+}
+
+// Sees that events are answered like this.
+fn check_events(
+    rt: &impl Abort,
+    alloc: Global,
+    world: &mut World<Sum>,
+    table: &[(Event, Told)],
+) -> Result<(), Refusal> {
+    for (event, told) in table {
+        let replies = run(alloc, world, &[*event])?;
+        assert_eq!(rt; replies.get(0).map(tell), Some(*told), "{event:?}");
+    }
+    Ok(())
+}
+
+fn push_1_to_8(alloc: Global, world: &mut World<Sum>) -> Result<(), Refusal> {
+    for x in 1..9 {
+        run(alloc, world, &[Event::Edit(Edit::Push(x))])?;
+    }
+    Ok(())
+}
+
+fn sum(value: u64, cells_read: u32, summaries_read: u32) -> Told {
+    Told::Answered(Answer {
+        edit: 9,
+        value,
+        cells_read,
+        summaries_read,
+    })
+}
+
+// What events of each kind are answered, on the elements 1 to 8.
+fn events_of_each_kind() -> [(Event, Told); 16] {
+    let write = Event::Edit(Edit::Write { index: 3, value: 9 });
+    let (lo, hi) = (0, 3);
+    [
+        (Event::Claim, Told::Job(1, 1, 0, 8)),
+        (Event::Claim, Told::Idle),
+        (write, Told::Did(Receipt::Written { edit: 9, before: 4 })),
+        (Event::Settle, Told::Settled),
+        (Event::Deliver(1), Told::Gave(Accepted::Stale { now: 9 })),
+        (Event::Reduce { lo: 0, hi: 8 }, sum(41, 8, 0)),
+        (Event::Claim, Told::Job(2, 1, 0, 9)),
+        (Event::Deliver(2), Told::Gave(Accepted::Installed)),
+        (Event::Deliver(2), Told::Gave(Accepted::Held)),
+        (Event::Deliver(1), Told::Gave(Accepted::Stale { now: 9 })),
+        (Event::Reduce { lo: 0, hi: 8 }, sum(41, 0, 1)),
+        (Event::Forget, Told::Forgotten),
+        (Event::Deliver(3), Told::Refused(Refusal::NoJob)),
+        (
+            Event::Reduce { lo: 9, hi: 8 },
+            Told::Refused(Refusal::BadRange),
+        ),
+        (
+            Event::Scan {
+                lo,
+                hi,
+                inclusive: true,
+            },
+            Told::Scanned(9, true),
+        ),
+        (
+            Event::Scan {
+                lo,
+                hi,
+                inclusive: false,
+            },
+            Told::Scanned(9, false),
+        ),
+    ]
+}
+
+fn check_each_kind(rt: &impl Abort, alloc: Global, world: &mut World<Sum>) -> Result<(), Refusal> {
+    push_1_to_8(alloc, world)?;
+    check_events(rt, alloc, world, &events_of_each_kind())
+}
+
+#[test]
+fn events_and_their_replies(rt: HostRuntime) -> Result<(), Refusal> {
+    let mut world = World::new(rt.alloc(), Limits::greatest(), Sum);
+    let seen = check_each_kind(&rt, rt.alloc(), &mut world);
+    drop(world);
+    seen
+}
