@@ -1,10 +1,12 @@
 # try: builds without proofs, at once, and runs `livevec $(DO)` where $(FILES) lie.  build: proves, then builds.  run: runs what build made.
-# test: the gate, and the examples.  bench: figures beside plain Rust.  fmt, clean: as ever.
+# test: the gate, the rows and the examples.  wrong, plant: wrong bodies outside the gate, of $(CRATE) or of all crates, into docs/.
+# bench: figures beside plain Rust.  fmt, clean: as ever.
 PROGRAM = crates/livevec/out/livevec
 DO = run
 FILES =
+CRATE =
 
-.PHONY: try build run test bench fmt clean
+.PHONY: try build run test wrong plant bench fmt clean
 
 try:
 	@command -v rt > /dev/null || { echo "rt, the command of Rattle's kit, is not on the path" >&2; exit 1; }
@@ -12,8 +14,7 @@ try:
 	{ rt try --seconds 600 $(foreach file,$(FILES),--data $(notdir $(file))=$(abspath $(file))) -- $(DO) 2> $$log || { cat $$log >&2; exit 1; }; }
 
 build:
-	@cd crates/livevec && rt run -- --help > /dev/null
-	@echo "built $(PROGRAM)"
+	@tools/build
 
 run: $(PROGRAM)
 	@$(PROGRAM) run
@@ -22,8 +23,14 @@ $(PROGRAM):
 	@$(MAKE) -s build >&2
 
 test:
-	rt ci
+	tools/gate
 	examples/check
+
+wrong:
+	tools/tried wrong $(CRATE)
+
+plant:
+	tools/tried plant $(CRATE)
 
 bench: build
 	@bench/run
