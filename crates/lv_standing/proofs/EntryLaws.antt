@@ -1,7 +1,7 @@
 -- What a map's entries say of queries: looked up, added and removed.
 use Rattle.std.proofs.Common.{◌≡◌, ℕ, zero, suc, ◌+◌, take, drop, slice_get, ◌≤◌, ◌<◌, ◌⊎◌, inl, inr, ltb, is_some, IsSome, Bool, true, false, not, cond, List, [], ◌∷◌, ◌++◌, length, map, Option, Some, None, refl, sym, ap, ◌∙◌, subst, arith}
 use Rattle.std.specs.Option.{option_map}
-use Rattle.std.specs.List.{AllByRecursion, IsDistinct}
+use Rattle.std.specs.List.{AllByRecursion, IsDistinct, slice_range}
 use Rattle.std.specs.Map.{keys_of, lookup, remove_entry}
 use Rattle.std.specs.Str.{bytes_eq}
 use Rattle.std.proofs.lemmas.Map.Keys.{IsDistinct-head, IsDistinct-tail}
@@ -13,11 +13,14 @@ use Rattle.std.proofs.lemmas.Option.{get_or_from_slice_get, slice_get_within}
 use Rattle.indexmap.specs.IndexMap.{set_value_at}
 use Rattle.lv_geometry.specs.declared.refusals.Refusal.TheVariants.{BadRange, NameTaken, TooMany}
 use Rattle.lv_edits.specs.declared.edit.Edit.{Edit}
+use Rattle.lv_edits.specs.History.{list_of}
 use Rattle.lv_standing.specs.declared.watches.Watch.{Watch}
 use Rattle.lv_standing.specs.Queries.{Query, name_refusal, query_of, watch_refusal, without_query}
-use Rattle.lv_standing.specs.Inner.{asked, has_index, refreshed}
+use Rattle.lv_standing.specs.Inner.{asked, has_index, refreshed, six_of}
+use Rattle.lv_standing.specs.Kinds.{kind_of}
 use Rattle.lv_standing.specs.Standings.{IsCurrent, queries_of, query_at}
 use Rattle.lv_standing.proofs.KeptNames.{same_name}
+use Rattle.lv_standing.proofs.KindLaws.{kind_of_part, summary_is_current}
 
 -- a test says yes or no
 either_way : (b : Bool) → (b ≡ true) ⊎ (b ≡ false)
@@ -208,9 +211,12 @@ asked_up_to index entries i e b at is =
 -- entries with their answers after some edits are current
 pub all_refreshed : (edits : List Edit) (entries : List (List ℕ × Watch)) → AllByRecursion (IsCurrent edits) (map (refreshed edits) entries)
 all_refreshed edits [] = tt
-all_refreshed edits (e ∷ entries) = (refl, all_refreshed edits entries)
+all_refreshed edits (e ∷ entries) = (summary_is_current (kind_of e.1.summary) (slice_range (list_of edits) e.1.lo e.1.hi), all_refreshed edits entries)
 
 -- and stand for the same queries
 pub queries_refreshed : (edits : List Edit) (entries : List (List ℕ × Watch)) → queries_of (map (refreshed edits) entries) ≡ queries_of entries
 queries_refreshed edits [] = refl
-queries_refreshed edits (e ∷ entries) = ap (λ qs. query_at e ∷ qs) (queries_refreshed edits entries)
+queries_refreshed edits (e ∷ entries) =
+    let kind = kind_of_part (kind_of e.1.summary) (six_of edits e.1.lo e.1.hi) in
+    ap (λ k. record { name = e.0; kind = k; lo = e.1.lo; hi = e.1.hi } ∷ queries_of (map (refreshed edits) entries)) kind
+    ∙ ap (λ qs. query_at e ∷ qs) (queries_refreshed edits entries)

@@ -1,14 +1,20 @@
 -- The notes of an edit, one query after another.
-use Rattle.std.proofs.Common.{◌≡◌, ℕ, ◌+◌, ◌-◌, ◌<◌, ◌≤◌, Option, Some, slice_get, take, drop, map, append_assoc, length-append, length-drop, List, [], ◌∷◌, ◌++◌, length, refl, ap, sym, subst, ◌∙◌, inl, inr, arith}
+use Rattle.std.proofs.Common.{◌≡◌, ℕ, ◌+◌, ◌-◌, ◌<◌, ◌≤◌, Option, Some, true, false, cond, slice_range, slice_get, take, drop, map, append_assoc, length-append, length-drop, List, [], ◌∷◌, ◌++◌, length, refl, ap, sym, subst, ◌∙◌, inl, inr, arith}
 use Rattle.std.proofs.lemmas.List.{append-nil, length-map, length-take-le, map-append, take_at}
 use Rattle.indexmap.specs.IndexMap.{set_value_at}
+use Rattle.lv_bodies.specs.Body.{CanFold}
+use Rattle.lv_bodies.specs.Plain.{plain_value}
 use Rattle.lv_edits.specs.declared.edit.Edit.{Edit}
+use Rattle.lv_edits.specs.History.{list_of}
 use Rattle.lv_standing.specs.declared.notes.Note.{Note}
 use Rattle.lv_standing.specs.declared.watches.Watch.{Watch}
 use Rattle.lv_standing.specs.Queries.{AreNotes, Query, watch_answer}
-use Rattle.lv_standing.specs.Inner.{IsToldAt, asked, refreshed}
-use Rattle.lv_standing.specs.Standings.{IsCurrent, queries_of, query_at}
+use Rattle.lv_standing.specs.declared.kinds.KindSummary.{KindSummary}
+use Rattle.lv_standing.specs.Inner.{IsNoted, IsToldAt, SameElsewhere, asked, has_index, refreshed}
+use Rattle.lv_standing.specs.Kinds.{kind_of, shown_of, summary_of}
+use Rattle.lv_standing.specs.Standings.{IsCurrent, queries_of, query_at, summary_at}
 use Rattle.lv_edits.proofs.Slices.{there_is}
+use Rattle.lv_standing.proofs.KindLaws.{shown_is_plain}
 use Rattle.lv_standing.proofs.EntryLaws.{asked_more, at_seam, front_is, rest_is, set_at_seam, set_same}
 
 module _ (old new : List Edit) where
@@ -30,15 +36,48 @@ module _ (old new : List Edit) where
   few_notes (q ∷ queries) notes (inr told) = omega (arith, ap length told.2, few_notes queries told.1 told.3)
 
   module _ (index : Option ℕ) (before : List (List ℕ × Watch)) (i : ℕ) (notes : List Note) (e : List ℕ × Watch) (at : slice_get before i ≡ Some e) where
-    -- an entry that keeps what it answers after leaves all as it was
-    pub told_nothing : IsCurrent old e → IsCurrent new e → IsToldAt index old new before before i notes notes e
-    told_nothing was is = record {
-      told = [];
-      notes_are = sym (append-nil notes);
-      are = no_note (query_at e) (sym is ∙ was);
-      few = omega arith;
-      entries = set_same before i e at ∙ ap (λ v. set_value_at before i (record e.1 { value = v })) is;
-    }
+    -- an entry whose range doesn't have the index that changed leaves all as it was
+    pub told_nothing : has_index e.1.lo e.1.hi index ≡ false → SameElsewhere index old new → IsCurrent old e → IsToldAt index old new before before i notes notes e
+    told_nothing apart elsewhere was =
+        let same = elsewhere e.1.lo e.1.hi apart in
+        record {
+          told = [];
+          notes_are = sym (append-nil notes);
+          are = no_note (query_at e) (ap (plain_value (kind_of e.1.summary)) same);
+          few = omega arith;
+          entries = set_same before i e at ∙ ap (λ v. set_value_at before i (record e.1 { summary = v })) (was ∙ ap (summary_of (kind_of e.1.summary)) (sym same));
+        }
+
+    module _ (more : List Note) (s : KindSummary) (folds_before : CanFold (slice_range (list_of old) e.1.lo e.1.hi)) (folds : CanFold (slice_range (list_of new) e.1.lo e.1.hi))
+        (inside : has_index e.1.lo e.1.hi index ≡ true) (was : IsCurrent old e) (is : s ≡ summary_at new e.1) where
+      -- what is shown of what it kept is its answer before
+      shown_before : shown_of e.1.summary ≡ watch_answer old (query_at e)
+      shown_before = ap shown_of was ∙ shown_is_plain (kind_of e.1.summary) (slice_range (list_of old) e.1.lo e.1.hi) folds_before
+
+      -- and of its new summary that after
+      shown_after : shown_of s ≡ watch_answer new (query_at e)
+      shown_after = ap shown_of is ∙ shown_is_plain (kind_of e.1.summary) (slice_range (list_of new) e.1.lo e.1.hi) folds
+
+      -- it is one that is asked
+      one_asked : 1 ≤ length (asked index (e ∷ []))
+      one_asked = let is_one : length (asked index (e ∷ [])) ≡ 1 = ap (λ b. length (cond b (e ∷ []) [])) inside in omega (arith, is_one)
+
+      -- an entry whose range has the index keeps its summary after the edit, and its answer is noted where it is another
+      pub told_change : (after : List (List ℕ × Watch)) → after ≡ set_value_at before i (record e.1 { summary = s }) → IsNoted e.0 (shown_of e.1.summary) (shown_of s) notes more → IsToldAt index old new before after i notes more e
+      told_change after kept (inl same) = record {
+        told = [];
+        notes_are = same.1 ∙ sym (append-nil notes);
+        are = no_note (query_at e) (sym shown_after ∙ same.0 ∙ shown_before);
+        few = omega arith;
+        entries = kept ∙ ap (λ v. set_value_at before i (record e.1 { summary = v })) is;
+      }
+      told_change after kept (inr other) = record {
+        told = record { name = e.0; value = shown_of s } ∷ [];
+        notes_are = other.1;
+        are = inr ((λ same. other.0 (shown_after ∙ same ∙ sym shown_before)), [], ap (λ v. record { name = e.0; value = v } ∷ []) shown_after, refl);
+        few = omega (arith, one_asked);
+        entries = kept ∙ ap (λ v. set_value_at before i (record e.1 { summary = v })) is;
+      }
 
   module _ (index : Option ℕ) (all current after : List (List ℕ × Watch)) (i : ℕ) (notes more : List Note) (e : List ℕ × Watch) (at : slice_get all i ≡ Some e) (inside : i < length all)
       (so_far : current ≡ map (refreshed new) (take i all) ++ drop i all) (told : IsToldAt index old new current after i notes more e) where

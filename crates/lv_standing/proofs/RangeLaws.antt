@@ -1,9 +1,9 @@
 -- Ranges of a list that reach past its end, and what an edit elsewhere leaves of a range.
-use Rattle.std.proofs.Common.{◌≡◌, ℕ, ℤ, pos, ◌+◌, ◌-◌, ◌⊎◌, min, ◌<◌, ◌≤◌, false, List, [], ◌∷◌, ◌++◌, length, take, drop, slice_range, slice_set, Some, None, ltb, ◌&&◌, sym, ap, ◌∙◌, inl, inr, arith, length-drop, length-append, subst, get_or}
-use Rattle.std.proofs.lemmas.Bool.{cases_lt, lt-ltb, le-ltb, le-leb, false≢true}
+use Rattle.std.proofs.Common.{◌≡◌, Option, ℕ, ℤ, pos, ◌+◌, ◌-◌, ◌⊎◌, min, ◌<◌, ◌≤◌, false, true, refl, IfSome, List, [], ◌∷◌, ◌++◌, length, take, drop, slice_range, slice_set, Some, None, ltb, ◌&&◌, sym, ap, ◌∙◌, inl, inr, arith, length-drop, length-append, subst, get_or}
+use Rattle.std.proofs.lemmas.Bool.{cases_lt, lt-leb, lt-ltb, le-ltb, le-leb, false≢true}
 use Rattle.std.proofs.lemmas.Option.{cond_some}
 use Rattle.std.proofs.Math.Seq.{take-nil}
-use Rattle.std.proofs.lemmas.List.{drop_all, take_all, take_more, length-take-le}
+use Rattle.std.proofs.lemmas.List.{drop-append-le, drop_all, take_all, take_more, length-take-le}
 use Rattle.lv_bodies.specs.Body.{CanFold}
 use Rattle.lv_edits.specs.declared.edit.Edit.{Edit}
 use Rattle.lv_edits.specs.declared.edit.Edit.TheVariants.{Push, Pop, Write, Reserve}
@@ -13,7 +13,7 @@ use Rattle.lv_edits.specs.Verdict.{verdict_of}
 use Rattle.lv_edits.proofs.HistoryLaws.{accepted_is_possible, list_of-snoc}
 use Rattle.lv_edits.proofs.Slices.{part_of_push, part_of_set}
 use Rattle.lv_summary.proofs.FoldableLaws.{can_fold, part_can_fold}
-use Rattle.lv_standing.specs.Inner.{has_index, index_changed}
+use Rattle.lv_standing.specs.Inner.{IsPushed, has_index, index_changed, pushed_by}
 
 -- a range that starts past the end is empty
 empty_past : {A : Type 0} (xs : List A) (lo hi : ℕ) → length xs ≤ lo → slice_range xs lo hi ≡ []
@@ -58,6 +58,17 @@ without_index lo hi i h =
       | inr from ↦ elim (cases_lt i hi) [
         | inl before ↦ absurd (false≢true (sym h ∙ (ap (λ b. b && ltb i hi) (le-leb lo i from) ∙ lt-ltb i hi before)))
         | inr past ↦ inl past
+      ]
+    ]
+
+-- a range with an index starts at or before it, and ends after it
+pub with_index : (lo hi i : ℕ) → has_index lo hi (Some i) ≡ true → (lo ≤ i) × (i < hi)
+with_index lo hi i h =
+    elim (cases_lt i lo) [
+      | inl after ↦ absurd (false≢true (sym (ap (λ b. b && ltb i hi) (lt-leb lo i after)) ∙ h))
+      | inr from ↦ elim (cases_lt i hi) [
+        | inl before ↦ (from, before)
+        | inr past ↦ absurd (false≢true (sym (ap (λ b. b && ltb i hi) (le-leb lo i from) ∙ le-ltb i hi past) ∙ h))
       ]
     ]
 
@@ -114,3 +125,30 @@ edit_elsewhere h e lo hi legal accepted apart =
     let possible = accepted_is_possible h.limits h.journal e accepted in
     let next = list_of-snoc h.journal e possible.0 legal possible.1 in
     ap (λ zs. slice_range zs lo hi) next.1 ∙ applied_elsewhere (list_of h.journal) possible.0 e lo hi possible.1 apart
+
+-- one more element at the end is the last of a range that has its index
+pub more_inside : {A : Type 0} (xs : List A) (x : A) (lo hi : ℕ) → has_index lo hi (Some (length xs)) ≡ true → slice_range (xs ++ x ∷ []) lo hi ≡ slice_range xs lo hi ++ x ∷ []
+more_inside xs x lo hi inside =
+    let parts = with_index lo hi (length xs) inside in
+    ap (take (hi - lo)) (drop-append-le lo xs (x ∷ []) parts.0)
+    ∙ take_all (hi - lo) (drop lo xs ++ x ∷ []) (omega (arith, parts.0, parts.1, length-append (drop lo xs) (x ∷ []), length-drop lo xs))
+    ∙ sym (ap (λ ys. ys ++ x ∷ []) (take_all (hi - lo) (drop lo xs) (omega (arith, parts.0, parts.1, length-drop lo xs))))
+
+-- so a range that has the index of an element that was pushed ends with it
+pub pushed_inside : (old new : List Edit) (index : Option ℕ) (pushed : Option ℤ) (lo hi : ℕ) → has_index lo hi index ≡ true → IfSome pushed (IsPushed index old new)
+    → IfSome pushed (λ x. slice_range (list_of new) lo hi ≡ slice_range (list_of old) lo hi ++ x ∷ [])
+pushed_inside old new index None lo hi inside is = tt
+pushed_inside old new index (Some x) lo hi inside is =
+    ap (λ ys. slice_range ys lo hi) is.1 ∙ more_inside (list_of old) x lo hi (subst (λ i. has_index lo hi i ≡ true) is.0 inside)
+
+-- a push brings the last element of the list
+pub push_is_last : (h : History) (e : Edit) → replayed h.journal ≡ Some (list_of h.journal) → verdict_of h.limits h.journal e ≡ None
+    → IfSome (pushed_by e) (IsPushed (index_changed (length (list_of h.journal)) e) h.journal (h.journal ++ e ∷ []))
+push_is_last h (Push x) legal accepted =
+    let possible = accepted_is_possible h.limits h.journal (Push x) accepted in
+    let next = list_of-snoc h.journal (Push x) possible.0 legal possible.1 in
+    let same : list_of h.journal ++ x ∷ [] ≡ possible.0 = (let made = possible.1 in cc) in
+    (refl, next.1 ∙ sym same)
+push_is_last h Pop legal accepted = tt
+push_is_last h (Write i x) legal accepted = tt
+push_is_last h (Reserve n) legal accepted = tt

@@ -1,18 +1,30 @@
--- What the code of standing queries passes on from one to the next: which index an edit changed, and which entries are asked anew.
-use Rattle.std.specs.Prelude.{◌≡◌, ◌≤◌, ℕ, Bool, ◌&&◌, Option, Some, None, false, List, [], ◌∷◌, ◌-◌, length, filter, nat_le, nat_lt, ◌++◌, slice_get}
+-- What the code of standing queries passes on from one to the next: which index an edit changed, and what that makes of the entries.
+use Rattle.std.specs.Prelude.{◌≡◌, ◌≢◌, ◌⊎◌, ◌≤◌, ℕ, ℤ, Bool, ◌&&◌, Option, Some, None, false, List, [], ◌∷◌, ◌-◌, length, filter, nat_le, nat_lt, ◌++◌, slice_get}
 use Rattle.std.specs.List.{slice_range}
 use Rattle.indexmap.specs.IndexMap.{set_value_at}
+use Rattle.lv_bodies.specs.Body.{fold_of}
+use Rattle.lv_bodies.specs.Six.{SixSummary, six_meaning, six_operations}
+use Rattle.lv_bodies.specs.declared.kinds.Shown.{Shown}
 use Rattle.lv_edits.specs.declared.edit.Edit.{Edit}
 use Rattle.lv_edits.specs.declared.edit.Edit.TheVariants.{Push, Pop, Write, Reserve}
 use Rattle.lv_edits.specs.History.{list_of}
+use Rattle.lv_standing.specs.declared.watches.OfRange.{OfRange}
 use Rattle.lv_standing.specs.declared.watches.Watch.{Watch}
 use Rattle.lv_standing.specs.declared.notes.Note.{Note}
-use Rattle.lv_standing.specs.Queries.{AreNotes, watch_answer}
-use Rattle.lv_standing.specs.Standings.{query_at}
+use Rattle.lv_standing.specs.Queries.{AreNotes}
+use Rattle.lv_standing.specs.Standings.{query_at, summary_at}
 
--- the entry with the answer after these edits
+-- the entry with the summary after these edits
 abbrev pub refreshed : List Edit → List ℕ × Watch → List ℕ × Watch
-refreshed edits entry = (entry.0, record entry.1 { value = watch_answer edits (query_at entry) })
+refreshed edits entry = (entry.0, record entry.1 { summary = summary_at edits entry.1 })
+
+-- what all six make of the elements that a range has after some edits
+abbrev pub six_of : List Edit → ℕ → ℕ → SixSummary
+six_of edits lo hi = fold_of (six_operations six_meaning) (slice_range (list_of edits) lo hi)
+
+-- it is what all six make of its range
+abbrev pub IsOfRange : List Edit → OfRange → Type 0
+IsOfRange edits range = range.six ≡ six_of edits range.lo range.hi
 
 -- the index whose element an edit of a vector of this size changes, brings or drops
 abbrev pub index_changed : ℕ → Edit → Option ℕ
@@ -20,6 +32,17 @@ index_changed size (Push x) = Some size
 index_changed size Pop = Some (size - 1)
 index_changed size (Write i x) = Some i
 index_changed size (Reserve n) = None
+
+-- the element that an edit brings at the end, if it brings one
+abbrev pub pushed_by : Edit → Option ℤ
+pushed_by (Push x) = Some x
+pushed_by Pop = None
+pushed_by (Write i x) = None
+pushed_by (Reserve n) = None
+
+-- an element was pushed: it stands behind all others, at the index that changed
+abbrev pub IsPushed : Option ℕ → List Edit → List Edit → ℤ → Type 0
+IsPushed index old new x = (index ≡ Some (length (list_of old))) × (list_of new ≡ list_of old ++ x ∷ [])
 
 -- whether a range has an index, if there is one
 abbrev pub has_index : ℕ → ℕ → Option ℕ → Bool
@@ -38,8 +61,14 @@ SameElsewhere index old new = (lo hi : ℕ) → has_index lo hi index ≡ false 
 abbrev pub AtIndex : List (List ℕ × Watch) → ℕ → (List ℕ × Watch → Type 0) → Type 0
 AtIndex entries i P = (e : List ℕ × Watch) → slice_get entries i ≡ Some e → P e
 
--- the entry at an index was asked anew where its range has the index that an edit changed: it keeps the answer after, and where
--- that is another than before there is a note of it
+-- there is a note of a value where it is another than before, and else none
+abbrev pub IsNoted : List ℕ → Shown → Shown → List Note → List Note → Type 0
+IsNoted name before value notes more =
+    ((value ≡ before) × (more ≡ notes))
+    ⊎ ((value ≢ before) × (more ≡ notes ++ record { name = name; value = value } ∷ []))
+
+-- the entry at an index was brought up to an edit where its range has the index that the edit changed: it keeps the summary after,
+-- and where its answer is another than before there is a note of it
 pub record IsToldAt (index : Option ℕ) (old new : List Edit) (before after : List (List ℕ × Watch)) (i : ℕ) (notes more : List Note) (e : List ℕ × Watch) : Type 0 where
   pub told : List Note
   pub notes_are : more ≡ notes ++ told

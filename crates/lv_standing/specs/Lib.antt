@@ -1,4 +1,5 @@
 pub mod Inner
+pub mod Kinds
 pub mod Names
 pub mod Queries
 pub mod Standings

@@ -1,17 +1,16 @@
 -- What a vector with standing queries holds.
-use Rattle.std.specs.Prelude.{◌≡◌, ◌≤◌, ℕ, Bool, ◌&&◌, Option, Some, None, false, List, [], ◌∷◌, ◌-◌, length, map, filter, nat_le, nat_lt, ◌++◌, slice_get}
+use Rattle.std.specs.Prelude.{◌≡◌, ◌≤◌, ℕ, List, length, map}
 use Rattle.std.specs.List.{AllByRecursion, slice_range}
-use Rattle.indexmap.specs.IndexMap.{set_value_at}
 use Rattle.lv_bodies.specs.declared.sixes.Six.{Six}
 use Rattle.lv_bodies.specs.Six.{SixMeaning, SixSummary, six_meaning}
 use Rattle.lv_edits.specs.declared.edit.Edit.{Edit}
-use Rattle.lv_edits.specs.declared.edit.Edit.TheVariants.{Push, Pop, Write, Reserve}
 use Rattle.lv_edits.specs.History.{list_of}
 use Rattle.lv_edits.specs.Kept.{InLimits}
 use Rattle.lv_live.specs.State.{LiveState}
+use Rattle.lv_standing.specs.declared.kinds.KindSummary.{KindSummary}
 use Rattle.lv_standing.specs.declared.watches.Watch.{Watch}
-use Rattle.lv_standing.specs.declared.notes.Note.{Note}
-use Rattle.lv_standing.specs.Queries.{AreNotes, Query, watch_answer}
+use Rattle.lv_standing.specs.Kinds.{kind_of, summary_of}
+use Rattle.lv_standing.specs.Queries.{Query}
 
 -- a live vector of all six bodies, and its standing queries in order of registration
 pub record StandingState : Type 0 where
@@ -20,18 +19,22 @@ pub record StandingState : Type 0 where
 
 -- the query that a name and its watch stand for
 abbrev pub query_at : List ℕ × Watch → Query
-query_at entry = record { name = entry.0; kind = entry.1.kind; lo = entry.1.lo; hi = entry.1.hi }
+query_at entry = record { name = entry.0; kind = kind_of entry.1.summary; lo = entry.1.lo; hi = entry.1.hi }
 
 -- the queries of all entries, in order
 abbrev pub queries_of : List (List ℕ × Watch) → List Query
 queries_of entries = map query_at entries
 
--- a watch keeps what its query answers after these edits
-abbrev pub IsCurrent : List Edit → List ℕ × Watch → Type 0
-IsCurrent edits entry = entry.1.value ≡ watch_answer edits (query_at entry)
+-- the summary of a watch's range after some edits, by the kind that it keeps
+abbrev pub summary_at : List Edit → Watch → KindSummary
+summary_at edits watch = summary_of (kind_of watch.summary) (slice_range (list_of edits) watch.lo watch.hi)
 
--- the vector is within its limits, its body is the program's six, there are at most 64 queries, and each watch keeps the answer at
--- the last edit
+-- a watch keeps the summary of its range after these edits
+abbrev pub IsCurrent : List Edit → List ℕ × Watch → Type 0
+IsCurrent edits entry = entry.1.summary ≡ summary_at edits entry.1
+
+-- the vector is within its limits, its body is the program's six, there are at most 64 queries, and each watch keeps the summary
+-- of its range at the last edit
 pub record IsStanding (meaning : SixMeaning) (live : LiveState Six SixSummary) (entries : List (List ℕ × Watch)) : Type 0 where
   pub limits : InLimits live.history
   pub six : meaning ≡ six_meaning

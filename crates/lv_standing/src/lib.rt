@@ -2,9 +2,11 @@
 //!
 //! The model is the live vector's state and the list of the queries, in the order of their registration. Each answer is the
 //! plain value of the elements that the query's range has at the last edit, and an edit's notes are those of the queries, in
-//! order, whose answer it changed. It parses no text and starts no thread.
+//! order, whose answer it changed. Each query keeps the summary of its range by its own kind, so that a push costs it one join.
+//! It parses no text and starts no thread.
 #![tactic(auto)]
 
+mod kinds;
 mod names;
 mod notes;
 mod standing;

@@ -12,9 +12,10 @@ ghost use Rattle.lv_refresh.specs.Honesty.{IsHonest, Vouched};
 ghost use Rattle.lv_live.specs.State.{HasClaim, HasDelivery, HasNoClaims, SameLive, SameRefresh, node_and_version, recorded};
 ghost use Rattle.lv_standing.specs.Queries.{AreNotes, Query, query_of, watch_answer, watch_refusal, without_query};
 
+use crate::kinds::KindSummary;
 use crate::names::Name;
 use crate::notes::{Answered, Note};
-use crate::watches::{Watch, ask, count_asked, index_changed, tell};
+use crate::watches::{Watch, ask, count_asked, index_changed, pushed_by, tell};
 use indexmap::IndexMap;
 use lv_bodies::{Body, Kind, Six};
 use lv_edits::{Edit, Receipt};
@@ -76,12 +77,8 @@ impl Standing {
         if self.watches.len() >= 64 {
             return Err(Refusal::TooMany);
         }
-        let watch = Watch {
-            kind,
-            lo,
-            hi,
-            value: ask(&self.live, kind, lo, hi),
-        };
+        let summary = KindSummary::of(kind, ask(&self.live, lo, hi));
+        let watch = Watch { lo, hi, summary };
         let Ok(_) = self.watches.insert(name, watch) else {
             return Err(Refusal::NoMemory);
         };
@@ -112,7 +109,7 @@ impl Standing {
         match self.watches.get(&name) {
             Some(watch) => Ok(Answered {
                 edit: self.live.edit(),
-                value: watch.value,
+                value: watch.summary.shown(),
             }),
             None => Err(Refusal::NoSuchName),
         }
@@ -137,7 +134,13 @@ impl Standing {
             return Err(Refusal::NoMemory);
         };
         let receipt = self.live.apply(edit)?;
-        tell(&mut self.live, &mut self.watches, index, &mut notes);
+        tell(
+            &mut self.live,
+            &mut self.watches,
+            index,
+            pushed_by(&edit),
+            &mut notes,
+        );
         Ok((receipt, notes))
     }
 

@@ -1,30 +1,31 @@
-ghost use Rattle.std.specs.Prelude.{◌≡◌, ◌≢◌, IsTrue, IfSome, IfNone, Some, map, slice_get, ◌+◌, ◌<◌, ◌≤◌, List, ◌∷◌, [], ◌++◌, length, vec_capacity, vec_len};
+ghost use Rattle.std.specs.Prelude.{◌≡◌, ℤ, IfSome, Some, map, slice_get, ◌+◌, ◌<◌, ◌≤◌, List, ◌∷◌, [], ◌++◌, length, vec_capacity, vec_len};
 ghost use Rattle.std.specs.List.{AllByRecursion, slice_range};
-ghost use Rattle.indexmap.specs.IndexMap.{index_map_len};
-ghost use Rattle.lv_bodies.specs.Plain.{plain_value};
+ghost use Rattle.indexmap.specs.IndexMap.{index_map_len, set_value_at};
+ghost use Rattle.lv_bodies.specs.Body.{CanFold};
 ghost use Rattle.lv_bodies.specs.Six.{SixMeaning, six_meaning};
 ghost use Rattle.lv_edits.specs.declared.edit.Edit.{Edit as Change};
 ghost use Rattle.lv_edits.specs.History.{list_of};
 ghost use Rattle.lv_edits.specs.Kept.{InLimits};
 ghost use Rattle.lv_live.specs.State.{SameLive};
 ghost use Rattle.lv_standing.specs.Queries.{AreNotes};
-ghost use Rattle.lv_standing.specs.Inner.{AtIndex, IsToldAt, SameElsewhere, asked, has_index, index_changed, refreshed};
-ghost use Rattle.lv_standing.specs.Standings.{IsCurrent, queries_of};
+ghost use Rattle.lv_standing.specs.Inner.{AtIndex, IsNoted, IsOfRange, IsPushed, IsToldAt, SameElsewhere, asked, has_index, index_changed, pushed_by, refreshed, six_of};
+ghost use Rattle.lv_standing.specs.Kinds.{kind_of, summary_of};
+ghost use Rattle.lv_standing.specs.Standings.{IsCurrent, queries_of, summary_at};
 
+use crate::kinds::KindSummary;
 use crate::names::Name;
 use crate::notes::Note;
 use indexmap::IndexMap;
-use lv_bodies::{Body, Kind, Shown, Six, face};
+use lv_bodies::{Body, Shown, Six};
 use lv_edits::Edit;
 use lv_live::Live;
 
-/// What a standing query asks for, and what it answered at the last edit.
-#[derive(Clone, Copy, Debug, PartialEq, Eq)]
+/// The range of a standing query, and the summary by its kind of the elements that the range has at the last edit.
+#[derive(Clone, Copy, Debug)]
 pub struct Watch {
-    pub kind: Kind,
     pub lo: u32,
     pub hi: u32,
-    pub value: Shown,
+    pub summary: KindSummary,
 }
 
 impl Watch {
@@ -51,32 +52,39 @@ pub fn index_changed(edit: &Edit, size: u32) -> Option<u32>
     }
 }
 
-/// The value of a kind over the elements that a range has, which may reach past the end. Takes no memory.
-pub fn ask(live: &Live<Six>, kind: Kind, lo: u32, hi: u32) -> Shown
-    requires limits { InLimits live.now.history }
+/// The element that an edit brings at the end, if it brings one.
+pub fn pushed_by(edit: &Edit) -> Option<i64>
+    ensures { result ≡ pushed_by edit.now }
+{
+    match edit {
+        Edit::Push(x) => Some(*x),
+        Edit::Pop | Edit::Write { .. } | Edit::Reserve(_) => None,
+    }
+}
+
+/// What all six make of the elements that a range has, which may reach past the end. Takes no memory.
+pub fn ask(live: &Live<Six>, lo: u32, hi: u32) -> <Six as Body>::S
     requires six { ◌≡◌ {A = SixMeaning} (⟦<Six as Body>⟧.meaning live.now.body) six_meaning }
-    ensures { result ≡ plain_value kind (slice_range (list_of live.now.history.journal) lo hi) }
+    ensures { result ≡ six_of live.now.history.journal lo hi }
 {
     let end = hi.min(live.size());
     let start = lo.min(end);
     match live.reduce(start, end) {
-        Ok(answer) => face(&Six::program(), kind, answer.value),
+        Ok(answer) => answer.value,
         Err(_) => unreachable!(),
     }
 }
 
-/// The same of a vector that may keep what is computed for it, so that a range is cheap to ask for after one edit more. Takes no
-/// memory.
-pub fn ask_keeping(live: &mut Live<Six>, kind: Kind, lo: u32, hi: u32) -> Shown
-    requires limits { InLimits live.old.history }
+// The same of a vector that may keep what is computed for it, so that a range is cheap to ask for after one edit more.
+fn ask_keeping(live: &mut Live<Six>, lo: u32, hi: u32) -> <Six as Body>::S
     requires six { ◌≡◌ {A = SixMeaning} (⟦<Six as Body>⟧.meaning live.old.body) six_meaning }
-    ensures value { result ≡ plain_value kind (slice_range (list_of live.old.history.journal) lo hi) }
+    ensures value { result ≡ six_of live.old.history.journal lo hi }
     ensures live { SameLive live.old live.new }
 {
     let end = hi.min(live.size());
     let start = lo.min(end);
     match live.ask(start, end) {
-        Ok(answer) => face(&Six::program(), kind, answer.value),
+        Ok(answer) => answer.value,
         Err(_) => unreachable!(),
     }
 }
@@ -106,70 +114,131 @@ pub fn count_asked(watches: &IndexMap<Name, Watch>, index: Option<u32>) -> usize
     count
 }
 
-// The answer of a query, where it may have changed since an edit and did.
-fn changed(live: &mut Live<Six>, watch: &Watch, index: Option<u32>) -> Option<Shown>
-    ghost old: { List Change }
-    requires limits { InLimits live.old.history }
-    requires six { ◌≡◌ {A = SixMeaning} (⟦<Six as Body>⟧.meaning live.old.body) six_meaning }
-    requires current { IsCurrent old ([], watch.now) }
-    requires elsewhere { SameElsewhere index old live.old.history.journal }
-    ensures same { IfNone result (IsCurrent live.old.history.journal ([], watch.now)) }
-    ensures value { IfSome result (λ value. value ≡ plain_value watch.now.kind (slice_range (list_of live.old.history.journal) watch.now.lo watch.now.hi)) }
-    ensures other { IfSome result (λ value. value ≢ watch.now.value) }
-    ensures asked { IfSome result (λ value. IsTrue (has_index watch.now.lo watch.now.hi index)) }
-    ensures live { SameLive live.old live.new }
-{
-    if !watch.has_index(index) {
-        return None;
-    }
-    let value = ask_keeping(live, watch.kind, watch.lo, watch.hi);
-    if value == watch.value {
-        return None;
-    }
-    Some(value)
+// What all six make of a range that was asked for.
+#[derive(Clone, Copy, Debug)]
+struct OfRange {
+    lo: u32,
+    hi: u32,
+    six: <Six as Body>::S,
 }
 
-// Asks one query anew where its range has the index, keeps the answer, and notes it where it is another than before.
+// The summary of a query's range: part of what was asked for last, where that has the same range; else the vector is asked.
+fn summary_asked(live: &mut Live<Six>, watch: &Watch, last: &mut Option<OfRange>) -> KindSummary
+    requires six { ◌≡◌ {A = SixMeaning} (⟦<Six as Body>⟧.meaning live.old.body) six_meaning }
+    requires last { IfSome last.old (IsOfRange live.old.history.journal) }
+    ensures value { result ≡ summary_at live.old.history.journal watch.now }
+    ensures last { IfSome last.new (IsOfRange live.old.history.journal) }
+    ensures live { SameLive live.old live.new }
+{
+    let kind = watch.summary.kind();
+    if let Some(range) = *last {
+        if range.lo == watch.lo && range.hi == watch.hi {
+            return KindSummary::of(kind, range.six);
+        }
+    }
+    let six = ask_keeping(live, watch.lo, watch.hi);
+    *last = Some(OfRange {
+        lo: watch.lo,
+        hi: watch.hi,
+        six,
+    });
+    KindSummary::of(kind, six)
+}
+
+// The summary of a query's range after an edit that changed it. An element that was pushed is the range's last one.
+fn summary_after(
+    live: &mut Live<Six>,
+    watch: &Watch,
+    pushed: Option<i64>,
+    last: &mut Option<OfRange>,
+) -> KindSummary
+    ghost before: { List ℤ }
+    requires limits { InLimits live.old.history }
+    requires six { ◌≡◌ {A = SixMeaning} (⟦<Six as Body>⟧.meaning live.old.body) six_meaning }
+    requires current { watch.now.summary ≡ summary_of (kind_of watch.now.summary) before }
+    requires pushed { IfSome pushed (λ x. slice_range (list_of live.old.history.journal) watch.now.lo watch.now.hi ≡ before ++ x ∷ []) }
+    requires last { IfSome last.old (IsOfRange live.old.history.journal) }
+    ensures value { result ≡ summary_at live.old.history.journal watch.now }
+    ensures last { IfSome last.new (IsOfRange live.old.history.journal) }
+    ensures live { SameLive live.old live.new }
+{
+    match pushed {
+        Some(x) => watch.summary.with_last(x),
+        None => summary_asked(live, watch, last),
+    }
+}
+
+// Notes an answer where it is another than before.
+fn note_change(notes: &mut Vec<Note>, name: Name, before: Shown, value: Shown)
+    requires room { vec_len notes.old + 1 ≤ vec_capacity notes.old }
+    ensures told { IsNoted name before value notes.old.items notes.new.items }
+    ensures capacity { vec_capacity notes.new ≡ vec_capacity notes.old }
+{
+    if value == before {
+        return;
+    }
+    notes.push_reserved(Note { name, value });
+}
+
+// Keeps a watch at an index.
+fn keep(watches: &mut IndexMap<Name, Watch>, i: usize, watch: Watch)
+    requires { i < index_map_len watches.old }
+    ensures { watches.new.entries ≡ set_value_at watches.old.entries i watch }
+{
+    if let Some(kept) = watches.get_index_mut(i) {
+        *kept = watch;
+    }
+}
+
+// Brings one query up to the edit where its range has the index, and notes its answer where it is another than before.
 fn tell_one(
     live: &mut Live<Six>,
     watches: &mut IndexMap<Name, Watch>,
     i: usize,
     index: Option<u32>,
+    pushed: Option<i64>,
+    last: &mut Option<OfRange>,
     notes: &mut Vec<Note>,
 )
     ghost old: { List Change }
     requires limits { InLimits live.old.history }
     requires six { ◌≡◌ {A = SixMeaning} (⟦<Six as Body>⟧.meaning live.old.body) six_meaning }
+    requires before { CanFold (list_of old) }
     requires elsewhere { SameElsewhere index old live.old.history.journal }
+    requires pushed { IfSome pushed (IsPushed index old live.old.history.journal) }
+    requires last { IfSome last.old (IsOfRange live.old.history.journal) }
     requires within { i < index_map_len watches.old }
     requires current { AtIndex watches.old.entries i (IsCurrent old) }
     requires room { AtIndex watches.old.entries i (λ e. vec_len notes.old + length (asked index (e ∷ [])) ≤ vec_capacity notes.old) }
     ensures told { AtIndex watches.old.entries i (IsToldAt index old live.old.history.journal watches.old.entries watches.new.entries i notes.old.items notes.new.items) }
+    ensures last { IfSome last.new (IsOfRange live.old.history.journal) }
     ensures capacity { vec_capacity notes.new ≡ vec_capacity notes.old }
     ensures live { SameLive live.old live.new }
 {
     let (name, watch) = watch_at(watches, i);
-    let Some(value) = changed(live, &watch, index) else {
+    if !watch.has_index(index) {
         return;
-    };
-    notes.push_reserved(Note { name, value });
-    if let Some(kept) = watches.get_index_mut(i) {
-        *kept = Watch { value, ..watch };
     }
+    let summary = summary_after(live, &watch, pushed, last);
+    note_change(notes, name, watch.summary.shown(), summary.shown());
+    keep(watches, i, Watch { summary, ..watch });
 }
 
-/// Asks each query anew whose range has the index that an edit changed, in order of registration; keeps the answers, and notes
-/// those that are others than before.
+/// Brings each query up to an edit whose range has the index that the edit changed, in order of registration; notes the answers
+/// that are others than before. A push costs each a join, and any other edit one question for all neighbours of the same range.
 pub fn tell(
     live: &mut Live<Six>,
     watches: &mut IndexMap<Name, Watch>,
     index: Option<u32>,
+    pushed: Option<i64>,
     notes: &mut Vec<Note>,
 )
     ghost old: { List Change }
     requires limits { InLimits live.old.history }
     requires six { ◌≡◌ {A = SixMeaning} (⟦<Six as Body>⟧.meaning live.old.body) six_meaning }
+    requires before { CanFold (list_of old) }
     requires elsewhere { SameElsewhere index old live.old.history.journal }
+    requires pushed { IfSome pushed (IsPushed index old live.old.history.journal) }
     requires current { AllByRecursion (IsCurrent old) watches.old.entries }
     requires empty { notes.old.items ≡ [] }
     requires room { length (asked index watches.old.entries) ≤ vec_capacity notes.old }
@@ -177,7 +246,8 @@ pub fn tell(
     ensures notes { AreNotes old live.old.history.journal (queries_of watches.old.entries) notes.new.items }
     ensures live { SameLive live.old live.new }
 {
+    let mut last = None;
     for i in 0..watches.len() {
-        tell_one(live, watches, i, index, notes);
+        tell_one(live, watches, i, index, pushed, &mut last, notes);
     }
 }

@@ -1,6 +1,6 @@
-use Rattle.std.proofs.Common.{◌≡◌, ◌∙◌, ◌+◌, ap, sym, arith, length, drop, vec_capacity, ◌<◌}
+use Rattle.std.proofs.Common.{◌≡◌, ◌∙◌, IfSome, ◌+◌, ap, sym, arith, length, drop, vec_capacity, ◌<◌}
 use Rattle.lv_edits.specs.Kept.{InLimits}
-use Rattle.lv_standing.specs.Inner.{SameElsewhere, asked}
+use Rattle.lv_standing.specs.Inner.{IsOfRange, IsPushed, SameElsewhere, asked}
 use Rattle.lv_standing.specs.Standings.{IsCurrent}
 use Rattle.lv_edits.proofs.Slices.{there_is}
 use Rattle.lv_standing.proofs.EntryLaws.{all_at, asked_more, rest_is}
@@ -15,18 +15,30 @@ tell_one-requires g c =
     let inside : c.loop-i.i < length all = omega (arith, c.len-i-end.ensures.len) in
     let same : length c.loop-i.watches.entries ≡ length all = as_long new all c.loop-i.watches.entries c.loop-i.i inside c.loop-i.invariant.entries in
     let kept = as_before new all c.loop-i.watches.entries c.loop-i.i inside c.loop-i.invariant.entries in
-    let limits : InLimits c.loop-i.live.history = rw c.loop-i.invariant.live.history c.requires.0 in
-    let elsewhere : SameElsewhere c.args.index g.old c.loop-i.live.history.journal = rw c.loop-i.invariant.live.history c.requires.1.1.0 in (
+    let still = c.loop-i.invariant.live.history in
+    let limits : InLimits c.loop-i.live.history = rw still c.requires.0 in
+    let elsewhere : SameElsewhere c.args.index g.old c.loop-i.live.history.journal = rw still c.requires.1.1.1.0 in
+    let pushed : IfSome c.args.pushed (IsPushed c.args.index g.old c.loop-i.live.history.journal) = rw still c.requires.1.1.1.1.0 in
+    let last : IfSome c.loop-i.last (IsOfRange c.loop-i.live.history.journal) = rw still c.loop-i.invariant.last in (
       limits,
       (
         still_six c.args.live.now.body c.loop-i.live.body c.loop-i.invariant.live.body c.requires.1.0,
         (
-          elsewhere,
+          c.requires.1.1.0,
           (
-            omega (arith, inside, same),
+            elsewhere,
             (
-              (λ e at. all_at (IsCurrent g.old) all c.loop-i.i e c.requires.1.1.1.0 (sym kept ∙ at)),
-              (λ e at. omega (arith, c.loop-i.invariant.room, c.loop-i.notes.ok.0, asked_more c.args.index e (drop (c.loop-i.i + 1) all), ap (λ es. length (asked c.args.index es)) (rest_is all c.loop-i.i e (sym kept ∙ at)))),
+              pushed,
+              (
+                last,
+                (
+                  omega (arith, inside, same),
+                  (
+                    (λ e at. all_at (IsCurrent g.old) all c.loop-i.i e c.requires.1.1.1.1.1.0 (sym kept ∙ at)),
+                    (λ e at. omega (arith, c.loop-i.invariant.room, c.loop-i.notes.ok.0, asked_more c.args.index e (drop (c.loop-i.i + 1) all), ap (λ es. length (asked c.args.index es)) (rest_is all c.loop-i.i e (sym kept ∙ at)))),
+                  ),
+                ),
+              ),
             ),
           ),
         ),
@@ -45,6 +57,7 @@ loop-i-preserved g c =
       live = same_live-along c.args.live.now c.loop-i.live c.tell_one.new.live c.loop-i.invariant.live c.tell_one.ensures.live;
       entries = told_entries g.old new c.args.index all c.loop-i.watches.entries c.tell_one.new.watches.entries c.loop-i.i c.loop-i.notes.items c.tell_one.new.notes.items there.0 there.1 inside c.loop-i.invariant.entries told;
       notes = told_notes g.old new c.args.index all c.loop-i.watches.entries c.tell_one.new.watches.entries c.loop-i.i c.loop-i.notes.items c.tell_one.new.notes.items there.0 there.1 inside c.loop-i.invariant.entries told c.loop-i.invariant.notes;
+      last = rw (← c.loop-i.invariant.live.history) c.tell_one.ensures.last;
       room = told_room g.old new c.args.index all c.loop-i.watches.entries c.tell_one.new.watches.entries c.loop-i.i c.loop-i.notes.items c.tell_one.new.notes.items there.0 there.1 inside c.loop-i.invariant.entries told (vec_capacity c.tell_one.new.notes)
           (omega (arith, c.tell_one.ensures.capacity, c.loop-i.invariant.room));
     }

@@ -1,7 +1,7 @@
-use Rattle.std.proofs.Common.{◌≡◌, ◌+◌, ◌≤◌, ◌++◌, length, map, take, drop, vec_capacity}
+use Rattle.std.proofs.Common.{◌≡◌, IfSome, ◌+◌, ◌≤◌, ◌++◌, length, map, take, drop, vec_capacity}
 use Rattle.lv_live.specs.State.{SameLive}
 use Rattle.lv_standing.specs.Queries.{AreNotes}
-use Rattle.lv_standing.specs.Inner.{asked, refreshed}
+use Rattle.lv_standing.specs.Inner.{IsOfRange, asked, refreshed}
 use Rattle.lv_standing.specs.Standings.{queries_of}
 use Rattle.lv_standing.proofs.watches.tell.Given as goal
 
@@ -16,5 +16,6 @@ invariant-loop-i g l =
       live : SameLive l.initial.live l.live;
       entries : l.watches.entries ≡ map (refreshed new) (take l.i all) ++ drop l.i all;
       notes : AreNotes g.old new (queries_of (take l.i all)) l.notes.items;
+      last : IfSome l.last (IsOfRange new);
       room : length l.notes.items + length (asked l.index (drop l.i all)) ≤ vec_capacity l.notes;
     }

@@ -1,16 +1,16 @@
-use Rattle.std.proofs.Common.{◌≡◌, ◌∙◌, ◌-◌, ◌++◌, [], ◌∷◌, ap, sym, subst, arith, length, take}
+use Rattle.std.proofs.Common.{◌≡◌, ℕ, ℤ, Option, IfSome, ◌∙◌, ◌-◌, ◌++◌, [], ◌∷◌, ap, sym, subst, arith, length, take}
 use Rattle.std.specs.List.{AllByRecursion, slice_range}
 use Rattle.std.proofs.lemmas.List.{length-map}
-use Rattle.lv_bodies.specs.declared.sixes.Six.{Six}
-use Rattle.lv_bodies.specs.Six.{SixMeaning, six_meaning}
+use Rattle.lv_bodies.specs.Body.{CanFold}
 use Rattle.lv_edits.specs.declared.edit.Edit.{Edit}
 use Rattle.lv_edits.specs.History.{History, list_of}
-use Rattle.lv_standing.specs.Inner.{has_index, index_changed, refreshed}
+use Rattle.lv_summary.proofs.FoldableLaws.{can_fold}
+use Rattle.lv_standing.specs.Inner.{IsPushed, has_index, index_changed, pushed_by, refreshed}
 use Rattle.lv_standing.specs.Standings.{IsCurrent, queries_of, query_at}
 use Rattle.lv_standing.proofs.EntryLaws.{all_refreshed, queries_refreshed}
 use Rattle.lv_standing.proofs.NoteLaws.{before_last, few_notes}
-use Rattle.lv_standing.proofs.RangeLaws.{edit_elsewhere}
-use Rattle.lv_standing.proofs.SameLaws.{same_refresh-along, still_six}
+use Rattle.lv_standing.proofs.RangeLaws.{edit_elsewhere, push_is_last}
+use Rattle.lv_standing.proofs.SameLaws.{still_six}
 use Rattle.lv_standing.proofs.standing.Standing.edit.Goals as goal
 
 -- a history with one more edit, without that edit
@@ -18,24 +18,40 @@ was : (old new : History) (edit : Edit) → new ≡ record old { journal = old.j
 was old new edit grown =
     ap (λ (h : History). take (length h.journal - 1) h.journal) grown ∙ before_last old.journal edit
 
+-- an element that was pushed, by what the code has of it
+pushed_after : (old new : History) (edit : Edit) (index : Option ℕ) (x : Option ℤ) → new ≡ record old { journal = old.journal ++ edit ∷ [] } → index ≡ index_changed (length (list_of old.journal)) edit → x ≡ pushed_by edit
+    → IfSome (pushed_by edit) (IsPushed (index_changed (length (list_of old.journal)) edit) old.journal (old.journal ++ edit ∷ [])) → IfSome x (IsPushed index (take (length new.journal - 1) new.journal) new.journal)
+pushed_after old new edit index x grown is by pushed =
+    subst (λ js. IfSome x (IsPushed index js new.journal)) (sym (was old new edit grown))
+    (subst (λ (h : History). IfSome x (IsPushed index old.journal h.journal)) (sym grown)
+    (subst (λ i. IfSome x (IsPushed i old.journal (old.journal ++ edit ∷ []))) (sym is)
+    (subst (λ y. IfSome y (IsPushed (index_changed (length (list_of old.journal)) edit) old.journal (old.journal ++ edit ∷ []))) (sym by) pushed)))
+
 pub tell-requires : goal.tell-requires
 tell-requires c =
     let before = c.self.inside.live.history in
     let after = c.apply.new.self.history in
     let grown = c.in_ok-receipt.ensures.answer.journal in
     let back = was before after c.args.edit grown in
-    let index : c.index_changed-index.result ≡ index_changed (length (list_of before.journal)) c.args.edit = c.index_changed-index.ensures ∙ ap (λ n. index_changed n c.args.edit) c.size.ensures in (
+    let index : c.index_changed-index.result ≡ index_changed (length (list_of before.journal)) c.args.edit = c.index_changed-index.ensures ∙ ap (λ n. index_changed n c.args.edit) c.size.ensures in
+    let pushed = push_is_last before c.args.edit c.self.invariant.limits.legal c.in_ok-receipt.ensures.answer.verdict in (
       c.apply.ensures.limits,
       (
         still_six _ _ c.apply.ensures.refresh.body c.self.invariant.six,
         (
-          (λ lo hi apart.
-              ap (λ (h : History). slice_range (list_of h.journal) lo hi) grown
-              ∙ edit_elsewhere before c.args.edit lo hi c.self.invariant.limits.legal c.in_ok-receipt.ensures.answer.verdict (sym (ap (has_index lo hi) index) ∙ apart)
-              ∙ ap (λ js. slice_range (list_of js) lo hi) (sym back)),
+          subst (λ js. CanFold (list_of js)) (sym back) (can_fold before c.self.invariant.limits),
           (
-            subst (λ js. AllByRecursion (IsCurrent js) c.self.inside.watches.entries) (sym back) c.self.invariant.current,
-            (c.in-Ok.ensures.items, omega (arith, c.count_asked.ensures, c.in-Ok.ensures.capacity)),
+            (λ lo hi apart.
+                ap (λ (h : History). slice_range (list_of h.journal) lo hi) grown
+                ∙ edit_elsewhere before c.args.edit lo hi c.self.invariant.limits.legal c.in_ok-receipt.ensures.answer.verdict (sym (ap (has_index lo hi) index) ∙ apart)
+                ∙ ap (λ js. slice_range (list_of js) lo hi) (sym back)),
+            (
+              pushed_after before after c.args.edit c.index_changed-index.result c.pushed_by.result grown index c.pushed_by.ensures pushed,
+              (
+                subst (λ js. AllByRecursion (IsCurrent js) c.self.inside.watches.entries) (sym back) c.self.invariant.current,
+                (c.in-Ok.ensures.items, omega (arith, c.count_asked.ensures, c.in-Ok.ensures.capacity)),
+              ),
+            ),
           ),
         ),
       ),

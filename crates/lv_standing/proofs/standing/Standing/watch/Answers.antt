@@ -1,9 +1,12 @@
-use Rattle.std.proofs.Common.{◌∙◌, [], ◌∷◌, ap, sym, refl, subst, arith, inl, inr, length, length-append}
+use Rattle.std.proofs.Common.{◌∙◌, [], ◌∷◌, ◌++◌, ap, sym, refl, subst, arith, inl, inr, length, length-append}
 use Rattle.std.proofs.lemmas.List.{map-append}
-use Rattle.std.specs.List.{AllByRecursion}
+use Rattle.std.specs.List.{AllByRecursion, slice_range}
+use Rattle.lv_edits.specs.History.{list_of}
 use Rattle.std.specs.Str.{bytes_eq}
 use Rattle.indexmap.proofs.CallerLemmas.{insert_entry-new}
 use Rattle.lv_standing.specs.Standings.{IsCurrent, queries_of, query_at}
+use Rattle.lv_standing.specs.Kinds.{kind_of}
+use Rattle.lv_standing.proofs.KindLaws.{kind_of_part, part_is_current}
 use Rattle.lv_standing.proofs.EntryLaws.{all_added, not_found, refused_many, refused_not, refused_taken}
 use Rattle.lv_standing.proofs.standing.Standing.watch.Goals as goal
 
@@ -28,9 +31,10 @@ invariant_of-self-2 c =
     record {
       limits = c.self.invariant.limits;
       six = c.self.invariant.six;
-      few = omega (arith, ap length added, length-append c.self.inside.watches.entries ((c.args.name, record { kind = c.args.kind; lo = c.args.lo; hi = c.args.hi; value = c.ask.result }) ∷ []), c.len.ensures.len);
+      few = omega (arith, ap length added, length-append c.self.inside.watches.entries ((c.args.name, record { lo = c.args.lo; hi = c.args.hi; summary = c.of-summary.result }) ∷ []), c.len.ensures.len);
       current = subst (AllByRecursion (IsCurrent c.self.inside.live.history.journal)) (sym added)
-          (all_added (IsCurrent c.self.inside.live.history.journal) c.self.inside.watches.entries _ c.self.invariant.current c.ask.ensures);
+          (all_added (IsCurrent c.self.inside.live.history.journal) c.self.inside.watches.entries _ c.self.invariant.current
+          (part_is_current c.args.kind (slice_range (list_of c.self.inside.live.history.journal) c.args.lo c.args.hi) c.ask.result c.of-summary.result c.of-summary.ensures c.ask.ensures));
     }
 
 pub returns-clause-ok : goal.returns-clause-ok
@@ -39,5 +43,7 @@ returns-clause-ok c =
     let added = c.in-Ok.ensures.entries ∙ insert_entry-new bytes_eq c.self.inside.watches c.args.name _ missing in
     rw (← c.self.view_is) (
       refused_not c.self.inside.watches.entries c.args.name c.args.lo c.args.hi (omega arith) missing (omega (arith, c.len.ensures.len)),
-      ap queries_of added ∙ map-append query_at c.self.inside.watches.entries _,
+      ap queries_of added
+          ∙ map-append query_at c.self.inside.watches.entries _
+          ∙ ap (λ k. queries_of c.self.inside.watches.entries ++ record { name = c.args.name; kind = k; lo = c.args.lo; hi = c.args.hi } ∷ []) (ap kind_of c.of-summary.ensures ∙ kind_of_part c.args.kind c.ask.result),
     )
