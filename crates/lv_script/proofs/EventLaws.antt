@@ -1,19 +1,15 @@
 -- What the calls of a vector with standing queries make of a script.
-use Rattle.std.proofs.Common.{◌≡◌, ℕ, ◌+◌, Bool, true, false, Option, Some, None, option_map, Result, Ok, Err, OnOk, IfErr, List, [], ◌∷◌, ◌++◌, length, map, take, drop, ◌-◌, arith, subst, refl, sym, ap, ◌∙◌, inl, inr}
-use Rattle.std.specs.Prelude.{ℤ}
-use Rattle.std.specs.List.{range_with_len}
+use Rattle.std.proofs.Common.{◌≡◌, ℕ, ◌+◌, Bool, Option, Some, None, option_map, Result, Ok, Err, OnOk, IfErr, List, [], ◌∷◌, ◌++◌, length, drop, ◌-◌, arith, subst, refl, sym, ap, ◌∙◌, inl, inr}
 use Rattle.std.proofs.lemmas.List.{append-nil, length-drop, length-take}
-use Rattle.lv_bodies.specs.ElementLaws.{map-map}
 use Rattle.std.proofs.lemmas.List.Elements.{All-drop, All-take}
 use Rattle.lv_geometry.specs.declared.refusals.Refusal.{Refusal}
 use Rattle.lv_geometry.specs.declared.refusals.Refusal.TheVariants.{NoJob}
 use Rattle.lv_bodies.specs.declared.kinds.Kind.{Kind}
 use Rattle.lv_bodies.specs.declared.kinds.Shown.{Shown}
-use Rattle.lv_bodies.proofs.SixFolds.{face_of-fold}
 use Rattle.lv_bodies.specs.declared.sixes.Six.{Six}
-use Rattle.lv_bodies.specs.Body.{CanFold, fold_of}
+use Rattle.lv_bodies.specs.Body.{CanFold}
 use Rattle.lv_bodies.specs.Plain.{plain_value}
-use Rattle.lv_bodies.specs.Six.{SixMeaning, SixSummary, face_of, six_meaning, six_operations}
+use Rattle.lv_bodies.specs.Six.{SixMeaning, SixSummary, six_meaning, six_operations}
 use Rattle.lv_edits.specs.declared.edit.Edit.{Edit}
 use Rattle.lv_edits.specs.declared.receipt.Receipt.{Receipt}
 use Rattle.lv_edits.specs.History.{History, list_of}
@@ -25,12 +21,11 @@ use Rattle.lv_refresh.specs.Claim.{IsNextJob}
 use Rattle.lv_refresh.specs.Delivery.{delivery_of}
 use Rattle.lv_refresh.specs.Record.{Record}
 use Rattle.lv_reduce.specs.declared.reductions.Answer.{Answer}
-use Rattle.lv_reduce.specs.declared.scans.Scan.{Scan}
-use Rattle.lv_reduce.specs.Answer.{range_refusal, scan_of, slice_of}
+use Rattle.lv_reduce.specs.Answer.{range_refusal, slice_of}
 use Rattle.lv_live.specs.declared.events.Event.TheVariants as event
 use Rattle.lv_live.specs.declared.replies.Reply.TheVariants as reply
 use Rattle.lv_live.specs.State.{HasClaim, HasDelivery, HasNoClaims, SameLive, SameRefresh, job_at, jobs_with, node_and_version, recorded}
-use Rattle.lv_live.specs.Step.{Reduces, Scans, claim_reply, reduction_reply}
+use Rattle.lv_live.specs.Step.{Reduces, claim_reply, reduction_reply}
 use Rattle.lv_live.proofs.WorldLaws.{step_claim, step_delivery, step_edit, step_forget, step_no_job, step_reduction, step_settle}
 use Rattle.lv_standing.specs.declared.notes.Note.{Note}
 use Rattle.lv_standing.specs.Queries.{AreNotes, Query}
@@ -146,62 +141,28 @@ can_fold_slice h lo hi limits =
 pub reduces_by_program : (m : SixMeaning) (r : Record) (lo hi : ℕ) (answer : Result (Answer SixSummary) Refusal) → m ≡ six_meaning → Reduces (six_operations m) r lo hi answer → Reduces program_operations r lo hi answer
 reduces_by_program m r lo hi answer is = subst (λ m. Reduces (six_operations m) r lo hi answer) is
 
--- and so is a scan
-pub scans_by_program : (m : SixMeaning) (r : Record) (lo hi : ℕ) (inclusive : Bool) (answer : Result (Scan SixSummary) Refusal) → m ≡ six_meaning → Scans (six_operations m) r lo hi inclusive answer → Scans program_operations r lo hi inclusive answer
-scans_by_program m r lo hi inclusive answer is = subst (λ m. Scans (six_operations m) r lo hi inclusive answer) is
-
--- a front of what can be folded can be folded
-can_fold_front : (xs : List ℤ) (n : ℕ) → CanFold xs → CanFold (take n xs)
-can_fold_front xs n can = record { few = omega (arith, can.few, length-take n xs); elements = All-take IsElement n xs can.elements }
-
--- what is shown of the fold of a list is the plain value
-shown_fold : (kind : Kind) (xs : List ℤ) → CanFold xs → face_of kind (fold_of program_operations xs) ≡ plain_value kind xs
-shown_fold kind xs can = face_of-fold six_meaning kind (fold_of program_operations xs) xs can refl
-
--- what is shown of a scan of a list is the plain scan
-pub shown_scan : (inclusive : Bool) (kind : Kind) (xs : List ℤ) → CanFold xs → map (face_of kind) (scan_of inclusive program_operations xs) ≡ plain_scan inclusive kind xs
-shown_scan true kind xs can =
-    map-map (λ i. fold_of program_operations (take (i + 1) xs)) (face_of kind) (range_with_len 0 (length xs)) ∙ (λ j. map (λ i. shown_fold kind (take (i + 1) xs) (can_fold_front xs (i + 1) can) j) (range_with_len 0 (length xs)))
-shown_scan false kind xs can =
-    map-map (λ i. fold_of program_operations (take i xs)) (face_of kind) (range_with_len 0 (length xs)) ∙ (λ j. map (λ i. shown_fold kind (take i xs) (can_fold_front xs i can) j) (range_with_len 0 (length xs)))
-
--- a scan of a range that nothing refuses
-pub scanned_ok : (edits : List Edit) (inclusive : Bool) (kind : Kind) (lo hi edit : ℕ) (values : List SixSummary) → CanFold (slice_of edits lo hi) → range_refusal edits lo hi ≡ None → edit ≡ length edits → values ≡ scan_of inclusive program_operations (slice_of edits lo hi)
-    → scan_text edit inclusive kind (map (face_of kind) values) ≡ scanned_range_text edits inclusive kind lo hi (range_refusal edits lo hi)
-scanned_ok edits inclusive kind lo hi edit values can granted at are =
-    ap (λ edit. scan_text edit inclusive kind (map (face_of kind) values)) at
-    ∙ ap (λ values. scan_text (length edits) inclusive kind (map (face_of kind) values)) are
-    ∙ ap (scan_text (length edits) inclusive kind) (shown_scan inclusive kind (slice_of edits lo hi) can)
-    ∙ ap (scanned_range_text edits inclusive kind lo hi) (sym granted)
+-- the reply to a scan of a range that nothing refuses
+abbrev granted_text : StandingState → Bool → Kind → ℕ → ℕ → List ℕ
+granted_text s inclusive kind lo hi = scan_text (length s.live.history.journal) inclusive kind (plain_scan inclusive kind (slice_of s.live.history.journal lo hi))
 
 -- a scan, answered
-pub tells_scan : (s : StandingState) (inclusive : Bool) (kind : Kind) (lo hi : ℕ) (scan : Scan SixSummary) (jobs : List (Carried Six SixSummary)) → InLimits s.live.history → Scans program_operations (recorded s.live) lo hi inclusive (Ok scan)
-    → TellsScan (state_of s jobs) inclusive kind lo hi (scan_text scan.edit inclusive kind (map (face_of kind) scan.values)) (state_of s jobs)
-tells_scan s inclusive kind lo hi scan jobs limits is =
-    inl (scanned_ok s.live.history.journal inclusive kind lo hi scan.edit scan.values (can_fold_slice s.live.history lo hi limits) is.granted is.edit is.values_are, unchanged s jobs)
-
--- a scan, refused
-pub tells_no_scan : (s : StandingState) (inclusive : Bool) (kind : Kind) (lo hi : ℕ) (refusal : Refusal) (jobs : List (Carried Six SixSummary)) → Scans program_operations (recorded s.live) lo hi inclusive (Err refusal)
-    → TellsScan (state_of s jobs) inclusive kind lo hi (refused_text refusal) (state_of s jobs)
-tells_no_scan s inclusive kind lo hi refusal jobs is =
-    elim is [
-      | inl refused ↦ inl (ap (scanned_range_text s.live.history.journal inclusive kind lo hi) (sym refused), unchanged s jobs)
-      | inr want ↦ inr (want.0, (ap refused_text want.1, unchanged s jobs))
-    ]
+tells_scan : (s : StandingState) (inclusive : Bool) (kind : Kind) (lo hi : ℕ) (jobs : List (Carried Six SixSummary)) → range_refusal s.live.history.journal lo hi ≡ None
+    → TellsScan (state_of s jobs) inclusive kind lo hi (granted_text s inclusive kind lo hi) (state_of s jobs)
+tells_scan s inclusive kind lo hi jobs granted = inl (ap (scanned_range_text s.live.history.journal inclusive kind lo hi) (sym granted), unchanged s jobs)
 
 -- a scan that was put whole
-pub scan_put : {T E : Type 0} (result : Result T E) (s : StandingState) (inclusive : Bool) (kind : Kind) (lo hi : ℕ) (scan : Scan SixSummary) (written : List ℕ → Type 0) → InLimits s.live.history → Scans program_operations (recorded s.live) lo hi inclusive (Ok scan)
-    → OnOk result (written (scan_text scan.edit inclusive kind (map (face_of kind) scan.values)))
+pub scan_put : {T E : Type 0} (result : Result T E) (s : StandingState) (inclusive : Bool) (kind : Kind) (lo hi : ℕ) (written : List ℕ → Type 0) → range_refusal s.live.history.journal lo hi ≡ None
+    → OnOk result (written (granted_text s inclusive kind lo hi))
     → OnOk result ((text : List ℕ) × ((jobs : List (Carried Six SixSummary)) → TellsScan (state_of s jobs) inclusive kind lo hi text (state_of s jobs)) × written text)
-scan_put (Ok done) s inclusive kind lo hi scan written limits is put = (_, (λ jobs. tells_scan s inclusive kind lo hi scan jobs limits is), put)
-scan_put (Err fault) s inclusive kind lo hi scan written limits is put = put
+scan_put (Ok done) s inclusive kind lo hi written granted put = (_, (λ jobs. tells_scan s inclusive kind lo hi jobs granted), put)
+scan_put (Err fault) s inclusive kind lo hi written granted put = put
 
 -- a scan of which a front was put
-pub scan_put_front : {T : Type 0} (result : Result T Fault) (s : StandingState) (inclusive : Bool) (kind : Kind) (lo hi : ℕ) (scan : Scan SixSummary) (written : List ℕ → Type 0) → InLimits s.live.history → Scans program_operations (recorded s.live) lo hi inclusive (Ok scan)
-    → IfErr result (λ fault. (fault ≡ WriteFault) × written (scan_text scan.edit inclusive kind (map (face_of kind) scan.values)))
+pub scan_put_front : {T : Type 0} (result : Result T Fault) (s : StandingState) (inclusive : Bool) (kind : Kind) (lo hi : ℕ) (written : List ℕ → Type 0) → range_refusal s.live.history.journal lo hi ≡ None
+    → IfErr result (λ fault. (fault ≡ WriteFault) × written (granted_text s inclusive kind lo hi))
     → IfErr result (λ fault. (fault ≡ WriteFault) × (text : List ℕ) × ((jobs : List (Carried Six SixSummary)) → TellsScan (state_of s jobs) inclusive kind lo hi text (state_of s jobs)) × written text)
-scan_put_front (Ok done) s inclusive kind lo hi scan written limits is put = put
-scan_put_front (Err fault) s inclusive kind lo hi scan written limits is put = (put.0, _, (λ jobs. tells_scan s inclusive kind lo hi scan jobs limits is), put.1)
+scan_put_front (Ok done) s inclusive kind lo hi written granted put = put
+scan_put_front (Err fault) s inclusive kind lo hi written granted put = (put.0, _, (λ jobs. tells_scan s inclusive kind lo hi jobs granted), put.1)
 
 module _ {S : Type 0} (step : S → ℕ → List ℕ → List ℕ → S → Type 0) where
   -- a line that was answered once there was room is answered with what was held before

@@ -19,3 +19,4 @@ pub mod ShownTexts
 pub mod SoundTranscripts
 pub mod TranscriptBytes
 pub mod AuditedTranscripts
+pub mod ReplayLemmas

@@ -97,9 +97,9 @@ pub record AuditState : Type 0 where
   pub journal : List Edit
   pub last : ℕ
 
--- the state of an audit that is at a stage, has replayed all edits so far, and those up to the last claim
-abbrev pub state_of : Stage → History → History → AuditState
-state_of stage edits replay = record { stage = stage; journal = edits.journal; last = length replay.journal }
+-- the state of an audit that is at a stage, has replayed all edits so far, and has come to the edit of the last claim
+abbrev pub state_of : Stage → History → ℕ → AuditState
+state_of stage edits last = record { stage = stage; journal = edits.journal; last = last }
 
 -- an audit before its first line
 abbrev pub start_state : AuditState

@@ -12,4 +12,5 @@ pub mod Scripted
 pub mod Texts
 pub mod Words
 pub mod Auditing
+pub mod BoardLine
 pub mod Transcript

@@ -1,7 +1,9 @@
 -- Schedules of the lock-free machine: what each line says, and what it is answered.
 use Rattle.std.specs.Prelude.{◌≡◌, ℕ, if◌then◌else◌, List, [], ◌∷◌, ◌++◌, length, nat_lt, codes, decimal, Option, Some, None, option_map, unwrap_or}
 use Rattle.std.specs.Str.{bytes_eq}
+use Rattle.lv_bodies.specs.declared.kinds.Kind.{Kind}
 use Rattle.lv_bodies.specs.declared.kinds.Kind.TheVariants as kind
+use Rattle.lv_bodies.specs.declared.kinds.Shown.{Shown}
 use Rattle.lv_bodies.specs.declared.kinds.Shown.TheVariants as shown
 use Rattle.lv_bodies.specs.Parts.{sum_of_parts, sum_parts}
 use Rattle.lv_bodies.specs.Sums.{sum_operations}
@@ -26,7 +28,7 @@ use Rattle.lv_script.specs.Texts.{answer_text, bad_text, fresh_text, receipt_tex
 
 -- ---- what a line says
 
--- the call that a command of scripts asks for, where a machine knows it
+-- the call that a command of scripts asks for, where the lock-free form knows it
 abbrev pub call_of : Command → Option Call
 call_of (Push x) = Some (call.Push x)
 call_of Pop = Some call.Pop
@@ -47,13 +49,19 @@ call_of (Watch name kind lo hi) = None
 call_of (Unwatch name) = None
 call_of (Answer name) = None
 
--- the call that some words ask for: `reduce lo hi`, `refresh number`, or as a script asks for it
+-- the call that some words ask for beside reductions: `refresh number`, or as a script asks for it
+unfoldable pub plain_call_in : List (List ℕ) → Option Call
+plain_call_in [] = None
+plain_call_in (verb ∷ words) =
+    if bytes_eq verb (codes "refresh") then option_map call.Refresh (lone_number words)
+    else command_in (verb ∷ words) >>= call_of
+
+-- the call that some words ask for: `reduce lo hi`, or another
 unfoldable pub call_in : List (List ℕ) → Option Call
 call_in [] = None
 call_in (verb ∷ words) =
     if bytes_eq verb (codes "reduce") then option_map (λ bounds. call.Reduce bounds.0 bounds.1) (bounds_in words)
-    else (if bytes_eq verb (codes "refresh") then option_map call.Refresh (lone_number words)
-    else command_in (verb ∷ words) >>= call_of)
+    else plain_call_in (verb ∷ words)
 
 -- the call of an actor that some words are: its number, and the words of the call
 unfoldable pub called_in : List (List ℕ) → Option Event
@@ -86,20 +94,30 @@ schedule_line_of bytes = if nat_lt 120 (length bytes) then Bad else schedule_lin
 
 -- ---- what an event is answered
 
--- what a call ends with, as a line; a refresh is one of a block
-abbrev pub said_text : ℕ → Said ℕ → List ℕ
-said_text block (said.Did receipt) = receipt_text receipt
-said_text block (said.Read read) = value_text read.value
-said_text block (said.Sized sized) = size_text sized.size sized.edit
-said_text block (said.Answered answer) = answer_text answer.edit kind.Sum (shown.Sum answer.value)
-said_text block (said.Refreshed refreshed) = fresh_text block refreshed.version
-said_text block (said.Refused refusal) = refused_text refusal
+-- what a call ends with, where a fold is shown
+abbrev pub said_shown : {S : Type 0} → (S → Shown) → Said S → Said Shown
+said_shown shown (said.Did receipt) = said.Did receipt
+said_shown shown (said.Read read) = said.Read read
+said_shown shown (said.Sized sized) = said.Sized sized
+said_shown shown (said.Answered answer) =
+    said.Answered record { edit = answer.edit; value = shown answer.value; cells_read = answer.cells_read; summaries_read = answer.summaries_read }
+said_shown shown (said.Refreshed refreshed) = said.Refreshed refreshed
+said_shown shown (said.Refused refusal) = said.Refused refusal
+
+-- what a call ends with, as a line; a fold is of a kind, and a refresh is one of a block
+abbrev pub said_text : Kind → ℕ → Said Shown → List ℕ
+said_text kind block (said.Did receipt) = receipt_text receipt
+said_text kind block (said.Read read) = value_text read.value
+said_text kind block (said.Sized sized) = size_text sized.size sized.edit
+said_text kind block (said.Answered answer) = answer_text answer.edit kind answer.value
+said_text kind block (said.Refreshed refreshed) = fresh_text block refreshed.version
+said_text kind block (said.Refused refusal) = refused_text refusal
 
 -- what an event of an actor comes to, as a line: its call has begun, goes on, or has ended; or the event is refused
 abbrev pub outcome_text : ℕ → ℕ → Outcome ℕ → List ℕ
 outcome_text actor block Started = reply_line (codes "started " ++ decimal actor)
 outcome_text actor block Going = reply_line (codes "step " ++ decimal actor)
-outcome_text actor block (Done answer) = codes "done " ++ decimal actor ++ codes " " ++ said_text block answer
+outcome_text actor block (Done answer) = codes "done " ++ decimal actor ++ codes " " ++ said_text kind.Sum block (said_shown shown.Sum answer)
 outcome_text actor block (Refused refusal) = refused_text refusal
 
 -- ---- what a line is answered, and what it changes

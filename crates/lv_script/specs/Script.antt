@@ -97,9 +97,13 @@ abbrev pub reduced_text : List Edit → Kind → ℕ → ℕ → Option Refusal 
 reduced_text edits kind lo hi (Some refusal) = refused_text refusal
 reduced_text edits kind lo hi None = answer_text (length edits) kind (plain_value kind (slice_of edits lo hi))
 
--- the values of a kind over the beginnings of a list, each with the element at its place, or without it
+-- what is shown of the beginnings of a list, each with the element at its place, or without it
+abbrev pub scan_by : (List ℤ → Shown) → Bool → List ℤ → List Shown
+scan_by shown inclusive xs = map (λ i. shown (take (if inclusive then i + 1 else i) xs)) (range_with_len 0 (length xs))
+
+-- the values of a kind over the beginnings of a list
 abbrev pub plain_scan : Bool → Kind → List ℤ → List Shown
-plain_scan inclusive kind xs = map (λ i. plain_value kind (take (if inclusive then i + 1 else i) xs)) (range_with_len 0 (length xs))
+plain_scan inclusive kind xs = scan_by (plain_value kind) inclusive xs
 
 -- the scan of a kind over a range, at the last edit, or the refusal
 abbrev pub scanned_range_text : List Edit → Bool → Kind → ℕ → ℕ → Option Refusal → List ℕ

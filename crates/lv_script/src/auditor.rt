@@ -1,4 +1,4 @@
-ghost use Rattle.std.specs.Prelude.{◌≡◌, ◌≢◌, ◌↔◌, ◌+◌, ◌≤◌, ◌++◌, ◌⊎◌, [], IfOk, OnOk, MatchResult, IsTrue, length, take, vec_len, vec_capacity};
+ghost use Rattle.std.specs.Prelude.{◌≡◌, ◌≢◌, ◌↔◌, ℕ, ◌+◌, ◌^◌, ◌≤◌, ◌++◌, ◌⊎◌, [], IfOk, MatchResult, IsTrue, length, take, vec_len, vec_capacity};
 ghost use Rattle.lv_edits.specs.History.{list_of};
 ghost use Rattle.lv_script.specs.Auditing.{AuditState, start_state, state_of, Audits, AuditStep, ClaimBecomes, EditBecomes, Becomes, FirstBecomes, IsAnswer, MayEnd, Takes, TakesEdit, TakesLater};
 ghost use Rattle.lv_script.specs.Transcript.{greatest, verdict_text, Audited};
@@ -6,13 +6,13 @@ ghost use Rattle.lv_script.specs.declared.replies.TheConstants.{LINE};
 
 use crate::conversation::converse;
 use crate::fault::Fault;
-use crate::plain_ranges::plain_value_of;
+use crate::plain_ranges::{Replay, plain_value_of};
 use crate::replies::{LINE, put_bad, put_shown};
 use crate::responder::Responder;
 use crate::sender::{put, put_number, send};
 use crate::transcript_lines::{Question, read_claim, read_edit};
 use lv_edits::{Edit, Edits};
-use lv_geometry::{Limits, Refusal};
+use lv_geometry::Limits;
 use std::alloc::{AllocError, Global};
 use std::io::{Read, Write};
 
@@ -93,20 +93,23 @@ enum Stage {
 struct Auditor {
     stage: Stage,
     lines: u32,
-    // All edits so far, and those up to the last claim.
+    // All edits so far, and the list after those up to the last claim.
     edits: Edits,
-    replay: Edits,
+    replay: Replay,
     // The text of the line that is read, or of its value.
     text: Vec<u8>,
     ghost limits: { edits.limits ≡ greatest },
-    ghost begins: { replay.journal ≡ take (length replay.journal) edits.journal },
+    ghost replayed: { replay.list.items ≡ list_of (take replay.edit edits.journal) },
+    ghost within: { replay.edit ≤ length edits.journal },
+    // No list on the way was longer than a fold may be.
+    ghost few: { (n : ℕ) → length (list_of (take n edits.journal)) ≤ 2 ^ 20 },
     ghost room: { LINE ≤ vec_capacity text },
 }
 
 impl Responder for Auditor {
     ghost State = { AuditState };
 
-    ghost state = { λ a. state_of a.stage a.edits a.replay };
+    ghost state = { λ a. state_of a.stage a.edits a.replay.edit };
 
     ghost step = { AuditStep };
 
@@ -125,13 +128,13 @@ impl Responder for Auditor {
 impl Auditor {
     // Before the first line.
     fn new(alloc: Global) -> Result<Auditor, AllocError>
-        ensures { IfOk result (λ a. state_of a.stage a.edits a.replay ≡ start_state) }
+        ensures { IfOk result (λ a. state_of a.stage a.edits a.replay.edit ≡ start_state) }
     {
         Ok(Auditor {
             stage: Stage::Start,
             lines: 0,
             edits: Edits::new(alloc, Limits::greatest()),
-            replay: Edits::new(alloc, Limits::greatest()),
+            replay: Replay::new(alloc),
             text: Vec::with_capacity(alloc, LINE)?,
         })
     }
@@ -155,7 +158,7 @@ impl Auditor {
 
     // Takes a line, or finds the first fault.
     fn take_line(&mut self, number: u32, line: &[u8])
-        ensures { Audits (state_of self.old.stage self.old.edits self.old.replay) line.now (state_of self.new.stage self.new.edits self.new.replay) }
+        ensures { Audits (state_of self.old.stage self.old.edits self.old.replay.edit) line.now (state_of self.new.stage self.new.edits self.new.replay.edit) }
     {
         self.lines = number;
         match self.stage {
@@ -168,7 +171,7 @@ impl Auditor {
 
     // The stage behind a line.
     fn next_stage(&mut self, number: u32, line: &[u8]) -> Stage
-        ensures { Becomes (Takes (state_of self.old.stage self.old.edits self.old.replay) line.now) (state_of result self.new.edits self.new.replay) }
+        ensures { Becomes (Takes (state_of self.old.stage self.old.edits self.old.replay.edit) line.now) (state_of result self.new.edits self.new.replay.edit) }
     {
         if line.len() > 120 {
             return Stage::Bad(number);
@@ -184,8 +187,8 @@ impl Auditor {
     // The stage behind a line that may be that of an edit.
     fn edit_or_later(&mut self, number: u32, line: &[u8]) -> Stage
         requires { self.old.stage ≡ Stage.Edits }
-        ensures { Becomes (λ new. TakesEdit (state_of self.old.stage self.old.edits self.old.replay) line.now new
-            ⊎ TakesLater (state_of self.old.stage self.old.edits self.old.replay) line.now new) (state_of result self.new.edits self.new.replay) }
+        ensures { Becomes (λ new. TakesEdit (state_of self.old.stage self.old.edits self.old.replay.edit) line.now new
+            ⊎ TakesLater (state_of self.old.stage self.old.edits self.old.replay.edit) line.now new) (state_of result self.new.edits self.new.replay.edit) }
     {
         match read_edit(line, &mut self.text) {
             Some(edit) => self.take_edit(number, edit),
@@ -210,7 +213,7 @@ impl Auditor {
     // The stage behind a line that is not that of an edit.
     fn claim_or_last(&mut self, number: u32, line: &[u8]) -> Stage
         requires { MayEnd self.old.stage }
-        ensures { Becomes (TakesLater (state_of self.old.stage self.old.edits self.old.replay) line.now) (state_of result self.new.edits self.new.replay) }
+        ensures { Becomes (TakesLater (state_of self.old.stage self.old.edits self.old.replay.edit) line.now) (state_of result self.new.edits self.new.replay.edit) }
     {
         if line == b"end".as_slice() {
             return Stage::End;
@@ -223,19 +226,23 @@ impl Auditor {
 
     // Answers a claim's question anew, and compares.
     fn take_claim(&mut self, number: u32, question: Question, value: &[u8]) -> Stage
-        ensures claim { ClaimBecomes self.old.edits.journal (length self.old.replay.journal) question value.now result (length self.new.replay.journal) }
+        ensures claim { ClaimBecomes self.old.edits.journal self.old.replay.edit question value.now result self.new.replay.edit }
         ensures edits { self.new.edits ≡ self.old.edits }
     {
-        if question.edit < self.replay.edit() {
+        if question.edit < self.replay.edit {
             return Stage::Bad(number);
         }
         if question.edit > self.edits.edit() {
             return Stage::No(number);
         }
-        if bring_up(&mut self.replay, self.edits.journal(), question.edit).is_err() {
+        if self
+            .replay
+            .bring_up(self.edits.journal(), question.edit)
+            .is_err()
+        {
             return Stage::NoMemory;
         }
-        if is_answer(&self.replay, question, value, &mut self.text) {
+        if is_answer(self.replay.list.as_slice(), question, value, &mut self.text) {
             return Stage::Claims;
         }
         Stage::No(number)
@@ -252,33 +259,18 @@ fn first_stage(number: u32, line: &[u8]) -> Stage
     Stage::Bad(number)
 }
 
-// Makes the edits of a journal up to one of them.
-fn bring_up(replay: &mut Edits, journal: &[Edit], edit: u32) -> Result<(), Refusal>
-    requires begins { replay.old.journal ≡ take (length replay.old.journal) journal.now }
-    requires before { length replay.old.journal ≤ edit }
-    requires within { edit ≤ length journal.now }
-    ensures begins { replay.new.journal ≡ take (length replay.new.journal) journal.now }
-    ensures reached { OnOk result (length replay.new.journal ≡ edit) }
-{
-    for i in replay.edit()..edit {
-        replay.apply(journal[i as usize])?;
-    }
-    Ok(())
-}
-
 // Whether a range lies in the list, and its value is this text.
-fn is_answer(replay: &Edits, question: Question, value: &[u8], text: &mut Vec<u8>) -> bool
-    requires { LINE ≤ vec_capacity text.old }
-    ensures answer { IsTrue result ↔ IsAnswer (list_of replay.now.journal) question value.now }
+fn is_answer(list: &[i64], question: Question, value: &[u8], text: &mut Vec<u8>) -> bool
+    requires few { length list.now ≤ 2 ^ 20 }
+    requires room { LINE ≤ vec_capacity text.old }
+    ensures answer { IsTrue result ↔ IsAnswer list.now question value.now }
     ensures room { LINE ≤ vec_capacity text.new }
 {
-    if question.lo > question.hi || question.hi > replay.size() {
+    let (lo, hi) = (question.lo as usize, question.hi as usize);
+    if lo > hi || hi > list.len() {
         return false;
     }
     text.clear();
-    put_shown(
-        text,
-        plain_value_of(replay, question.kind, question.lo, question.hi),
-    );
+    put_shown(text, plain_value_of(question.kind, &list[lo..hi]));
     text.as_slice() == value
 }

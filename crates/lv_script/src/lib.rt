@@ -14,6 +14,7 @@
 
 mod answers;
 mod auditor;
+mod board_lines;
 mod command;
 mod conversation;
 pub mod devices;
@@ -22,6 +23,7 @@ mod grammar;
 mod laws;
 mod lines;
 mod numbers;
+mod plain_calls;
 mod plain_ranges;
 mod printing;
 mod progress;
@@ -41,6 +43,7 @@ mod watch_replies;
 mod words;
 
 pub use auditor::{Verdict, audit};
+pub use board_lines::{BoardLine, read_board_line};
 pub use command::{Command, Line};
 pub use conversation::converse;
 pub use fault::Fault;
@@ -53,6 +56,7 @@ pub use printing::print_command;
 pub use replies::{LINE, put_answer, put_bad, put_receipt, put_refusal};
 pub use responder::Responder;
 pub use scan_replies::put_scan;
+pub use schedule_replies::{put_said, said_shown};
 pub use schedules::run_schedule;
 pub use scripts::run_script;
 pub use sender::{HELD, make_room, put, put_element, put_number, put_wide, send};

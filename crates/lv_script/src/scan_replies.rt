@@ -33,8 +33,8 @@ pub fn put_scan<W: Write>(
     put_values(writer, held, kind, values)
 }
 
-// How many values a scan has, on a line for which it makes room.
-fn put_head<W: Write>(
+/// How many values a scan has, on a line for which it makes room.
+pub fn put_head<W: Write>(
     writer: &mut W,
     held: &mut Vec<u8>,
     edit: u32,
@@ -103,8 +103,8 @@ pub fn put_values<W: Write>(
     Ok(())
 }
 
-// One value of a scan.
-fn put_scanned<W: Write>(writer: &mut W, held: &mut Vec<u8>, value: Shown) -> Result<(), Fault>
+/// One value of a scan, on a line for which it makes room.
+pub fn put_scanned<W: Write>(writer: &mut W, held: &mut Vec<u8>, value: Shown) -> Result<(), Fault>
     requires { LINE ≤ vec_capacity held.old }
     ensures ok { OnOk result (Writes (W.contents writer.old) held.old.items (W.contents writer.new) held.new.items (scanned_text value)) }
     ensures fault { IfErr result (λ fault. (fault ≡ Fault.WriteFault)

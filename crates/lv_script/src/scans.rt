@@ -1,23 +1,29 @@
-ghost use Rattle.std.specs.Prelude.{◌≡◌, ◌+◌, ◌≤◌, List, ℕ, OnOk, IfErr, vec_len, vec_capacity};
+ghost use Rattle.std.specs.Prelude.{◌≡◌, ◌+◌, ◌<◌, ◌≤◌, List, ℕ, ℤ, length, IfNone, OnOk, IfErr, vec_len, vec_capacity};
+ghost use Rattle.std.specs.List.{slice_index_or};
+ghost use Rattle.lv_edits.specs.History.{list_of};
 ghost use Rattle.lv_edits.specs.Kept.{InLimits};
 ghost use Rattle.lv_refresh.specs.Carried.{Carried};
+ghost use Rattle.lv_bodies.specs.Body.{CanFold, fold_of};
 ghost use Rattle.lv_bodies.specs.Six.{SixSummary};
 ghost use Rattle.lv_bodies.specs.declared.sixes.Six.{Six};
+ghost use Rattle.lv_reduce.specs.Answer.{range_refusal, slice_of};
 ghost use Rattle.lv_script.specs.Output.{Writes, WritesFront};
 ghost use Rattle.lv_live.specs.State.{recorded};
-ghost use Rattle.lv_live.specs.Step.{Reduces, Scans};
-ghost use Rattle.lv_script.specs.Script.{TellsScan, program_operations};
+ghost use Rattle.lv_live.specs.Step.{Reduces};
+ghost use Rattle.lv_script.specs.Script.{TellsScan, plain_scan, program_operations, scan_by};
 ghost use Rattle.lv_script.specs.Scripted.{state_of};
+ghost use Rattle.lv_script.specs.Texts.{scan_text, values_text};
 
 use crate::fault::Fault;
 use crate::replies::{LINE, put_refusal};
-use crate::scan_replies::put_scan;
-use lv_bodies::{Body, Kind, Six};
+use crate::scan_replies::{put_head, put_scanned};
+use lv_bodies::{
+    Affine, Automaton, Best, Body, Greatest, Kind, Least, Shown, Single, Six, Sum, fold_more,
+};
 use lv_geometry::Refusal;
 use lv_live::Live;
-use lv_reduce::{Answer, Scan};
+use lv_reduce::Answer;
 use lv_standing::Standing;
-use std::alloc::Global;
 use std::io::Write;
 
 /// A scan that was asked for.
@@ -29,9 +35,8 @@ pub struct Asked {
     pub hi: u32,
 }
 
-/// Answers a scan. Its reply may be longer than what is held.
+/// Answers a scan. Its reply may be longer than what is held: each value is put as it is computed, so no memory is taken.
 pub fn answer_scan<W: Write>(
-    alloc: Global,
     standing: &Standing,
     writer: &mut W,
     held: &mut Vec<u8>,
@@ -45,43 +50,138 @@ pub fn answer_scan<W: Write>(
         × WritesFront (W.contents writer.old) held.old.items (W.contents writer.new) reply) }
     ensures room { vec_capacity held.old ≤ vec_capacity held.new }
 {
-    match scan(alloc, standing, asked) {
-        Ok(scan) => put_scan(
-            writer,
-            held,
-            scan.edit,
-            asked.inclusive,
-            asked.kind,
-            scan.values.as_slice(),
-        ),
-        Err(refusal) => {
+    let live = standing.live();
+    match refusal_of(live, asked.lo, asked.hi) {
+        None => put_range_scan(writer, held, live, asked),
+        Some(refusal) => {
             put_refusal(held, refusal);
             Ok(())
         }
     }
 }
 
-// The scan that was asked for.
-fn scan(
-    alloc: Global,
-    standing: &Standing,
-    asked: &Asked,
-) -> Result<Scan<<Six as Body>::S>, Refusal>
-    ensures scan { Scans program_operations (recorded standing.now.live) asked.now.lo asked.now.hi asked.now.inclusive result }
-    ensures limits { InLimits standing.now.live.history }
+// Why a range is refused, or nothing.
+fn refusal_of(live: &Live<Six>, lo: u32, hi: u32) -> Option<Refusal>
+    ensures value { result ≡ range_refusal live.now.history.journal lo hi }
+    ensures order { IfNone result (lo ≤ hi) }
+    ensures inside { IfNone result (hi ≤ length (list_of live.now.history.journal)) }
 {
-    scan_of(alloc, standing.live(), asked)
+    let size = live.size();
+    if hi < lo {
+        Some(Refusal::BadRange)
+    } else if size < hi {
+        Some(Refusal::OutOfRange { size })
+    } else {
+        None
+    }
 }
 
-// The scan of a vector with any body.
-fn scan_of<B: Body>(alloc: Global, live: &Live<B>, asked: &Asked) -> Result<Scan<B::S>, Refusal>
-    ensures { Scans (B.operations (B.meaning live.now.body)) (recorded live.now) asked.now.lo asked.now.hi asked.now.inclusive result }
+// The scan of a range that lies in the vector.
+fn put_range_scan<W: Write>(
+    writer: &mut W,
+    held: &mut Vec<u8>,
+    live: &Live<Six>,
+    asked: &Asked,
+) -> Result<(), Fault>
+    requires room { LINE ≤ vec_capacity held.old }
+    requires order { asked.now.lo ≤ asked.now.hi }
+    requires inside { asked.now.hi ≤ length (list_of live.now.history.journal) }
+    requires limits { InLimits live.now.history }
+    ensures ok { OnOk result (Writes (W.contents writer.old) held.old.items (W.contents writer.new) held.new.items
+        (scan_text (length live.now.history.journal) asked.now.inclusive asked.now.kind
+        (plain_scan asked.now.inclusive asked.now.kind (slice_of live.now.history.journal asked.now.lo asked.now.hi)))) }
+    ensures fault { IfErr result (λ fault. (fault ≡ Fault.WriteFault)
+        × WritesFront (W.contents writer.old) held.old.items (W.contents writer.new)
+        (scan_text (length live.now.history.journal) asked.now.inclusive asked.now.kind
+        (plain_scan asked.now.inclusive asked.now.kind (slice_of live.now.history.journal asked.now.lo asked.now.hi)))) }
+    ensures room { vec_capacity held.old ≤ vec_capacity held.new }
 {
-    if asked.inclusive {
-        live.scan_inclusive(alloc, asked.lo, asked.hi)
-    } else {
-        live.scan_exclusive(alloc, asked.lo, asked.hi)
+    let count = u64::from(asked.hi - asked.lo);
+    put_head(
+        writer,
+        held,
+        live.edit(),
+        asked.inclusive,
+        asked.kind,
+        count,
+    )?;
+    put_plain_values(writer, held, live, asked)
+}
+
+// Its values, by the body of its kind alone.
+fn put_plain_values<W: Write>(
+    writer: &mut W,
+    held: &mut Vec<u8>,
+    live: &Live<Six>,
+    asked: &Asked,
+) -> Result<(), Fault>
+    requires room { LINE ≤ vec_capacity held.old }
+    requires order { asked.now.lo ≤ asked.now.hi }
+    requires inside { asked.now.hi ≤ length (list_of live.now.history.journal) }
+    requires limits { InLimits live.now.history }
+    ensures ok { OnOk result (Writes (W.contents writer.old) held.old.items (W.contents writer.new) held.new.items
+        (values_text (plain_scan asked.now.inclusive asked.now.kind (slice_of live.now.history.journal asked.now.lo asked.now.hi)))) }
+    ensures fault { IfErr result (λ fault. (fault ≡ Fault.WriteFault)
+        × WritesFront (W.contents writer.old) held.old.items (W.contents writer.new)
+        (values_text (plain_scan asked.now.inclusive asked.now.kind (slice_of live.now.history.journal asked.now.lo asked.now.hi)))) }
+    ensures room { vec_capacity held.old ≤ vec_capacity held.new }
+{
+    match asked.kind {
+        Kind::Sum => put_running_values(writer, held, live, &Sum, asked),
+        Kind::Least => put_running_values(writer, held, live, &Least, asked),
+        Kind::Greatest => put_running_values(writer, held, live, &Greatest, asked),
+        Kind::Best => put_running_values(writer, held, live, &Best, asked),
+        Kind::Affine => put_running_values(writer, held, live, &Affine, asked),
+        Kind::Automaton => put_running_values(writer, held, live, &Automaton::program(), asked),
     }
+}
+
+// What a body shows of the running fold at each element of a range, each on a line of its own.
+fn put_running_values<B: Single, W: Write>(
+    writer: &mut W,
+    held: &mut Vec<u8>,
+    live: &Live<Six>,
+    body: &B,
+    asked: &Asked,
+) -> Result<(), Fault>
+    requires room { LINE ≤ vec_capacity held.old }
+    requires order { asked.now.lo ≤ asked.now.hi }
+    requires inside { asked.now.hi ≤ length (list_of live.now.history.journal) }
+    requires limits { InLimits live.now.history }
+    ensures ok { OnOk result (Writes (W.contents writer.old) held.old.items (W.contents writer.new) held.new.items
+        (values_text (scan_by (B.plain body.now) asked.now.inclusive (slice_of live.now.history.journal asked.now.lo asked.now.hi)))) }
+    ensures fault { IfErr result (λ fault. (fault ≡ Fault.WriteFault)
+        × WritesFront (W.contents writer.old) held.old.items (W.contents writer.new)
+        (values_text (scan_by (B.plain body.now) asked.now.inclusive (slice_of live.now.history.journal asked.now.lo asked.now.hi)))) }
+    ensures room { vec_capacity held.old ≤ vec_capacity held.new }
+{
+    let mut sum = body.identity();
+    for i in asked.lo..asked.hi {
+        let before = sum;
+        sum = fold_more(body, before, element_at(live, i));
+        let value = if asked.inclusive { sum } else { before };
+        put_scanned(writer, held, show_fold(body, value))?;
+    }
+    Ok(())
+}
+
+// Shows a summary: of a fold it is the plain value.
+#[inline(always)]
+fn show_fold<B: Single>(body: &B, s: B::S) -> Shown
+    ensures { (xs : List ℤ) → CanFold xs → s ≡ fold_of (B.operations (B.meaning body.now)) xs → result ≡ B.plain body.now xs }
+{
+    body.shown(s)
+}
+
+// The element at an index that is below the size.
+fn element_at(live: &Live<Six>, i: u32) -> i64
+    requires { i < length (list_of live.now.history.journal) }
+    ensures { result ≡ slice_index_or (list_of live.now.history.journal) i result }
+{
+    let Ok(x) = live.get(i) else {
+        unreachable!();
+    };
+    x
 }
 
 /// A reduction of all six bodies.

@@ -1,11 +1,11 @@
 ghost use Rattle.std.specs.Prelude.{◌≡◌, ◌∷◌};
 ghost use Rattle.lv_script.specs.Words.{words_of};
-ghost use Rattle.lv_script.specs.Schedule.{call_of, call_in, called_in, event_in, schedule_line_of};
+ghost use Rattle.lv_script.specs.Schedule.{call_in, called_in, event_in, schedule_line_of};
 
-use crate::command::Command;
-use crate::grammar::{bounds, command, lone_number, spells};
+use crate::grammar::{bounds, lone_number, spells};
 use crate::lines::{is_comment, without_cr};
 use crate::numbers::number;
+use crate::plain_calls::plain_call;
 use crate::words::next_word;
 use lv_machine::{Call, Event};
 
@@ -74,34 +74,5 @@ fn call(words: &[u8]) -> Option<Call>
     if spells(verb, "reduce") {
         return bounds(rest).map(|(lo, hi)| Call::Reduce { lo, hi });
     }
-    if spells(verb, "refresh") {
-        return lone_number(rest).map(Call::Refresh);
-    }
-    call_of(command(verb, rest)?)
-}
-
-// The call that a command of scripts asks for, where a machine knows it.
-fn call_of(command: Command) -> Option<Call>
-    ensures { result ≡ call_of command }
-{
-    match command {
-        Command::Push(x) => Some(Call::Push(x)),
-        Command::Pop => Some(Call::Pop),
-        Command::Write { index, value } => Some(Call::Write { index, value }),
-        Command::Get(index) => Some(Call::Get(index)),
-        Command::Size => Some(Call::Size),
-        Command::Reserve(_)
-        | Command::Settle
-        | Command::Capacity
-        | Command::Reduce { .. }
-        | Command::Cost { .. }
-        | Command::Inclusive { .. }
-        | Command::Exclusive { .. }
-        | Command::Claim
-        | Command::Deliver(_)
-        | Command::Forget
-        | Command::Watch { .. }
-        | Command::Unwatch(_)
-        | Command::Answer(_) => None,
-    }
+    plain_call(verb, rest)
 }

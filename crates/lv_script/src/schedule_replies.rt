@@ -1,11 +1,12 @@
 ghost use Rattle.std.specs.Prelude.{◌≡◌, ◌+◌, ◌*◌, ◌≤◌, ◌++◌, vec_len, vec_capacity};
-ghost use Rattle.lv_script.specs.Schedule.{outcome_text, said_text};
+ghost use Rattle.lv_script.specs.Schedule.{outcome_text, said_shown, said_text};
 
 use crate::refresh_replies::put_fresh;
 use crate::replies::{LINE, put_answer, put_receipt, put_refusal, put_size, put_value};
 use crate::sender::{put, put_number};
-use lv_bodies::{Kind, Shown};
+use lv_bodies::{Kind, Shown, Single, Sum};
 use lv_machine::{Outcome, Said};
+use lv_reduce::Answer;
 
 /// At most how many bytes the reply to an event has: a line, behind the words that tell whose call has ended.
 pub const EVENT: usize = 2 * LINE;
@@ -31,28 +32,42 @@ pub fn put_outcome(held: &mut Vec<u8>, actor: u32, block: u32, outcome: Outcome<
             put(held, b"done ");
             put_number(held, actor.into());
             put(held, b" ");
-            put_said(held, block, said);
+            put_said(held, Kind::Sum, block, said_shown(&Sum, said));
         }
         Outcome::Refused(refusal) => put_refusal(held, refusal),
     }
 }
 
-// What a call ends with. A refresh is one of the block.
-fn put_said(held: &mut Vec<u8>, block: u32, said: Said<u64>)
+/// What a call ends with, where a fold is shown as its body shows it.
+pub fn said_shown<B: Single>(body: &B, said: Said<B::S>) -> Said<Shown>
+    ensures { result ≡ said_shown (B.shown_as body.now) said }
+{
+    match said {
+        Said::Did(receipt) => Said::Did(receipt),
+        Said::Read(read) => Said::Read(read),
+        Said::Sized(sized) => Said::Sized(sized),
+        Said::Answered(answer) => Said::Answered(Answer {
+            edit: answer.edit,
+            value: body.shown(answer.value),
+            cells_read: answer.cells_read,
+            summaries_read: answer.summaries_read,
+        }),
+        Said::Refreshed(refreshed) => Said::Refreshed(refreshed),
+        Said::Refused(refusal) => Said::Refused(refusal),
+    }
+}
+
+/// What a call ends with: a fold is one of the kind, and a refresh one of the block.
+pub fn put_said(held: &mut Vec<u8>, kind: Kind, block: u32, said: Said<Shown>)
     requires { vec_len held.old + LINE ≤ vec_capacity held.old }
-    ensures text { held.new.items ≡ held.old.items ++ said_text block said }
+    ensures text { held.new.items ≡ held.old.items ++ said_text kind block said }
     ensures room { vec_capacity held.old ≤ vec_capacity held.new }
 {
     match said {
         Said::Did(receipt) => put_receipt(held, receipt),
         Said::Read(read) => put_value(held, Ok(read.value)),
         Said::Sized(sized) => put_size(held, sized.size, sized.edit),
-        Said::Answered(answer) => put_answer(
-            held,
-            answer.edit,
-            Kind::Sum,
-            Shown::Sum(answer.value),
-        ),
+        Said::Answered(answer) => put_answer(held, answer.edit, kind, answer.value),
         Said::Refreshed(refreshed) => put_fresh(held, block, refreshed.version),
         Said::Refused(refusal) => put_refusal(held, refusal),
     }

@@ -139,7 +139,7 @@ fn answer_command<W: Write>(
     ensures room { vec_capacity held.old ≤ vec_capacity held.new }
 {
     match task_of(command) {
-        Task::Scan(asked) => answer_scan(alloc, standing, writer, held, &asked),
+        Task::Scan(asked) => answer_scan(standing, writer, held, &asked),
         Task::Other(command) => {
             answer(alloc, standing, jobs, command, held);
             Ok(())

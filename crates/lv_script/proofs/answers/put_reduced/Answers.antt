@@ -1,4 +1,4 @@
-use Rattle.std.proofs.Common.{◌++◌, ◌∙◌, ap, sym}
+use Rattle.std.proofs.Common.{◌++◌, ◌∙◌, ap}
 use Rattle.lv_edits.specs.Kept.{InLimits}
 use Rattle.lv_reduce.specs.Answer.{slice_of}
 use Rattle.lv_script.proofs.EventLaws.{can_fold_slice, reduced_ok}

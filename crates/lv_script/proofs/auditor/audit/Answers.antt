@@ -11,7 +11,7 @@ returns-in_err-converse g c =
     let old = c.in-Ok.auditor in
     let new = c.converse.new.responder in
     rw (p.1, p.2)
-    (Audited-stopped (state_of old.stage old.edits old.replay) (state_of new.stage new.edits new.replay) _ (Unit {0}) _ c.in_err-converse.ensures)
+    (Audited-stopped (state_of old.stage old.edits old.replay.edit) (state_of new.stage new.edits new.replay.edit) _ (Unit {0}) _ c.in_err-converse.ensures)
 
 pub returns-in_err-verdict : goal.returns-in_err-verdict
 returns-in_err-verdict g c =
@@ -19,7 +19,7 @@ returns-in_err-verdict g c =
     let old = c.in-Ok.auditor in
     let new = c.converse.new.responder in
     rw (p.1, p.2, c.in_err-verdict.ensures)
-    (Audited-starved (state_of old.stage old.edits old.replay) (state_of new.stage new.edits new.replay) _ _ c.in_ok-converse.ensures)
+    (Audited-starved (state_of old.stage old.edits old.replay.edit) (state_of new.stage new.edits new.replay.edit) _ _ c.in_ok-converse.ensures)
 
 pub returns-in_err-send : goal.returns-in_err-send
 returns-in_err-send g c =
@@ -30,7 +30,7 @@ returns-in_err-send g c =
     let put = c.put_verdict.ensures ∙ ap (λ (xs : List ℕ). xs ++ verdict_text verdict) c.in-Ok-with_capacity.ensures.items in
     let fails = c.in_err-send.ensures.fault in
     rw (p.1, p.2, fails.0)
-    (Audited-unsent (state_of old.stage old.edits old.replay) (state_of new.stage new.edits new.replay) _ _ verdict _ _ c.in-Ok.ensures c.in_ok-converse.ensures c.in_ok-verdict.ensures put fails.1)
+    (Audited-unsent (state_of old.stage old.edits old.replay.edit) (state_of new.stage new.edits new.replay.edit) _ _ verdict _ _ c.in-Ok.ensures c.in_ok-converse.ensures c.in_ok-verdict.ensures put fails.1)
 
 pub returns : goal.returns
 returns g c =
@@ -38,4 +38,4 @@ returns g c =
     let new = c.converse.new.responder in
     let verdict = c.in_ok-verdict.verdict in
     let put = c.put_verdict.ensures ∙ ap (λ (xs : List ℕ). xs ++ verdict_text verdict) c.in-Ok-with_capacity.ensures.items in
-    Audited-sent (state_of old.stage old.edits old.replay) (state_of new.stage new.edits new.replay) _ _ verdict _ _ c.in-Ok.ensures c.in_ok-converse.ensures c.in_ok-verdict.ensures put c.in_ok-send.ensures.ok.1
+    Audited-sent (state_of old.stage old.edits old.replay.edit) (state_of new.stage new.edits new.replay.edit) _ _ verdict _ _ c.in-Ok.ensures c.in_ok-converse.ensures c.in_ok-verdict.ensures put c.in_ok-send.ensures.ok.1

@@ -1,0 +1,20 @@
+use Rattle.std.proofs.Common.{◌≡◌, ◌-◌, ◌≤◌, length, vec_capacity}
+use Rattle.lv_bodies.specs.Body.{fold_of}
+use Rattle.lv_reduce.specs.Answer.{slice_of}
+use Rattle.lv_script.specs.Output.{Writes}
+use Rattle.lv_script.proofs.ScanLemmas.{value_at, values_up_to}
+use Rattle.lv_script.proofs.scans.put_running_values.Given as goal
+
+-- the fold of what was read so far, whose values are written
+abbrev pub invariant-loop-i : goal.invariant-loop-i
+invariant-loop-i g l =
+    let meaning = g.B.Body.meaning l.body in
+    let edits = l.live.history.journal in
+    let xs = slice_of edits l.asked.lo l.asked.hi in
+    record {
+      fold : l.sum ≡ fold_of (g.B.Body.operations meaning) (slice_of edits l.asked.lo l.i);
+      within : g.B.Body.is_within meaning l.sum (l.i - l.asked.lo);
+      written : Writes (g.W.Write.contents l.fn.writer) l.initial.held.items (g.W.Write.contents l.writer) l.held.items
+          (values_up_to (value_at (g.B.Single.plain l.body) l.asked.inclusive xs) (length xs) (l.i - l.asked.lo));
+      room : vec_capacity l.initial.held ≤ vec_capacity l.held;
+    }

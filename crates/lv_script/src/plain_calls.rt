@@ -1,0 +1,45 @@
+//! The calls of the lock-free form that schedules and sessions spell alike.
+ghost use Rattle.std.specs.Prelude.{◌≡◌, ◌∷◌};
+ghost use Rattle.lv_script.specs.Words.{words_of};
+ghost use Rattle.lv_script.specs.Schedule.{call_of, plain_call_in};
+
+use crate::command::Command;
+use crate::grammar::{command, lone_number, spells};
+use lv_machine::Call;
+
+/// The call that a first word and the words after it ask for beside reductions.
+#[tactic(auto, unfolding(crate::specs::Schedule::plain_call_in))]
+pub(crate) fn plain_call(verb: &[u8], words: &[u8]) -> Option<Call>
+    ensures { result ≡ plain_call_in (verb.now ∷ words_of words.now) }
+{
+    if spells(verb, "refresh") {
+        return lone_number(words).map(Call::Refresh);
+    }
+    call_of(command(verb, words)?)
+}
+
+// The call that a command of scripts asks for, where the lock-free form knows it.
+fn call_of(command: Command) -> Option<Call>
+    ensures { result ≡ call_of command }
+{
+    match command {
+        Command::Push(x) => Some(Call::Push(x)),
+        Command::Pop => Some(Call::Pop),
+        Command::Write { index, value } => Some(Call::Write { index, value }),
+        Command::Get(index) => Some(Call::Get(index)),
+        Command::Size => Some(Call::Size),
+        Command::Reserve(_)
+        | Command::Settle
+        | Command::Capacity
+        | Command::Reduce { .. }
+        | Command::Cost { .. }
+        | Command::Inclusive { .. }
+        | Command::Exclusive { .. }
+        | Command::Claim
+        | Command::Deliver(_)
+        | Command::Forget
+        | Command::Watch { .. }
+        | Command::Unwatch(_)
+        | Command::Answer(_) => None,
+    }
+}
