@@ -1,10 +1,13 @@
 -- What a share of a hub holds, and how a call changes it.
-use Rattle.std.specs.Prelude.{◌≡◌, ℕ, ◌+◌, Result, Ok, Err}
+use Rattle.std.specs.Prelude.{◌≡◌, ◌⊎◌, ℕ, ◌+◌, Result, Ok, Err, List}
+use mathlib.Core.List.{IsPrefix}
+use Rattle.lv_edits.specs.declared.edit.Edit.{Edit}
 
--- how many of the hub's parts a share has, and how many accepted edits it counts
+-- how many of the hub's parts a share has, how many accepted edits it counts, and the beginning of the hub's edits that it has seen
 pub record Holding : Type 0 where
   pub parts : ℕ
   pub count : ℕ
+  pub seen : List Edit
 
 -- a share that counts one edit more
 abbrev pub one_more : Holding → Holding
@@ -15,6 +18,14 @@ abbrev pub Counts : {A E : Type 0} → Holding → Result A E → Holding → Ty
 Counts old (Ok receipt) new = new ≡ one_more old
 Counts old (Err refusal) new = new ≡ old
 
--- two shares together
-abbrev pub together : Holding → Holding → Holding
-together a b = record { parts = a.parts + b.parts; count = a.count + b.count }
+-- a share that has seen these edits
+abbrev pub having_seen : Holding → List Edit → Holding
+having_seen h edits = record h { seen = edits }
+
+-- two shares are one: it has the parts and the counts of both, and has seen what both had
+pub record AreTogether (a b both : Holding) : Type 0 where
+  pub parts : both.parts ≡ a.parts + b.parts
+  pub count : both.count ≡ a.count + b.count
+  pub first : IsPrefix a.seen both.seen
+  pub second : IsPrefix b.seen both.seen
+  pub one : (both.seen ≡ a.seen) ⊎ (both.seen ≡ b.seen)

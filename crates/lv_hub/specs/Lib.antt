@@ -1,4 +1,5 @@
 pub mod Counting
+pub mod Growing
 pub mod Session
 pub mod Told
 pub mod Work

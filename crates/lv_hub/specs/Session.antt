@@ -25,14 +25,16 @@ use Rattle.lv_hub.specs.declared.requests.Request.TheVariants as request
 use Rattle.lv_hub.specs.Counting.{Holding}
 use Rattle.lv_hub.specs.Told.{EditTold, ReductionTold, ScanTold}
 
--- how many edits the session's share counts, and the reductions that were answered, in order
+-- how many edits the session's share counts, the beginning of the hub's edits that it has seen, and the reductions that were
+-- answered, in order
 pub record SessionState : Type 0 where
   pub count : ℕ
+  pub seen : List Edit
   pub claims : List Claimed
 
 -- the state of a session with this share, where these reductions were answered
 abbrev pub session_at : Holding → List Claimed → SessionState
-session_at share claims = record { count = share.count; claims = claims }
+session_at share claims = record { count = share.count; seen = share.seen; claims = claims }
 
 -- what a body of all six computes
 abbrev pub operations_of_six : Six → Operations SixSummary
@@ -58,6 +60,10 @@ requested command.Forget = request.Unknown
 requested (command.Watch name kind lo hi) = request.Unknown
 requested (command.Unwatch name) = request.Unknown
 requested (command.Answer name) = request.Unknown
+
+-- the state once the hub's edits were seen up to these
+abbrev pub up_to : SessionState → List Edit → SessionState
+up_to s edits = record s { seen = edits }
 
 -- the state after an edit: it is counted where it was accepted
 abbrev pub after_edit : SessionState → Result Receipt Refusal → SessionState
@@ -88,26 +94,26 @@ abbrev pub scan_reply_text : Bool → Kind → Result (Scan SixSummary) Refusal 
 scan_reply_text inclusive kind (Ok scan) = scan_text scan.edit inclusive kind (map (face_of kind) scan.values)
 scan_reply_text inclusive kind (Err refusal) = refused_text refusal
 
-module _ (limits : Bounds) where
+module _ (o : Operations SixSummary) (limits : Bounds) where
   -- an edit is answered by its receipt or its refusal
   pub record TellsEdit (old : SessionState) (e : Edit) (text : List ℕ) (new : SessionState) : Type 0 where
     pub result : Result Receipt Refusal
-    pub told : EditTold limits e result
+    pub told : EditTold limits old.seen new.seen e result
     pub text_is : text ≡ edit_text result
-    pub state : new ≡ after_edit old result
+    pub state : new ≡ after_edit (up_to old new.seen) result
 
   -- a reduction is answered by its value, and listed; or by its refusal
   pub record TellsReduction (old : SessionState) (kind : Kind) (lo hi : ℕ) (text : List ℕ) (new : SessionState) : Type 0 where
     pub result : Result (Answer SixSummary) Refusal
-    pub told : ReductionTold operations_of_six limits lo hi result
-    pub lists : Lists old kind lo hi result text new
+    pub told : ReductionTold o limits old.seen new.seen lo hi result
+    pub lists : Lists (up_to old new.seen) kind lo hi result text new
 
-  -- a scan is answered by its values or its refusal, and changes nothing
+  -- a scan is answered by its values or its refusal, and changes nothing else
   pub record TellsScan (old : SessionState) (inclusive : Bool) (kind : Kind) (lo hi : ℕ) (text : List ℕ) (new : SessionState) : Type 0 where
     pub result : Result (Scan SixSummary) Refusal
-    pub told : ScanTold operations_of_six limits lo hi inclusive result
+    pub told : ScanTold o limits old.seen new.seen lo hi inclusive result
     pub text_is : text ≡ scan_reply_text inclusive kind result
-    pub state : new ≡ old
+    pub state : new ≡ up_to old new.seen
 
   -- what a request is answered; a line that asks for anything else is bad, by its number
   abbrev pub RequestAnswer : SessionState → ℕ → Request → List ℕ → SessionState → Type 0

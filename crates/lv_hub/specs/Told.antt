@@ -1,5 +1,6 @@
--- What a hub tells: each answer is that of a vector within the hub's limits, at some moment.
-use Rattle.std.specs.Prelude.{◌≡◌, Bool, ℕ, Option, Some, IfSome, option_map, Result, Ok, Err, IfOk, IfErr}
+-- What a hub tells: each answer is that of one vector, by the hub's body and within its limits, after a beginning of its edits.
+use Rattle.std.specs.Prelude.{◌≡◌, Bool, ℕ, Option, Some, IfSome, option_map, Result, Ok, Err, IfOk, IfErr, List}
+use mathlib.Core.List.{IsPrefix}
 use Rattle.lv_geometry.specs.Bounds.{Bounds}
 use Rattle.lv_geometry.specs.declared.refusals.Refusal.{Refusal}
 use Rattle.lv_geometry.specs.declared.refusals.Refusal.TheVariants.{Stranger}
@@ -17,59 +18,68 @@ use Rattle.lv_refresh.specs.Honesty.{IsHonest, Vouched}
 use Rattle.lv_refresh.specs.Record.{Record}
 use Rattle.lv_reduce.specs.declared.reductions.Answer.{Answer}
 use Rattle.lv_reduce.specs.declared.scans.Scan.{Scan}
-use Rattle.lv_reduce.specs.Answer.{IsAnswer, IsScanRefusal, range_refusal}
+use Rattle.lv_reduce.specs.Answer.{IsAnswer, IsScan, IsScanRefusal, range_refusal, scan_of, slice_of}
 use Rattle.lv_reduce.specs.Stretch.{IsStretch, StretchState}
 use Rattle.lv_live.specs.State.{HasClaim, LiveState, node_and_version, recorded}
-use Rattle.lv_live.specs.Step.{Reduces, Scans}
+use Rattle.lv_live.specs.Step.{Reduces}
 
 -- a vector whose edits are legal, within these limits
 pub record IsVector (limits : Bounds) (h : History) : Type 0 where
   pub limits_are : h.limits ≡ limits
   pub within : InLimits h
 
--- an edit was answered as after some legal edits
-pub record EditTold (limits : Bounds) (edit : Edit) (result : Result Receipt Refusal) : Type 0 where
-  pub before : History
-  pub after : History
-  pub vector : IsVector limits before
-  pub answers : Answers before edit result after
+-- the history of a vector of these limits that has accepted these edits
+abbrev pub history_of : Bounds → List Edit → History
+history_of limits edits = record { limits = limits; journal = edits }
 
--- a reduction was answered as after some legal edits, by a body of this type
-pub record ReductionTold {B S : Type 0} (operations : B → Operations S) (limits : Bounds) (lo hi : ℕ) (result : Result (Answer S) Refusal) : Type 0 where
-  pub state : LiveState B S
-  pub vector : IsVector limits state.history
-  pub reduces : Reduces (operations state.body) (recorded state) lo hi result
+-- of a hub whose edits were seen up to old: it came to some edits, and there answered one edit more, after which it had new
+pub record EditTold (limits : Bounds) (old new : List Edit) (edit : Edit) (result : Result Receipt Refusal) : Type 0 where
+  pub before : List Edit
+  pub seen : IsPrefix old before
+  pub within : InLimits (history_of limits before)
+  pub answers : Answers (history_of limits before) edit result (history_of limits new)
 
--- a vector was asked for a range after some legal edits, with a body of this type, and answered the fold of it at the last edit
-pub record AskTold {B S : Type 0} (operations : B → Operations S) (limits : Bounds) (lo hi : ℕ) (result : Result (Answer S) Refusal) : Type 0 where
-  pub state : LiveState B S
-  pub vector : IsVector limits state.history
-  pub answered : IfOk result (λ answer. IsAnswer (operations state.body) state.history.journal lo hi answer)
-  pub refused : IfErr result (λ refusal. range_refusal state.history.journal lo hi ≡ Some refusal)
+-- of a hub whose edits were seen up to old: it came to new, and there answered a reduction
+pub record ReductionTold {S : Type 0} (o : Operations S) (limits : Bounds) (old new : List Edit) (lo hi : ℕ) (result : Result (Answer S) Refusal) : Type 0 where
+  pub seen : IsPrefix old new
+  pub within : InLimits (history_of limits new)
+  pub standing : Record
+  pub edits : standing.edits ≡ new
+  pub reduces : Reduces o standing lo hi result
 
--- a scan was answered as after some legal edits, by a body of this type
-pub record ScanTold {B S : Type 0} (operations : B → Operations S) (limits : Bounds) (lo hi : ℕ) (inclusive : Bool) (result : Result (Scan S) Refusal) : Type 0 where
-  pub state : LiveState B S
-  pub vector : IsVector limits state.history
-  pub scans : Scans (operations state.body) (recorded state) lo hi inclusive result
+-- of a hub whose edits were seen up to old: it came to new, and there was asked for a range, and answered the fold of it
+pub record AskTold {S : Type 0} (o : Operations S) (limits : Bounds) (old new : List Edit) (lo hi : ℕ) (result : Result (Answer S) Refusal) : Type 0 where
+  pub seen : IsPrefix old new
+  pub within : InLimits (history_of limits new)
+  pub answered : IfOk result (λ answer. IsAnswer o new lo hi answer)
+  pub refused : IfErr result (λ refusal. range_refusal new lo hi ≡ Some refusal)
 
--- a range was copied as after some legal edits, with a body of this type
-pub record StretchTold {B : Type 0} (S : Type 0) (limits : Bounds) (lo hi : ℕ) (result : Result (StretchState B) Refusal) : Type 0 where
-  pub state : LiveState B S
-  pub vector : IsVector limits state.history
-  pub range : IfOk result (λ stretch. IsStretch state.history.journal lo hi stretch)
-  pub body : IfOk result (λ stretch. stretch.body ≡ state.body)
-  pub refused : IfErr result (λ refusal. IsScanRefusal state.history.journal lo hi refusal)
+-- of a hub whose edits were seen up to old: it came to new, and a scan was answered as there
+pub record ScanTold {S : Type 0} (o : Operations S) (limits : Bounds) (old new : List Edit) (lo hi : ℕ) (inclusive : Bool) (result : Result (Scan S) Refusal) : Type 0 where
+  pub seen : IsPrefix old new
+  pub within : InLimits (history_of limits new)
+  pub scanned : IfOk result (λ scan. IsScan new lo hi (scan_of inclusive o (slice_of new lo hi)) scan)
+  pub refused : IfErr result (λ refusal. IsScanRefusal new lo hi refusal)
 
--- a claim was answered as after some legal edits: by the least node that wants a job, whose contents were taken honestly, or by none
-pub record ClaimTold {B S : Type 0} (operations : B → Operations S) (limits : Bounds) (result : Option (Carried B S)) : Type 0 where
+-- of a hub whose edits were seen up to old: it came to new, and there a range was copied, with the hub's body
+pub record StretchTold {B : Type 0} (body : B) (limits : Bounds) (old new : List Edit) (lo hi : ℕ) (result : Result (StretchState B) Refusal) : Type 0 where
+  pub seen : IsPrefix old new
+  pub within : InLimits (history_of limits new)
+  pub range : IfOk result (λ stretch. IsStretch new lo hi stretch)
+  pub of : IfOk result (λ stretch. stretch.body ≡ body)
+  pub refused : IfErr result (λ refusal. IsScanRefusal new lo hi refusal)
+
+-- a claim was answered as after some legal edits of the hub's vector, which has this body: by the least node that wants a job, whose
+-- contents were taken honestly, or by none
+pub record ClaimTold {B S : Type 0} (o : Operations S) (body : B) (limits : Bounds) (result : Option (Carried B S)) : Type 0 where
   pub before : LiveState B S
   pub after : LiveState B S
   pub vector : IsVector limits before.history
+  pub of : before.body ≡ body
   pub next : IsNextJob (recorded before) (option_map node_and_version result)
   pub claimed : HasClaim before after (option_map node_and_version result)
-  pub body : IfSome result (λ job. job.body ≡ before.body)
-  pub honest : IfSome result (λ job. IsHonest (operations before.body) (recorded after) job.node job.version job.contents)
+  pub body_is : IfSome result (λ job. job.body ≡ body)
+  pub honest : IfSome result (λ job. IsHonest o (recorded after) job.node job.version job.contents)
 
 -- an outcome is taken where it is vouched for, and becomes what becomes of a delivery; else it is a stranger
 abbrev pub Gives : Record → Type 0 → {B S : Type 0} → Carried B S → Result Accepted Refusal → Type 0
@@ -82,8 +92,9 @@ abbrev pub VouchedBy : {B S M : Type 0} → (B → M) → (M → Operations S) �
 VouchedBy meaning operations state outcome =
     Vouched (operations (meaning state.body)) (recorded state) (meaning state.body ≡ meaning outcome.body) outcome.node outcome.version outcome.contents
 
--- an outcome was taken or refused as after some legal edits
-pub record GiveTold {B S M : Type 0} (meaning : B → M) (operations : M → Operations S) (limits : Bounds) (outcome : Carried B S) (result : Result Accepted Refusal) : Type 0 where
+-- an outcome was taken or refused as after some legal edits of the hub's vector, which has this body
+pub record GiveTold {B S M : Type 0} (meaning : B → M) (operations : M → Operations S) (body : B) (limits : Bounds) (outcome : Carried B S) (result : Result Accepted Refusal) : Type 0 where
   pub state : LiveState B S
   pub vector : IsVector limits state.history
+  pub of : state.body ≡ body
   pub gives : Gives (recorded state) (VouchedBy meaning operations state outcome) outcome result

@@ -8,6 +8,7 @@ ghost use Rattle.lv_live.specs.State.{HasClaim, HasDelivery, SameLive, SameRefre
 ghost use Rattle.lv_hub.specs.Counting.{Counts};
 ghost use Rattle.lv_hub.specs.Told.{Gives, IsVector, VouchedBy};
 
+use crate::histories::Front;
 use crate::naming::Naming;
 use crate::shares::Share;
 use lv_bodies::Body;
@@ -41,13 +42,15 @@ impl<B: Body, N: Naming> Model for Desk<B, N> {
 }
 
 impl<B: Body, N: Naming> Desk<B, N> {
-    /// An empty vector, with a share of all parts of the blank's ledger, which counts nothing. Takes no memory.
+    /// An empty vector, with a share of all parts of the blank's ledger, which counts nothing, and has seen what the front has. Takes
+    /// no memory.
     pub fn new(
         alloc: Global,
         limits: Limits,
         body: B,
         blank: Blank,
         parts: u64,
+        front: Front<N>,
     ) -> (Desk<B, N>, Share<N>)
         requires name { blank.name ≡ N.name }
         requires all { blank.parts ≡ N.parts }
@@ -58,11 +61,11 @@ impl<B: Body, N: Naming> Desk<B, N> {
         ensures history { result.0.history ≡ record { limits = limits; journal = [] } }
         ensures unclaimed { (n : Node) → (recorded result.0).claimed n ≡ None }
         ensures nothing_kept { (n : Node) → (recorded result.0).kept n ≡ None }
-        ensures share { result.1 ≡ record { parts = parts; count = 0 } }
+        ensures share { result.1 ≡ record { parts = parts; count = 0; seen = front } }
     {
         let (book, token) = blank.open::<N>();
         let live = Live::new(alloc, limits, body);
-        (Desk { live, book }, Share::whole(token, parts))
+        (Desk { live, book }, Share::whole(token, front, parts))
     }
 
     /// Makes an edit, and counts it on the share where it is accepted. Refused as `Live::apply` is.

@@ -1,9 +1,13 @@
-ghost use Rattle.std.specs.Prelude.{◌≡◌, ◌↔◌, ◌<◌, true, false, length, Err};
-ghost use Rattle.lv_hub.specs.Counting.{Counts};
+ghost use Rattle.std.specs.Prelude.{◌≡◌, ◌↔◌, ◌<◌, true, false, [], length, Err, Some};
+ghost use mathlib.Core.List.{IsPrefix};
+ghost use Rattle.lv_script.specs.Transcript.{AreAccepted, greatest};
+ghost use Rattle.lv_hub.specs.Counting.{Counts, having_seen};
 ghost use Rattle.lv_hub.specs.Told.{AskTold, ClaimTold, EditTold, GiveTold, IsVector, ReductionTold, ScanTold, StretchTold};
 
-use crate::desks::Desk;
-use crate::naming::Naming;
+use crate::histories::Opened;
+use crate::logged::LoggedDesk;
+use crate::naming::Means;
+use crate::rooms::Room;
 use crate::shares::Share;
 use lv_bodies::Body;
 use lv_edits::{Edit, Receipt};
@@ -13,68 +17,117 @@ use lv_reduce::{Answer, Scan, Stretch};
 use lv_refresh::{Job, Outcome};
 use lv_summary::Accepted;
 use std::alloc::Global;
+use std::marker::Model;
 use std::sync::ledger::Blank;
-use std::sync::{Mutex, Wait};
+use std::sync::{Condvar, Mutex, Wait};
 use std::thread::Threads;
 
 /// A live vector that threads share. Each of its calls but `new` and `close` waits for the lock, and holds it for one call of
-/// its desk.
+/// its desk. Its edits are one list, which only grows; contracts see the hub as its body.
+///
+/// A share that is handed in is this hub's. Where another had added to the history of its edits, which nobody can, a call would wait
+/// for ever.
 #[derive(Drop)]
-pub struct Hub<B: Body, N: Naming> {
-    desk: Mutex<Desk<B, N>>,
+pub struct Hub<B: Body, N: Means<B>> {
+    room: Mutex<Room<B, N>>,
+    // Where workers sleep.
+    bell: Condvar,
+    // The vector's body.
+    body: B,
 }
 
-impl<B: Body, N: Naming> Hub<B, N> {
-    /// An empty vector, with a share of all parts of the blank's ledger, which counts nothing. Takes no memory.
+impl<B: Body, N: Means<B>> Model for Hub<B, N> {
+    ghost use Rattle.std.specs.Prelude.{◌≡◌, Some};
+
+    ghost Value = { B };
+
+    ghost view = { λ h. h.body };
+
+    ghost invariant = { λ h. N.body ≡ Some h.body };
+}
+
+impl<B: Body, N: Means<B>> Hub<B, N> {
+    /// An empty vector, with a share of all parts of the blank's ledger, which counts nothing and has seen nothing. Its edits go into
+    /// the history that was opened. Takes no memory.
     pub fn new(
         alloc: Global,
         limits: Limits,
         body: B,
         blank: Blank,
         parts: u64,
+        opened: Opened,
     ) -> (Hub<B, N>, Share<N>)
         requires name { blank.name ≡ N.name }
         requires all { blank.parts ≡ N.parts }
         requires parts { blank.parts ≡ parts }
         requires some { 0 < parts }
         requires limits { limits ≡ N.limits }
-        ensures share { result.1 ≡ record { parts = parts; count = 0 } }
+        requires history { opened ≡ N.history }
+        requires body { N.body ≡ Some body }
+        ensures body { result.0 ≡ body }
+        ensures share { result.1 ≡ record { parts = parts; count = 0; seen = [] } }
     {
-        let (desk, share) = Desk::new(alloc, limits, body, blank, parts);
+        let (desk, share) = LoggedDesk::new(alloc, limits, body, blank, parts, opened);
         let hub = Hub {
-            desk: Mutex::new(desk),
+            room: Mutex::new(Room::new(desk)),
+            bell: Condvar::new(),
+            body,
         };
         (hub, share)
     }
 
-    /// Makes an edit, and counts it on the share where it is accepted. Refused as `Live::apply` is.
+    /// Makes an edit, and counts it on the share where it is accepted. The share sees all edits, and its own last. Refused as
+    /// `Live::apply` is.
     pub fn edit<R: Wait>(
         &self,
         rt: &R,
         share: &mut Share<N>,
         edit: Edit,
     ) -> Result<Receipt, Refusal>
-        ensures told { EditTold N.limits edit result }
-        ensures counts { Counts share.old result share.new }
+        ensures told { EditTold N.limits share.old.seen share.new.seen edit result }
+        ensures counts { Counts (having_seen share.old share.new.seen) result share.new }
     {
-        self.desk.lock(rt).edit(share, edit)
+        let (answer, wakes) = self.room.lock(rt).edit(rt, share, edit);
+        if wakes {
+            self.bell.notify_one();
+        }
+        answer
     }
 
-    /// The fold of the elements from index `lo` up to `hi`, at the last edit. Refused as `Live::reduce` is. Takes no memory.
-    pub fn reduce<R: Wait>(&self, rt: &R, lo: u32, hi: u32) -> Result<Answer<B::S>, Refusal>
-        ensures told { ReductionTold (λ (body : B). B.operations (B.meaning body)) N.limits lo hi result }
+    /// The fold of the elements from index `lo` up to `hi`, at the last edit, up to which the share sees them all. Refused as
+    /// `Live::reduce` is. Takes no memory.
+    pub fn reduce<R: Wait>(
+        &self,
+        rt: &R,
+        share: &mut Share<N>,
+        lo: u32,
+        hi: u32,
+    ) -> Result<Answer<B::S>, Refusal>
+        ensures told { ReductionTold (B.operations (B.meaning self.now)) N.limits share.old.seen share.new.seen lo hi result }
+        ensures share { share.new ≡ having_seen share.old share.new.seen }
         ensures bad_range { (result ≡ Err Refusal.BadRange) ↔ (hi < lo) }
     {
-        self.desk.lock(rt).live().reduce(lo, hi)
+        let room = self.room.lock(rt);
+        room.desk.show(rt, share);
+        room.desk.live().reduce(lo, hi)
     }
 
     /// The same, keeping what is computed for it: so a range that was asked for is cheap until an edit touches it. Refused as
     /// `Live::ask` is. Takes no memory.
-    pub fn ask<R: Wait>(&self, rt: &R, lo: u32, hi: u32) -> Result<Answer<B::S>, Refusal>
-        ensures told { AskTold (λ (body : B). B.operations (B.meaning body)) N.limits lo hi result }
+    pub fn ask<R: Wait>(
+        &self,
+        rt: &R,
+        share: &mut Share<N>,
+        lo: u32,
+        hi: u32,
+    ) -> Result<Answer<B::S>, Refusal>
+        ensures told { AskTold (B.operations (B.meaning self.now)) N.limits share.old.seen share.new.seen lo hi result }
+        ensures share { share.new ≡ having_seen share.old share.new.seen }
         ensures bad_range { (result ≡ Err Refusal.BadRange) ↔ (hi < lo) }
     {
-        self.desk.lock(rt).ask(lo, hi)
+        let mut room = self.room.lock(rt);
+        room.desk.show(rt, share);
+        room.desk.ask(lo, hi)
     }
 
     /// The running folds of the elements from index `lo` up to `hi`, each with its own, computed from a copy by several threads once
@@ -83,13 +136,15 @@ impl<B: Body, N: Naming> Hub<B, N> {
         &self,
         rt: &R,
         alloc: Global,
+        share: &mut Share<N>,
         lo: u32,
         hi: u32,
     ) -> Result<Scan<B::S>, Refusal>
-        ensures told { ScanTold (λ (body : B). B.operations (B.meaning body)) N.limits lo hi true result }
+        ensures told { ScanTold (B.operations (B.meaning self.now)) N.limits share.old.seen share.new.seen lo hi true result }
+        ensures share { share.new ≡ having_seen share.old share.new.seen }
         ensures bad_range { (result ≡ Err Refusal.BadRange) ↔ (hi < lo) }
     {
-        self.scan(rt, alloc, lo, hi, true)
+        self.scan(rt, alloc, share, lo, hi, true)
     }
 
     /// The running folds of the elements from index `lo` up to `hi`, each without its own, computed as those with it are. Refused as
@@ -98,13 +153,15 @@ impl<B: Body, N: Naming> Hub<B, N> {
         &self,
         rt: &R,
         alloc: Global,
+        share: &mut Share<N>,
         lo: u32,
         hi: u32,
     ) -> Result<Scan<B::S>, Refusal>
-        ensures told { ScanTold (λ (body : B). B.operations (B.meaning body)) N.limits lo hi false result }
+        ensures told { ScanTold (B.operations (B.meaning self.now)) N.limits share.old.seen share.new.seen lo hi false result }
+        ensures share { share.new ≡ having_seen share.old share.new.seen }
         ensures bad_range { (result ≡ Err Refusal.BadRange) ↔ (hi < lo) }
     {
-        self.scan(rt, alloc, lo, hi, false)
+        self.scan(rt, alloc, share, lo, hi, false)
     }
 
     // One of the two scans, of a copy that is made under the lock.
@@ -112,14 +169,16 @@ impl<B: Body, N: Naming> Hub<B, N> {
         &self,
         rt: &R,
         alloc: Global,
+        share: &mut Share<N>,
         lo: u32,
         hi: u32,
         inclusive: bool,
     ) -> Result<Scan<B::S>, Refusal>
-        ensures told { ScanTold (λ (body : B). B.operations (B.meaning body)) N.limits lo hi inclusive result }
+        ensures told { ScanTold (B.operations (B.meaning self.now)) N.limits share.old.seen share.new.seen lo hi inclusive result }
+        ensures share { share.new ≡ having_seen share.old share.new.seen }
         ensures bad_range { (result ≡ Err Refusal.BadRange) ↔ (hi < lo) }
     {
-        let stretch = self.copy_range(rt, alloc, lo, hi)?;
+        let stretch = self.copy_range(rt, alloc, share, lo, hi)?;
         stretch.scan(rt, alloc, inclusive)
     }
 
@@ -128,14 +187,16 @@ impl<B: Body, N: Naming> Hub<B, N> {
         &self,
         rt: &R,
         alloc: Global,
+        share: &mut Share<N>,
         lo: u32,
         hi: u32,
         inclusive: bool,
     ) -> Result<Scan<B::S>, Refusal>
-        ensures told { ScanTold (λ (body : B). B.operations (B.meaning body)) N.limits lo hi inclusive result }
+        ensures told { ScanTold (B.operations (B.meaning self.now)) N.limits share.old.seen share.new.seen lo hi inclusive result }
+        ensures share { share.new ≡ having_seen share.old share.new.seen }
         ensures bad_range { (result ≡ Err Refusal.BadRange) ↔ (hi < lo) }
     {
-        let stretch = self.copy_range(rt, alloc, lo, hi)?;
+        let stretch = self.copy_range(rt, alloc, share, lo, hi)?;
         stretch.scan_alone(alloc, inclusive)
     }
 
@@ -144,36 +205,85 @@ impl<B: Body, N: Naming> Hub<B, N> {
         &self,
         rt: &R,
         alloc: Global,
+        share: &mut Share<N>,
         lo: u32,
         hi: u32,
     ) -> Result<Stretch<B>, Refusal>
-        ensures { StretchTold B.S N.limits lo hi result }
+        ensures told { StretchTold self.now N.limits share.old.seen share.new.seen lo hi result }
+        ensures share { share.new ≡ having_seen share.old share.new.seen }
     {
-        self.desk.lock(rt).live().copy_range(alloc, lo, hi)
+        let room = self.room.lock(rt);
+        room.desk.show(rt, share);
+        room.desk.live().copy_range(alloc, lo, hi)
     }
 
     /// A job for the least node that wants one, or none. Takes no memory.
     pub fn claim<R: Wait>(&self, rt: &R) -> Option<Job<B>>
-        ensures { ClaimTold (λ (body : B). B.operations (B.meaning body)) N.limits result }
+        ensures { ClaimTold (B.operations (B.meaning self.now)) self.now N.limits result }
     {
-        self.desk.lock(rt).claim()
+        self.room.lock(rt).desk.claim()
+    }
+
+    // A job for the least node that wants one, unless the workers were dismissed. Where it gives none it sleeps before, if that is
+    // wanted, until an edit or a dismissal wakes it. It looks and counts itself under one lock, so no edit comes between.
+    pub(crate) fn claim_or_sleep<R: Wait>(&self, rt: &R, sleeps: bool) -> Option<Job<B>> {
+        let mut room = self.room.lock(rt);
+        if room.is_dismissed() {
+            return None;
+        }
+        let claimed = room.desk.claim();
+        if sleeps && claimed.is_none() {
+            room.count_asleep();
+            drop(self.bell.wait(rt, room));
+        }
+        claimed
+    }
+
+    /// Sleeps until the vector has a block, so that workers may find a job, or until they are dismissed. Says whether they may: not
+    /// where they were dismissed.
+    pub fn wait_for_work<R: Wait>(&self, rt: &R) -> bool {
+        let room = self.room.lock(rt);
+        let room = self.bell.wait_while(rt, room, |room| room.has_no_work());
+        !room.is_dismissed()
+    }
+
+    // Wakes a worker that sleeps, if there is one.
+    pub(crate) fn wake_another<R: Wait>(&self, rt: &R) {
+        if self.room.lock(rt).wakes_another() {
+            self.bell.notify_one();
+        }
+    }
+
+    // Whether the workers were dismissed.
+    pub(crate) fn is_dismissed<R: Wait>(&self, rt: &R) -> bool {
+        self.room.lock(rt).is_dismissed()
+    }
+
+    /// Ends the workers that attend, now and from now on: those that sleep are woken, and each ends at its next turn. Everything
+    /// else goes on as before.
+    pub fn dismiss<R: Wait>(&self, rt: &R) {
+        self.room.lock(rt).dismiss();
+        self.bell.notify_all();
     }
 
     /// Takes an outcome in. Refused with `Stranger` where its node is whole and was touched last by the edit that it names, and its
     /// body or contents are not this vector's. Takes no memory.
     pub fn give<R: Wait>(&self, rt: &R, outcome: Outcome<B>) -> Result<Accepted, Refusal>
-        ensures { GiveTold B.meaning B.operations N.limits outcome result }
+        ensures { GiveTold B.meaning B.operations self.now N.limits outcome result }
     {
-        self.desk.lock(rt).give(outcome)
+        self.room.lock(rt).desk.give(outcome)
     }
 
     /// The vector, once all threads are done: the share that is handed in has all parts. Its journal has as many edits as the
-    /// share counts.
-    pub fn close(self, share: Share<N>) -> Live<B>
+    /// share counts, and begins with all that the share has seen. Each of them would be accepted within the greatest limits.
+    pub fn close<R: Wait>(self, rt: &R, share: Share<N>) -> Live<B>
         requires { share.parts ≡ N.parts }
         ensures counted { length result.history.journal ≡ share.count }
         ensures vector { IsVector N.limits result.history }
+        ensures body { result.body ≡ self }
+        ensures seen { IsPrefix share.seen result.history.journal }
+        ensures accepted { AreAccepted greatest result.history.journal }
     {
-        self.desk.into_inner().close(share)
+        self.room.into_inner().desk.close(rt, share)
     }
 }

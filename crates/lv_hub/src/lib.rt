@@ -1,25 +1,35 @@
 //! The hub: many threads on one live vector, under one lock.
 //!
 //! The value in the lock is a desk: a live vector, with the ledger's book of how many edits were accepted. Each thread has a
-//! share, which counts the edits that it made; the shares together count all. A desk's calls carry the theorem; a call on the
-//! hub takes the lock, makes one of them and releases it. Workers claim jobs and give their outcomes back; they compute with
-//! no lock held. A session answers the lines of a script so. It does not say that a thread gets on, nor in which order.
+//! share, which counts the edits that it made; the shares together count all. A desk's calls are the vector's, and wait for nobody.
+//! Beside the desk lies what was seen of the history of its edits, and each share has seen a beginning of it: so the hub's calls tell
+//! of one list of edits. A call on the hub takes the lock, makes one call of the desk and releases it.
+//!
+//! Workers claim jobs and give their outcomes back; they compute with no lock held. Those that attend sleep where no node wants a
+//! job, until an edit wakes them or they are dismissed. A session answers the lines of a script so. It does not say that a thread gets
+//! on, nor in which order.
 #![tactic(auto)]
 
+mod attending;
 mod desks;
 mod gates;
+mod histories;
 mod hubs;
+mod logged;
 mod naming;
 mod replying;
 mod requests;
+mod rooms;
 mod sessions;
 mod shares;
 mod workers;
 
+pub use attending::attend;
 pub use desks::Desk;
 pub use gates::{Gate, OpenGate};
+pub use histories::{Front, Opened};
 pub use hubs::Hub;
-pub use naming::Naming;
+pub use naming::{Means, Naming};
 pub use sessions::{in_order, run_session};
 pub use shares::Share;
 pub use workers::{Worked, work};

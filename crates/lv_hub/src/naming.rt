@@ -1,15 +1,31 @@
+ghost use Rattle.std.specs.Prelude.{None, Option};
 ghost use Rattle.lv_geometry.specs.Bounds.{Bounds};
+ghost use Rattle.logbook.specs.Pages.{Book};
 
 use std::marker::Brand;
 use std::sync::ledger::Ledger;
 
-/// Which hub it is: the ledger that counts its edits, and its limits. A program takes `Brand`, and says at the call for which
-/// hub it stands.
+/// Which hub it is: the ledger that counts its edits, its limits, and the history of its edits. A program takes `Brand`, and says at
+/// the call for which hub it stands.
 pub trait Naming: Ledger {
     // The limits of the hub's vector.
     ghost limits: { Bounds };
+    // The history of the hub's edits.
+    ghost history: { Book };
 }
 
 impl Naming for Brand {
     ghost limits = { record { buckets = 1; edits = 1 } };
+
+    ghost history = { record { number = 0; log_name = 0; cells_name = 0 } };
+}
+
+/// The same, with the body of the hub's vector.
+pub trait Means<B>: Naming {
+    // The body of the hub's vector.
+    ghost body: { Option B };
+}
+
+impl<B> Means<B> for Brand {
+    ghost body = { None };
 }

@@ -1,11 +1,11 @@
 ghost use Rattle.std.specs.Prelude.{◌≡◌, ◌+◌, ◌≤◌, ◌++◌, ℕ, List, OnOk, IfErr, vec_len, vec_capacity};
 ghost use Rattle.lv_script.specs.declared.transcripts.Claimed.{Claimed};
 ghost use Rattle.lv_script.specs.Output.{Writes, WritesFront};
-ghost use Rattle.lv_hub.specs.Counting.{Holding};
-ghost use Rattle.lv_hub.specs.Session.{LineAnswer, RequestAnswer, SessionState, TellsEdit, TellsReduction, TellsScan, operations_of_six, session_at};
+ghost use Rattle.lv_hub.specs.Counting.{having_seen};
+ghost use Rattle.lv_hub.specs.Session.{LineAnswer, RequestAnswer, TellsEdit, TellsReduction, TellsScan, operations_of_six, session_at};
 
 use crate::hubs::Hub;
-use crate::naming::Naming;
+use crate::naming::Means;
 use crate::requests::{Request, request_of};
 use crate::shares::Share;
 use lv_bodies::{Kind, Six, face};
@@ -19,7 +19,7 @@ use std::io::Write;
 use std::sync::Wait;
 
 /// Answers a line of a session, on a hub: its share counts what is accepted, and `claims` lists the reductions.
-pub fn answer_line<N: Naming, T: Wait, W: Write>(
+pub fn answer_line<N: Means<Six>, T: Wait, W: Write>(
     rt: &T,
     alloc: Global,
     hub: &Hub<Six, N>,
@@ -32,10 +32,10 @@ pub fn answer_line<N: Naming, T: Wait, W: Write>(
 ) -> Result<(), Fault>
     requires { vec_len held.old + LINE ≤ vec_capacity held.old }
     ensures ok { OnOk result ((reply : List ℕ)
-        × LineAnswer N.limits (session_at share.old claims.old.items) number line reply (session_at share.new claims.new.items)
+        × LineAnswer (operations_of_six hub.now) N.limits (session_at share.old claims.old.items) number line reply (session_at share.new claims.new.items)
         × Writes (W.contents writer.old) held.old.items (W.contents writer.new) held.new.items reply) }
     ensures fault { IfErr result (λ fault. (fault ≡ Fault.WriteFault) × (reply : List ℕ)
-        × LineAnswer N.limits (session_at share.old claims.old.items) number line reply (session_at share.new claims.new.items)
+        × LineAnswer (operations_of_six hub.now) N.limits (session_at share.old claims.old.items) number line reply (session_at share.new claims.new.items)
         × WritesFront (W.contents writer.old) held.old.items (W.contents writer.new) reply) }
     ensures parts { share.new.parts ≡ share.old.parts }
     ensures more { share.old.count ≤ share.new.count }
@@ -62,7 +62,7 @@ pub fn answer_line<N: Naming, T: Wait, W: Write>(
 }
 
 // Answers a request. Only the reply to a scan may be longer than what is held.
-fn answer<N: Naming, T: Wait, W: Write>(
+fn answer<N: Means<Six>, T: Wait, W: Write>(
     rt: &T,
     alloc: Global,
     hub: &Hub<Six, N>,
@@ -75,10 +75,10 @@ fn answer<N: Naming, T: Wait, W: Write>(
 ) -> Result<(), Fault>
     requires { vec_len held.old + LINE ≤ vec_capacity held.old }
     ensures ok { OnOk result ((reply : List ℕ)
-        × RequestAnswer N.limits (session_at share.old claims.old.items) number request reply (session_at share.new claims.new.items)
+        × RequestAnswer (operations_of_six hub.now) N.limits (session_at share.old claims.old.items) number request reply (session_at share.new claims.new.items)
         × Writes (W.contents writer.old) held.old.items (W.contents writer.new) held.new.items reply) }
     ensures fault { IfErr result (λ fault. (fault ≡ Fault.WriteFault) × (reply : List ℕ)
-        × RequestAnswer N.limits (session_at share.old claims.old.items) number request reply (session_at share.new claims.new.items)
+        × RequestAnswer (operations_of_six hub.now) N.limits (session_at share.old claims.old.items) number request reply (session_at share.new claims.new.items)
         × WritesFront (W.contents writer.old) held.old.items (W.contents writer.new) reply) }
     ensures parts { share.new.parts ≡ share.old.parts }
     ensures more { share.old.count ≤ share.new.count }
@@ -86,20 +86,22 @@ fn answer<N: Naming, T: Wait, W: Write>(
 {
     match request {
         Request::Edited(edit) => put_edit(rt, hub, share, edit, held),
-        Request::Reduced { kind, lo, hi } => put_reduction(rt, hub, claims, kind, lo, hi, held),
+        Request::Reduced { kind, lo, hi } => put_reduction(
+            rt, hub, share, claims, kind, lo, hi, held,
+        ),
         Request::Scanned {
             inclusive,
             kind,
             lo,
             hi,
-        } => return put_scanned(rt, alloc, hub, inclusive, kind, lo, hi, writer, held),
+        } => return put_scanned(rt, alloc, hub, share, inclusive, kind, lo, hi, writer, held),
         Request::Unknown => put_bad(held, number),
     }
     Ok(())
 }
 
 // Makes an edit, and tells its receipt or its refusal.
-fn put_edit<N: Naming, T: Wait>(
+fn put_edit<N: Means<Six>, T: Wait>(
     rt: &T,
     hub: &Hub<Six, N>,
     share: &mut Share<N>,
@@ -108,7 +110,7 @@ fn put_edit<N: Naming, T: Wait>(
 )
     requires { vec_len held.old + LINE ≤ vec_capacity held.old }
     ensures answer { (reply : List ℕ)
-        × ((claims : List Claimed) → TellsEdit N.limits (session_at share.old claims) edit reply (session_at share.new claims))
+        × ((claims : List Claimed) → TellsEdit (operations_of_six hub.now) N.limits (session_at share.old claims) edit reply (session_at share.new claims))
         × (held.new.items ≡ held.old.items ++ reply) }
     ensures parts { share.new.parts ≡ share.old.parts }
     ensures more { share.old.count ≤ share.new.count }
@@ -121,9 +123,10 @@ fn put_edit<N: Naming, T: Wait>(
 }
 
 // Reduces a range, and lists the answer.
-fn put_reduction<N: Naming, T: Wait>(
+fn put_reduction<N: Means<Six>, T: Wait>(
     rt: &T,
     hub: &Hub<Six, N>,
+    share: &mut Share<N>,
     claims: &mut Vec<Claimed>,
     kind: Kind,
     lo: u32,
@@ -132,11 +135,12 @@ fn put_reduction<N: Naming, T: Wait>(
 )
     requires { vec_len held.old + LINE ≤ vec_capacity held.old }
     ensures answer { (reply : List ℕ)
-        × ((holding : Holding) → TellsReduction N.limits (session_at holding claims.old.items) kind lo hi reply (session_at holding claims.new.items))
+        × TellsReduction (operations_of_six hub.now) N.limits (session_at share.old claims.old.items) kind lo hi reply (session_at share.new claims.new.items)
         × (held.new.items ≡ held.old.items ++ reply) }
+    ensures share { share.new ≡ having_seen share.old share.new.seen }
     ensures room { vec_capacity held.old ≤ vec_capacity held.new }
 {
-    match hub.ask(rt, lo, hi) {
+    match hub.ask(rt, share, lo, hi) {
         Ok(answer) => {
             let value = face(&Six::program(), kind, answer.value);
             let claim = Claimed {
@@ -156,10 +160,11 @@ fn put_reduction<N: Naming, T: Wait>(
 }
 
 // Scans a range, and tells the values.
-fn put_scanned<N: Naming, T: Wait, W: Write>(
+fn put_scanned<N: Means<Six>, T: Wait, W: Write>(
     rt: &T,
     alloc: Global,
     hub: &Hub<Six, N>,
+    share: &mut Share<N>,
     inclusive: bool,
     kind: Kind,
     lo: u32,
@@ -169,14 +174,15 @@ fn put_scanned<N: Naming, T: Wait, W: Write>(
 ) -> Result<(), Fault>
     requires { vec_len held.old + LINE ≤ vec_capacity held.old }
     ensures ok { OnOk result ((reply : List ℕ)
-        × ((state : SessionState) → TellsScan N.limits state inclusive kind lo hi reply state)
+        × ((claims : List Claimed) → TellsScan (operations_of_six hub.now) N.limits (session_at share.old claims) inclusive kind lo hi reply (session_at share.new claims))
         × Writes (W.contents writer.old) held.old.items (W.contents writer.new) held.new.items reply) }
     ensures fault { IfErr result (λ fault. (fault ≡ Fault.WriteFault) × (reply : List ℕ)
-        × ((state : SessionState) → TellsScan N.limits state inclusive kind lo hi reply state)
+        × ((claims : List Claimed) → TellsScan (operations_of_six hub.now) N.limits (session_at share.old claims) inclusive kind lo hi reply (session_at share.new claims))
         × WritesFront (W.contents writer.old) held.old.items (W.contents writer.new) reply) }
+    ensures share { share.new ≡ having_seen share.old share.new.seen }
     ensures room { vec_capacity held.old ≤ vec_capacity held.new }
 {
-    match hub.scan_alone(rt, alloc, lo, hi, inclusive) {
+    match hub.scan_alone(rt, alloc, share, lo, hi, inclusive) {
         Ok(scan) => put_scan(
             writer,
             held,

@@ -1,13 +1,16 @@
-ghost use Rattle.std.specs.Prelude.{◌≡◌, ◌+◌, ◌≤◌, ◌++◌, ℕ, List, [], Ok, Err, MatchResult, OnOk, OnErr, IfOk, IfErr, vec_len, vec_capacity};
+ghost use Rattle.std.specs.Prelude.{◌≡◌, ◌+◌, ◌≤◌, ◌++◌, ℕ, All, List, [], Ok, Err, MatchResult, OnOk, OnErr, IfOk, IfErr, vec_len, vec_capacity};
+ghost use mathlib.Core.List.{IsPrefix};
+ghost use Rattle.lv_bodies.specs.Body.{Operations};
+ghost use Rattle.lv_bodies.specs.Six.{SixMeaning, SixSummary, meaning_of_six, six_meaning, six_operations};
 ghost use Rattle.lv_script.specs.declared.transcripts.Claimed.{Claimed};
 ghost use Rattle.lv_script.specs.Replies.{Conversed};
-ghost use Rattle.lv_script.specs.Transcript.{AreInOrder};
+ghost use Rattle.lv_script.specs.Transcript.{AreInOrder, IsTrueClaim};
 ghost use Rattle.std.specs.List.Sorted.{IsPermutation};
 ghost use Rattle.lv_hub.specs.Counting.{Holding};
-ghost use Rattle.lv_hub.specs.Session.{KeepTies, SessionState, SessionStep, session_at};
+ghost use Rattle.lv_hub.specs.Session.{KeepTies, SessionState, SessionStep, operations_of_six, session_at};
 
 use crate::hubs::Hub;
-use crate::naming::Naming;
+use crate::naming::Means;
 use crate::replying::answer_line;
 use crate::shares::Share;
 use lv_bodies::Six;
@@ -21,9 +24,9 @@ use std::sync::Wait;
 /// Answers the lines of a session on a hub: pushes, pops, writes, reserves, reductions and scans, as a script's; every other
 /// line that says something is bad. Lists each reduction that was answered, in order; one whose entry finds no room is refused with `NoMemory`.
 ///
-/// The share counts the edits that were accepted. Ends with the faults of a script; edits accepted before a fault stay, and
+/// The share counts the edits that were accepted, and sees the hub's edits up to each answer. Ends with the faults of a script; edits accepted before a fault stay, and
 /// stay counted.
-pub fn run_session<N: Naming, T: Wait, R: Read, W: Write>(
+pub fn run_session<N: Means<Six>, T: Wait, R: Read, W: Write>(
     rt: &T,
     alloc: Global,
     hub: &Hub<Six, N>,
@@ -32,26 +35,33 @@ pub fn run_session<N: Naming, T: Wait, R: Read, W: Write>(
     writer: &mut W,
 ) -> Result<Vec<Claimed>, Fault>
     ensures conversed { (last : SessionState)
-        × Conversed (SessionStep N.limits) (session_at share.old []) last
+        × Conversed (SessionStep (operations_of_six hub.now) N.limits) (session_at share.old []) last
         (R.remaining reader.old) (R.remaining reader.new) (W.contents writer.old) (W.contents writer.new) result
         × (share.new.count ≡ last.count)
+        × (share.new.seen ≡ last.seen)
         × IfOk result (λ claims. claims.items ≡ last.claims) }
     ensures parts { share.new.parts ≡ share.old.parts }
     ensures more { share.old.count ≤ share.new.count }
+    ensures seen { IsPrefix share.old.seen share.new.seen }
+    // By the program's six, each reduction is true of the edits that were seen.
+    ensures all_true { ◌≡◌ {A = SixMeaning} (meaning_of_six hub.now) six_meaning → IfOk result (λ claims. All (IsTrueClaim share.new.seen) claims.items) }
 {
     let Share {
         token,
+        front,
         parts,
         count,
     } = share;
     let none = token.empty();
     let lent = Share {
         token: mem::replace(token, none),
+        front: front.again(),
         parts: *parts,
         count: *count,
     };
     let (back, claims, ended) = hold::<Brand, N, T, R, W>(rt, alloc, hub, lent, reader, writer);
     *token = back.token;
+    *front = back.front;
     *count = back.count;
     listed(claims, ended)
 }
@@ -64,17 +74,21 @@ fn listed(claims: Vec<Claimed>, ended: Result<(), Fault>) -> Result<Vec<Claimed>
     Ok(claims)
 }
 
-/// What a share holds when it is lent to a session.
+/// What a share holds when it is lent to a session, and what the hub's body computes.
 pub trait Lent {
     ghost holding: { Holding };
+
+    ghost operations: { Operations SixSummary };
 }
 
 impl Lent for Brand {
-    ghost holding = { record { parts = 0; count = 0 } };
+    ghost holding = { record { parts = 0; count = 0; seen = [] } };
+
+    ghost operations = { six_operations six_meaning };
 }
 
 // Holds a session with a share, and gives the share back with the reductions that were answered.
-fn hold<K: Lent, N: Naming, T: Wait, R: Read, W: Write>(
+fn hold<K: Lent, N: Means<Six>, T: Wait, R: Read, W: Write>(
     rt: &T,
     alloc: Global,
     hub: &Hub<Six, N>,
@@ -82,8 +96,9 @@ fn hold<K: Lent, N: Naming, T: Wait, R: Read, W: Write>(
     reader: &mut R,
     writer: &mut W,
 ) -> (Share<N>, Vec<Claimed>, Result<(), Fault>)
-    requires { share ≡ K.holding }
-    ensures conversed { Conversed (SessionStep N.limits) (session_at share []) (session_at result.0 result.1.items)
+    requires lent { share ≡ K.holding }
+    requires computes { operations_of_six hub.now ≡ K.operations }
+    ensures conversed { Conversed (SessionStep K.operations N.limits) (session_at share []) (session_at result.0 result.1.items)
         (R.remaining reader.old) (R.remaining reader.new) (W.contents writer.old) (W.contents writer.new) result.2 }
     ensures parts { result.0.parts ≡ share.parts }
     ensures more { share.count ≤ result.0.count }
@@ -103,7 +118,7 @@ fn hold<K: Lent, N: Naming, T: Wait, R: Read, W: Write>(
 
 // What answers the lines of a session.
 #[derive(Drop)]
-struct Session<'a, N: Naming, T: Wait, K: Lent> {
+struct Session<'a, N: Means<Six>, T: Wait, K: Lent> {
     rt: &'a T,
     hub: &'a Hub<Six, N>,
     share: Share<N>,
@@ -112,23 +127,23 @@ struct Session<'a, N: Naming, T: Wait, K: Lent> {
     of: PhantomData<K>,
 }
 
-impl<'a, N: Naming, T: Wait, K: Lent> Model for Session<'a, N, T, K> {
+impl<'a, N: Means<Six>, T: Wait, K: Lent> Model for Session<'a, N, T, K> {
     ghost use Rattle.std.specs.Prelude.{◌≡◌, ◌≤◌};
-    ghost use Rattle.lv_hub.specs.Session.{SessionState, session_at};
+    ghost use Rattle.lv_hub.specs.Session.{SessionState, operations_of_six, session_at};
 
     ghost Value = { SessionState };
 
     ghost view = { λ s. session_at s.share s.claims.items };
 
-    ghost invariant = { λ s. (s.share.parts ≡ K.holding.parts) × (K.holding.count ≤ s.share.count) };
+    ghost invariant = { λ s. (s.share.parts ≡ K.holding.parts) × (K.holding.count ≤ s.share.count) × (operations_of_six s.hub.now ≡ K.operations) };
 }
 
-impl<'a, N: Naming, T: Wait, K: Lent> Responder for Session<'a, N, T, K> {
+impl<'a, N: Means<Six>, T: Wait, K: Lent> Responder for Session<'a, N, T, K> {
     ghost State = { SessionState };
 
     ghost state = { λ s. s };
 
-    ghost step = { SessionStep N.limits };
+    ghost step = { SessionStep K.operations N.limits };
 
     fn respond<W: Write>(
         &mut self,

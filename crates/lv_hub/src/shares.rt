@@ -1,36 +1,42 @@
 ghost use Rattle.std.specs.Prelude.{◌≡◌, ◌+◌, ◌%◌, ◌^◌, ◌<◌, ◌≤◌};
-ghost use Rattle.lv_hub.specs.Counting.{Holding, together};
+ghost use mathlib.Core.List.{IsPrefix};
+ghost use Rattle.lv_hub.specs.Counting.{AreTogether, Holding, having_seen};
 
+use crate::histories::Front;
+use crate::naming::Naming;
 use std::marker::Model;
-use std::sync::ledger::{Book, Ledger, Share as Token};
+use std::sync::Wait;
+use std::sync::ledger::{Book, Share as Token};
 
-/// Some parts of a hub, and how many of the edits that were accepted it counts. A share that is dropped takes its parts with
-/// it, so that the hub can't be closed any more.
+/// Some parts of a hub, how many of the edits that were accepted it counts, and the beginning of the hub's edits that it has seen. A
+/// share that is dropped takes its parts with it, so that the hub can't be closed any more.
 #[derive(Drop)]
-pub struct Share<L: Ledger> {
-    pub(crate) token: Token<L>,
+pub struct Share<N: Naming> {
+    pub(crate) token: Token<N>,
+    pub(crate) front: Front<N>,
     pub(crate) parts: u64,
     pub(crate) count: u64,
 }
 
-impl<L: Ledger> Model for Share<L> {
+impl<N: Naming> Model for Share<N> {
     ghost Value = { Holding };
 
-    ghost view = { λ s. record { parts = s.token.parts; count = s.token.amount } };
+    ghost view = { λ s. record { parts = s.token.parts; count = s.token.amount; seen = s.front } };
 
     ghost invariant = { λ s. (0 < s.token.parts) × (s.parts ≡ s.token.parts % 2 ^ 64) × (s.count ≡ s.token.amount % 2 ^ 64) };
 }
 
-impl<L: Ledger> Share<L> {
-    // The share of all parts, as the ledger opens.
-    pub(crate) fn whole(token: Token<L>, parts: u64) -> Share<L>
+impl<N: Naming> Share<N> {
+    // The share of all parts, as the ledger opens, with what it has seen.
+    pub(crate) fn whole(token: Token<N>, front: Front<N>, parts: u64) -> Share<N>
         requires some { 0 < parts }
         requires parts { token.parts ≡ parts }
         requires count { token.amount ≡ 0 }
-        ensures { result ≡ record { parts = parts; count = 0 } }
+        ensures { result ≡ record { parts = parts; count = 0; seen = front } }
     {
         Share {
             token,
+            front,
             parts,
             count: 0,
         }
@@ -50,37 +56,50 @@ impl<L: Ledger> Share<L> {
         self.count
     }
 
-    /// Cuts one part off, which counts nothing yet.
-    pub fn split(&mut self) -> Share<L>
+    /// Cuts one part off, which counts nothing yet, and has seen what this one has.
+    pub fn split(&mut self) -> Share<N>
         requires { 2 ≤ self.old.parts }
-        ensures one { result ≡ record { parts = 1; count = 0 } }
-        ensures rest { self.old ≡ together self.new result }
+        ensures one { result ≡ record { parts = 1; count = 0; seen = self.old.seen } }
+        ensures rest { self.old ≡ record self.new { parts = self.new.parts + 1 } }
     {
         let token = self.token.split_off(1, 0);
         self.parts = self.parts.wrapping_sub(1);
         Share {
             token,
+            front: self.front.again(),
             parts: 1,
             count: 0,
         }
     }
 
-    /// Takes another share of the same hub in.
-    pub fn join(&mut self, other: Share<L>)
-        ensures { self.new ≡ together self.old other }
+    /// Takes another share of the same hub in, with what it has seen.
+    pub fn join(&mut self, other: Share<N>)
+        ensures { AreTogether self.old other self.new }
     {
         let Share {
             token,
+            front,
             parts,
             count,
         } = other;
+        let front = self.front.longer(&front);
+        self.front = front;
         self.token.merge(token);
         self.parts = self.parts.wrapping_add(parts);
         self.count = self.count.wrapping_add(count);
     }
 
+    // Sees all edits. It never returns where these aren't all.
+    pub(crate) fn see<R: Wait>(&mut self, rt: &R, whole: &Front<N>)
+        ensures begins { IsPrefix self.old.seen whole.now }
+        ensures seen { self.new ≡ having_seen self.old whole.now }
+    {
+        let front = self.front.grown(rt, whole);
+        self.front = front;
+    }
+
     // Counts one edit more, in the book too.
-    pub(crate) fn enter(&mut self, book: &mut Book<L>)
+    pub(crate) fn enter(&mut self, book: &mut Book<N>)
         ensures share { self.new ≡ record self.old { count = self.old.count + 1 } }
         ensures book { book.new.total ≡ book.old.total + 1 }
     {
@@ -89,8 +108,8 @@ impl<L: Ledger> Share<L> {
     }
 
     // Where it has all parts, it counts what the book does.
-    pub(crate) fn audit(&mut self, book: &mut Book<L>)
-        requires { self.old.parts ≡ L.parts }
+    pub(crate) fn audit(&mut self, book: &mut Book<N>)
+        requires { self.old.parts ≡ N.parts }
         ensures share { self.new ≡ self.old }
         ensures book { book.new.total ≡ book.old.total }
         ensures whole { self.old.count ≡ book.old.total }

@@ -3,9 +3,10 @@ ghost use Rattle.lv_hub.specs.Work.{noted};
 
 use crate::gates::Gate;
 use crate::hubs::Hub;
-use crate::naming::Naming;
+use crate::naming::Means;
 use lv_bodies::Body;
 use lv_geometry::Refusal;
+use lv_refresh::Job;
 use lv_summary::Accepted;
 use std::sync::Wait;
 use std::thread;
@@ -38,11 +39,32 @@ impl Worked {
             Err(_) => self.strangers += 1,
         }
     }
+
+    // Passes the gate with a job that was claimed, computes it and gives the outcome, with no lock held between.
+    #[inline(always)]
+    pub(crate) fn finish<B: Body, N: Means<B>, G: Gate, R: Wait>(
+        &mut self,
+        rt: &R,
+        hub: &Hub<B, N>,
+        gate: &G,
+        turn: u64,
+        job: Job<B>,
+    )
+        requires claimed { self.old.claimed + 1 < 2 ^ 64 }
+        requires all { self.old.installed + self.old.held + self.old.stale + self.old.strangers ≡ self.old.claimed }
+        ensures claimed { self.new.claimed ≡ self.old.claimed + 1 }
+        ensures all { self.new.installed + self.new.held + self.new.stale + self.new.strangers ≡ self.new.claimed }
+    {
+        gate.hold(turn);
+        let outcome = job.run();
+        self.claimed += 1;
+        self.note(hub.give(rt, outcome));
+    }
 }
 
 /// Refreshes a hub for a number of turns. In each turn it claims a job and, where there is one, passes the gate, computes it
 /// and gives the outcome, with no lock held between; where there is none it lets other threads run.
-pub fn work<B: Body, N: Naming, G: Gate, R: Wait>(
+pub fn work<B: Body, N: Means<B>, G: Gate, R: Wait>(
     rt: &R,
     hub: &Hub<B, N>,
     gate: &G,
@@ -54,12 +76,7 @@ pub fn work<B: Body, N: Naming, G: Gate, R: Wait>(
     let mut worked = Worked::default();
     for turn in 0..turns {
         match hub.claim(rt) {
-            Some(job) => {
-                gate.hold(turn);
-                let outcome = job.run();
-                worked.claimed += 1;
-                worked.note(hub.give(rt, outcome));
-            }
+            Some(job) => worked.finish(rt, hub, gate, turn, job),
             None => thread::yield_now(),
         }
     }

@@ -1,0 +1,95 @@
+-- What the vector in the lock answers is what the hub tells.
+use Rattle.std.proofs.Common.{◌≡◌, ℕ, Option, Some, IfSome, option_map, Result, Ok, Err, IfOk, IfErr, List, refl, sym, ap, ◌∙◌, subst}
+use mathlib.Core.List.{IsPrefix}
+use Rattle.lv_geometry.specs.Bounds.{Bounds}
+use Rattle.lv_geometry.specs.declared.refusals.Refusal.{Refusal}
+use Rattle.lv_bodies.specs.Body.{Operations}
+use Rattle.lv_edits.specs.declared.edit.Edit.{Edit}
+use Rattle.lv_edits.specs.declared.receipt.Receipt.{Receipt}
+use Rattle.lv_edits.specs.History.{History}
+use Rattle.lv_edits.specs.Kept.{InLimits}
+use Rattle.lv_edits.specs.Verdict.{Answers}
+use Rattle.lv_summary.specs.declared.accepted.Accepted.{Accepted}
+use Rattle.lv_refresh.specs.Carried.{Carried}
+use Rattle.lv_refresh.specs.Claim.{IsNextJob}
+use Rattle.lv_refresh.specs.Honesty.{IsHonest}
+use Rattle.lv_reduce.specs.declared.reductions.Answer.{Answer}
+use Rattle.lv_reduce.specs.Answer.{IsAnswer, IsScanRefusal, range_refusal}
+use Rattle.lv_reduce.specs.Stretch.{IsStretch, StretchState}
+use Rattle.lv_live.specs.State.{HasClaim, LiveState, node_and_version, recorded}
+use Rattle.lv_live.specs.Step.{Reduces}
+use Rattle.lv_hub.specs.Told.{AskTold, ClaimTold, EditTold, Gives, GiveTold, IsVector, ReductionTold, StretchTold, VouchedBy, history_of}
+
+-- a vector of these limits has this history
+limits_said : (limits : Bounds) (h : History) → h.limits ≡ limits → h ≡ history_of limits h.journal
+limits_said limits h is = ap (λ l. history_of l h.journal) is
+
+-- an edit leaves the limits
+limits_kept : (old new : History) (e : Edit) (result : Result Receipt Refusal) → Answers old e result new → new.limits ≡ old.limits
+limits_kept old new e (Ok receipt) answers = ap (λ h. h.limits) answers.journal
+limits_kept old new e (Err refusal) answers = ap (λ h. h.limits) answers.same
+
+-- what was seen of a vector is within its limits
+within_said : (limits : Bounds) (h : History) (new : List Edit) → IsVector limits h → new ≡ h.journal → InLimits (history_of limits new)
+within_said limits h new vector is =
+    subst InLimits (limits_said limits h vector.limits_are ∙ ap (history_of limits) (sym is)) vector.within
+
+-- an edit
+pub edit_told : (limits : Bounds) (s t : History) (old new : List Edit) (e : Edit) (result : Result Receipt Refusal) → IsVector limits s → IsPrefix old s.journal → new ≡ t.journal → Answers s e result t → EditTold limits old new e result
+edit_told limits s t old new e result vector seen is answers =
+    let before = limits_said limits s vector.limits_are in
+    let after = limits_said limits t (limits_kept s t e result answers ∙ vector.limits_are) ∙ ap (history_of limits) (sym is) in
+    record {
+      before = s.journal;
+      seen = seen;
+      within = within_said limits s s.journal vector refl;
+      answers = subst (λ h. Answers h e result (history_of limits new)) before (subst (λ h. Answers s e result h) after answers);
+    }
+
+module _ {B S : Type 0} (o : B → Operations S) (limits : Bounds) (body : B) (s : LiveState B S) (old new : List Edit) (lo hi : ℕ) (vector : IsVector limits s.history) (of : s.body ≡ body) (seen : IsPrefix old new) (is : new ≡ s.history.journal) where
+  -- a reduction
+  pub reduction_told : (result : Result (Answer S) Refusal) → Reduces (o s.body) (recorded s) lo hi result → ReductionTold (o body) limits old new lo hi result
+  reduction_told result reduces = record {
+    seen = seen;
+    within = within_said limits s.history new vector is;
+    standing = recorded s;
+    edits = sym is;
+    reduces = subst (λ b. Reduces (o b) (recorded s) lo hi result) of reduces;
+  }
+
+  -- an answer to a range that was asked for
+  pub ask_told : (result : Result (Answer S) Refusal) → IfOk result (λ answer. IsAnswer (o s.body) s.history.journal lo hi answer) → IfErr result (λ refusal. range_refusal s.history.journal lo hi ≡ Some refusal) → AskTold (o body) limits old new lo hi result
+  ask_told result answered refused = record {
+    seen = seen;
+    within = within_said limits s.history new vector is;
+    answered = subst (λ b. IfOk result (λ answer. IsAnswer (o b) new lo hi answer)) of (subst (λ es. IfOk result (λ answer. IsAnswer (o s.body) es lo hi answer)) (sym is) answered);
+    refused = subst (λ es. IfErr result (λ refusal. range_refusal es lo hi ≡ Some refusal)) (sym is) refused;
+  }
+
+  -- a copy
+  pub stretch_told : (result : Result (StretchState B) Refusal) → IfOk result (λ stretch. IsStretch s.history.journal lo hi stretch) → IfOk result (λ stretch. stretch.body ≡ s.body) → IfErr result (λ refusal. IsScanRefusal s.history.journal lo hi refusal) → StretchTold body limits old new lo hi result
+  stretch_told result range copied refused = record {
+    seen = seen;
+    within = within_said limits s.history new vector is;
+    range = subst (λ es. IfOk result (λ stretch. IsStretch es lo hi stretch)) (sym is) range;
+    of = subst (λ b. IfOk result (λ stretch. stretch.body ≡ b)) of copied;
+    refused = subst (λ es. IfErr result (λ refusal. IsScanRefusal es lo hi refusal)) (sym is) refused;
+  }
+
+-- a claim
+pub claim_told : {B S : Type 0} (o : B → Operations S) (limits : Bounds) (body : B) (s t : LiveState B S) (result : Option (Carried B S)) → IsVector limits s.history → s.body ≡ body → IsNextJob (recorded s) (option_map node_and_version result) → HasClaim s t (option_map node_and_version result) → IfSome result (λ job. job.body ≡ s.body) → IfSome result (λ job. IsHonest (o s.body) (recorded t) job.node job.version job.contents) → ClaimTold (o body) body limits result
+claim_told o limits body s t result vector of next claimed job_body honest = record {
+  before = s;
+  after = t;
+  vector = vector;
+  of = of;
+  next = next;
+  claimed = claimed;
+  body_is = subst (λ b. IfSome result (λ job. job.body ≡ b)) of job_body;
+  honest = subst (λ b. IfSome result (λ job. IsHonest (o b) (recorded t) job.node job.version job.contents)) of honest;
+}
+
+-- an outcome
+pub give_told : {B S M : Type 0} (meaning : B → M) (operations : M → Operations S) (limits : Bounds) (body : B) (s : LiveState B S) (outcome : Carried B S) (result : Result Accepted Refusal) → IsVector limits s.history → s.body ≡ body → Gives (recorded s) (VouchedBy meaning operations s outcome) outcome result → GiveTold meaning operations body limits outcome result
+give_told meaning operations limits body s outcome result vector of gives =
+    record { state = s; vector = vector; of = of; gives = gives }

@@ -1,0 +1,174 @@
+-- The reductions that a session lists are true of what its share has seen.
+use Rattle.std.proofs.Common.{◌≡◌, ℕ, ◌+◌, ◌-◌, ◌≤◌, None, Option, Result, Ok, Err, List, [], ◌∷◌, length, take, drop, slice_range, All, nat_lt, refl, sym, ap, ◌∙◌, subst, inl, inr, arith}
+use Rattle.std.proofs.lemmas.Bool.{cases_Bool, cond-false, cond-true, ltb-false}
+use Rattle.std.proofs.lemmas.List.{length-take, length-drop, take_all, take-append-le}
+use Rattle.std.proofs.lemmas.List.Elements.{All-push, All-take, All-drop, All-weaker}
+use Rattle.std.proofs.lemmas.Option.{none-some}
+use mathlib.Core.List.{IsPrefix}
+use Rattle.lv_geometry.specs.Bounds.{Bounds}
+use Rattle.lv_geometry.specs.Elements.{IsElement}
+use Rattle.lv_geometry.specs.declared.refusals.Refusal.{Refusal}
+use Rattle.lv_geometry.specs.declared.refusals.Refusal.TheVariants.{BadRange, OutOfRange}
+use Rattle.lv_bodies.specs.declared.kinds.Kind.{Kind}
+use Rattle.lv_bodies.specs.Body.{CanFold}
+use Rattle.lv_bodies.specs.Plain.{plain_value, plain_value_with}
+use Rattle.lv_bodies.specs.Six.{SixMeaning, SixSummary, face_of, six_meaning, six_operations, table_of_six}
+use Rattle.lv_bodies.proofs.SixFolds.{face_of-fold}
+use Rattle.lv_edits.specs.declared.edit.Edit.{Edit}
+use Rattle.lv_edits.specs.declared.receipt.Receipt.{Receipt}
+use Rattle.lv_edits.specs.History.{list_of}
+use Rattle.lv_edits.specs.Kept.{InLimits}
+use Rattle.lv_reduce.specs.declared.reductions.Answer.{Answer}
+use Rattle.lv_reduce.specs.Answer.{IsAnswer, range_refusal, slice_of}
+use Rattle.lv_script.specs.declared.command.Line.{Line}
+use Rattle.lv_script.specs.declared.command.Line.TheVariants.{Nothing, Bad, Do}
+use Rattle.lv_script.specs.declared.fault.Fault.{Fault}
+use Rattle.lv_script.specs.declared.fault.Fault.TheVariants.{NoMemory, ReadFault, WriteFault}
+use Rattle.lv_script.specs.declared.transcripts.Claimed.{Claimed}
+use Rattle.lv_script.specs.Grammar.{line_of}
+use Rattle.lv_script.specs.Replies.{Answered, Conversed}
+use Rattle.lv_script.specs.Transcript.{IsTrueClaim}
+use Rattle.lv_hub.specs.declared.requests.Request.{Request}
+use Rattle.lv_hub.specs.declared.requests.Request.TheVariants as request
+use Rattle.lv_hub.specs.Session.{LineAnswer, RequestAnswer, SessionState, SessionStep, Lists, after_edit, claim_of, requested, up_to}
+use Rattle.lv_hub.specs.Told.{EditTold, ReductionTold, history_of}
+use Rattle.lv_hub.proofs.PrefixLaws.{prefix_length, prefix_self, prefix_trans}
+
+-- an edit leaves a beginning of what there is
+pub edit_grows : (limits : Bounds) (old new : List Edit) (e : Edit) (result : Result Receipt Refusal) → EditTold limits old new e result → IsPrefix old new
+edit_grows limits old new e (Ok receipt) told =
+    prefix_trans old told.before new told.seen (e ∷ [], sym (ap (λ h. h.journal) told.answers.journal))
+edit_grows limits old new e (Err refusal) told = subst (IsPrefix old) (sym (ap (λ h. h.journal) told.answers.same)) told.seen
+
+-- what is true of a beginning is true of the whole
+pub true_of_more : (xs ys : List Edit) (claim : Claimed) → IsPrefix xs ys → IsTrueClaim xs claim → IsTrueClaim ys claim
+true_of_more xs ys claim more holds =
+    let same : take claim.edit ys ≡ take claim.edit xs = ap (take claim.edit) (sym more.1) ∙ take-append-le claim.edit xs more.0 holds.edit in
+    record {
+      edit = omega (arith, prefix_length xs ys more, holds.edit);
+      range = holds.range;
+      end = subst (λ es. claim.hi ≤ length (list_of es)) (sym same) holds.end;
+      value = subst (λ es. claim.value ≡ plain_value claim.kind (slice_range (list_of es) claim.lo claim.hi)) (sym same) holds.value;
+    }
+
+-- so it is with many
+pub all_true_of_more : (xs ys : List Edit) (claims : List Claimed) → IsPrefix xs ys → All (IsTrueClaim xs) claims → All (IsTrueClaim ys) claims
+all_true_of_more xs ys claims more = All-weaker (IsTrueClaim xs) (IsTrueClaim ys) (λ claim. true_of_more xs ys claim more) claims
+
+-- a range that isn't refused lies in the list
+record IsRange (edits : List Edit) (lo hi : ℕ) : Type 0 where
+  range : lo ≤ hi
+  end : hi ≤ length (list_of edits)
+
+in_range : (edits : List Edit) (lo hi : ℕ) → range_refusal edits lo hi ≡ None → IsRange edits lo hi
+in_range edits lo hi granted =
+    elim (cases_Bool (nat_lt hi lo)) [
+      | inl bad ↦ absurd (none-some BadRange (sym granted ∙ cond-true _ _ _ bad))
+      | inr fine ↦
+          elim (cases_Bool (nat_lt (length (list_of edits)) hi)) [
+            | inl out ↦ absurd (none-some (OutOfRange (length (list_of edits))) (sym granted ∙ cond-false _ _ _ fine ∙ cond-true _ _ _ out))
+            | inr inside ↦ record { range = ltb-false hi lo fine; end = ltb-false (length (list_of edits)) hi inside }
+          ]
+    ]
+
+-- a slice of a list within the limits may be folded
+slice_folds : (limits : Bounds) (edits : List Edit) (lo hi : ℕ) → InLimits (history_of limits edits) → CanFold (slice_range (list_of edits) lo hi)
+slice_folds limits edits lo hi within =
+    let xs = list_of edits in
+    record {
+      few = omega (arith, within.few, length-take (hi - lo) (drop lo xs), length-drop lo xs);
+      elements = All-take IsElement (hi - lo) (drop lo xs) (All-drop IsElement lo xs within.elements);
+    }
+
+-- what a session's step keeps: it has seen more, and where the six are the program's and all that is listed was true of what was seen,
+-- it is still
+pub record Keeps (m : SixMeaning) (old new : SessionState) : Type 0 where
+  pub seen : IsPrefix old.seen new.seen
+  pub all_true : ◌≡◌ {A = SixMeaning} m six_meaning → All (IsTrueClaim old.seen) old.claims → All (IsTrueClaim new.seen) new.claims
+
+-- an edit lists nothing
+edit_lists_nothing : (s : SessionState) (result : Result Receipt Refusal) → (after_edit s result).claims ≡ s.claims
+edit_lists_nothing s (Ok receipt) = refl
+edit_lists_nothing s (Err refusal) = refl
+
+module _ (m : SixMeaning) (limits : Bounds) where
+  -- an answer is true, by its edits
+  answer_true : (edits : List Edit) (kind : Kind) (lo hi : ℕ) (answer : Answer SixSummary) → ◌≡◌ {A = SixMeaning} m six_meaning → InLimits (history_of limits edits) → IsAnswer (six_operations m) edits lo hi answer → IsTrueClaim edits (claim_of kind lo hi answer)
+  answer_true edits kind lo hi answer program within is =
+      let all : take answer.edit edits ≡ edits = take_all answer.edit edits (omega (arith, is.edit)) in
+      let range = in_range edits lo hi is.granted in
+      let value : face_of kind answer.value ≡ plain_value kind (slice_of edits lo hi) = face_of-fold m kind answer.value (slice_of edits lo hi) (slice_folds limits edits lo hi within) is.value ∙ ap (λ (m : SixMeaning). plain_value_with (table_of_six m) kind (slice_of edits lo hi)) program in
+      record {
+        edit = omega (arith, is.edit);
+        range = range.range;
+        end = subst (λ es. hi ≤ length (list_of es)) (sym all) range.end;
+        value = subst (λ es. face_of kind answer.value ≡ plain_value kind (slice_range (list_of es) lo hi)) (sym all) value;
+      }
+
+  -- so is the answer of a reduction that was told
+  told_true : (old new : List Edit) (kind : Kind) (lo hi : ℕ) (answer : Answer SixSummary) → ◌≡◌ {A = SixMeaning} m six_meaning → ReductionTold (six_operations m) limits old new lo hi (Ok answer) → IsTrueClaim new (claim_of kind lo hi answer)
+  told_true old new kind lo hi answer program told =
+      answer_true new kind lo hi answer program told.within (subst (λ es. IsAnswer (six_operations m) es lo hi answer) told.edits told.reduces.0)
+
+  -- who has seen more, and lists nothing more, keeps
+  keeps_by_more : (old new : SessionState) → IsPrefix old.seen new.seen → new.claims ≡ old.claims → Keeps m old new
+  keeps_by_more old new more same =
+      record { seen = more; all_true = λ program holds. subst (All (IsTrueClaim new.seen)) (sym same) (all_true_of_more old.seen new.seen old.claims more holds) }
+
+  -- so does who changes nothing
+  keeps_same : (old new : SessionState) → new ≡ old → Keeps m old new
+  keeps_same old new same = keeps_by_more old new (subst (IsPrefix old.seen) (sym (ap (λ s. s.seen) same)) (prefix_self old.seen)) (ap (λ s. s.claims) same)
+
+  -- a reduction
+  reduction_keeps : (old new : SessionState) (kind : Kind) (lo hi : ℕ) (text : List ℕ) (result : Result (Answer SixSummary) Refusal) → ReductionTold (six_operations m) limits old.seen new.seen lo hi result → Lists (up_to old new.seen) kind lo hi result text new → Keeps m old new
+  reduction_keeps old new kind lo hi text (Ok answer) told lists =
+      elim lists [
+        | inl listed ↦ record {
+          seen = told.seen;
+          all_true = λ program holds.
+              subst (All (IsTrueClaim new.seen)) (sym (ap (λ s. s.claims) listed.1))
+              (All-push (IsTrueClaim new.seen) old.claims (claim_of kind lo hi answer) (all_true_of_more old.seen new.seen old.claims told.seen holds) (told_true old.seen new.seen kind lo hi answer program told));
+        }
+        | inr not_listed ↦ keeps_by_more old new told.seen (ap (λ s. s.claims) not_listed.1)
+      ]
+  reduction_keeps old new kind lo hi text (Err refusal) told lists = keeps_by_more old new told.seen (ap (λ s. s.claims) lists.1)
+
+  -- a request
+  request_keeps : (old new : SessionState) (n : ℕ) (asked : Request) (text : List ℕ) → RequestAnswer (six_operations m) limits old n asked text new → Keeps m old new
+  request_keeps old new n (request.Edited e) text a =
+      keeps_by_more old new (edit_grows limits old.seen new.seen e a.result a.told) (ap (λ s. s.claims) a.state ∙ edit_lists_nothing (up_to old new.seen) a.result)
+  request_keeps old new n (request.Reduced kind lo hi) text a = reduction_keeps old new kind lo hi text a.result a.told a.lists
+  request_keeps old new n (request.Scanned inclusive kind lo hi) text a = keeps_by_more old new a.told.seen (ap (λ s. s.claims) a.state)
+  request_keeps old new n request.Unknown text a = keeps_same old new a.1
+
+  -- a line
+  line_keeps : (old new : SessionState) (n : ℕ) (line : Line) (text : List ℕ) → LineAnswer (six_operations m) limits old n line text new → Keeps m old new
+  line_keeps old new n Nothing text a = keeps_same old new a.1
+  line_keeps old new n Bad text a = keeps_same old new a.1
+  line_keeps old new n (Do command) text a = request_keeps old new n (requested command) text a
+
+  step_keeps : (old new : SessionState) (n : ℕ) (line text : List ℕ) → SessionStep (six_operations m) limits old n line text new → Keeps m old new
+  unfolding SessionStep
+  step_keeps old new n line text a = line_keeps old new n (line_of line) text a
+
+  -- one after the other
+  keeps_both : (old mid new : SessionState) → Keeps m old mid → Keeps m mid new → Keeps m old new
+  keeps_both old mid new first second =
+      record { seen = prefix_trans old.seen mid.seen new.seen first.seen second.seen; all_true = λ program holds. second.all_true program (first.all_true program holds) }
+
+  -- many lines
+  lines_keep : (old new : SessionState) (n : ℕ) (lines : List (List ℕ)) (text : List ℕ) → Answered (SessionStep (six_operations m) limits) old n lines text new → Keeps m old new
+  lines_keep old new n [] text a = keeps_same old new a.1
+  lines_keep old new n (line ∷ lines) text a =
+      keeps_both old a.2 new (step_keeps old a.2 n line a.0 a.3) (lines_keep a.2 new (n + 1) lines a.1 a.4)
+
+  -- a conversation
+  pub conversed_keeps : {T : Type 0} (old new : SessionState) (a b k l : Option (List ℕ)) (result : Result T Fault) → Conversed (SessionStep (six_operations m) limits) old new a b k l result → Keeps m old new
+  conversed_keeps old new a b k l (Ok x) c = lines_keep old new 1 _ c.ends.2.text c.ends.2.answered
+  conversed_keeps old new a b k l (Err ReadFault) c = lines_keep old new 1 _ c.ends.text c.ends.answered
+  conversed_keeps old new a b k l (Err WriteFault) c =
+      elim c.ends [
+        | inl part ↦ lines_keep old new 1 _ part.text part.answered
+        | inr part ↦ lines_keep old new 1 _ part.2.text part.2.answered
+      ]
+  conversed_keeps old new a b k l (Err NoMemory) c = keeps_same old new c.ends.0

@@ -1,0 +1,10 @@
+use Rattle.std.proofs.Common.{◌≡◌, Some, ap, sym, ◌∙◌}
+use Rattle.std.proofs.lemmas.Option.{same_Some}
+use Rattle.lv_hub.proofs.ToldLaws.{claim_told}
+use Rattle.lv_hub.proofs.hubs.Hub.claim.Goals as goal
+
+-- it was answered by what the lock held, which has the hub's body
+pub returns : goal.returns
+returns g c =
+    let of : c.deref_mut.result.now.desk.body ≡ c.args.self.now = same_Some _ _ (sym c.claim.ensures.body ∙ c.self.invariant ∙ ap Some c.self.view_is) in
+    claim_told (λ body. g.B.Body.operations (g.B.Body.meaning body)) _ _ c.deref_mut.result.now.desk c.claim.new.self c.claim.result c.claim.ensures.vector of c.claim.ensures.next c.claim.ensures.claimed c.claim.ensures.job_body c.claim.ensures.honest

@@ -1,0 +1,36 @@
+ghost use Rattle.std.specs.Prelude.{◌≡◌, ◌+◌, ◌≤◌};
+
+use crate::gates::Gate;
+use crate::hubs::Hub;
+use crate::naming::Means;
+use crate::workers::Worked;
+use lv_bodies::Body;
+use std::sync::Wait;
+
+/// Refreshes a hub for a number of turns, as `work` does, and sleeps where no node wants a job, until an edit wakes it. Ends sooner
+/// once the workers are dismissed by `Hub::dismiss`: so whoever calls it sees to that.
+///
+/// A claim that found no job is a turn too. A worker whose turns are used up doesn't sleep any more, and wakes another in its place.
+pub fn attend<B: Body, N: Means<B>, G: Gate, R: Wait>(
+    rt: &R,
+    hub: &Hub<B, N>,
+    gate: &G,
+    turns: u64,
+) -> Worked
+    ensures turns { result.claimed ≤ turns }
+    ensures all { result.installed + result.held + result.stale + result.strangers ≡ result.claimed }
+{
+    let mut worked = Worked::default();
+    for turn in 0..turns {
+        match hub.claim_or_sleep(rt, turn + 1 < turns) {
+            Some(job) => worked.finish(rt, hub, gate, turn, job),
+            None => {
+                if hub.is_dismissed(rt) {
+                    break;
+                }
+            }
+        }
+    }
+    hub.wake_another(rt);
+    worked
+}

@@ -1,0 +1,160 @@
+ghost use Rattle.std.specs.Prelude.{◌≡◌, ◌<◌, Some, [], length, option_map, IfOk, IfErr, IfSome, OnErr};
+ghost use mathlib.Core.List.{IsPrefix};
+ghost use Rattle.lv_edits.specs.Verdict.{Answers};
+ghost use Rattle.lv_reduce.specs.Answer.{IsAnswer, range_refusal};
+ghost use Rattle.lv_refresh.specs.Claim.{IsNextJob};
+ghost use Rattle.lv_refresh.specs.Honesty.{IsHonest};
+ghost use Rattle.lv_live.specs.State.{HasClaim, HasDelivery, SameLive, SameRefresh, node_and_version, recorded};
+ghost use Rattle.lv_script.specs.Transcript.{AreAccepted, greatest};
+ghost use Rattle.lv_hub.specs.Counting.{Counts, having_seen};
+ghost use Rattle.lv_hub.specs.Told.{Gives, IsVector, VouchedBy};
+
+use crate::desks::Desk;
+use crate::histories::{Front, Head, Opened};
+use crate::naming::Means;
+use crate::shares::Share;
+use lv_bodies::Body;
+use lv_edits::{Edit, Receipt};
+use lv_geometry::{Limits, Refusal};
+use lv_live::Live;
+use lv_reduce::Answer;
+use lv_refresh::{Job, Outcome};
+use lv_summary::Accepted;
+use std::alloc::Global;
+use std::marker::Model;
+use std::sync::Wait;
+use std::sync::ledger::Blank;
+
+/// A desk whose edits are the history's, by the body of its name.
+#[derive(Drop)]
+pub struct LoggedDesk<B: Body, N: Means<B>> {
+    desk: Desk<B, N>,
+    front: Front<N>,
+    head: Head<N>,
+}
+
+impl<B: Body, N: Means<B>> Model for LoggedDesk<B, N> {
+    ghost use Rattle.std.specs.Prelude.{◌≡◌, Some};
+    ghost use Rattle.lv_live.specs.State.{LiveState};
+    ghost use Rattle.lv_script.specs.Transcript.{AreAccepted, greatest};
+
+    ghost Value = { LiveState B B.S };
+
+    ghost view = { λ d. d.desk };
+
+    ghost invariant = { λ d. (d.front ≡ d.desk.history.journal) × (N.body ≡ Some d.desk.body) × AreAccepted greatest d.desk.history.journal };
+}
+
+impl<B: Body, N: Means<B>> LoggedDesk<B, N> {
+    /// An empty vector, as `Desk::new` makes it, with an empty history.
+    pub fn new(
+        alloc: Global,
+        limits: Limits,
+        body: B,
+        blank: Blank,
+        parts: u64,
+        opened: Opened,
+    ) -> (LoggedDesk<B, N>, Share<N>)
+        requires name { blank.name ≡ N.name }
+        requires all { blank.parts ≡ N.parts }
+        requires parts { blank.parts ≡ parts }
+        requires some { 0 < parts }
+        requires limits { limits ≡ N.limits }
+        requires history { opened ≡ N.history }
+        requires body { N.body ≡ Some body }
+        ensures share { result.1 ≡ record { parts = parts; count = 0; seen = [] } }
+    {
+        let (head, front) = opened.named::<N>();
+        let (desk, share) = Desk::new(alloc, limits, body, blank, parts, front.again());
+        (LoggedDesk { desk, front, head }, share)
+    }
+
+    /// Makes an edit as the desk does, and adds it to the history where it is accepted. The share sees all edits, and its own.
+    pub fn edit<R: Wait>(
+        &mut self,
+        rt: &R,
+        share: &mut Share<N>,
+        edit: Edit,
+    ) -> Result<Receipt, Refusal>
+        ensures begins { IsPrefix share.old.seen self.old.history.journal }
+        ensures seen { share.new.seen ≡ self.new.history.journal }
+        ensures counts { Counts (having_seen share.old share.new.seen) result share.new }
+        ensures answer { Answers self.old.history edit result self.new.history }
+        ensures refresh { SameRefresh self.old self.new }
+        ensures vector { IsVector N.limits self.old.history }
+    {
+        share.see(rt, &self.front);
+        let receipt = self.desk.edit(share, edit)?;
+        self.front.append(rt, &self.head, edit);
+        share.see(rt, &self.front);
+        Ok(receipt)
+    }
+
+    /// Lets a share see all edits.
+    pub fn show<R: Wait>(&self, rt: &R, share: &mut Share<N>)
+        ensures begins { IsPrefix share.old.seen self.now.history.journal }
+        ensures seen { share.new ≡ having_seen share.old self.now.history.journal }
+    {
+        share.see(rt, &self.front);
+    }
+
+    /// The fold of a range, as the desk gives it.
+    pub fn ask(&mut self, lo: u32, hi: u32) -> Result<Answer<B::S>, Refusal>
+        ensures ok { IfOk result (λ answer. IsAnswer (B.operations (B.meaning self.old.body)) self.old.history.journal lo hi answer) }
+        ensures err { IfErr result (λ refusal. range_refusal self.old.history.journal lo hi ≡ Some refusal) }
+        ensures same { SameLive self.old self.new }
+        ensures vector { IsVector N.limits self.old.history }
+        ensures body { N.body ≡ Some self.old.body }
+    {
+        self.desk.ask(lo, hi)
+    }
+
+    /// A job, as the desk claims it.
+    pub fn claim(&mut self) -> Option<Job<B>>
+        ensures next { IsNextJob (recorded self.old) (option_map node_and_version result) }
+        ensures claimed { HasClaim self.old self.new (option_map node_and_version result) }
+        ensures job_body { IfSome result (λ job. job.body ≡ self.old.body) }
+        ensures honest { IfSome result (λ job. IsHonest (B.operations (B.meaning self.old.body)) (recorded self.new) job.node job.version job.contents) }
+        ensures vector { IsVector N.limits self.old.history }
+        ensures body { N.body ≡ Some self.old.body }
+    {
+        self.desk.claim()
+    }
+
+    /// Takes an outcome in, as the desk does.
+    pub fn give(&mut self, outcome: Outcome<B>) -> Result<Accepted, Refusal>
+        ensures answer { Gives (recorded self.old) (VouchedBy B.meaning B.operations self.old outcome) outcome result }
+        ensures delivered { IfOk result (λ accepted. HasDelivery self.old self.new outcome.node outcome.version accepted) }
+        ensures unchanged { OnErr result (self.new ≡ self.old) }
+        ensures vector { IsVector N.limits self.old.history }
+        ensures body { N.body ≡ Some self.old.body }
+    {
+        self.desk.give(outcome)
+    }
+
+    /// Its vector.
+    pub fn live(&self) -> &Live<B>
+        ensures same { result.now ≡ self.now }
+        ensures vector { IsVector N.limits self.now.history }
+        ensures body { N.body ≡ Some self.now.body }
+    {
+        self.desk.live()
+    }
+
+    // Its vector, which no thread edits any more, and of whose edits the share has seen a beginning. The share that is handed in has all
+    // parts.
+    pub(crate) fn close<R: Wait>(self, rt: &R, share: Share<N>) -> Live<B>
+        requires { share.parts ≡ N.parts }
+        ensures same { result ≡ self }
+        ensures counted { length self.history.journal ≡ share.count }
+        ensures vector { IsVector N.limits self.history }
+        ensures body { N.body ≡ Some self.body }
+        ensures seen { IsPrefix share.seen self.history.journal }
+        ensures accepted { AreAccepted greatest self.history.journal }
+    {
+        let LoggedDesk { desk, front, .. } = self;
+        let mut share = share;
+        share.see(rt, &front);
+        desk.close(share)
+    }
+}
