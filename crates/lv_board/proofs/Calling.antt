@@ -29,7 +29,8 @@ use Rattle.lv_board.specs.declared.actors.Basis.{Basis}
 use Rattle.lv_board.specs.Calls.{HasAdded, HasLooked, LookedAnswers, TakeAnswers, TryAnswers}
 use Rattle.lv_board.specs.Plays.{IsAccepted, IsContended, IsQuiet, IsRead, SeesAll}
 use Rattle.lv_board.specs.Rule.{terms_of}
-use Rattle.lv_board.specs.Stands.{CanPack, IsBasis, IsIndexShort, IsLook, IsReady, limits_of}
+use Rattle.lv_machine.specs.Ready.{CanPack, IsIndexShort}
+use Rattle.lv_board.specs.Stands.{IsBasis, IsLook, IsReady, limits_of}
 
 -- quiet steps one after the other
 pub quiet_then : (x y z : Actor) → IsQuiet x y → IsQuiet y z → IsQuiet x z

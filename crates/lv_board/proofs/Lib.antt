@@ -5,3 +5,9 @@ pub mod Handing
 pub mod Seating
 pub mod Calling
 pub mod Opens
+pub mod Closes
+pub mod Still
+pub mod Conversing
+pub mod Sittings
+pub mod Walking
+pub mod Ordered

@@ -1,13 +1,19 @@
 -- What the calls of a board answer.
-use Rattle.std.specs.Prelude.{◌≡◌, ◌⊎◌, ℕ, ℤ, pos, ◌<◌, Some, None, Result, Ok, Err, List, ◌∷◌, length}
+use Rattle.std.specs.Prelude.{◌≡◌, ◌⊎◌, ℕ, ℤ, pos, ◌+◌, ◌-◌, ◌*◌, ◌<◌, true, false, Some, None, Result, Ok, Err, List, ◌∷◌, length}
 use Rattle.std.specs.List.{slice_index_or}
 use Rattle.lv_geometry.specs.declared.refusals.Refusal.{Refusal}
-use Rattle.lv_geometry.specs.declared.refusals.Refusal.TheVariants.{Contended}
+use Rattle.lv_geometry.specs.declared.refusals.Refusal.TheVariants.{Contended, OutOfRange}
+use Rattle.lv_bodies.specs.Body.{Operations}
 use Rattle.lv_edits.specs.declared.edit.Edit.{Edit}
 use Rattle.lv_edits.specs.declared.receipt.Receipt.{Receipt}
+use Rattle.lv_edits.specs.Touch.{is_whole}
 use Rattle.lv_edits.specs.Verdict.{element_at, receipt_of, verdict_of}
 use Rattle.lv_machine.specs.declared.entries.Entry.{Entry}
 use Rattle.lv_machine.specs.declared.outcomes.Read.{Read}
+use Rattle.lv_machine.specs.declared.outcomes.Refreshed.{Refreshed}
+use Rattle.lv_machine.specs.Shows.{block, mark_of}
+use Rattle.lv_reduce.specs.Answer.{IsAnswer, range_refusal}
+use Rattle.lv_reduce.specs.declared.reductions.Answer.{Answer}
 use Rattle.lv_machine.specs.History.{edits_of, elements_of, Ends, IsLegal, own}
 use Rattle.lv_machine.specs.Terms.{Terms}
 use Rattle.lv_board.specs.declared.actors.Actor.{Actor}
@@ -73,3 +79,23 @@ GetAnswers i y (Ok read) = (read.edit ≡ length y.seen) × (element_at (edits_o
 GetAnswers i y (Err refusal) =
     (element_at (edits_of y.seen) i ≡ Err refusal)
     ⊎ ((i < length (elements_of y.seen)) × IsOvertaken y refusal)
+
+-- the fold of a range after some edits, of which each element was read once: alone, or within the summary of a block
+pub record IsSummed {S : Type 0} (o : Operations S) (edits : List Edit) (lo hi : ℕ) (answer : Answer S) : Type 0 where
+  pub fold : IsAnswer o edits lo hi answer
+  pub reads : answer.cells_read + 8 * answer.summaries_read ≡ hi - lo
+
+-- what a reduction answers
+abbrev pub ReduceAnswers : {S : Type 0} → Operations S → ℕ → ℕ → Actor → Result (Answer S) Refusal → Type 0
+ReduceAnswers o lo hi y (Ok answer) = IsSummed o (edits_of y.seen) lo hi answer
+ReduceAnswers o lo hi y (Err refusal) =
+    (range_refusal (edits_of y.seen) lo hi ≡ Some refusal)
+    ⊎ ((range_refusal (edits_of y.seen) lo hi ≡ None) × IsOvertaken y refusal)
+
+-- what a refresh of a block answers: the number of the last edit that touched it, where it is whole
+abbrev pub RefreshAnswers : ℕ → Actor → Result Refreshed Refusal → Type 0
+RefreshAnswers b y (Ok refreshed) =
+    (is_whole (edits_of y.seen) (block b) ≡ true) × (refreshed.edit ≡ length y.seen) × (refreshed.version ≡ mark_of b y.seen)
+RefreshAnswers b y (Err refusal) =
+    ((is_whole (edits_of y.seen) (block b) ≡ false) × (refusal ≡ OutOfRange (length (elements_of y.seen))))
+    ⊎ ((is_whole (edits_of y.seen) (block b) ≡ true) × IsOvertaken y refusal)

@@ -1,6 +1,12 @@
 pub mod Calls
+pub mod Closing
 pub mod Opening
+pub mod Ordered
 pub mod Plays
+pub mod Retrying
 pub mod Rule
+pub mod Session
+pub mod Sitting
 pub mod Stands
 pub mod Tells
+pub mod Walks

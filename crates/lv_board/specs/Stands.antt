@@ -1,11 +1,9 @@
 -- What a seat stands on: its board, its look, and what its actor knows.
-use Rattle.std.specs.Prelude.{◌≡◌, ℕ, ◌+◌, ◌<◌, ◌≤◌, true, List, length}
+use Rattle.std.specs.Prelude.{◌≡◌, ℕ, ◌<◌, ◌≤◌, true, List, length}
 use Rattle.lv_geometry.specs.Bounds.{Bounds}
 use Rattle.lv_geometry.specs.Cells.{capacity_of}
-use Rattle.lv_edits.specs.declared.edit.Edit.{Edit}
-use Rattle.lv_edits.specs.declared.edit.Edit.TheVariants.{Push, Pop, Write, Reserve}
 use Rattle.lv_machine.specs.declared.entries.Entry.{Entry}
-use Rattle.lv_machine.specs.History.{descriptor_of, elements_of, IsShortEdit}
+use Rattle.lv_machine.specs.History.{descriptor_of, elements_of}
 use Rattle.lv_machine.specs.Words.{edit_of, HasPending, index_of, size_of}
 use Rattle.lv_board.specs.declared.actors.Actor.{Actor}
 use Rattle.lv_board.specs.declared.actors.Basis.{Basis}
@@ -35,17 +33,3 @@ pub record IsLook (buckets edits look : ℕ) (seen : List Entry) : Type 0 where
 pub record IsReady (x : Actor) (look : ℕ) : Type 0 where
   pub helped : HasPending look → x.helped ≡ true
   pub marked : HasPending look → x.marked ≡ true
-
--- an index of twelve bits, where an edit has one
-abbrev pub IsIndexShort : Edit → Type 0
-IsIndexShort (Push x) = Unit {0}
-IsIndexShort Pop = Unit {0}
-IsIndexShort (Write i x) = i < 4096
-IsIndexShort (Reserve n) = Unit {0}
-
--- the descriptor after an edit is a word
-pub record CanPack (look : ℕ) (edit : Edit) : Type 0 where
-  pub short : IsShortEdit edit
-  pub number : edit_of look + 1 < 16777216
-  pub size : size_of look + 1 < 4096
-  pub index : IsIndexShort edit

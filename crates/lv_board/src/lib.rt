@@ -2,25 +2,32 @@
 #![tactic(auto)]
 
 mod actors;
+mod answering;
 mod board;
+mod calls;
+mod closing;
 mod gets;
 mod looks;
 mod marks;
 mod meetings;
 mod opening;
 mod plays;
+mod reductions;
+mod refreshes;
+mod retrying;
 mod rules;
 mod seats;
+mod sessions;
 mod steps;
 mod tries;
 mod verdicts;
 mod words;
 
 pub use actors::{Actor, Basis, View};
+pub use answering::Answering;
 pub use board::Board;
+pub use closing::{Closed, Elements};
 pub use looks::Look;
 pub use meetings::Met;
 pub use seats::Seat;
-
-#[cfg(test)]
-mod tests;
+pub use sessions::run_board_session;

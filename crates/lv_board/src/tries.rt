@@ -4,10 +4,11 @@ ghost use Rattle.lv_geometry.specs.declared.refusals.Refusal.{Refusal};
 ghost use Rattle.lv_bodies.specs.Parts.{IsShort};
 ghost use Rattle.lv_machine.specs.History.{elements_of, IsShortEdit};
 ghost use Rattle.lv_machine.specs.Moves.{verdict_at};
+ghost use Rattle.lv_machine.specs.Ready.{IsIndexShort};
 ghost use Rattle.lv_board.specs.Calls.{LookedAnswers, TakeAnswers, TryAnswers};
 ghost use Rattle.lv_board.specs.Plays.{IsAccepted, IsContended};
 ghost use Rattle.lv_board.specs.Rule.{folds, terms_of};
-ghost use Rattle.lv_board.specs.Stands.{IsIndexShort, IsReady, limits_of};
+ghost use Rattle.lv_board.specs.Stands.{IsReady, limits_of};
 ghost use Rattle.lv_board.specs.Tells.{actor_of, entry_of, IsAt, IsSame, Stays};
 
 use crate::board::Board;

@@ -1,7 +1,5 @@
-use Rattle.std.proofs.Common.{rules, ◌≡◌, ℕ, ◌+◌, ◌<◌, refl, sym, ap, ◌∙◌, subst, arith}
-use Rattle.lv_machine.specs.History.{own}
-use Rattle.lv_board.specs.declared.actors.View.{View}
-use Rattle.lv_board.specs.Rule.{folds, IsSeat}
+use Rattle.std.proofs.Common.{◌+◌, refl, ap, ◌∙◌, arith}
+use Rattle.lv_board.specs.Rule.{folds}
 use Rattle.lv_board.proofs.Keeping.{installs_at_key}
 use Rattle.lv_board.proofs.Seating.{block_among, made_same, same_look}
 use Rattle.lv_board.proofs.board.Board.install.Goals as goal

@@ -55,6 +55,6 @@ returns g c =
       rest = read.rest;
       terms = read.terms;
       legal = legal_earlier (terms_of (folds g.B.Parted.PARTS g.B.Parted.parts_of (λ b. g.B.Body.operations (g.B.Body.meaning b))) c.args.self.now.terms) c.args.seat.now.token.me.0.actor.seen c.load_word-cell.new.seat.token.me.0.actor.known read.seen read.legal;
-      taken = to_z-of_z w64 c.element.result (search rules) ∙ c.element.ensures ∙ ap signed (c.value_in.ensures ∙ ap value_of (cell.settled early));
+      taken = to_z-of_z w64 c.element.result (search rules) ∙ c.element.ensures.value ∙ ap signed (c.value_in.ensures ∙ ap value_of (cell.settled early));
       overtaken = tt;
     }

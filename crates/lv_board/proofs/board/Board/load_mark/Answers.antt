@@ -1,4 +1,4 @@
-use Rattle.std.proofs.Common.{rules, ◌≡◌, ℕ, ◌<◌, ◌≤◌, length, refl, sym, ap, ◌∙◌, subst, arith}
+use Rattle.std.proofs.Common.{◌≤◌, length, refl, ap, subst, arith}
 use Rattle.lv_machine.specs.Layout.{count_of}
 use Rattle.lv_machine.specs.Words.{edit_of}
 use Rattle.lv_machine.proofs.EndsLaws.{legal_earlier}

@@ -1,0 +1,13 @@
+use Rattle.lv_board.specs.Rule.{folds, terms_of}
+use Rattle.lv_board.specs.Tells.{actor_of, IsAt}
+use Rattle.lv_board.specs.Walks.{AreTaken, block_fold, HasRead, MayRead}
+use Rattle.lv_board.proofs.board.Board.load_parts.Given as goal
+
+-- the parts before the next one were loaded, and the seat sees what it saw
+abbrev pub invariant-loop-part : goal.invariant-loop-part
+invariant-loop-part g l = record {
+  here : IsAt l.self.table.shared.table_id l.self.terms l.seat;
+  may : MayRead (terms_of (folds g.B.Parted.PARTS g.B.Parted.parts_of (λ b. g.B.Body.operations (g.B.Body.meaning b))) l.self.terms) l.seat;
+  read : HasRead l.fn.seat l.seat;
+  taken : AreTaken g.B.Parted.parts_of (block_fold (g.B.Body.operations (g.B.Body.meaning l.self.terms.body)) l.b (actor_of l.fn.seat).seen) l.part l.values;
+}

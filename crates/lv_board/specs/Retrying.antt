@@ -1,0 +1,29 @@
+-- What several tries of one edit answer, made one after the other.
+use Rattle.std.specs.Prelude.{◌≡◌, ◌⊎◌, ℕ, zero, suc, ◌+◌, ◌<◌, Result, Ok, Err}
+use Rattle.lv_geometry.specs.declared.refusals.Refusal.{Refusal}
+use Rattle.lv_geometry.specs.declared.refusals.Refusal.TheVariants.{Contended, Overtaken}
+use Rattle.lv_edits.specs.declared.edit.Edit.{Edit}
+use Rattle.lv_edits.specs.declared.receipt.Receipt.{Receipt}
+use Rattle.lv_machine.specs.Terms.{Terms}
+use Rattle.lv_board.specs.declared.actors.Actor.{Actor}
+use Rattle.lv_board.specs.Calls.{TryAnswers}
+
+-- only an edit of another seat stood in the way: it came first, or a word of it was found
+abbrev pub IsOutrun : Result Receipt Refusal → Type 0
+IsOutrun (Ok receipt) = ⊥
+IsOutrun (Err refusal) = (number : ℕ) × ((refusal ≡ Contended number) ⊎ (refusal ≡ Overtaken number))
+
+-- so many tries of an edit were made, one after the other, and all were outrun
+abbrev pub AreOutrun : Terms → Edit → ℕ → Actor → Actor → Type 0
+AreOutrun t edit zero x y = y ≡ x
+AreOutrun t edit (suc n) x y = (m : Actor) × (refusal : Refusal) × AreOutrun t edit n x m × TryAnswers t m y edit (Err refusal) × IsOutrun (Err refusal)
+
+-- at most so many tries of an edit were made, one after the other: all but the last were outrun, and the answer is the last one's; where that
+-- is outrun too, all were made
+pub record AnswersWithin (t : Terms) (tries : ℕ) (x y : Actor) (edit : Edit) (result : Result Receipt Refusal) : Type 0 where
+  pub before : Actor
+  pub outrun : ℕ
+  pub first : AreOutrun t edit outrun x before
+  pub last : TryAnswers t before y edit result
+  pub few : outrun < tries
+  pub all : IsOutrun result → outrun + 1 ≡ tries

@@ -1,0 +1,77 @@
+-- What the loads of a reduction and of a refresh tell, and how a reduction goes on by them.
+use Rattle.std.specs.Prelude.{◌≡◌, ℕ, ◌+◌, ◌*◌, ◌<◌, ◌≤◌, List, length, Result, IfOk, IfErr, slice_index, slice_range}
+use Rattle.lv_geometry.specs.declared.refusals.Refusal.{Refusal}
+use Rattle.lv_bodies.specs.Body.{fold_of, Operations}
+use Rattle.lv_edits.specs.Touch.{cells_of}
+use Rattle.lv_machine.specs.declared.entries.Entry.{Entry}
+use Rattle.lv_machine.specs.History.{edits_of, elements_of, IsLegal}
+use Rattle.lv_machine.specs.Shows.{block}
+use Rattle.lv_machine.specs.Terms.{AreTerms, Terms}
+use Rattle.lv_board.specs.declared.reductions.Walk.{Walk}
+use Rattle.lv_board.specs.declared.seats.Seat.{Seat}
+use Rattle.lv_board.specs.Plays.{IsQuiet}
+use Rattle.lv_board.specs.Stands.{IsReady}
+use Rattle.lv_board.specs.Tells.{actor_of, IsOvertaken, Stays}
+
+-- the fold of a block's elements
+abbrev pub block_fold : {S : Type 0} → Operations S → ℕ → List Entry → S
+block_fold o b k = fold_of o (cells_of (edits_of k) (block b))
+
+-- a walk has the fold of the elements before where it stands, of which it counted each once
+pub record Sums {S : Type 0} (o : Operations S) (k : List Entry) (walk : Walk S) : Type 0 where
+  pub low : walk.lo ≤ walk.at
+  pub inside : walk.at ≤ length (elements_of k)
+  pub sum : walk.sum ≡ fold_of o (slice_range (elements_of k) walk.lo walk.at)
+  pub counts : walk.cells + 8 * walk.summaries + walk.lo ≡ walk.at
+
+-- a walk from an index has come to another
+pub record HasCome {S : Type 0} (o : Operations S) (k : List Entry) (lo at : ℕ) (walk : Walk S) : Type 0 where
+  pub from : walk.lo ≡ lo
+  pub here : walk.at ≡ at
+  pub sums : Sums o k walk
+
+-- a walk has gone on from another, no further than to an index
+pub record HasGoneOn {S : Type 0} (o : Operations S) (k : List Entry) (hi : ℕ) (walk next : Walk S) : Type 0 where
+  pub from : next.lo ≡ walk.lo
+  pub further : walk.at < next.at
+  pub most : next.at ≤ hi
+  pub sums : Sums o k next
+
+-- the first so many of four numbers are the first parts of a summary, and the others 0
+pub record AreTaken {S : Type 0} (parts_of : S → List ℕ) (s : S) (number : ℕ) (values : List ℕ) : Type 0 where
+  pub four : length values ≡ 4
+  pub taken : (p : ℕ) → p < number → slice_index values p ≡ slice_index (parts_of s) p
+  pub others : (p : ℕ) → number ≤ p → slice_index values p ≡ 0
+
+module _ {B : Type 0} where
+  -- a seat may load what shows the history that it saw: that is legal, and its pending write is complete
+  pub record MayRead (t : Terms) (s : Seat B) : Type 0 where
+    pub terms : AreTerms t
+    pub legal : IsLegal t (actor_of s).seen
+    pub ready : IsReady (actor_of s) s.look
+
+  -- a seat has loaded words, and sees what it saw before
+  pub record HasRead (s u : Seat B) : Type 0 where
+    pub stays : Stays s u
+    pub look : u.look ≡ s.look
+    pub quiet : IsQuiet (actor_of s) (actor_of u)
+    pub rest : actor_of u ≡ record (actor_of s) { known = (actor_of u).known }
+
+  module _ {S : Type 0} (o : Operations S) where
+    -- a walk from an index comes to another, or a load found a later edit
+    pub record Comes (lo at : ℕ) (result : Result (Walk S) Refusal) (s u : Seat B) : Type 0 where
+      pub read : HasRead s u
+      pub come : IfOk result (λ walk. HasCome o (actor_of s).seen lo at walk)
+      pub overtaken : IfErr result (λ refusal. IsOvertaken (actor_of u) refusal)
+
+    -- a walk goes on, or a load found a later edit
+    pub record GoesOn (hi : ℕ) (walk : Walk S) (result : Result (Walk S) Refusal) (s u : Seat B) : Type 0 where
+      pub read : HasRead s u
+      pub gone : IfOk result (λ next. HasGoneOn o (actor_of s).seen hi walk next)
+      pub overtaken : IfErr result (λ refusal. IsOvertaken (actor_of u) refusal)
+
+    -- the fold of a block's elements was made, or a load found a later edit
+    pub record SumsBlock (b : ℕ) (result : Result S Refusal) (s u : Seat B) : Type 0 where
+      pub read : HasRead s u
+      pub sum : IfOk result (λ sum. sum ≡ block_fold o b (actor_of s).seen)
+      pub overtaken : IfErr result (λ refusal. IsOvertaken (actor_of u) refusal)

@@ -1,0 +1,82 @@
+//! Calls of a board as values, as a session asks for them.
+ghost use Rattle.std.specs.Prelude.{◌≡◌};
+ghost use Rattle.lv_board.specs.Rule.{folds, terms_of};
+ghost use Rattle.lv_board.specs.Session.{CallEnds, block_of, said_read, said_reduced, said_refreshed, said_tried};
+ghost use Rattle.lv_board.specs.Tells.{actor_of, IsAt, Stays};
+
+use crate::board::Board;
+use crate::seats::Seat;
+use lv_bodies::Parted;
+use lv_edits::Receipt;
+use lv_geometry::Refusal;
+use lv_machine::{Call, Read, Refreshed, Said};
+use lv_reduce::Answer;
+
+impl<B: Parted> Board<B> {
+    // Makes a call, and gives what it ends with.
+    pub(crate) fn make(&self, seat: &mut Seat<B>, call: Call) -> Said<B::S>
+        requires { IsAt self.now.table.shared.table_id self.now.terms seat.old }
+        ensures stays { Stays seat.old seat.new }
+        ensures ends { CallEnds (terms_of (folds B.PARTS B.parts_of (λ b. B.operations (B.meaning b))) self.now.terms) (B.operations (B.meaning self.now.terms.body)) call (actor_of seat.old) result (actor_of seat.new) }
+    {
+        match call {
+            Call::Push(x) => tried(self.try_push(seat, x)),
+            Call::Pop => tried(self.try_pop(seat)),
+            Call::Write { index, value } => tried(self.try_write(seat, index, value)),
+            Call::Get(i) => read(self.get(seat, i)),
+            Call::Size => Said::Sized(self.size(seat)),
+            Call::Reduce { lo, hi } => reduced(self.reduce(seat, lo, hi)),
+            Call::Refresh(block) => refreshed(self.refresh(seat, block)),
+        }
+    }
+}
+
+// What a try ends with.
+fn tried<S: Copy>(answer: Result<Receipt, Refusal>) -> Said<S>
+    ensures { result ≡ said_tried answer }
+{
+    match answer {
+        Ok(receipt) => Said::Did(receipt),
+        Err(refusal) => Said::Refused(refusal),
+    }
+}
+
+// What a read of an element ends with.
+fn read<S: Copy>(answer: Result<Read, Refusal>) -> Said<S>
+    ensures { result ≡ said_read answer }
+{
+    match answer {
+        Ok(read) => Said::Read(read),
+        Err(refusal) => Said::Refused(refusal),
+    }
+}
+
+// What a reduction ends with.
+fn reduced<S: Copy>(answer: Result<Answer<S>, Refusal>) -> Said<S>
+    ensures { result ≡ said_reduced answer }
+{
+    match answer {
+        Ok(answer) => Said::Answered(answer),
+        Err(refusal) => Said::Refused(refusal),
+    }
+}
+
+// What a refresh ends with.
+fn refreshed<S: Copy>(answer: Result<Refreshed, Refusal>) -> Said<S>
+    ensures { result ≡ said_refreshed answer }
+{
+    match answer {
+        Ok(refreshed) => Said::Refreshed(refreshed),
+        Err(refusal) => Said::Refused(refusal),
+    }
+}
+
+// The block that a call refreshes; 0 of other calls.
+pub(crate) fn block_of(call: Call) -> u32
+    ensures { result ≡ block_of call }
+{
+    match call {
+        Call::Refresh(block) => block,
+        _ => 0,
+    }
+}

@@ -1,0 +1,78 @@
+//! Refreshes: the parts of a whole block's summary, made from its cells.
+ghost use Rattle.std.specs.Prelude.{◌≡◌, ◌+◌, ◌*◌, ◌<◌, ◌≤◌, length, true};
+ghost use Rattle.lv_edits.specs.Touch.{is_whole};
+ghost use Rattle.lv_geometry.specs.Cells.{capacity_of};
+ghost use Rattle.lv_machine.specs.History.{edits_of, elements_of};
+ghost use Rattle.lv_machine.specs.Shows.{block, mark_of};
+ghost use Rattle.lv_board.specs.Calls.{HasLooked, RefreshAnswers};
+ghost use Rattle.lv_board.specs.Rule.{folds, terms_of};
+ghost use Rattle.lv_board.specs.Tells.{actor_of, IsAt, IsSame, Stays};
+ghost use Rattle.lv_board.specs.Walks.{block_fold, MayRead, SumsBlock};
+
+use crate::board::Board;
+use crate::seats::Seat;
+use crate::words::{edit_in, pack_part, size_in};
+use lv_bodies::Parted;
+use lv_geometry::Refusal;
+use lv_machine::Refreshed;
+
+impl<B: Parted> Board<B> {
+    // The fold of a whole block's elements, from its cells.
+    fn sum_block(&self, seat: &mut Seat<B>, b: u32) -> Result<B::S, Refusal>
+        requires here { IsAt self.now.table.shared.table_id self.now.terms seat.old }
+        requires may { MayRead (terms_of (folds B.PARTS B.parts_of (λ b. B.operations (B.meaning b))) self.now.terms) seat.old }
+        requires inside { 8 * b + 8 ≤ length (elements_of (actor_of seat.old).seen) }
+        ensures { SumsBlock (B.operations (B.meaning self.now.terms.body)) b result seat.old seat.new }
+    {
+        let first = 8 * b;
+        let start = self.start_walk(first);
+        match self.walk_cells(seat, start, first + 8) {
+            Err(refusal) => Err(refusal),
+            Ok(walk) => Ok(walk.sum),
+        }
+    }
+
+    // Installs the parts of a whole block's summary, with the block's mark as their version.
+    fn keep_parts(&self, seat: &mut Seat<B>, b: u32, mark: u32, parts: [u32; 4])
+        requires here { IsAt self.now.table.shared.table_id self.now.terms seat.old }
+        requires within { 8 * b < capacity_of self.now.terms.buckets }
+        requires whole { is_whole (edits_of (actor_of seat.old).seen) (block b) ≡ true }
+        requires mark { mark ≡ mark_of b (actor_of seat.old).seen }
+        requires parts { parts ≡ B.parts_of (block_fold (B.operations (B.meaning self.now.terms.body)) b (actor_of seat.old).seen) }
+        ensures { IsSame seat.old seat.new }
+    {
+        for part in 0..B::PARTS {
+            self.install(seat, b, part, pack_part(mark, parts[part as usize]));
+        }
+    }
+
+    /// Makes the parts of the block of that number from its cells, and tells the edit where this call looked and the last edit that
+    /// touched the block, which is the version of the parts. Refused with `OutOfRange` where the block isn't whole, or with
+    /// `Overtaken` where a later edit wrote there since the look. The seat is one of this board's.
+    pub fn refresh(&self, seat: &mut Seat<B>, block: u32) -> Result<Refreshed, Refusal>
+        requires { IsAt self.now.table.shared.table_id self.now.terms seat.old }
+        ensures stays { Stays seat.old seat.new }
+        ensures looked { HasLooked (terms_of (folds B.PARTS B.parts_of (λ b. B.operations (B.meaning b))) self.now.terms) (actor_of seat.old) (actor_of seat.new) }
+        ensures answer { RefreshAnswers block (actor_of seat.new) result }
+    {
+        self.load_descriptor(seat);
+        let size = size_in(seat.look);
+        if block >= size / 8 {
+            return Err(Refusal::OutOfRange { size });
+        }
+        self.help(seat);
+        let version = match self.load_mark(seat, block) {
+            Err(refusal) => return Err(refusal),
+            Ok(mark) => mark,
+        };
+        let sum = match self.sum_block(seat, block) {
+            Err(refusal) => return Err(refusal),
+            Ok(sum) => sum,
+        };
+        self.keep_parts(seat, block, version, B::to_parts(sum));
+        Ok(Refreshed {
+            edit: edit_in(seat.look),
+            version,
+        })
+    }
+}

@@ -1,0 +1,114 @@
+//! Tries that are made again where an edit of another seat stood in the way: so many at most, so that no call waits.
+ghost use Rattle.std.specs.Prelude.{◌≡◌, ◌≤◌, ◌↔◌, IsTrue, Err};
+ghost use Rattle.lv_geometry.specs.declared.refusals.Refusal.{Refusal};
+ghost use Rattle.lv_bodies.specs.Parts.{IsShort};
+ghost use Rattle.lv_machine.specs.History.{IsShortEdit};
+ghost use Rattle.lv_board.specs.Calls.{TryAnswers};
+ghost use Rattle.lv_board.specs.Closing.{IsStill};
+ghost use Rattle.lv_board.specs.Retrying.{AnswersWithin, IsOutrun};
+ghost use Rattle.lv_board.specs.Rule.{folds, terms_of};
+ghost use Rattle.lv_board.specs.Tells.{actor_of, IsAt, IsSame};
+
+use crate::board::Board;
+use crate::seats::Seat;
+use crate::words::fits_short;
+use lv_bodies::Parted;
+use lv_edits::{Edit, Receipt};
+use lv_geometry::Refusal;
+
+// Whether only an edit of another seat stood in the way.
+#[inline(always)]
+fn is_outrun(answer: Result<Receipt, Refusal>) -> bool
+    ensures { IsTrue result ↔ IsOutrun answer }
+{
+    let Err(refusal) = answer else {
+        return false;
+    };
+    matches!(
+        refusal,
+        Refusal::Contended { .. } | Refusal::Overtaken { .. }
+    )
+}
+
+impl<B: Parted> Board<B> {
+    // One try. Where the kind of the edit is known, it is chosen when this is built.
+    #[inline(always)]
+    fn try_edit(&self, seat: &mut Seat<B>, edit: Edit) -> Result<Receipt, Refusal>
+        requires here { IsAt self.now.table.shared.table_id self.now.terms seat.old }
+        requires short { IsShortEdit edit }
+        ensures still { IsStill seat.old seat.new }
+        ensures answer { TryAnswers (terms_of (folds B.PARTS B.parts_of (λ b. B.operations (B.meaning b))) self.now.terms) (actor_of seat.old) (actor_of seat.new) edit result }
+    {
+        match edit {
+            Edit::Push(x) => self.try_push(seat, x),
+            Edit::Pop => self.try_pop(seat),
+            Edit::Write { index, value } => self.try_write(seat, index, value),
+            Edit::Reserve(_) => unreachable!(),
+        }
+    }
+
+    // One try, and further ones while they are outrun.
+    #[inline(always)]
+    fn edit_within(&self, seat: &mut Seat<B>, edit: Edit, tries: u32) -> Result<Receipt, Refusal>
+        requires here { IsAt self.now.table.shared.table_id self.now.terms seat.old }
+        requires short { IsShortEdit edit }
+        requires some { 1 ≤ tries }
+        ensures still { IsStill seat.old seat.new }
+        ensures answer { AnswersWithin (terms_of (folds B.PARTS B.parts_of (λ b. B.operations (B.meaning b))) self.now.terms) tries (actor_of seat.old) (actor_of seat.new) edit result }
+    {
+        for _outrun in 0..tries - 1 {
+            let answer = self.try_edit(seat, edit);
+            if !is_outrun(answer) {
+                return answer;
+            }
+        }
+        self.try_edit(seat, edit)
+    }
+
+    /// `try_push`, made again while it is refused with `Contended`: at most `tries` times, which is at least 1. The answer is that of
+    /// the last try. The seat is one of this board's.
+    pub fn push_within(&self, seat: &mut Seat<B>, x: i64, tries: u32) -> Result<Receipt, Refusal>
+        requires here { IsAt self.now.table.shared.table_id self.now.terms seat.old }
+        requires some { 1 ≤ tries }
+        ensures still { IsStill seat.old seat.new }
+        ensures short { IsShort x → AnswersWithin (terms_of (folds B.PARTS B.parts_of (λ b. B.operations (B.meaning b))) self.now.terms) tries (actor_of seat.old) (actor_of seat.new) (Edit.Push x) result }
+        ensures wide { ¬ IsShort x → (result ≡ Err Refusal.TooWide) × IsSame seat.old seat.new }
+    {
+        if !fits_short(x) {
+            return Err(Refusal::TooWide);
+        }
+        self.edit_within(seat, Edit::Push(x), tries)
+    }
+
+    /// `try_pop`, made again while it is refused with `Contended` or `Overtaken`: at most `tries` times, which is at least 1. The
+    /// answer is that of the last try. The seat is one of this board's.
+    pub fn pop_within(&self, seat: &mut Seat<B>, tries: u32) -> Result<Receipt, Refusal>
+        requires here { IsAt self.now.table.shared.table_id self.now.terms seat.old }
+        requires some { 1 ≤ tries }
+        ensures still { IsStill seat.old seat.new }
+        ensures answer { AnswersWithin (terms_of (folds B.PARTS B.parts_of (λ b. B.operations (B.meaning b))) self.now.terms) tries (actor_of seat.old) (actor_of seat.new) Edit.Pop result }
+    {
+        self.edit_within(seat, Edit::Pop, tries)
+    }
+
+    /// `try_write`, made again while it is refused with `Contended` or `Overtaken`: at most `tries` times, which is at least 1. The
+    /// answer is that of the last try. The seat is one of this board's.
+    pub fn write_within(
+        &self,
+        seat: &mut Seat<B>,
+        index: u32,
+        value: i64,
+        tries: u32,
+    ) -> Result<Receipt, Refusal>
+        requires here { IsAt self.now.table.shared.table_id self.now.terms seat.old }
+        requires some { 1 ≤ tries }
+        ensures still { IsStill seat.old seat.new }
+        ensures short { IsShort value → AnswersWithin (terms_of (folds B.PARTS B.parts_of (λ b. B.operations (B.meaning b))) self.now.terms) tries (actor_of seat.old) (actor_of seat.new) (Edit.Write index value) result }
+        ensures wide { ¬ IsShort value → (result ≡ Err Refusal.TooWide) × IsSame seat.old seat.new }
+    {
+        if !fits_short(value) {
+            return Err(Refusal::TooWide);
+        }
+        self.edit_within(seat, Edit::Write { index, value }, tries)
+    }
+}
