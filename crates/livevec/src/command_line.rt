@@ -6,10 +6,15 @@ ghost use Rattle.lv_geometry.specs.Bounds.{AreAllowed};
 use crate::files::Clash;
 use crate::help;
 use crate::serving::Plan;
+use clap::builder::ValueParser;
 use clap::error::ErrorKind;
 use clap::{Arg, ArgAction, ArgMatches, Command, Error, value_parser};
+use lv_bodies::Kind;
 use lv_geometry::Limits;
 use std::alloc::{AllocError, Global};
+
+// The names of the kinds.
+const KINDS: [&str; 6] = ["sum", "least", "greatest", "best", "affine", "automaton"];
 
 /// The command line of the program.
 pub fn command<'a>(alloc: Global) -> Result<Command<'a>, AllocError> {
@@ -21,6 +26,7 @@ pub fn command<'a>(alloc: Global) -> Result<Command<'a>, AllocError> {
         .arg_required_else_help(true)
         .subcommand(run(alloc)?)?
         .subcommand(serve(alloc)?)?
+        .subcommand(board(alloc)?)?
         .subcommand(schedule(alloc)?)?
         .subcommand(audit(alloc))
 }
@@ -46,10 +52,34 @@ pub fn actors(matches: &ArgMatches<'_>) -> u32 {
     matches.get_one::<u32>("actors").unwrap_or(2)
 }
 
-/// That files can't be served together.
-pub fn clash_error(alloc: Global, clash: Clash<'_>) -> Result<Error, AllocError> {
+/// Which kind a board reduces by, by a command's options.
+pub fn kind(matches: &ArgMatches<'_>) -> Kind {
+    match matches.get_str("body") {
+        Some("least") => Kind::Least,
+        Some("greatest") => Kind::Greatest,
+        Some("best") => Kind::Best,
+        Some("affine") => Kind::Affine,
+        Some("automaton") => Kind::Automaton,
+        _ => Kind::Sum,
+    }
+}
+
+/// That files can't be sessions of `serve` together.
+pub fn serve_error(alloc: Global, clash: Clash<'_>) -> Result<Error, AllocError> {
+    let command = serve(alloc)?.bin_name("livevec serve")?;
+    clash_error(alloc, command, clash)
+}
+
+/// That files can't be sessions of `board` together.
+pub fn board_error(alloc: Global, clash: Clash<'_>) -> Result<Error, AllocError> {
+    let command = board(alloc)?.bin_name("livevec board")?;
+    clash_error(alloc, command, clash)
+}
+
+// That files can't be sessions of a command together.
+fn clash_error(alloc: Global, command: Command<'_>, clash: Clash<'_>) -> Result<Error, AllocError> {
     let text = clash.to_string(alloc)?;
-    let mut command = serve(alloc)?.bin_name("livevec serve")?;
+    let mut command = command;
     command.error(ErrorKind::ValueValidation, text.as_str())
 }
 
@@ -78,7 +108,18 @@ fn serve<'a>(alloc: Global) -> Result<Command<'a>, AllocError> {
         .arg(turns(alloc))?
         .arg(buckets(alloc))?
         .arg(edits(alloc))?
-        .arg(files(alloc))
+        .arg(files(alloc).num_args(1..=16))
+}
+
+// `livevec board`.
+fn board<'a>(alloc: Global) -> Result<Command<'a>, AllocError> {
+    Command::new(alloc, "board")
+        .about(help::BOARD)
+        .after_help(help::TRIES)
+        .arg(body(alloc))?
+        .arg(few_buckets(alloc))?
+        .arg(edits(alloc))?
+        .arg(files(alloc).num_args(1..=8))
 }
 
 // `livevec schedule`.
@@ -116,6 +157,16 @@ fn few_buckets<'a>(alloc: Global) -> Arg<'a> {
         .action(ArgAction::Set)
         .value_parser(value_parser!(u32).range(1..=9))
         .default_value("9")
+}
+
+fn body<'a>(alloc: Global) -> Arg<'a> {
+    Arg::new(alloc, "body")
+        .long("body")
+        .value_name("KIND")
+        .help("What reductions compute")
+        .action(ArgAction::Set)
+        .value_parser(ValueParser::Names(&KINDS))
+        .default_value("sum")
 }
 
 fn actor_count<'a>(alloc: Global) -> Arg<'a> {
@@ -163,6 +214,5 @@ fn files<'a>(alloc: Global) -> Arg<'a> {
         .value_name("FILE")
         .help("A session's lines; its replies are written to FILE.out")
         .required(true)
-        .num_args(1..=16)
         .action(ArgAction::Append)
 }

@@ -60,12 +60,47 @@ noticed. The sessions share one vector.
 Each knows the lines push, pop, write, reserve, reduce, inc and exc, as `livevec run --help` tells
 them; any other is answered `bad N`.
 
-A turn that finds no job counts too: for long sessions give workers more of them.
+Workers sleep while there is nothing to do, and end with the last session. A turn that finds no job
+counts too: for long sessions give workers more of them.
 
 Each FILE is opened and its FILE.out made anew, in order, before a thread starts; the first that
 fails is the fault. The transcript goes to standard output: the journal, then each answered
 reduction in the order of edits; `livevec audit` says yes to it. Where a session ends with a fault
 none is written.";
+
+/// What `board` does.
+pub const BOARD: &str =
+    "Holds sessions at a lock-free board: answers each file's lines in a thread of its own, one try a line";
+
+/// The lines of a session at a board, and its files.
+pub const TRIES: &str = "\
+1 to 8 files, each named once, none of them another's FILE.out; a file under two spellings isn't
+noticed. The sessions share one vector of 16-bit elements, with no lock: none ever waits for another.
+
+Lines (a reply each; I, B, LO and HI are numbers, X an element, HI is excluded, KIND is that of --body):
+  push X              edit E at I
+  pop                 edit E value X
+  write I X           edit E was X
+  get I               value X
+  size                size N edit E
+  reduce KIND LO HI   at E KIND VALUE
+  refresh B           fresh B version V: the summary of block B, the elements 8 * B to 8 * B + 7, is made;
+                      a reduction over the block then reads it in place of the eight elements
+Blank lines and lines that begin with # say nothing. Any other line is answered `bad N`, N the line's
+number.
+
+A line that can't be obeyed is answered `refused N`, and leaves the elements as they are:
+   1 Worn: the limit of edits is reached     5 Full: as many elements as may be
+   2 Empty: nothing to pop                   7 BadRange: LO above HI
+   3 OutOfRange: past the end; of refresh,  16 TooWide: the element has more than 16 bits
+     the block has not all its elements
+  17 Contended: another session's edit came between the look at the vector and the exchange, and
+     nothing was changed: try the line again if you still want it
+  18 Overtaken: a word of another session's later edit was met: look again, by trying the line again
+The other sessions may have changed what a line that is tried again finds.
+
+Each FILE is opened and its FILE.out made anew, in order, before a thread starts; the first that
+fails is the fault. Of several sessions' faults the first file's is told.";
 
 /// What `schedule` does.
 pub const SCHEDULE: &str =

@@ -4,6 +4,7 @@
 
 ghost use Rattle.std.specs.Prelude.{◌≡◌, ◌≢◌};
 
+mod boards;
 mod command_line;
 mod files;
 mod help;
@@ -77,6 +78,9 @@ where
     if let Some(asked) = matches.subcommand_matches("serve") {
         return serve(rt, asked, &mut writer);
     }
+    if let Some(asked) = matches.subcommand_matches("board") {
+        return board(rt, asked);
+    }
     if let Some(asked) = matches.subcommand_matches("schedule") {
         schedule(alloc, asked, &mut rt.reader(), &mut writer)?;
         return Ok(0);
@@ -114,11 +118,31 @@ where
     let alloc = rt.alloc();
     let files = asked.get_strs("files").unwrap_or(&[]);
     if let Some(clash) = files::first_clash(files) {
-        let error = command_line::clash_error(alloc, clash).map_err(|_| Fault::NoMemory)?;
+        let error = command_line::serve_error(alloc, clash).map_err(|_| Fault::NoMemory)?;
         return show(rt, &error);
     }
     let streams = files::open_all(rt, alloc, files)?;
     serving::serve(rt, alloc, command_line::plan(asked), streams, writer)?;
+    Ok(0)
+}
+
+// Holds the sessions that a command line names at a board.
+fn board<R: AllocGlobal + Eprint + Files + Print + Sync + Threads>(
+    rt: &R,
+    asked: &ArgMatches<'_>,
+) -> Result<u8, Fault>
+where
+    R::File: Send,
+{
+    let alloc = rt.alloc();
+    let files = asked.get_strs("files").unwrap_or(&[]);
+    if let Some(clash) = files::first_clash(files) {
+        let error = command_line::board_error(alloc, clash).map_err(|_| Fault::NoMemory)?;
+        return show(rt, &error);
+    }
+    let streams = files::open_all(rt, alloc, files)?;
+    let limits = command_line::limits(asked);
+    boards::hold_sessions(rt, alloc, limits, command_line::kind(asked), streams)?;
     Ok(0)
 }
 

@@ -1,16 +1,19 @@
 //! Sessions in threads of their own, with workers beside them, and the transcript of it all.
 
-ghost use Rattle.std.specs.Prelude.{◌≡◌, ◌+◌, IfOk, vec_len};
+ghost use Rattle.std.specs.Prelude.{◌≡◌, ◌+◌, ℕ, All, IfOk, List, OnOk, Some, vec_len};
+ghost use Rattle.std.specs.Io.KnownBytes.{Appends};
+ghost use Rattle.lv_bodies.specs.Six.{SixMeaning, meaning_of_six, six_meaning};
+ghost use Rattle.lv_script.specs.Transcript.{AreAccepted, IsSoundTranscript, IsTrueClaim, greatest};
 
 use crate::files::Streams;
 use lv_bodies::Six;
 use lv_edits::Edit;
 use lv_geometry::Limits;
-use lv_hub::{Hub, Naming, OpenGate, Share, in_order, run_session, work};
+use lv_hub::{Hub, Means, OpenGate, Opened, Share, attend, in_order, run_session};
 use lv_script::{Claimed, Fault, write_transcript};
 use std::alloc::Global;
 use std::io::{Read, Write};
-use std::marker::Brand;
+use std::marker::{Brand, Model};
 use std::sync::Wait;
 use std::sync::ledger::Blank;
 use std::thread;
@@ -29,37 +32,60 @@ pub struct Plan {
 
 // A session that is to be held, with its part of the hub.
 #[derive(Drop)]
-struct Task<N: Naming, F: Drop> {
+struct Task<N: Means<Six>, F: Drop> {
     share: Share<N>,
     streams: Streams<F>,
     ghost one: { share.parts ≡ 1 },
 }
 
-// A session that was held: its part, and the reductions that it was answered, or its fault.
+// A session that was held: its part, and the reductions that it was answered, which are true of what it has seen, or its fault.
 #[derive(Drop)]
-struct Done<N: Naming> {
+struct Done<N: Means<Six>> {
     share: Share<N>,
     claims: Result<Vec<Claimed>, Fault>,
-    ghost one: { share.parts ≡ 1 },
+}
+
+impl<N: Means<Six>> Model for Done<N> {
+    ghost use Rattle.std.specs.Prelude.{◌≡◌, All, IfOk};
+    ghost use Rattle.lv_script.specs.Transcript.{IsTrueClaim};
+    ghost use Rattle.lv_hub.specs.Counting.{Holding};
+
+    ghost Value = { Holding };
+
+    ghost view = { λ d. d.share };
+
+    ghost invariant = { λ d. (d.share.parts ≡ 1) × IfOk d.claims (λ claims. All (IsTrueClaim d.share.seen) claims.items) };
 }
 
 /// Holds a session for each pair of streams, in a thread of its own where one can be made, with workers beside them. Then
-/// writes the transcript: the journal, and the sessions' reductions in the order of their edits. Where sessions end with faults
-/// nothing is written, and the first of them is the fault.
+/// writes the transcript: the journal, and the sessions' reductions in the order of their edits. What it writes is a sound
+/// transcript. Where sessions end with faults nothing is written, and the first of them is the fault.
 pub fn serve<F: Read + Write + Send + Drop, W: Write, R: Threads + Wait + Sync>(
     rt: &R,
     alloc: Global,
     plan: Plan,
     streams: Vec<Streams<F>>,
     writer: &mut W,
-) -> Result<(), Fault> {
+) -> Result<(), Fault>
+    ensures { OnOk result ((text : List ℕ) × IsSoundTranscript text × Appends (W.contents writer.old) (W.contents writer.new) text) }
+{
     let parts = streams.len() as u64 + 1;
-    serve_as::<Brand, F, W, R>(rt, alloc, plan, streams, writer, Blank::new(parts), parts)
+    serve_as::<Brand, F, W, R>(
+        rt,
+        alloc,
+        plan,
+        streams,
+        writer,
+        Blank::new(parts),
+        parts,
+        Opened::new(),
+        Six::program(),
+    )
 }
 
 // Serves them on a hub of this name.
 fn serve_as<
-    N: Naming + Send + Sync,
+    N: Means<Six> + Send + Sync,
     F: Read + Write + Send + Drop,
     W: Write,
     R: Threads + Wait + Sync,
@@ -71,16 +97,22 @@ fn serve_as<
     writer: &mut W,
     blank: Blank,
     parts: u64,
+    opened: Opened,
+    body: Six,
 ) -> Result<(), Fault>
     requires name { blank.name ≡ N.name }
     requires all { blank.parts ≡ N.parts }
     requires parts { blank.parts ≡ parts }
     requires one_each { parts ≡ vec_len streams + 1 }
     requires limits { plan.limits ≡ N.limits }
+    requires history { opened ≡ N.history }
+    requires body { N.body ≡ Some body }
+    requires program { ◌≡◌ {A = SixMeaning} (meaning_of_six body) six_meaning }
+    ensures { OnOk result ((text : List ℕ) × IsSoundTranscript text × Appends (W.contents writer.old) (W.contents writer.new) text) }
 {
-    let (hub, mut share) = Hub::<Six, N>::new(alloc, plan.limits, Six::program(), blank, parts);
+    let (hub, mut share) = Hub::<Six, N>::new(alloc, plan.limits, body, blank, parts, opened);
     match serve_all(rt, alloc, plan, &hub, &mut share, streams) {
-        Ok(claims) => write_closed(alloc, hub, share, claims, writer),
+        Ok(claims) => write_closed(rt, alloc, hub, share, claims, writer),
         Err(fault) => {
             drop(hub);
             Err(fault)
@@ -89,7 +121,7 @@ fn serve_as<
 }
 
 // Serves them on a hub, and gathers the reductions in the order of the sessions. Its share has all parts, and has them again.
-fn serve_all<N: Naming + Send + Sync, F: Read + Write + Send + Drop, R: Threads + Wait + Sync>(
+fn serve_all<N: Means<Six> + Send + Sync, F: Read + Write + Send + Drop, R: Threads + Wait + Sync>(
     rt: &R,
     alloc: Global,
     plan: Plan,
@@ -97,8 +129,10 @@ fn serve_all<N: Naming + Send + Sync, F: Read + Write + Send + Drop, R: Threads 
     share: &mut Share<N>,
     streams: Vec<Streams<F>>,
 ) -> Result<Vec<Claimed>, Fault>
-    requires { share.old.parts ≡ vec_len streams + 1 }
-    ensures { IfOk result (λ claims. share.new.parts ≡ share.old.parts) }
+    requires parts { share.old.parts ≡ vec_len streams + 1 }
+    requires program { ◌≡◌ {A = SixMeaning} (meaning_of_six hub.now) six_meaning }
+    ensures parts { IfOk result (λ claims. share.new.parts ≡ share.old.parts) }
+    ensures all_true { IfOk result (λ claims. All (IsTrueClaim share.new.seen) claims.items) }
 {
     let tasks = share_out(alloc, share, streams)?;
     let done = hold_all(rt, alloc, plan, hub, tasks)?;
@@ -111,7 +145,11 @@ fn write_in_order<W: Write>(
     journal: &[Edit],
     claims: Vec<Claimed>,
     writer: &mut W,
-) -> Result<(), Fault> {
+) -> Result<(), Fault>
+    requires accepted { AreAccepted greatest journal.now }
+    requires all_true { All (IsTrueClaim journal.now) claims.items }
+    ensures { OnOk result ((text : List ℕ) × IsSoundTranscript text × Appends (W.contents writer.old) (W.contents writer.new) text) }
+{
     let mut claims = claims;
     let Ok(()) = in_order(&mut claims) else {
         return Err(Fault::NoMemory);
@@ -121,23 +159,26 @@ fn write_in_order<W: Write>(
 
 // Closes a hub and writes its transcript. A call drops the vector, as one above drops the hub: the proof of a body that does so
 // by itself is long.
-fn write_closed<N: Naming, W: Write>(
+fn write_closed<N: Means<Six>, W: Write, R: Wait>(
+    rt: &R,
     alloc: Global,
     hub: Hub<Six, N>,
     share: Share<N>,
     claims: Vec<Claimed>,
     writer: &mut W,
 ) -> Result<(), Fault>
-    requires { share.parts ≡ N.parts }
+    requires parts { share.parts ≡ N.parts }
+    requires all_true { All (IsTrueClaim share.seen) claims.items }
+    ensures { OnOk result ((text : List ℕ) × IsSoundTranscript text × Appends (W.contents writer.old) (W.contents writer.new) text) }
 {
-    let live = hub.close(share);
+    let live = hub.close(rt, share);
     let written = write_in_order(alloc, live.journal(), claims, writer);
     drop(live);
     written
 }
 
 // Gives each session a part of the hub.
-fn share_out<N: Naming, F: Drop>(
+fn share_out<N: Means<Six>, F: Drop>(
     alloc: Global,
     share: &mut Share<N>,
     streams: Vec<Streams<F>>,
@@ -157,48 +198,60 @@ fn share_out<N: Naming, F: Drop>(
     Ok(tasks)
 }
 
-// Holds all sessions, with workers beside them.
-fn hold_all<N: Naming + Send + Sync, F: Read + Write + Send + Drop, R: Threads + Wait + Sync>(
+// Holds all sessions, with workers beside them, which end when the last session has ended. Where no thread can be made for the
+// workers, they come last, and end at once.
+fn hold_all<N: Means<Six> + Send + Sync, F: Read + Write + Send + Drop, R: Threads + Wait + Sync>(
     rt: &R,
     alloc: Global,
     plan: Plan,
     hub: &Hub<Six, N>,
     tasks: Vec<Task<N, F>>,
 ) -> Result<Vec<Done<N>>, Fault>
+    requires program { ◌≡◌ {A = SixMeaning} (meaning_of_six hub.now) six_meaning }
     ensures { IfOk result (λ done. vec_len done ≡ vec_len tasks) }
 {
     let (workers, turns) = (plan.workers, plan.turns);
-    let (done, worked) = thread::join(
+    let (worked, done) = thread::join(
         rt,
-        move || -> Result<Vec<Done<N>>, Fault>
-            ensures { IfOk result (λ done. vec_len done ≡ vec_len tasks) }
-        { hold_each(rt, alloc, hub, tasks) },
         move || -> Result<(), Fault> { refresh(rt, alloc, hub, workers, turns) },
+        move || -> Result<Vec<Done<N>>, Fault>
+            requires { ◌≡◌ {A = SixMeaning} (meaning_of_six hub.now) six_meaning }
+            ensures { IfOk result (λ done. vec_len done ≡ vec_len tasks) }
+        {
+            let done = hold_each(rt, alloc, hub, tasks);
+            hub.dismiss(rt);
+            done
+        },
     );
     worked?;
     done
 }
 
 // Holds each session in a thread of its own, where one can be made.
-fn hold_each<N: Naming + Send + Sync, F: Read + Write + Send + Drop, R: Threads + Wait + Sync>(
+fn hold_each<N: Means<Six> + Send + Sync, F: Read + Write + Send + Drop, R: Threads + Wait + Sync>(
     rt: &R,
     alloc: Global,
     hub: &Hub<Six, N>,
     tasks: Vec<Task<N, F>>,
 ) -> Result<Vec<Done<N>>, Fault>
+    requires program { ◌≡◌ {A = SixMeaning} (meaning_of_six hub.now) six_meaning }
     ensures { IfOk result (λ done. vec_len done ≡ vec_len tasks) }
 {
-    let held = |task: Task<N, F>| -> Done<N> { hold(rt, alloc, hub, task) };
+    let held = |task: Task<N, F>| -> Done<N>
+        requires { ◌≡◌ {A = SixMeaning} (meaning_of_six hub.now) six_meaning }
+    { hold(rt, alloc, hub, task) };
     thread::map_vec(rt, tasks, &held).map_err(|_| Fault::NoMemory)
 }
 
 // Holds a session.
-fn hold<N: Naming, F: Read + Write + Drop, R: Wait>(
+fn hold<N: Means<Six>, F: Read + Write + Drop, R: Wait>(
     rt: &R,
     alloc: Global,
     hub: &Hub<Six, N>,
     task: Task<N, F>,
-) -> Done<N> {
+) -> Done<N>
+    requires program { ◌≡◌ {A = SixMeaning} (meaning_of_six hub.now) six_meaning }
+{
     let Task {
         mut share,
         mut streams,
@@ -214,15 +267,18 @@ fn hold<N: Naming, F: Read + Write + Drop, R: Wait>(
     Done { share, claims }
 }
 
-// Refreshes the hub by all workers.
-fn refresh<N: Naming + Send + Sync, R: Threads + Wait + Sync>(
+// Refreshes the hub by all workers. Their threads are made once there may be work for them.
+fn refresh<N: Means<Six> + Send + Sync, R: Threads + Wait + Sync>(
     rt: &R,
     alloc: Global,
     hub: &Hub<Six, N>,
     workers: u32,
     turns: u64,
 ) -> Result<(), Fault> {
-    let worker = |_: usize| work(rt, hub, &OpenGate, turns);
+    if workers == 0 || !hub.wait_for_work(rt) {
+        return Ok(());
+    }
+    let worker = |_: usize| attend(rt, hub, &OpenGate, turns);
     match thread::map_indices(rt, alloc, workers as usize, &worker) {
         Ok(_) => Ok(()),
         Err(_) => Err(Fault::NoMemory),
@@ -230,12 +286,13 @@ fn refresh<N: Naming + Send + Sync, R: Threads + Wait + Sync>(
 }
 
 // Takes the parts back, and gathers the reductions in the order of the sessions. The first session's fault is the fault.
-fn take_back<N: Naming>(
+fn take_back<N: Means<Six>>(
     alloc: Global,
     share: &mut Share<N>,
     done: Vec<Done<N>>,
 ) -> Result<Vec<Claimed>, Fault>
-    ensures { IfOk result (λ claims. share.new.parts ≡ share.old.parts + vec_len done) }
+    ensures parts { IfOk result (λ claims. share.new.parts ≡ share.old.parts + vec_len done) }
+    ensures all_true { IfOk result (λ claims. All (IsTrueClaim share.new.seen) claims.items) }
 {
     let mut all = Vec::new(alloc);
     for session in done {

@@ -1,7 +1,11 @@
+use Rattle.std.proofs.Common.{Some}
 use Rattle.livevec.proofs.serving.serve.Given as goal
 
 abbrev pub ghosts-serve_as-N-Ledger : goal.ghosts-serve_as-N-Ledger
 ghosts-serve_as-N-Ledger g a = record { name = a.blank.name; parts = a.blank.parts }
 
 abbrev pub ghosts-serve_as-N-Naming : goal.ghosts-serve_as-N-Naming
-ghosts-serve_as-N-Naming g a = record { limits = a.plan.limits }
+ghosts-serve_as-N-Naming g a = record { limits = a.plan.limits; history = a.opened }
+
+abbrev pub ghosts-serve_as-N-Means : goal.ghosts-serve_as-N-Means
+ghosts-serve_as-N-Means g a = record { body = Some a.body }

@@ -1,0 +1,2 @@
+pub mod Seats
+mod SoundWriting

@@ -1,0 +1,10 @@
+use Rattle.std.proofs.Common.{All, subst, sym}
+use Rattle.lv_script.specs.Transcript.{IsTrueClaim}
+use Rattle.lv_hub.proofs.TruthLaws.{all_true_of_more}
+use Rattle.livevec.proofs.serving.write_closed.Goals as goal
+
+-- what is true of what the share has seen is true of the journal
+pub write_in_order-written-requires-clause-all_true : goal.write_in_order-written-requires-clause-all_true
+write_in_order-written-requires-clause-all_true g c =
+    subst (λ es. All (IsTrueClaim es) c.args.claims.items) (sym c.journal.ensures)
+    (all_true_of_more c.args.share.seen c.close-live.result.history.journal c.args.claims.items c.close-live.ensures.seen c.requires.all_true)
