@@ -3,6 +3,7 @@ mod common;
 mod desks;
 mod held_jobs;
 mod late_workers;
+mod sleepers;
 mod strangers;
 mod strangers_above;
 mod totals;

@@ -6,6 +6,12 @@
 #![tactic(auto)]
 
 #[cfg(test)]
+mod board;
+#[cfg(test)]
+mod board_refreshes;
+#[cfg(test)]
+mod board_sessions;
+#[cfg(test)]
 mod bodies;
 #[cfg(test)]
 mod conversations;

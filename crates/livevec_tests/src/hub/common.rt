@@ -14,7 +14,7 @@ use std::test::Fail;
 use std::thread;
 
 // Pushes equal elements in turn.
-pub(crate) fn push_all<B: Body, N: Naming, R: Wait>(
+pub(crate) fn push_all<B: Body, N: Means<B>, R: Wait>(
     rt: &R,
     hub: &Hub<B, N>,
     share: &mut Share<N>,
@@ -30,18 +30,22 @@ pub(crate) fn push_all<B: Body, N: Naming, R: Wait>(
 }
 
 // How many edits a share of all parts counts, and how many the journal of its hub has, which is closed.
-pub(crate) fn counts_at_close<N: Naming>(hub: Hub<Sum, N>, share: Share<N>) -> (u64, usize)
+pub(crate) fn counts_at_close<N: Means<Sum>, R: Wait>(
+    rt: &R,
+    hub: Hub<Sum, N>,
+    share: Share<N>,
+) -> (u64, usize)
     requires { share.parts ≡ N.parts }
 {
     let counted = share.count();
-    let live = hub.close(share);
+    let live = hub.close(rt, share);
     let edits = live.journal().len();
     drop(live);
     (counted, edits)
 }
 
 // The outcome of a hub's next job.
-pub(crate) fn next_outcome<B: Body, N: Naming, R: Wait>(
+pub(crate) fn next_outcome<B: Body, N: Means<B>, R: Wait>(
     rt: &R,
     hub: &Hub<B, N>,
 ) -> Result<Outcome<B>, Fail> {
@@ -52,20 +56,23 @@ pub(crate) fn next_outcome<B: Body, N: Naming, R: Wait>(
 }
 
 // Sees what a reduction from the first element answers: at which edit, and the sum.
-pub(crate) fn assert_sum<N: Naming, R: Wait + Abort>(
+pub(crate) fn assert_sum<N: Means<Sum>, R: Wait + Abort>(
     rt: &R,
     hub: &Hub<Sum, N>,
+    share: &mut Share<N>,
     hi: u32,
     edit: u32,
     value: u64,
-) -> Result<(), Fail> {
-    let answer = hub.reduce(rt, 0, hi)?;
+) -> Result<(), Fail>
+    ensures { share.new.parts ≡ share.old.parts }
+{
+    let answer = hub.reduce(rt, share, 0, hi)?;
     assert_eq!(rt; (answer.edit, answer.value), (edit, value));
     Ok(())
 }
 
 // Sees what a hub answers where it is given an outcome.
-pub(crate) fn assert_given<N: Naming, R: Wait + Abort>(
+pub(crate) fn assert_given<N: Means<Sum>, R: Wait + Abort>(
     rt: &R,
     hub: &Hub<Sum, N>,
     outcome: Outcome<Sum>,
@@ -75,7 +82,7 @@ pub(crate) fn assert_given<N: Naming, R: Wait + Abort>(
 }
 
 // Writes over an element, and sees the edit's number and that a 1 stood there.
-pub(crate) fn overwrite_a_one<N: Naming, R: Wait + Abort>(
+pub(crate) fn overwrite_a_one<N: Means<Sum>, R: Wait + Abort>(
     rt: &R,
     hub: &Hub<Sum, N>,
     share: &mut Share<N>,

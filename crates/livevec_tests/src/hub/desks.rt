@@ -69,13 +69,16 @@ fn desk_alone<N: Naming>(
     alloc: Global,
     limits: Limits,
     blank: Blank,
+    opened: Opened,
 ) -> Result<(), Fail>
     requires name { blank.name ≡ N.name }
     requires all { blank.parts ≡ N.parts }
     requires three { blank.parts ≡ 3 }
     requires limits { limits ≡ N.limits }
+    requires history { opened ≡ N.history }
 {
-    let (mut desk, mut share) = Desk::<Sum, N>::new(alloc, limits, Sum, blank, 3);
+    let (_head, front) = opened.named::<N>();
+    let (mut desk, mut share) = Desk::<Sum, N>::new(alloc, limits, Sum, blank, 3, front);
     let seen = assert_desk(rt, &mut desk, &mut share);
     drop(desk);
     seen
@@ -83,5 +86,11 @@ fn desk_alone<N: Naming>(
 
 #[test]
 fn a_desk_without_threads(rt: HostRuntime) -> Result<(), Fail> {
-    desk_alone::<Brand>(&rt, rt.alloc(), Limits::greatest(), Blank::new(3))
+    desk_alone::<Brand>(
+        &rt,
+        rt.alloc(),
+        Limits::greatest(),
+        Blank::new(3),
+        Opened::new(),
+    )
 }

@@ -1,5 +1,5 @@
 //! Tests that a worker which stands at its gate, or within a body's `lift`, holds nobody up.
-ghost use Rattle.std.specs.Prelude.{◌≡◌};
+ghost use Rattle.std.specs.Prelude.{◌≡◌, Some};
 
 use super::common::*;
 use lv_bodies::Body;
@@ -92,15 +92,15 @@ impl<'a> Body for Held<'a> {
 }
 
 // What the main thread is answered while a job is held: at the gate a push and a reduction, within `lift` another push.
-fn while_held<N: Naming, R: Wait>(
+fn while_held<B: Body<S = u64>, N: Means<B>, R: Wait>(
     rt: &R,
-    hub: &Hub<Held<'_>, N>,
+    hub: &Hub<B, N>,
     share: &mut Share<N>,
     stage: &Stage,
 ) -> Result<(Receipt, Answer<u64>, Receipt), Refusal> {
     stage.gate.wait_for_it();
     let first = hub.edit(rt, share, Edit::Push(1))?;
-    let answer = hub.reduce(rt, 0, 9)?;
+    let answer = hub.reduce(rt, share, 0, 9)?;
     stage.gate.release();
     stage.lift.wait_for_it();
     let second = hub.edit(rt, share, Edit::Push(1))?;
@@ -112,9 +112,9 @@ fn while_held<N: Naming, R: Wait>(
 type HeldOnce = (Worked, (Receipt, Answer<u64>, Receipt));
 
 // Makes a new hub one of eight elements 1, whose first job is held.
-fn hold_once<N: Naming + Send + Sync, R: Threads + Wait + Sync>(
+fn hold_once<B: Body<S = u64>, N: Means<B> + Send + Sync, R: Threads + Wait + Sync>(
     rt: &R,
-    hub: &Hub<Held<'_>, N>,
+    hub: &Hub<B, N>,
     share: &mut Share<N>,
     stage: &Stage,
 ) -> Result<HeldOnce, Refusal> {
@@ -128,19 +128,23 @@ fn hold_once<N: Naming + Send + Sync, R: Threads + Wait + Sync>(
 }
 
 // What was done while a job of a hub of eight elements 1 was held.
-fn hold_a_job<N: Naming + Send + Sync, R: Threads + Wait + Sync>(
+fn hold_a_job<B: Body<S = u64>, N: Means<B> + Send + Sync, R: Threads + Wait + Sync>(
     rt: &R,
     alloc: Global,
     limits: Limits,
     blank: Blank,
+    opened: Opened,
+    body: B,
     stage: &Stage,
 ) -> Result<HeldOnce, Refusal>
     requires name { blank.name ≡ N.name }
     requires all { blank.parts ≡ N.parts }
     requires one { blank.parts ≡ 1 }
     requires limits { limits ≡ N.limits }
+    requires history { opened ≡ N.history }
+    requires body { N.body ≡ Some body }
 {
-    let (hub, mut share) = Hub::<Held<'_>, N>::new(alloc, limits, Held { stage }, blank, 1);
+    let (hub, mut share) = Hub::<B, N>::new(alloc, limits, body, blank, 1, opened);
     let done = hold_once(rt, &hub, &mut share, stage);
     drop(hub);
     done
@@ -160,7 +164,15 @@ fn assert_held(rt: &impl Abort, done: HeldOnce) {
 fn a_held_job_holds_nobody(rt: HostRuntime) -> Result<(), Fail> {
     let stage = Stage::new();
     let limits = Limits::greatest();
-    let done = hold_a_job::<Brand, _>(&rt, rt.alloc(), limits, Blank::new(1), &stage)?;
+    let done = hold_a_job::<Held<'_>, Brand, _>(
+        &rt,
+        rt.alloc(),
+        limits,
+        Blank::new(1),
+        Opened::new(),
+        Held { stage: &stage },
+        &stage,
+    )?;
     assert!(rt; stage.was_in_time());
     assert_held(&rt, done);
     Ok(())

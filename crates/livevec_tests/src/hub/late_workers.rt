@@ -1,5 +1,5 @@
 //! Tests a worker whose outcome comes late, after another worker and an edit.
-ghost use Rattle.std.specs.Prelude.{◌≡◌};
+ghost use Rattle.std.specs.Prelude.{◌≡◌, Some};
 
 use super::common::*;
 use lv_bodies::Sum;
@@ -27,7 +27,7 @@ fn one_stale() -> Worked {
 }
 
 // While the first worker stands at its gate, a second one works for a turn, and then the first element is overwritten.
-fn overtake<N: Naming + Send + Sync, R: Threads + Wait + Sync>(
+fn overtake<N: Means<Sum> + Send + Sync, R: Threads + Wait + Sync>(
     rt: &R,
     hub: &Hub<Sum, N>,
     share: &mut Share<N>,
@@ -44,7 +44,7 @@ fn overtake<N: Naming + Send + Sync, R: Threads + Wait + Sync>(
 type DoneLate = (Worked, (Worked, Result<Receipt, Refusal>));
 
 // A worker that claimed the first block stands at its gate while another works and the main thread edits.
-fn work_late<N: Naming + Send + Sync, R: Threads + Wait + Sync>(
+fn work_late<N: Means<Sum> + Send + Sync, R: Threads + Wait + Sync>(
     rt: &R,
     hub: &Hub<Sum, N>,
     share: &mut Share<N>,
@@ -71,7 +71,7 @@ fn assert_done_late(rt: &impl Abort, done: DoneLate) {
 }
 
 // Makes a new hub one of 16 elements 1, where a worker is late.
-fn assert_late<N: Naming + Send + Sync, R: Threads + Wait + Abort + Sync>(
+fn assert_late<N: Means<Sum> + Send + Sync, R: Threads + Wait + Abort + Sync>(
     rt: &R,
     hub: &Hub<Sum, N>,
     share: &mut Share<N>,
@@ -81,22 +81,26 @@ fn assert_late<N: Naming + Send + Sync, R: Threads + Wait + Abort + Sync>(
     let done = work_late(rt, hub, share, &gate);
     assert!(rt; gate.was_in_time());
     assert_done_late(rt, done);
-    assert_sum(rt, hub, 16, 17, 24)
+    assert_sum(rt, hub, share, 16, 17, 24)
 }
 
 // A hub of 16 elements 1, where a worker is late.
-fn late_worker<N: Naming + Send + Sync, R: Threads + Wait + Abort + Sync>(
+fn late_worker<N: Means<Sum> + Send + Sync, R: Threads + Wait + Abort + Sync>(
     rt: &R,
     alloc: Global,
     limits: Limits,
     blank: Blank,
+    opened: Opened,
+    body: Sum,
 ) -> Result<(), Fail>
     requires name { blank.name ≡ N.name }
     requires all { blank.parts ≡ N.parts }
     requires one { blank.parts ≡ 1 }
     requires limits { limits ≡ N.limits }
+    requires history { opened ≡ N.history }
+    requires body { N.body ≡ Some body }
 {
-    let (hub, mut share) = Hub::<Sum, N>::new(alloc, limits, Sum, blank, 1);
+    let (hub, mut share) = Hub::<Sum, N>::new(alloc, limits, body, blank, 1, opened);
     let seen = assert_late(rt, &hub, &mut share);
     drop(hub);
     seen
@@ -104,5 +108,12 @@ fn late_worker<N: Naming + Send + Sync, R: Threads + Wait + Abort + Sync>(
 
 #[test]
 fn a_late_worker(rt: HostRuntime) -> Result<(), Fail> {
-    late_worker::<Brand, _>(&rt, rt.alloc(), Limits::greatest(), Blank::new(1))
+    late_worker::<Brand, _>(
+        &rt,
+        rt.alloc(),
+        Limits::greatest(),
+        Blank::new(1),
+        Opened::new(),
+        Sum,
+    )
 }

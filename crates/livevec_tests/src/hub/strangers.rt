@@ -1,5 +1,5 @@
 //! Tests what a hub answers where it is given the outcome of another hub, and what both scans answer.
-ghost use Rattle.std.specs.Prelude.{◌≡◌};
+ghost use Rattle.std.specs.Prelude.{◌≡◌, Some};
 
 use super::common::*;
 use lv_bodies::{Automaton, Body, Sum};
@@ -17,7 +17,7 @@ use std::test::Fail;
 use std::thread::Threads;
 
 // Makes a new hub one of eight equal elements, and computes its first job.
-fn outcome_of_eight<B: Body, N: Naming, R: Wait>(
+fn outcome_of_eight<B: Body, N: Means<B>, R: Wait>(
     rt: &R,
     hub: &Hub<B, N>,
     share: &mut Share<N>,
@@ -28,11 +28,12 @@ fn outcome_of_eight<B: Body, N: Naming, R: Wait>(
 }
 
 // The outcome of the first job of a hub of eight equal elements.
-fn first_outcome<B: Body, N: Naming, R: Wait>(
+fn first_outcome<B: Body, N: Means<B>, R: Wait>(
     rt: &R,
     alloc: Global,
     limits: Limits,
     blank: Blank,
+    opened: Opened,
     body: B,
     x: i64,
 ) -> Result<Outcome<B>, Fail>
@@ -40,15 +41,17 @@ fn first_outcome<B: Body, N: Naming, R: Wait>(
     requires all { blank.parts ≡ N.parts }
     requires one { blank.parts ≡ 1 }
     requires limits { limits ≡ N.limits }
+    requires history { opened ≡ N.history }
+    requires body { N.body ≡ Some body }
 {
-    let (hub, mut share) = Hub::<B, N>::new(alloc, limits, body, blank, 1);
+    let (hub, mut share) = Hub::<B, N>::new(alloc, limits, body, blank, 1, opened);
     let outcome = outcome_of_eight(rt, &hub, &mut share, x);
     drop(hub);
     outcome
 }
 
 // Makes a new hub one of eight equal elements, and gives it an outcome.
-fn give_to_eight<B: Body, N: Naming, R: Wait>(
+fn give_to_eight<B: Body, N: Means<B>, R: Wait>(
     rt: &R,
     hub: &Hub<B, N>,
     share: &mut Share<N>,
@@ -60,11 +63,12 @@ fn give_to_eight<B: Body, N: Naming, R: Wait>(
 }
 
 // What a hub of eight equal elements answers where it is given an outcome.
-fn answer_to<B: Body, N: Naming, R: Wait>(
+fn answer_to<B: Body, N: Means<B>, R: Wait>(
     rt: &R,
     alloc: Global,
     limits: Limits,
     blank: Blank,
+    opened: Opened,
     body: B,
     x: i64,
     outcome: Outcome<B>,
@@ -73,8 +77,10 @@ fn answer_to<B: Body, N: Naming, R: Wait>(
     requires all { blank.parts ≡ N.parts }
     requires one { blank.parts ≡ 1 }
     requires limits { limits ≡ N.limits }
+    requires history { opened ≡ N.history }
+    requires body { N.body ≡ Some body }
 {
-    let (hub, mut share) = Hub::<B, N>::new(alloc, limits, body, blank, 1);
+    let (hub, mut share) = Hub::<B, N>::new(alloc, limits, body, blank, 1, opened);
     let answer = give_to_eight(rt, &hub, &mut share, x, outcome);
     drop(hub);
     answer
@@ -87,13 +93,16 @@ fn assert_scan(rt: &impl Abort, scan: &Scan<u64>, edit: u32, values: &[u64]) {
 }
 
 // Gives a hub of eight elements 1 the outcome of another, and then its own, twice.
-fn assert_own_alone<N: Naming, R: Wait + Abort>(
+fn assert_own_alone<N: Means<Sum>, R: Wait + Abort>(
     rt: &R,
     hub: &Hub<Sum, N>,
+    share: &mut Share<N>,
     strange: Outcome<Sum>,
-) -> Result<(), Fail> {
+) -> Result<(), Fail>
+    ensures { share.new.parts ≡ share.old.parts }
+{
     assert_given(rt, hub, strange, Err(Refusal::Stranger));
-    assert_sum(rt, hub, 8, 8, 8)?;
+    assert_sum(rt, hub, share, 8, 8, 8)?;
     let own = next_outcome(rt, hub)?;
     assert_given(rt, hub, own, Ok(Accepted::Installed));
     assert_given(rt, hub, own, Ok(Accepted::Held));
@@ -101,30 +110,36 @@ fn assert_own_alone<N: Naming, R: Wait + Abort>(
 }
 
 // Sees that a hub of eight elements 1 follows a write of 5, and that the other's outcome is late now.
-fn assert_follows<N: Naming, R: Threads + Wait + Abort + Sync>(
+fn assert_follows<N: Means<Sum>, R: Threads + Wait + Abort + Sync>(
     rt: &R,
     alloc: Global,
     hub: &Hub<Sum, N>,
+    share: &mut Share<N>,
     strange: Outcome<Sum>,
-) -> Result<(), Fail> {
+) -> Result<(), Fail>
+    ensures { share.new.parts ≡ share.old.parts }
+{
     assert_given(rt, hub, strange, Ok(Accepted::Stale { now: 9 }));
-    assert_sum(rt, hub, 8, 9, 12)?;
-    assert_scans(rt, alloc, hub)
+    assert_sum(rt, hub, share, 8, 9, 12)?;
+    assert_scans(rt, alloc, hub, share)
 }
 
 // Sees both scans of the elements 5 and 1 that a hub begins with at edit 9.
-fn assert_scans<N: Naming, R: Threads + Wait + Abort + Sync>(
+fn assert_scans<N: Means<Sum>, R: Threads + Wait + Abort + Sync>(
     rt: &R,
     alloc: Global,
     hub: &Hub<Sum, N>,
-) -> Result<(), Fail> {
-    assert_scan(rt, &hub.scan_inclusive(rt, alloc, 0, 2)?, 9, &[5, 6]);
-    assert_scan(rt, &hub.scan_exclusive(rt, alloc, 0, 2)?, 9, &[0, 5]);
+    share: &mut Share<N>,
+) -> Result<(), Fail>
+    ensures { share.new.parts ≡ share.old.parts }
+{
+    assert_scan(rt, &hub.scan_inclusive(rt, alloc, share, 0, 2)?, 9, &[5, 6]);
+    assert_scan(rt, &hub.scan_exclusive(rt, alloc, share, 0, 2)?, 9, &[0, 5]);
     Ok(())
 }
 
 // Makes a new hub one of eight elements 1, and gives it an outcome of another before and after a write.
-fn assert_strangers<N: Naming, R: Threads + Wait + Abort + Sync>(
+fn assert_strangers<N: Means<Sum>, R: Threads + Wait + Abort + Sync>(
     rt: &R,
     alloc: Global,
     hub: &Hub<Sum, N>,
@@ -134,27 +149,31 @@ fn assert_strangers<N: Naming, R: Threads + Wait + Abort + Sync>(
     ensures { share.new.parts ≡ share.old.parts }
 {
     push_all(rt, hub, share, 8, 1)?;
-    assert_own_alone(rt, hub, strange)?;
+    assert_own_alone(rt, hub, share, strange)?;
     overwrite_a_one(rt, hub, share, 0, 5, 9);
-    assert_follows(rt, alloc, hub, strange)
+    assert_follows(rt, alloc, hub, share, strange)
 }
 
 // A hub of eight elements 1, given an outcome of another before and after a write, and closed.
-fn one_hub_of_two<N: Naming, R: Threads + Wait + Abort + Sync>(
+fn one_hub_of_two<N: Means<Sum>, R: Threads + Wait + Abort + Sync>(
     rt: &R,
     alloc: Global,
     limits: Limits,
     blank: Blank,
+    opened: Opened,
+    body: Sum,
     strange: Outcome<Sum>,
 ) -> Result<(), Fail>
     requires name { blank.name ≡ N.name }
     requires all { blank.parts ≡ N.parts }
     requires one { blank.parts ≡ 1 }
     requires limits { limits ≡ N.limits }
+    requires history { opened ≡ N.history }
+    requires body { N.body ≡ Some body }
 {
-    let (hub, mut share) = Hub::<Sum, N>::new(alloc, limits, Sum, blank, 1);
+    let (hub, mut share) = Hub::<Sum, N>::new(alloc, limits, body, blank, 1, opened);
     let seen = assert_strangers(rt, alloc, &hub, &mut share, strange);
-    let counts = counts_at_close(hub, share);
+    let counts = counts_at_close(rt, hub, share);
     seen?;
     assert_eq!(rt; counts, (9, 9));
     Ok(())
@@ -164,16 +183,49 @@ fn one_hub_of_two<N: Naming, R: Threads + Wait + Abort + Sync>(
 fn two_hubs(rt: HostRuntime) -> Result<(), Fail> {
     let alloc = rt.alloc();
     let limits = Limits::greatest();
-    let strange = first_outcome::<Sum, Brand, _>(&rt, alloc, limits, Blank::new(1), Sum, 2)?;
-    one_hub_of_two::<Brand, _>(&rt, alloc, limits, Blank::new(1), strange)
+    let strange = first_outcome::<Sum, Brand, _>(
+        &rt,
+        alloc,
+        limits,
+        Blank::new(1),
+        Opened::new(),
+        Sum,
+        2,
+    )?;
+    one_hub_of_two::<Brand, _>(
+        &rt,
+        alloc,
+        limits,
+        Blank::new(1),
+        Opened::new(),
+        Sum,
+        strange,
+    )
 }
 
 #[test]
 fn equal_contents_are_no_stranger(rt: HostRuntime) -> Result<(), Fail> {
     let alloc = rt.alloc();
     let limits = Limits::greatest();
-    let outcome = first_outcome::<Sum, Brand, _>(&rt, alloc, limits, Blank::new(1), Sum, 1)?;
-    let answer = answer_to::<Sum, Brand, _>(&rt, alloc, limits, Blank::new(1), Sum, 1, outcome);
+    let outcome = first_outcome::<Sum, Brand, _>(
+        &rt,
+        alloc,
+        limits,
+        Blank::new(1),
+        Opened::new(),
+        Sum,
+        1,
+    )?;
+    let answer = answer_to::<Sum, Brand, _>(
+        &rt,
+        alloc,
+        limits,
+        Blank::new(1),
+        Opened::new(),
+        Sum,
+        1,
+        outcome,
+    );
     assert_eq!(rt; answer, Ok(Accepted::Installed));
     Ok(())
 }
@@ -197,12 +249,14 @@ fn an_outcome_by_another_table_is_a_stranger(rt: HostRuntime) -> Result<(), Fail
     let alloc = rt.alloc();
     let limits = Limits::greatest();
     let body = Automaton::program();
+    let other = adding()?;
     let outcome = first_outcome::<Automaton, Brand, _>(
         &rt,
         alloc,
         limits,
         Blank::new(1),
-        adding()?,
+        Opened::new(),
+        other,
         1,
     )?;
     let answer = answer_to::<Automaton, Brand, _>(
@@ -210,6 +264,7 @@ fn an_outcome_by_another_table_is_a_stranger(rt: HostRuntime) -> Result<(), Fail
         alloc,
         limits,
         Blank::new(1),
+        Opened::new(),
         body,
         1,
         outcome,

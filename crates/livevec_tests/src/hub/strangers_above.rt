@@ -1,5 +1,5 @@
 //! Tests what a hub answers where it is given the outcome of a node of another hub that lies above the blocks.
-ghost use Rattle.std.specs.Prelude.{◌≡◌};
+ghost use Rattle.std.specs.Prelude.{◌≡◌, Some};
 
 use super::common::*;
 use lv_bodies::Sum;
@@ -15,14 +15,14 @@ use std::sync::ledger::Blank;
 use std::test::Fail;
 
 // Claims a hub's next job and gives its outcome.
-fn refresh<N: Naming, R: Wait + Abort>(rt: &R, hub: &Hub<Sum, N>) -> Result<(), Fail> {
+fn refresh<N: Means<Sum>, R: Wait + Abort>(rt: &R, hub: &Hub<Sum, N>) -> Result<(), Fail> {
     let outcome = next_outcome(rt, hub)?;
     assert_given(rt, hub, outcome, Ok(Accepted::Installed));
     Ok(())
 }
 
 // Makes a new hub one of 64 equal elements, whose eight blocks were refreshed.
-fn eight_blocks<N: Naming, R: Wait + Abort>(
+fn eight_blocks<N: Means<Sum>, R: Wait + Abort>(
     rt: &R,
     hub: &Hub<Sum, N>,
     share: &mut Share<N>,
@@ -36,7 +36,7 @@ fn eight_blocks<N: Naming, R: Wait + Abort>(
 }
 
 // Makes a new hub one of 64 elements 2, and computes the job of the node over its eight blocks.
-fn outcome_of_64<N: Naming, R: Wait + Abort>(
+fn outcome_of_64<N: Means<Sum>, R: Wait + Abort>(
     rt: &R,
     hub: &Hub<Sum, N>,
     share: &mut Share<N>,
@@ -52,25 +52,29 @@ fn outcome_of_64<N: Naming, R: Wait + Abort>(
 }
 
 // The outcome of the node over the eight blocks of a hub of 64 elements 2.
-fn outcome_above<N: Naming, R: Wait + Abort>(
+fn outcome_above<N: Means<Sum>, R: Wait + Abort>(
     rt: &R,
     alloc: Global,
     limits: Limits,
     blank: Blank,
+    opened: Opened,
+    body: Sum,
 ) -> Result<Outcome<Sum>, Fail>
     requires name { blank.name ≡ N.name }
     requires all { blank.parts ≡ N.parts }
     requires one { blank.parts ≡ 1 }
     requires limits { limits ≡ N.limits }
+    requires history { opened ≡ N.history }
+    requires body { N.body ≡ Some body }
 {
-    let (hub, mut share) = Hub::<Sum, N>::new(alloc, limits, Sum, blank, 1);
+    let (hub, mut share) = Hub::<Sum, N>::new(alloc, limits, body, blank, 1, opened);
     let outcome = outcome_of_64(rt, &hub, &mut share);
     drop(hub);
     outcome
 }
 
 // Makes a new hub one of 64 elements 1, and gives it an outcome above the blocks of another before and after a write.
-fn assert_strangers_above<N: Naming, R: Wait + Abort>(
+fn assert_strangers_above<N: Means<Sum>, R: Wait + Abort>(
     rt: &R,
     hub: &Hub<Sum, N>,
     share: &mut Share<N>,
@@ -84,19 +88,23 @@ fn assert_strangers_above<N: Naming, R: Wait + Abort>(
 }
 
 // A hub of 64 elements 1, given an outcome above the blocks of another before and after a write.
-fn one_hub_of_64<N: Naming, R: Wait + Abort>(
+fn one_hub_of_64<N: Means<Sum>, R: Wait + Abort>(
     rt: &R,
     alloc: Global,
     limits: Limits,
     blank: Blank,
+    opened: Opened,
+    body: Sum,
     strange: Outcome<Sum>,
 ) -> Result<(), Fail>
     requires name { blank.name ≡ N.name }
     requires all { blank.parts ≡ N.parts }
     requires one { blank.parts ≡ 1 }
     requires limits { limits ≡ N.limits }
+    requires history { opened ≡ N.history }
+    requires body { N.body ≡ Some body }
 {
-    let (hub, mut share) = Hub::<Sum, N>::new(alloc, limits, Sum, blank, 1);
+    let (hub, mut share) = Hub::<Sum, N>::new(alloc, limits, body, blank, 1, opened);
     let seen = assert_strangers_above(rt, &hub, &mut share, strange);
     drop(hub);
     seen
@@ -106,6 +114,14 @@ fn one_hub_of_64<N: Naming, R: Wait + Abort>(
 fn strangers_above_the_blocks(rt: HostRuntime) -> Result<(), Fail> {
     let alloc = rt.alloc();
     let limits = Limits::greatest();
-    let strange = outcome_above::<Brand, _>(&rt, alloc, limits, Blank::new(1))?;
-    one_hub_of_64::<Brand, _>(&rt, alloc, limits, Blank::new(1), strange)
+    let strange = outcome_above::<Brand, _>(&rt, alloc, limits, Blank::new(1), Opened::new(), Sum)?;
+    one_hub_of_64::<Brand, _>(
+        &rt,
+        alloc,
+        limits,
+        Blank::new(1),
+        Opened::new(),
+        Sum,
+        strange,
+    )
 }

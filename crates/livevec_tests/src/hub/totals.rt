@@ -1,5 +1,5 @@
 //! Tests that shares count all edits and no other: where two threads edit, and where memory is wanting.
-ghost use Rattle.std.specs.Prelude.{◌≡◌};
+ghost use Rattle.std.specs.Prelude.{◌≡◌, Some};
 
 use super::common::*;
 use lv_bodies::Sum;
@@ -16,7 +16,7 @@ use std::thread;
 use std::thread::Threads;
 
 // Pushes 500 elements on a share of its own, and hands it back.
-fn push_500<N: Naming, R: Wait>(
+fn push_500<N: Means<Sum>, R: Wait>(
     rt: &R,
     hub: &Hub<Sum, N>,
     share: Share<N>,
@@ -29,7 +29,7 @@ fn push_500<N: Naming, R: Wait>(
 }
 
 // Two threads push 500 elements each; both shares together are handed back.
-fn push_from_two<N: Naming + Send + Sync, R: Threads + Wait + Sync>(
+fn push_from_two<N: Means<Sum> + Send + Sync, R: Threads + Wait + Sync>(
     rt: &R,
     hub: &Hub<Sum, N>,
     share: Share<N>,
@@ -49,20 +49,24 @@ fn push_from_two<N: Naming + Send + Sync, R: Threads + Wait + Sync>(
 }
 
 // A hub that two threads edit, closed.
-fn total<N: Naming + Send + Sync, R: Threads + Wait + Abort + Sync>(
+fn total<N: Means<Sum> + Send + Sync, R: Threads + Wait + Abort + Sync>(
     rt: &R,
     alloc: Global,
     limits: Limits,
     blank: Blank,
+    opened: Opened,
+    body: Sum,
 ) -> Result<(), Fail>
     requires name { blank.name ≡ N.name }
     requires all { blank.parts ≡ N.parts }
     requires two { blank.parts ≡ 2 }
     requires limits { limits ≡ N.limits }
+    requires history { opened ≡ N.history }
+    requires body { N.body ≡ Some body }
 {
-    let (hub, share) = Hub::<Sum, N>::new(alloc, limits, Sum, blank, 2);
+    let (hub, share) = Hub::<Sum, N>::new(alloc, limits, body, blank, 2, opened);
     let (share, pushed) = push_from_two(rt, &hub, share);
-    let counts = counts_at_close(hub, share);
+    let counts = counts_at_close(rt, hub, share);
     pushed?;
     assert_eq!(rt; counts, (1000, 1000));
     Ok(())
@@ -70,11 +74,18 @@ fn total<N: Naming + Send + Sync, R: Threads + Wait + Abort + Sync>(
 
 #[test]
 fn totals_over_threads(rt: HostRuntime) -> Result<(), Fail> {
-    total::<Brand, _>(&rt, rt.alloc(), Limits::greatest(), Blank::new(2))
+    total::<Brand, _>(
+        &rt,
+        rt.alloc(),
+        Limits::greatest(),
+        Blank::new(2),
+        Opened::new(),
+        Sum,
+    )
 }
 
 // Pushes a 1. Where memory is wanting it sees that the share counts nothing, and pushes again.
-fn push_or_again<N: Naming, R: Wait + Abort>(
+fn push_or_again<N: Means<Sum>, R: Wait + Abort>(
     rt: &R,
     hub: &Hub<Sum, N>,
     share: &mut Share<N>,
@@ -90,7 +101,7 @@ fn push_or_again<N: Naming, R: Wait + Abort>(
     first
 }
 
-fn push_nine<N: Naming, R: Wait + Abort>(rt: &R, hub: &Hub<Sum, N>, share: &mut Share<N>)
+fn push_nine<N: Means<Sum>, R: Wait + Abort>(rt: &R, hub: &Hub<Sum, N>, share: &mut Share<N>)
     ensures { share.new.parts ≡ share.old.parts }
 {
     for index in 0..9 {
@@ -100,19 +111,35 @@ fn push_nine<N: Naming, R: Wait + Abort>(rt: &R, hub: &Hub<Sum, N>, share: &mut 
     }
 }
 
-fn nine_pushes<N: Naming, R: Wait + Abort>(rt: &R, alloc: Global, limits: Limits, blank: Blank)
+fn nine_pushes<N: Means<Sum>, R: Wait + Abort>(
+    rt: &R,
+    alloc: Global,
+    limits: Limits,
+    blank: Blank,
+    opened: Opened,
+    body: Sum,
+)
     requires name { blank.name ≡ N.name }
     requires all { blank.parts ≡ N.parts }
     requires one { blank.parts ≡ 1 }
     requires limits { limits ≡ N.limits }
+    requires history { opened ≡ N.history }
+    requires body { N.body ≡ Some body }
 {
-    let (hub, mut share) = Hub::<Sum, N>::new(alloc, limits, Sum, blank, 1);
+    let (hub, mut share) = Hub::<Sum, N>::new(alloc, limits, body, blank, 1, opened);
     push_nine(rt, &hub, &mut share);
-    assert_eq!(rt; counts_at_close(hub, share), (9, 9));
+    assert_eq!(rt; counts_at_close(rt, hub, share), (9, 9));
 }
 
 // To be run with each allocation failing in turn, too.
 #[test]
 fn want_of_memory_counts_nothing(rt: HostRuntime) {
-    nine_pushes::<Brand, _>(&rt, rt.alloc(), Limits::greatest(), Blank::new(1));
+    nine_pushes::<Brand, _>(
+        &rt,
+        rt.alloc(),
+        Limits::greatest(),
+        Blank::new(1),
+        Opened::new(),
+        Sum,
+    );
 }

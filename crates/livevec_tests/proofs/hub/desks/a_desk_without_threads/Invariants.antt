@@ -4,4 +4,4 @@ abbrev pub ghosts-desk_alone-N-Ledger : goal.ghosts-desk_alone-N-Ledger
 ghosts-desk_alone-N-Ledger g a = record { name = a.blank.name; parts = a.blank.parts }
 
 abbrev pub ghosts-desk_alone-N-Naming : goal.ghosts-desk_alone-N-Naming
-ghosts-desk_alone-N-Naming g a = record { limits = a.limits }
+ghosts-desk_alone-N-Naming g a = record { limits = a.limits; history = a.opened }

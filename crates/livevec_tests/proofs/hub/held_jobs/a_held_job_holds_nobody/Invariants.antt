@@ -1,7 +1,11 @@
+use Rattle.std.proofs.Common.{Some}
 use Rattle.livevec_tests.proofs.hub.held_jobs.a_held_job_holds_nobody.Given as goal
 
 abbrev pub ghosts-hold_a_job-N-Ledger : goal.ghosts-hold_a_job-N-Ledger
 ghosts-hold_a_job-N-Ledger g a = record { name = a.blank.name; parts = a.blank.parts }
 
 abbrev pub ghosts-hold_a_job-N-Naming : goal.ghosts-hold_a_job-N-Naming
-ghosts-hold_a_job-N-Naming g a = record { limits = a.limits }
+ghosts-hold_a_job-N-Naming g a = record { limits = a.limits; history = a.opened }
+
+abbrev pub ghosts-hold_a_job-N-Means : goal.ghosts-hold_a_job-N-Means
+ghosts-hold_a_job-N-Means g a = record { body = Some a.body }

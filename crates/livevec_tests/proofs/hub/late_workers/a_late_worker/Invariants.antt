@@ -1,7 +1,11 @@
+use Rattle.std.proofs.Common.{Some}
 use Rattle.livevec_tests.proofs.hub.late_workers.a_late_worker.Given as goal
 
 abbrev pub ghosts-late_worker-N-Ledger : goal.ghosts-late_worker-N-Ledger
 ghosts-late_worker-N-Ledger g a = record { name = a.blank.name; parts = a.blank.parts }
 
 abbrev pub ghosts-late_worker-N-Naming : goal.ghosts-late_worker-N-Naming
-ghosts-late_worker-N-Naming g a = record { limits = a.limits }
+ghosts-late_worker-N-Naming g a = record { limits = a.limits; history = a.opened }
+
+abbrev pub ghosts-late_worker-N-Means : goal.ghosts-late_worker-N-Means
+ghosts-late_worker-N-Means g a = record { body = Some a.body }

@@ -1,13 +1,20 @@
+use Rattle.std.proofs.Common.{Some}
 use Rattle.livevec_tests.proofs.hub.strangers.equal_contents_are_no_stranger.Given as goal
 
 abbrev pub ghosts-first_outcome-N-Ledger : goal.ghosts-first_outcome-N-Ledger
 ghosts-first_outcome-N-Ledger g a = record { name = a.blank.name; parts = a.blank.parts }
 
 abbrev pub ghosts-first_outcome-N-Naming : goal.ghosts-first_outcome-N-Naming
-ghosts-first_outcome-N-Naming g a = record { limits = a.limits }
+ghosts-first_outcome-N-Naming g a = record { limits = a.limits; history = a.opened }
+
+abbrev pub ghosts-first_outcome-N-Means : goal.ghosts-first_outcome-N-Means
+ghosts-first_outcome-N-Means g a = record { body = Some a.body }
 
 abbrev pub ghosts-answer_to-N-Ledger : goal.ghosts-answer_to-N-Ledger
 ghosts-answer_to-N-Ledger g a = record { name = a.blank.name; parts = a.blank.parts }
 
 abbrev pub ghosts-answer_to-N-Naming : goal.ghosts-answer_to-N-Naming
-ghosts-answer_to-N-Naming g a = record { limits = a.limits }
+ghosts-answer_to-N-Naming g a = record { limits = a.limits; history = a.opened }
+
+abbrev pub ghosts-answer_to-N-Means : goal.ghosts-answer_to-N-Means
+ghosts-answer_to-N-Means g a = record { body = Some a.body }

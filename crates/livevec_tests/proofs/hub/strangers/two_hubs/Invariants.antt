@@ -1,13 +1,20 @@
+use Rattle.std.proofs.Common.{Some}
 use Rattle.livevec_tests.proofs.hub.strangers.two_hubs.Given as goal
 
 abbrev pub ghosts-first_outcome-N-Ledger : goal.ghosts-first_outcome-N-Ledger
 ghosts-first_outcome-N-Ledger g a = record { name = a.blank.name; parts = a.blank.parts }
 
 abbrev pub ghosts-first_outcome-N-Naming : goal.ghosts-first_outcome-N-Naming
-ghosts-first_outcome-N-Naming g a = record { limits = a.limits }
+ghosts-first_outcome-N-Naming g a = record { limits = a.limits; history = a.opened }
+
+abbrev pub ghosts-first_outcome-N-Means : goal.ghosts-first_outcome-N-Means
+ghosts-first_outcome-N-Means g a = record { body = Some a.body }
 
 abbrev pub ghosts-one_hub_of_two-N-Ledger : goal.ghosts-one_hub_of_two-N-Ledger
 ghosts-one_hub_of_two-N-Ledger g a = record { name = a.blank.name; parts = a.blank.parts }
 
 abbrev pub ghosts-one_hub_of_two-N-Naming : goal.ghosts-one_hub_of_two-N-Naming
-ghosts-one_hub_of_two-N-Naming g a = record { limits = a.limits }
+ghosts-one_hub_of_two-N-Naming g a = record { limits = a.limits; history = a.opened }
+
+abbrev pub ghosts-one_hub_of_two-N-Means : goal.ghosts-one_hub_of_two-N-Means
+ghosts-one_hub_of_two-N-Means g a = record { body = Some a.body }

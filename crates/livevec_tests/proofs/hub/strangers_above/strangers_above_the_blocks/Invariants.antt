@@ -1,13 +1,20 @@
+use Rattle.std.proofs.Common.{Some}
 use Rattle.livevec_tests.proofs.hub.strangers_above.strangers_above_the_blocks.Given as goal
 
 abbrev pub ghosts-outcome_above-N-Ledger : goal.ghosts-outcome_above-N-Ledger
 ghosts-outcome_above-N-Ledger g a = record { name = a.blank.name; parts = a.blank.parts }
 
 abbrev pub ghosts-outcome_above-N-Naming : goal.ghosts-outcome_above-N-Naming
-ghosts-outcome_above-N-Naming g a = record { limits = a.limits }
+ghosts-outcome_above-N-Naming g a = record { limits = a.limits; history = a.opened }
+
+abbrev pub ghosts-outcome_above-N-Means : goal.ghosts-outcome_above-N-Means
+ghosts-outcome_above-N-Means g a = record { body = Some a.body }
 
 abbrev pub ghosts-one_hub_of_64-N-Ledger : goal.ghosts-one_hub_of_64-N-Ledger
 ghosts-one_hub_of_64-N-Ledger g a = record { name = a.blank.name; parts = a.blank.parts }
 
 abbrev pub ghosts-one_hub_of_64-N-Naming : goal.ghosts-one_hub_of_64-N-Naming
-ghosts-one_hub_of_64-N-Naming g a = record { limits = a.limits }
+ghosts-one_hub_of_64-N-Naming g a = record { limits = a.limits; history = a.opened }
+
+abbrev pub ghosts-one_hub_of_64-N-Means : goal.ghosts-one_hub_of_64-N-Means
+ghosts-one_hub_of_64-N-Means g a = record { body = Some a.body }

@@ -1,7 +1,11 @@
+use Rattle.std.proofs.Common.{Some}
 use Rattle.livevec_tests.proofs.hub.totals.totals_over_threads.Given as goal
 
 abbrev pub ghosts-total-N-Ledger : goal.ghosts-total-N-Ledger
 ghosts-total-N-Ledger g a = record { name = a.blank.name; parts = a.blank.parts }
 
 abbrev pub ghosts-total-N-Naming : goal.ghosts-total-N-Naming
-ghosts-total-N-Naming g a = record { limits = a.limits }
+ghosts-total-N-Naming g a = record { limits = a.limits; history = a.opened }
+
+abbrev pub ghosts-total-N-Means : goal.ghosts-total-N-Means
+ghosts-total-N-Means g a = record { body = Some a.body }

@@ -1,7 +1,11 @@
+use Rattle.std.proofs.Common.{Some}
 use Rattle.livevec_tests.proofs.hub.totals.want_of_memory_counts_nothing.Given as goal
 
 abbrev pub ghosts-nine_pushes-N-Ledger : goal.ghosts-nine_pushes-N-Ledger
 ghosts-nine_pushes-N-Ledger g a = record { name = a.blank.name; parts = a.blank.parts }
 
 abbrev pub ghosts-nine_pushes-N-Naming : goal.ghosts-nine_pushes-N-Naming
-ghosts-nine_pushes-N-Naming g a = record { limits = a.limits }
+ghosts-nine_pushes-N-Naming g a = record { limits = a.limits; history = a.opened }
+
+abbrev pub ghosts-nine_pushes-N-Means : goal.ghosts-nine_pushes-N-Means
+ghosts-nine_pushes-N-Means g a = record { body = Some a.body }

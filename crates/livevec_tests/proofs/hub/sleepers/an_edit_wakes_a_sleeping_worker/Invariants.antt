@@ -1,0 +1,11 @@
+use Rattle.std.proofs.Common.{Some}
+use Rattle.livevec_tests.proofs.hub.sleepers.an_edit_wakes_a_sleeping_worker.Given as goal
+
+abbrev pub ghosts-woken-N-Ledger : goal.ghosts-woken-N-Ledger
+ghosts-woken-N-Ledger g a = record { name = a.blank.name; parts = a.blank.parts }
+
+abbrev pub ghosts-woken-N-Naming : goal.ghosts-woken-N-Naming
+ghosts-woken-N-Naming g a = record { limits = a.limits; history = a.opened }
+
+abbrev pub ghosts-woken-N-Means : goal.ghosts-woken-N-Means
+ghosts-woken-N-Means g a = record { body = Some a.body }

@@ -1,0 +1,11 @@
+use Rattle.std.proofs.Common.{Some}
+use Rattle.livevec_tests.proofs.hub.sleepers.dismissed_workers_end.Given as goal
+
+abbrev pub ghosts-dismissed-N-Ledger : goal.ghosts-dismissed-N-Ledger
+ghosts-dismissed-N-Ledger g a = record { name = a.blank.name; parts = a.blank.parts }
+
+abbrev pub ghosts-dismissed-N-Naming : goal.ghosts-dismissed-N-Naming
+ghosts-dismissed-N-Naming g a = record { limits = a.limits; history = a.opened }
+
+abbrev pub ghosts-dismissed-N-Means : goal.ghosts-dismissed-N-Means
+ghosts-dismissed-N-Means g a = record { body = Some a.body }

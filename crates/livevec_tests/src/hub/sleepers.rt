@@ -1,0 +1,210 @@
+//! Tests workers that sleep where nothing is wanted: an edit wakes them, and they end when they are dismissed.
+ghost use Rattle.std.specs.Prelude.{◌≡◌, Some};
+
+use super::common::*;
+use lv_bodies::Sum;
+use lv_geometry::{Limits, Refusal};
+use lv_hub::*;
+use std::alloc::{AllocError, Global};
+use std::marker::Brand;
+use std::process::Abort;
+use std::sync::Wait;
+use std::sync::atomic::{AtomicU64, Ordering};
+use std::sync::ledger::Blank;
+use std::test::Fail;
+use std::thread;
+use std::thread::Threads;
+use std::time::{Clock, Duration};
+
+// A gate that counts who passes.
+#[derive(Drop)]
+struct Turnstile {
+    passed: AtomicU64,
+}
+
+impl Turnstile {
+    fn new() -> Turnstile {
+        Turnstile {
+            passed: AtomicU64::new(0),
+        }
+    }
+
+    // Whether so many pass within 10 seconds.
+    fn is_passed_by(&self, clock: &impl Clock, count: u64) -> bool {
+        for _ in 0..10_000 {
+            if count <= self.passed.load(Ordering::SeqCst) {
+                return true;
+            }
+            thread::sleep(clock, Duration::from_millis(1));
+        }
+        false
+    }
+}
+
+impl Gate for Turnstile {
+    fn hold(&self, _turn: u64) {
+        self.passed.fetch_add(1, Ordering::SeqCst);
+    }
+}
+
+// Lets another thread come to its sleep, or use up a thousand turns where it doesn't sleep.
+fn let_it_sleep(clock: &impl Clock) {
+    thread::sleep(clock, Duration::from_millis(50));
+}
+
+// What a worker did that installed so many outcomes.
+fn installed(count: u64) -> Worked {
+    Worked {
+        claimed: count,
+        installed: count,
+        held: 0,
+        stale: 0,
+        strangers: 0,
+    }
+}
+
+// Pushes a block that a worker claims, and once it had time to fall asleep another one. Says whether both were claimed.
+fn push_two_blocks<N: Means<Sum>, R: Wait + Clock>(
+    rt: &R,
+    hub: &Hub<Sum, N>,
+    share: &mut Share<N>,
+    gate: &Turnstile,
+) -> Result<bool, Refusal> {
+    push_all(rt, hub, share, 8, 1)?;
+    let first = gate.is_passed_by(rt, 1);
+    let_it_sleep(rt);
+    push_all(rt, hub, share, 8, 1)?;
+    Ok(first && gate.is_passed_by(rt, 2))
+}
+
+// The same, and the worker is dismissed in any case.
+fn push_then_dismiss<N: Means<Sum>, R: Wait + Clock>(
+    rt: &R,
+    hub: &Hub<Sum, N>,
+    share: &mut Share<N>,
+    gate: &Turnstile,
+) -> Result<bool, Refusal> {
+    let seen = push_two_blocks(rt, hub, share, gate);
+    hub.dismiss(rt);
+    seen
+}
+
+// A worker of a thousand turns attends while two blocks are pushed.
+fn assert_woken<N: Means<Sum> + Send + Sync, R: Threads + Wait + Clock + Abort + Sync>(
+    rt: &R,
+    hub: &Hub<Sum, N>,
+    share: &mut Share<N>,
+) -> Result<(), Fail> {
+    let turnstile = Turnstile::new();
+    let gate = &turnstile;
+    let (worked, seen) = thread::join(
+        rt,
+        move || attend(rt, hub, gate, 1000),
+        move || push_then_dismiss(rt, hub, share, gate),
+    );
+    assert_eq!(rt; seen, Ok(true));
+    assert_eq!(rt; worked, installed(2));
+    Ok(())
+}
+
+fn woken<N: Means<Sum> + Send + Sync, R: Threads + Wait + Clock + Abort + Sync>(
+    rt: &R,
+    alloc: Global,
+    limits: Limits,
+    blank: Blank,
+    opened: Opened,
+    body: Sum,
+) -> Result<(), Fail>
+    requires name { blank.name ≡ N.name }
+    requires all { blank.parts ≡ N.parts }
+    requires one { blank.parts ≡ 1 }
+    requires limits { limits ≡ N.limits }
+    requires history { opened ≡ N.history }
+    requires body { N.body ≡ Some body }
+{
+    let (hub, mut share) = Hub::<Sum, N>::new(alloc, limits, body, blank, 1, opened);
+    let seen = assert_woken(rt, &hub, &mut share);
+    drop(hub);
+    seen
+}
+
+#[test]
+fn an_edit_wakes_a_sleeping_worker(rt: HostRuntime) -> Result<(), Fail> {
+    woken::<Brand, _>(
+        &rt,
+        rt.alloc(),
+        Limits::greatest(),
+        Blank::new(1),
+        Opened::new(),
+        Sum,
+    )
+}
+
+// What eight workers did that would attend for good, on a hub with nothing to do, and were dismissed.
+fn dismiss_eight<N: Means<Sum> + Send + Sync, R: Threads + Wait + Clock + Sync>(
+    rt: &R,
+    alloc: Global,
+    hub: &Hub<Sum, N>,
+) -> Result<Vec<Worked>, AllocError> {
+    let worker = |_: usize| attend(rt, hub, &OpenGate, u64::MAX);
+    let (worked, ()) = thread::join(
+        rt,
+        || thread::map_indices(rt, alloc, 8, &worker),
+        || {
+            let_it_sleep(rt);
+            hub.dismiss(rt);
+        },
+    );
+    worked
+}
+
+// Eight workers end when they are dismissed, and so does one that comes later, though a job is wanted; who works by turns alone
+// still finds it.
+fn assert_dismissed<N: Means<Sum> + Send + Sync, R: Threads + Wait + Clock + Abort + Sync>(
+    rt: &R,
+    alloc: Global,
+    hub: &Hub<Sum, N>,
+    share: &mut Share<N>,
+) -> Result<(), Fail> {
+    assert_eq!(rt; attend(rt, hub, &OpenGate, 1), installed(0));
+    for worked in dismiss_eight(rt, alloc, hub)?.iter() {
+        assert_eq!(rt; *worked, installed(0));
+    }
+    push_all(rt, hub, share, 8, 1)?;
+    assert_eq!(rt; attend(rt, hub, &OpenGate, 1000), installed(0));
+    assert_eq!(rt; work(rt, hub, &OpenGate, 1000), installed(1));
+    Ok(())
+}
+
+fn dismissed<N: Means<Sum> + Send + Sync, R: Threads + Wait + Clock + Abort + Sync>(
+    rt: &R,
+    alloc: Global,
+    limits: Limits,
+    blank: Blank,
+    opened: Opened,
+    body: Sum,
+) -> Result<(), Fail>
+    requires name { blank.name ≡ N.name }
+    requires all { blank.parts ≡ N.parts }
+    requires one { blank.parts ≡ 1 }
+    requires limits { limits ≡ N.limits }
+    requires history { opened ≡ N.history }
+    requires body { N.body ≡ Some body }
+{
+    let (hub, mut share) = Hub::<Sum, N>::new(alloc, limits, body, blank, 1, opened);
+    let seen = assert_dismissed(rt, alloc, &hub, &mut share);
+    drop(hub);
+    seen
+}
+
+#[test]
+fn dismissed_workers_end(rt: HostRuntime) -> Result<(), Fail> {
+    dismissed::<Brand, _>(
+        &rt,
+        rt.alloc(),
+        Limits::greatest(),
+        Blank::new(1),
+        Opened::new(),
+        Sum,
+    )
+}
