@@ -8,7 +8,7 @@ use Rattle.std.proofs.lemmas.List.Sums.{fold_push}
 use Rattle.lv_geometry.specs.Cells.{AreFewest, capacity_of}
 use Rattle.lv_geometry.specs.Bounds.{Bounds}
 use Rattle.lv_edits.specs.declared.edit.Edit.{Edit}
-use Rattle.lv_edits.specs.declared.edit.Edit.TheVariants.{Push, Pop, Write, Reserve}
+use Rattle.lv_edits.specs.declared.edit.Edit.TheVariants.{Push, Pop, Write, Reserve, Swap, Truncate}
 use Rattle.lv_edits.specs.Inner.{AreNeeded}
 use Rattle.lv_edits.specs.Capacity.{capacity_after, IsCapacityAfter, least_capacity, longest, most_reserved, reserved_by, Suffices}
 use Rattle.lv_edits.specs.History.{list_of, replayed}
@@ -206,6 +206,8 @@ reserved_within limits xs (Push x) free = omega arith
 reserved_within limits xs Pop free = omega arith
 reserved_within limits xs (Write i x) free = omega arith
 reserved_within limits xs (Reserve n) free = unrefused_reserve limits xs n free
+reserved_within limits xs (Swap i j) free = omega arith
+reserved_within limits xs (Truncate n) free = omega arith
 
 -- the limit's capacity goes on to suffice for one more edit that is accepted
 pub Suffices-accepted : (limits : Bounds) (es : List Edit) (e : Edit) → replayed es ≡ Some (list_of es) → Suffices es (capacity_of limits.buckets) → verdict_of limits es e ≡ None → Suffices (es ++ e ∷ []) (capacity_of limits.buckets)

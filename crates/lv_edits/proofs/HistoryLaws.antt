@@ -1,8 +1,10 @@
 -- What one more edit does to the list, and what is so of every legal journal.
-use Rattle.std.proofs.Common.{◌≡◌, ◌≢◌, ℕ, ℤ, ◌-◌, ◌<◌, ◌≤◌, ◌⊎◌, Option, Some, None, IsSome, option_and_then, unwrap_or, List, [], ◌∷◌, ◌++◌, length, All, take, Bool, true, false, cond, nat_eq, slice_set, refl, sym, ap, ◌∙◌, inl, inr, arith}
-use Rattle.std.proofs.lemmas.Bool.{cases_Bool, cases_lt, cond-false, cond-true, eqb-false, false≢true, lt-ltb, ltb-false, ltb-true}
+use Rattle.std.proofs.Common.{◌≡◌, ◌≢◌, ℕ, ℤ, pos, ◌-◌, ◌<◌, ◌≤◌, ◌⊎◌, Option, Some, None, IsSome, option_and_then, unwrap_or, List, [], ◌∷◌, ◌++◌, length, All, take, Bool, true, false, cond, get_or, nat_eq, slice_set, refl, sym, ap, ◌∙◌, inl, inr, arith}
+use Rattle.std.specs.List.{swap}
+use Rattle.std.proofs.lemmas.Bool.{and_from, and_parts, cases_Bool, cases_lt, cond-false, cond-true, eqb-false, false≢true, le-leb, lt-ltb, ltb-false, ltb-true}
 use Rattle.std.proofs.lemmas.List.{append-nil, append_assoc, length_push, length-set, length-take, take-append-le, take_all}
-use Rattle.std.proofs.lemmas.List.Elements.{All-nil, All-push, All-same, All-set, All-take}
+use Rattle.std.proofs.lemmas.List.Edits.{length-swap, swap_is}
+use Rattle.std.proofs.lemmas.List.Elements.{All-get_or, All-nil, All-push, All-same, All-set, All-take}
 use Rattle.std.proofs.lemmas.List.Sums.{fold_push}
 use Rattle.std.proofs.lemmas.Option.{cond_some, none-some, option_and_then_some, same_Some}
 use Rattle.lv_geometry.specs.Bounds.{AreAllowed, Bounds}
@@ -10,7 +12,7 @@ use Rattle.lv_geometry.specs.Cells.{capacity_of}
 use Rattle.lv_geometry.specs.Elements.{IsElement}
 use Rattle.lv_geometry.specs.declared.refusals.Refusal.TheVariants.{Empty, Full, OutOfRange, TooLarge, Worn}
 use Rattle.lv_edits.specs.declared.edit.Edit.{Edit}
-use Rattle.lv_edits.specs.declared.edit.Edit.TheVariants.{Push, Pop, Write, Reserve}
+use Rattle.lv_edits.specs.declared.edit.Edit.TheVariants.{Push, Pop, Write, Reserve, Swap, Truncate}
 use Rattle.lv_edits.specs.History.{applied, History, IsLegal, list_of, replayed, with_edit}
 use Rattle.lv_edits.specs.Kept.{CarriesElement, InLimits}
 use Rattle.lv_geometry.proofs.Capacities.{capacity_of_most}
@@ -130,6 +132,16 @@ unrefused_write limits xs i x free = ltb-true i (length xs) (none_at_true _ (Out
 pub unrefused_reserve : (limits : Bounds) (xs : List ℤ) (n : ℕ) → refused_on limits xs (Reserve n) ≡ None → n ≤ capacity_of limits.buckets
 unrefused_reserve limits xs n free = ltb-false (capacity_of limits.buckets) n (none_at_false _ (TooLarge (capacity_of limits.buckets)) free)
 
+-- a swap that nothing refuses is of two indices of the list
+pub unrefused_swap : (limits : Bounds) (xs : List ℤ) (i j : ℕ) → refused_on limits xs (Swap i j) ≡ None → (i < length xs) × (j < length xs)
+unrefused_swap limits xs i j free =
+    let both = and_parts _ _ (none_at_true _ (OutOfRange (length xs)) free) in
+    (ltb-true i (length xs) both.0, ltb-true j (length xs) both.1)
+
+-- a truncate that nothing refuses keeps no more than there are
+pub unrefused_truncate : (limits : Bounds) (xs : List ℤ) (n : ℕ) → refused_on limits xs (Truncate n) ≡ None → n ≤ length xs
+unrefused_truncate limits xs n free = ltb-false (length xs) n (none_at_false _ (OutOfRange (length xs)) free)
+
 -- a pop of a list with an element is possible
 pub applied_pop : (xs : List ℤ) → 0 < length xs → applied xs Pop ≡ Some (take (length xs - 1) xs)
 applied_pop xs some = cond-true _ _ _ (lt-ltb 0 (length xs) some)
@@ -138,12 +150,34 @@ applied_pop xs some = cond-true _ _ _ (lt-ltb 0 (length xs) some)
 pub applied_write : (xs : List ℤ) (i : ℕ) (x : ℤ) → i < length xs → applied xs (Write i x) ≡ Some (slice_set xs i x)
 applied_write xs i x within = cond-true _ _ _ (lt-ltb i (length xs) within)
 
+-- a swap of two indices of the list is possible
+pub applied_swap : (xs : List ℤ) (i j : ℕ) → i < length xs → j < length xs → applied xs (Swap i j) ≡ Some (swap xs i j)
+applied_swap xs i j first second =
+    cond-true _ _ _ (and_from _ _ (lt-ltb i (length xs) first) (lt-ltb j (length xs) second))
+
+-- a swap that is possible overwrites each of the two elements with the other
+pub swapped : (xs ys : List ℤ) (i j : ℕ) → applied xs (Swap i j) ≡ Some ys → (i < length xs) × (j < length xs) × (ys ≡ slice_set (slice_set xs i (get_or xs j (pos 0))) j (get_or xs i (pos 0)))
+swapped xs ys i j made =
+    let parts = cond_some _ _ _ made in
+    let both = and_parts _ _ parts.0 in
+    let first = ltb-true i (length xs) both.0 in
+    let second = ltb-true j (length xs) both.1 in
+    (first, second, sym parts.1 ∙ sym (swap_is xs i j (pos 0) first second))
+
+-- a truncate to no more than there are is possible
+pub applied_truncate : (xs : List ℤ) (n : ℕ) → n ≤ length xs → applied xs (Truncate n) ≡ Some (take n xs)
+applied_truncate xs n within = cond-true _ _ _ (le-leb n (length xs) within)
+
 -- an edit that nothing refuses on a list is possible on it
 possible_on : (limits : Bounds) (xs : List ℤ) (e : Edit) → refused_on limits xs e ≡ None → (ys : List ℤ) × (applied xs e ≡ Some ys)
 possible_on limits xs (Push x) free = (xs ++ x ∷ [], refl)
 possible_on limits xs Pop free = (take (length xs - 1) xs, applied_pop xs (unrefused_pop limits xs free))
 possible_on limits xs (Write i x) free = (slice_set xs i x, applied_write xs i x (unrefused_write limits xs i x free))
 possible_on limits xs (Reserve n) free = (xs, refl)
+possible_on limits xs (Swap i j) free =
+    let both = unrefused_swap limits xs i j free in
+    (swap xs i j, applied_swap xs i j both.0 both.1)
+possible_on limits xs (Truncate n) free = (take n xs, applied_truncate xs n (unrefused_truncate limits xs n free))
 
 -- an accepted edit is possible
 pub accepted_is_possible : (limits : Bounds) (es : List Edit) (e : Edit) → verdict_of limits es e ≡ None → (ys : List ℤ) × (applied (list_of es) e ≡ Some ys)
@@ -158,6 +192,13 @@ elements_after xs ys Pop made carried all =
 elements_after xs ys (Write i x) made carried all =
     All-same IsElement ys _ (sym (cond_some _ _ _ made).1) (All-set IsElement xs i x carried all)
 elements_after xs ys (Reserve n) made carried all = All-same IsElement ys xs (sym (same_Some _ _ made)) all
+elements_after xs ys (Swap i j) made carried all =
+    let done = swapped xs ys i j made in
+    let first = All-get_or IsElement xs j (pos 0) done.1 all in
+    let second = All-get_or IsElement xs i (pos 0) done.0 all in
+    All-same IsElement ys _ done.2 (All-set IsElement _ j (get_or xs i (pos 0)) second (All-set IsElement xs i (get_or xs j (pos 0)) first all))
+elements_after xs ys (Truncate n) made carried all =
+    All-same IsElement ys _ (sym (cond_some _ _ _ made).1) (All-take IsElement n xs all)
 
 -- an edit that nothing refuses leaves the list within the limits
 pub length_after : (limits : Bounds) (xs ys : List ℤ) (e : Edit) → refused_on limits xs e ≡ None → applied xs e ≡ Some ys → length xs ≤ capacity_of limits.buckets → length ys ≤ capacity_of limits.buckets
@@ -168,6 +209,10 @@ length_after limits xs ys Pop free made fits =
 length_after limits xs ys (Write i x) free made fits =
     omega (arith, ap length (cond_some _ _ _ made).1, length-set xs i x)
 length_after limits xs ys (Reserve n) free made fits = omega (arith, ap length (same_Some _ _ made))
+length_after limits xs ys (Swap i j) free made fits =
+    omega (arith, ap length (cond_some _ _ _ made).1, length-swap xs i j)
+length_after limits xs ys (Truncate n) free made fits =
+    omega (arith, ap length (cond_some _ _ _ made).1, length-take n xs)
 
 -- a history is within its limits where its edits make a list that is
 pub InLimits-by : (limits : Bounds) (es : List Edit) (xs : List ℤ) → AreAllowed limits.buckets limits.edits → replayed es ≡ Some xs → length es ≤ limits.edits → length xs ≤ capacity_of limits.buckets → All IsElement xs → InLimits record { limits = limits; journal = es }

@@ -1,23 +1,27 @@
 -- A store that holds what a journal leaves: what it tells of the history, and that it goes on to hold it through each kind of edit.
-use Rattle.std.proofs.Common.{◌≡◌, ℕ, ℤ, pos, ◌+◌, ◌-◌, ◌<◌, ◌≤◌, max, Some, None, Option, List, [], ◌∷◌, ◌++◌, length, take, slice_set, get_or, refl, sym, ap, subst, ◌∙◌, arith}
-use Rattle.std.proofs.lemmas.List.{length_push, length-set, length-take}
+use Rattle.std.proofs.Common.{◌≡◌, ℕ, ℤ, pos, ◌+◌, ◌-◌, ◌<◌, ◌≤◌, max, Some, None, Option, List, [], ◌∷◌, ◌++◌, length, take, slice_set, get_or, inl, inr, Bool, true, false, nat_eq, if◌then◌else◌, refl, sym, ap, subst, ◌∙◌, arith}
+use Rattle.std.specs.Prelude.{◌≢◌, IfSome, IsSomeAnd}
+use Rattle.std.specs.List.{swap}
+use Rattle.std.proofs.lemmas.Bool.{cases_Bool, cond-false, cond-true, eqb-false, eqb-true}
+use Rattle.std.proofs.lemmas.List.{length_push, length-set, length-take, set-set}
+use Rattle.std.proofs.lemmas.List.Edits.{length-swap, swap_is}
 use Rattle.std.proofs.lemmas.List.Elements.{All-get_or}
 use Rattle.lv_geometry.specs.Bounds.{Bounds}
 use Rattle.lv_geometry.specs.Cells.{AreFewest, capacity_of}
 use Rattle.lv_geometry.specs.Elements.{IsElement}
 use Rattle.lv_store.specs.Inner.{IsStore}
 use Rattle.lv_store.specs.State.{AreAlike, StoreState, announced, elements_of, empty_store, value_in}
-use Rattle.lv_store.proofs.ElementsLaws.{elements-popped, elements-pushed, elements-unwritten, elements-written, elements_alike, get_or-elements, length-elements}
+use Rattle.lv_store.proofs.ElementsLaws.{elements-popped, elements-pushed, elements-rewritten, elements-unwritten, elements-written, elements_alike, get_or-elements, length-elements}
 use Rattle.lv_geometry.proofs.Capacities.{capacity_of_mono}
 use Rattle.lv_edits.specs.declared.edit.Edit.{Edit}
-use Rattle.lv_edits.specs.declared.edit.Edit.TheVariants.{Push, Pop, Write, Reserve}
+use Rattle.lv_edits.specs.declared.edit.Edit.TheVariants.{Push, Pop, Write, Reserve, Swap, Truncate}
 use Rattle.lv_edits.specs.Capacity.{reserved_by}
 use Rattle.lv_edits.specs.History.{applied, list_of}
-use Rattle.lv_edits.specs.Inner.{HoldsReplay}
+use Rattle.lv_edits.specs.Inner.{HoldsReplay, write_at_second}
 use Rattle.lv_edits.specs.Kept.{CarriesElement, InLimits}
 use Rattle.lv_edits.specs.Verdict.{verdict_of}
 use Rattle.lv_edits.proofs.CapacityLaws.{AreNeeded-empty}
-use Rattle.lv_edits.proofs.HistoryLaws.{applied_pop, applied_write, unrefused_pop, unrefused_push, unrefused_reserve, unrefused_write}
+use Rattle.lv_edits.proofs.HistoryLaws.{applied_pop, applied_swap, applied_truncate, applied_write, unrefused_pop, unrefused_push, unrefused_reserve, unrefused_swap, unrefused_truncate, unrefused_write}
 use Rattle.lv_edits.proofs.InnerLaws.{InLimits-replay, IsReplay-empty, IsReplay-snoc, items_are_list, needed_after, unrefused_on_items}
 
 -- the history is within the limits
@@ -68,8 +72,8 @@ record Asks (s : StoreState) (e : Edit) (ys : List ℤ) (n : ℕ) : Type 0 where
   within : n ≤ capacity_of s.limits.buckets
 
 -- an edit that is announced to a store that reads alike, with the cells open that it asks for, is held
-HoldsReplay-announced : (s m : StoreState) (journal : List Edit) (e : Edit) (ys : List ℤ) (n : ℕ) (write : Option (ℕ × ℤ)) (size : ℕ) → HoldsReplay s journal → verdict_of s.limits journal e ≡ None → applied (elements_of s) e ≡ Some ys → CarriesElement e → Asks s e ys n → AreAlike s m → ((k : ℕ) → AreFewest n k → m.buckets ≡ max s.buckets k) → IsStore (announced m write size) → elements_of (announced m write size) ≡ ys → HoldsReplay (announced m write size) (journal ++ e ∷ [])
-HoldsReplay-announced s m journal e ys n write size held free made carried asks alike opens sound elements =
+HoldsReplay-announced : (s m : StoreState) (journal : List Edit) (e : Edit) (ys : List ℤ) (n : ℕ) (first second : Option (ℕ × ℤ)) (size : ℕ) → HoldsReplay s journal → verdict_of s.limits journal e ≡ None → applied (elements_of s) e ≡ Some ys → CarriesElement e → Asks s e ys n → AreAlike s m → ((k : ℕ) → AreFewest n k → m.buckets ≡ max s.buckets k) → IsStore (announced m first second size) → elements_of (announced m first second size) ≡ ys → HoldsReplay (announced m first second size) (journal ++ e ∷ [])
+HoldsReplay-announced s m journal e ys n first second size held free made carried asks alike opens sound elements =
     let needed = needed_after (elements_of s) ys journal s.limits s.buckets m.buckets n e held.replay held.needed made asks.no_more asks.no_less asks.within opens in
     let few : m.buckets ≤ s.limits.buckets = omega (arith, sound.few, ap (λ l. l.buckets) alike.limits) in
     record {
@@ -86,12 +90,12 @@ push_fits s journal x held free =
     omega (arith, not_full, length-elements s, held.sound.size, capacity_of_mono s.buckets s.limits.buckets held.sound.few)
 
 -- and is held once it is announced
-pub push_held : (s m : StoreState) (journal : List Edit) (x : ℤ) (i : ℕ) → i ≡ s.descriptor.size → HoldsReplay s journal → verdict_of s.limits journal (Push x) ≡ None → IsElement x → AreAlike s m → m.descriptor.pending ≡ None → ((k : ℕ) → AreFewest (i + 1) k → m.buckets ≡ max s.buckets k) → IsStore (announced m (Some (i, x)) (i + 1)) → HoldsReplay (announced m (Some (i, x)) (i + 1)) (journal ++ Push x ∷ [])
+pub push_held : (s m : StoreState) (journal : List Edit) (x : ℤ) (i : ℕ) → i ≡ s.descriptor.size → HoldsReplay s journal → verdict_of s.limits journal (Push x) ≡ None → IsElement x → AreAlike s m → m.descriptor.pending ≡ None → ((k : ℕ) → AreFewest (i + 1) k → m.buckets ≡ max s.buckets k) → IsStore (announced m (Some (i, x)) None (i + 1)) → HoldsReplay (announced m (Some (i, x)) None (i + 1)) (journal ++ Push x ∷ [])
 push_held s m journal x i at held free fits alike settled opens sound =
     let place : i ≡ m.descriptor.size = at ∙ sym alike.size in
-    let elements : elements_of (announced m (Some (i, x)) (i + 1)) ≡ elements_of s ++ x ∷ [] = rw place (elements-pushed m x settled) ∙ ap (λ xs. xs ++ x ∷ []) (elements_alike s m alike) in
+    let elements : elements_of (announced m (Some (i, x)) None (i + 1)) ≡ elements_of s ++ x ∷ [] = rw place (elements-pushed m x settled) ∙ ap (λ xs. xs ++ x ∷ []) (elements_alike s m alike) in
     let long : length (elements_of s ++ x ∷ []) ≡ i + 1 = length_push (elements_of s) x ∙ ap (λ n. n + 1) (length-elements s ∙ sym at) in
-    HoldsReplay-announced s m journal (Push x) (elements_of s ++ x ∷ []) (i + 1) (Some (i, x)) (i + 1) held free refl fits record {
+    HoldsReplay-announced s m journal (Push x) (elements_of s ++ x ∷ []) (i + 1) (Some (i, x)) None (i + 1) held free refl fits record {
       no_more = omega arith;
       no_less = omega arith;
       within = omega (arith, push_fits s journal x held free);
@@ -103,12 +107,12 @@ pop_fits s journal held free =
     omega (arith, unrefused_pop s.limits (elements_of s) (unrefused_on_items _ _ _ _ Pop held.replay free), length-elements s)
 
 -- and it is held once one element fewer is announced
-pub pop_held : (s m : StoreState) (journal : List Edit) (last : ℕ) → last ≡ s.descriptor.size - 1 → HoldsReplay s journal → verdict_of s.limits journal Pop ≡ None → AreAlike s m → m.descriptor.pending ≡ None → ((k : ℕ) → AreFewest 0 k → m.buckets ≡ max s.buckets k) → IsStore (announced m None last) → HoldsReplay (announced m None last) (journal ++ Pop ∷ [])
+pub pop_held : (s m : StoreState) (journal : List Edit) (last : ℕ) → last ≡ s.descriptor.size - 1 → HoldsReplay s journal → verdict_of s.limits journal Pop ≡ None → AreAlike s m → m.descriptor.pending ≡ None → ((k : ℕ) → AreFewest 0 k → m.buckets ≡ max s.buckets k) → IsStore (announced m None None last) → HoldsReplay (announced m None None last) (journal ++ Pop ∷ [])
 pop_held s m journal last at held free alike settled opens sound =
     let size = length-elements s in
     let last_is : last ≡ length (elements_of s) - 1 = at ∙ ap (λ n. n - 1) (sym size) in
-    let elements : elements_of (announced m None last) ≡ take (length (elements_of s) - 1) (elements_of s) = elements-popped m last settled (omega (arith, alike.size)) ∙ ap (take last) (elements_alike s m alike) ∙ ap (λ n. take n (elements_of s)) last_is in
-    HoldsReplay-announced s m journal Pop (take (length (elements_of s) - 1) (elements_of s)) 0 None last held free (applied_pop (elements_of s) (omega (arith, pop_fits s journal held free))) tt record {
+    let elements : elements_of (announced m None None last) ≡ take (length (elements_of s) - 1) (elements_of s) = elements-popped m last settled (omega (arith, alike.size)) ∙ ap (take last) (elements_alike s m alike) ∙ ap (λ n. take n (elements_of s)) last_is in
+    HoldsReplay-announced s m journal Pop (take (length (elements_of s) - 1) (elements_of s)) 0 None None last held free (applied_pop (elements_of s) (omega (arith, pop_fits s journal held free))) tt record {
       no_more = omega arith;
       no_less = omega (arith, length-take (length (elements_of s) - 1) (elements_of s), held.sound.size);
       within = omega arith;
@@ -120,11 +124,11 @@ write_fits s journal i x held free =
     omega (arith, unrefused_write s.limits (elements_of s) i x (unrefused_on_items _ _ _ _ (Write i x) held.replay free), length-elements s)
 
 -- and it is held once it is announced
-pub write_held : (s m : StoreState) (journal : List Edit) (i : ℕ) (x : ℤ) (size : ℕ) → size ≡ m.descriptor.size → HoldsReplay s journal → verdict_of s.limits journal (Write i x) ≡ None → IsElement x → AreAlike s m → m.descriptor.pending ≡ None → ((k : ℕ) → AreFewest 0 k → m.buckets ≡ max s.buckets k) → IsStore (announced m (Some (i, x)) size) → HoldsReplay (announced m (Some (i, x)) size) (journal ++ Write i x ∷ [])
+pub write_held : (s m : StoreState) (journal : List Edit) (i : ℕ) (x : ℤ) (size : ℕ) → size ≡ m.descriptor.size → HoldsReplay s journal → verdict_of s.limits journal (Write i x) ≡ None → IsElement x → AreAlike s m → m.descriptor.pending ≡ None → ((k : ℕ) → AreFewest 0 k → m.buckets ≡ max s.buckets k) → IsStore (announced m (Some (i, x)) None size) → HoldsReplay (announced m (Some (i, x)) None size) (journal ++ Write i x ∷ [])
 write_held s m journal i x size at held free fits alike settled opens sound =
     let inside = write_fits s journal i x held free in
-    let elements : elements_of (announced m (Some (i, x)) size) ≡ slice_set (elements_of s) i x = rw at (elements-written m i x settled (omega (arith, alike.size))) ∙ ap (λ xs. slice_set xs i x) (elements_alike s m alike) in
-    HoldsReplay-announced s m journal (Write i x) (slice_set (elements_of s) i x) 0 (Some (i, x)) size held free (applied_write (elements_of s) i x (omega (arith, length-elements s))) fits record {
+    let elements : elements_of (announced m (Some (i, x)) None size) ≡ slice_set (elements_of s) i x = rw at (elements-written m i x settled (omega (arith, alike.size))) ∙ ap (λ xs. slice_set xs i x) (elements_alike s m alike) in
+    HoldsReplay-announced s m journal (Write i x) (slice_set (elements_of s) i x) 0 (Some (i, x)) None size held free (applied_write (elements_of s) i x (omega (arith, length-elements s))) fits record {
       no_more = omega arith;
       no_less = omega (arith, length-set (elements_of s) i x, length-elements s, held.sound.size);
       within = omega arith;
@@ -136,11 +140,82 @@ reserve_fits s journal n held free =
     unrefused_reserve s.limits (elements_of s) n (unrefused_on_items _ _ _ _ (Reserve n) held.replay free)
 
 -- and it is held once its number is announced
-pub reserve_held : (s m : StoreState) (journal : List Edit) (n size : ℕ) → size ≡ m.descriptor.size → HoldsReplay s journal → verdict_of s.limits journal (Reserve n) ≡ None → AreAlike s m → m.descriptor.pending ≡ None → ((k : ℕ) → AreFewest n k → m.buckets ≡ max s.buckets k) → IsStore (announced m None size) → HoldsReplay (announced m None size) (journal ++ Reserve n ∷ [])
+pub reserve_held : (s m : StoreState) (journal : List Edit) (n size : ℕ) → size ≡ m.descriptor.size → HoldsReplay s journal → verdict_of s.limits journal (Reserve n) ≡ None → AreAlike s m → m.descriptor.pending ≡ None → ((k : ℕ) → AreFewest n k → m.buckets ≡ max s.buckets k) → IsStore (announced m None None size) → HoldsReplay (announced m None None size) (journal ++ Reserve n ∷ [])
 reserve_held s m journal n size at held free alike settled opens sound =
-    let elements : elements_of (announced m None size) ≡ elements_of s = rw at (elements-unwritten m settled) ∙ elements_alike s m alike in
-    HoldsReplay-announced s m journal (Reserve n) (elements_of s) n None size held free refl tt record {
+    let elements : elements_of (announced m None None size) ≡ elements_of s = rw at (elements-unwritten m settled) ∙ elements_alike s m alike in
+    HoldsReplay-announced s m journal (Reserve n) (elements_of s) n None None size held free refl tt record {
       no_more = omega arith;
       no_less = omega (arith, length-elements s, held.sound.size);
       within = reserve_fits s journal n held free;
+    } alike opens sound elements
+
+-- the indices of an accepted swap are those of elements
+pub swap_fits : (s : StoreState) (journal : List Edit) (i j : ℕ) → HoldsReplay s journal → verdict_of s.limits journal (Swap i j) ≡ None → (i < s.descriptor.size) × (j < s.descriptor.size)
+swap_fits s journal i j held free =
+    let both = unrefused_swap s.limits (elements_of s) i j (unrefused_on_items _ _ _ _ (Swap i j) held.replay free) in
+    (omega (arith, both.0, length-elements s), omega (arith, both.1, length-elements s))
+
+-- the second of its writes, where it has two, is at another index than the first
+pub second_apart : (i j cells : ℕ) (x y : ℤ) → j < cells → IfSome (write_at_second i j x) (λ write. (write.0 < cells) × IsSomeAnd {T = ℕ × ℤ} (Some (i, y)) (λ other. write.0 ≢ other.0))
+second_apart i j cells x y inside = by_test (nat_eq i j) (λ other same. eqb-false i j other (sym same))
+  where
+    by_test : (one : Bool) → (one ≡ false → j ≢ i) → IfSome (if one then None else Some (j, x)) (λ (write : ℕ × ℤ). (write.0 < cells) × (write.0 ≢ i))
+    by_test true apart = tt
+    by_test false apart = (inside, apart refl)
+
+-- what a swap announces, where both indices are one, is one write, and else two
+elements-both : (s : StoreState) (i j : ℕ) (x y : ℤ) → s.descriptor.pending ≡ None → i < s.descriptor.size → j < s.descriptor.size → x ≡ value_in s i → y ≡ value_in s j
+    → elements_of (announced s (Some (i, y)) (write_at_second i j x) s.descriptor.size) ≡ slice_set (slice_set (elements_of s) i y) j x
+elements-both s i j x y none first second before after =
+    elim (cases_Bool (nat_eq i j)) [
+      | inl same ↦
+          let one : i ≡ j = eqb-true i j same in
+          let alike : y ≡ x = after ∙ ap (value_in s) (sym one) ∙ sym before in
+          ap (λ w. elements_of (announced s (Some (i, y)) w s.descriptor.size)) (cond-true _ _ _ same)
+          ∙ elements-written s i y none first
+          ∙ sym (set-set (elements_of s) i y y)
+          ∙ ap (λ k. slice_set (slice_set (elements_of s) i y) k y) one
+          ∙ ap (slice_set (slice_set (elements_of s) i y) j) alike
+      | inr other ↦
+          ap (λ w. elements_of (announced s (Some (i, y)) w s.descriptor.size)) (cond-false _ _ _ other)
+          ∙ elements-rewritten s i j y x none first second
+    ]
+
+-- so it exchanges the two elements
+elements-swapped : (s : StoreState) (i j : ℕ) (x y : ℤ) → s.descriptor.pending ≡ None → i < s.descriptor.size → j < s.descriptor.size → x ≡ value_in s i → y ≡ value_in s j → elements_of (announced s (Some (i, y)) (write_at_second i j x) s.descriptor.size) ≡ swap (elements_of s) i j
+elements-swapped s i j x y none first second before after =
+    let xs = elements_of s in
+    elements-both s i j x y none first second before after
+    ∙ ap (λ z. slice_set (slice_set xs i z) j x) (after ∙ sym (get_or-elements s j (pos 0) second))
+    ∙ ap (slice_set (slice_set xs i (get_or xs j (pos 0))) j) (before ∙ sym (get_or-elements s i (pos 0) first))
+    ∙ swap_is xs i j (pos 0) (omega (arith, length-elements s)) (omega (arith, length-elements s))
+
+-- and it is held once that is announced
+pub swap_held : (s m : StoreState) (journal : List Edit) (i j : ℕ) (x y : ℤ) (size : ℕ) → size ≡ m.descriptor.size → x ≡ value_in s i → y ≡ value_in s j → HoldsReplay s journal → verdict_of s.limits journal (Swap i j) ≡ None → AreAlike s m → m.descriptor.pending ≡ None
+    → ((k : ℕ) → AreFewest 0 k → m.buckets ≡ max s.buckets k) → IsStore (announced m (Some (i, y)) (write_at_second i j x) size) → HoldsReplay (announced m (Some (i, y)) (write_at_second i j x) size) (journal ++ Swap i j ∷ [])
+swap_held s m journal i j x y size at before after held free alike settled opens sound =
+    let inside = swap_fits s journal i j held free in
+    let same = elements_alike s m alike in
+    let swapped = elements-swapped m i j x y settled (omega (arith, inside.0, alike.size)) (omega (arith, inside.1, alike.size)) (before ∙ sym (alike.values i)) (after ∙ sym (alike.values j)) in
+    let elements : elements_of (announced m (Some (i, y)) (write_at_second i j x) size) ≡ swap (elements_of s) i j = rw at swapped ∙ ap (λ xs. swap xs i j) same in
+    HoldsReplay-announced s m journal (Swap i j) (swap (elements_of s) i j) 0 (Some (i, y)) (write_at_second i j x) size held free (applied_swap (elements_of s) i j (omega (arith, inside.0, length-elements s)) (omega (arith, inside.1, length-elements s))) tt record {
+      no_more = omega arith;
+      no_less = omega (arith, length-swap (elements_of s) i j, length-elements s, held.sound.size);
+      within = omega arith;
+    } alike opens sound elements
+
+-- an accepted truncate keeps no more elements than there are
+pub truncate_fits : (s : StoreState) (journal : List Edit) (n : ℕ) → HoldsReplay s journal → verdict_of s.limits journal (Truncate n) ≡ None → n ≤ s.descriptor.size
+truncate_fits s journal n held free =
+    omega (arith, unrefused_truncate s.limits (elements_of s) n (unrefused_on_items _ _ _ _ (Truncate n) held.replay free), length-elements s)
+
+-- and it is held once that size is announced
+pub truncate_held : (s m : StoreState) (journal : List Edit) (n : ℕ) → HoldsReplay s journal → verdict_of s.limits journal (Truncate n) ≡ None → AreAlike s m → m.descriptor.pending ≡ None → ((k : ℕ) → AreFewest 0 k → m.buckets ≡ max s.buckets k) → IsStore (announced m None None n) → HoldsReplay (announced m None None n) (journal ++ Truncate n ∷ [])
+truncate_held s m journal n held free alike settled opens sound =
+    let within = truncate_fits s journal n held free in
+    let elements : elements_of (announced m None None n) ≡ take n (elements_of s) = elements-popped m n settled (omega (arith, alike.size)) ∙ ap (take n) (elements_alike s m alike) in
+    HoldsReplay-announced s m journal (Truncate n) (take n (elements_of s)) 0 None None n held free (applied_truncate (elements_of s) n (omega (arith, length-elements s))) tt record {
+      no_more = omega arith;
+      no_less = omega (arith, length-take n (elements_of s), length-elements s, held.sound.size);
+      within = omega arith;
     } alike opens sound elements

@@ -1,21 +1,36 @@
 -- Which edit touched a node last, after one more edit, and what an edit leaves as it was.
-use Rattle.std.proofs.Common.{◌≡◌, ℕ, ℤ, suc, ◌+◌, ◌-◌, ◌*◌, ◌/◌, ◌^◌, ◌⊎◌, min, ◌<◌, ◌≤◌, true, false, if◌then◌else◌, List, [], ◌∷◌, ◌++◌, length, take, drop, Option, None, Some, slice_get, slice_set, refl, sym, ap, ◌∙◌, add-one, inl, inr, arith}
+use Rattle.std.proofs.Common.{◌≡◌, ℕ, ℤ, pos, suc, ◌+◌, ◌-◌, ◌*◌, ◌/◌, ◌^◌, ◌⊎◌, min, ◌<◌, ◌≤◌, ◌||◌, true, false, if◌then◌else◌, List, [], ◌∷◌, ◌++◌, length, take, drop, Option, None, Some, get_or, slice_get, slice_set, refl, sym, ap, ◌∙◌, add-one, inl, inr, arith}
+use Rattle.std.specs.List.{list_any}
 use Rattle.std.specs.Option.{option_map_or}
-use Rattle.std.proofs.lemmas.Bool.{and_from, and_parts, cases_Bool, cases_lt, cond-false, cond-true, eqb-false, eq-eqb, eqb-true, le-leb, leb-true}
+use Rattle.std.proofs.lemmas.Bool.{and_from, and_parts, cases_Bool, cases_lt, cond-false, cond-true, eqb-false, eq-eqb, eqb-true, le-leb, leb-true, or_cases, or_left, or_parts, or_right}
 use Rattle.std.proofs.lemmas.List.{get_or_append_left, get_or_push, length-drop, length_push, length-set, length-take, take_all, take_at, take-append-le}
 use Rattle.std.proofs.lemmas.Option.{cond_some, same_Some, slice_get-get_or}
+use Rattle.std.proofs.Math.Bool.{or-false}
 use Rattle.std.proofs.Math.Nat.{div-div-eq-div-mul, div-eq_of_lt-le}
 use Rattle.std.proofs.lemmas.Grind.{pow_more}
 use Rattle.lv_geometry.specs.Nodes.{covers, is_node}
 use Rattle.lv_geometry.specs.declared.nodes.Node.{Node}
 use Rattle.lv_geometry.proofs.NodeLaws.{some_width}
 use Rattle.lv_edits.specs.declared.edit.Edit.{Edit}
-use Rattle.lv_edits.specs.declared.edit.Edit.TheVariants.{Push, Pop, Write, Reserve}
+use Rattle.lv_edits.specs.declared.edit.Edit.TheVariants.{Push, Pop, Write, Reserve, Swap, Truncate}
 use Rattle.lv_edits.specs.History.{applied, list_of, replayed}
 use Rattle.lv_geometry.proofs.Ranges.{last_pass, last_pass-more, last_pass-none, last_pass_le, last_pass_mono, last_pass_same}
 use Rattle.lv_edits.proofs.Slices.{part_of_push, part_of_set, part_of_take}
-use Rattle.lv_edits.proofs.HistoryLaws.{by_last_edit, list_of_replayed, list_of-snoc, replayed-nil}
-use Rattle.lv_edits.specs.Touch.{cells_of, is_whole, touched_by, touches, touches_at}
+use Rattle.lv_edits.proofs.HistoryLaws.{by_last_edit, list_of_replayed, list_of-snoc, replayed-nil, swapped}
+use Rattle.lv_edits.specs.Touch.{cells_of, indices_written, is_whole, touched_by, touches, touches_at}
+
+-- an edit that writes nowhere touches no node
+pub touches_nowhere : (xs : List ℤ) (e : Edit) (n : Node) → indices_written xs e ≡ [] → touches xs e n ≡ false
+touches_nowhere xs e n nowhere = ap (list_any (covers n)) nowhere
+
+-- one that writes at an index touches the nodes that have it
+pub touches_there : (xs : List ℤ) (e : Edit) (n : Node) (i : ℕ) → indices_written xs e ≡ i ∷ [] → touches xs e n ≡ covers n i
+touches_there xs e n i there = ap (list_any (covers n)) there ∙ or-false (covers n i)
+
+-- and one that writes at two indices, those that have either
+pub touches_either : (xs : List ℤ) (e : Edit) (n : Node) (i j : ℕ) → indices_written xs e ≡ i ∷ j ∷ [] → touches xs e n ≡ (covers n i || covers n j)
+touches_either xs e n i j both =
+    ap (list_any (covers n)) both ∙ ap (λ rest. covers n i || rest) (or-false (covers n j))
 
 -- the edits before the last one touch what they did without it
 touches_at_before : (es : List Edit) (e : Edit) (n : Node) (j : ℕ) → j < length es → touches_at (es ++ e ∷ []) n j ≡ touches_at es n j
@@ -62,12 +77,21 @@ outside n i not_there =
       ]
     ]
 
+-- the elements of a node stay where one at an index that it does not have is overwritten
+part_of_outside : (xs : List ℤ) (n : Node) (i : ℕ) (x : ℤ) → covers n i ≡ false → take (8 ^ n.level) (drop (n.number * 8 ^ n.level) (slice_set xs i x)) ≡ take (8 ^ n.level) (drop (n.number * 8 ^ n.level) xs)
+part_of_outside xs n i x not_there =
+    let apart : (i < n.number * 8 ^ n.level) ⊎ (n.number * 8 ^ n.level + 8 ^ n.level ≤ i) = elim (outside n i not_there) [
+      | inl before ↦ inl before
+      | inr after ↦ inr (omega arith)
+    ] in
+    part_of_set xs i x (n.number * 8 ^ n.level) (8 ^ n.level) apart
+
 -- an edit that does not touch a node, all of whose indices exist after it, leaves them and their elements as they were
 pub untouched_cells : (xs ys : List ℤ) (e : Edit) (n : Node) → applied xs e ≡ Some ys → touches xs e n ≡ false → (n.number + 1) * 8 ^ n.level ≤ length ys → ((n.number + 1) * 8 ^ n.level ≤ length xs) × (take (8 ^ n.level) (drop (n.number * 8 ^ n.level) ys) ≡ take (8 ^ n.level) (drop (n.number * 8 ^ n.level) xs))
 untouched_cells xs ys (Push x) n made untouched whole =
     let next : ys ≡ xs ++ x ∷ [] = sym (same_Some _ _ made) in
     let long : (n.number + 1) * 8 ^ n.level ≤ length xs + 1 = omega (arith, ap length next, length_push xs x) in
-    let below : (n.number + 1) * 8 ^ n.level ≤ length xs = elim (outside n (length xs) untouched) [
+    let below : (n.number + 1) * 8 ^ n.level ≤ length xs = elim (outside n (length xs) (or_parts _ _ untouched).0) [
       | inl before ↦ absurd (omega (arith, some_width n.level))
       | inr after ↦ after
     ] in
@@ -79,14 +103,20 @@ untouched_cells xs ys Pop n made untouched whole =
 untouched_cells xs ys (Write i x) n made untouched whole =
     let next : ys ≡ slice_set xs i x = sym (cond_some _ _ _ made).1 in
     let long : length ys ≡ length xs = ap length next ∙ length-set xs i x in
-    let apart : (i < n.number * 8 ^ n.level) ⊎ (n.number * 8 ^ n.level + 8 ^ n.level ≤ i) = elim (outside n i untouched) [
-      | inl before ↦ inl before
-      | inr after ↦ inr (omega arith)
-    ] in
-    (omega arith, ap (λ l. take (8 ^ n.level) (drop (n.number * 8 ^ n.level) l)) next ∙ part_of_set xs i x (n.number * 8 ^ n.level) (8 ^ n.level) apart)
+    (omega arith, ap (λ l. take (8 ^ n.level) (drop (n.number * 8 ^ n.level) l)) next ∙ part_of_outside xs n i x (or_parts _ _ untouched).0)
 untouched_cells xs ys (Reserve k) n made untouched whole =
     let next : ys ≡ xs = sym (same_Some _ _ made) in
     (omega (arith, ap length next), ap (λ l. take (8 ^ n.level) (drop (n.number * 8 ^ n.level) l)) next)
+untouched_cells xs ys (Swap i j) n made untouched whole =
+    let done = swapped xs ys i j made in
+    let between = slice_set xs i (get_or xs j (pos 0)) in
+    let long : length ys ≡ length xs = ap length done.2 ∙ length-set between j (get_or xs i (pos 0)) ∙ length-set xs i (get_or xs j (pos 0)) in
+    let apart = or_parts _ _ untouched in
+    (omega arith, ap (λ l. take (8 ^ n.level) (drop (n.number * 8 ^ n.level) l)) done.2 ∙ part_of_outside between n j (get_or xs i (pos 0)) (or_parts _ _ apart.1).0 ∙ part_of_outside xs n i (get_or xs j (pos 0)) apart.0)
+untouched_cells xs ys (Truncate k) n made untouched whole =
+    let next : ys ≡ take k xs = sym (cond_some _ _ _ made).1 in
+    let long : length ys ≡ min k (length xs) = ap length next ∙ length-take k xs in
+    (omega arith, ap (λ l. take (8 ^ n.level) (drop (n.number * 8 ^ n.level) l)) next ∙ part_of_take xs k (n.number * 8 ^ n.level) (8 ^ n.level) (omega arith))
 
 -- a whole node has all its indices below the size
 pub whole_below : (es : List Edit) (n : Node) → is_whole es n ≡ true → (n.number + 1) * 8 ^ n.level ≤ length (list_of es)
@@ -170,12 +200,18 @@ covers_parent child parent i level number covered =
     let wide : 8 ^ parent.level ≡ 8 ^ child.level * 8 = ap (λ l. 8 ^ l) level ∙ pow_more 8 child.level in
     eq-eqb _ _ (ap (λ w. i / w) wide ∙ sym (div-div-eq-div-mul i (8 ^ child.level) 8) ∙ ap (λ m. m / 8) at ∙ sym number)
 
+-- the parent of a node covers one of some indices where the node covers one
+covers_one_parent : (child parent : Node) (indices : List ℕ) → parent.level ≡ child.level + 1 → parent.number ≡ child.number / 8 → list_any (covers child) indices ≡ true → list_any (covers parent) indices ≡ true
+covers_one_parent child parent [] level number covered = covered
+covers_one_parent child parent (i ∷ rest) level number covered =
+    elim (or_cases (covers child i) (list_any (covers child) rest) covered) [
+      | inl here ↦ or_left _ _ (covers_parent child parent i level number here)
+      | inr later ↦ or_right _ _ (covers_one_parent child parent rest level number later)
+    ]
+
 -- an edit that touches a node touches its parent
 pub touches_parent : (xs : List ℤ) (e : Edit) (child parent : Node) → parent.level ≡ child.level + 1 → parent.number ≡ child.number / 8 → touches xs e child ≡ true → touches xs e parent ≡ true
-touches_parent xs (Push x) child parent level number touched = covers_parent child parent (length xs) level number touched
-touches_parent xs Pop child parent level number touched = touched
-touches_parent xs (Write i x) child parent level number touched = covers_parent child parent i level number touched
-touches_parent xs (Reserve k) child parent level number touched = touched
+touches_parent xs e child parent level number touched = covers_one_parent child parent (indices_written xs e) level number touched
 
 -- the same where there may be no edit
 touches_parent_at : (xs : List ℤ) (o : Option Edit) (child parent : Node) → parent.level ≡ child.level + 1 → parent.number ≡ child.number / 8 → option_map_or (λ e. touches xs e child) o false ≡ true → option_map_or (λ e. touches xs e parent) o false ≡ true

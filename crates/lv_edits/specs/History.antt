@@ -1,16 +1,19 @@
 -- Edits on a plain list: what each one does, and what all of them make of the empty list.
-use Rattle.std.specs.Prelude.{ℤ, ◌-◌, Option, Some, None, option_and_then, unwrap_or, IsSome, List, [], ◌∷◌, ◌++◌, length, take, fold, slice_set, nat_lt, if◌then◌else◌}
+use Rattle.std.specs.Prelude.{ℤ, ◌-◌, ◌&&◌, Option, Some, None, option_and_then, unwrap_or, IsSome, List, [], ◌∷◌, ◌++◌, length, take, fold, slice_set, nat_le, nat_lt, if◌then◌else◌}
+use Rattle.std.specs.List.{swap}
 use Rattle.lv_geometry.specs.Bounds.{Bounds}
 use Rattle.lv_edits.specs.declared.edit.Edit.{Edit}
-use Rattle.lv_edits.specs.declared.edit.Edit.TheVariants.{Push, Pop, Write, Reserve}
+use Rattle.lv_edits.specs.declared.edit.Edit.TheVariants.{Push, Pop, Write, Reserve, Swap, Truncate}
 
 -- the list after one edit, or nothing where the edit isn't possible: a pop drops the last element, a reserve
--- leaves the list as it is
+-- leaves the list as it is, a swap exchanges two elements that there are, a truncate keeps the first n where there are so many
 abbrev pub applied : List ℤ → Edit → Option (List ℤ)
 applied xs (Push x) = Some (xs ++ x ∷ [])
 applied xs Pop = if nat_lt 0 (length xs) then Some (take (length xs - 1) xs) else None
 applied xs (Write i x) = if nat_lt i (length xs) then Some (slice_set xs i x) else None
 applied xs (Reserve n) = Some xs
+applied xs (Swap i j) = if nat_lt i (length xs) && nat_lt j (length xs) then Some (swap xs i j) else None
+applied xs (Truncate n) = if nat_le n (length xs) then Some (take n xs) else None
 
 -- the list after all edits, in order, from the empty list; nothing where one of them isn't possible
 unfoldable pub replayed : List Edit → Option (List ℤ)

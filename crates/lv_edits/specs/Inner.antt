@@ -1,5 +1,5 @@
 -- What the fields of `Edits` keep.
-use Rattle.std.specs.Prelude.{◌≡◌, ℕ, ℤ, Some, ◌≤◌, max, List, length, All}
+use Rattle.std.specs.Prelude.{◌≡◌, ℕ, ℤ, Option, Some, None, ◌≤◌, max, List, length, All, nat_eq, if◌then◌else◌}
 use Rattle.lv_geometry.specs.Bounds.{AreAllowed, Bounds}
 use Rattle.lv_geometry.specs.Cells.{AreFewest, capacity_of}
 use Rattle.lv_geometry.specs.Elements.{IsElement}
@@ -22,6 +22,10 @@ pub record IsReplay (items : List ℤ) (journal : List Edit) (limits : Bounds) (
 -- so many buckets are needed, and no fewer, for all that the list ever had and all that was ever reserved
 abbrev pub AreNeeded : List Edit → ℕ → Type 0
 AreNeeded journal buckets = AreFewest (max (longest journal) (most_reserved journal)) buckets
+
+-- what a swap writes at its second index, where that is another than the first: the element that was at the first
+abbrev pub write_at_second : ℕ → ℕ → ℤ → Option (ℕ × ℤ)
+write_at_second first second before = if nat_eq first second then None else Some (second, before)
 
 -- a store holds what a journal leaves: its elements are the journal replayed, its edit is the journal's last, and so many buckets are
 -- open as are needed

@@ -4,7 +4,7 @@ use Rattle.lv_geometry.specs.Bounds.{AreAllowed}
 use Rattle.lv_geometry.specs.Cells.{capacity_of}
 use Rattle.lv_geometry.specs.Elements.{IsElement}
 use Rattle.lv_edits.specs.declared.edit.Edit.{Edit}
-use Rattle.lv_edits.specs.declared.edit.Edit.TheVariants.{Push, Pop, Write, Reserve}
+use Rattle.lv_edits.specs.declared.edit.Edit.TheVariants.{Push, Pop, Write, Reserve, Swap, Truncate}
 use Rattle.lv_edits.specs.History.{History, list_of, replayed}
 
 -- the limits are allowed; the journal is legal and keeps them; so does the list, which has at most the 1048568 elements of
@@ -23,3 +23,5 @@ CarriesElement (Push x) = IsElement x
 CarriesElement Pop = Unit {0}
 CarriesElement (Write i x) = IsElement x
 CarriesElement (Reserve n) = Unit {0}
+CarriesElement (Swap i j) = Unit {0}
+CarriesElement (Truncate n) = Unit {0}

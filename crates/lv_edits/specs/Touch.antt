@@ -1,23 +1,26 @@
 -- Which edits touch a node, and when a node is whole.
-use Rattle.std.specs.Prelude.{ℕ, ℤ, ◌+◌, ◌*◌, ◌^◌, Bool, false, ◌&&◌, Option, Some, None, List, length, take, drop, fold, slice_get, if◌then◌else◌}
-use Rattle.std.specs.List.{range_with_len}
+use Rattle.std.specs.Prelude.{ℕ, ℤ, ◌+◌, ◌*◌, ◌^◌, Bool, false, ◌&&◌, List, [], ◌∷◌, length, take, drop, fold, slice_get, if◌then◌else◌}
+use Rattle.std.specs.List.{list_any, range_with_len}
 use Rattle.std.specs.Option.{option_map_or}
 use Rattle.lv_geometry.specs.declared.nodes.Node.{Node}
 use Rattle.lv_geometry.specs.Nodes.{covers, is_below, is_node}
 use Rattle.lv_edits.specs.declared.edit.Edit.{Edit}
-use Rattle.lv_edits.specs.declared.edit.Edit.TheVariants.{Push, Pop, Write, Reserve}
+use Rattle.lv_edits.specs.declared.edit.Edit.TheVariants.{Push, Pop, Write, Reserve, Swap, Truncate}
 use Rattle.lv_edits.specs.History.{list_of}
 
--- the index at which an edit writes: a push at the end of the list, a write at its own; pops and reserves write nowhere
-abbrev pub index_written : List ℤ → Edit → Option ℕ
-index_written xs (Push x) = Some (length xs)
-index_written xs Pop = None
-index_written xs (Write i x) = Some i
-index_written xs (Reserve n) = None
+-- the indices at which an edit writes: a push at the end of the list, a write at its own, a swap at both of its own, also where
+-- they are one; pops, reserves and truncates write nowhere
+abbrev pub indices_written : List ℤ → Edit → List ℕ
+indices_written xs (Push x) = length xs ∷ []
+indices_written xs Pop = []
+indices_written xs (Write i x) = i ∷ []
+indices_written xs (Reserve n) = []
+indices_written xs (Swap i j) = i ∷ j ∷ []
+indices_written xs (Truncate n) = []
 
 -- whether an edit on a list touches a node: it writes at an index of the node
 abbrev pub touches : List ℤ → Edit → Node → Bool
-touches xs edit n = option_map_or (covers n) (index_written xs edit) false
+touches xs edit n = list_any (covers n) (indices_written xs edit)
 
 -- whether edit j + 1 touches a node
 abbrev pub touches_at : List Edit → Node → ℕ → Bool

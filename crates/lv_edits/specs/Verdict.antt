@@ -1,14 +1,14 @@
 -- Whether an edit is accepted, and what it answers.
-use Rattle.std.specs.Prelude.{◌≡◌, ℕ, ℤ, pos, ◌+◌, ◌-◌, Option, Some, None, Result, Ok, Err, ok_or, ◌⊎◌, List, [], ◌∷◌, ◌++◌, length, slice_get, nat_lt, nat_eq, if◌then◌else◌}
+use Rattle.std.specs.Prelude.{◌≡◌, ℕ, ℤ, pos, ◌+◌, ◌-◌, ◌&&◌, Option, Some, None, Result, Ok, Err, ok_or, ◌⊎◌, List, [], ◌∷◌, ◌++◌, length, slice_get, nat_lt, nat_eq, if◌then◌else◌}
 use Rattle.std.specs.List.{slice_index_or}
 use Rattle.lv_geometry.specs.Bounds.{Bounds}
 use Rattle.lv_geometry.specs.Cells.{capacity_of}
 use Rattle.lv_geometry.specs.declared.refusals.Refusal.{Refusal}
 use Rattle.lv_geometry.specs.declared.refusals.Refusal.TheVariants.{Worn, Empty, OutOfRange, TooLarge, Full, NoMemory}
 use Rattle.lv_edits.specs.declared.edit.Edit.{Edit}
-use Rattle.lv_edits.specs.declared.edit.Edit.TheVariants.{Push, Pop, Write, Reserve}
+use Rattle.lv_edits.specs.declared.edit.Edit.TheVariants.{Push, Pop, Write, Reserve, Swap, Truncate}
 use Rattle.lv_edits.specs.declared.receipt.Receipt.{Receipt}
-use Rattle.lv_edits.specs.declared.receipt.Receipt.TheVariants.{Pushed, Popped, Written, Reserved}
+use Rattle.lv_edits.specs.declared.receipt.Receipt.TheVariants.{Pushed, Popped, Written, Reserved, Swapped, Truncated}
 use Rattle.lv_edits.specs.Capacity.{capacity_after}
 use Rattle.lv_edits.specs.History.{History, list_of, with_edit}
 
@@ -18,17 +18,22 @@ refused_on limits xs (Push x) = if nat_eq (length xs) (capacity_of limits.bucket
 refused_on limits xs Pop = if nat_eq (length xs) 0 then Some Empty else None
 refused_on limits xs (Write i x) = if nat_lt i (length xs) then None else Some (OutOfRange (length xs))
 refused_on limits xs (Reserve n) = if nat_lt (capacity_of limits.buckets) n then Some (TooLarge (capacity_of limits.buckets)) else None
+refused_on limits xs (Swap i j) = if nat_lt i (length xs) && nat_lt j (length xs) then None else Some (OutOfRange (length xs))
+refused_on limits xs (Truncate n) = if nat_lt (length xs) n then Some (OutOfRange (length xs)) else None
 
 -- the first refusal that applies to an edit, want of memory apart, or none: the limit of edits comes before all others
 abbrev pub verdict_of : Bounds → List Edit → Edit → Option Refusal
 verdict_of limits edits edit = if nat_eq (length edits) limits.edits then Some Worn else refused_on limits (list_of edits) edit
 
--- what an accepted edit is answered: its number, and the place, the element dropped, the element before, or the capacity
+-- what an accepted edit is answered: its number, and the place, the element dropped, the element before, the capacity,
+-- the elements that stand at the two indices now, or how many were dropped
 abbrev pub receipt_of : List Edit → Edit → Receipt
 receipt_of edits (Push x) = Pushed (length edits + 1) (length (list_of edits))
 receipt_of edits Pop = Popped (length edits + 1) (slice_index_or (list_of edits) (length (list_of edits) - 1) (pos 0))
 receipt_of edits (Write i x) = Written (length edits + 1) (slice_index_or (list_of edits) i (pos 0))
 receipt_of edits (Reserve n) = Reserved (length edits + 1) (capacity_after (edits ++ Reserve n ∷ []))
+receipt_of edits (Swap i j) = Swapped (length edits + 1) (slice_index_or (list_of edits) j (pos 0)) (slice_index_or (list_of edits) i (pos 0))
+receipt_of edits (Truncate n) = Truncated (length edits + 1) (length (list_of edits) - n)
 
 -- a refusal is the one that is known, or want of memory where none is
 abbrev pub IsRefusal : Option Refusal → Refusal → Type 0

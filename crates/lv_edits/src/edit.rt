@@ -9,4 +9,8 @@ pub enum Edit {
     Write { index: u32, value: i64 },
     /// Opens buckets for so many elements in all.
     Reserve(u32),
+    /// Exchanges the elements at two indices, which may be one.
+    Swap { first: u32, second: u32 },
+    /// Keeps so many elements, the first ones, and drops the others.
+    Truncate(u32),
 }

@@ -6,6 +6,7 @@ ghost use Rattle.lv_store.specs.State.{AreAlike};
 ghost use Rattle.lv_edits.specs.Capacity.{capacity_after, IsCapacityAfter};
 ghost use Rattle.lv_edits.specs.History.{History, list_of};
 ghost use Rattle.lv_edits.specs.Kept.{InLimits};
+ghost use Rattle.lv_edits.specs.Inner.{write_at_second};
 ghost use Rattle.lv_edits.specs.Verdict.{Answers, element_at, verdict_of};
 
 use crate::edit::Edit;
@@ -58,7 +59,7 @@ impl Edits {
         }
         let index = self.store.size();
         make_room(&mut self.store, &mut self.journal, index + 1)?;
-        self.store.announce(Some((index, x)), index + 1);
+        self.store.announce(Some((index, x)), None, index + 1);
         append(&mut self.journal, edit);
         Ok(Receipt::Pushed {
             edit: self.store.edit(),
@@ -77,7 +78,7 @@ impl Edits {
         let last = self.store.size() - 1;
         let value = self.store.read(last);
         make_room(&mut self.store, &mut self.journal, 0)?;
-        self.store.announce(None, last);
+        self.store.announce(None, None, last);
         append(&mut self.journal, Edit::Pop);
         Ok(Receipt::Popped {
             edit: self.store.edit(),
@@ -97,7 +98,7 @@ impl Edits {
         let before = self.store.read(index);
         make_room(&mut self.store, &mut self.journal, 0)?;
         let size = self.store.size();
-        self.store.announce(Some((index, value)), size);
+        self.store.announce(Some((index, value)), None, size);
         append(&mut self.journal, edit);
         Ok(Receipt::Written {
             edit: self.store.edit(),
@@ -117,11 +118,55 @@ impl Edits {
         }
         make_room(&mut self.store, &mut self.journal, cells)?;
         let size = self.store.size();
-        self.store.announce(None, size);
+        self.store.announce(None, None, size);
         append(&mut self.journal, edit);
         Ok(Receipt::Reserved {
             edit: self.store.edit(),
             capacity: capacity(self.store.buckets()),
+        })
+    }
+
+    /// Exchanges the elements at two indices. Refused with `Worn`, `OutOfRange`, then `NoMemory`. Where they are one it
+    /// changes nothing, and is an edit like any other.
+    pub fn swap(&mut self, first: u32, second: u32) -> Result<Receipt, Refusal>
+        ensures answer { Answers self.old (Edit.Swap first second) result self.new }
+        ensures limits { InLimits self.new }
+    {
+        let edit = Edit::Swap { first, second };
+        if let Some(refusal) = self.verdict(&edit) {
+            return Err(refusal);
+        }
+        let before = self.store.read(first);
+        let after = self.store.read(second);
+        make_room(&mut self.store, &mut self.journal, 0)?;
+        let other = write_at_second(first, second, before);
+        let size = self.store.size();
+        self.store.announce(Some((first, after)), other, size);
+        append(&mut self.journal, edit);
+        Ok(Receipt::Swapped {
+            edit: self.store.edit(),
+            first: after,
+            second: before,
+        })
+    }
+
+    /// Keeps the first `count` elements and drops the others. Refused with `Worn`, `OutOfRange`, then `NoMemory`. No bucket is
+    /// closed, and no element is read.
+    pub fn truncate(&mut self, count: u32) -> Result<Receipt, Refusal>
+        ensures answer { Answers self.old (Edit.Truncate count) result self.new }
+        ensures limits { InLimits self.new }
+    {
+        let edit = Edit::Truncate(count);
+        if let Some(refusal) = self.verdict(&edit) {
+            return Err(refusal);
+        }
+        let size = self.store.size();
+        make_room(&mut self.store, &mut self.journal, 0)?;
+        self.store.announce(None, None, count);
+        append(&mut self.journal, edit);
+        Ok(Receipt::Truncated {
+            edit: self.store.edit(),
+            dropped: size - count,
         })
     }
 
@@ -135,6 +180,8 @@ impl Edits {
             Edit::Pop => self.pop(),
             Edit::Write { index, value } => self.write(index, value),
             Edit::Reserve(cells) => self.reserve(cells),
+            Edit::Swap { first, second } => self.swap(first, second),
+            Edit::Truncate(count) => self.truncate(count),
         }
     }
 
@@ -153,6 +200,10 @@ impl Edits {
             Edit::Pop => (size == 0).then_some(Refusal::Empty),
             Edit::Write { index, .. } => (index >= size).then_some(Refusal::OutOfRange { size }),
             Edit::Reserve(cells) => (cells > limit).then_some(Refusal::TooLarge { limit }),
+            Edit::Swap { first, second } => {
+                (first >= size || second >= size).then_some(Refusal::OutOfRange { size })
+            }
+            Edit::Truncate(count) => (count > size).then_some(Refusal::OutOfRange { size }),
         }
     }
 
@@ -256,6 +307,17 @@ fn make_room(store: &mut Store, journal: &mut Vec<Edit>, cells: u32) -> Result<(
         return Err(Refusal::NoMemory);
     }
     store.open_to(cells)
+}
+
+// What a swap writes at its second index, where that is another than the first: the element that was at the first.
+fn write_at_second(first: u32, second: u32, before: i64) -> Option<(u32, i64)>
+    ensures { result ≡ write_at_second first second before }
+{
+    if first == second {
+        None
+    } else {
+        Some((second, before))
+    }
 }
 
 // Puts an item where there is room for it.

@@ -1,7 +1,7 @@
-//! The vector's edits: push, pop, overwrite and reserve, each with its number, its verdict and its receipt.
+//! The vector's edits: push, pop, overwrite, reserve, swap and truncate, each with its number, its verdict and its receipt.
 //!
 //! The model of `Edits` is its limits and its journal, and nothing else: the list is the journal replayed
-//! (`list_of`), and each call is stated on that list. The elements lie in the cells of a store, where the last edit's write
+//! (`list_of`), and each call is stated on that list. The elements lie in the cells of a store, where the last edit's writes
 //! may be pending. It knows nothing of summaries.
 #![tactic(auto)]
 

@@ -9,4 +9,8 @@ pub enum Receipt {
     Written { edit: u32, before: i64 },
     /// How many elements the open buckets hold.
     Reserved { edit: u32, capacity: u32 },
+    /// The elements that stand at the first index and at the second now.
+    Swapped { edit: u32, first: i64, second: i64 },
+    /// How many elements were dropped.
+    Truncated { edit: u32, dropped: u32 },
 }

@@ -1,12 +1,11 @@
 -- The cells of a block: its elements, with what is pending among them, and the greatest of its versions.
-use Rattle.std.proofs.Common.{◌≡◌, ℕ, ℤ, pos, ◌+◌, ◌*◌, ◌/◌, ◌%◌, ◌<◌, ◌≤◌, max, false, if◌then◌else◌, Option, Some, None, List, length, map, fold, take, drop, get_or, set, nat_eq, refl, sym, ap, ◌∙◌, arith, inl, inr}
+use Rattle.std.proofs.Common.{◌≡◌, ℕ, ℤ, pos, ◌+◌, ◌*◌, ◌/◌, ◌%◌, ◌<◌, ◌≤◌, max, ◌≢◌, if◌then◌else◌, Some, List, length, map, fold, take, drop, get_or, set, nat_eq, refl, sym, ap, ◌∙◌, arith, inl, inr}
 use Rattle.std.specs.List.{range_with_len}
-use Rattle.std.proofs.lemmas.Bool.{cases_eq, cond-false, cond-true, eq-eqb, eqb-false, ne_eqb}
+use Rattle.std.proofs.lemmas.Bool.{cases_eq, cond-false, cond-true, eq-eqb, ne_eqb}
 use Rattle.std.proofs.lemmas.List.{ext_get_or, get_or-drop, get_or-set_other, get_or-set_same, get_or-take, length-drop, length-set, length-take-le}
 use Rattle.std.proofs.lemmas.List.Folds.{fold-map}
 use Rattle.std.proofs.lemmas.List.FromFn.{get_or-map-range_with_len, length-map-range_with_len}
-use Rattle.lv_store.specs.Announced.{is_in}
-use Rattle.lv_store.specs.State.{StoreState, indices_of, value_in, written}
+use Rattle.lv_store.specs.State.{indices_of, written}
 use Rattle.lv_geometry.proofs.Ranges.{greatest}
 
 -- neighbours in a list are what it has at their indices
@@ -49,21 +48,12 @@ unfolding greatest
 greatest_of_part xs a n inside =
     ap (fold (λ most x. max most x) 0) (part_is xs a n 0 inside) ∙ fold-map (λ most x. max most x) (λ i. get_or xs i 0) 0 (range_with_len a n)
 
--- the elements of a block, with what is pending among them
-pub cells_pending : (s : StoreState) (w : ℕ × ℤ) (block : ℕ) → s.descriptor.pending ≡ Some w → w.0 / 8 ≡ block → 8 * block + 8 ≤ length s.values → set (take 8 (drop (8 * block) s.values)) (w.0 % 8) w.1 ≡ map (value_in s) (indices_of block)
-cells_pending s w block pending there inside =
-    ap (λ xs. set xs (w.0 % 8) w.1) (part_is s.values (8 * block) 8 (pos 0) inside)
-    ∙ put_among (λ i. get_or s.values i (pos 0)) (8 * block) 8 (w.0 % 8) w.0 w.1 (pos 0) (omega arith) (omega arith)
-    ∙ ap (λ p. map (λ i. written p i (get_or s.values i (pos 0))) (indices_of block)) (sym pending)
+-- what is put among the elements of a block where a write is in it
+pub written_among : (f : ℕ → ℤ) (w : ℕ × ℤ) (block : ℕ) → w.0 / 8 ≡ block → set (map f (indices_of block)) (w.0 % 8) w.1 ≡ map (λ i. written (Some w) i (f i)) (indices_of block)
+written_among f w block there =
+    put_among f (8 * block) 8 (w.0 % 8) w.0 w.1 (pos 0) (omega arith) (omega arith)
 
--- a write elsewhere leaves the elements of a block
-unwritten : (pending : Option (ℕ × ℤ)) (block i : ℕ) (x : ℤ) → is_in block pending ≡ false → 8 * block ≤ i → i < 8 * block + 8 → x ≡ written pending i x
-unwritten None block i x elsewhere from below = refl
-unwritten (Some w) block i x elsewhere from below =
-    sym (cond-false _ _ _ (ne_eqb w.0 i (λ same. eqb-false _ _ elsewhere (omega arith))))
-
--- the elements of a block, where nothing is pending in it
-pub cells_settled : (s : StoreState) (block : ℕ) → is_in block s.descriptor.pending ≡ false → 8 * block + 8 ≤ length s.values → take 8 (drop (8 * block) s.values) ≡ map (value_in s) (indices_of block)
-cells_settled s block elsewhere inside =
-    part_is s.values (8 * block) 8 (pos 0) inside
-    ∙ same_at (λ i. get_or s.values i (pos 0)) (value_in s) (8 * block) 8 (pos 0) (λ i from below. unwritten s.descriptor.pending block i (get_or s.values i (pos 0)) elsewhere from below)
+-- and that they stay where it is not
+pub unwritten_among : (f : ℕ → ℤ) (w : ℕ × ℤ) (block : ℕ) → w.0 / 8 ≢ block → map f (indices_of block) ≡ map (λ i. written (Some w) i (f i)) (indices_of block)
+unwritten_among f w block elsewhere =
+    same_at f (λ i. written (Some w) i (f i)) (8 * block) 8 (pos 0) (λ i from below. sym (cond-false _ _ _ (ne_eqb w.0 i (λ same. elsewhere (omega arith)))))

@@ -5,7 +5,8 @@ use Rattle.std.proofs.lemmas.Bool.{cond-false, cond-true, eq-eqb, ne_eqb}
 use Rattle.std.proofs.lemmas.List.{ext_get_or, get_or-take, length-take-le}
 use Rattle.std.proofs.lemmas.List.FromFn.{get_or-map-range_with_len, length-map-range_with_len, map-range_with_len_more}
 use Rattle.lv_store.specs.Inner.{IsStore}
-use Rattle.lv_store.specs.State.{AreAlike, Opens, StoreState, announced, completed, elements_of, indices_of, settled, value_in, written}
+use Rattle.lv_store.specs.declared.descriptors.Writes.{Writes}
+use Rattle.lv_store.specs.State.{AreAlike, Opens, StoreState, announced, completed, elements_of, indices_of, settled, value_in, written_by}
 use Rattle.lv_store.proofs.Blocks.{part_is, put_among, same_at}
 use Rattle.lv_store.proofs.ShowsLaws.{value_in-completed, value_in-opens}
 
@@ -27,8 +28,8 @@ pub elements_alike : (s t : StoreState) → AreAlike s t → elements_of t ≡ e
 elements_alike s t alike =
     ap (λ n. map (value_in t) (range_with_len 0 n)) alike.size ∙ same_at (value_in t) (value_in s) 0 s.descriptor.size (pos 0) (λ i from below. alike.values i)
 
--- a write that is completed leaves all alike, and no bucket more open
-completed_alike : (s : StoreState) (write : Option (ℕ × ℤ)) → s.descriptor.pending ≡ write → IsStore s → AreAlike s (completed s write) × ((completed s write).buckets ≡ s.buckets) × ((completed s write).descriptor.pending ≡ None)
+-- writes that are completed leave all alike, and no bucket more open
+completed_alike : (s : StoreState) (writes : Option Writes) → s.descriptor.pending ≡ writes → IsStore s → AreAlike s (completed s writes) × ((completed s writes).buckets ≡ s.buckets) × ((completed s writes).descriptor.pending ≡ None)
 completed_alike s None is sound = (record { limits = refl; edit = refl; size = refl; values = λ i. refl }, refl, is)
 completed_alike s (Some w) is sound = (record { limits = refl; edit = refl; size = refl; values = value_in-completed s (Some w) is sound }, refl, refl)
 
@@ -60,34 +61,42 @@ alike_through s t u first second = record {
 
 -- nothing pending is read in the cells
 unpending : (s : StoreState) (i : ℕ) → s.descriptor.pending ≡ None → value_in s i ≡ get_or s.values i (pos 0)
-unpending s i none = ap (λ p. written p i (get_or s.values i (pos 0))) none
+unpending s i none = ap (λ p. written_by p i (get_or s.values i (pos 0))) none
 
 -- an element that is announced at the size is one more at the end
-pub elements-pushed : (s : StoreState) (x : ℤ) → s.descriptor.pending ≡ None → elements_of (announced s (Some (s.descriptor.size, x)) (s.descriptor.size + 1)) ≡ elements_of s ++ x ∷ []
+pub elements-pushed : (s : StoreState) (x : ℤ) → s.descriptor.pending ≡ None → elements_of (announced s (Some (s.descriptor.size, x)) None (s.descriptor.size + 1)) ≡ elements_of s ++ x ∷ []
 elements-pushed s x none =
     let n = s.descriptor.size in
-    let f = value_in (announced s (Some (n, x)) (n + 1)) in
+    let f = value_in (announced s (Some (n, x)) None (n + 1)) in
     map-range_with_len_more f 0 n n (omega arith)
     ∙ ap (λ xs. xs ++ f n ∷ []) (same_at f (value_in s) 0 n (pos 0) (λ i from below. cond-false _ _ _ (ne_eqb n i (λ same. absurd (omega arith))) ∙ sym (unpending s i none)))
     ∙ ap (λ y. elements_of s ++ y ∷ []) (cond-true _ _ _ (eq-eqb n n refl))
 
 -- no write, and one element fewer, is all but the last
-pub elements-popped : (s : StoreState) (n : ℕ) → s.descriptor.pending ≡ None → n ≤ s.descriptor.size → elements_of (announced s None n) ≡ take n (elements_of s)
+pub elements-popped : (s : StoreState) (n : ℕ) → s.descriptor.pending ≡ None → n ≤ s.descriptor.size → elements_of (announced s None None n) ≡ take n (elements_of s)
 elements-popped s n none fewer =
-    let t = announced s None n in
+    let t = announced s None None n in
     let long : length (take n (elements_of s)) ≡ n = length-take-le n (elements_of s) (omega (arith, length-elements s)) in
     ext_get_or (pos 0) _ _ (length-elements t ∙ sym long) (λ i below.
     let inside : i < n = omega (arith, length-elements t) in
     get_or-elements t i (pos 0) inside ∙ sym (get_or-take n (elements_of s) i (pos 0) inside ∙ get_or-elements s i (pos 0) (omega arith) ∙ unpending s i none))
 
 -- an element that is announced below the size is set there
-pub elements-written : (s : StoreState) (i : ℕ) (x : ℤ) → s.descriptor.pending ≡ None → i < s.descriptor.size → elements_of (announced s (Some (i, x)) s.descriptor.size) ≡ set (elements_of s) i x
+pub elements-written : (s : StoreState) (i : ℕ) (x : ℤ) → s.descriptor.pending ≡ None → i < s.descriptor.size → elements_of (announced s (Some (i, x)) None s.descriptor.size) ≡ set (elements_of s) i x
 elements-written s i x none inside =
     let n = s.descriptor.size in
     sym (
     put_among (value_in s) 0 n i i x (pos 0) inside (omega arith)
-    ∙ same_at (λ k. if nat_eq i k then x else value_in s k) (value_in (announced s (Some (i, x)) n)) 0 n (pos 0) (λ k from below. ap (λ y. if nat_eq i k then x else y) (unpending s k none)))
+    ∙ same_at (λ k. if nat_eq i k then x else value_in s k) (value_in (announced s (Some (i, x)) None n)) 0 n (pos 0) (λ k from below. ap (λ y. if nat_eq i k then x else y) (unpending s k none)))
+
+-- two elements that are announced below the size are set there
+pub elements-rewritten : (s : StoreState) (i j : ℕ) (x y : ℤ) → s.descriptor.pending ≡ None → i < s.descriptor.size → j < s.descriptor.size → elements_of (announced s (Some (i, x)) (Some (j, y)) s.descriptor.size) ≡ set (set (elements_of s) i x) j y
+elements-rewritten s i j x y none first second =
+    let n = s.descriptor.size in
+    sym (
+    ap (λ xs. set xs j y) (sym (elements-written s i x none first))
+    ∙ put_among (value_in (announced s (Some (i, x)) None n)) 0 n j j y (pos 0) second (omega arith))
 
 -- no write, and the same size, leaves the elements
-pub elements-unwritten : (s : StoreState) → s.descriptor.pending ≡ None → elements_of (announced s None s.descriptor.size) ≡ elements_of s
+pub elements-unwritten : (s : StoreState) → s.descriptor.pending ≡ None → elements_of (announced s None None s.descriptor.size) ≡ elements_of s
 elements-unwritten s none = same_at _ (value_in s) 0 s.descriptor.size (pos 0) (λ i from below. sym (unpending s i none))

@@ -46,7 +46,7 @@ IsStore-opened s cells n fewest few h =
       past = All-append (λ version. version ≤ s.descriptor.edit) s.versions _ h.past (All-replicate (λ version. version ≤ s.descriptor.edit) _ 0 (omega arith));
       edits = h.edits;
       size = omega (arith, h.size);
-      pending = IfSome_then s.descriptor.pending h.pending (λ w p. (omega (arith, p.0), p.1));
+      pending = IfSome_then s.descriptor.pending h.pending (λ w p. ((omega (arith, p.0.0), p.0.1), IfSome_then w.second p.1 (λ v q. ((omega (arith, q.0.0), q.0.1), q.1))));
     }
 
 -- and the buckets that its cells need are open

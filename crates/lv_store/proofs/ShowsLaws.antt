@@ -1,14 +1,16 @@
 -- What a store shows: as long as no index reads otherwise, and after one more edit.
-use Rattle.std.proofs.Common.{◌≡◌, ◌≢◌, ℕ, ℤ, pos, ◌+◌, ◌-◌, ◌*◌, ◌/◌, ◌<◌, ◌≤◌, true, false, if◌then◌else◌, Option, Some, None, List, [], ◌∷◌, ◌++◌, length, replicate, get_or, set, slice_get, nat_eq, refl, sym, ap, ◌∙◌, inl, inr, arith}
-use Rattle.std.specs.Prelude.{All}
-use Rattle.std.proofs.lemmas.Bool.{cases_Bool, cases_eq, cases_lt, cond-false, cond-true, eq-eqb, eqb-false, eqb-true, ne_eqb}
-use Rattle.std.proofs.lemmas.List.{get_or-append_right, get_or-replicate, get_or-set_other, get_or-set_same, get_or_append_left, get_or_past, get_or_push, length_push, length-replicate}
-use Rattle.std.proofs.lemmas.List.Elements.{All-get_or, All-weaker}
+use Rattle.std.proofs.Common.{◌≡◌, ℕ, ℤ, pos, ◌+◌, ◌-◌, ◌*◌, ◌/◌, ◌<◌, ◌≤◌, Bool, true, false, ◌||◌, if◌then◌else◌, Option, Some, None, List, [], ◌∷◌, ◌++◌, length, replicate, get_or, set, slice_get, nat_eq, refl, sym, ap, ◌∙◌, inl, inr, arith}
+use Rattle.std.specs.Prelude.{All, IfSome}
+use Rattle.std.proofs.lemmas.Bool.{cases_Bool, cases_eq, cases_lt, cond-false, cond-true, eq-eqb, eqb-false, eqb-true, false≢true, ne_eqb, or_cases, or_from, or_left, or_parts, or_right}
+use Rattle.std.proofs.lemmas.List.{get_or-append_right, get_or-replicate, get_or-set_other, get_or-set_same, get_or_append_left, get_or_past, get_or_push, length_push, length-replicate, length-set}
+use Rattle.std.proofs.lemmas.List.Elements.{All-get_or, All-set, All-weaker}
 use Rattle.std.proofs.lemmas.List.Sums.{fold_push}
-use Rattle.std.proofs.lemmas.Option.{slice_get-get_or}
-use Rattle.lv_store.specs.Announced.{Announcements, Shows, is_in, last_value, last_version, writes_at}
+use Rattle.std.proofs.lemmas.Option.{IfSome_then, slice_get-get_or}
+use Rattle.lv_geometry.specs.Elements.{IsElement}
+use Rattle.lv_store.specs.Announced.{Announcements, Shows, are_in, is_in, last_value, last_version, writes_at}
 use Rattle.lv_store.specs.Inner.{IsStore}
-use Rattle.lv_store.specs.State.{Opens, StoreState, announced, block_version, completed, empty_store, is_at, value_in, version_in, written}
+use Rattle.lv_store.specs.declared.descriptors.Writes.{Writes}
+use Rattle.lv_store.specs.State.{Opens, StoreState, announced, are_at, block_version, completed, empty_store, is_at, value_in, version_in, with_element, with_version, writes_of, written, written_by}
 use Rattle.lv_geometry.specs.Bounds.{Bounds}
 use Rattle.lv_geometry.proofs.Ranges.{greatest, greatest_above, greatest_least, greatest_same, last_pass, last_pass-next, last_pass_same}
 
@@ -18,29 +20,53 @@ unfolding greatest
 block_version_is s block = refl
 
 -- a number that is put among those of a list is no greater than what none is greater than
-put_low : (xs : List ℕ) (j e i : ℕ) → All (λ v. v ≤ e) xs → (if nat_eq j i then e else get_or xs i 0) ≤ e
-put_low xs j e i low =
-    elim (cases_Bool (nat_eq j i)) [
-      | inl here ↦ omega (arith, cond-true (nat_eq j i) e (get_or xs i 0) here)
-      | inr elsewhere ↦ elim (cases_lt i (length xs)) [
-        | inl inside ↦ omega (arith, cond-false (nat_eq j i) e (get_or xs i 0) elsewhere, All-get_or (λ v. v ≤ e) xs i 0 inside low)
-        | inr past ↦ omega (arith, cond-false (nat_eq j i) e (get_or xs i 0) elsewhere, get_or_past xs i 0 past)
-      ]
+put_low : (xs : List ℕ) (here : Bool) (e i : ℕ) → All (λ v. v ≤ e) xs → (if here then e else get_or xs i 0) ≤ e
+put_low xs true e i low = omega arith
+put_low xs false e i low =
+    elim (cases_lt i (length xs)) [
+      | inl inside ↦ All-get_or (λ v. v ≤ e) xs i 0 inside low
+      | inr past ↦ omega (arith, get_or_past xs i 0 past)
     ]
 
--- a value that is put over a list with none greater is the greatest of the block that it is in
-greatest_with : (xs : List ℕ) (j e block : ℕ) → All (λ v. v ≤ e) xs → j / 8 ≡ block → greatest (λ i. if nat_eq j i then e else get_or xs i 0) (8 * block) 8 ≡ e
-greatest_with xs j e block low there =
-    let f = λ (i : ℕ). if nat_eq j i then e else get_or xs i 0 in
-    let here : f j ≡ e = cond-true _ _ _ (eq-eqb j j refl) in
+-- a value that is put over a list with none greater is the greatest of a block that it is in
+greatest_with : (xs : List ℕ) (here : ℕ → Bool) (j e block : ℕ) → All (λ v. v ≤ e) xs → here j ≡ true → j / 8 ≡ block → greatest (λ i. if here i then e else get_or xs i 0) (8 * block) 8 ≡ e
+greatest_with xs here j e block low at there =
+    let f = λ (i : ℕ). if here i then e else get_or xs i 0 in
+    let put : f j ≡ e = cond-true (here j) e (get_or xs j 0) at in
     let above : f j ≤ greatest f (8 * block) 8 = greatest_above f (8 * block) 8 j (omega arith) (omega arith) in
-    let below : greatest f (8 * block) 8 ≤ e = greatest_least f (8 * block) 8 e (λ i from to. put_low xs j e i low) in
+    let below : greatest f (8 * block) 8 ≤ e = greatest_least f (8 * block) 8 e (λ i from to. put_low xs (here i) e i low) in
     omega arith
 
--- and leaves the greatest of the other blocks
-greatest_without : (xs : List ℕ) (j e block : ℕ) → j / 8 ≢ block → greatest (λ i. if nat_eq j i then e else get_or xs i 0) (8 * block) 8 ≡ greatest (λ i. get_or xs i 0) (8 * block) 8
-greatest_without xs j e block elsewhere =
-    greatest_same _ _ (8 * block) 8 (λ i from below. cond-false _ _ _ (ne_eqb j i (λ same. elsewhere (omega arith))))
+-- and leaves the greatest of a block that it is not in
+greatest_without : (xs : List ℕ) (here : ℕ → Bool) (e block : ℕ) → ((i : ℕ) → i / 8 ≡ block → here i ≡ false) → greatest (λ i. if here i then e else get_or xs i 0) (8 * block) 8 ≡ greatest (λ i. get_or xs i 0) (8 * block) 8
+greatest_without xs here e block elsewhere =
+    greatest_same _ _ (8 * block) 8 (λ i from below. cond-false _ _ _ (elsewhere i (omega arith)))
+
+-- a write in a block is at an index of it
+in_at : (block : ℕ) (write : Option (ℕ × ℤ)) → is_in block write ≡ true → (i : ℕ) × (is_at i write ≡ true) × (i / 8 ≡ block)
+in_at block None there = absurd (false≢true there)
+in_at block (Some w) there = (w.0, eq-eqb w.0 w.0 refl, eqb-true _ _ there)
+
+-- and one of some writes
+are_in_at : (block : ℕ) (writes : Option Writes) → are_in block writes ≡ true → (i : ℕ) × (are_at i writes ≡ true) × (i / 8 ≡ block)
+are_in_at block None there = absurd (false≢true there)
+are_in_at block (Some w) there =
+    elim (or_cases (is_in block w.second) (is_in block (Some w.first)) there) [
+      | inl second ↦ let at = in_at block w.second second in (at.0, or_left _ _ at.1, at.2)
+      | inr first ↦ let at = in_at block (Some w.first) first in (at.0, or_right _ _ at.1, at.2)
+    ]
+
+-- a write that is not in a block is at no index of it
+not_at : (block i : ℕ) (write : Option (ℕ × ℤ)) → is_in block write ≡ false → i / 8 ≡ block → is_at i write ≡ false
+not_at block i None elsewhere within = refl
+not_at block i (Some w) elsewhere within = ne_eqb w.0 i (λ same. eqb-false _ _ elsewhere (omega arith))
+
+-- and none of some writes
+pub are_not_at : (block i : ℕ) (writes : Option Writes) → are_in block writes ≡ false → i / 8 ≡ block → are_at i writes ≡ false
+are_not_at block i None elsewhere within = refl
+are_not_at block i (Some w) elsewhere within =
+    let parts = or_parts _ _ elsewhere in
+    or_from _ _ (not_at block i w.second parts.0 within) (not_at block i (Some w.first) parts.1 within)
 
 -- past the end of a list the greatest is 0
 pub none_past : (xs : List ℕ) (a : ℕ) → length xs ≤ a → greatest (λ i. get_or xs i 0) a 8 ≡ 0
@@ -48,20 +74,18 @@ none_past xs a past =
     let none = greatest_least (λ i. get_or xs i 0) a 8 0 (λ i from below. let outside = get_or_past xs i 0 (omega arith) in omega arith) in
     omega arith
 
--- the version of a block is the number of the last edit, where what it announced is in the block
-pub written_version : (s : StoreState) (w : ℕ × ℤ) (block : ℕ) → s.descriptor.pending ≡ Some w → All (λ v. v ≤ s.descriptor.edit) s.versions → is_in block (Some w) ≡ true → block_version s block ≡ s.descriptor.edit
-written_version s w block pending low there =
+-- the version of a block is the number of the last edit, where it announced a write in the block
+pub written_version : (s : StoreState) (block : ℕ) → All (λ v. v ≤ s.descriptor.edit) s.versions → are_in block s.descriptor.pending ≡ true → block_version s block ≡ s.descriptor.edit
+written_version s block low there =
+    let at = are_in_at block s.descriptor.pending there in
     block_version_is s block
-    ∙ ap (λ p. greatest (λ i. if is_at i p then s.descriptor.edit else get_or s.versions i 0) (8 * block) 8) pending
-    ∙ greatest_with s.versions w.0 s.descriptor.edit block low (eqb-true _ _ there)
+    ∙ greatest_with s.versions (λ i. are_at i s.descriptor.pending) at.0 s.descriptor.edit block low at.1 at.2
 
 -- and else the greatest of those in its cells
-unwritten_by : (s : StoreState) (pending : Option (ℕ × ℤ)) (block : ℕ) → is_in block pending ≡ false → greatest (λ i. if is_at i pending then s.descriptor.edit else get_or s.versions i 0) (8 * block) 8 ≡ greatest (λ i. get_or s.versions i 0) (8 * block) 8
-unwritten_by s None block elsewhere = refl
-unwritten_by s (Some w) block elsewhere = greatest_without s.versions w.0 s.descriptor.edit block (eqb-false _ _ elsewhere)
-
-pub unwritten_version : (s : StoreState) (block : ℕ) → is_in block s.descriptor.pending ≡ false → block_version s block ≡ greatest (λ i. get_or s.versions i 0) (8 * block) 8
-unwritten_version s block elsewhere = block_version_is s block ∙ unwritten_by s s.descriptor.pending block elsewhere
+pub unwritten_version : (s : StoreState) (block : ℕ) → are_in block s.descriptor.pending ≡ false → block_version s block ≡ greatest (λ i. get_or s.versions i 0) (8 * block) 8
+unwritten_version s block elsewhere =
+    block_version_is s block
+    ∙ greatest_without s.versions (λ i. are_at i s.descriptor.pending) s.descriptor.edit block (λ i within. are_not_at block i s.descriptor.pending elsewhere within)
 
 -- two states that read alike at each index, after as many edits, show the same announcements
 pub Shows-same : (old new : StoreState) → new.descriptor.edit ≡ old.descriptor.edit → ((i : ℕ) → value_in new i ≡ value_in old i) → ((i : ℕ) → version_in new i ≡ version_in old i) → (all : Announcements) → Shows old all → Shows new all
@@ -91,13 +115,13 @@ get_or-longer xs n x k =
 -- open buckets change no element
 pub value_in-opens : (old new : StoreState) (cells : ℕ) → Opens old new cells → (i : ℕ) → value_in new i ≡ value_in old i
 value_in-opens old new cells h i =
-    ap (λ d. written d.pending i (get_or new.values i (pos 0))) h.descriptor ∙ ap (written old.descriptor.pending i) (ap (λ xs. get_or xs i (pos 0)) h.values ∙ get_or-longer old.values _ (pos 0) i)
+    ap (λ d. written_by d.pending i (get_or new.values i (pos 0))) h.descriptor ∙ ap (written_by old.descriptor.pending i) (ap (λ xs. get_or xs i (pos 0)) h.values ∙ get_or-longer old.values _ (pos 0) i)
 
 -- and no answer
 pub Shows-opens : (old new : StoreState) (cells : ℕ) → Opens old new cells → (all : Announcements) → Shows old all → Shows new all
 Shows-opens old new cells h =
     Shows-same old new (ap (λ d. d.edit) h.descriptor) (value_in-opens old new cells h)
-    (λ i. ap (λ d. if is_at i d.pending then d.edit else get_or new.versions i 0) h.descriptor ∙ ap (λ n. if is_at i old.descriptor.pending then old.descriptor.edit else n) (ap (λ xs. get_or xs i 0) h.versions ∙ get_or-longer old.versions _ 0 i))
+    (λ i. ap (λ d. if are_at i d.pending then d.edit else get_or new.versions i 0) h.descriptor ∙ ap (λ n. if are_at i old.descriptor.pending then old.descriptor.edit else n) (ap (λ xs. get_or xs i 0) h.versions ∙ get_or-longer old.versions _ 0 i))
 
 -- an element that is put into a list is read there, and the others elsewhere
 get_or-put : {T : Type 0} (xs : List T) (j : ℕ) (x d : T) (i : ℕ) → j < length xs → get_or (set xs j x) i d ≡ if nat_eq j i then x else get_or xs i d
@@ -107,21 +131,87 @@ get_or-put xs j x d i inside =
       | inr other ↦ get_or-set_other xs j i x d other ∙ sym (cond-false _ _ _ (ne_eqb j i (λ same. other (sym same))))
     ]
 
--- a write that is completed changes no element
-pub value_in-completed : (s : StoreState) (write : Option (ℕ × ℤ)) → s.descriptor.pending ≡ write → IsStore s → (i : ℕ) → value_in (completed s write) i ≡ value_in s i
+-- a write, if there is one, that is put into elements is read there, and the others elsewhere
+get_or-with_element : (write : Option (ℕ × ℤ)) (xs : List ℤ) (i : ℕ) → IfSome write (λ w. w.0 < length xs) → get_or (with_element write xs) i (pos 0) ≡ written write i (get_or xs i (pos 0))
+get_or-with_element None xs i inside = refl
+get_or-with_element (Some w) xs i inside = get_or-put xs w.0 w.1 (pos 0) i inside
+
+-- and its edit's number among versions
+get_or-with_version : (write : Option (ℕ × ℤ)) (edit : ℕ) (xs : List ℕ) (i : ℕ) → IfSome write (λ w. w.0 < length xs) → get_or (with_version write edit xs) i 0 ≡ if is_at i write then edit else get_or xs i 0
+get_or-with_version None edit xs i inside = refl
+get_or-with_version (Some w) edit xs i inside = get_or-put xs w.0 edit 0 i inside
+
+-- one of two, put over the other
+either_put : {T : Type 0} (second first : Bool) (x y : T) → (if second then x else if first then x else y) ≡ if second || first then x else y
+either_put true first x y = refl
+either_put false first x y = refl
+
+-- writes that are completed change no element
+pub value_in-completed : (s : StoreState) (writes : Option Writes) → s.descriptor.pending ≡ writes → IsStore s → (i : ℕ) → value_in (completed s writes) i ≡ value_in s i
 value_in-completed s None is sound i = refl
 value_in-completed s (Some w) is sound i =
     let inside = rw is at sound.pending in
-    get_or-put s.values w.0 w.1 (pos 0) i (omega (arith, inside.0, sound.values)) ∙ ap (λ p. written p i (get_or s.values i (pos 0))) (sym is)
+    let first = with_element (Some w.first) s.values in
+    let long = length-set s.values w.first.0 w.first.1 in
+    get_or-with_element w.second first i (IfSome_then w.second inside.1 (λ v at. omega (arith, at.0.0, sound.values, long)))
+    ∙ ap (written w.second i) (get_or-with_element (Some w.first) s.values i (omega (arith, inside.0.0, sound.values)))
+    ∙ ap (λ p. written_by p i (get_or s.values i (pos 0))) (sym is)
+
+-- and no version
+version_in-completed : (s : StoreState) (writes : Option Writes) → s.descriptor.pending ≡ writes → IsStore s → (i : ℕ) → version_in (completed s writes) i ≡ version_in s i
+version_in-completed s None is sound i = refl
+version_in-completed s (Some w) is sound i =
+    let inside = rw is at sound.pending in
+    let edit = s.descriptor.edit in
+    let first = with_version (Some w.first) edit s.versions in
+    let long = length-set s.versions w.first.0 edit in
+    get_or-with_version w.second edit first i (IfSome_then w.second inside.1 (λ v at. omega (arith, at.0.0, sound.versions, long)))
+    ∙ ap (λ v. if is_at i w.second then edit else v) (get_or-with_version (Some w.first) edit s.versions i (omega (arith, inside.0.0, sound.versions)))
+    ∙ either_put (is_at i w.second) (is_at i (Some w.first)) edit (get_or s.versions i 0)
+    ∙ ap (λ p. if are_at i p then edit else get_or s.versions i 0) (sym is)
+
+-- nor the edit
+edit_completed : (s : StoreState) (writes : Option Writes) → (completed s writes).descriptor.edit ≡ s.descriptor.edit
+edit_completed s None = refl
+edit_completed s (Some w) = refl
 
 -- and no answer
-pub Shows-completed : (s : StoreState) (write : Option (ℕ × ℤ)) → s.descriptor.pending ≡ write → IsStore s → (all : Announcements) → Shows s all → Shows (completed s write) all
-Shows-completed s None is sound all h = h
-Shows-completed s (Some w) is sound all h =
+pub Shows-completed : (s : StoreState) (writes : Option Writes) → s.descriptor.pending ≡ writes → IsStore s → (all : Announcements) → Shows s all → Shows (completed s writes) all
+Shows-completed s writes is sound =
+    Shows-same s (completed s writes) (edit_completed s writes) (value_in-completed s writes is sound) (version_in-completed s writes is sound)
+
+-- a list of numbers of 64 bits stays one with such a write
+elements_with : (write : Option (ℕ × ℤ)) (xs : List ℤ) → IfSome write (λ w. IsElement w.1) → All IsElement xs → (length (with_element write xs) ≡ length xs) × All IsElement (with_element write xs)
+elements_with None xs fits all = (refl, all)
+elements_with (Some w) xs fits all = (length-set xs w.0 w.1, All-set IsElement xs w.0 w.1 fits all)
+
+-- and versions with one that none of them is above stay such
+versions_with : (write : Option (ℕ × ℤ)) (edit : ℕ) (xs : List ℕ) → All (λ version. version ≤ edit) xs → (length (with_version write edit xs) ≡ length xs) × All (λ version. version ≤ edit) (with_version write edit xs)
+versions_with None edit xs all = (refl, all)
+versions_with (Some w) edit xs all =
+    (length-set xs w.0 edit, All-set (λ version. version ≤ edit) xs w.0 edit (omega arith) all)
+
+-- a store whose writes are completed keeps what a store keeps
+pub IsStore-completed : (s : StoreState) (writes : Option Writes) → s.descriptor.pending ≡ writes → IsStore s → IsStore (completed s writes)
+IsStore-completed s None is sound = sound
+IsStore-completed s (Some w) is sound =
     let inside = rw is at sound.pending in
-    Shows-same s (completed s (Some w)) refl (value_in-completed s (Some w) is sound)
-    (λ i. get_or-put s.versions w.0 s.descriptor.edit 0 i (omega (arith, inside.0, sound.versions)) ∙ ap (λ p. if is_at i p then s.descriptor.edit else get_or s.versions i 0) (sym is))
-    all h
+    let edit = s.descriptor.edit in
+    let first = elements_with (Some w.first) s.values inside.0.1 sound.elements in
+    let second = elements_with w.second (with_element (Some w.first) s.values) (IfSome_then w.second inside.1 (λ v at. at.0.1)) first.1 in
+    let first_version = versions_with (Some w.first) edit s.versions sound.past in
+    let second_version = versions_with w.second edit (with_version (Some w.first) edit s.versions) first_version.1 in
+    record {
+      allowed = sound.allowed;
+      few = sound.few;
+      values = second.0 ∙ first.0 ∙ sound.values;
+      versions = second_version.0 ∙ first_version.0 ∙ sound.versions;
+      elements = second.1;
+      past = second_version.1;
+      edits = sound.edits;
+      size = sound.size;
+      pending = tt;
+    }
 
 -- an empty store shows that nothing was announced
 pub Shows-empty : (limits : Bounds) → Shows (empty_store limits) []
@@ -133,20 +223,20 @@ Shows-empty limits = record {
 }
 
 -- the element announced last, after one more edit
-last_value-snoc : (all : Announcements) (write : Option (ℕ × ℤ)) (i : ℕ) → last_value (all ++ write ∷ []) i ≡ written write i (last_value all i)
+last_value-snoc : (all : Announcements) (writes : Option Writes) (i : ℕ) → last_value (all ++ writes ∷ []) i ≡ written_by writes i (last_value all i)
 unfolding last_value
-last_value-snoc all write i = fold_push (λ x w. written w i x) (pos 0) all write
+last_value-snoc all writes i = fold_push (λ x w. written_by w i x) (pos 0) all writes
 
 -- the edits before the last one wrote where they did without it
-writes_at_before : (all : Announcements) (write : Option (ℕ × ℤ)) (block j : ℕ) → j < length all → writes_at (all ++ write ∷ []) block j ≡ writes_at all block j
-writes_at_before all write block j before =
-    let edit : slice_get (all ++ write ∷ []) j ≡ slice_get all j = slice_get-get_or (all ++ write ∷ []) j write (omega (arith, length_push all write)) ∙ ap Some (get_or_append_left all (write ∷ []) write j before) ∙ sym (slice_get-get_or all j write before) in
+writes_at_before : (all : Announcements) (writes : Option Writes) (block j : ℕ) → j < length all → writes_at (all ++ writes ∷ []) block j ≡ writes_at all block j
+writes_at_before all writes block j before =
+    let edit : slice_get (all ++ writes ∷ []) j ≡ slice_get all j = slice_get-get_or (all ++ writes ∷ []) j writes (omega (arith, length_push all writes)) ∙ ap Some (get_or_append_left all (writes ∷ []) writes j before) ∙ sym (slice_get-get_or all j writes before) in
     rw edit refl
 
 -- the last edit wrote where it announced
-writes_at_last : (all : Announcements) (write : Option (ℕ × ℤ)) (block : ℕ) → writes_at (all ++ write ∷ []) block (length all) ≡ is_in block write
-writes_at_last all write block =
-    let edit : slice_get (all ++ write ∷ []) (length all) ≡ Some write = slice_get-get_or (all ++ write ∷ []) (length all) write (omega (arith, length_push all write)) ∙ ap Some (get_or_push all write write (length all) refl) in
+writes_at_last : (all : Announcements) (writes : Option Writes) (block : ℕ) → writes_at (all ++ writes ∷ []) block (length all) ≡ are_in block writes
+writes_at_last all writes block =
+    let edit : slice_get (all ++ writes ∷ []) (length all) ≡ Some writes = slice_get-get_or (all ++ writes ∷ []) (length all) writes (omega (arith, length_push all writes)) ∙ ap Some (get_or_push all writes writes (length all) refl) in
     rw edit refl
 
 -- the last edit that wrote in a block is the last place of the announcements that is in it
@@ -154,36 +244,36 @@ last_version_is : (all : Announcements) (block : ℕ) → last_version all block
 unfolding last_version last_pass
 last_version_is all block = refl
 
--- one more edit is the last that wrote in a block where its write is in it, and else leaves the one before
-last_version-snoc : (all : Announcements) (write : Option (ℕ × ℤ)) (block : ℕ) → last_version (all ++ write ∷ []) block ≡ if is_in block write then length all + 1 else last_version all block
-last_version-snoc all write block =
-    let before = last_pass_same (writes_at (all ++ write ∷ []) block) (writes_at all block) (length all) (writes_at_before all write block) in
-    last_version_is (all ++ write ∷ []) block
-    ∙ ap (last_pass (writes_at (all ++ write ∷ []) block)) (length_push all write)
-    ∙ last_pass-next (writes_at (all ++ write ∷ []) block) (length all)
-    ∙ rw (writes_at_last all write block, before, ← last_version_is all block) refl
+-- one more edit is the last that wrote in a block where a write of it is in it, and else leaves the one before
+last_version-snoc : (all : Announcements) (writes : Option Writes) (block : ℕ) → last_version (all ++ writes ∷ []) block ≡ if are_in block writes then length all + 1 else last_version all block
+last_version-snoc all writes block =
+    let before = last_pass_same (writes_at (all ++ writes ∷ []) block) (writes_at all block) (length all) (writes_at_before all writes block) in
+    last_version_is (all ++ writes ∷ []) block
+    ∙ ap (last_pass (writes_at (all ++ writes ∷ []) block)) (length_push all writes)
+    ∙ last_pass-next (writes_at (all ++ writes ∷ []) block) (length all)
+    ∙ rw (writes_at_last all writes block, before, ← last_version_is all block) refl
 
 -- the version of a block is the next edit's number where it announced a write there, and else what it was
-block_version-announced : (s : StoreState) (write : Option (ℕ × ℤ)) (size block : ℕ) → s.descriptor.pending ≡ None → IsStore s → block_version (announced s write size) block ≡ if is_in block write then s.descriptor.edit + 1 else block_version s block
-block_version-announced s None size block settled h =
-    block_version_is (announced s None size) block ∙ sym (unwritten_version s block (ap (is_in block) settled))
-block_version-announced s (Some w) size block settled h =
+block_version-announced : (s : StoreState) (first second : Option (ℕ × ℤ)) (size block : ℕ) → s.descriptor.pending ≡ None → IsStore s → block_version (announced s first second size) block ≡ if are_in block (writes_of first second) then s.descriptor.edit + 1 else block_version s block
+block_version-announced s first second size block settled h =
     let later = All-weaker (λ v. v ≤ s.descriptor.edit) (λ v. v ≤ s.descriptor.edit + 1) (λ v low. omega arith) s.versions h.past in
-    elim (cases_Bool (is_in block (Some w))) [
-      | inl there ↦ written_version (announced s (Some w) size) w block refl later there ∙ sym (cond-true _ _ _ there)
-      | inr elsewhere ↦ unwritten_version (announced s (Some w) size) block elsewhere ∙ sym (cond-false _ _ _ elsewhere ∙ unwritten_version s block (ap (is_in block) settled))
+    let next = announced s first second size in
+    elim (cases_Bool (are_in block (writes_of first second))) [
+      | inl there ↦ written_version next block later there ∙ sym (cond-true _ _ _ there)
+      | inr elsewhere ↦ unwritten_version next block elsewhere ∙ sym (cond-false _ _ _ elsewhere ∙ unwritten_version s block (ap (are_in block) settled))
     ]
 
--- a store that announces a write, or none, shows it after what it showed
-pub Shows-announced : (s : StoreState) (write : Option (ℕ × ℤ)) (size : ℕ) → s.descriptor.pending ≡ None → IsStore s → (all : Announcements) → Shows s all → Shows (announced s write size) (all ++ write ∷ [])
-Shows-announced s write size settled h all shown =
+-- a store that announces writes, or none, shows them after what it showed
+pub Shows-announced : (s : StoreState) (first second : Option (ℕ × ℤ)) (size : ℕ) → s.descriptor.pending ≡ None → IsStore s → (all : Announcements) → Shows s all → Shows (announced s first second size) (all ++ writes_of first second ∷ [])
+Shows-announced s first second size settled h all shown =
+    let writes = writes_of first second in
     let next : s.descriptor.edit + 1 ≡ length all + 1 = ap (λ n. n + 1) shown.edit in
     record {
-      edit = next ∙ sym (length_push all write);
-      values = λ i. ap (written write i) (sym (ap (λ p. written p i (get_or s.values i (pos 0))) settled) ∙ shown.values i) ∙ sym (last_value-snoc all write i);
+      edit = next ∙ sym (length_push all writes);
+      values = λ i. ap (written_by writes i) (sym (ap (λ p. written_by p i (get_or s.values i (pos 0))) settled) ∙ shown.values i) ∙ sym (last_value-snoc all writes i);
       versions = λ block.
-          block_version-announced s write size block settled h
-          ∙ ap (λ n. if is_in block write then n else block_version s block) next
-          ∙ ap (λ n. if is_in block write then length all + 1 else n) (shown.versions block)
-          ∙ sym (last_version-snoc all write block);
+          block_version-announced s first second size block settled h
+          ∙ ap (λ n. if are_in block writes then n else block_version s block) next
+          ∙ ap (λ n. if are_in block writes then length all + 1 else n) (shown.versions block)
+          ∙ sym (last_version-snoc all writes block);
     }

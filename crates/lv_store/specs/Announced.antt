@@ -1,24 +1,30 @@
--- What announcements make of a store: of each edit the write that it announced, if it did.
-use Rattle.std.specs.Prelude.{◌≡◌, ℕ, ℤ, pos, ◌+◌, ◌/◌, Option, Bool, false, List, length, fold, slice_get, nat_eq, if◌then◌else◌}
+-- What announcements make of a store: of each edit the writes that it announced, if it did.
+use Rattle.std.specs.Prelude.{◌≡◌, ℕ, ℤ, pos, ◌+◌, ◌/◌, Option, Some, None, Bool, false, ◌||◌, List, length, fold, slice_get, nat_eq, if◌then◌else◌}
 use Rattle.std.specs.List.{range_with_len}
 use Rattle.std.specs.Option.{option_map_or}
-use Rattle.lv_store.specs.State.{StoreState, block_version, value_in, written}
+use Rattle.lv_store.specs.declared.descriptors.Writes.{Writes}
+use Rattle.lv_store.specs.State.{StoreState, block_version, value_in, written_by}
 
 -- what edits announced, in order
 abbrev pub Announcements : Type 0
-Announcements = List (Option (ℕ × ℤ))
+Announcements = List (Option Writes)
 
 -- the element that was announced last for an index; 0 where none was
 unfoldable pub last_value : Announcements → ℕ → ℤ
-last_value announced i = fold (λ x write. written write i x) (pos 0) announced
+last_value announced i = fold (λ x writes. written_by writes i x) (pos 0) announced
 
 -- whether a write, if there is one, is in a block
 abbrev pub is_in : ℕ → Option (ℕ × ℤ) → Bool
 is_in block write = option_map_or (λ w. nat_eq (w.0 / 8) block) write false
 
+-- whether one of an edit's writes, if it has any, is in a block
+abbrev pub are_in : ℕ → Option Writes → Bool
+are_in block None = false
+are_in block (Some writes) = is_in block writes.second || is_in block (Some writes.first)
+
 -- whether edit j + 1 wrote in a block
 abbrev pub writes_at : Announcements → ℕ → ℕ → Bool
-writes_at announced block j = option_map_or (is_in block) (slice_get announced j) false
+writes_at announced block j = option_map_or (are_in block) (slice_get announced j) false
 
 -- the number of the last edit that wrote in a block; 0 where none did
 unfoldable pub last_version : Announcements → ℕ → ℕ

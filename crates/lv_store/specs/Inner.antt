@@ -1,9 +1,10 @@
 -- What the fields of a store and of a two-level array keep.
-use Rattle.std.specs.Prelude.{◌≡◌, ◌<◌, ◌≤◌, ◌*◌, ◌^◌, IfSome, List, length, map, All}
+use Rattle.std.specs.Prelude.{◌≡◌, ◌≢◌, ◌<◌, ℕ, ℤ, ◌≤◌, ◌*◌, ◌^◌, IfSome, List, length, map, All}
 use Rattle.std.specs.List.{range_with_len}
 use Rattle.lv_geometry.specs.Bounds.{AreAllowed}
 use Rattle.lv_geometry.specs.Cells.{capacity_of}
 use Rattle.lv_geometry.specs.Elements.{IsElement}
+use Rattle.lv_store.specs.declared.descriptors.Writes.{Writes}
 use Rattle.lv_store.specs.State.{StoreState}
 
 -- the first bucket has 8 cells, each further one twice as many, and there are at most 17
@@ -11,8 +12,17 @@ pub record AreBuckets {T : Type 0} (buckets : List (List T)) : Type 0 where
   pub sizes : map length buckets ≡ map (λ k. 8 * 2 ^ k) (range_with_len 0 (length buckets))
   pub few : length buckets ≤ 17
 
--- elements and versions for every open cell, within the limits; no version is of an edit to come; and a pending write is at a cell
--- that is open
+-- a write of an element at a cell that is open, where so many buckets are
+abbrev pub IsWrite : ℕ → ℕ × ℤ → Type 0
+IsWrite buckets write = (write.0 < capacity_of buckets) × IsElement write.1
+
+-- such writes, at two indices where they are two
+abbrev pub AreWrites : ℕ → Writes → Type 0
+AreWrites buckets writes =
+    IsWrite buckets writes.first × IfSome writes.second (λ write. IsWrite buckets write × (write.0 ≢ writes.first.0))
+
+-- elements and versions for every open cell, within the limits; no version is of an edit to come; and pending writes are at cells
+-- that are open
 pub record IsStore (s : StoreState) : Type 0 where
   pub allowed : AreAllowed s.limits.buckets s.limits.edits
   pub few : s.buckets ≤ s.limits.buckets
@@ -22,4 +32,4 @@ pub record IsStore (s : StoreState) : Type 0 where
   pub past : All (λ version. version ≤ s.descriptor.edit) s.versions
   pub edits : s.descriptor.edit ≤ s.limits.edits
   pub size : s.descriptor.size ≤ capacity_of s.buckets
-  pub pending : IfSome s.descriptor.pending (λ write. (write.0 < capacity_of s.buckets) × IsElement write.1)
+  pub pending : IfSome s.descriptor.pending (AreWrites s.buckets)

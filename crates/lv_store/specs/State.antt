@@ -1,9 +1,10 @@
 -- What a store holds, and what it answers, by index.
-use Rattle.std.specs.Prelude.{◌≡◌, ℕ, ℤ, pos, ◌+◌, ◌*◌, Option, Some, None, Bool, false, List, [], ◌++◌, ◌-◌, fold, map, max, replicate, slice_index, slice_set, nat_eq, if◌then◌else◌}
+use Rattle.std.specs.Prelude.{◌≡◌, ℕ, ℤ, pos, ◌+◌, ◌*◌, Option, Some, None, Bool, false, ◌||◌, List, [], ◌++◌, ◌-◌, fold, map, max, replicate, slice_index, slice_set, nat_eq, if◌then◌else◌}
 use Rattle.std.specs.List.{range_with_len, slice_index_or}
 use Rattle.lv_geometry.specs.Bounds.{Bounds}
 use Rattle.lv_geometry.specs.Cells.{AreFewest, capacity_of}
 use Rattle.lv_store.specs.declared.descriptors.Descriptor.{Descriptor}
+use Rattle.lv_store.specs.declared.descriptors.Writes.{Writes}
 
 -- its limits, its descriptor, how many buckets are open, and of the cells the elements, and the numbers of the edits that wrote
 -- them, 0 where none did
@@ -24,9 +25,19 @@ abbrev pub written : Option (ℕ × ℤ) → ℕ → ℤ → ℤ
 written None i x = x
 written (Some write) i x = if nat_eq write.0 i then write.1 else x
 
--- the element at an index: that of the pending write, where it is there, else that in its cell; 0 where nothing was written
+-- whether one of an edit's writes, if it has any, is at an index
+abbrev pub are_at : ℕ → Option Writes → Bool
+are_at i None = false
+are_at i (Some writes) = is_at i writes.second || is_at i (Some writes.first)
+
+-- what an edit's writes, if it has any, make of the element at an index
+abbrev pub written_by : Option Writes → ℕ → ℤ → ℤ
+written_by None i x = x
+written_by (Some writes) i x = written writes.second i (written (Some writes.first) i x)
+
+-- the element at an index: that of a pending write, where it is there, else that in its cell; 0 where nothing was written
 abbrev pub value_in : StoreState → ℕ → ℤ
-value_in s i = written s.descriptor.pending i (slice_index_or s.values i (pos 0))
+value_in s i = written_by s.descriptor.pending i (slice_index_or s.values i (pos 0))
 
 -- the elements: those at the indices below the size
 abbrev pub elements_of : StoreState → List ℤ
@@ -34,7 +45,7 @@ elements_of s = map (value_in s) (range_with_len 0 s.descriptor.size)
 
 -- the number of the edit that wrote an index last, its write pending or not; 0 where none did
 abbrev pub version_in : StoreState → ℕ → ℕ
-version_in s i = if is_at i s.descriptor.pending then s.descriptor.edit else slice_index s.versions i
+version_in s i = if are_at i s.descriptor.pending then s.descriptor.edit else slice_index s.versions i
 
 -- the eight indices of a block
 abbrev pub indices_of : ℕ → List ℕ
@@ -48,21 +59,37 @@ block_version s block = fold (λ most i. max most (version_in s i)) 0 (indices_o
 abbrev pub empty_store : Bounds → StoreState
 empty_store limits = record { limits = limits; descriptor = record { edit = 0; size = 0; pending = None }; buckets = 0; values = []; versions = [] }
 
--- the store after one more edit, which announces a write or none, and leaves this size
-abbrev pub announced : StoreState → Option (ℕ × ℤ) → ℕ → StoreState
-announced s write size = record s { descriptor = record { edit = s.descriptor.edit + 1; size = size; pending = write } }
+-- the writes of an edit that announces a first and a second, or one, or none
+abbrev pub writes_of : Option (ℕ × ℤ) → Option (ℕ × ℤ) → Option Writes
+writes_of None second = None
+writes_of (Some first) second = Some (record { first = first; second = second })
 
--- the store with a write, if there is one, of the last edit in its cell, and none pending
-abbrev pub completed : StoreState → Option (ℕ × ℤ) → StoreState
+-- the store after one more edit, which announces two writes, or one, or none, and leaves this size
+abbrev pub announced : StoreState → Option (ℕ × ℤ) → Option (ℕ × ℤ) → ℕ → StoreState
+announced s first second size =
+    record s { descriptor = record { edit = s.descriptor.edit + 1; size = size; pending = writes_of first second } }
+
+-- elements with a write, if there is one, in its cell
+abbrev pub with_element : Option (ℕ × ℤ) → List ℤ → List ℤ
+with_element None values = values
+with_element (Some write) values = slice_set values write.0 write.1
+
+-- versions with the number of an edit in the cell of its write, if there is one
+abbrev pub with_version : Option (ℕ × ℤ) → ℕ → List ℕ → List ℕ
+with_version None edit versions = versions
+with_version (Some write) edit versions = slice_set versions write.0 edit
+
+-- the store with the writes, if there are any, of the last edit in their cells, and none pending
+abbrev pub completed : StoreState → Option Writes → StoreState
 completed s None = s
-completed s (Some write) =
+completed s (Some writes) =
     record s {
       descriptor = record s.descriptor { pending = None };
-      values = slice_set s.values write.0 write.1;
-      versions = slice_set s.versions write.0 s.descriptor.edit;
+      values = with_element writes.second (with_element (Some writes.first) s.values);
+      versions = with_version writes.second s.descriptor.edit (with_version (Some writes.first) s.descriptor.edit s.versions);
     }
 
--- the store with what is pending in its cell
+-- the store with what is pending in its cells
 abbrev pub settled : StoreState → StoreState
 settled s = completed s s.descriptor.pending
 

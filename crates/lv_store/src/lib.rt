@@ -1,5 +1,5 @@
 //! The cells of the vector: buckets that are opened and never moved, and a descriptor with the number of the last edit, the
-//! size, and that edit's write until it is in its cell.
+//! size, and that edit's writes, one or two, until they are in their cells.
 //!
 //! The model of a `Store` is its descriptor and its cells, index by index. After any announcements, settled or not, a read is
 //! the element that was announced last for its index, and a block's version the number of the edit that wrote in it last
@@ -10,5 +10,5 @@ mod descriptors;
 mod directories;
 mod stores;
 
-pub use descriptors::Descriptor;
+pub use descriptors::{Descriptor, Writes};
 pub use stores::Store;

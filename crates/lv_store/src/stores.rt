@@ -1,10 +1,10 @@
-ghost use Rattle.std.specs.Prelude.{◌≡◌, ◌+◌, ◌*◌, ◌<◌, ◌≤◌, None, [], ◌∷◌, ◌++◌, fold, map, max, OnOk, OnErr, IfErr, IfSome};
+ghost use Rattle.std.specs.Prelude.{◌≡◌, ◌≢◌, ℕ, ℤ, ◌+◌, ◌*◌, ◌<◌, ◌≤◌, None, [], ◌∷◌, ◌++◌, fold, length, map, max, OnOk, OnErr, IfErr, IfSome, IsSomeAnd};
 ghost use Rattle.lv_geometry.specs.Cells.{capacity_of};
-ghost use Rattle.lv_store.specs.Announced.{Announcements, Shows};
+ghost use Rattle.lv_store.specs.Announced.{Announcements, Shows, are_in, is_in};
 ghost use Rattle.lv_store.specs.Inner.{IsStore};
-ghost use Rattle.lv_store.specs.State.{Opens, announced, block_version, empty_store, indices_of, settled, value_in};
+ghost use Rattle.lv_store.specs.State.{Opens, announced, block_version, empty_store, indices_of, settled, value_in, with_element, with_version, writes_of, written};
 
-use crate::descriptors::Descriptor;
+use crate::descriptors::{Descriptor, Writes};
 use crate::directories::Directory;
 use lv_geometry::{Limits, Refusal, buckets_for};
 use std::alloc::Global;
@@ -73,37 +73,44 @@ impl Store {
         Ok(())
     }
 
-    /// The next edit: it has the next number, leaves so many elements, and announces a write of an index and an element, or none. The
-    /// write is pending until it is settled.
+    /// The next edit: it has the next number, leaves so many elements, and announces writes, each of an element at an index: none, a
+    /// first, or a first and a second at another index. They are pending until they are settled, both at once.
     #[inline]
-    pub fn announce(&mut self, write: Option<(u32, i64)>, size: u32)
+    pub fn announce(&mut self, first: Option<(u32, i64)>, second: Option<(u32, i64)>, size: u32)
         requires settled { self.old.descriptor.pending ≡ None }
         requires edit { self.old.descriptor.edit < self.old.limits.edits }
-        requires index { IfSome write (λ w. w.0 < capacity_of self.old.buckets) }
+        requires index { IfSome first (λ write. write.0 < capacity_of self.old.buckets) }
+        requires second { IfSome second (λ write. (write.0 < capacity_of self.old.buckets) × IsSomeAnd first (λ other. write.0 ≢ other.0)) }
         requires size { size ≤ capacity_of self.old.buckets }
-        ensures state { self.new ≡ announced self.old write size }
-        ensures shows { (all : Announcements) → Shows self.old all → Shows self.new (all ++ write ∷ []) }
+        ensures state { self.new ≡ announced self.old first second size }
+        ensures shows { (all : Announcements) → Shows self.old all → Shows self.new (all ++ writes_of first second ∷ []) }
         ensures sound { IsStore self.new }
     {
         self.descriptor = Descriptor {
             edit: self.descriptor.edit + 1,
             size,
-            pending: write,
+            pending: writes_of(first, second),
         };
     }
 
-    /// Completes the write that is pending, if one is. Changes no answer.
+    /// Completes the writes that are pending, if any are. Changes no answer.
     #[inline]
     pub fn settle(&mut self)
         ensures state { self.new ≡ settled self.old }
         ensures shows { (all : Announcements) → Shows self.old all → Shows self.new all }
         ensures sound { IsStore self.new }
     {
-        let Some((index, element)) = self.descriptor.pending else {
+        let Some(writes) = self.descriptor.pending else {
             return;
         };
-        self.values.set(index, element);
-        self.versions.set(index, self.descriptor.edit);
+        let edit = self.descriptor.edit;
+        put(
+            &mut self.values,
+            &mut self.versions,
+            edit,
+            Some(writes.first),
+        );
+        put(&mut self.values, &mut self.versions, edit, writes.second);
         self.descriptor.pending = None;
     }
 
@@ -113,7 +120,13 @@ impl Store {
         requires inside { i < capacity_of self.now.buckets }
         ensures { result ≡ value_in self.now i }
     {
-        if let Some((index, element)) = self.descriptor.pending {
+        if let Some(writes) = self.descriptor.pending {
+            if let Some((index, element)) = writes.second {
+                if index == i {
+                    return element;
+                }
+            }
+            let (index, element) = writes.first;
             if index == i {
                 return element;
             }
@@ -128,10 +141,9 @@ impl Store {
         ensures { result ≡ map (value_in self.now) (indices_of block) }
     {
         let mut cells = self.values.block(block);
-        if let Some((index, element)) = self.descriptor.pending {
-            if index / 8 == block {
-                cells[(index % 8) as usize] = element;
-            }
+        if let Some(writes) = self.descriptor.pending {
+            put_among(&mut cells, block, Some(writes.first));
+            put_among(&mut cells, block, writes.second);
         }
         cells
     }
@@ -141,10 +153,8 @@ impl Store {
     pub fn version(&self, block: u32) -> u32
         ensures { result ≡ block_version self.now block }
     {
-        if let Some((index, _)) = self.descriptor.pending {
-            if index / 8 == block {
-                return self.descriptor.edit;
-            }
+        if are_in(block, self.descriptor.pending) {
+            return self.descriptor.edit;
         }
         if self.versions.has_block(block) {
             greatest(self.versions.block(block))
@@ -194,6 +204,70 @@ impl Store {
         ensures sound { IsStore self.now }
     {
         self.descriptor
+    }
+}
+
+// The writes of an edit that announces a first and a second, or one, or none.
+#[inline(always)]
+fn writes_of(first: Option<(u32, i64)>, second: Option<(u32, i64)>) -> Option<Writes>
+    ensures { result ≡ writes_of first second }
+{
+    match first {
+        Some(first) => Some(Writes { first, second }),
+        None => None,
+    }
+}
+
+// Puts a write of an edit, if there is one, into its cell.
+#[inline(always)]
+fn put(
+    values: &mut Directory<i64>,
+    versions: &mut Directory<u32>,
+    edit: u32,
+    write: Option<(u32, i64)>,
+)
+    requires values { IfSome write (λ write. write.0 < length values.old.cells) }
+    requires versions { IfSome write (λ write. write.0 < length versions.old.cells) }
+    ensures values { values.new ≡ record values.old { cells = with_element write values.old.cells } }
+    ensures versions { versions.new ≡ record versions.old { cells = with_version write edit versions.old.cells } }
+{
+    if let Some((index, element)) = write {
+        values.set(index, element);
+        versions.set(index, edit);
+    }
+}
+
+// Puts a write, if there is one, among the cells of its block, where it is this one.
+#[inline(always)]
+fn put_among(cells: &mut [i64; 8], block: u32, write: Option<(u32, i64)>)
+    ensures { (f : ℕ → ℤ) → cells.old ≡ map f (indices_of block) → cells.new ≡ map (λ i. written write i (f i)) (indices_of block) }
+{
+    if let Some((index, element)) = write {
+        if index / 8 == block {
+            cells[(index % 8) as usize] = element;
+        }
+    }
+}
+
+// Whether one of an edit's writes, if it has any, is in a block.
+#[inline(always)]
+fn are_in(block: u32, writes: Option<Writes>) -> bool
+    ensures { result ≡ are_in block writes }
+{
+    match writes {
+        Some(writes) => is_in(block, writes.second) || is_in(block, Some(writes.first)),
+        None => false,
+    }
+}
+
+// Whether a write, if there is one, is in a block.
+#[inline(always)]
+fn is_in(block: u32, write: Option<(u32, i64)>) -> bool
+    ensures { result ≡ is_in block write }
+{
+    match write {
+        Some((index, _)) => index / 8 == block,
+        None => false,
     }
 }
 

@@ -1,20 +1,20 @@
 -- How a table goes on agreeing with the edits: from the empty table, by growth, by a summary that is installed, and by
 -- one more edit.
-use Rattle.std.proofs.Common.{◌≡◌, ℕ, ℤ, ◌+◌, ◌≤◌, true, false, ◌&&◌, cond, if◌then◌else◌, Some, None, option_map, List, [], ◌∷◌, ◌++◌, length, refl, sym, ap, ◌∙◌, inl, inr, arith}
+use Rattle.std.proofs.Common.{◌≡◌, ℕ, ℤ, ◌+◌, ◌≤◌, true, Bool, false, ◌&&◌, ◌||◌, cond, if◌then◌else◌, Some, None, List, [], ◌∷◌, ◌++◌, length, refl, sym, ap, ◌∙◌, inl, inr, arith}
 use Rattle.std.proofs.lemmas.Bool.{cases_Bool, cond-false, cond-true}
 use Rattle.std.proofs.lemmas.List.{length_push}
 use Rattle.std.proofs.lemmas.Option.{none-some, same_Some}
-use Rattle.std.specs.Option.{option_map_or}
+use Rattle.std.specs.List.{list_any}
 use Rattle.lv_geometry.specs.declared.nodes.Node.{Node}
 use Rattle.lv_geometry.specs.Nodes.{covers, is_below, is_node, same_node}
 use Rattle.lv_bodies.specs.Body.{Operations, fold_of}
 use Rattle.lv_edits.specs.declared.edit.Edit.{Edit}
 use Rattle.lv_edits.specs.History.{applied, list_of, replayed}
-use Rattle.lv_edits.specs.Touch.{cells_of, index_written, is_whole, touches}
+use Rattle.lv_edits.specs.Touch.{cells_of, indices_written, is_whole, touches}
 use Rattle.lv_edits.proofs.HistoryLaws.{list_of_replayed, list_of-snoc, replayed-nil}
 use Rattle.lv_edits.proofs.TouchLaws.{touched_by-le, touched_by-none, touched_by-snoc, untouched_keeps}
 use Rattle.lv_summary.specs.Agrees.{Agrees}
-use Rattle.lv_summary.specs.Table.{AnswersAlike, HasSize, Keeps, Learns, OnlyLearns, Table, Touches, beside, computed_in, entry_in, fresh_in, kept_in, known_entry_in, touched_in, whole_in}
+use Rattle.lv_summary.specs.Table.{AnswersAlike, HasSize, Keeps, Learns, OnlyLearns, Table, Touches, TouchesEach, computed_in, entry_in, kept_in, known_entry_in, touched_in, whole_in}
 use Rattle.lv_summary.proofs.TableLaws.{entry_in-kept, entry_of_fresh, fresh_of_entry, known_entry_in-fresh, known_entry_in-learnt, known_entry_in-learnt_other, known_entry_in-same, known_parts, learns_only, node_of_whole, same_node-eq, version_before, whole_in-size}
 
 -- what an edit makes of a table: it has the size of the list, and the nodes that the edit touches have its number; what is
@@ -24,6 +24,40 @@ record IsStep {S : Type 0} (es : List Edit) (e : Edit) (ys : List ℤ) (old new 
   touched : (n : Node) → is_node n ≡ true → touched_in new n ≡ (if touches (list_of es) e n then length es + 1 else touched_in old n)
   kept : (n : Node) → kept_in new n ≡ kept_in old n
   computed : (n : Node) → computed_in new n ≡ computed_in old n
+
+-- where no index was touched nothing has changed
+pub TouchesEach-none : {S : Type 0} (t : Table S) (edit : ℕ) → TouchesEach t t [] edit
+TouchesEach-none t edit = record {
+  size = refl;
+  blocks = refl;
+  touched = λ n. no_one (is_node n) edit (touched_in t n);
+  kept = λ n. refl;
+  computed = λ n. refl;
+}
+  where
+    no_one : (node : Bool) (edit before : ℕ) → before ≡ cond (node && false) edit before
+    no_one true edit before = refl
+    no_one false edit before = refl
+
+-- what is touched at an index, and then at others, by the same edit
+touched_next : (node here later : Bool) (edit before : ℕ) → cond (node && later) edit (cond (node && here) edit before) ≡ cond (node && (here || later)) edit before
+touched_next false here later edit before = refl
+touched_next true true true edit before = refl
+touched_next true true false edit before = refl
+touched_next true false later edit before = refl
+
+-- one index more that the same edit touched before the others
+pub TouchesEach-next : {S : Type 0} (old mid new : Table S) (i : ℕ) (rest : List ℕ) (edit : ℕ) → Touches old mid i edit → TouchesEach mid new rest edit → TouchesEach old new (i ∷ rest) edit
+TouchesEach-next old mid new i rest edit first others = record {
+  size = others.size ∙ first.size;
+  blocks = others.blocks ∙ first.blocks;
+  touched = λ n.
+      others.touched n
+      ∙ ap (cond (is_node n && list_any (covers n) rest) edit) (first.touched n)
+      ∙ touched_next (is_node n) (covers n i) (list_any (covers n) rest) edit (touched_in old n);
+  kept = λ n. others.kept n ∙ first.kept n;
+  computed = λ n. others.computed n ∙ first.computed n;
+}
 
 module _ {S : Type 0} (o : Operations S) where
   -- the empty table agrees with no edits
@@ -160,28 +194,15 @@ module _ {S : Type 0} (o : Operations S) where
         folds = fold_after es e ys old new legal possible agrees step;
       }
 
-  -- a table agrees after an edit that writes at an index, once the index was touched and the size set
-  pub agrees_after_touch : (es : List Edit) (e : Edit) (ys : List ℤ) (i : ℕ) (old mid new : Table S) → replayed es ≡ Some (list_of es) → applied (list_of es) e ≡ Some ys → index_written (list_of es) e ≡ Some i → Agrees o es old → Touches old mid i (length es + 1) → HasSize mid new (length ys) → Agrees o (es ++ e ∷ []) new
-  agrees_after_touch es e ys i old mid new legal possible writes agrees touch sized =
+  -- a table agrees after an edit, once the indices at which it writes were touched and the size set
+  pub agrees_after_touches : (es : List Edit) (e : Edit) (ys : List ℤ) (old mid new : Table S) → replayed es ≡ Some (list_of es) → applied (list_of es) e ≡ Some ys → Agrees o es old → TouchesEach old mid (indices_written (list_of es) e) (length es + 1) → HasSize mid new (length ys) → Agrees o (es ++ e ∷ []) new
+  agrees_after_touches es e ys old mid new legal possible agrees touch sized =
       agrees_after es e ys old new legal possible agrees record {
         size = sized.size_is;
         touched = λ n node.
             sized.touched n
             ∙ touch.touched n
-            ∙ ap (λ b. cond (b && covers n i) (length es + 1) (touched_in old n)) node
-            ∙ ap (λ index. cond (option_map_or (covers n) index false) (length es + 1) (touched_in old n)) (sym writes);
+            ∙ ap (λ b. cond (b && touches (list_of es) e n) (length es + 1) (touched_in old n)) node;
         kept = λ n. sized.kept n ∙ touch.kept n;
         computed = λ n. sized.computed n ∙ touch.computed n;
-      }
-
-  -- a table agrees after an edit that writes nowhere, once the size is set
-  pub agrees_after_size : (es : List Edit) (e : Edit) (ys : List ℤ) (old new : Table S) → replayed es ≡ Some (list_of es) → applied (list_of es) e ≡ Some ys → index_written (list_of es) e ≡ None → Agrees o es old → HasSize old new (length ys) → Agrees o (es ++ e ∷ []) new
-  agrees_after_size es e ys old new legal possible writes agrees sized =
-      agrees_after es e ys old new legal possible agrees record {
-        size = sized.size_is;
-        touched = λ n node.
-            sized.touched n
-            ∙ ap (λ index. cond (option_map_or (covers n) index false) (length es + 1) (touched_in old n)) (sym writes);
-        kept = sized.kept;
-        computed = sized.computed;
       }

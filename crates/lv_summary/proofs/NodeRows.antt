@@ -12,7 +12,7 @@ use Rattle.lv_geometry.proofs.NodeLaws.{at_each_level, level_of_node, number_bel
 use Rattle.lv_edits.proofs.Slices.{there_is}
 use Rattle.lv_summary.specs.Inner.{IsLevelOf, IsRowOf, IsSound}
 use Rattle.lv_summary.specs.Table.{Rows, Table, blocks_in, computed_in, entry_in, fresh_in, has_version, is_computed_in, kept_in, known_entry_in, known_in, no_rows, rows_for, touched_in, whole_in}
-use Rattle.lv_summary.proofs.TableLaws.{known_entry_in-computed, known_entry_in-fresh, known_entry_in-unknown, node_of_whole}
+use Rattle.lv_summary.proofs.TableLaws.{known_entry_in-computed, known_entry_in-fresh, node_of_whole}
 use Rattle.lv_summary.proofs.LevelLaws.{computed_at, kept_at, kept_by, kept_by-none, kept_by-some, touched_at}
 
 -- the rows of a level

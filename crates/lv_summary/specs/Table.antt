@@ -1,7 +1,7 @@
 -- A table of summaries, node by node: by which edit each was touched last, and which summary is kept for it, delivered or
 -- computed by who asked.
 use Rattle.std.specs.Prelude.{◌≡◌, ℕ, ◌-◌, Bool, true, false, ◌&&◌, ◌||◌, Option, Some, None, option_map, List, [], slice_get, slice_index, nat_eq, nat_lt, length, if◌then◌else◌}
-use Rattle.std.specs.List.{slice_index_or}
+use Rattle.std.specs.List.{list_any, slice_index_or}
 use Rattle.lv_geometry.specs.declared.nodes.Node.{Node}
 use Rattle.lv_geometry.specs.Nodes.{covers, is_below, is_node, same_node}
 use Rattle.lv_summary.specs.declared.accepted.Accepted.{Accepted}
@@ -102,6 +102,14 @@ pub record Touches {S : Type 0} (old new : Table S) (i edit : ℕ) : Type 0 wher
   pub size : new.size ≡ old.size
   pub blocks : blocks_in new ≡ blocks_in old
   pub touched : (n : Node) → touched_in new n ≡ (if is_node n && covers n i then edit else touched_in old n)
+  pub kept : (n : Node) → kept_in new n ≡ kept_in old n
+  pub computed : (n : Node) → computed_in new n ≡ computed_in old n
+
+-- edit `edit` touched every node that has one of some indices, and nothing else has changed
+pub record TouchesEach {S : Type 0} (old new : Table S) (indices : List ℕ) (edit : ℕ) : Type 0 where
+  pub size : new.size ≡ old.size
+  pub blocks : blocks_in new ≡ blocks_in old
+  pub touched : (n : Node) → touched_in new n ≡ (if is_node n && list_any (covers n) indices then edit else touched_in old n)
   pub kept : (n : Node) → kept_in new n ≡ kept_in old n
   pub computed : (n : Node) → computed_in new n ≡ computed_in old n
 
