@@ -1,25 +1,26 @@
 -- What a live vector keeps through each of its changes.
-use Rattle.std.proofs.Common.{◌≡◌, ℕ, ◌+◌, ◌-◌, ◌*◌, ◌^◌, ◌≤◌, true, false, ◌&&◌, cond, Option, Some, None, option_map, List, [], ◌∷◌, ◌++◌, length, nat_eq, if◌then◌else◌, refl, sym, ap, ◌∙◌, inl, inr, arith}
+use Rattle.std.proofs.Common.{◌≡◌, ℕ, ◌+◌, ◌-◌, ◌*◌, ◌^◌, ◌≤◌, true, ◌&&◌, cond, Some, None, option_map, List, [], ◌∷◌, ◌++◌, length, nat_eq, if◌then◌else◌, refl, subst, sym, ap, ◌∙◌, inl, inr, arith}
 use Rattle.std.specs.Prelude.{ℤ}
-use Rattle.std.specs.Option.{option_map_or}
+use Rattle.std.specs.List.{list_any}
 use Rattle.std.proofs.lemmas.List.{length-set, length-take, length_push}
+use Rattle.std.proofs.lemmas.List.Edits.{length-swap}
 use Rattle.std.proofs.lemmas.Option.{cond_some, same_Some}
-use Rattle.std.proofs.lemmas.Bool.{and_parts, cases_Bool, le-leb, leb-true, true≢false}
+use Rattle.std.proofs.lemmas.Bool.{and_parts, cases_Bool, le-leb, leb-true}
 use Rattle.lv_geometry.specs.declared.nodes.Node.{Node}
 use Rattle.lv_geometry.specs.Nodes.{covers, is_below, is_node, parent, same_node}
 use Rattle.lv_bodies.specs.Body.{Operations, fold_of}
 use Rattle.lv_edits.specs.declared.edit.Edit.{Edit}
-use Rattle.lv_edits.specs.declared.edit.Edit.TheVariants.{Push, Pop, Write, Reserve}
+use Rattle.lv_edits.specs.declared.edit.Edit.TheVariants.{Push, Pop, Write, Reserve, Swap, Truncate}
 use Rattle.lv_edits.specs.History.{History, applied, list_of, replayed, with_edit}
 use Rattle.lv_edits.specs.Kept.{InLimits}
-use Rattle.lv_edits.specs.Touch.{cells_of, index_written, is_whole, touched_by, touches}
+use Rattle.lv_edits.specs.Touch.{cells_of, indices_written, is_whole, touched_by, touches}
 use Rattle.lv_edits.specs.Verdict.{verdict_of}
 use Rattle.lv_edits.proofs.HistoryLaws.{accepted_is_possible, list_of-snoc}
 use Rattle.lv_edits.proofs.TouchLaws.{none_whole}
 use Rattle.lv_summary.specs.declared.accepted.Accepted.TheVariants.{Held, Installed, Stale}
 use Rattle.lv_summary.specs.Agrees.{Agrees}
-use Rattle.lv_summary.specs.Table.{AnswersAlike, Keeps, OnlyLearns, Table, computed_in, delivery_in, has_version, kept_in, touched_in, whole_in}
-use Rattle.lv_summary.proofs.AgreesLaws.{agrees_after_size, agrees_after_touch, agrees_alike, agrees_empty, agrees_installed, whole_agrees}
+use Rattle.lv_summary.specs.Table.{AnswersAlike, Keeps, OnlyLearns, Table, TouchesEach, computed_in, delivery_in, has_version, kept_in, touched_in, whole_in}
+use Rattle.lv_summary.proofs.AgreesLaws.{agrees_after_touches, agrees_alike, agrees_empty, agrees_installed, whole_agrees}
 use Rattle.lv_summary.proofs.TableLaws.{same_node-eq, version_kept}
 use Rattle.lv_refresh.specs.Claimed.{AreHints, ClaimTable, claim_blocks, claimed_in, is_hinted, record_of}
 use Rattle.lv_refresh.specs.Delivery.{delivery_of}
@@ -27,23 +28,27 @@ use Rattle.lv_refresh.specs.Record.{SameRecord}
 use Rattle.lv_refresh.proofs.HonestyLaws.{whole_of_wanted}
 use Rattle.lv_refresh.proofs.RecordLaws.{same_version}
 use Rattle.lv_refresh.proofs.WantLaws.{wants_before_edit, wants_before_install, wants_job-same}
-use Rattle.lv_live.specs.Follows.{ClaimsAlike, ClaimsFollow, HasRow, TableFollows}
+use Rattle.lv_live.specs.Follows.{ClaimsAlike, ClaimsFollow, HaveRows, TableFollows}
 use Rattle.lv_live.specs.State.{IsLive, LiveState, recorded}
 
--- the list after an edit has its room where the index that it wrote at, if any, has
-pub room_after : (xs ys : List ℤ) (e : Edit) (index : Option ℕ) (blocks : ℕ) → applied xs e ≡ Some ys → index_written xs e ≡ index → length xs ≤ 8 * blocks → HasRow blocks index → length ys ≤ 8 * blocks
-room_after xs ys (Push x) index blocks made written room rows =
-    omega (arith, ap length (same_Some _ _ made), length_push xs x, rows (length xs) (sym written))
-room_after xs ys Pop index blocks made written room rows =
+-- the list after an edit has its room where the indices that it wrote at have
+pub room_after : (xs ys : List ℤ) (e : Edit) (indices : List ℕ) (blocks : ℕ) → applied xs e ≡ Some ys → indices_written xs e ≡ indices → length xs ≤ 8 * blocks → HaveRows blocks indices → length ys ≤ 8 * blocks
+room_after xs ys (Push x) indices blocks made written room rows =
+    let here : HaveRows blocks (length xs ∷ []) = subst (HaveRows blocks) (sym written) rows in
+    omega (arith, ap length (same_Some _ _ made), length_push xs x, here.0)
+room_after xs ys Pop indices blocks made written room rows =
     omega (arith, ap length (cond_some _ _ _ made).1, length-take (length xs - 1) xs)
-room_after xs ys (Write i x) index blocks made written room rows =
+room_after xs ys (Write i x) indices blocks made written room rows =
     omega (arith, ap length (cond_some _ _ _ made).1, length-set xs i x)
-room_after xs ys (Reserve k) index blocks made written room rows = omega (arith, ap length (same_Some _ _ made))
+room_after xs ys (Reserve k) indices blocks made written room rows = omega (arith, ap length (same_Some _ _ made))
+room_after xs ys (Swap i j) indices blocks made written room rows =
+    omega (arith, ap length (cond_some _ _ _ made).1, length-swap xs i j)
+room_after xs ys (Truncate k) indices blocks made written room rows =
+    omega (arith, ap length (cond_some _ _ _ made).1, length-take k xs)
 
 -- what is kept stays under an edit
-pub kept_followed : {S : Type 0} (t u : Table S) (index : Option ℕ) (edit size : ℕ) → TableFollows t u index edit size → (n : Node) → kept_in u n ≡ kept_in t n
-kept_followed t u (Some i) edit size (mid, touch, sized) n = sized.kept n ∙ touch.kept n
-kept_followed t u None edit size sized n = sized.kept n
+pub kept_followed : {S : Type 0} (t u : Table S) (indices : List ℕ) (edit size : ℕ) → TableFollows t u indices edit size → (n : Node) → kept_in u n ≡ kept_in t n
+kept_followed t u indices edit size (mid, touch, sized) n = sized.kept n ∙ touch.kept n
 
 module _ {S : Type 0} (o : Operations S) where
   -- tables that answer alike, with claims that answer alike, have the same record
@@ -74,44 +79,27 @@ module _ {S : Type 0} (o : Operations S) where
       }
 
   -- the table that follows an edit agrees with the journal that has it
-  agrees_followed : (es : List Edit) (e : Edit) (ys : List ℤ) (t u : Table S) (index : Option ℕ) → replayed es ≡ Some (list_of es) → applied (list_of es) e ≡ Some ys → index_written (list_of es) e ≡ index → Agrees o es t
-      → TableFollows t u index (length es + 1) (length ys) → Agrees o (es ++ e ∷ []) u
-  agrees_followed es e ys t u (Some i) legal possible written agrees (mid, touch, sized) = agrees_after_touch o es e ys i t mid u legal possible written agrees touch sized
-  agrees_followed es e ys t u None legal possible written agrees sized = agrees_after_size o es e ys t u legal possible written agrees sized
-
-  -- the size that follows an edit
-  size_followed : (t u : Table S) (index : Option ℕ) (edit size : ℕ) → TableFollows t u index edit size → u.size ≡ size
-  size_followed t u (Some i) edit size (mid, touch, sized) = sized.size_is
-  size_followed t u None edit size sized = sized.size_is
-
-  -- an edit that writes nowhere touches no node
-  untouched_anywhere : (xs : List ℤ) (e : Edit) (n : Node) → index_written xs e ≡ None → touches xs e n ≡ false
-  untouched_anywhere xs e n nowhere = ap (λ index. option_map_or (covers n) index false) nowhere
-
-  -- an edit that writes at an index touches the nodes that have it
-  touches_at_index : (xs : List ℤ) (e : Edit) (n : Node) (i : ℕ) → index_written xs e ≡ Some i → touches xs e n ≡ covers n i
-  touches_at_index xs e n i there = ap (λ index. option_map_or (covers n) index false) there
+  agrees_followed : (es : List Edit) (e : Edit) (ys : List ℤ) (t u : Table S) (indices : List ℕ) → replayed es ≡ Some (list_of es) → applied (list_of es) e ≡ Some ys → indices_written (list_of es) e ≡ indices → Agrees o es t
+      → TableFollows t u indices (length es + 1) (length ys) → Agrees o (es ++ e ∷ []) u
+  agrees_followed es e ys t u indices legal possible written agrees (mid, touch, sized) =
+      agrees_after_touches o es e ys t mid u legal possible agrees (subst (λ is. TouchesEach t mid is (length es + 1)) (sym written) touch) sized
 
   -- every node that wants a job after an edit is hinted
-  hints_followed : (es : List Edit) (e : Edit) (ys : List ℤ) (t u : Table S) (c d : ClaimTable) (index : Option ℕ) → replayed es ≡ Some (list_of es) → applied (list_of es) e ≡ Some ys → index_written (list_of es) e ≡ index
-      → TableFollows t u index (length es + 1) (length ys) → ClaimsFollow c d index → AreHints (record_of es t c) c → AreHints (record_of (es ++ e ∷ []) u d) d
-  hints_followed es e ys t u c d index legal possible written follows claims hints n wants =
+  hints_followed : (es : List Edit) (e : Edit) (ys : List ℤ) (t u : Table S) (c d : ClaimTable) (indices : List ℕ) → replayed es ≡ Some (list_of es) → applied (list_of es) e ≡ Some ys → indices_written (list_of es) e ≡ indices
+      → TableFollows t u indices (length es + 1) (length ys) → ClaimsFollow c d indices → AreHints (record_of es t c) c → AreHints (record_of (es ++ e ∷ []) u d) d
+  hints_followed es e ys t u c d indices legal possible written follows claims hints n wants =
       let next = record_of (es ++ e ∷ []) u d in
       let same : SameRecord (record (record_of es t c) { edits = es ++ e ∷ [] }) next =
-      record { edits = refl; issued = refl; claimed = claims.alike.claimed; kept = λ n. ap (option_map (λ kept. kept.0)) (kept_followed t u index (length es + 1) (length ys) follows n) } in
+      record { edits = refl; issued = refl; claimed = claims.alike.claimed; kept = λ n. ap (option_map (λ kept. kept.0)) (kept_followed t u indices (length es + 1) (length ys) follows n) } in
       elim (cases_Bool (touches (list_of es) e n)) [
-        | inl touched ↦ hinted_touched es e c d index written claims n touched (and_parts _ _ (whole_of_wanted next n wants)).0
+        | inl touched ↦ claims.touched n (and_parts _ _ (whole_of_wanted next n wants)).0 (ap (list_any (covers n)) (sym written) ∙ touched)
         | inr untouched ↦ claims.alike.hints n (hints n (wants_before_edit (record_of es t c) next e ys legal possible same n untouched wants))
       ]
-    where
-      hinted_touched : (es : List Edit) (e : Edit) (c d : ClaimTable) (index : Option ℕ) → index_written (list_of es) e ≡ index → ClaimsFollow c d index → (n : Node) → touches (list_of es) e n ≡ true → is_node n ≡ true → is_hinted d n ≡ true
-      hinted_touched es e c d (Some i) written claims n touched node = claims.touched n i refl node (sym (touches_at_index (list_of es) e n i written) ∙ touched)
-      hinted_touched es e c d None written claims n touched node = absurd (true≢false (sym touched ∙ untouched_anywhere (list_of es) e n written))
 
   -- an accepted edit, followed by table and claims, keeps all
-  pub live_after_edit : {B : Type 0} (s : LiveState B S) (e : Edit) (h : History) (t : Table S) (c : ClaimTable) (index : Option ℕ) → IsLive o s → verdict_of s.history.limits s.history.journal e ≡ None → h ≡ with_edit s.history e → InLimits h
-      → index_written (list_of s.history.journal) e ≡ index → HasRow (claim_blocks s.claims) index → TableFollows s.table t index (length h.journal) (length (list_of h.journal)) → ClaimsFollow s.claims c index → IsLive o (record s { history = h; table = t; claims = c })
-  live_after_edit s e h t c index live free is limits written rows follows claims =
+  pub live_after_edit : {B : Type 0} (s : LiveState B S) (e : Edit) (h : History) (t : Table S) (c : ClaimTable) (indices : List ℕ) → IsLive o s → verdict_of s.history.limits s.history.journal e ≡ None → h ≡ with_edit s.history e → InLimits h
+      → indices_written (list_of s.history.journal) e ≡ indices → HaveRows (claim_blocks s.claims) indices → TableFollows s.table t indices (length h.journal) (length (list_of h.journal)) → ClaimsFollow s.claims c indices → IsLive o (record s { history = h; table = t; claims = c })
+  live_after_edit s e h t c indices live free is limits written rows follows claims =
       let es = s.history.journal in
       let able = accepted_is_possible s.history.limits es e free in
       let legal = live.limits.legal in
@@ -119,12 +107,12 @@ module _ {S : Type 0} (o : Operations S) where
       let journal : h.journal ≡ es ++ e ∷ [] = ap (λ h. h.journal) is in
       let edit : length h.journal ≡ length es + 1 = ap length journal ∙ length_push es e in
       let size : length (list_of h.journal) ≡ length able.0 = ap (λ es. length (list_of es)) journal ∙ ap length now in
-      let followed : TableFollows s.table t index (length es + 1) (length able.0) = rw (sym edit) (rw (sym size) follows) in
+      let followed : TableFollows s.table t indices (length es + 1) (length able.0) = rw (sym edit) (rw (sym size) follows) in
       record {
         limits = limits;
-        agrees = rw journal (agrees_followed es e able.0 s.table t index legal able.1 written live.agrees followed);
-        hints = rw journal (hints_followed es e able.0 s.table t s.claims c index legal able.1 written followed claims live.hints);
-        grown = omega (arith, size_followed s.table t index (length es + 1) (length able.0) followed, room_after (list_of es) able.0 e index (claim_blocks s.claims) able.1 written (omega (arith, live.grown, live.agrees.size)) rows, claims.alike.more);
+        agrees = rw journal (agrees_followed es e able.0 s.table t indices legal able.1 written live.agrees followed);
+        hints = rw journal (hints_followed es e able.0 s.table t s.claims c indices legal able.1 written followed claims live.hints);
+        grown = omega (arith, followed.2.size_is, room_after (list_of es) able.0 e indices (claim_blocks s.claims) able.1 written (omega (arith, live.grown, live.agrees.size)) rows, claims.alike.more);
       }
 
   -- a table that agrees answers what is delivered as the record does

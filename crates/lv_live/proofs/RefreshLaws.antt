@@ -1,8 +1,7 @@
 -- What the loop keeps in which a vector refreshes itself.
-use Rattle.std.proofs.Common.{◌≡◌, ℕ, zero, suc, ◌+◌, ◌-◌, ◌<◌, true, false, ◌&&◌, not, cond, Option, Some, None, option_map, IfSome, List, [], ◌∷◌, ◌++◌, length, map, nat_eq, slice_get, refl, subst, sym, ap, ◌∙◌, arith}
+use Rattle.std.proofs.Common.{◌≡◌, ℕ, zero, suc, ◌+◌, ◌-◌, false, ◌&&◌, not, cond, Some, None, List, [], ◌∷◌, ◌++◌, length, map, nat_eq, slice_get, refl, subst, sym, ap, ◌∙◌, arith}
 use Rattle.std.proofs.lemmas.Bool.{and_from, and_parts, cond-false, cond-true, eq-eqb, ne_eqb, not-true}
-use Rattle.std.proofs.lemmas.List.{append_assoc, length-append, length-map, length_push, map-append}
-use Rattle.lv_geometry.specs.Bounds.{Bounds}
+use Rattle.std.proofs.lemmas.List.{append_assoc, length-map, length_push, map-append}
 use Rattle.lv_geometry.specs.declared.nodes.Node.{Node}
 use Rattle.lv_bodies.specs.Body.{Operations}
 use Rattle.lv_edits.specs.Kept.{InLimits}
@@ -15,9 +14,7 @@ use Rattle.lv_refresh.specs.Delivery.{delivery_of}
 use Rattle.lv_refresh.specs.Honesty.{IsHonest, Vouched}
 use Rattle.lv_refresh.specs.Record.{Record, is_fresh, is_version}
 use Rattle.lv_refresh.proofs.HonestyLaws.{vouched_of_honest}
-use Rattle.lv_live.specs.declared.events.Event.{Event}
 use Rattle.lv_live.specs.declared.events.Event.TheVariants as event
-use Rattle.lv_live.specs.declared.replies.Reply.{Reply}
 use Rattle.lv_live.specs.declared.replies.Reply.TheVariants as reply
 use Rattle.lv_live.specs.State.{HasClaim, HasDelivery, LiveState, job_at, node_and_version, recorded, with_issued}
 use Rattle.lv_live.specs.Step.{Run, Step}

@@ -1,43 +1,49 @@
-ghost use Rattle.std.specs.Prelude.{◌≡◌, ◌+◌, ◌*◌, ◌/◌, ◌<◌, ◌≤◌, ℤ, List, None, Some, length, OnOk, OnErr, IfErr};
-ghost use Rattle.lv_edits.specs.Touch.{index_written};
-ghost use Rattle.lv_summary.specs.Table.{AnswersAlike, blocks_in};
+ghost use Rattle.std.specs.Prelude.{◌≡◌, ◌+◌, ◌*◌, ◌/◌, ◌<◌, ◌≤◌, ℤ, List, length, OnOk, OnErr, IfErr};
+ghost use Rattle.lv_edits.specs.Touch.{indices_written};
+ghost use Rattle.lv_summary.specs.Table.{AnswersAlike, TouchesEach, blocks_in};
 ghost use Rattle.lv_refresh.specs.Claimed.{claim_blocks};
-ghost use Rattle.lv_live.specs.Follows.{ClaimsAlike, ClaimsFollow, HasBlock, HasRow, TableFollows};
+ghost use Rattle.lv_live.specs.Follows.{ClaimsAlike, ClaimsFollow, HaveBlocks, HaveRows, TableFollows, indices_in};
 
 use lv_edits::Edit;
 use lv_geometry::Refusal;
 use lv_refresh::Claims;
 use lv_summary::Summaries;
 
-/// The index at which an edit of a vector of this size writes, or none.
-pub fn touched_index(edit: &Edit, size: u32) -> Option<u32>
-    ensures { (xs : List ℤ) → length xs ≡ size → result ≡ index_written xs edit.now }
+/// The indices that an edit touches: none, one, or two that may be the same.
+#[derive(Clone, Copy, Debug)]
+pub enum Touched {
+    Nothing,
+    One(u32),
+    Two(u32, u32),
+}
+
+/// The indices at which an edit of a vector of this size writes.
+pub fn touched_indices(edit: &Edit, size: u32) -> Touched
+    ensures { (xs : List ℤ) → length xs ≡ size → indices_in result ≡ indices_written xs edit.now }
 {
     match edit {
-        Edit::Push(_) => Some(size),
-        Edit::Write { index, .. } => Some(*index),
-        Edit::Pop | Edit::Reserve(_) => None,
+        Edit::Push(_) => Touched::One(size),
+        Edit::Write { index, .. } => Touched::One(*index),
+        Edit::Swap { first, second } => Touched::Two(*first, *second),
+        Edit::Pop | Edit::Reserve(_) | Edit::Truncate(_) => Touched::Nothing,
     }
 }
 
-/// Makes rows for the block of an index that is to be touched: in the table, and then for claims.
+// Makes rows for the block of an index, and for all blocks before it: in the table, and then for claims.
 #[inline]
-pub fn make_room<S: Copy>(
+fn make_row<S: Copy>(
     table: &mut Summaries<S>,
     claims: &mut Claims,
-    index: Option<u32>,
+    index: u32,
 ) -> Result<(), Refusal>
-    requires { HasBlock index }
+    requires { index < 1048568 }
     ensures table { AnswersAlike table.old table.new }
     ensures more { blocks_in table.old ≤ blocks_in table.new }
     ensures claims { ClaimsAlike claims.old claims.new }
-    ensures rows { OnOk result (HasRow (blocks_in table.new) index) }
-    ensures claim_rows { OnOk result (HasRow (claim_blocks claims.new) index) }
+    ensures rows { OnOk result (index / 8 < blocks_in table.new) }
+    ensures claim_rows { OnOk result (index / 8 < claim_blocks claims.new) }
     ensures err { IfErr result (λ refusal. refusal ≡ Refusal.NoMemory) }
 {
-    let Some(index) = index else {
-        return Ok(());
-    };
     let blocks = index / 8 + 1;
     if table.blocks() < blocks {
         table.grow(blocks)?;
@@ -48,25 +54,68 @@ pub fn make_room<S: Copy>(
     Ok(())
 }
 
-/// Hears of an edit: which index it touched, if any, its number, and the size after it.
+/// Makes rows for the blocks of the indices that are to be touched: in the table, and then for claims.
+#[inline]
+pub fn make_room<S: Copy>(
+    table: &mut Summaries<S>,
+    claims: &mut Claims,
+    touched: Touched,
+) -> Result<(), Refusal>
+    requires { HaveBlocks (indices_in touched) }
+    ensures table { AnswersAlike table.old table.new }
+    ensures more { blocks_in table.old ≤ blocks_in table.new }
+    ensures claims { ClaimsAlike claims.old claims.new }
+    ensures rows { OnOk result (HaveRows (blocks_in table.new) (indices_in touched)) }
+    ensures claim_rows { OnOk result (HaveRows (claim_blocks claims.new) (indices_in touched)) }
+    ensures err { IfErr result (λ refusal. refusal ≡ Refusal.NoMemory) }
+{
+    match touched {
+        Touched::Nothing => Ok(()),
+        Touched::One(index) => make_row(table, claims, index),
+        Touched::Two(first, second) => make_row(table, claims, first.max(second)),
+    }
+}
+
+// Touches each of these indices.
+#[inline]
+fn touch_each<S: Copy>(table: &mut Summaries<S>, claims: &mut Claims, touched: Touched, edit: u32)
+    requires rows { HaveRows (blocks_in table.old) (indices_in touched) }
+    requires claim_rows { HaveRows (claim_blocks claims.old) (indices_in touched) }
+    requires edit { edit ≤ 16777215 }
+    ensures table { TouchesEach table.old table.new (indices_in touched) edit }
+    ensures claims { ClaimsFollow claims.old claims.new (indices_in touched) }
+{
+    match touched {
+        Touched::Nothing => {}
+        Touched::One(index) => {
+            table.touch(index, edit);
+            claims.touch(index);
+        }
+        Touched::Two(first, second) => {
+            table.touch(first, edit);
+            table.touch(second, edit);
+            claims.touch(first);
+            claims.touch(second);
+        }
+    }
+}
+
+/// Hears of an edit: which indices it touched, its number, and the size after it.
 #[inline]
 pub fn follow<S: Copy>(
     table: &mut Summaries<S>,
     claims: &mut Claims,
-    index: Option<u32>,
+    touched: Touched,
     edit: u32,
     size: u32,
 )
-    requires rows { HasRow (blocks_in table.old) index }
-    requires claim_rows { HasRow (claim_blocks claims.old) index }
+    requires rows { HaveRows (blocks_in table.old) (indices_in touched) }
+    requires claim_rows { HaveRows (claim_blocks claims.old) (indices_in touched) }
     requires edit { edit ≤ 16777215 }
     requires size { size ≤ 8 * blocks_in table.old }
-    ensures table { TableFollows table.old table.new index edit size }
-    ensures claims { ClaimsFollow claims.old claims.new index }
+    ensures table { TableFollows table.old table.new (indices_in touched) edit size }
+    ensures claims { ClaimsFollow claims.old claims.new (indices_in touched) }
 {
-    if let Some(index) = index {
-        table.touch(index, edit);
-        claims.touch(index);
-    }
+    touch_each(table, claims, touched, edit);
     table.set_size(size);
 }

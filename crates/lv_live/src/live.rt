@@ -18,7 +18,7 @@ ghost use Rattle.lv_live.specs.State.{HasClaim, HasDelivery, HasNoClaims, SameLi
 ghost use Rattle.lv_live.specs.Step.{Reduces, Scans};
 ghost use Rattle.lv_live.specs.Turns.{TakesTurns};
 
-use crate::following::{follow, make_room, touched_index};
+use crate::following::{follow, make_room, touched_indices};
 use crate::vouching::stands_here;
 use lv_bodies::Body;
 use lv_edits::{Edit, Edits, Receipt};
@@ -76,13 +76,13 @@ impl<B: Body> Live<B> {
         if let Some(refusal) = self.cells.verdict(&edit) {
             return Err(refusal);
         }
-        let index = touched_index(&edit, self.table.size());
-        make_room(&mut self.table, &mut self.claims, index)?;
+        let touched = touched_indices(&edit, self.table.size());
+        make_room(&mut self.table, &mut self.claims, touched)?;
         let receipt = self.cells.apply(edit)?;
         follow(
             &mut self.table,
             &mut self.claims,
-            index,
+            touched,
             self.cells.edit(),
             self.cells.size(),
         );

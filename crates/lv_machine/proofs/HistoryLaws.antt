@@ -1,17 +1,17 @@
 -- What is so of every legal history: its list, its words, and that a longer one never falls behind.
-use Rattle.std.proofs.Common.{◌≡◌, ◌⊎◌, ℕ, ℤ, ◌+◌, ◌*◌, ◌<◌, ◌≤◌, None, List, [], ◌∷◌, ◌++◌, length, false, nat_eq, unwrap_or, refl, sym, ap, ◌∙◌, subst, inl, inr, arith}
+use Rattle.std.proofs.Common.{◌≡◌, ◌⊎◌, ℕ, ℤ, ◌+◌, ◌*◌, ◌<◌, ◌≤◌, None, List, [], ◌∷◌, ◌++◌, length, false, nat_eq, slice_index_or, refl, sym, ap, ◌∙◌, subst, inl, inr, arith}
 use Rattle.std.proofs.lemmas.Bool.{cases_Bool, cond-false, cond-true, eqb-true, eq-eqb}
 use Rattle.std.proofs.lemmas.List.{length_push}
 use Rattle.lv_geometry.specs.Bounds.{Bounds}
 use Rattle.lv_geometry.specs.Cells.{capacity_of}
 use Rattle.lv_geometry.proofs.Capacities.{capacity_of_mono}
 use Rattle.lv_edits.specs.declared.edit.Edit.{Edit}
-use Rattle.lv_edits.specs.declared.edit.Edit.TheVariants.{Push, Pop, Write, Reserve}
+use Rattle.lv_edits.specs.declared.edit.Edit.TheVariants.{Push, Pop, Write, Reserve, Swap, Truncate}
 use Rattle.lv_edits.specs.History.{History, list_of}
 use Rattle.lv_edits.specs.Kept.{CarriesElement, InLimits}
-use Rattle.lv_edits.specs.Touch.{index_written}
+use Rattle.lv_edits.specs.Touch.{indices_written}
 use Rattle.lv_edits.specs.Verdict.{refused_on}
-use Rattle.lv_edits.proofs.HistoryLaws.{InLimits-empty, InLimits-snoc, list_of_replayed, not_refused, replayed-nil, unrefused_push, unrefused_write}
+use Rattle.lv_edits.proofs.HistoryLaws.{InLimits-empty, InLimits-snoc, list_of_replayed, not_refused, replayed-nil, unrefused_push, unrefused_swap, unrefused_write}
 use Rattle.lv_edits.proofs.TouchLaws.{touched_by_grows}
 use Rattle.lv_machine.specs.declared.entries.Entry.{Entry}
 use Rattle.lv_machine.specs.History.{cell_of, descriptor_of, edits_of, elements_of, index_written_by, IsLegal, IsShortEdit}
@@ -39,6 +39,8 @@ carries (Push x) short = short_element x short
 carries Pop short = tt
 carries (Write i x) short = short_element x short
 carries (Reserve n) short = absurd short
+carries (Swap i j) short = absurd short
+carries (Truncate n) short = absurd short
 
 -- and so do its bits
 pub bits_written-short : (e : Edit) → IsShortEdit e → bits_written e < 65536
@@ -46,6 +48,8 @@ bits_written-short (Push x) short = bits_of-short x short
 bits_written-short Pop short = omega arith
 bits_written-short (Write i x) short = bits_of-short x short
 bits_written-short (Reserve n) short = absurd short
+bits_written-short (Swap i j) short = absurd short
+bits_written-short (Truncate n) short = absurd short
 
 journal : Terms → List Entry → History
 journal t h = record { limits = t.limits; journal = edits_of h }
@@ -62,11 +66,13 @@ pub few_cells : (t : Terms) → AreTerms t → capacity_of t.limits.buckets ≤ 
 few_cells t terms = capacity_of_mono t.limits.buckets 9 terms.few_buckets
 
 -- an index that is written is one of the cells
-written_on : (limits : Bounds) (xs : List ℤ) (e : Edit) → refused_on limits xs e ≡ None → length xs ≤ capacity_of limits.buckets → (unwrap_or (index_written xs e) 4095 ≡ 4095) ⊎ (unwrap_or (index_written xs e) 4095 < capacity_of limits.buckets)
+written_on : (limits : Bounds) (xs : List ℤ) (e : Edit) → refused_on limits xs e ≡ None → length xs ≤ capacity_of limits.buckets → (slice_index_or (indices_written xs e) 0 4095 ≡ 4095) ⊎ (slice_index_or (indices_written xs e) 0 4095 < capacity_of limits.buckets)
 written_on limits xs (Push x) free few = let below = unrefused_push limits xs x free in inr (omega arith)
 written_on limits xs Pop free few = inl refl
 written_on limits xs (Write i x) free few = let below = unrefused_write limits xs i x free in inr (omega arith)
 written_on limits xs (Reserve n) free few = inl refl
+written_on limits xs (Swap i j) free few = let below = unrefused_swap limits xs i j free in inr (omega (arith, below.0))
+written_on limits xs (Truncate n) free few = inl refl
 
 pub written_within : (t : Terms) (h : List Entry) (e : Entry) → AreTerms t → IsLegal t (e ∷ h) → (index_written_by h e ≡ 4095) ⊎ (index_written_by h e < capacity_of t.limits.buckets)
 unfolding index_written_by

@@ -3,15 +3,16 @@ use Rattle.std.proofs.Common.{◌≡◌, ◌≢◌, ℕ, zero, suc, ℤ, ◌+◌
 use Rattle.std.specs.Prelude.{if◌then◌else◌}
 use Rattle.std.proofs.lemmas.Bool.{cases_Bool, cases_eq, cond-false, cond-true, eqb-true}
 use Rattle.std.proofs.lemmas.List.{get_or-set_other, get_or-set_same, length_push, length-take, length-replicate}
+use Rattle.std.proofs.lemmas.List.Edits.{length-swap}
 use Rattle.lv_geometry.specs.Bounds.{Bounds}
 use Rattle.lv_geometry.specs.Cells.{capacity_of}
 use Rattle.lv_edits.specs.declared.edit.Edit.{Edit}
-use Rattle.lv_edits.specs.declared.edit.Edit.TheVariants.{Push, Pop, Write, Reserve}
+use Rattle.lv_edits.specs.declared.edit.Edit.TheVariants.{Push, Pop, Write, Reserve, Swap, Truncate}
 use Rattle.lv_edits.specs.History.{applied, list_of}
 use Rattle.lv_edits.specs.Touch.{touched_by}
-use Rattle.std.proofs.lemmas.Option.{same_Some}
+use Rattle.std.proofs.lemmas.Option.{cond_some, same_Some}
 use Rattle.lv_edits.specs.Verdict.{refused_on, verdict_of}
-use Rattle.lv_edits.proofs.HistoryLaws.{accepted_is_possible, applied_pop, applied_write, list_of-snoc, not_refused, unrefused_pop, unrefused_write}
+use Rattle.lv_edits.proofs.HistoryLaws.{accepted_is_possible, applied_pop, applied_write, list_of-snoc, not_refused, unrefused_pop, unrefused_truncate, unrefused_write}
 use Rattle.lv_edits.proofs.TouchLaws.{touched_by-none}
 use Rattle.lv_machine.specs.declared.entries.Entry.{Entry}
 use Rattle.lv_machine.specs.History.{cell_of, descriptor_of, edits_of, elements_of, Ends, index_written_by, IsLegal, MayFollow}
@@ -123,6 +124,8 @@ same_refusal limits xs (Push x) = refl
 same_refusal limits xs Pop = refl
 same_refusal limits xs (Write i x) = refl
 same_refusal limits xs (Reserve n) = refl
+same_refusal limits xs (Swap i j) = refl
+same_refusal limits xs (Truncate n) = refl
 
 pub verdict_at_descriptor : (t : Terms) (h : List Entry) (e : Edit) → AreTerms t → IsLegal t h → verdict_at t.limits (descriptor_of h) e ≡ verdict_of t.limits (edits_of h) e
 verdict_at_descriptor t h e terms legal =
@@ -135,12 +138,16 @@ size_after n (Push x) = n + 1
 size_after n Pop = n - 1
 size_after n (Write i x) = n
 size_after n (Reserve k) = n
+size_after n (Swap i j) = n
+size_after n (Truncate k) = k
 
 one_more : (limits : Bounds) (xs ys : List ℤ) (e : Edit) → refused_on limits xs e ≡ None → applied xs e ≡ Some ys → length ys ≡ size_after (length xs) e
 one_more limits xs ys (Push x) free made = omega (arith, ap length (same_Some _ _ made), length_push xs x)
 one_more limits xs ys Pop free made = omega (arith, ap length (same_Some _ _ (sym (applied_pop xs (unrefused_pop limits xs free)) ∙ made)), length-take (length xs - 1) xs)
 one_more limits xs ys (Write i x) free made = omega (arith, ap length (same_Some _ _ (sym (applied_write xs i x (unrefused_write limits xs i x free)) ∙ made)), length-set xs i x)
 one_more limits xs ys (Reserve n) free made = ap length (sym (same_Some _ _ made))
+one_more limits xs ys (Swap i j) free made = ap length (sym (cond_some _ _ _ made).1) ∙ length-swap xs i j
+one_more limits xs ys (Truncate n) free made = omega (arith, ap length (cond_some _ _ _ made).1, length-take n xs, unrefused_truncate limits xs n free)
 
 pub size_next : (t : Terms) (h : List Entry) (e : Entry) → AreTerms t → IsLegal t h → MayFollow t h e → length (elements_of (e ∷ h)) ≡ size_after (length (elements_of h)) e.edit
 size_next t h e terms legal next =
@@ -165,6 +172,8 @@ next_by t h a (Write i x) terms legal next =
     let size = size_next t h record { actor = a; edit = Write i x } terms legal next in
     rw (d.edit, d.size) (ap (λ s. descriptor (length h + 1) s i (bits_written (Write i x))) (sym size))
 next_by t h a (Reserve n) terms legal next = absurd next.short
+next_by t h a (Swap i j) terms legal next = absurd next.short
+next_by t h a (Truncate n) terms legal next = absurd next.short
 
 -- the descriptor that an edit makes is that of the history with it
 pub next_descriptor : (t : Terms) (h : List Entry) (e : Entry) → AreTerms t → IsLegal t h → MayFollow t h e → descriptor_after (descriptor_of h) e.edit ≡ descriptor_of (e ∷ h)

@@ -8,7 +8,7 @@ use Rattle.std.proofs.lemmas.List.{get_or_append_left, get_or_push, get_or-set_o
 use Rattle.std.proofs.lemmas.Bool.Decides.{nat_tests}
 use Rattle.lv_bodies.specs.Parts.{IsShort}
 use Rattle.lv_edits.specs.declared.edit.Edit.{Edit}
-use Rattle.lv_edits.specs.declared.edit.Edit.TheVariants.{Push, Pop, Write, Reserve}
+use Rattle.lv_edits.specs.declared.edit.Edit.TheVariants.{Push, Pop, Write, Reserve, Swap, Truncate}
 use Rattle.lv_edits.specs.History.{applied, list_of}
 use Rattle.lv_edits.specs.Touch.{cells_of, is_whole, touched_by, touches}
 use Rattle.lv_edits.proofs.HistoryLaws.{applied_pop, applied_write, list_of-snoc, list_of_replayed, not_refused, replayed-nil, unrefused_pop, unrefused_write}
@@ -193,6 +193,8 @@ between_by t h a (Write i x) terms legal next =
     let more : nat_lt (length (elements_of h)) (length (elements_of h)) ≡ false = grind (arith, nat_tests) in
     rw (index, some, d.size, s.size, size, more, value) (ap (Write i) (signed-bits_of x next.short))
 between_by t h a (Reserve n) terms legal next = absurd next.short
+between_by t h a (Swap i j) terms legal next = absurd next.short
+between_by t h a (Truncate n) terms legal next = absurd next.short
 
 -- two descriptors alone tell the edit between them
 pub between : (t : Terms) (h : List Entry) (e : Entry) → AreTerms t → IsLegal t (e ∷ h) → edit_between (descriptor_of h) (descriptor_of (e ∷ h)) ≡ e.edit
@@ -243,6 +245,8 @@ element_by t i h a (Write j x) terms (legal, next) within before =
           ∙ sym (ap (λ l. slice_index_or l i (pos 0)) list ∙ get_or-set_other (elements_of h) j i x (pos 0) (λ e. other (sym e)))
     ]
 element_by t i h a (Reserve n) terms (legal, next) within before = absurd next.short
+element_by t i h a (Swap j k) terms (legal, next) within before = absurd next.short
+element_by t i h a (Truncate n) terms (legal, next) within before = absurd next.short
 
 -- the cell of an index shows the element there
 pub cell_element : (t : Terms) (i : ℕ) (k : List Entry) → AreTerms t → IsLegal t k → i < length (elements_of k) → signed (value_of (cell_of i k)) ≡ slice_index_or (elements_of k) i (pos 0)
@@ -258,6 +262,8 @@ short_by t h a (Write j x) terms (legal, next) before =
     let inside = unrefused_write t.limits (elements_of h) j x (not_refused t.limits (edits_of h) (Write j x) next.verdict).1 in
     All-same IsShort _ _ (elements_next t h record { actor = a; edit = Write j x } (slice_set (elements_of h) j x) terms legal (applied_write (elements_of h) j x inside)) (All-set IsShort (elements_of h) j x next.short before)
 short_by t h a (Reserve n) terms (legal, next) before = absurd next.short
+short_by t h a (Swap i j) terms (legal, next) before = absurd next.short
+short_by t h a (Truncate n) terms (legal, next) before = absurd next.short
 
 -- each element of a legal history is short
 pub all_short : (t : Terms) (h : List Entry) → AreTerms t → IsLegal t h → All IsShort (elements_of h)

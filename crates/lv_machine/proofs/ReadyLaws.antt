@@ -5,7 +5,7 @@ use Rattle.std.proofs.lemmas.Bool.{cases_lt, lt-ltb, ltb-true}
 use Rattle.lv_geometry.specs.declared.refusals.Refusal.{Refusal}
 use Rattle.lv_geometry.specs.declared.refusals.Refusal.TheVariants.{OutOfRange}
 use Rattle.lv_edits.specs.declared.edit.Edit.{Edit}
-use Rattle.lv_edits.specs.declared.edit.Edit.TheVariants.{Push, Pop, Write, Reserve}
+use Rattle.lv_edits.specs.declared.edit.Edit.TheVariants.{Push, Pop, Write, Reserve, Swap, Truncate}
 use Rattle.lv_edits.specs.Touch.{is_whole}
 use Rattle.lv_edits.specs.Verdict.{verdict_of}
 use Rattle.lv_edits.proofs.HistoryLaws.{not_refused, unrefused_pop, unrefused_push, unrefused_write}
@@ -90,3 +90,5 @@ module _ (t : Terms) (k : List Entry) (terms : AreTerms t) (legal : IsLegal t k)
       let index : j ≡ i = cc in
       omega (arith, write_within j x (edit_granted (Write j x) granted))
   before_within (Reserve n) i granted is = absurd (cc)
+  before_within (Swap j k) i granted is = absurd (cc)
+  before_within (Truncate n) i granted is = absurd (cc)

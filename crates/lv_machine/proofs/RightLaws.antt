@@ -8,7 +8,7 @@ use Rattle.lv_geometry.specs.declared.refusals.Refusal.{Refusal}
 use Rattle.lv_geometry.specs.declared.refusals.Refusal.TheVariants.{OutOfRange}
 use Rattle.lv_bodies.specs.Body.{Operations, fold_of}
 use Rattle.lv_edits.specs.declared.edit.Edit.{Edit}
-use Rattle.lv_edits.specs.declared.edit.Edit.TheVariants.{Push, Pop, Write, Reserve}
+use Rattle.lv_edits.specs.declared.edit.Edit.TheVariants.{Push, Pop, Write, Reserve, Swap, Truncate}
 use Rattle.lv_edits.specs.declared.receipt.Receipt.TheVariants.{Pushed, Popped, Written}
 use Rattle.lv_reduce.specs.Answer.{range_refusal}
 use Rattle.lv_reduce.proofs.PieceLaws.{slice-nothing}
@@ -98,6 +98,8 @@ module _ {S : Type 0} (o : Operations S) (count : ℕ) (parts_of : S → List �
   begun_right (goal.Edit Pop) granted complete = ((record { granted = granted; complete = complete }, refl), refl)
   begun_right (goal.Edit (Write i x)) granted complete = ((record { granted = granted; complete = complete }, refl), refl)
   begun_right (goal.Edit (Reserve n)) granted complete = absurd granted.may
+  begun_right (goal.Edit (Swap i j)) granted complete = absurd granted.may
+  begun_right (goal.Edit (Truncate n)) granted complete = absurd granted.may
   begun_right (goal.Get i) granted complete = ((granted, complete), refl)
   begun_right goal.Size granted complete = record { asked = refl; edit = at_edit; size = at_size }
   begun_right (goal.Reduce lo hi) granted complete =
@@ -151,6 +153,8 @@ module _ {S : Type 0} (o : Operations S) (count : ℕ) (parts_of : S → List �
       let index : i ≡ j = cc in
       ((may, ap (λ n. Written n x) number ∙ ap (Written (length (edits_of k) + 1)) (value ∙ ap (λ n. slice_index_or (elements_of k) n (pos 0)) index)), refl)
   before_right (Reserve n) i x may is value = absurd (cc)
+  before_right (Swap j k) i x may is value = absurd (cc)
+  before_right (Truncate n) i x may is value = absurd (cc)
 
   -- a reduction that loaded the element where it stands
   pub cell_right : (walk : Walk S) (found : ℕ) → Walks o count parts_of limits words k walk → walk.at < walk.hi → signed (value_of found) ≡ slice_index_or (elements_of k) walk.at (signed (value_of found)) → IsRight o count parts_of limits a words h old k (goal.Reduce walk.lo walk.hi) (walked (descriptor_of k) (with_cell o count parts_of whole_of walk found))

@@ -5,7 +5,7 @@ use Rattle.lv_geometry.specs.Bounds.{Bounds}
 use Rattle.lv_bodies.specs.Body.{Operations, BodyLaws, fold_of}
 use Rattle.lv_bodies.specs.Parts.{AreParts, HasParts}
 use Rattle.lv_edits.specs.declared.edit.Edit.{Edit}
-use Rattle.lv_edits.specs.declared.edit.Edit.TheVariants.{Push, Pop, Write, Reserve}
+use Rattle.lv_edits.specs.declared.edit.Edit.TheVariants.{Push, Pop, Write, Reserve, Swap, Truncate}
 use Rattle.lv_edits.specs.Verdict.{verdict_of}
 use Rattle.lv_reduce.proofs.PieceLaws.{slice-within}
 use Rattle.lv_machine.specs.declared.entries.Entry.{Entry}
@@ -56,6 +56,8 @@ module _ {S : Type 0} (o : Operations S) (within : S → ℕ → Type 0) (laws :
   edit_index Pop free = tt
   edit_index (Write i x) free = omega (arith, write_within (terms_of o count parts_of limits seats) k terms legal i x free, few)
   edit_index (Reserve n) free = tt
+  edit_index (Swap i j) free = tt
+  edit_index (Truncate n) free = tt
 
   can_pack : (edit : Edit) → MayEdit o count parts_of limits c.words k edit → CanPack (descriptor_of k) edit
   can_pack edit may =

@@ -1,16 +1,19 @@
 -- What moves do to words that show a history: they show it still, or the longer one.
-use Rattle.std.proofs.Common.{◌≡◌, ◌⊎◌, ℕ, ◌+◌, ◌*◌, ◌/◌, ◌<◌, ◌≤◌, max, Option, Some, None, List, [], ◌∷◌, ◌++◌, length, take, true, false, nat_eq, unwrap_or, refl, sym, ap, ◌∙◌, inl, inr, arith}
+use Rattle.std.proofs.Common.{◌≡◌, ◌⊎◌, ℕ, ℤ, ◌+◌, ◌*◌, ◌/◌, ◌<◌, ◌≤◌, max, List, [], ◌∷◌, ◌++◌, length, take, true, nat_eq, slice_index_or, refl, sym, ap, ◌∙◌, inl, inr, arith}
 use Rattle.std.specs.Prelude.{if◌then◌else◌}
-use Rattle.std.specs.Option.{option_map_or}
-use Rattle.std.proofs.lemmas.Bool.{cases_Bool, cases_lt, cond-false, cond-true, eqb-true, eq-eqb, false≢true}
+use Rattle.std.specs.List.{list_any}
+use Rattle.std.proofs.lemmas.Bool.{cases_Bool, cases_lt, cond-false, cond-true, eqb-true, eq-eqb, false≢true, or_left}
+use Rattle.std.proofs.Math.Bool.{or-false}
 use Rattle.std.proofs.lemmas.List.{length_push, take-append-le}
 use Rattle.lv_geometry.specs.Bounds.{Bounds}
 use Rattle.lv_geometry.specs.Cells.{capacity_of}
 use Rattle.lv_geometry.specs.Nodes.{covers}
-use Rattle.lv_edits.specs.Touch.{index_written, touches}
+use Rattle.lv_edits.specs.Touch.{indices_written, touches}
+use Rattle.lv_edits.specs.declared.edit.Edit.{Edit}
+use Rattle.lv_edits.specs.declared.edit.Edit.TheVariants.{Push, Pop, Write, Reserve, Swap, Truncate}
 use Rattle.lv_edits.proofs.TouchLaws.{touched_by-le, touched_by-snoc}
 use Rattle.lv_machine.specs.declared.entries.Entry.{Entry}
-use Rattle.lv_machine.specs.History.{cell_of, descriptor_of, edits_of, elements_of, Ends, index_written_by, IsLegal}
+use Rattle.lv_machine.specs.History.{cell_of, descriptor_of, edits_of, elements_of, Ends, index_written_by, IsLegal, IsShortEdit}
 use Rattle.lv_machine.specs.Layout.{count_of, place}
 use Rattle.lv_machine.specs.Moves.{completing}
 use Rattle.lv_machine.specs.Shows.{block, Fits, FitsPart, mark_of}
@@ -62,22 +65,34 @@ fits_raised t f grows k (e ∷ h) word ends legal fits =
       ]
     ]
 
+-- an edit of the lock-free form writes at one index at most
+one_at_most : (xs : List ℤ) (e : Edit) → IsShortEdit e → length (indices_written xs e) ≤ 1
+one_at_most xs (Push x) short = omega arith
+one_at_most xs Pop short = omega arith
+one_at_most xs (Write i x) short = omega arith
+one_at_most xs (Reserve n) short = absurd short
+one_at_most xs (Swap i j) short = absurd short
+one_at_most xs (Truncate n) short = absurd short
+
 -- a touched block is that of the index that is written
-touched_there : (o : Option ℕ) (b : ℕ) → option_map_or (covers (block b)) o false ≡ true → unwrap_or o 4095 / 8 ≡ b
-touched_there None b touched = absurd (false≢true touched)
-touched_there (Some i) b touched = eqb-true _ _ touched
+touched_there : (indices : List ℕ) (b : ℕ) → length indices ≤ 1 → list_any (covers (block b)) indices ≡ true → slice_index_or indices 0 4095 / 8 ≡ b
+touched_there [] b few touched = absurd (false≢true touched)
+touched_there (i ∷ []) b few touched = eqb-true _ _ (sym (or-false (covers (block b) i)) ∙ touched)
+touched_there (i ∷ j ∷ rest) b few touched = absurd (omega arith)
 
-there_touched : (o : Option ℕ) → unwrap_or o 4095 < 4088 → option_map_or (covers (block (unwrap_or o 4095 / 8))) o false ≡ true
-there_touched None near = absurd (omega arith)
-there_touched (Some i) near = eq-eqb _ _ refl
+there_touched : (indices : List ℕ) → slice_index_or indices 0 4095 < 4088 → list_any (covers (block (slice_index_or indices 0 4095 / 8))) indices ≡ true
+there_touched [] near = absurd (omega arith)
+there_touched (i ∷ rest) near =
+    or_left (covers (block (i / 8)) i) (list_any (covers (block (i / 8))) rest) (eq-eqb (i / 8) (i / 8) refl)
 
-touched_at : (h : List Entry) (e : Entry) (b : ℕ) → touches (elements_of h) e.edit (block b) ≡ true → index_written_by h e / 8 ≡ b
+touched_at : (h : List Entry) (e : Entry) (b : ℕ) → IsShortEdit e.edit → touches (elements_of h) e.edit (block b) ≡ true → index_written_by h e / 8 ≡ b
 unfolding index_written_by
-touched_at h e b touched = touched_there (index_written (elements_of h) e.edit) b touched
+touched_at h e b short touched =
+    touched_there (indices_written (elements_of h) e.edit) b (one_at_most (elements_of h) e.edit short) touched
 
 at_touched : (h : List Entry) (e : Entry) → index_written_by h e < 4088 → touches (elements_of h) e.edit (block (index_written_by h e / 8)) ≡ true
 unfolding index_written_by
-at_touched h e near = there_touched (index_written (elements_of h) e.edit) near
+at_touched h e near = there_touched (indices_written (elements_of h) e.edit) near
 
 pub mark_of-cons : (b : ℕ) (e : Entry) (h : List Entry) → mark_of b (e ∷ h) ≡ if touches (elements_of h) e.edit (block b) then length h + 1 else mark_of b h
 mark_of-cons b e h = rw (edits_of-cons e h, touched_by-snoc, length-edits_of)
@@ -111,7 +126,7 @@ current_mark t b (e ∷ h) word terms near legal fits complete = elim fits.shown
   | inl is ↦ is
   | inr is ↦ elim (cases_Bool (touches (elements_of h) e.edit (block b))) [
     | inl touched ↦
-        let at = touched_at h e b touched in
+        let at = touched_at h e b legal.1.short touched in
         let index = index_of-cons t h e terms legal in
         elim (written_within t h e terms legal) [
           | inl none ↦ absurd (omega (arith, few_blocks t terms))

@@ -1,10 +1,10 @@
 -- Histories of the lock-free form: the accepted edits, each with its actor, the newest first.
-use Rattle.std.specs.Prelude.{◌≡◌, ℕ, ℤ, ◌+◌, ◌<◌, None, List, [], ◌∷◌, ◌++◌, length, nat_eq, unwrap_or, if◌then◌else◌}
+use Rattle.std.specs.Prelude.{◌≡◌, ℕ, ℤ, ◌+◌, ◌<◌, None, List, [], ◌∷◌, ◌++◌, length, nat_eq, slice_index_or, if◌then◌else◌}
 use Rattle.lv_bodies.specs.Parts.{IsShort}
 use Rattle.lv_edits.specs.declared.edit.Edit.{Edit}
-use Rattle.lv_edits.specs.declared.edit.Edit.TheVariants.{Push, Pop, Write, Reserve}
+use Rattle.lv_edits.specs.declared.edit.Edit.TheVariants.{Push, Pop, Write, Reserve, Swap, Truncate}
 use Rattle.lv_edits.specs.History.{list_of}
-use Rattle.lv_edits.specs.Touch.{index_written}
+use Rattle.lv_edits.specs.Touch.{indices_written}
 use Rattle.lv_edits.specs.Verdict.{verdict_of}
 use Rattle.lv_machine.specs.declared.entries.Entry.{Entry}
 use Rattle.lv_machine.specs.Terms.{Terms}
@@ -34,12 +34,14 @@ abbrev pub before_last : List Entry → List Entry
 before_last [] = []
 before_last (e ∷ h) = h
 
--- the edits of the lock-free form: no reserve, and elements of 16 bits
+-- the edits of the lock-free form: pushes, pops and writes, of elements of 16 bits
 abbrev pub IsShortEdit : Edit → Type 0
 IsShortEdit (Push x) = IsShort x
 IsShortEdit Pop = Unit {0}
 IsShortEdit (Write i x) = IsShort x
 IsShortEdit (Reserve n) = ⊥
+IsShortEdit (Swap i j) = ⊥
+IsShortEdit (Truncate n) = ⊥
 
 -- an entry that may follow a history: its actor is one of those that there are, and nothing refuses its edit
 pub record MayFollow (t : Terms) (h : List Entry) (e : Entry) : Type 0 where
@@ -52,9 +54,9 @@ abbrev pub IsLegal : Terms → List Entry → Type 0
 IsLegal t [] = Unit {0}
 IsLegal t (e ∷ h) = IsLegal t h × MayFollow t h e
 
--- the index at which an entry writes, or 4095 for none
+-- the index at which an entry writes, or 4095 for none: an edit of the lock-free form has one at most
 unfoldable pub index_written_by : List Entry → Entry → ℕ
-index_written_by h e = unwrap_or (index_written (elements_of h) e.edit) 4095
+index_written_by h e = slice_index_or (indices_written (elements_of h) e.edit) 0 4095
 
 -- the descriptor that shows a history: its length, the size, and what its last entry wrote
 unfoldable pub descriptor_of : List Entry → ℕ

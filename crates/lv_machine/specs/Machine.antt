@@ -5,9 +5,9 @@ use Rattle.lv_geometry.specs.declared.refusals.Refusal.{Refusal}
 use Rattle.lv_geometry.specs.declared.refusals.Refusal.TheVariants.{BadLimits, BadRange, Contended, NotNow, OutOfRange, Overtaken, TooWide}
 use Rattle.lv_bodies.specs.Body.{Operations}
 use Rattle.lv_edits.specs.declared.edit.Edit.{Edit}
-use Rattle.lv_edits.specs.declared.edit.Edit.TheVariants.{Push, Pop, Write, Reserve}
+use Rattle.lv_edits.specs.declared.edit.Edit.TheVariants.{Push, Pop, Write, Reserve, Swap, Truncate}
 use Rattle.lv_edits.specs.declared.receipt.Receipt.{Receipt}
-use Rattle.lv_edits.specs.declared.receipt.Receipt.TheVariants.{Pushed, Popped, Written, Reserved}
+use Rattle.lv_edits.specs.declared.receipt.Receipt.TheVariants.{Pushed, Popped, Written, Reserved, Swapped, Truncated}
 use Rattle.lv_machine.specs.declared.events.Call.{Call}
 use Rattle.lv_machine.specs.declared.events.Call.TheVariants as call
 use Rattle.lv_machine.specs.declared.events.Event.{Event}
@@ -61,12 +61,14 @@ needs_help look goal.Size = false
 needs_help look (goal.Reduce lo hi) = nat_lt (index_of look) 4088
 needs_help look (goal.Refresh b) = nat_lt (index_of look) 4088
 
--- what an accepted edit is answered
+-- what an accepted edit is answered. The lock-free form has no reserve, no swap and no truncate
 abbrev pub receipt_at : ℕ → Edit → ℤ → Receipt
 receipt_at look (Push x) before = Pushed (edit_of look + 1) (size_of look)
 receipt_at look Pop before = Popped (edit_of look + 1) before
 receipt_at look (Write i x) before = Written (edit_of look + 1) before
 receipt_at look (Reserve n) before = Reserved (edit_of look + 1) 0
+receipt_at look (Swap i j) before = Swapped (edit_of look + 1) before before
+receipt_at look (Truncate n) before = Truncated (edit_of look + 1) 0
 
 module _ {S : Type 0} where
   -- the move that an actor's call makes next
@@ -105,6 +107,8 @@ module _ {S : Type 0} where
   edit_begun look Pop = task.ReadBefore Pop (size_of look - 1)
   edit_begun look (Write i x) = task.ReadBefore (Write i x) i
   edit_begun look (Reserve n) = task.Exchange (Reserve n) (pos 0)
+  edit_begun look (Swap i j) = task.Exchange (Swap i j) (pos 0)
+  edit_begun look (Truncate n) = task.Exchange (Truncate n) (pos 0)
 
   -- what a reduction does next: the mark of a whole block that begins where it stands, or else the cell there; or it is over
   abbrev pub walked : ℕ → Walk S → Advance S

@@ -1,11 +1,11 @@
 -- The atomic steps of the lock-free form, and the states that they reach.
-use Rattle.std.specs.Prelude.{◌≡◌, ℕ, ◌*◌, ◌/◌, ◌<◌, ◌≤◌, max, Option, Some, None, List, [], ◌∷◌, nat_eq, nat_lt, replicate, slice_index, slice_set, if◌then◌else◌}
+use Rattle.std.specs.Prelude.{◌≡◌, ℕ, ◌*◌, ◌/◌, ◌<◌, ◌≤◌, ◌&&◌, max, Option, Some, None, List, [], ◌∷◌, nat_eq, nat_lt, replicate, slice_index, slice_set, if◌then◌else◌}
 use Rattle.lv_geometry.specs.Bounds.{Bounds}
 use Rattle.lv_geometry.specs.Cells.{capacity_of}
 use Rattle.lv_geometry.specs.declared.refusals.Refusal.{Refusal}
 use Rattle.lv_geometry.specs.declared.refusals.Refusal.TheVariants.{Empty, Full, OutOfRange, TooLarge, Worn}
 use Rattle.lv_edits.specs.declared.edit.Edit.{Edit}
-use Rattle.lv_edits.specs.declared.edit.Edit.TheVariants.{Push, Pop, Write, Reserve}
+use Rattle.lv_edits.specs.declared.edit.Edit.TheVariants.{Push, Pop, Write, Reserve, Swap, Truncate}
 use Rattle.lv_machine.specs.declared.entries.Entry.{Entry}
 use Rattle.lv_machine.specs.History.{descriptor_of, IsLegal, IsShortEdit}
 use Rattle.lv_machine.specs.Layout.{cell_place, mark_place, part_place}
@@ -73,6 +73,8 @@ refused_at limits size (Push x) = if nat_eq size (capacity_of limits.buckets) th
 refused_at limits size Pop = if nat_eq size 0 then Some Empty else None
 refused_at limits size (Write i x) = if nat_lt i size then None else Some (OutOfRange size)
 refused_at limits size (Reserve n) = if nat_lt (capacity_of limits.buckets) n then Some (TooLarge (capacity_of limits.buckets)) else None
+refused_at limits size (Swap i j) = if nat_lt i size && nat_lt j size then None else Some (OutOfRange size)
+refused_at limits size (Truncate n) = if nat_lt size n then Some (OutOfRange size) else None
 
 -- the first refusal that applies to an edit at a descriptor, or none
 abbrev pub verdict_at : Bounds → ℕ → Edit → Option Refusal

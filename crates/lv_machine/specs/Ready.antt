@@ -1,7 +1,7 @@
 -- When the next step of a call can be done, as numbers alone: what the code asks of a call under way.
 use Rattle.std.specs.Prelude.{◌≡◌, ℕ, ◌+◌, ◌<◌, ◌≤◌, List, slice_set}
 use Rattle.lv_edits.specs.declared.edit.Edit.{Edit}
-use Rattle.lv_edits.specs.declared.edit.Edit.TheVariants.{Push, Pop, Write, Reserve}
+use Rattle.lv_edits.specs.declared.edit.Edit.TheVariants.{Push, Pop, Write, Reserve, Swap, Truncate}
 use Rattle.lv_machine.specs.declared.tasks.Task.{Task}
 use Rattle.lv_machine.specs.declared.tasks.Task.TheVariants as task
 use Rattle.lv_machine.specs.declared.tasks.Keep.{Keep}
@@ -17,6 +17,8 @@ IsIndexShort (Push x) = Unit {0}
 IsIndexShort Pop = Unit {0}
 IsIndexShort (Write i x) = i < 4096
 IsIndexShort (Reserve n) = Unit {0}
+IsIndexShort (Swap i j) = Unit {0}
+IsIndexShort (Truncate n) = Unit {0}
 
 -- the descriptor after an edit is a word
 pub record CanPack (look : ℕ) (edit : Edit) : Type 0 where

@@ -69,6 +69,10 @@ fn verdict_on(limits: Limits, edit: Edit, look: u64) -> Option<Refusal>
         Edit::Pop => (size == 0).then_some(Refusal::Empty),
         Edit::Write { index, .. } => (index >= size).then_some(Refusal::OutOfRange { size }),
         Edit::Reserve(cells) => (cells > limit).then_some(Refusal::TooLarge { limit }),
+        Edit::Swap { first, second } => {
+            (first >= size || second >= size).then_some(Refusal::OutOfRange { size })
+        }
+        Edit::Truncate(count) => (count > size).then_some(Refusal::OutOfRange { size }),
     }
 }
 
@@ -130,7 +134,9 @@ fn begin_edit<S>(edit: Edit, look: u64) -> Task<S>
     ensures { result ≡ edit_begun look edit }
 {
     match edit {
-        Edit::Push(_) | Edit::Reserve(_) => Task::Exchange { edit, before: 0 },
+        Edit::Push(_) | Edit::Reserve(_) | Edit::Swap { .. } | Edit::Truncate(_) => {
+            Task::Exchange { edit, before: 0 }
+        }
         Edit::Pop => Task::ReadBefore {
             edit,
             index: size_in(look).saturating_sub(1),
@@ -216,6 +222,15 @@ fn receipt(edit: Edit, before: i64, look: u64) -> Receipt
         Edit::Reserve(_) => Receipt::Reserved {
             edit: number,
             capacity: 0,
+        },
+        Edit::Swap { .. } => Receipt::Swapped {
+            edit: number,
+            first: before,
+            second: before,
+        },
+        Edit::Truncate(_) => Receipt::Truncated {
+            edit: number,
+            dropped: 0,
         },
     }
 }

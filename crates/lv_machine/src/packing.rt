@@ -162,7 +162,7 @@ fn bits_in(x: i64) -> u16
     (x.cast_unsigned() % 65536) as u16
 }
 
-/// The descriptor that an edit makes of one. The lock-free form has no reserve.
+/// The descriptor that an edit makes of one. The lock-free form has no reserve, no swap and no truncate.
 #[inline(always)]
 pub fn after_edit(look: u64, edit: Edit) -> u64
     requires { CanPack look edit }
@@ -174,6 +174,6 @@ pub fn after_edit(look: u64, edit: Edit) -> u64
         Edit::Push(x) => pack(number, size + 1, size, bits_in(x)),
         Edit::Pop => pack(number, size.saturating_sub(1), NO_INDEX, 0),
         Edit::Write { index, value } => pack(number, size, index, bits_in(value)),
-        Edit::Reserve(_) => look,
+        Edit::Reserve(_) | Edit::Swap { .. } | Edit::Truncate(_) => look,
     }
 }

@@ -14,9 +14,10 @@ use Rattle.indexmap.specs.IndexMap.{set_value_at}
 use Rattle.lv_geometry.specs.declared.refusals.Refusal.TheVariants.{BadRange, NameTaken, TooMany}
 use Rattle.lv_edits.specs.declared.edit.Edit.{Edit}
 use Rattle.lv_edits.specs.History.{list_of}
+use Rattle.lv_standing.specs.declared.changes.Changed.{Changed}
 use Rattle.lv_standing.specs.declared.watches.Watch.{Watch}
 use Rattle.lv_standing.specs.Queries.{Query, name_refusal, query_of, watch_refusal, without_query}
-use Rattle.lv_standing.specs.Inner.{asked, has_index, refreshed, six_of}
+use Rattle.lv_standing.specs.Inner.{asked, has_changed, refreshed, six_of}
 use Rattle.lv_standing.specs.Kinds.{kind_of}
 use Rattle.lv_standing.specs.Standings.{IsCurrent, queries_of, query_at}
 use Rattle.lv_standing.proofs.KeptNames.{same_name}
@@ -193,20 +194,20 @@ set_same (x ∷ entries) zero e at = let same : x ≡ e = cc in ap (λ v. (x.0, 
 set_same (x ∷ entries) (suc i) e at = ap (λ es. x ∷ es) (set_same entries i e at)
 
 -- the entries asked are those asked of the first and those of the others
-pub asked_more : (index : Option ℕ) (e : List ℕ × Watch) (entries : List (List ℕ × Watch)) → length (asked index (e ∷ entries)) ≡ length (asked index (e ∷ [])) + length (asked index entries)
-asked_more index e entries =
-    elim (either_way (has_index e.1.lo e.1.hi index)) [
-      | inl is ↦ ap (λ b. length (cond b (e ∷ asked index entries) (asked index entries))) is ∙ (let n : length (e ∷ asked index entries) ≡ length (e ∷ []) + length (asked index entries) = omega arith in n) ∙ sym (ap (λ b. length (cond b (e ∷ []) []) + length (asked index entries)) is)
-      | inr other ↦ ap (λ b. length (cond b (e ∷ asked index entries) (asked index entries))) other ∙ (let n : length (asked index entries) ≡ 0 + length (asked index entries) = omega arith in n) ∙ sym (ap (λ b. length (cond b (e ∷ []) []) + length (asked index entries)) other)
+pub asked_more : (changed : Changed) (e : List ℕ × Watch) (entries : List (List ℕ × Watch)) → length (asked changed (e ∷ entries)) ≡ length (asked changed (e ∷ [])) + length (asked changed entries)
+asked_more changed e entries =
+    elim (either_way (has_changed e.1.lo e.1.hi changed)) [
+      | inl is ↦ ap (λ b. length (cond b (e ∷ asked changed entries) (asked changed entries))) is ∙ (let n : length (e ∷ asked changed entries) ≡ length (e ∷ []) + length (asked changed entries) = omega arith in n) ∙ sym (ap (λ b. length (cond b (e ∷ []) []) + length (asked changed entries)) is)
+      | inr other ↦ ap (λ b. length (cond b (e ∷ asked changed entries) (asked changed entries))) other ∙ (let n : length (asked changed entries) ≡ 0 + length (asked changed entries) = omega arith in n) ∙ sym (ap (λ b. length (cond b (e ∷ []) []) + length (asked changed entries)) other)
     ]
 
 -- how many are asked up to after an index
-pub asked_up_to : (index : Option ℕ) (entries : List (List ℕ × Watch)) (i : ℕ) (e : List ℕ × Watch) (b : Bool) → slice_get entries i ≡ Some e → has_index e.1.lo e.1.hi index ≡ b
-    → length (asked index (take (i + 1) entries)) ≡ length (asked index (take i entries)) + cond b 1 0
-asked_up_to index entries i e b at is =
-    length-filter_more (λ entry. has_index entry.1.lo entry.1.hi index) entries i e (slice_get_within entries i e at)
-    ∙ ap (λ x. length (asked index (take i entries)) + cond (has_index x.1.lo x.1.hi index) 1 0) (get_or_from_slice_get entries i e e at)
-    ∙ ap (λ a. length (asked index (take i entries)) + cond a 1 0) is
+pub asked_up_to : (changed : Changed) (entries : List (List ℕ × Watch)) (i : ℕ) (e : List ℕ × Watch) (b : Bool) → slice_get entries i ≡ Some e → has_changed e.1.lo e.1.hi changed ≡ b
+    → length (asked changed (take (i + 1) entries)) ≡ length (asked changed (take i entries)) + cond b 1 0
+asked_up_to changed entries i e b at is =
+    length-filter_more (λ entry. has_changed entry.1.lo entry.1.hi changed) entries i e (slice_get_within entries i e at)
+    ∙ ap (λ x. length (asked changed (take i entries)) + cond (has_changed x.1.lo x.1.hi changed) 1 0) (get_or_from_slice_get entries i e e at)
+    ∙ ap (λ a. length (asked changed (take i entries)) + cond a 1 0) is
 
 -- entries with their answers after some edits are current
 pub all_refreshed : (edits : List Edit) (entries : List (List ℕ × Watch)) → AllByRecursion (IsCurrent edits) (map (refreshed edits) entries)

@@ -1,5 +1,5 @@
 -- The notes of an edit, one query after another.
-use Rattle.std.proofs.Common.{◌≡◌, ℕ, ◌+◌, ◌-◌, ◌<◌, ◌≤◌, Option, Some, true, false, cond, slice_range, slice_get, take, drop, map, append_assoc, length-append, length-drop, List, [], ◌∷◌, ◌++◌, length, refl, ap, sym, subst, ◌∙◌, inl, inr, arith}
+use Rattle.std.proofs.Common.{◌≡◌, ℕ, ◌+◌, ◌-◌, ◌<◌, ◌≤◌, Some, true, false, cond, slice_range, slice_get, take, drop, map, append_assoc, length-append, length-drop, List, [], ◌∷◌, ◌++◌, length, refl, ap, sym, subst, ◌∙◌, inl, inr, arith}
 use Rattle.std.proofs.lemmas.List.{append-nil, length-map, length-take-le, map-append, take_at}
 use Rattle.indexmap.specs.IndexMap.{set_value_at}
 use Rattle.lv_bodies.specs.Body.{CanFold}
@@ -7,10 +7,11 @@ use Rattle.lv_bodies.specs.Plain.{plain_value}
 use Rattle.lv_edits.specs.declared.edit.Edit.{Edit}
 use Rattle.lv_edits.specs.History.{list_of}
 use Rattle.lv_standing.specs.declared.notes.Note.{Note}
+use Rattle.lv_standing.specs.declared.changes.Changed.{Changed}
 use Rattle.lv_standing.specs.declared.watches.Watch.{Watch}
 use Rattle.lv_standing.specs.Queries.{AreNotes, Query, watch_answer}
 use Rattle.lv_standing.specs.declared.kinds.KindSummary.{KindSummary}
-use Rattle.lv_standing.specs.Inner.{IsNoted, IsToldAt, SameElsewhere, asked, has_index, refreshed}
+use Rattle.lv_standing.specs.Inner.{IsNoted, IsToldAt, SameElsewhere, asked, has_changed, refreshed}
 use Rattle.lv_standing.specs.Kinds.{kind_of, shown_of, summary_of}
 use Rattle.lv_standing.specs.Standings.{IsCurrent, queries_of, query_at, summary_at}
 use Rattle.lv_edits.proofs.Slices.{there_is}
@@ -35,9 +36,9 @@ module _ (old new : List Edit) where
   few_notes (q ∷ queries) notes (inl same) = omega (arith, few_notes queries notes same.1)
   few_notes (q ∷ queries) notes (inr told) = omega (arith, ap length told.2, few_notes queries told.1 told.3)
 
-  module _ (index : Option ℕ) (before : List (List ℕ × Watch)) (i : ℕ) (notes : List Note) (e : List ℕ × Watch) (at : slice_get before i ≡ Some e) where
-    -- an entry whose range doesn't have the index that changed leaves all as it was
-    pub told_nothing : has_index e.1.lo e.1.hi index ≡ false → SameElsewhere index old new → IsCurrent old e → IsToldAt index old new before before i notes notes e
+  module _ (changed : Changed) (before : List (List ℕ × Watch)) (i : ℕ) (notes : List Note) (e : List ℕ × Watch) (at : slice_get before i ≡ Some e) where
+    -- an entry whose range has no index that changed leaves all as it was
+    pub told_nothing : has_changed e.1.lo e.1.hi changed ≡ false → SameElsewhere changed old new → IsCurrent old e → IsToldAt changed old new before before i notes notes e
     told_nothing apart elsewhere was =
         let same = elsewhere e.1.lo e.1.hi apart in
         record {
@@ -49,7 +50,7 @@ module _ (old new : List Edit) where
         }
 
     module _ (more : List Note) (s : KindSummary) (folds_before : CanFold (slice_range (list_of old) e.1.lo e.1.hi)) (folds : CanFold (slice_range (list_of new) e.1.lo e.1.hi))
-        (inside : has_index e.1.lo e.1.hi index ≡ true) (was : IsCurrent old e) (is : s ≡ summary_at new e.1) where
+        (inside : has_changed e.1.lo e.1.hi changed ≡ true) (was : IsCurrent old e) (is : s ≡ summary_at new e.1) where
       -- what is shown of what it kept is its answer before
       shown_before : shown_of e.1.summary ≡ watch_answer old (query_at e)
       shown_before = ap shown_of was ∙ shown_is_plain (kind_of e.1.summary) (slice_range (list_of old) e.1.lo e.1.hi) folds_before
@@ -59,11 +60,11 @@ module _ (old new : List Edit) where
       shown_after = ap shown_of is ∙ shown_is_plain (kind_of e.1.summary) (slice_range (list_of new) e.1.lo e.1.hi) folds
 
       -- it is one that is asked
-      one_asked : 1 ≤ length (asked index (e ∷ []))
-      one_asked = let is_one : length (asked index (e ∷ [])) ≡ 1 = ap (λ b. length (cond b (e ∷ []) [])) inside in omega (arith, is_one)
+      one_asked : 1 ≤ length (asked changed (e ∷ []))
+      one_asked = let is_one : length (asked changed (e ∷ [])) ≡ 1 = ap (λ b. length (cond b (e ∷ []) [])) inside in omega (arith, is_one)
 
-      -- an entry whose range has the index keeps its summary after the edit, and its answer is noted where it is another
-      pub told_change : (after : List (List ℕ × Watch)) → after ≡ set_value_at before i (record e.1 { summary = s }) → IsNoted e.0 (shown_of e.1.summary) (shown_of s) notes more → IsToldAt index old new before after i notes more e
+      -- an entry whose range has an index that changed keeps its summary after the edit, and its answer is noted where it is another
+      pub told_change : (after : List (List ℕ × Watch)) → after ≡ set_value_at before i (record e.1 { summary = s }) → IsNoted e.0 (shown_of e.1.summary) (shown_of s) notes more → IsToldAt changed old new before after i notes more e
       told_change after kept (inl same) = record {
         told = [];
         notes_are = same.1 ∙ sym (append-nil notes);
@@ -79,8 +80,8 @@ module _ (old new : List Edit) where
         entries = kept ∙ ap (λ v. set_value_at before i (record e.1 { summary = v })) is;
       }
 
-  module _ (index : Option ℕ) (all current after : List (List ℕ × Watch)) (i : ℕ) (notes more : List Note) (e : List ℕ × Watch) (at : slice_get all i ≡ Some e) (inside : i < length all)
-      (so_far : current ≡ map (refreshed new) (take i all) ++ drop i all) (told : IsToldAt index old new current after i notes more e) where
+  module _ (changed : Changed) (all current after : List (List ℕ × Watch)) (i : ℕ) (notes more : List Note) (e : List ℕ × Watch) (at : slice_get all i ≡ Some e) (inside : i < length all)
+      (so_far : current ≡ map (refreshed new) (take i all) ++ drop i all) (told : IsToldAt changed old new current after i notes more e) where
     -- a step from one entry to the next: the entries
     pub told_entries : after ≡ map (refreshed new) (take (i + 1) all) ++ drop (i + 1) all
     told_entries =
@@ -101,9 +102,9 @@ module _ (old new : List Edit) where
         (subst (λ ns. AreNotes old new (queries_of (take i all) ++ query_at e ∷ []) ns) (sym told.notes_are) (notes_more (queries_of (take i all)) notes (query_at e) told.told before told.are))
 
     -- and the room
-    pub told_room : (capacity : ℕ) → length notes + length (asked index (drop i all)) ≤ capacity → length more + length (asked index (drop (i + 1) all)) ≤ capacity
+    pub told_room : (capacity : ℕ) → length notes + length (asked changed (drop i all)) ≤ capacity → length more + length (asked changed (drop (i + 1) all)) ≤ capacity
     told_room capacity room =
-        omega (arith, ap length told.notes_are, length-append notes told.told, told.few, asked_more index e (drop (i + 1) all), ap (λ es. length (asked index es)) (rest_is all i e at))
+        omega (arith, ap length told.notes_are, length-append notes told.told, told.few, asked_more changed e (drop (i + 1) all), ap (λ es. length (asked changed es)) (rest_is all i e at))
 
 module _ (new : List Edit) (all current : List (List ℕ × Watch)) (i : ℕ) (inside : i < length all) (so_far : current ≡ map (refreshed new) (take i all) ++ drop i all) where
   -- the entry at the index that a walk has come to is as it was

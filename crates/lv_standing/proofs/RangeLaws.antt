@@ -1,19 +1,21 @@
 -- Ranges of a list that reach past its end, and what an edit elsewhere leaves of a range.
-use Rattle.std.proofs.Common.{◌≡◌, Option, ℕ, ℤ, pos, ◌+◌, ◌-◌, ◌⊎◌, min, ◌<◌, ◌≤◌, false, true, refl, IfSome, List, [], ◌∷◌, ◌++◌, length, take, drop, slice_range, slice_set, Some, None, ltb, ◌&&◌, sym, ap, ◌∙◌, inl, inr, arith, length-drop, length-append, subst, get_or}
-use Rattle.std.proofs.lemmas.Bool.{cases_lt, lt-leb, lt-ltb, le-ltb, le-leb, false≢true}
+use Rattle.std.proofs.Common.{◌≡◌, Option, ℕ, ℤ, pos, ◌+◌, ◌-◌, ◌⊎◌, max, min, eqb, cond, ◌<◌, ◌≤◌, false, true, refl, IfSome, List, [], ◌∷◌, ◌++◌, length, take, drop, slice_range, slice_set, Some, None, ltb, ◌&&◌, sym, ap, ◌∙◌, inl, inr, arith, length-drop, length-append, subst, get_or}
+use Rattle.std.proofs.lemmas.Bool.{cases_Bool, cases_lt, eqb-true, false≢true, leb-true, lt-leb, lt-ltb, ltb-false, le-ltb, le-leb, or_parts}
 use Rattle.std.proofs.lemmas.Option.{cond_some}
 use Rattle.std.proofs.Math.Seq.{take-nil}
-use Rattle.std.proofs.lemmas.List.{drop-append-le, drop_all, take_all, take_more, length-take-le}
+use Rattle.std.proofs.lemmas.List.{drop-append-le, drop_all, length-take-le, set-get_or, take_all, take_more}
 use Rattle.lv_bodies.specs.Body.{CanFold}
 use Rattle.lv_edits.specs.declared.edit.Edit.{Edit}
-use Rattle.lv_edits.specs.declared.edit.Edit.TheVariants.{Push, Pop, Write, Reserve}
+use Rattle.lv_edits.specs.declared.edit.Edit.TheVariants.{Push, Pop, Write, Reserve, Swap, Truncate}
 use Rattle.lv_edits.specs.History.{History, applied, list_of, replayed}
 use Rattle.lv_edits.specs.Kept.{InLimits}
 use Rattle.lv_edits.specs.Verdict.{verdict_of}
-use Rattle.lv_edits.proofs.HistoryLaws.{accepted_is_possible, list_of-snoc}
-use Rattle.lv_edits.proofs.Slices.{part_of_push, part_of_set}
+use Rattle.lv_edits.proofs.HistoryLaws.{accepted_is_possible, list_of-snoc, swapped}
+use Rattle.lv_edits.proofs.Slices.{part_of_push, part_of_set, part_of_take}
 use Rattle.lv_summary.proofs.FoldableLaws.{can_fold, part_can_fold}
-use Rattle.lv_standing.specs.Inner.{IsPushed, has_index, index_changed, pushed_by}
+use Rattle.lv_standing.specs.declared.changes.Changed.{Changed}
+use Rattle.lv_standing.specs.declared.changes.Changed.TheVariants.{Nothing, Two}
+use Rattle.lv_standing.specs.Inner.{IsPushed, changed_by, has_changed, has_index, pushed_by}
 
 -- a range that starts past the end is empty
 empty_past : {A : Type 0} (xs : List A) (lo hi : ℕ) → length xs ≤ lo → slice_range xs lo hi ≡ []
@@ -51,7 +53,7 @@ pub range_can_fold : (h : History) (lo hi : ℕ) → InLimits h → CanFold (sli
 range_can_fold h lo hi limits = part_can_fold (hi - lo) lo (list_of h.journal) (can_fold h limits)
 
 -- a range without an index ends at or before it, or starts after it
-pub without_index : (lo hi i : ℕ) → has_index lo hi (Some i) ≡ false → (hi ≤ i) ⊎ (i < lo)
+pub without_index : (lo hi i : ℕ) → has_index lo hi i ≡ false → (hi ≤ i) ⊎ (i < lo)
 without_index lo hi i h =
     elim (cases_lt i lo) [
       | inl after ↦ inr after
@@ -62,7 +64,7 @@ without_index lo hi i h =
     ]
 
 -- a range with an index starts at or before it, and ends after it
-pub with_index : (lo hi i : ℕ) → has_index lo hi (Some i) ≡ true → (lo ≤ i) × (i < hi)
+pub with_index : (lo hi i : ℕ) → has_index lo hi i ≡ true → (lo ≤ i) × (i < hi)
 with_index lo hi i h =
     elim (cases_lt i lo) [
       | inl after ↦ absurd (false≢true (sym (ap (λ b. b && ltb i hi) (lt-leb lo i after)) ∙ h))
@@ -100,8 +102,37 @@ fewer_elsewhere xs d lo hi some apart =
     let whole : xs ≡ take n xs ++ get_or xs n d ∷ [] = sym (take_all (length xs) xs (omega arith)) ∙ ap (λ k. take k xs) next ∙ take_more xs n d (omega arith) in
     sym (more_elsewhere (take n xs) (get_or xs n d) lo hi (subst (λ k. (hi ≤ k) ⊎ (k < lo)) (sym long) apart)) ∙ ap (λ ys. slice_range ys lo hi) (sym whole)
 
--- an edit leaves a range without the index that it changes
-applied_elsewhere : (xs ys : List ℤ) (e : Edit) (lo hi : ℕ) → applied xs e ≡ Some ys → has_index lo hi (index_changed (length xs) e) ≡ false → slice_range ys lo hi ≡ slice_range xs lo hi
+-- two elements that were exchanged leave a range without both indices
+swap_elsewhere : (xs ys : List ℤ) (i j lo hi : ℕ) → applied xs (Swap i j) ≡ Some ys → has_changed lo hi (Two i j) ≡ false → slice_range ys lo hi ≡ slice_range xs lo hi
+swap_elsewhere xs ys i j lo hi made apart =
+    let done = swapped xs ys i j made in
+    let both = or_parts _ _ apart in
+    ap (λ zs. slice_range zs lo hi) done.2
+    ∙ set_elsewhere (slice_set xs i (get_or xs j (pos 0))) j (get_or xs i (pos 0)) lo hi (without_index lo hi j both.1)
+    ∙ set_elsewhere xs i (get_or xs j (pos 0)) lo hi (without_index lo hi i both.0)
+
+-- an element that was exchanged with itself leaves the list
+swap_same : (xs ys : List ℤ) (i : ℕ) → applied xs (Swap i i) ≡ Some ys → ys ≡ xs
+swap_same xs ys i made =
+    let done = swapped xs ys i i made in
+    done.2 ∙ ap (λ zs. slice_set zs i (get_or xs i (pos 0))) (set-get_or xs i (pos 0)) ∙ set-get_or xs i (pos 0)
+
+-- a list that was cut leaves a range without the indices behind the cut
+cut_elsewhere : {A : Type 0} (xs : List A) (n lo hi : ℕ) → n ≤ length xs → min hi (length xs) ≤ max lo n → slice_range (take n xs) lo hi ≡ slice_range xs lo hi
+cut_elsewhere xs n lo hi within apart =
+    elim (cases_lt lo hi) [
+      | inr backwards ↦ empty_backwards (take n xs) lo hi backwards ∙ sym (empty_backwards xs lo hi backwards)
+      | inl order ↦ elim (cases_lt n hi) [
+        | inr before ↦ part_of_take xs n lo (hi - lo) (omega arith)
+        | inl behind ↦ elim (cases_lt lo (length xs)) [
+          | inl starts ↦ let all : length xs ≤ n = omega arith in ap (λ zs. slice_range zs lo hi) (take_all n xs all)
+          | inr past ↦ empty_past (take n xs) lo hi (omega (arith, length-take-le n xs within)) ∙ sym (empty_past xs lo hi past)
+        ]
+      ]
+    ]
+
+-- an edit leaves a range without an index that it changes
+applied_elsewhere : (xs ys : List ℤ) (e : Edit) (lo hi : ℕ) → applied xs e ≡ Some ys → has_changed lo hi (changed_by (length xs) e) ≡ false → slice_range ys lo hi ≡ slice_range xs lo hi
 applied_elsewhere xs ys (Push x) lo hi made apart =
     let same : xs ++ x ∷ [] ≡ ys = (cc) in
     ap (λ zs. slice_range zs lo hi) (sym same) ∙ more_elsewhere xs x lo hi (without_index lo hi (length xs) apart)
@@ -117,17 +148,27 @@ applied_elsewhere xs ys (Write i x) lo hi made apart =
 applied_elsewhere xs ys (Reserve n) lo hi made apart =
     let same : xs ≡ ys = (cc) in
     ap (λ zs. slice_range zs lo hi) (sym same)
+applied_elsewhere xs ys (Swap i j) lo hi made apart =
+    elim (cases_Bool (eqb i j)) [
+      | inl one ↦
+          let same : j ≡ i = sym (eqb-true i j one) in
+          ap (λ zs. slice_range zs lo hi) (swap_same xs ys i (subst (λ k. applied xs (Swap i k) ≡ Some ys) same made))
+      | inr two ↦ swap_elsewhere xs ys i j lo hi made (ap (λ b. has_changed lo hi (cond b Nothing (Two i j))) (sym two) ∙ apart)
+    ]
+applied_elsewhere xs ys (Truncate n) lo hi made apart =
+    let parts = cond_some _ _ _ made in
+    ap (λ zs. slice_range zs lo hi) (sym parts.1) ∙ cut_elsewhere xs n lo hi (leb-true n (length xs) parts.0) (ltb-false (max lo n) (min hi (length xs)) apart)
 
--- an accepted edit leaves a range without the index that it changes
+-- an accepted edit leaves a range without an index that it changes
 pub edit_elsewhere : (h : History) (e : Edit) (lo hi : ℕ) → replayed h.journal ≡ Some (list_of h.journal) → verdict_of h.limits h.journal e ≡ None
-    → has_index lo hi (index_changed (length (list_of h.journal)) e) ≡ false → slice_range (list_of (h.journal ++ e ∷ [])) lo hi ≡ slice_range (list_of h.journal) lo hi
+    → has_changed lo hi (changed_by (length (list_of h.journal)) e) ≡ false → slice_range (list_of (h.journal ++ e ∷ [])) lo hi ≡ slice_range (list_of h.journal) lo hi
 edit_elsewhere h e lo hi legal accepted apart =
     let possible = accepted_is_possible h.limits h.journal e accepted in
     let next = list_of-snoc h.journal e possible.0 legal possible.1 in
     ap (λ zs. slice_range zs lo hi) next.1 ∙ applied_elsewhere (list_of h.journal) possible.0 e lo hi possible.1 apart
 
 -- one more element at the end is the last of a range that has its index
-pub more_inside : {A : Type 0} (xs : List A) (x : A) (lo hi : ℕ) → has_index lo hi (Some (length xs)) ≡ true → slice_range (xs ++ x ∷ []) lo hi ≡ slice_range xs lo hi ++ x ∷ []
+pub more_inside : {A : Type 0} (xs : List A) (x : A) (lo hi : ℕ) → has_index lo hi (length xs) ≡ true → slice_range (xs ++ x ∷ []) lo hi ≡ slice_range xs lo hi ++ x ∷ []
 more_inside xs x lo hi inside =
     let parts = with_index lo hi (length xs) inside in
     ap (take (hi - lo)) (drop-append-le lo xs (x ∷ []) parts.0)
@@ -135,15 +176,15 @@ more_inside xs x lo hi inside =
     ∙ sym (ap (λ ys. ys ++ x ∷ []) (take_all (hi - lo) (drop lo xs) (omega (arith, parts.0, parts.1, length-drop lo xs))))
 
 -- so a range that has the index of an element that was pushed ends with it
-pub pushed_inside : (old new : List Edit) (index : Option ℕ) (pushed : Option ℤ) (lo hi : ℕ) → has_index lo hi index ≡ true → IfSome pushed (IsPushed index old new)
+pub pushed_inside : (old new : List Edit) (changed : Changed) (pushed : Option ℤ) (lo hi : ℕ) → has_changed lo hi changed ≡ true → IfSome pushed (IsPushed changed old new)
     → IfSome pushed (λ x. slice_range (list_of new) lo hi ≡ slice_range (list_of old) lo hi ++ x ∷ [])
-pushed_inside old new index None lo hi inside is = tt
-pushed_inside old new index (Some x) lo hi inside is =
-    ap (λ ys. slice_range ys lo hi) is.1 ∙ more_inside (list_of old) x lo hi (subst (λ i. has_index lo hi i ≡ true) is.0 inside)
+pushed_inside old new changed None lo hi inside is = tt
+pushed_inside old new changed (Some x) lo hi inside is =
+    ap (λ ys. slice_range ys lo hi) is.1 ∙ more_inside (list_of old) x lo hi (subst (λ c. has_changed lo hi c ≡ true) is.0 inside)
 
 -- a push brings the last element of the list
 pub push_is_last : (h : History) (e : Edit) → replayed h.journal ≡ Some (list_of h.journal) → verdict_of h.limits h.journal e ≡ None
-    → IfSome (pushed_by e) (IsPushed (index_changed (length (list_of h.journal)) e) h.journal (h.journal ++ e ∷ []))
+    → IfSome (pushed_by e) (IsPushed (changed_by (length (list_of h.journal)) e) h.journal (h.journal ++ e ∷ []))
 push_is_last h (Push x) legal accepted =
     let possible = accepted_is_possible h.limits h.journal (Push x) accepted in
     let next = list_of-snoc h.journal (Push x) possible.0 legal possible.1 in
@@ -152,3 +193,5 @@ push_is_last h (Push x) legal accepted =
 push_is_last h Pop legal accepted = tt
 push_is_last h (Write i x) legal accepted = tt
 push_is_last h (Reserve n) legal accepted = tt
+push_is_last h (Swap i j) legal accepted = tt
+push_is_last h (Truncate n) legal accepted = tt

@@ -1,13 +1,15 @@
--- What the code of standing queries passes on from one to the next: which index an edit changed, and what that makes of the entries.
-use Rattle.std.specs.Prelude.{◌≡◌, ◌≢◌, ◌⊎◌, ◌≤◌, ℕ, ℤ, Bool, ◌&&◌, Option, Some, None, false, List, [], ◌∷◌, ◌-◌, length, filter, nat_le, nat_lt, ◌++◌, slice_get}
+-- What the code of standing queries passes on from one to the next: which indices an edit changed, and what that makes of the entries.
+use Rattle.std.specs.Prelude.{◌≡◌, ◌≢◌, ◌⊎◌, ◌≤◌, ℕ, ℤ, Bool, ◌&&◌, ◌||◌, max, min, Option, Some, None, false, List, [], ◌∷◌, ◌-◌, length, filter, nat_eq, nat_le, nat_lt, if◌then◌else◌, ◌++◌, slice_get}
 use Rattle.std.specs.List.{slice_range}
 use Rattle.indexmap.specs.IndexMap.{set_value_at}
 use Rattle.lv_bodies.specs.Body.{fold_of}
 use Rattle.lv_bodies.specs.Six.{SixSummary, six_meaning, six_operations}
 use Rattle.lv_bodies.specs.declared.kinds.Shown.{Shown}
 use Rattle.lv_edits.specs.declared.edit.Edit.{Edit}
-use Rattle.lv_edits.specs.declared.edit.Edit.TheVariants.{Push, Pop, Write, Reserve}
+use Rattle.lv_edits.specs.declared.edit.Edit.TheVariants.{Push, Pop, Write, Reserve, Swap, Truncate}
 use Rattle.lv_edits.specs.History.{list_of}
+use Rattle.lv_standing.specs.declared.changes.Changed.{Changed}
+use Rattle.lv_standing.specs.declared.changes.Changed.TheVariants.{Nothing, One, Two, Between}
 use Rattle.lv_standing.specs.declared.watches.OfRange.{OfRange}
 use Rattle.lv_standing.specs.declared.watches.Watch.{Watch}
 use Rattle.lv_standing.specs.declared.notes.Note.{Note}
@@ -26,12 +28,14 @@ six_of edits lo hi = fold_of (six_operations six_meaning) (slice_range (list_of 
 abbrev pub IsOfRange : List Edit → OfRange → Type 0
 IsOfRange edits range = range.six ≡ six_of edits range.lo range.hi
 
--- the index whose element an edit of a vector of this size changes, brings or drops
-abbrev pub index_changed : ℕ → Edit → Option ℕ
-index_changed size (Push x) = Some size
-index_changed size Pop = Some (size - 1)
-index_changed size (Write i x) = Some i
-index_changed size (Reserve n) = None
+-- the indices whose elements an edit of a vector of this size changes, brings or drops
+abbrev pub changed_by : ℕ → Edit → Changed
+changed_by size (Push x) = One size
+changed_by size Pop = One (size - 1)
+changed_by size (Write i x) = One i
+changed_by size (Reserve n) = Nothing
+changed_by size (Swap i j) = if nat_eq i j then Nothing else Two i j
+changed_by size (Truncate n) = Between n size
 
 -- the element that an edit brings at the end, if it brings one
 abbrev pub pushed_by : Edit → Option ℤ
@@ -39,23 +43,31 @@ pushed_by (Push x) = Some x
 pushed_by Pop = None
 pushed_by (Write i x) = None
 pushed_by (Reserve n) = None
+pushed_by (Swap i j) = None
+pushed_by (Truncate n) = None
 
 -- an element was pushed: it stands behind all others, at the index that changed
-abbrev pub IsPushed : Option ℕ → List Edit → List Edit → ℤ → Type 0
-IsPushed index old new x = (index ≡ Some (length (list_of old))) × (list_of new ≡ list_of old ++ x ∷ [])
+abbrev pub IsPushed : Changed → List Edit → List Edit → ℤ → Type 0
+IsPushed changed old new x = (changed ≡ One (length (list_of old))) × (list_of new ≡ list_of old ++ x ∷ [])
 
--- whether a range has an index, if there is one
-abbrev pub has_index : ℕ → ℕ → Option ℕ → Bool
-has_index lo hi None = false
-has_index lo hi (Some i) = nat_le lo i && nat_lt i hi
+-- whether a range has an index
+abbrev pub has_index : ℕ → ℕ → ℕ → Bool
+has_index lo hi i = nat_le lo i && nat_lt i hi
 
--- the entries whose range has an index
-abbrev pub asked : Option ℕ → List (List ℕ × Watch) → List (List ℕ × Watch)
-asked index entries = filter (λ entry. has_index entry.1.lo entry.1.hi index) entries
+-- whether a range has one of the indices that changed
+abbrev pub has_changed : ℕ → ℕ → Changed → Bool
+has_changed lo hi Nothing = false
+has_changed lo hi (One i) = has_index lo hi i
+has_changed lo hi (Two i j) = has_index lo hi i || has_index lo hi j
+has_changed lo hi (Between from to) = nat_lt (max lo from) (min hi to)
 
--- each range without an index has the same elements after both
-abbrev pub SameElsewhere : Option ℕ → List Edit → List Edit → Type 0
-SameElsewhere index old new = (lo hi : ℕ) → has_index lo hi index ≡ false → slice_range (list_of new) lo hi ≡ slice_range (list_of old) lo hi
+-- the entries whose range has one of them
+abbrev pub asked : Changed → List (List ℕ × Watch) → List (List ℕ × Watch)
+asked changed entries = filter (λ entry. has_changed entry.1.lo entry.1.hi changed) entries
+
+-- each range without any of them has the same elements after both
+abbrev pub SameElsewhere : Changed → List Edit → List Edit → Type 0
+SameElsewhere changed old new = (lo hi : ℕ) → has_changed lo hi changed ≡ false → slice_range (list_of new) lo hi ≡ slice_range (list_of old) lo hi
 
 -- the entry at an index, whatever there is, meets a claim
 abbrev pub AtIndex : List (List ℕ × Watch) → ℕ → (List ℕ × Watch → Type 0) → Type 0
@@ -67,11 +79,11 @@ IsNoted name before value notes more =
     ((value ≡ before) × (more ≡ notes))
     ⊎ ((value ≢ before) × (more ≡ notes ++ record { name = name; value = value } ∷ []))
 
--- the entry at an index was brought up to an edit where its range has the index that the edit changed: it keeps the summary after,
+-- the entry at an index was brought up to an edit where its range has an index that the edit changed: it keeps the summary after,
 -- and where its answer is another than before there is a note of it
-pub record IsToldAt (index : Option ℕ) (old new : List Edit) (before after : List (List ℕ × Watch)) (i : ℕ) (notes more : List Note) (e : List ℕ × Watch) : Type 0 where
+pub record IsToldAt (changed : Changed) (old new : List Edit) (before after : List (List ℕ × Watch)) (i : ℕ) (notes more : List Note) (e : List ℕ × Watch) : Type 0 where
   pub told : List Note
   pub notes_are : more ≡ notes ++ told
   pub are : AreNotes old new (query_at e ∷ []) told
-  pub few : length told ≤ length (asked index (e ∷ []))
+  pub few : length told ≤ length (asked changed (e ∷ []))
   pub entries : after ≡ set_value_at before i (refreshed new e).1

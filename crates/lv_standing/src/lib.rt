@@ -6,6 +6,7 @@
 //! It parses no text and starts no thread.
 #![tactic(auto)]
 
+mod changes;
 mod kinds;
 mod names;
 mod notes;

@@ -12,10 +12,11 @@ ghost use Rattle.lv_refresh.specs.Honesty.{IsHonest, Vouched};
 ghost use Rattle.lv_live.specs.State.{HasClaim, HasDelivery, HasNoClaims, SameLive, SameRefresh, node_and_version, recorded};
 ghost use Rattle.lv_standing.specs.Queries.{AreNotes, Query, query_of, watch_answer, watch_refusal, without_query};
 
+use crate::changes::{changed_by, pushed_by};
 use crate::kinds::KindSummary;
 use crate::names::Name;
 use crate::notes::{Answered, Note};
-use crate::watches::{Watch, ask, count_asked, index_changed, pushed_by, tell};
+use crate::watches::{Watch, ask, count_asked, tell};
 use indexmap::IndexMap;
 use lv_bodies::{Body, Kind, Six};
 use lv_edits::{Edit, Receipt};
@@ -129,15 +130,15 @@ impl Standing {
         if let Some(refusal) = self.live.verdict(&edit) {
             return Err(refusal);
         }
-        let index = index_changed(&edit, self.live.size());
-        let Ok(mut notes) = Vec::with_capacity(alloc, count_asked(&self.watches, index)) else {
+        let changed = changed_by(&edit, self.live.size());
+        let Ok(mut notes) = Vec::with_capacity(alloc, count_asked(&self.watches, changed)) else {
             return Err(Refusal::NoMemory);
         };
         let receipt = self.live.apply(edit)?;
         tell(
             &mut self.live,
             &mut self.watches,
-            index,
+            changed,
             pushed_by(&edit),
             &mut notes,
         );

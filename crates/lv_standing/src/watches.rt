@@ -8,16 +8,16 @@ ghost use Rattle.lv_edits.specs.History.{list_of};
 ghost use Rattle.lv_edits.specs.Kept.{InLimits};
 ghost use Rattle.lv_live.specs.State.{SameLive};
 ghost use Rattle.lv_standing.specs.Queries.{AreNotes};
-ghost use Rattle.lv_standing.specs.Inner.{AtIndex, IsNoted, IsOfRange, IsPushed, IsToldAt, SameElsewhere, asked, has_index, index_changed, pushed_by, refreshed, six_of};
+ghost use Rattle.lv_standing.specs.Inner.{AtIndex, IsNoted, IsOfRange, IsPushed, IsToldAt, SameElsewhere, asked, has_changed, has_index, refreshed, six_of};
 ghost use Rattle.lv_standing.specs.Kinds.{kind_of, summary_of};
 ghost use Rattle.lv_standing.specs.Standings.{IsCurrent, queries_of, summary_at};
 
+use crate::changes::Changed;
 use crate::kinds::KindSummary;
 use crate::names::Name;
 use crate::notes::Note;
 use indexmap::IndexMap;
 use lv_bodies::{Body, Shown, Six};
-use lv_edits::Edit;
 use lv_live::Live;
 
 /// The range of a standing query, and the summary by its kind of the elements that the range has at the last edit.
@@ -29,36 +29,23 @@ pub struct Watch {
 }
 
 impl Watch {
-    /// Whether its range has an index, if there is one.
-    pub fn has_index(&self, index: Option<u32>) -> bool
-        ensures { result ≡ has_index self.now.lo self.now.hi index }
+    /// Whether its range has one of the indices that changed.
+    pub fn has_changed(&self, changed: Changed) -> bool
+        ensures { result ≡ has_changed self.now.lo self.now.hi changed }
     {
-        match index {
-            Some(i) => self.lo <= i && i < self.hi,
-            None => false,
+        match changed {
+            Changed::Nothing => false,
+            Changed::One(i) => self.has_index(i),
+            Changed::Two(i, j) => self.has_index(i) || self.has_index(j),
+            Changed::Between(from, to) => self.lo.max(from) < self.hi.min(to),
         }
     }
-}
 
-/// The index whose element an edit of a vector of this size changes, brings or drops.
-pub fn index_changed(edit: &Edit, size: u32) -> Option<u32>
-    ensures { result ≡ index_changed size edit.now }
-{
-    match edit {
-        Edit::Push(_) => Some(size),
-        Edit::Pop => Some(size.saturating_sub(1)),
-        Edit::Write { index, .. } => Some(*index),
-        Edit::Reserve(_) => None,
-    }
-}
-
-/// The element that an edit brings at the end, if it brings one.
-pub fn pushed_by(edit: &Edit) -> Option<i64>
-    ensures { result ≡ pushed_by edit.now }
-{
-    match edit {
-        Edit::Push(x) => Some(*x),
-        Edit::Pop | Edit::Write { .. } | Edit::Reserve(_) => None,
+    // Whether its range has an index.
+    fn has_index(&self, i: u32) -> bool
+        ensures { result ≡ has_index self.now.lo self.now.hi i }
+    {
+        self.lo <= i && i < self.hi
     }
 }
 
@@ -100,14 +87,14 @@ fn watch_at(watches: &IndexMap<Name, Watch>, i: usize) -> (Name, Watch)
     (*name, *watch)
 }
 
-/// How many queries have a range with an index, if there is one.
-pub fn count_asked(watches: &IndexMap<Name, Watch>, index: Option<u32>) -> usize
-    ensures { result ≡ length (asked index watches.now.entries) }
+/// How many queries have a range with one of the indices that changed.
+pub fn count_asked(watches: &IndexMap<Name, Watch>, changed: Changed) -> usize
+    ensures { result ≡ length (asked changed watches.now.entries) }
 {
     let mut count = 0;
     for i in 0..watches.len() {
         let (_, watch) = watch_at(watches, i);
-        if watch.has_index(index) {
+        if watch.has_changed(changed) {
             count += 1;
         }
     }
@@ -190,12 +177,12 @@ fn keep(watches: &mut IndexMap<Name, Watch>, i: usize, watch: Watch)
     }
 }
 
-// Brings one query up to the edit where its range has the index, and notes its answer where it is another than before.
+// Brings one query up to the edit where its range has an index that changed, and notes its answer where it is another than before.
 fn tell_one(
     live: &mut Live<Six>,
     watches: &mut IndexMap<Name, Watch>,
     i: usize,
-    index: Option<u32>,
+    changed: Changed,
     pushed: Option<i64>,
     last: &mut Option<OfRange>,
     notes: &mut Vec<Note>,
@@ -204,19 +191,19 @@ fn tell_one(
     requires limits { InLimits live.old.history }
     requires six { ◌≡◌ {A = SixMeaning} (⟦<Six as Body>⟧.meaning live.old.body) six_meaning }
     requires before { CanFold (list_of old) }
-    requires elsewhere { SameElsewhere index old live.old.history.journal }
-    requires pushed { IfSome pushed (IsPushed index old live.old.history.journal) }
+    requires elsewhere { SameElsewhere changed old live.old.history.journal }
+    requires pushed { IfSome pushed (IsPushed changed old live.old.history.journal) }
     requires last { IfSome last.old (IsOfRange live.old.history.journal) }
     requires within { i < index_map_len watches.old }
     requires current { AtIndex watches.old.entries i (IsCurrent old) }
-    requires room { AtIndex watches.old.entries i (λ e. vec_len notes.old + length (asked index (e ∷ [])) ≤ vec_capacity notes.old) }
-    ensures told { AtIndex watches.old.entries i (IsToldAt index old live.old.history.journal watches.old.entries watches.new.entries i notes.old.items notes.new.items) }
+    requires room { AtIndex watches.old.entries i (λ e. vec_len notes.old + length (asked changed (e ∷ [])) ≤ vec_capacity notes.old) }
+    ensures told { AtIndex watches.old.entries i (IsToldAt changed old live.old.history.journal watches.old.entries watches.new.entries i notes.old.items notes.new.items) }
     ensures last { IfSome last.new (IsOfRange live.old.history.journal) }
     ensures capacity { vec_capacity notes.new ≡ vec_capacity notes.old }
     ensures live { SameLive live.old live.new }
 {
     let (name, watch) = watch_at(watches, i);
-    if !watch.has_index(index) {
+    if !watch.has_changed(changed) {
         return;
     }
     let summary = summary_after(live, &watch, pushed, last);
@@ -224,12 +211,12 @@ fn tell_one(
     keep(watches, i, Watch { summary, ..watch });
 }
 
-/// Brings each query up to an edit whose range has the index that the edit changed, in order of registration; notes the answers
+/// Brings each query up to an edit whose range has an index that the edit changed, in order of registration; notes the answers
 /// that are others than before. A push costs each a join, and any other edit one question for all neighbours of the same range.
 pub fn tell(
     live: &mut Live<Six>,
     watches: &mut IndexMap<Name, Watch>,
-    index: Option<u32>,
+    changed: Changed,
     pushed: Option<i64>,
     notes: &mut Vec<Note>,
 )
@@ -237,17 +224,17 @@ pub fn tell(
     requires limits { InLimits live.old.history }
     requires six { ◌≡◌ {A = SixMeaning} (⟦<Six as Body>⟧.meaning live.old.body) six_meaning }
     requires before { CanFold (list_of old) }
-    requires elsewhere { SameElsewhere index old live.old.history.journal }
-    requires pushed { IfSome pushed (IsPushed index old live.old.history.journal) }
+    requires elsewhere { SameElsewhere changed old live.old.history.journal }
+    requires pushed { IfSome pushed (IsPushed changed old live.old.history.journal) }
     requires current { AllByRecursion (IsCurrent old) watches.old.entries }
     requires empty { notes.old.items ≡ [] }
-    requires room { length (asked index watches.old.entries) ≤ vec_capacity notes.old }
+    requires room { length (asked changed watches.old.entries) ≤ vec_capacity notes.old }
     ensures entries { watches.new.entries ≡ map (refreshed live.old.history.journal) watches.old.entries }
     ensures notes { AreNotes old live.old.history.journal (queries_of watches.old.entries) notes.new.items }
     ensures live { SameLive live.old live.new }
 {
     let mut last = None;
     for i in 0..watches.len() {
-        tell_one(live, watches, i, index, pushed, &mut last, notes);
+        tell_one(live, watches, i, changed, pushed, &mut last, notes);
     }
 }

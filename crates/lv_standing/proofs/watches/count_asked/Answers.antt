@@ -1,15 +1,15 @@
 use Rattle.std.proofs.Common.{◌∙◌, true, false, sym, arith}
 use Rattle.lv_standing.proofs.EntryLaws.{asked_up_to}
 use Rattle.lv_standing.proofs.watches.count_asked.Goals as goal
-use Rattle.lv_standing.proofs.watches.count_asked.Goals.{then-has_index, else-has_index}
+use Rattle.lv_standing.proofs.watches.count_asked.Goals.{then-has_changed, else-has_changed}
 
 pub loop-i-preserved : goal.loop-i-preserved
 loop-i-preserved c =
-    elim c.if-has_index.branch [
-      | then-has_index w ↦
-          let more = asked_up_to c.args.index c.args.watches.now.entries c.loop-i.i c.watch_at.result true c.watch_at.ensures (sym c.has_index.ensures ∙ w.if-has_index.true) in
+    elim c.if-has_changed.branch [
+      | then-has_changed w ↦
+          let more = asked_up_to c.args.changed c.args.watches.now.entries c.loop-i.i c.watch_at.result true c.watch_at.ensures (sym c.has_changed.ensures ∙ w.if-has_changed.true) in
           record { counted = omega (arith, more, w.count-is, c.loop-i.invariant.counted); few = omega (arith, w.count-is, c.loop-i.invariant.few) }
-      | else-has_index w ↦
-          let more = asked_up_to c.args.index c.args.watches.now.entries c.loop-i.i c.watch_at.result false c.watch_at.ensures (sym c.has_index.ensures ∙ w.if-has_index.false) in
+      | else-has_changed w ↦
+          let more = asked_up_to c.args.changed c.args.watches.now.entries c.loop-i.i c.watch_at.result false c.watch_at.ensures (sym c.has_changed.ensures ∙ w.if-has_changed.false) in
           record { counted = omega (arith, more, w.count-is, c.loop-i.invariant.counted); few = omega (arith, w.count-is, c.loop-i.invariant.few) }
     ]

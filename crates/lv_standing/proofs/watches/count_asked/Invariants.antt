@@ -4,6 +4,6 @@ use Rattle.lv_standing.proofs.watches.count_asked.Given as goal
 
 abbrev pub invariant-loop-i : goal.invariant-loop-i
 invariant-loop-i l = record {
-  counted : l.count ≡ length (asked l.index (take l.i l.watches.entries));
+  counted : l.count ≡ length (asked l.changed (take l.i l.watches.entries));
   few : l.count ≤ l.i;
 }

@@ -17,8 +17,8 @@ tell_one-requires g c =
     let kept = as_before new all c.loop-i.watches.entries c.loop-i.i inside c.loop-i.invariant.entries in
     let still = c.loop-i.invariant.live.history in
     let limits : InLimits c.loop-i.live.history = rw still c.requires.0 in
-    let elsewhere : SameElsewhere c.args.index g.old c.loop-i.live.history.journal = rw still c.requires.1.1.1.0 in
-    let pushed : IfSome c.args.pushed (IsPushed c.args.index g.old c.loop-i.live.history.journal) = rw still c.requires.1.1.1.1.0 in
+    let elsewhere : SameElsewhere c.args.changed g.old c.loop-i.live.history.journal = rw still c.requires.1.1.1.0 in
+    let pushed : IfSome c.args.pushed (IsPushed c.args.changed g.old c.loop-i.live.history.journal) = rw still c.requires.1.1.1.1.0 in
     let last : IfSome c.loop-i.last (IsOfRange c.loop-i.live.history.journal) = rw still c.loop-i.invariant.last in (
       limits,
       (
@@ -35,7 +35,7 @@ tell_one-requires g c =
                   omega (arith, inside, same),
                   (
                     (λ e at. all_at (IsCurrent g.old) all c.loop-i.i e c.requires.1.1.1.1.1.0 (sym kept ∙ at)),
-                    (λ e at. omega (arith, c.loop-i.invariant.room, c.loop-i.notes.ok.0, asked_more c.args.index e (drop (c.loop-i.i + 1) all), ap (λ es. length (asked c.args.index es)) (rest_is all c.loop-i.i e (sym kept ∙ at)))),
+                    (λ e at. omega (arith, c.loop-i.invariant.room, c.loop-i.notes.ok.0, asked_more c.args.changed e (drop (c.loop-i.i + 1) all), ap (λ es. length (asked c.args.changed es)) (rest_is all c.loop-i.i e (sym kept ∙ at)))),
                   ),
                 ),
               ),
@@ -55,9 +55,9 @@ loop-i-preserved g c =
     let told = rw c.loop-i.invariant.live.history at (c.tell_one.ensures.told there.0 (kept ∙ there.1)) in
     record {
       live = same_live-along c.args.live.now c.loop-i.live c.tell_one.new.live c.loop-i.invariant.live c.tell_one.ensures.live;
-      entries = told_entries g.old new c.args.index all c.loop-i.watches.entries c.tell_one.new.watches.entries c.loop-i.i c.loop-i.notes.items c.tell_one.new.notes.items there.0 there.1 inside c.loop-i.invariant.entries told;
-      notes = told_notes g.old new c.args.index all c.loop-i.watches.entries c.tell_one.new.watches.entries c.loop-i.i c.loop-i.notes.items c.tell_one.new.notes.items there.0 there.1 inside c.loop-i.invariant.entries told c.loop-i.invariant.notes;
+      entries = told_entries g.old new c.args.changed all c.loop-i.watches.entries c.tell_one.new.watches.entries c.loop-i.i c.loop-i.notes.items c.tell_one.new.notes.items there.0 there.1 inside c.loop-i.invariant.entries told;
+      notes = told_notes g.old new c.args.changed all c.loop-i.watches.entries c.tell_one.new.watches.entries c.loop-i.i c.loop-i.notes.items c.tell_one.new.notes.items there.0 there.1 inside c.loop-i.invariant.entries told c.loop-i.invariant.notes;
       last = rw (← c.loop-i.invariant.live.history) c.tell_one.ensures.last;
-      room = told_room g.old new c.args.index all c.loop-i.watches.entries c.tell_one.new.watches.entries c.loop-i.i c.loop-i.notes.items c.tell_one.new.notes.items there.0 there.1 inside c.loop-i.invariant.entries told (vec_capacity c.tell_one.new.notes)
+      room = told_room g.old new c.args.changed all c.loop-i.watches.entries c.tell_one.new.watches.entries c.loop-i.i c.loop-i.notes.items c.tell_one.new.notes.items there.0 there.1 inside c.loop-i.invariant.entries told (vec_capacity c.tell_one.new.notes)
           (omega (arith, c.tell_one.ensures.capacity, c.loop-i.invariant.room));
     }

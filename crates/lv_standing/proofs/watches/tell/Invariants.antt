@@ -17,5 +17,5 @@ invariant-loop-i g l =
       entries : l.watches.entries ≡ map (refreshed new) (take l.i all) ++ drop l.i all;
       notes : AreNotes g.old new (queries_of (take l.i all)) l.notes.items;
       last : IfSome l.last (IsOfRange new);
-      room : length l.notes.items + length (asked l.index (drop l.i all)) ≤ vec_capacity l.notes;
+      room : length l.notes.items + length (asked l.changed (drop l.i all)) ≤ vec_capacity l.notes;
     }

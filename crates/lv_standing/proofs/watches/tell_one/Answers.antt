@@ -1,7 +1,7 @@
 use Rattle.std.proofs.Common.{◌≡◌, ◌∙◌, Some, false, true, rules, subst, sym}
 use Rattle.lv_edits.specs.History.{list_of}
 use Rattle.lv_summary.proofs.FoldableLaws.{part_can_fold}
-use Rattle.lv_standing.specs.Inner.{IsToldAt, has_index}
+use Rattle.lv_standing.specs.Inner.{IsToldAt, has_changed}
 use Rattle.lv_standing.proofs.NoteLaws.{told_change, told_nothing}
 use Rattle.lv_standing.proofs.RangeLaws.{pushed_inside, range_can_fold}
 use Rattle.lv_standing.proofs.watches.tell_one.Goals as goal
@@ -9,25 +9,25 @@ use Rattle.lv_standing.proofs.watches.tell_one.Goals as goal
 pub summary_after-summary-requires : goal.summary_after-summary-requires
 summary_after-summary-requires g c =
     let e = c.watch_at-name.result in
-    let inside : has_index e.1.lo e.1.hi c.args.index ≡ true = search rules in (
+    let inside : has_changed e.1.lo e.1.hi c.args.changed ≡ true = search rules in (
       c.requires.0,
       (
         c.requires.1.0,
         (
           c.requires.1.1.1.1.1.1.1.0 e c.watch_at-name.ensures,
-          (pushed_inside g.old c.args.live.now.history.journal c.args.index c.args.pushed e.1.lo e.1.hi inside c.requires.1.1.1.1.0, c.requires.1.1.1.1.1.0),
+          (pushed_inside g.old c.args.live.now.history.journal c.args.changed c.args.pushed e.1.lo e.1.hi inside c.requires.1.1.1.1.0, c.requires.1.1.1.1.1.0),
         ),
       ),
     )
 
-pub returns-then-not-has_index-clause-told : goal.returns-then-not-has_index-clause-told
-returns-then-not-has_index-clause-told g c = λ e at.
+pub returns-then-not-has_changed-clause-told : goal.returns-then-not-has_changed-clause-told
+returns-then-not-has_changed-clause-told g c = λ e at.
     let here = c.watch_at-name.result in
     let found : Some here ≡ Some e = sym c.watch_at-name.ensures ∙ at in
     let same : here ≡ e = cc in
-    let apart : has_index here.1.lo here.1.hi c.args.index ≡ false = search rules in
-    subst (IsToldAt c.args.index g.old c.args.live.now.history.journal c.args.watches.now.entries c.args.watches.now.entries c.args.i c.args.notes.now.items c.args.notes.now.items) same
-    (told_nothing g.old c.args.live.now.history.journal c.args.index c.args.watches.now.entries c.args.i c.args.notes.now.items here c.watch_at-name.ensures apart c.requires.1.1.1.0
+    let apart : has_changed here.1.lo here.1.hi c.args.changed ≡ false = search rules in
+    subst (IsToldAt c.args.changed g.old c.args.live.now.history.journal c.args.watches.now.entries c.args.watches.now.entries c.args.i c.args.notes.now.items c.args.notes.now.items) same
+    (told_nothing g.old c.args.live.now.history.journal c.args.changed c.args.watches.now.entries c.args.i c.args.notes.now.items here c.watch_at-name.ensures apart c.requires.1.1.1.0
     (c.requires.1.1.1.1.1.1.1.0 here c.watch_at-name.ensures))
 
 pub returns-clause-told : goal.returns-clause-told
@@ -35,10 +35,10 @@ returns-clause-told g c = λ e at.
     let here = c.watch_at-name.result in
     let found : Some here ≡ Some e = sym c.watch_at-name.ensures ∙ at in
     let same : here ≡ e = cc in
-    let inside : has_index here.1.lo here.1.hi c.args.index ≡ true = search rules in
+    let inside : has_changed here.1.lo here.1.hi c.args.changed ≡ true = search rules in
     let noted = rw c.shown.ensures at (rw c.shown-2.ensures at c.note_change.ensures.told) in
-    subst (IsToldAt c.args.index g.old c.args.live.now.history.journal c.args.watches.now.entries c.keep.new.watches.entries c.args.i c.args.notes.now.items c.note_change.new.notes.items) same
-    (told_change g.old c.args.live.now.history.journal c.args.index c.args.watches.now.entries c.args.i c.args.notes.now.items here c.watch_at-name.ensures
+    subst (IsToldAt c.args.changed g.old c.args.live.now.history.journal c.args.watches.now.entries c.keep.new.watches.entries c.args.i c.args.notes.now.items c.note_change.new.notes.items) same
+    (told_change g.old c.args.live.now.history.journal c.args.changed c.args.watches.now.entries c.args.i c.args.notes.now.items here c.watch_at-name.ensures
     c.note_change.new.notes.items c.summary_after-summary.result
     (part_can_fold _ here.1.lo (list_of g.old) c.requires.1.1.0)
     (range_can_fold c.args.live.now.history here.1.lo here.1.hi c.requires.0)

@@ -1,5 +1,4 @@
 use Rattle.std.proofs.Common.{refl}
-use Rattle.lv_live.specs.State.{SameLive}
 use Rattle.lv_live.proofs.LiveLaws.{live_learnt}
 use Rattle.lv_live.proofs.live.Live.ask.Goals as goal
 
