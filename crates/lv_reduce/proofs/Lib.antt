@@ -1,11 +1,12 @@
 mod AskLaws
 mod Bounds
-mod ChunkLaws
 mod Counting
 mod GreatestLaws
 pub mod KnowLaws
 pub mod NodeLaws
 pub mod PieceLaws
+mod PieceSums
+mod RunLaws
 pub mod ScanLaws
 mod UsedLaws
 mod Walk

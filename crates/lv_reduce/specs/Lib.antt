@@ -2,5 +2,6 @@ pub mod Answer
 pub mod Asked
 pub mod Cost
 pub mod Pieces
+pub mod Rows
 pub mod Running
 pub mod Stretch

@@ -1,18 +1,27 @@
--- The second pass of the parallel scans: the pieces of a slice, each with what stands before it.
-use Rattle.std.specs.Prelude.{ℕ, ℤ, ◌+◌, ◌^◌, ◌≤◌, Bool, List, [], ◌∷◌, length, flat_map, if◌then◌else◌}
-use Rattle.lv_bodies.specs.Body.{Operations}
-use Rattle.lv_reduce.specs.declared.parallel.passes.Part.{Part}
+-- Folds and scans that go on from a summary.
+use Rattle.std.specs.Prelude.{◌≡◌, ℕ, ℤ, ◌+◌, ◌*◌, ◌^◌, ◌<◌, ◌≤◌, Bool, List, [], ◌∷◌, fold, length, take, drop, slice_index_or, if◌then◌else◌}
+use Rattle.lv_bodies.specs.Body.{Operations, fold_of}
+
+-- the summary that a fold over a list reaches from another
+abbrev pub reached : {S : Type 0} → Operations S → S → List ℤ → S
+reached o s xs = fold (λ t x. o.join t (o.lift x)) s xs
 
 -- one of the two scans of a list, going on from a summary
 abbrev pub scan_from : {S : Type 0} → Bool → Operations S → S → List ℤ → List S
 scan_from inclusive o s [] = []
 scan_from inclusive o s (x ∷ xs) = (if inclusive then o.join s (o.lift x) else s) ∷ scan_from inclusive o (o.join s (o.lift x)) xs
 
--- the scans of pieces, each from what stands before it, side by side
-abbrev pub scans_of : {S : Type 0} → Bool → Operations S → List (Part S) → List S
-scans_of inclusive o parts = flat_map (λ p. scan_from inclusive o p.before p.cells.now) parts
+-- a summary may take so many elements more: it is within a number of elements that is few with them
+pub record CanGoOn {S : Type 0} (within : S → ℕ → Type 0) (s : S) (more : ℕ) : Type 0 where
+  pub count : ℕ
+  pub count_within : within s count
+  pub few : count + more ≤ 2 ^ 20
 
--- what stands before a piece is within the number of elements there, and they and the piece's are few enough
-pub record CanScan {S : Type 0} (within : S → ℕ → Type 0) (part : Part S) : Type 0 where
-  pub before_within : within part.before part.count
-  pub few : part.count + length part.cells.now ≤ 2 ^ 20
+-- the folds of the pieces of so many elements of a list
+abbrev pub AreOfPieces : {S : Type 0} → Operations S → ℕ → List ℤ → List S → Type 0
+AreOfPieces {S} o size xs folds = (n : ℕ) (d : S) → n < length folds → slice_index_or folds n d ≡ fold_of o (take size (drop (n * size) xs))
+
+-- for each piece of so many elements of a list the fold of all that stand before it
+pub record AreBefore {S : Type 0} (o : Operations S) (size : ℕ) (xs : List ℤ) (befores : List S) : Type 0 where
+  pub count : (n : ℕ) → n * size < length xs → n < length befores
+  pub folds : (n : ℕ) (d : S) → n < length befores → slice_index_or befores n d ≡ fold_of o (take (n * size) xs)

@@ -3,22 +3,27 @@ ghost use Rattle.lv_bodies.specs.Scan.{exclusive_scan, inclusive_scan};
 ghost use Rattle.lv_edits.specs.History.{list_of};
 ghost use Rattle.lv_reduce.specs.Answer.{IsScan, IsScanRefusal, IsTotal, scan_of, slice_of};
 
-mod passes;
+mod halves;
+mod rows;
+mod slices;
 
-use crate::scans::Scan;
+use crate::scans::{Scan, running_folds};
 use crate::stretches::Stretch;
 use crate::values::Values;
 use crate::views::{View, refusal_of};
+use halves::{fold_halved, halvings};
 use lv_bodies::Body;
 use lv_edits::Edits;
 use lv_geometry::Refusal;
-pub use passes::scan_alone;
-use passes::{fold_in_pieces, scan_in_pieces};
+use rows::Row;
+pub use slices::scan_alone;
+use slices::scan_slice;
 use std::alloc::{AllocError, Global};
 use std::thread::Threads;
 
-/// The fold of the elements from index `lo` up to `hi`, with the number of the last edit, by as many threads as there are
-/// processors. It copies the elements and reads no summary. Refused with `BadRange`, `OutOfRange`, then `NoMemory`.
+/// The fold of the elements from index `lo` up to `hi`, with the number of the last edit, by as many threads as pay, at most one
+/// for each processor. It folds the elements where they lie, and reads no summary. Refused with `BadRange`, `OutOfRange`, then
+/// `NoMemory`; it takes no memory of its own.
 pub fn par_reduce<R: Threads + Sync, B: Body>(
     rt: &R,
     alloc: Global,
@@ -33,16 +38,12 @@ pub fn par_reduce<R: Threads + Sync, B: Body>(
     if let Some(refusal) = refusal_of(view.cells, lo, hi) {
         return Err(refusal);
     }
-    let Ok(xs) = copy_range(alloc, view.cells, lo, hi) else {
-        return Err(Refusal::NoMemory);
-    };
-    let Ok(value) = fold_in_pieces(rt, alloc, body, xs.as_slice()) else {
-        return Err(Refusal::NoMemory);
-    };
+    let depth = halvings(rt, body, hi - lo);
+    let value = fold_halved(rt, Row::Cells(view.cells), body, lo, hi, depth);
     Ok((view.cells.edit(), value))
 }
 
-/// The scan that `scan_inclusive` makes, by as many threads as there are processors. Refused as that is.
+/// The scan that `scan_inclusive` makes, by as many threads as pay. Refused as that is.
 pub fn par_scan_inclusive<R: Threads + Sync, B: Body>(
     rt: &R,
     alloc: Global,
@@ -58,7 +59,7 @@ pub fn par_scan_inclusive<R: Threads + Sync, B: Body>(
     scan_range(rt, alloc, view, body, lo, hi, true)
 }
 
-/// The scan that `scan_exclusive` makes, by as many threads as there are processors. Refused as that is.
+/// The scan that `scan_exclusive` makes, by as many threads as pay. Refused as that is.
 pub fn par_scan_exclusive<R: Threads + Sync, B: Body>(
     rt: &R,
     alloc: Global,
@@ -74,7 +75,7 @@ pub fn par_scan_exclusive<R: Threads + Sync, B: Body>(
     scan_range(rt, alloc, view, body, lo, hi, false)
 }
 
-/// One of the two scans of a slice of at most 2^20 elements, by as many threads as there are processors. Refused with
+/// One of the two scans of a slice of at most 2^20 elements, by as many threads as pay. Refused with
 /// `NoMemory` alone.
 pub fn par_scan_slice<R: Threads + Sync, B: Body>(
     rt: &R,
@@ -87,7 +88,7 @@ pub fn par_scan_slice<R: Threads + Sync, B: Body>(
     ensures ok { IfOk result (λ values. values ≡ scan_of inclusive (B.operations (B.meaning body.now)) xs.now) }
     ensures err { IfErr result (λ refusal. refusal ≡ Refusal.NoMemory) }
 {
-    match scan_in_pieces(rt, alloc, body, xs, inclusive) {
+    match scan_slice(rt, alloc, body, xs, inclusive) {
         Ok(values) => Ok(Values::from_vec(values)),
         Err(AllocError) => Err(Refusal::NoMemory),
     }
@@ -100,13 +101,20 @@ pub fn copy_range(alloc: Global, cells: &Edits, lo: u32, hi: u32) -> Result<Vec<
     ensures { IfOk result (λ xs. xs.items ≡ slice_of cells.now.journal lo hi) }
 {
     let mut xs = Vec::with_capacity(alloc, (hi - lo) as usize)?;
-    for i in lo..hi {
-        xs.push_reserved(cells.read(i));
+    let mut at = lo;
+    while at < hi {
+        if at % 8 == 0 && hi - at >= 8 {
+            xs.extend_from_slice(&cells.block(at / 8))?;
+            at += 8;
+        } else {
+            xs.push_reserved(cells.read(at));
+            at += 1;
+        }
     }
     Ok(xs)
 }
 
-// One of the two scans of a range, on a copy of its elements.
+// One of the two scans of a range: where the elements lie, by one thread, or on a copy of them by as many threads as pay.
 fn scan_range<R: Threads + Sync, B: Body>(
     rt: &R,
     alloc: Global,
@@ -120,6 +128,9 @@ fn scan_range<R: Threads + Sync, B: Body>(
         (scan_of inclusive (B.operations (B.meaning body.now)) (slice_of view.entry.cells.now.journal lo hi)) scan) }
     ensures err { IfErr result (λ refusal. IsScanRefusal view.entry.cells.now.journal lo hi refusal) }
 {
+    if halvings(rt, body, hi.saturating_sub(lo)) == 0 {
+        return running_folds(alloc, view, body, lo, hi, inclusive);
+    }
     let stretch = Stretch::copy(alloc, view.cells, *body, lo, hi)?;
     stretch.scan(rt, alloc, inclusive)
 }

@@ -48,7 +48,7 @@ pub fn scan_exclusive<B: Body>(
 }
 
 // The folds of the beginnings of a range: each with the element at its end, or each without it.
-fn running_folds<B: Body>(
+pub fn running_folds<B: Body>(
     alloc: Global,
     view: View<'_, B::S>,
     body: &B,

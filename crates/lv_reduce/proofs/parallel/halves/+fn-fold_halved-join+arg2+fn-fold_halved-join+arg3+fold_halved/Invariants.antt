@@ -1,0 +1,11 @@
+use Rattle.std.proofs.Common.{◌+◌, ◌*◌}
+use Rattle.lv_reduce.proofs.parallel.halves.+fn-fold_halved-join+arg2+fn-fold_halved-join+arg3+fold_halved.Given as goal
+
+abbrev pub decreases-fold_halved : goal.decreases-fold_halved
+decreases-fold_halved g l = 2 * l.depth + 1
+
+abbrev pub decreases-join+arg2 : goal.decreases-join+arg2
+decreases-join+arg2 g l = 2 * l.depth
+
+abbrev pub decreases-join+arg3 : goal.decreases-join+arg3
+decreases-join+arg3 g l = 2 * l.depth

@@ -1,0 +1,16 @@
+use Rattle.std.proofs.Common.{◌≡◌, ◌-◌, ◌≤◌}
+use Rattle.lv_bodies.specs.Body.{fold_of}
+use Rattle.lv_reduce.specs.Answer.{slice_of}
+use Rattle.lv_reduce.proofs.parallel.rows.fold_cells.Given as goal
+
+-- the fold of what was read so far
+abbrev pub invariant-loop-at : goal.invariant-loop-at
+invariant-loop-at g l = record {
+  low : l.lo ≤ l.at;
+  high : l.at ≤ l.hi;
+  sum : l.sum ≡ fold_of (g.B.Body.operations (g.B.Body.meaning l.body)) (slice_of l.cells.journal l.lo l.at);
+}
+
+-- what is left
+abbrev pub decreases-loop-at : goal.decreases-loop-at
+decreases-loop-at g l = l.hi - l.at

@@ -1,0 +1,54 @@
+use Rattle.std.proofs.Common.{◌≡◌, ◌+◌, ◌*◌, ◌/◌, ◌%◌, ◌<◌, ◌++◌, ◌∷◌, [], min, length, map, take, drop, slice_index_or, sym, ap, ◌∙◌, arith}
+use Rattle.std.specs.List.{range_with_len}
+use Rattle.std.proofs.lemmas.List.FromFn.{map-range_with_len_more}
+use Rattle.lv_bodies.specs.Body.{fold_of}
+use Rattle.lv_reduce.proofs.PieceSums.{before_all, before_next, can_join_piece}
+use Rattle.lv_reduce.proofs.RunLaws.{pieces_cover}
+use Rattle.lv_reduce.proofs.parallel.slices.befores_of.Goals as goal
+
+pub join-before-requires-after_bounds : goal.join-before-requires-after_bounds
+join-before-requires-after_bounds g c κs within =
+    let meaning = g.B.Body.meaning c.args.body.now in
+    let o = g.B.Body.operations meaning in
+    let xs = c.args.xs.now in
+    let size = c.args.size in
+    let k = c.loop-fold.fold-index in
+    let same = c.as_slice-fold-items.ensures.value in
+    let inside : k < length c.in_ok-folds.folds.items = omega (arith, c.loop-fold-test.true, ap length same) in
+    let piece = c.fold-item.result in
+    let fold : piece ≡ fold_of o (take size (drop (k * size) xs)) =
+    c.fold-item.is ∙ ap (λ l. slice_index_or l k piece) same ∙ c.in_ok-folds.ensures.folds k piece inside in
+    can_join_piece o (g.B.Body.is_within meaning) (g.B.Body.laws c.args.body.now) xs c.in_ok-folds.ensures.can size k c.loop-fold.before piece c.loop-fold.invariant.before fold
+
+pub loop-fold-preserved : goal.loop-fold-preserved
+loop-fold-preserved g c =
+    let meaning = g.B.Body.meaning c.args.body.now in
+    let o = g.B.Body.operations meaning in
+    let xs = c.args.xs.now in
+    let size = c.args.size in
+    let k = c.loop-fold.fold-index in
+    let same = c.as_slice-fold-items.ensures.value in
+    let inside : k < length c.in_ok-folds.folds.items = omega (arith, c.loop-fold-test.true, ap length same) in
+    let piece = c.fold-item.result in
+    let fold : piece ≡ fold_of o (take size (drop (k * size) xs)) =
+    c.fold-item.is ∙ ap (λ l. slice_index_or l k piece) same ∙ c.in_ok-folds.ensures.folds k piece inside in
+    let kept = c.loop-fold.invariant in
+    record {
+      before = before_next o (g.B.Body.is_within meaning) (g.B.Body.laws c.args.body.now) xs c.in_ok-folds.ensures.can size k c.loop-fold.before piece c.join-before.result kept.before fold c.join-before.ensures.value;
+      befores =
+          c.push_reserved.ensures.items
+          ∙ ap (λ l. l ++ c.loop-fold.before ∷ []) kept.befores
+          ∙ ap (λ s. map (λ n. fold_of o (take (n * size) xs)) (range_with_len 0 k) ++ s ∷ []) kept.before
+          ∙ sym (map-range_with_len_more (λ n. fold_of o (take (n * size) xs)) 0 k k (omega arith));
+      pushed = omega (arith, c.push_reserved.ensures.len, kept.pushed);
+      room = omega (arith, c.push_reserved.ensures.capacity, kept.room);
+    }
+
+pub returns-clause-befores : goal.returns-clause-befores
+returns-clause-befores g c =
+    let o = g.B.Body.operations (g.B.Body.meaning c.args.body.now) in
+    let xs = c.args.xs.now in
+    let size = c.args.size in
+    let k = c.loop-fold.fold-index in
+    let all : k ≡ length xs / size + min 1 (length xs % size) = omega (arith, c.in_ok-folds.ensures.count, c.as_slice-fold-items.ensures.len, c.loop-fold-test.false) in
+    before_all o xs size k c.loop-fold.befores.items c.loop-fold.invariant.befores (pieces_cover (length xs) size k c.requires.size all)

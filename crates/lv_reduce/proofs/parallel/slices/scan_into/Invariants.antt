@@ -1,0 +1,16 @@
+use Rattle.std.proofs.Common.{◌≡◌, ◌+◌, ◌^◌, ◌≤◌, ℕ, length, take}
+use Rattle.lv_reduce.specs.Running.{reached, scan_from}
+use Rattle.lv_reduce.proofs.parallel.slices.scan_into.Given as goal
+
+-- the scan of the elements so far, and what they lead to, which may take the rest
+abbrev pub invariant-loop-k : goal.invariant-loop-k
+invariant-loop-k g l =
+    let meaning = g.B.Body.meaning l.body in
+    let o = g.B.Body.operations meaning in
+    let front = take l.k l.xs in
+    record {
+      sum : l.sum ≡ reached o l.fn.before front;
+      values : take l.k l.values ≡ scan_from l.inclusive o l.fn.before front;
+      can : (n : ℕ) × g.B.Body.is_within meaning l.sum (n + l.k) × (n + length l.xs ≤ 2 ^ 20);
+      len : length l.values ≡ length l.xs;
+    }

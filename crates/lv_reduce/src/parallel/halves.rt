@@ -1,0 +1,73 @@
+//! Folds and scans by several threads: a row is halved until each thread has a part, and each half is worked on by a thread of
+//! its own.
+ghost use Rattle.std.specs.Prelude.{◌≡◌, ◌+◌, ◌<◌, ◌≤◌, ◌^◌, ℕ, length};
+ghost use Rattle.std.specs.List.{slice_range};
+ghost use Rattle.std.specs.Thread.{IsSync, IsSend};
+ghost use Rattle.lv_bodies.specs.Body.{CanFold, fold_of};
+ghost use Rattle.lv_reduce.specs.Rows.{elements_in};
+
+use crate::parallel::rows::{Row, fold_range};
+use crate::reductions::join;
+use lv_bodies::Body;
+use rayon::current_num_threads;
+use std::mem::size_of_val;
+use std::thread;
+use std::thread::Threads;
+
+// How many bytes of summaries are worth threads: with each of the six kinds an element takes about a tenth of a nanosecond
+// for each byte of a summary, so these take one thread 100 microseconds.
+const LEAST_WORK: usize = 1 << 20;
+
+/// How often a row of so many elements is halved: not at all where it is too short for threads to pay, and else until there
+/// are as many parts as processors.
+pub fn halvings<R: Threads, B: Body>(rt: &R, body: &B, len: u32) -> u32
+    ensures { result < 64 }
+{
+    let size = size_of_val(&body.identity());
+    if size.saturating_mul(len as usize) < LEAST_WORK {
+        return 0;
+    }
+    current_num_threads(rt).ilog2()
+}
+
+/// The fold of the elements of a row from index `lo` up to `hi`, which is halved so often.
+pub fn fold_halved<R: Threads + Sync, B: Body>(
+    rt: &R,
+    row: Row<'_>,
+    body: &B,
+    lo: u32,
+    hi: u32,
+    depth: u32,
+) -> B::S
+    requires can { CanFold (elements_in row) }
+    requires order { lo ≤ hi }
+    requires inside { hi ≤ length (elements_in row) }
+    ensures { result ≡ fold_of (B.operations (B.meaning body.now)) (slice_range (elements_in row.entry) lo hi) }
+{
+    if depth == 0 {
+        return fold_range(row, body, lo, hi);
+    }
+    let mid = middle(lo, hi);
+    let (front, back) = thread::join(
+        rt,
+        || -> B::S
+            requires { IsSync R.row × IsSync B.row × (0 < depth) × CanFold (elements_in row) × (lo ≤ mid) × (mid ≤ length (elements_in row)) }
+            ensures { result ≡ fold_of (B.operations (B.meaning body.entry.now)) (slice_range (elements_in row.entry) lo mid) }
+        { fold_halved(rt, row, body, lo, mid, depth - 1) },
+        || -> B::S
+            requires { IsSync R.row × IsSync B.row × (0 < depth) × CanFold (elements_in row) × (mid ≤ hi) × (hi ≤ length (elements_in row)) }
+            ensures { result ≡ fold_of (B.operations (B.meaning body.entry.now)) (slice_range (elements_in row.entry) mid hi) }
+        { fold_halved(rt, row, body, mid, hi, depth - 1) },
+    );
+    join(body, front, back)
+}
+
+// About the middle of a range, where a block begins if one does in its first half.
+fn middle(lo: u32, hi: u32) -> u32
+    requires order { lo ≤ hi }
+    requires few { hi ≤ 2 ^ 20 }
+    ensures low { lo ≤ result }
+    ensures high { result ≤ hi }
+{
+    ((lo + hi) / 16 * 8).max(lo)
+}

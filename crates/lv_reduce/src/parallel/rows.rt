@@ -1,0 +1,66 @@
+//! Elements where they lie, and the left fold of a range of them by one thread.
+ghost use Rattle.std.specs.Prelude.{◌≡◌, ◌+◌, ◌≤◌, ◌^◌, ℕ, length};
+ghost use Rattle.std.specs.List.{slice_range};
+ghost use Rattle.lv_bodies.specs.Body.{CanFold, fold_of};
+ghost use Rattle.lv_edits.specs.History.{list_of};
+ghost use Rattle.lv_reduce.specs.Answer.{slice_of};
+ghost use Rattle.lv_reduce.specs.Running.{CanGoOn, reached};
+ghost use Rattle.lv_reduce.specs.Rows.{elements_in};
+
+use lv_bodies::{Body, fold_more, fold_slice};
+use lv_edits::Edits;
+
+/// Elements in a row: those of a vector, or of a slice.
+#[derive(Clone, Copy)]
+pub enum Row<'a> {
+    Cells(&'a Edits),
+    Slice(&'a [i64]),
+}
+
+/// The fold of the elements of a row from index `lo` up to `hi`.
+pub fn fold_range<B: Body>(row: Row<'_>, body: &B, lo: u32, hi: u32) -> B::S
+    requires can { CanFold (elements_in row) }
+    requires order { lo ≤ hi }
+    requires inside { hi ≤ length (elements_in row) }
+    ensures { result ≡ fold_of (B.operations (B.meaning body.now)) (slice_range (elements_in row.entry) lo hi) }
+{
+    match row {
+        Row::Cells(cells) => fold_cells(cells, body, lo, hi),
+        Row::Slice(xs) => fold_slice(body, &xs[lo as usize..hi as usize]),
+    }
+}
+
+// The fold of a range of a vector, block by block, and cell by cell where it begins or ends inside a block.
+fn fold_cells<B: Body>(cells: &Edits, body: &B, lo: u32, hi: u32) -> B::S
+    requires can { CanFold (list_of cells.now.journal) }
+    requires order { lo ≤ hi }
+    requires inside { hi ≤ length (list_of cells.now.journal) }
+    ensures { result ≡ fold_of (B.operations (B.meaning body.now)) (slice_of cells.now.journal lo hi) }
+{
+    let mut sum = body.identity();
+    let mut at = lo;
+    while at < hi {
+        if at % 8 == 0 && hi - at >= 8 {
+            let block = cells.block(at / 8);
+            sum = fold_on(body, sum, &block);
+            at += 8;
+        } else {
+            sum = fold_more(body, sum, cells.read(at));
+            at += 1;
+        }
+    }
+    sum
+}
+
+// A fold that goes on over the elements of a slice.
+#[inline(always)]
+fn fold_on<B: Body>(body: &B, before: B::S, xs: &[i64]) -> B::S
+    requires { CanGoOn (B.is_within (B.meaning body.now)) before (length xs.now) }
+    ensures { result ≡ reached (B.operations (B.meaning body.now)) before xs.now }
+{
+    let mut sum = before;
+    for x in xs {
+        sum = fold_more(body, sum, *x);
+    }
+    sum
+}
