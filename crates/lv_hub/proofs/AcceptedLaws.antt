@@ -7,7 +7,7 @@ use Rattle.lv_geometry.specs.Cells.{capacity_of}
 use Rattle.lv_geometry.specs.declared.refusals.Refusal.{Refusal}
 use Rattle.lv_geometry.proofs.Capacities.{capacity_of_most}
 use Rattle.lv_edits.specs.declared.edit.Edit.{Edit}
-use Rattle.lv_edits.specs.declared.edit.Edit.TheVariants.{Push, Pop, Write, Reserve}
+use Rattle.lv_edits.specs.declared.edit.Edit.TheVariants.{Push, Pop, Write, Reserve, Swap, Truncate}
 use Rattle.lv_edits.specs.declared.receipt.Receipt.{Receipt}
 use Rattle.lv_edits.specs.History.{History, list_of}
 use Rattle.lv_edits.specs.Kept.{InLimits}
@@ -24,6 +24,8 @@ refused_by_greatest limits xs Pop few fits free = free
 refused_by_greatest limits xs (Write i x) few fits free = free
 refused_by_greatest limits xs (Reserve n) few fits free =
     cond-false _ _ _ (le-ltb (capacity_of 17) n (omega (arith, capacity_of_most limits.buckets few, unrefused_reserve limits xs n free)))
+refused_by_greatest limits xs (Swap i j) few fits free = free
+refused_by_greatest limits xs (Truncate n) few fits free = free
 
 -- an edit that a vector accepts is accepted within the greatest limits
 verdict_by_greatest : (h : History) (e : Edit) → InLimits h → verdict_of h.limits h.journal e ≡ None → verdict_of greatest h.journal e ≡ None

@@ -20,6 +20,8 @@ use Rattle.lv_edits.specs.History.{list_of}
 use Rattle.lv_edits.specs.Kept.{InLimits}
 use Rattle.lv_reduce.specs.declared.reductions.Answer.{Answer}
 use Rattle.lv_reduce.specs.Answer.{IsAnswer, range_refusal, slice_of}
+use Rattle.lv_script.specs.declared.command.Command.{Command}
+use Rattle.lv_script.specs.declared.command.Command.TheVariants as commands
 use Rattle.lv_script.specs.declared.command.Line.{Line}
 use Rattle.lv_script.specs.declared.command.Line.TheVariants.{Nothing, Bad, Do}
 use Rattle.lv_script.specs.declared.fault.Fault.{Fault}
@@ -28,9 +30,7 @@ use Rattle.lv_script.specs.declared.transcripts.Claimed.{Claimed}
 use Rattle.lv_script.specs.Grammar.{line_of}
 use Rattle.lv_script.specs.Replies.{Answered, Conversed}
 use Rattle.lv_script.specs.Transcript.{IsTrueClaim}
-use Rattle.lv_hub.specs.declared.requests.Request.{Request}
-use Rattle.lv_hub.specs.declared.requests.Request.TheVariants as request
-use Rattle.lv_hub.specs.Session.{LineAnswer, RequestAnswer, SessionState, SessionStep, Lists, after_edit, claim_of, requested, up_to}
+use Rattle.lv_hub.specs.Session.{CommandAnswer, LineAnswer, SessionState, SessionStep, Lists, after_edit, claim_of, up_to}
 use Rattle.lv_hub.specs.Told.{EditTold, ReductionTold, history_of}
 use Rattle.lv_hub.proofs.PrefixLaws.{prefix_length, prefix_self, prefix_trans}
 
@@ -133,19 +133,19 @@ module _ (m : SixMeaning) (limits : Bounds) where
       ]
   reduction_keeps old new kind lo hi text (Err refusal) told lists = keeps_by_more old new told.seen (ap (λ s. s.claims) lists.1)
 
-  -- a request
-  request_keeps : (old new : SessionState) (n : ℕ) (asked : Request) (text : List ℕ) → RequestAnswer (six_operations m) limits old n asked text new → Keeps m old new
-  request_keeps old new n (request.Edited e) text a =
+  -- a command
+  command_keeps : (old new : SessionState) (n : ℕ) (command : Command) (text : List ℕ) → CommandAnswer (six_operations m) limits old n command text new → Keeps m old new
+  command_keeps old new n (commands.Edit e) text a =
       keeps_by_more old new (edit_grows limits old.seen new.seen e a.result a.told) (ap (λ s. s.claims) a.state ∙ edit_lists_nothing (up_to old new.seen) a.result)
-  request_keeps old new n (request.Reduced kind lo hi) text a = reduction_keeps old new kind lo hi text a.result a.told a.lists
-  request_keeps old new n (request.Scanned inclusive kind lo hi) text a = keeps_by_more old new a.told.seen (ap (λ s. s.claims) a.state)
-  request_keeps old new n request.Unknown text a = keeps_same old new a.1
+  command_keeps old new n (commands.Reduce kind lo hi) text a = reduction_keeps old new kind lo hi text a.result a.told a.lists
+  command_keeps old new n (commands.Scan inclusive kind lo hi) text a = keeps_by_more old new a.told.seen (ap (λ s. s.claims) a.state)
+  command_keeps old new n _ text a = keeps_same old new a.1
 
   -- a line
   line_keeps : (old new : SessionState) (n : ℕ) (line : Line) (text : List ℕ) → LineAnswer (six_operations m) limits old n line text new → Keeps m old new
   line_keeps old new n Nothing text a = keeps_same old new a.1
   line_keeps old new n Bad text a = keeps_same old new a.1
-  line_keeps old new n (Do command) text a = request_keeps old new n (requested command) text a
+  line_keeps old new n (Do command) text a = command_keeps old new n command text a
 
   step_keeps : (old new : SessionState) (n : ℕ) (line text : List ℕ) → SessionStep (six_operations m) limits old n line text new → Keeps m old new
   unfolding SessionStep

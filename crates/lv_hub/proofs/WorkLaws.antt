@@ -12,13 +12,13 @@ use Rattle.lv_geometry.specs.declared.nodes.Node.{Node}
 use Rattle.lv_geometry.specs.declared.refusals.Refusal.{Refusal}
 use Rattle.lv_geometry.proofs.NodeLaws.{some_width}
 use Rattle.lv_edits.specs.declared.edit.Edit.{Edit}
-use Rattle.lv_edits.specs.declared.edit.Edit.TheVariants.{Push, Pop, Write, Reserve}
+use Rattle.lv_edits.specs.declared.edit.Edit.TheVariants.{Push, Pop, Write, Reserve, Swap, Truncate}
 use Rattle.lv_edits.specs.declared.receipt.Receipt.{Receipt}
 use Rattle.lv_edits.specs.History.{applied, list_of, replayed}
 use Rattle.lv_edits.specs.Touch.{is_whole, touches}
 use Rattle.lv_edits.specs.Verdict.{Answers, receipt_of}
 use Rattle.lv_edits.proofs.HistoryLaws.{accepted_is_possible, list_of-snoc}
-use Rattle.lv_edits.proofs.TouchLaws.{whole_below}
+use Rattle.lv_edits.proofs.TouchLaws.{touches_there, whole_below}
 use Rattle.lv_refresh.specs.Claim.{wants_job}
 use Rattle.lv_refresh.specs.Record.{Record, SameRecord}
 use Rattle.lv_refresh.proofs.WantLaws.{wants_before_edit, wants_job-same, wants_parts}
@@ -43,11 +43,13 @@ touches_none_whole es (Push x) ys n legal possible no_work whole =
           let node : 1 ≤ n.level = leb-true 1 n.level (and_parts _ _ (and_parts _ _ whole).0).0 in
           let last : length (list_of es) % 8 ≡ 7 = ends_a_block (length (list_of es)) n.level (n.level - 1) n.number (omega arith) (eqb-true _ _ covered) (omega (arith, long, whole_below (es ++ Push x ∷ []) n whole)) in
           absurd (true≢false (sym (eq-eqb _ _ last) ∙ no_work))
-      | inr apart ↦ apart
+      | inr apart ↦ touches_there (list_of es) (Push x) n (length (list_of es)) refl ∙ apart
     ]
 touches_none_whole es Pop ys n legal possible no_work whole = refl
 touches_none_whole es (Write i x) ys n legal possible no_work whole = absurd (true≢false no_work)
 touches_none_whole es (Reserve k) ys n legal possible no_work whole = refl
+touches_none_whole es (Swap i j) ys n legal possible no_work whole = absurd (true≢false no_work)
+touches_none_whole es (Truncate k) ys n legal possible no_work whole = refl
 
 -- no node wants a job where there is no block
 pub nothing_without_a_block : (r : Record) (n : Node) → length (list_of r.edits) < 8 → wants_job r n ≡ false

@@ -1,5 +1,5 @@
 -- What each line of a session is answered, and what it leaves: how many edits are counted, and which reductions were answered.
-use Rattle.std.specs.Prelude.{◌≡◌, ◌⊎◌, ℕ, ◌+◌, Bool, true, false, Result, Ok, Err, List, [], ◌∷◌, ◌++◌, map, filter, nat_eq}
+use Rattle.std.specs.Prelude.{◌≡◌, ◌⊎◌, ℕ, ◌+◌, Bool, Result, Ok, Err, List, [], ◌∷◌, ◌++◌, map, filter, nat_eq}
 use Rattle.lv_geometry.specs.Bounds.{Bounds}
 use Rattle.lv_geometry.specs.declared.refusals.Refusal.{Refusal}
 use Rattle.lv_geometry.specs.declared.refusals.Refusal.TheVariants.{NoMemory}
@@ -8,20 +8,17 @@ use Rattle.lv_bodies.specs.declared.sixes.Six.{Six}
 use Rattle.lv_bodies.specs.Body.{Operations}
 use Rattle.lv_bodies.specs.Six.{SixSummary, face_of, meaning_of_six, six_operations}
 use Rattle.lv_edits.specs.declared.edit.Edit.{Edit}
-use Rattle.lv_edits.specs.declared.edit.Edit.TheVariants as edit
 use Rattle.lv_edits.specs.declared.receipt.Receipt.{Receipt}
 use Rattle.lv_reduce.specs.declared.reductions.Answer.{Answer}
 use Rattle.lv_reduce.specs.declared.scans.Scan.{Scan}
 use Rattle.lv_script.specs.declared.command.Command.{Command}
-use Rattle.lv_script.specs.declared.command.Command.TheVariants as command
+use Rattle.lv_script.specs.declared.command.Command.TheVariants as commands
 use Rattle.lv_script.specs.declared.command.Line.{Line}
 use Rattle.lv_script.specs.declared.command.Line.TheVariants.{Nothing, Bad, Do}
 use Rattle.lv_script.specs.declared.transcripts.Claimed.{Claimed}
 use Rattle.lv_script.specs.Grammar.{line_of}
 use Rattle.lv_script.specs.Script.{edit_text}
 use Rattle.lv_script.specs.Texts.{answer_text, bad_text, refused_text, scan_text}
-use Rattle.lv_hub.specs.declared.requests.Request.{Request}
-use Rattle.lv_hub.specs.declared.requests.Request.TheVariants as request
 use Rattle.lv_hub.specs.Counting.{Holding}
 use Rattle.lv_hub.specs.Told.{EditTold, ReductionTold, ScanTold}
 
@@ -39,27 +36,6 @@ session_at share claims = record { count = share.count; seen = share.seen; claim
 -- what a body of all six computes
 abbrev pub operations_of_six : Six → Operations SixSummary
 operations_of_six six = six_operations (meaning_of_six six)
-
--- what a command asks of a hub: an edit, a reduction or a scan; sessions know no other
-abbrev pub requested : Command → Request
-requested (command.Push x) = request.Edited (edit.Push x)
-requested command.Pop = request.Edited edit.Pop
-requested (command.Write i x) = request.Edited (edit.Write i x)
-requested (command.Reserve cells) = request.Edited (edit.Reserve cells)
-requested command.Settle = request.Unknown
-requested (command.Get i) = request.Unknown
-requested command.Size = request.Unknown
-requested command.Capacity = request.Unknown
-requested (command.Reduce kind lo hi) = request.Reduced kind lo hi
-requested (command.Cost lo hi) = request.Unknown
-requested (command.Inclusive kind lo hi) = request.Scanned true kind lo hi
-requested (command.Exclusive kind lo hi) = request.Scanned false kind lo hi
-requested command.Claim = request.Unknown
-requested (command.Deliver k) = request.Unknown
-requested command.Forget = request.Unknown
-requested (command.Watch name kind lo hi) = request.Unknown
-requested (command.Unwatch name) = request.Unknown
-requested (command.Answer name) = request.Unknown
 
 -- the state once the hub's edits were seen up to these
 abbrev pub up_to : SessionState → List Edit → SessionState
@@ -115,18 +91,18 @@ module _ (o : Operations SixSummary) (limits : Bounds) where
     pub text_is : text ≡ scan_reply_text inclusive kind result
     pub state : new ≡ up_to old new.seen
 
-  -- what a request is answered; a line that asks for anything else is bad, by its number
-  abbrev pub RequestAnswer : SessionState → ℕ → Request → List ℕ → SessionState → Type 0
-  RequestAnswer old n (request.Edited e) text new = TellsEdit old e text new
-  RequestAnswer old n (request.Reduced kind lo hi) text new = TellsReduction old kind lo hi text new
-  RequestAnswer old n (request.Scanned inclusive kind lo hi) text new = TellsScan old inclusive kind lo hi text new
-  RequestAnswer old n request.Unknown text new = (text ≡ bad_text n) × (new ≡ old)
+  -- what a command is answered: sessions know edits, reductions and scans, and any other is bad, by the line's number
+  abbrev pub CommandAnswer : SessionState → ℕ → Command → List ℕ → SessionState → Type 0
+  CommandAnswer old n (commands.Edit e) text new = TellsEdit old e text new
+  CommandAnswer old n (commands.Reduce kind lo hi) text new = TellsReduction old kind lo hi text new
+  CommandAnswer old n (commands.Scan inclusive kind lo hi) text new = TellsScan old inclusive kind lo hi text new
+  CommandAnswer old n _ text new = (text ≡ bad_text n) × (new ≡ old)
 
   -- what a line is answered
   abbrev pub LineAnswer : SessionState → ℕ → Line → List ℕ → SessionState → Type 0
   LineAnswer old n Nothing text new = (text ≡ []) × (new ≡ old)
   LineAnswer old n Bad text new = (text ≡ bad_text n) × (new ≡ old)
-  LineAnswer old n (Do c) text new = RequestAnswer old n (requested c) text new
+  LineAnswer old n (Do command) text new = CommandAnswer old n command text new
 
   -- one line of a session, by its bytes and its number: its reply, and what it leaves
   unfoldable pub SessionStep : SessionState → ℕ → List ℕ → List ℕ → SessionState → Type 0

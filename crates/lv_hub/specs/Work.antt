@@ -4,7 +4,7 @@ use Rattle.lv_geometry.specs.declared.refusals.Refusal.{Refusal}
 use Rattle.lv_summary.specs.declared.accepted.Accepted.{Accepted}
 use Rattle.lv_summary.specs.declared.accepted.Accepted.TheVariants.{Held, Installed, Stale}
 use Rattle.lv_edits.specs.declared.receipt.Receipt.{Receipt}
-use Rattle.lv_edits.specs.declared.receipt.Receipt.TheVariants.{Pushed, Popped, Written, Reserved}
+use Rattle.lv_edits.specs.declared.receipt.Receipt.TheVariants.{Pushed, Popped, Written, Reserved, Swapped, Truncated}
 use Rattle.lv_hub.specs.declared.workers.Worked.{Worked}
 
 -- what a worker did, with one outcome more
@@ -14,12 +14,14 @@ noted w (Ok Held) = record w { held = w.held + 1 }
 noted w (Ok (Stale now)) = record w { stale = w.stale + 1 }
 noted w (Err refusal) = record w { strangers = w.strangers + 1 }
 
--- an edit may have made a node want a job: it wrote over an element, or pushed the last one of a block
+-- an edit may have made a node want a job: it wrote over an element, or swapped two, or pushed the last one of a block
 abbrev pub makes_work : Result Receipt Refusal → Bool
 makes_work (Ok (Pushed edit index)) = nat_eq (index % 8) 7
 makes_work (Ok (Popped edit value)) = false
 makes_work (Ok (Written edit before)) = true
 makes_work (Ok (Reserved edit capacity)) = false
+makes_work (Ok (Swapped edit first second)) = true
+makes_work (Ok (Truncated edit dropped)) = false
 makes_work (Err refusal) = false
 
 -- how many workers count as asleep, once one of them was woken or none

@@ -18,7 +18,6 @@ mod hubs;
 mod logged;
 mod naming;
 mod replying;
-mod requests;
 mod rooms;
 mod sessions;
 mod shares;

@@ -2,17 +2,16 @@ ghost use Rattle.std.specs.Prelude.{◌≡◌, ◌+◌, ◌≤◌, ◌++◌, ℕ
 ghost use Rattle.lv_script.specs.declared.transcripts.Claimed.{Claimed};
 ghost use Rattle.lv_script.specs.Output.{Writes, WritesFront};
 ghost use Rattle.lv_hub.specs.Counting.{having_seen};
-ghost use Rattle.lv_hub.specs.Session.{LineAnswer, RequestAnswer, TellsEdit, TellsReduction, TellsScan, operations_of_six, session_at};
+ghost use Rattle.lv_hub.specs.Session.{CommandAnswer, LineAnswer, TellsEdit, TellsReduction, TellsScan, operations_of_six, session_at};
 
 use crate::hubs::Hub;
 use crate::naming::Means;
-use crate::requests::{Request, request_of};
 use crate::shares::Share;
 use lv_bodies::{Kind, Six, face};
 use lv_edits::Edit;
 use lv_geometry::Refusal;
 use lv_script::{
-    Claimed, Fault, LINE, Line, put_answer, put_bad, put_receipt, put_refusal, put_scan,
+    Claimed, Command, Fault, LINE, Line, put_answer, put_bad, put_receipt, put_refusal, put_scan,
 };
 use std::alloc::Global;
 use std::io::Write;
@@ -45,23 +44,14 @@ pub fn answer_line<N: Means<Six>, T: Wait, W: Write>(
         Line::Nothing => {}
         Line::Bad => put_bad(held, number),
         Line::Do(command) => {
-            return answer(
-                rt,
-                alloc,
-                hub,
-                share,
-                claims,
-                number,
-                request_of(command),
-                writer,
-                held,
-            );
+            return answer(rt, alloc, hub, share, claims, number, command, writer, held);
         }
     }
     Ok(())
 }
 
-// Answers a request. Only the reply to a scan may be longer than what is held.
+// Answers a command, which is bad unless it is an edit, a reduction or a scan. Only the reply to a scan may be longer than
+// what is held.
 fn answer<N: Means<Six>, T: Wait, W: Write>(
     rt: &T,
     alloc: Global,
@@ -69,33 +59,33 @@ fn answer<N: Means<Six>, T: Wait, W: Write>(
     share: &mut Share<N>,
     claims: &mut Vec<Claimed>,
     number: u32,
-    request: Request,
+    command: Command,
     writer: &mut W,
     held: &mut Vec<u8>,
 ) -> Result<(), Fault>
     requires { vec_len held.old + LINE ≤ vec_capacity held.old }
     ensures ok { OnOk result ((reply : List ℕ)
-        × RequestAnswer (operations_of_six hub.now) N.limits (session_at share.old claims.old.items) number request reply (session_at share.new claims.new.items)
+        × CommandAnswer (operations_of_six hub.now) N.limits (session_at share.old claims.old.items) number command reply (session_at share.new claims.new.items)
         × Writes (W.contents writer.old) held.old.items (W.contents writer.new) held.new.items reply) }
     ensures fault { IfErr result (λ fault. (fault ≡ Fault.WriteFault) × (reply : List ℕ)
-        × RequestAnswer (operations_of_six hub.now) N.limits (session_at share.old claims.old.items) number request reply (session_at share.new claims.new.items)
+        × CommandAnswer (operations_of_six hub.now) N.limits (session_at share.old claims.old.items) number command reply (session_at share.new claims.new.items)
         × WritesFront (W.contents writer.old) held.old.items (W.contents writer.new) reply) }
     ensures parts { share.new.parts ≡ share.old.parts }
     ensures more { share.old.count ≤ share.new.count }
     ensures room { vec_capacity held.old ≤ vec_capacity held.new }
 {
-    match request {
-        Request::Edited(edit) => put_edit(rt, hub, share, edit, held),
-        Request::Reduced { kind, lo, hi } => put_reduction(
+    match command {
+        Command::Edit(edit) => put_edit(rt, hub, share, edit, held),
+        Command::Reduce { kind, lo, hi } => put_reduction(
             rt, hub, share, claims, kind, lo, hi, held,
         ),
-        Request::Scanned {
+        Command::Scan {
             inclusive,
             kind,
             lo,
             hi,
         } => return put_scanned(rt, alloc, hub, share, inclusive, kind, lo, hi, writer, held),
-        Request::Unknown => put_bad(held, number),
+        _ => put_bad(held, number),
     }
     Ok(())
 }

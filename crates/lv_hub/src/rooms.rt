@@ -122,12 +122,13 @@ impl<B: Body, N: Means<B>> Room<B, N> {
     }
 }
 
-// Whether an edit may have made a node want a job: it wrote over an element, or pushed the last one of a block.
+// Whether an edit may have made a node want a job: it wrote over an element, or swapped two, or pushed the last one of a block.
 fn makes_work(answer: Result<Receipt, Refusal>) -> bool
     ensures { result ≡ makes_work answer }
 {
     match answer {
         Ok(Receipt::Written { .. }) => true,
+        Ok(Receipt::Swapped { .. }) => true,
         Ok(Receipt::Pushed { index, .. }) => index % 8 == 7,
         _ => false,
     }

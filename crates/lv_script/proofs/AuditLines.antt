@@ -1,26 +1,27 @@
 -- What becomes of a line in an audit.
-use Rattle.std.proofs.Common.{◌≡◌, ◌≢◌, ◌⊎◌, ℕ, ◌≤◌, List, [], ◌∷◌, ◌++◌, length, get_or, take, drop, slice_range, refl, sym, ap, ◌∙◌, subst, inl, inr}
+use Rattle.std.proofs.Common.{◌≡◌, ◌≢◌, ◌⊎◌, ℕ, ◌<◌, ◌≤◌, List, [], ◌∷◌, ◌++◌, length, get_or, take, drop, slice_range, refl, sym, ap, ◌∙◌, subst, inl, inr, arith}
 use Rattle.std.proofs.lemmas.Bool.{eqb-false}
 use Rattle.std.proofs.lemmas.Option.{same_Some}
 use Rattle.std.proofs.Math.Seq.{drop-append_seam}
 use Rattle.lv_bodies.specs.Plain.{plain_value}
 use Rattle.lv_edits.specs.declared.edit.Edit.{Edit}
-use Rattle.lv_edits.specs.declared.edit.Edit.TheVariants.{Push, Pop, Write, Reserve}
 use Rattle.lv_edits.specs.History.{list_of}
 use Rattle.lv_edits.specs.Verdict.{verdict_of}
 use Rattle.lv_script.specs.declared.auditor.Stage.{Stage}
 use Rattle.lv_script.specs.declared.auditor.Stage.TheVariants.{Start, Edits, Claims, End, No, Bad, NoMemory}
 use Rattle.lv_script.specs.declared.transcript_lines.Question.{Question}
+use Rattle.lv_script.specs.declared.command.Command.TheVariants as command
+use Rattle.lv_script.specs.declared.command.Line.TheVariants.{Do}
 use Rattle.lv_script.specs.Texts.{shown_text}
 use Rattle.lv_script.specs.Transcript.{edit_line, greatest, end_line, IsEdit}
-use Rattle.lv_script.specs.Auditing.{AuditState, ClaimBecomes, EditBecomes, Becomes, IsAnswered, IsQuestion, MayEnd, Takes, TakesClaim, TakesEdit, TakesLater, edit_asked, question_of, text_of}
-use Rattle.lv_script.proofs.ReadTranscripts.{command_for, edit_asked-command_for, line_of-edit_line, question_in-text_of}
+use Rattle.lv_script.specs.Auditing.{AuditState, ClaimBecomes, EditBecomes, Becomes, IsAnswered, IsQuestion, MayEnd, Takes, TakesClaim, TakesEdit, TakesLater, question_of, text_of}
+use Rattle.lv_script.proofs.ReadTranscripts.{line_of-edit_line, question_in-text_of}
 
 -- what follows where the lines that may be taken are the same
-pub Becomes-same : (P Q : AuditState → Type 0) (new : AuditState) → ((next : AuditState) → P next → Q next) → ((next : AuditState) → Q next → P next) → Becomes P new → Becomes Q new
-Becomes-same P Q new to back (inl taken) = inl (to new taken)
-Becomes-same P Q new to back (inr (inl found)) = inr (inl (found.0, λ next taken. found.1 next (back next taken)))
-Becomes-same P Q new to back (inr (inr none)) = inr (inr none)
+pub Becomes-same : (n : ℕ) (line : List ℕ) (P Q : AuditState → Type 0) (new : AuditState) → ((next : AuditState) → P next → Q next) → ((next : AuditState) → Q next → P next) → Becomes n line P new → Becomes n line Q new
+Becomes-same n line P Q new to back (inl taken) = inl (to new taken)
+Becomes-same n line P Q new to back (inr (inl found)) = inr (inl (found.0, λ next taken. found.1 next (back next taken)))
+Becomes-same n line P Q new to back (inr (inr none)) = inr (inr none)
 
 -- ---- edits
 
@@ -29,8 +30,8 @@ pub edit_line-injective : (line : List ℕ) (e f : Edit) → IsEdit e → IsEdit
 edit_line-injective line e f p q first second =
     let one = line_of-edit_line line (drop 2 line) e p refl first in
     let two = line_of-edit_line line (drop 2 line) f q refl second in
-    let same : command_for e ≡ command_for f = cc (one, two) in
-    same_Some e f (sym (edit_asked-command_for e) ∙ ap edit_asked same ∙ edit_asked-command_for f)
+    let same : Do (command.Edit e) ≡ Do (command.Edit f) = sym one ∙ two in
+    cc same
 
 -- the first byte of a line
 abbrev first_byte : List ℕ → ℕ
@@ -38,10 +39,7 @@ first_byte line = get_or line 0 0
 
 -- it begins with a `j`
 begins_with_j : (e : Edit) → first_byte (edit_line e) ≡ 106
-begins_with_j (Push x) = refl
-begins_with_j Pop = refl
-begins_with_j (Write i x) = refl
-begins_with_j (Reserve n) = refl
+begins_with_j e = refl
 
 -- so it is no line that comes after the edits
 pub no_edit_later : (old next : AuditState) (line : List ℕ) (e : Edit) → line ≡ edit_line e → TakesLater old line next → ⊥
@@ -49,10 +47,10 @@ no_edit_later old next line e is (inl t) = eqb-false 106 97 refl (sym (begins_wi
 no_edit_later old next line e is (inr t) = eqb-false 106 101 refl (sym (begins_with_j e) ∙ ap first_byte (sym is ∙ t.text))
 
 -- what became of an edit is what became of its line
-pub Becomes-edit : (old : AuditState) (line : List ℕ) (e : Edit) (stage : Stage) (journal : List Edit) → old.stage ≡ Edits → IsEdit e → line ≡ edit_line e
-    → EditBecomes old.journal e stage journal
-    → Becomes (λ new. TakesEdit old line new ⊎ TakesLater old line new) record old { stage = stage; journal = journal }
-Becomes-edit old line e Edits journal at fits is ends =
+pub Becomes-edit : (number : ℕ) (old : AuditState) (line : List ℕ) (e : Edit) (stage : Stage) (journal : List Edit) → old.stage ≡ Edits → IsEdit e → line ≡ edit_line e
+    → EditBecomes number old.journal e stage journal
+    → Becomes number line (λ new. TakesEdit old line new ⊎ TakesLater old line new) record old { stage = stage; journal = journal }
+Becomes-edit number old line e Edits journal at fits is ends =
     inl (inl record {
       edit = e;
       at = at;
@@ -61,19 +59,19 @@ Becomes-edit old line e Edits journal at fits is ends =
       verdict = ends.0;
       next = ap (λ (js : List Edit). record old { stage = Edits; journal = js }) ends.1 ∙ ap (λ (s : Stage). record old { stage = s; journal = old.journal ++ e ∷ [] }) (sym at);
     })
-Becomes-edit old line e (No n) journal at fits is ends =
+Becomes-edit number old line e (No n) journal at fits is ends =
     inr (inl (
-      refl,
+      (ends.0, inl (e, fits, is)),
       λ next taken. elim taken [
-        | inl t ↦ ends (ap (verdict_of greatest old.journal) (edit_line-injective line e t.edit fits t.fits is t.text) ∙ t.verdict)
+        | inl t ↦ ends.1 (ap (verdict_of greatest old.journal) (edit_line-injective line e t.edit fits t.fits is t.text) ∙ t.verdict)
         | inr later ↦ no_edit_later old next line e is later
       ],
     ))
-Becomes-edit old line e NoMemory journal at fits is ends = inr (inr refl)
-Becomes-edit old line e Start journal at fits is ends = absurd ends
-Becomes-edit old line e Claims journal at fits is ends = absurd ends
-Becomes-edit old line e End journal at fits is ends = absurd ends
-Becomes-edit old line e (Bad n) journal at fits is ends = absurd ends
+Becomes-edit number old line e NoMemory journal at fits is ends = inr (inr refl)
+Becomes-edit number old line e Start journal at fits is ends = absurd ends
+Becomes-edit number old line e Claims journal at fits is ends = absurd ends
+Becomes-edit number old line e End journal at fits is ends = absurd ends
+Becomes-edit number old line e (Bad n) journal at fits is ends = absurd ends
 
 -- ---- claims
 
@@ -110,10 +108,14 @@ not_taken : (old next : AuditState) (line value : List ℕ) (q : Question) → I
 not_taken old next line value q fits is wrong (inl t) = wrong (taken_is_answered old next line value q fits is t)
 not_taken old next line value q fits is wrong (inr t) = not_last q value line is t.text
 
+-- what comes before is not what comes after or at once
+disordered : (last edit : ℕ) → edit < last → last ≤ edit → ⊥
+disordered last edit before after = absurd (omega arith)
+
 -- what became of a claim is what became of its line
-pub Becomes-claim : (old : AuditState) (line value : List ℕ) (q : Question) (stage : Stage) (reached : ℕ) → MayEnd old.stage → IsQuestion q → line ≡ text_of q ++ value
-    → ClaimBecomes old.journal old.last q value stage reached → Becomes (TakesLater old line) record old { stage = stage; last = reached }
-Becomes-claim old line value q Claims reached at fits is ends =
+pub Becomes-claim : (number : ℕ) (old : AuditState) (line value : List ℕ) (q : Question) (stage : Stage) (reached : ℕ) → MayEnd old.stage → IsQuestion q → line ≡ text_of q ++ value
+    → ClaimBecomes number old.journal old.last q value stage reached → Becomes number line (TakesLater old line) record old { stage = stage; last = reached }
+Becomes-claim number old line value q Claims reached at fits is ends =
     let answer = ends.0.answer in
     inl (inl record {
       claim = record { edit = q.edit; kind = q.kind; lo = q.lo; hi = q.hi; value = plain_value q.kind (slice_range (list_of (take q.edit old.journal)) q.lo q.hi) };
@@ -124,12 +126,14 @@ Becomes-claim old line value q Claims reached at fits is ends =
       holds = record { edit = ends.0.edit; range = answer.range; end = answer.end; value = refl };
       next = ap (λ (n : ℕ). record old { stage = Claims; last = n }) ends.1;
     })
-Becomes-claim old line value q (No n) reached at fits is ends = inr (inl (refl, λ next taken. not_taken old next line value q fits is ends taken))
-Becomes-claim old line value q (Bad n) reached at fits is ends = inr (inl (refl, λ next taken. not_taken old next line value q fits is ends taken))
-Becomes-claim old line value q NoMemory reached at fits is ends = inr (inr refl)
-Becomes-claim old line value q Start reached at fits is ends = absurd ends
-Becomes-claim old line value q Edits reached at fits is ends = absurd ends
-Becomes-claim old line value q End reached at fits is ends = absurd ends
+Becomes-claim number old line value q (No n) reached at fits is ends =
+    inr (inl ((ends.0, inr (q.edit, q.kind, q.lo, q.hi, value, is)), λ next taken. not_taken old next line value q fits is ends.2 taken))
+Becomes-claim number old line value q (Bad n) reached at fits is ends =
+    inr (inl (ends.0, λ next taken. not_taken old next line value q fits is (λ answered. disordered old.last q.edit ends.1 answered.order) taken))
+Becomes-claim number old line value q NoMemory reached at fits is ends = inr (inr refl)
+Becomes-claim number old line value q Start reached at fits is ends = absurd ends
+Becomes-claim number old line value q Edits reached at fits is ends = absurd ends
+Becomes-claim number old line value q End reached at fits is ends = absurd ends
 
 -- a line that is not the last, and begins with no question, is not taken after the edits
 pub none_later : (old next : AuditState) (line : List ℕ) → line ≢ end_line → ((q : Question) (value : List ℕ) → IsQuestion q → line ≢ text_of q ++ value) → TakesLater old line next → ⊥
@@ -139,19 +143,19 @@ none_later old next line other none (inr t) = other t.text
 -- ---- at their stages
 
 -- where edits may stand
-pub Becomes-at_edits : (old new : AuditState) (line : List ℕ) → old.stage ≡ Edits → length line ≤ 120 → Becomes (λ next. TakesEdit old line next ⊎ TakesLater old line next) new → Becomes (Takes old line) new
-Becomes-at_edits old new line at short =
-    Becomes-same (λ next. TakesEdit old line next ⊎ TakesLater old line next) (Takes old line) new (λ next taken. (short, inr taken))
+pub Becomes-at_edits : (n : ℕ) (old new : AuditState) (line : List ℕ) → old.stage ≡ Edits → length line ≤ 120 → Becomes n line (λ next. TakesEdit old line next ⊎ TakesLater old line next) new → Becomes n line (Takes old line) new
+Becomes-at_edits n old new line at short =
+    Becomes-same n line (λ next. TakesEdit old line next ⊎ TakesLater old line next) (Takes old line) new (λ next taken. (short, inr taken))
     (λ next taken. elim taken.1 [ inl t ↦ absurd (cc (at, t.at)) | inr t ↦ t ])
 
 -- where claims may stand
-pub Becomes-at_claims : (old new : AuditState) (line : List ℕ) → old.stage ≡ Claims → length line ≤ 120 → Becomes (TakesLater old line) new → Becomes (Takes old line) new
-Becomes-at_claims old new line at short =
-    Becomes-same (TakesLater old line) (Takes old line) new (λ next taken. (short, inr (inr taken)))
+pub Becomes-at_claims : (n : ℕ) (old new : AuditState) (line : List ℕ) → old.stage ≡ Claims → length line ≤ 120 → Becomes n line (TakesLater old line) new → Becomes n line (Takes old line) new
+Becomes-at_claims n old new line at short =
+    Becomes-same n line (TakesLater old line) (Takes old line) new (λ next taken. (short, inr (inr taken)))
     (λ next taken. elim taken.1 [ inl t ↦ absurd (cc (at, t.at)) | inr (inl t) ↦ absurd (cc (at, t.at)) | inr (inr t) ↦ t ])
 
 -- a line that is not that of an edit is one after the edits, or none
-pub Becomes-no_edit : (old new : AuditState) (line : List ℕ) → ((e : Edit) → IsEdit e → line ≢ edit_line e) → Becomes (TakesLater old line) new → Becomes (λ next. TakesEdit old line next ⊎ TakesLater old line next) new
-Becomes-no_edit old new line none =
-    Becomes-same (TakesLater old line) (λ next. TakesEdit old line next ⊎ TakesLater old line next) new (λ next taken. inr taken)
+pub Becomes-no_edit : (n : ℕ) (old new : AuditState) (line : List ℕ) → ((e : Edit) → IsEdit e → line ≢ edit_line e) → Becomes n line (TakesLater old line) new → Becomes n line (λ next. TakesEdit old line next ⊎ TakesLater old line next) new
+Becomes-no_edit n old new line none =
+    Becomes-same n line (TakesLater old line) (λ next. TakesEdit old line next ⊎ TakesLater old line next) new (λ next taken. inr taken)
     (λ next taken. elim taken [ inl t ↦ absurd (none t.edit t.fits t.text) | inr t ↦ t ])

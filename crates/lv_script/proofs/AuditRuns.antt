@@ -1,14 +1,14 @@
 -- What an audit of lines that are taken one after the other comes to.
-use Rattle.std.proofs.Common.{◌≡◌, ◌⊎◌, ℕ, ◌+◌, ◌≤◌, true, false, List, [], ◌∷◌, ◌++◌, length, map, All, refl, sym, ap, ◌∙◌, subst, inl, inr, append_assoc, append-nil, true≢false}
+use Rattle.std.proofs.Common.{◌≡◌, ◌⊎◌, ℕ, ◌+◌, ◌≤◌, true, false, List, [], ◌∷◌, ◌++◌, length, map, All, refl, sym, ap, ◌∙◌, subst, inl, inr, append_assoc, append-nil, arith, true≢false}
 use Rattle.std.proofs.lemmas.List.Elements.{All-nil, All-cons}
 use Rattle.lv_edits.specs.declared.edit.Edit.{Edit}
 use Rattle.lv_script.specs.declared.auditor.Stage.{Stage}
 use Rattle.lv_script.specs.declared.auditor.Stage.TheVariants.{Start, Edits, Claims, End, No, Bad, NoMemory}
 use Rattle.lv_script.specs.declared.transcripts.Claimed.{Claimed}
 use Rattle.lv_script.specs.Texts.{shown_text}
-use Rattle.lv_script.specs.Transcript.{claim_line, edit_line, first_line, greatest, end_line, transcript_lines, AreAccepted, AreAcceptedAfter, IsEdit, IsTrueClaim}
+use Rattle.lv_script.specs.Transcript.{claim_line, edit_line, first_line, greatest, end_line, transcript_lines, AreAccepted, AreAcceptedAfter, HasForm, IsEdit, IsTrueClaim}
 use Rattle.lv_script.specs.Replies.{Answered}
-use Rattle.lv_script.specs.Auditing.{AuditState, AuditStep, MayEnd, Takes, TakesEdit, TakesFirst, TakesLater, is_fault, is_stopped, question_of, start_state}
+use Rattle.lv_script.specs.Auditing.{AuditState, AuditStep, IsFaultOf, MayEnd, Takes, TakesEdit, TakesFirst, TakesLater, is_fault, is_stopped, question_of, start_state}
 use Rattle.lv_script.proofs.AuditLines.{edit_line-injective, no_edit_later, not_last, same_question}
 
 -- ---- one line
@@ -57,6 +57,15 @@ same_way old a b line (inr (inr p)) (inr (inr q)) = same_later old a b line p q
 
 -- ---- many lines
 
+-- among lines that are numbered from n, that of this number has the form of an edit or of a claim
+pub record IsNamed (lines : List (List ℕ)) (number n : ℕ) : Type 0 where
+  pub front : List (List ℕ)
+  pub line : List ℕ
+  pub rest : List (List ℕ)
+  pub all : lines ≡ front ++ line ∷ rest
+  pub number_is : number ≡ n + length front
+  pub form : HasForm line
+
 -- from one state to another the lines are taken
 abbrev pub Runs : AuditState → List (List ℕ) → AuditState → Type 0
 Runs old [] new = new ≡ old
@@ -78,6 +87,16 @@ stays old n (line ∷ lines) text new stopped a =
       | inl still ↦ stays a.2 (n + 1) lines a.1 new (ap (λ s. is_stopped s.stage) still.1 ∙ stopped) a.4 ∙ still.1
       | inr goes ↦ absurd (true≢false (sym stopped ∙ goes.0))
     ]
+
+-- a fault of a line is one
+fault_of_line : (n : ℕ) (line : List ℕ) (stage : Stage) → IsFaultOf n line stage → is_fault stage ≡ true
+fault_of_line n line (No k) fault = refl
+fault_of_line n line (Bad k) fault = refl
+fault_of_line n line NoMemory fault = absurd fault
+fault_of_line n line Start fault = absurd fault
+fault_of_line n line Edits fault = absurd fault
+fault_of_line n line Claims fault = absurd fault
+fault_of_line n line End fault = absurd fault
 
 -- a fault stops it
 fault_stops : (stage : Stage) → is_fault stage ≡ true → is_stopped stage ≡ true
@@ -103,7 +122,7 @@ taken_to_end old n (line ∷ lines) text new a end =
     elim a.3.1 [
       | inl still ↦ absurd (never (ap (λ s. is_stopped s.stage) still.1 ∙ still.0))
       | inr (goes, inl taken) ↦ (a.2, taken, taken_to_end a.2 (n + 1) lines a.1 new a.4 end)
-      | inr (goes, inr (inl found)) ↦ absurd (never (fault_stops a.2.stage found.0))
+      | inr (goes, inr (inl found)) ↦ absurd (never (fault_stops a.2.stage (fault_of_line n line a.2.stage found.0)))
       | inr (goes, inr (inr none)) ↦ absurd (never (ap is_stopped none))
     ]
 
@@ -120,6 +139,43 @@ taken_or_none old n (line ∷ lines) text new end a runs =
       | inr (goes, inr (inl found)) ↦ absurd (found.1 runs.0 runs.1)
       | inr (goes, inr (inr none)) ↦
           inr (ap (λ s. s.stage) (stays a.2 (n + 1) lines a.1 new (ap is_stopped none) a.4) ∙ none)
+    ]
+
+-- a line that is taken leads to no fault
+taken_is_none : (old new : AuditState) (line : List ℕ) (k : ℕ) → Takes old line new → new.stage ≡ No k → ⊥
+taken_is_none old new line k taken at =
+    elim taken.1 as (λ _. ⊥) [
+      | inl t ↦ absurd (cc (ap (λ s. s.stage) t.next, at))
+      | inr (inl t) ↦ absurd (cc (ap (λ s. s.stage) t.next, t.at, at))
+      | inr (inr (inl t)) ↦ absurd (cc (ap (λ s. s.stage) t.next, at))
+      | inr (inr (inr t)) ↦ absurd (cc (ap (λ s. s.stage) t.next, at))
+    ]
+
+-- the line that a fault names as false, where there is one more before it
+one_more : (lines : List (List ℕ)) (line : List ℕ) (k n : ℕ) → IsNamed lines k (n + 1) → IsNamed (line ∷ lines) k n
+one_more lines line k n named = record {
+  front = line ∷ named.front;
+  line = named.line;
+  rest = named.rest;
+  all = ap (λ (ls : List (List ℕ)). line ∷ ls) named.all;
+  number_is = omega (arith, named.number_is);
+  form = named.form;
+}
+
+-- where it has found a line false, that has the right form
+pub named_false : (old : AuditState) (n : ℕ) (lines : List (List ℕ)) (text : List ℕ) (new : AuditState) (k : ℕ) → Answered AuditStep old n lines text new → (old.stage ≡ No k → ⊥)
+    → new.stage ≡ No k → IsNamed lines k n
+unfolding AuditStep
+named_false old n [] text new k a other at = absurd (other (ap (λ s. s.stage) (sym a.1) ∙ at))
+named_false old n (line ∷ lines) text new k a other at =
+    elim a.3.1 [
+      | inl still ↦ one_more lines line k n (named_false a.2 (n + 1) lines a.1 new k a.4 (λ is. other (ap (λ s. s.stage) (sym still.1) ∙ is)) at)
+      | inr (goes, inl taken) ↦ one_more lines line k n (named_false a.2 (n + 1) lines a.1 new k a.4 (taken_is_none old a.2 line k taken) at)
+      | inr (goes, inr (inl found)) ↦
+          let same : new ≡ a.2 = stays a.2 (n + 1) lines a.1 new (fault_stops a.2.stage (fault_of_line n line a.2.stage found.0)) a.4 in
+          let fault : IsFaultOf n line (No k) = subst (IsFaultOf n line) (ap (λ s. s.stage) (sym same) ∙ at) found.0 in
+          record { front = []; line = line; rest = lines; all = refl; number_is = omega (arith, fault.0); form = fault.1 }
+      | inr (goes, inr (inr none)) ↦ absurd (cc (none, ap (λ s. s.stage) (stays a.2 (n + 1) lines a.1 new (ap is_stopped none) a.4), at))
     ]
 
 -- each line that is taken is short

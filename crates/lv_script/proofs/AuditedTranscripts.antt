@@ -4,21 +4,23 @@ use Rattle.std.specs.Io.KnownBytes.{Appends}
 use Rattle.std.proofs.KnownBytes.{Appends-nil, Appends-trans}
 use Rattle.std.proofs.lemmas.List.Elements.{All-weaker}
 use Rattle.lv_edits.specs.declared.edit.Edit.{Edit}
-use Rattle.lv_edits.specs.declared.edit.Edit.TheVariants.{Push, Pop, Write, Reserve}
+use Rattle.lv_edits.specs.declared.edit.Edit.TheVariants.{Push, Pop, Write, Reserve, Swap, Truncate}
 use Rattle.lv_edits.specs.Kept.{CarriesElement}
+use Rattle.lv_script.specs.declared.auditor.Stage.{Stage}
 use Rattle.lv_script.specs.declared.auditor.Stage.TheVariants.{End, NoMemory}
+use Rattle.lv_script.specs.declared.auditor.Stage.TheVariants as stages
 use Rattle.lv_script.specs.declared.auditor.Verdict.{Verdict}
-use Rattle.lv_script.specs.declared.auditor.Verdict.TheVariants.{Yes}
+use Rattle.lv_script.specs.declared.auditor.Verdict.TheVariants.{Yes, No, Bad}
 use Rattle.lv_script.specs.declared.fault.Fault.{Fault}
 use Rattle.lv_script.specs.declared.fault.Fault.TheVariants as fault
 use Rattle.lv_script.specs.Input.{lines_of}
 use Rattle.lv_script.specs.Output.{Writes, WritesFront}
 use Rattle.lv_script.specs.Replies.{Answered, AnswersAll, AnswersFront, Conversed}
-use Rattle.lv_script.specs.Transcript.{claim_line, edit_line, first_line, end_line, transcript_lines, verdict_text, Audited, IsEdit, IsRight, IsSoundTranscript}
-use Rattle.lv_script.specs.Auditing.{AuditState, AuditStep, start_state}
+use Rattle.lv_script.specs.Transcript.{claim_line, edit_line, first_line, end_line, transcript_lines, verdict_text, Audited, HasFormAt, IsEdit, IsRight, IsSoundTranscript, NamesRight}
+use Rattle.lv_script.specs.Auditing.{AuditState, AuditStep, IsVerdictAt, start_state}
 use Rattle.lv_script.proofs.OutputLemmas.{Writes-put, WritesFront-after, Writes-trans}
 use Rattle.lv_script.proofs.PrintedWords.{IsPrintable}
-use Rattle.lv_script.proofs.AuditRuns.{no_replies, runs_short, taken_lines, taken_or_none, taken_to_end}
+use Rattle.lv_script.proofs.AuditRuns.{named_false, no_replies, runs_short, taken_lines, taken_or_none, taken_to_end}
 use Rattle.lv_script.proofs.SoundTranscripts.{in_order_of_rise, sound_lines}
 use Rattle.lv_script.proofs.TranscriptBytes.{AreEnded, IsUnended, bytes_of_lines, first_of_short, lines_of_text, lines_of_unended_text, short_of_first, unended_printable}
 
@@ -28,6 +30,8 @@ carries_of_fits (Push x) fits = fits
 carries_of_fits Pop fits = tt
 carries_of_fits (Write i x) fits = fits.1
 carries_of_fits (Reserve n) fits = tt
+carries_of_fits (Swap i j) fits = tt
+carries_of_fits (Truncate n) fits = tt
 
 -- what an audit saw, where it comes to the end, is a sound transcript
 sound_at_end : (seen text : List ℕ) (new : AuditState) → Answered AuditStep start_state 1 (map (take 121) (lines_of seen)) text new → new.stage ≡ End → IsSoundTranscript seen
@@ -69,11 +73,50 @@ ends_on_sound seen text new a memory sound =
       | inr none ↦ absurd (memory none)
     ]
 
--- a verdict that is yes exactly at the end is right
+-- the verdict of a stage is yes exactly at the end
+yes_at_end : (stage : Stage) (verdict : Verdict) → IsVerdictAt stage verdict → (stage ≢ NoMemory) × ((verdict ≡ Yes) ↔ (stage ≡ End))
+yes_at_end End verdict told = (λ is. absurd (cc is), (λ _. refl, λ _. told))
+yes_at_end (stages.No n) verdict told = (λ is. absurd (cc is), (λ yes. absurd (cc (told, yes)), λ is. absurd (cc is)))
+yes_at_end (stages.Bad n) verdict told = (λ is. absurd (cc is), (λ yes. absurd (cc (told, yes)), λ is. absurd (cc is)))
+yes_at_end stages.Start verdict told = (λ is. absurd (cc is), (λ yes. absurd (cc (told.1, yes)), λ is. absurd (cc is)))
+yes_at_end stages.Edits verdict told = (λ is. absurd (cc is), (λ yes. absurd (cc (told.1, yes)), λ is. absurd (cc is)))
+yes_at_end stages.Claims verdict told = (λ is. absurd (cc is), (λ yes. absurd (cc (told.1, yes)), λ is. absurd (cc is)))
+yes_at_end NoMemory verdict told = absurd told
+
+-- which line a `no` names
+abbrev named_by : Verdict → ℕ
+named_by (No n) = n
+named_by _ = 0
+
+no-injective : (n k : ℕ) → No n ≡ No k → n ≡ k
+no-injective n k same = ap named_by same
+
+-- and no, of this line, exactly where that was found false
+no_at_false : (stage : Stage) (n : ℕ) → IsVerdictAt stage (No n) → stage ≡ stages.No n
+no_at_false (stages.No k) n told = sym (ap stages.No (no-injective n k told))
+no_at_false (stages.Bad k) n told = absurd (cc told)
+no_at_false End n told = absurd (cc told)
+no_at_false stages.Start n told = absurd (cc told.1)
+no_at_false stages.Edits n told = absurd (cc told.1)
+no_at_false stages.Claims n told = absurd (cc told.1)
+no_at_false NoMemory n told = absurd told
+
+-- the line that it names
+names_right : (seen text : List ℕ) (new : AuditState) (verdict : Verdict) → Answered AuditStep start_state 1 (map (take 121) (lines_of seen)) text new → IsVerdictAt new.stage verdict → NamesRight seen verdict
+names_right seen text new (No n) a told =
+    let named = named_false start_state 1 (map (take 121) (lines_of seen)) text new n a (λ is. absurd (cc is)) (no_at_false new.stage n told) in
+    record { front = named.front; line = named.line; rest = named.rest; all = named.all; number_is = named.number_is; form = named.form }
+names_right seen text new Yes a told = tt
+names_right seen text new (Bad n) a told = tt
+
+-- the verdict of the stage that an audit came to is right
 right_verdict : (seen text : List ℕ) (new : AuditState) (verdict : Verdict) → Answered AuditStep start_state 1 (map (take 121) (lines_of seen)) text new
-    → (new.stage ≢ NoMemory) × ((verdict ≡ Yes) ↔ (new.stage ≡ End)) → IsRight seen verdict
+    → IsVerdictAt new.stage verdict → IsRight seen verdict
 right_verdict seen text new verdict a told =
-    (λ yes. sound_at_end seen text new a (told.1.0 yes), λ sound. told.1.1 (ends_on_sound seen text new a told.0 sound))
+    let yes = yes_at_end new.stage verdict told in (
+      (λ is. sound_at_end seen text new a (yes.1.0 is), λ sound. yes.1.1 (ends_on_sound seen text new a yes.0 sound)),
+      names_right seen text new verdict a told,
+    )
 
 -- ---- how the audit ends
 
@@ -113,7 +156,7 @@ module _ {remaining_old remaining_new before : Option (List ℕ)} (old new : Aud
 
   -- the verdict was written
   pub Audited-sent : {T : Type 0} (x : T) (verdict : Verdict) (held : List ℕ) (last : Option (List ℕ)) → old ≡ start_state → Conversed AuditStep {T = T} old new remaining_old remaining_new before after (Ok x)
-      → (new.stage ≢ NoMemory) × ((verdict ≡ Yes) ↔ (new.stage ≡ End)) → held ≡ verdict_text verdict → Appends after last held
+      → IsVerdictAt new.stage verdict → held ≡ verdict_text verdict → Appends after last held
       → Audited remaining_old remaining_new before last (Ok verdict)
   Audited-sent x verdict held last start c told put sent = record {
     seen = c.seen;
@@ -128,7 +171,7 @@ module _ {remaining_old remaining_new before : Option (List ℕ)} (old new : Aud
 
   -- or no more than a front of it
   pub Audited-unsent : {T : Type 0} (x : T) (verdict : Verdict) (held : List ℕ) (last : Option (List ℕ)) → old ≡ start_state → Conversed AuditStep {T = T} old new remaining_old remaining_new before after (Ok x)
-      → (new.stage ≢ NoMemory) × ((verdict ≡ Yes) ↔ (new.stage ≡ End)) → held ≡ verdict_text verdict → WritesFront after held last []
+      → IsVerdictAt new.stage verdict → held ≡ verdict_text verdict → WritesFront after held last []
       → Audited remaining_old remaining_new before last (Err fault.WriteFault)
   Audited-unsent x verdict held last start c told put unsent =
       let nothing : Writes before [] after [] [] = record { sent = []; appended = all_nothing old new _ before after c.ends.2; all = refl } in

@@ -1,58 +1,25 @@
 -- The lines of a transcript are read as what they were written of.
 use Rattle.std.proofs.Common.{◌≡◌, ℕ, List, ◌∷◌, ◌++◌, drop, filter, codes, Some, refl, ap, ◌∙◌, append_assoc}
 use Rattle.std.specs.Prelude.{decimal}
-use Rattle.std.specs.Fmt.{signed_decimal}
 use Rattle.std.proofs.lemmas.Bool.{cond-true}
 use Rattle.std.proofs.lemmas.List.Splits.{slice_split_at}
 use Rattle.lv_edits.specs.declared.edit.Edit.{Edit}
-use Rattle.lv_edits.specs.declared.edit.Edit.TheVariants.{Push, Pop, Write, Reserve}
-use Rattle.lv_script.specs.declared.command.Command.{Command}
 use Rattle.lv_script.specs.declared.command.Command.TheVariants as command
 use Rattle.lv_script.specs.declared.command.Line.TheVariants.{Do}
 use Rattle.lv_script.specs.declared.transcript_lines.Question.{Question}
 use Rattle.lv_script.specs.Words.{is_space, is_word, words_of}
 use Rattle.lv_script.specs.Grammar.{line_of, kind_name}
-use Rattle.lv_script.specs.Printed.{printed, IsCommand}
 use Rattle.lv_script.specs.Transcript.{edit_line, IsEdit}
-use Rattle.lv_script.specs.Auditing.{edit_asked, text_of, bounds_before, range_before, question_before, question_in, IsQuestion}
+use Rattle.lv_script.specs.Auditing.{text_of, bounds_before, range_before, question_before, question_in, IsQuestion}
 use Rattle.lv_script.proofs.PrintedNumbers.{number_in-decimal}
 use Rattle.lv_script.proofs.PrintedWords.{IsPlainWord, no_space, plain_number, plain_text}
 use Rattle.lv_script.proofs.ReadAgain.{kind_in-kind_name, line_of-printed, plain_kind}
 
 -- ---- edits
 
--- the command that asks for an edit
-abbrev pub command_for : Edit → Command
-command_for (Push x) = command.Push x
-command_for Pop = command.Pop
-command_for (Write i x) = command.Write i x
-command_for (Reserve n) = command.Reserve n
-
--- it asks for that edit
-pub edit_asked-command_for : (e : Edit) → edit_asked (command_for e) ≡ Some e
-edit_asked-command_for (Push x) = refl
-edit_asked-command_for Pop = refl
-edit_asked-command_for (Write i x) = refl
-edit_asked-command_for (Reserve n) = refl
-
--- its numbers fit where those of the edit do
-command_fits : (e : Edit) → IsEdit e → IsCommand (command_for e)
-command_fits (Push x) fits = fits
-command_fits Pop fits = tt
-command_fits (Write i x) fits = fits
-command_fits (Reserve n) fits = fits
-
--- behind `j ` the line of an edit is the text of that command
-drop-edit_line : (e : Edit) → drop 2 (edit_line e) ≡ printed (command_for e)
-drop-edit_line (Push x) = refl
-drop-edit_line Pop = refl
-drop-edit_line (Write i x) = ap (λ (xs : List ℕ). codes "write " ++ xs) (append_assoc (decimal i) (codes " ") (signed_decimal x))
-drop-edit_line (Reserve n) = refl
-
--- and is read as that command
-pub line_of-edit_line : (line rest : List ℕ) (e : Edit) → IsEdit e → rest ≡ drop 2 line → line ≡ edit_line e → line_of rest ≡ Do (command_for e)
-line_of-edit_line line rest e fits behind is =
-    ap line_of (behind ∙ ap (drop 2) is ∙ drop-edit_line e) ∙ line_of-printed (command_for e) (command_fits e fits)
+-- behind `j ` the line of an edit is read as the command of that edit
+pub line_of-edit_line : (line rest : List ℕ) (e : Edit) → IsEdit e → rest ≡ drop 2 line → line ≡ edit_line e → line_of rest ≡ Do (command.Edit e)
+line_of-edit_line line rest e fits behind is = ap line_of (behind ∙ ap (drop 2) is) ∙ line_of-printed (command.Edit e) fits
 
 -- ---- questions
 

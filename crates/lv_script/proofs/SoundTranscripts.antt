@@ -1,7 +1,6 @@
 -- A sound transcript is taken line by line.
 use Rattle.std.proofs.Common.{◌≡◌, ℕ, zero, suc, ◌-◌, ◌^◌, ◌<◌, ◌≤◌, Bool, true, List, [], ◌∷◌, ◌++◌, length, get_or, take, drop, map, slice_range, codes, nat_le, All, None, lit≤, refl, sym, ◌∙◌, subst, inl, inr, arith, append_assoc, append-nil, length-append}
 use Rattle.std.specs.Prelude.{decimal}
-use Rattle.std.specs.Fmt.{signed_decimal}
 use Rattle.std.specs.List.{list_all}
 use Rattle.std.proofs.lemmas.Bool.{and_parts, leb-true}
 use Rattle.std.proofs.lemmas.Fmt.{length-decimal-le}
@@ -11,21 +10,23 @@ use Rattle.lv_geometry.specs.Elements.{IsElement}
 use Rattle.lv_bodies.specs.declared.kinds.Kind.{Kind}
 use Rattle.lv_bodies.specs.Body.{CanFold}
 use Rattle.lv_edits.specs.declared.edit.Edit.{Edit}
-use Rattle.lv_edits.specs.declared.edit.Edit.TheVariants.{Push, Pop, Write, Reserve}
+use Rattle.lv_edits.specs.declared.edit.Edit.TheVariants.{Push, Pop, Write, Reserve, Swap, Truncate}
 use Rattle.lv_edits.specs.History.{list_of}
 use Rattle.lv_edits.specs.Kept.{CarriesElement, InLimits}
 use Rattle.lv_edits.specs.Verdict.{verdict_of}
-use Rattle.lv_edits.proofs.HistoryLaws.{InLimits-empty, InLimits-snoc, not_refused, unrefused_write, unrefused_reserve}
+use Rattle.lv_edits.proofs.HistoryLaws.{InLimits-empty, InLimits-snoc, not_refused, unrefused_reserve, unrefused_swap, unrefused_truncate, unrefused_write}
 use Rattle.lv_script.specs.declared.auditor.Stage.{Stage}
 use Rattle.lv_script.specs.declared.auditor.Stage.TheVariants.{Edits, Claims, End}
+use Rattle.lv_script.specs.declared.command.Command.TheVariants as commands
 use Rattle.lv_script.specs.declared.transcripts.Claimed.{Claimed}
+use Rattle.lv_script.specs.Printed.{printed}
 use Rattle.lv_script.specs.Grammar.{kind_name}
 use Rattle.lv_script.specs.Texts.{shown_text}
 use Rattle.lv_script.specs.Transcript.{claim_line, edit_line, first_line, greatest, end_line, question_text, transcript_lines, AreAccepted, AreAcceptedAfter, AreInOrder, IsEdit, IsTrueClaim}
 use Rattle.lv_script.specs.Auditing.{AuditState, IsQuestion, MayEnd, Takes, question_of, start_state}
 use Rattle.lv_script.proofs.AuditRuns.{RiseFrom, Runs}
-use Rattle.lv_script.proofs.PrintedWords.{IsPrintable, no_control, plain_number, plain_element}
-use Rattle.lv_script.proofs.ReadAgain.{plain_kind}
+use Rattle.lv_script.proofs.PrintedWords.{IsPrintable, no_control, plain_number}
+use Rattle.lv_script.proofs.ReadAgain.{length-printed, plain_kind, printed_printable}
 use Rattle.lv_script.proofs.ShownTexts.{IsShownText, shown_plain}
 
 -- ---- edits that are accepted
@@ -50,6 +51,11 @@ accepted_fits journal (Write i x) within free carried =
     (omega (arith, within.few, unrefused_write greatest (list_of journal) i x (not_refused greatest journal (Write i x) free).1), carried)
 accepted_fits journal (Reserve n) within free carried =
     omega (arith, unrefused_reserve greatest (list_of journal) n (not_refused greatest journal (Reserve n) free).1)
+accepted_fits journal (Swap i j) within free carried =
+    let below = unrefused_swap greatest (list_of journal) i j (not_refused greatest journal (Swap i j) free).1 in
+    (omega (arith, within.few, below.0), omega (arith, within.few, below.1))
+accepted_fits journal (Truncate n) within free carried =
+    omega (arith, within.few, unrefused_truncate greatest (list_of journal) n (not_refused greatest journal (Truncate n) free).1)
 
 -- each beginning of accepted edits is within the limits
 beginnings_within : (before edits : List Edit) (k : ℕ) → IsWithin before → AreAcceptedAfter greatest before edits → All CarriesElement edits → IsWithin (before ++ take k edits)
@@ -88,31 +94,11 @@ pub record IsLine (line : List ℕ) : Type 0 where
 
 -- the line of an edit
 pub line_of_edit : (e : Edit) → IsEdit e → IsLine (edit_line e)
-line_of_edit (Push x) fits =
-    let word = plain_element x fits in
+line_of_edit e fits =
+    let command = commands.Edit e in
     record {
-      short = omega (arith, word.short);
-      printable = All-append IsPrintable (codes "j push ") (signed_decimal x) (printable_bytes (codes "j push ") refl) (no_control (signed_decimal x) word);
-    }
-line_of_edit Pop fits = record { short = lit≤ tt; printable = printable_bytes (codes "j pop") refl }
-line_of_edit (Write i x) fits =
-    let index = plain_number i fits.0 in
-    let word = plain_element x fits.1 in
-    let front = codes "j write " ++ decimal i in
-    record {
-      short = omega (arith, index.short, word.short, length-append (decimal i ++ codes " ") (signed_decimal x), length-append (decimal i) (codes " "));
-      printable =
-          All-append IsPrintable (front ++ codes " ") (signed_decimal x)
-          (All-append IsPrintable front (codes " ")
-          (All-append IsPrintable (codes "j write ") (decimal i) (printable_bytes (codes "j write ") refl) (no_control (decimal i) index))
-          (printable_bytes (codes " ") refl))
-          (no_control (signed_decimal x) word);
-    }
-line_of_edit (Reserve n) fits =
-    let word = plain_number n fits in
-    record {
-      short = omega (arith, word.short);
-      printable = All-append IsPrintable (codes "j reserve ") (decimal n) (printable_bytes (codes "j reserve ") refl) (no_control (decimal n) word);
+      short = omega (arith, length-printed command fits);
+      printable = All-append IsPrintable (codes "j ") (printed command) (printable_bytes (codes "j ") refl) (printed_printable command fits);
     }
 
 -- the beginning of a claim's line has at most 56 bytes

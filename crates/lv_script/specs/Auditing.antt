@@ -3,29 +3,18 @@ use Rattle.std.specs.Prelude.{◌≡◌, ◌⊎◌, ℕ, ◌^◌, ◌<◌, ◌�
 use Rattle.lv_bodies.specs.declared.kinds.Kind.{Kind}
 use Rattle.lv_bodies.specs.Plain.{plain_value}
 use Rattle.lv_edits.specs.declared.edit.Edit.{Edit}
-use Rattle.lv_edits.specs.declared.edit.Edit.TheVariants as edit
 use Rattle.lv_edits.specs.History.{History, list_of}
 use Rattle.lv_edits.specs.Verdict.{verdict_of}
 use Rattle.lv_script.specs.declared.auditor.Stage.{Stage}
 use Rattle.lv_script.specs.declared.auditor.Stage.TheVariants as stages
-use Rattle.lv_script.specs.declared.command.Command.{Command}
-use Rattle.lv_script.specs.declared.command.Command.TheVariants.{Push, Pop, Write, Reserve}
 use Rattle.lv_script.specs.declared.transcript_lines.Question.{Question}
 use Rattle.lv_script.specs.Grammar.{kind_in, ◌>>=◌}
 use Rattle.lv_script.specs.Numbers.{number_in}
 use Rattle.lv_script.specs.declared.transcripts.Claimed.{Claimed}
 use Rattle.lv_script.specs.Texts.{shown_text}
-use Rattle.lv_script.specs.Transcript.{claim_line, edit_line, first_line, greatest, end_line, question_text, IsEdit, IsTrueClaim}
-
--- ---- an edit
-
--- the edit that a command asks for, if it asks for one
-abbrev pub edit_asked : Command → Option Edit
-edit_asked (Push x) = Some (edit.Push x)
-edit_asked Pop = Some edit.Pop
-edit_asked (Write i x) = Some (edit.Write i x)
-edit_asked (Reserve n) = Some (edit.Reserve n)
-edit_asked _ = None
+use Rattle.lv_script.specs.declared.auditor.Verdict.{Verdict}
+use Rattle.lv_script.specs.declared.auditor.Verdict.TheVariants as verdicts
+use Rattle.lv_script.specs.Transcript.{claim_line, edit_line, first_line, greatest, end_line, question_text, HasForm, IsEdit, IsTrueClaim}
 
 -- ---- a question: what a claim asks
 
@@ -159,36 +148,50 @@ TakesLater old line new = TakesClaim old line new ⊎ TakesLast old line new
 abbrev pub Takes : AuditState → List ℕ → AuditState → Type 0
 Takes old line new = (length line ≤ 120) × (TakesFirst old line new ⊎ TakesEdit old line new ⊎ TakesLater old line new)
 
--- a line was taken; or it cannot be, and that is found; or there was no memory
-abbrev pub Becomes : (AuditState → Type 0) → AuditState → Type 0
-Becomes Next new = Next new ⊎ ((is_fault new.stage ≡ true) × ((next : AuditState) → Next next → ⊥)) ⊎ (new.stage ≡ stages.NoMemory)
+-- a fault names the line of this number; where that is false it has the right form
+abbrev pub IsFaultOf : ℕ → List ℕ → Stage → Type 0
+IsFaultOf number line (stages.No n) = (n ≡ number) × HasForm line
+IsFaultOf number line (stages.Bad n) = n ≡ number
+IsFaultOf number line _ = ⊥
 
--- one line of an audit: nothing changes once it has stopped
-abbrev pub Audits : AuditState → List ℕ → AuditState → Type 0
-Audits old line new =
-    ((is_stopped old.stage ≡ true) × (new ≡ old)) ⊎ ((is_stopped old.stage ≡ false) × Becomes (Takes old line) new)
+-- line n was taken; or it cannot be, and that is found; or there was no memory
+abbrev pub Becomes : ℕ → List ℕ → (AuditState → Type 0) → AuditState → Type 0
+Becomes n line Next new = Next new ⊎ (IsFaultOf n line new.stage × ((next : AuditState) → Next next → ⊥)) ⊎ (new.stage ≡ stages.NoMemory)
 
--- what became of a line that should be the first
-abbrev pub FirstBecomes : List ℕ → Stage → Type 0
-FirstBecomes line stages.Edits = line ≡ first_line
-FirstBecomes line (stages.Bad n) = line ≡ first_line → ⊥
-FirstBecomes line _ = ⊥
+-- line n of an audit: nothing changes once it has stopped
+abbrev pub Audits : AuditState → ℕ → List ℕ → AuditState → Type 0
+Audits old n line new =
+    ((is_stopped old.stage ≡ true) × (new ≡ old)) ⊎ ((is_stopped old.stage ≡ false) × Becomes n line (Takes old line) new)
 
--- what became of an edit after those before it: it was made, or cannot be, or there was no memory
-abbrev pub EditBecomes : List Edit → Edit → Stage → List Edit → Type 0
-EditBecomes old edit stages.Edits new = (verdict_of greatest old edit ≡ None) × (new ≡ old ++ edit ∷ [])
-EditBecomes old edit (stages.No n) new = verdict_of greatest old edit ≡ None → ⊥
-EditBecomes old edit stages.NoMemory new = Unit {0}
-EditBecomes old edit _ new = ⊥
+-- what became of line n, which should be the first
+abbrev pub FirstBecomes : ℕ → List ℕ → Stage → Type 0
+FirstBecomes number line stages.Edits = line ≡ first_line
+FirstBecomes number line (stages.Bad n) = (n ≡ number) × (line ≡ first_line → ⊥)
+FirstBecomes number line _ = ⊥
 
--- what became of a claim: it is true, or isn't, or there was no memory
-abbrev pub ClaimBecomes : List Edit → ℕ → Question → List ℕ → Stage → ℕ → Type 0
-ClaimBecomes journal last question value stages.Claims reached = IsAnswered journal last question value × (reached ≡ question.edit)
-ClaimBecomes journal last question value (stages.No n) reached = IsAnswered journal last question value → ⊥
-ClaimBecomes journal last question value (stages.Bad n) reached = IsAnswered journal last question value → ⊥
-ClaimBecomes journal last question value stages.NoMemory reached = Unit {0}
-ClaimBecomes journal last question value _ reached = ⊥
+-- what became of the edit of line n after those before it: it was made, or cannot be, or there was no memory
+abbrev pub EditBecomes : ℕ → List Edit → Edit → Stage → List Edit → Type 0
+EditBecomes number old edit stages.Edits new = (verdict_of greatest old edit ≡ None) × (new ≡ old ++ edit ∷ [])
+EditBecomes number old edit (stages.No n) new = (n ≡ number) × (verdict_of greatest old edit ≡ None → ⊥)
+EditBecomes number old edit stages.NoMemory new = Unit {0}
+EditBecomes number old edit _ new = ⊥
+
+-- what became of the claim of line n: it is true, or isn't, or comes out of order, or there was no memory
+abbrev pub ClaimBecomes : ℕ → List Edit → ℕ → Question → List ℕ → Stage → ℕ → Type 0
+ClaimBecomes number journal last question value stages.Claims reached = IsAnswered journal last question value × (reached ≡ question.edit)
+ClaimBecomes number journal last question value (stages.No n) reached = (n ≡ number) × (last ≤ question.edit) × (IsAnswered journal last question value → ⊥)
+ClaimBecomes number journal last question value (stages.Bad n) reached = (n ≡ number) × (question.edit < last)
+ClaimBecomes number journal last question value stages.NoMemory reached = Unit {0}
+ClaimBecomes number journal last question value _ reached = ⊥
+
+-- the verdict of an audit that has come to this stage: of one that hasn't come to the end it is bad
+abbrev pub IsVerdictAt : Stage → Verdict → Type 0
+IsVerdictAt stages.End verdict = verdict ≡ verdicts.Yes
+IsVerdictAt (stages.No n) verdict = verdict ≡ verdicts.No n
+IsVerdictAt (stages.Bad n) verdict = verdict ≡ verdicts.Bad n
+IsVerdictAt stages.NoMemory verdict = ⊥
+IsVerdictAt _ verdict = (n : ℕ) × (verdict ≡ verdicts.Bad n)
 
 -- an audit answers its lines by nothing
 unfoldable pub AuditStep : AuditState → ℕ → List ℕ → List ℕ → AuditState → Type 0
-AuditStep old n line text new = (text ≡ []) × Audits old line new
+AuditStep old n line text new = (text ≡ []) × Audits old n line new

@@ -1,12 +1,13 @@
 -- What a line of a script says.
-use Rattle.std.specs.Prelude.{ℕ, ◌-◌, Bool, if◌then◌else◌, List, [], ◌∷◌, ◌++◌, length, take, nat_eq, nat_lt, find, codes, Option, Some, None, option_map, option_and_then, ℤ}
+use Rattle.std.specs.Prelude.{ℕ, ◌-◌, Bool, true, false, if◌then◌else◌, List, [], ◌∷◌, ◌++◌, length, take, nat_eq, nat_lt, find, codes, Option, Some, None, option_map, option_and_then, ℤ}
 use Rattle.std.specs.List.{starts_with, ends_with}
 use Rattle.std.specs.Str.{bytes_eq}
 use Rattle.lv_bodies.specs.declared.kinds.Kind.{Kind}
 use Rattle.lv_bodies.specs.declared.kinds.Kind.TheVariants.{Sum, Least, Greatest, Best, Affine, Automaton}
+use Rattle.lv_edits.specs.declared.edit.Edit.TheVariants as edit
 use Rattle.lv_standing.specs.Names.{is_name}
 use Rattle.lv_script.specs.declared.command.Command.{Command}
-use Rattle.lv_script.specs.declared.command.Command.TheVariants.{Push, Pop, Write, Reserve, Settle, Get, Size, Capacity, Reduce, Cost, Inclusive, Exclusive, Claim, Deliver, Forget, Watch, Unwatch, Answer}
+use Rattle.lv_script.specs.declared.command.Command.TheVariants.{Edit, Settle, Get, Size, Capacity, Reduce, Cost, Scan, Claim, Deliver, Forget, Watch, Unwatch, Answer}
 use Rattle.lv_script.specs.declared.command.Line.{Line}
 use Rattle.lv_script.specs.declared.command.Line.TheVariants.{Nothing, Bad, Do}
 use Rattle.lv_script.specs.Words.{words_of, only_word}
@@ -92,7 +93,11 @@ unfoldable pub write_in : List (List ℕ) → Option Command
 write_in [] = None
 write_in (word ∷ words) = do
   index ← number_in word
-  with_element (Write index) words
+  with_element (λ value. Edit (edit.Write index value)) words
+
+-- the command `swap`: two numbers
+abbrev pub swap_in : List (List ℕ) → Option Command
+swap_in words = with_bounds (λ first second. Edit (edit.Swap first second)) words
 
 -- the command `watch`: the words `name kind lo hi`
 unfoldable pub watch_in : List (List ℕ) → Option Command
@@ -108,10 +113,12 @@ Forms = List (List ℕ × (List (List ℕ) → Option Command))
 -- the lines about elements and room
 abbrev pub element_forms : Forms
 element_forms =
-    (codes "push", with_element Push)
-    ∷ (codes "pop", alone Pop)
+    (codes "push", with_element (λ value. Edit (edit.Push value)))
+    ∷ (codes "pop", alone (Edit edit.Pop))
     ∷ (codes "write", write_in)
-    ∷ (codes "reserve", with_number Reserve)
+    ∷ (codes "reserve", with_number (λ cells. Edit (edit.Reserve cells)))
+    ∷ (codes "swap", swap_in)
+    ∷ (codes "truncate", with_number (λ kept. Edit (edit.Truncate kept)))
     ∷ (codes "settle", alone Settle)
     ∷ (codes "get", with_number Get)
     ∷ (codes "size", alone Size)
@@ -123,8 +130,8 @@ abbrev pub range_forms : Forms
 range_forms =
     (codes "reduce", with_range Reduce)
     ∷ (codes "cost", with_bounds Cost)
-    ∷ (codes "inc", with_range Inclusive)
-    ∷ (codes "exc", with_range Exclusive)
+    ∷ (codes "inc", with_range (Scan true))
+    ∷ (codes "exc", with_range (Scan false))
     ∷ []
 
 -- the lines about jobs and names

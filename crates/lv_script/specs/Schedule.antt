@@ -8,6 +8,7 @@ use Rattle.lv_bodies.specs.declared.kinds.Shown.TheVariants as shown
 use Rattle.lv_bodies.specs.Parts.{sum_of_parts, sum_parts}
 use Rattle.lv_bodies.specs.Sums.{sum_operations}
 use Rattle.lv_bodies.specs.declared.sums.Sum.{Sum}
+use Rattle.lv_edits.specs.declared.edit.Edit.TheVariants as edit
 use Rattle.lv_machine.specs.declared.events.Call.{Call}
 use Rattle.lv_machine.specs.declared.events.Call.TheVariants as call
 use Rattle.lv_machine.specs.declared.events.Event.{Event}
@@ -18,7 +19,7 @@ use Rattle.lv_machine.specs.declared.outcomes.Said.{Said}
 use Rattle.lv_machine.specs.declared.outcomes.Said.TheVariants as said
 use Rattle.lv_machine.specs.Machine.{MachineState, block_refreshed, machine_step}
 use Rattle.lv_script.specs.declared.command.Command.{Command}
-use Rattle.lv_script.specs.declared.command.Command.TheVariants.{Push, Pop, Write, Reserve, Settle, Get, Size, Capacity, Reduce, Cost, Inclusive, Exclusive, Claim, Deliver, Forget, Watch, Unwatch, Answer}
+use Rattle.lv_script.specs.declared.command.Command.TheVariants.{Edit, Get, Size}
 use Rattle.lv_script.specs.declared.schedule_lines.ScheduleLine.{ScheduleLine}
 use Rattle.lv_script.specs.declared.schedule_lines.ScheduleLine.TheVariants.{Nothing, Bad, Do}
 use Rattle.lv_script.specs.Grammar.{◌>>=◌, bounds_in, command_in, is_comment, lone_number, without_cr}
@@ -30,24 +31,12 @@ use Rattle.lv_script.specs.Texts.{answer_text, bad_text, fresh_text, receipt_tex
 
 -- the call that a command of scripts asks for, where the lock-free form knows it
 abbrev pub call_of : Command → Option Call
-call_of (Push x) = Some (call.Push x)
-call_of Pop = Some call.Pop
-call_of (Write i x) = Some (call.Write i x)
-call_of (Reserve n) = None
-call_of Settle = None
+call_of (Edit (edit.Push x)) = Some (call.Push x)
+call_of (Edit edit.Pop) = Some call.Pop
+call_of (Edit (edit.Write i x)) = Some (call.Write i x)
 call_of (Get i) = Some (call.Get i)
 call_of Size = Some call.Size
-call_of Capacity = None
-call_of (Reduce kind lo hi) = None
-call_of (Cost lo hi) = None
-call_of (Inclusive kind lo hi) = None
-call_of (Exclusive kind lo hi) = None
-call_of Claim = None
-call_of (Deliver k) = None
-call_of Forget = None
-call_of (Watch name kind lo hi) = None
-call_of (Unwatch name) = None
-call_of (Answer name) = None
+call_of _ = None
 
 -- the call that some words ask for beside reductions: `refresh number`, or as a script asks for it
 unfoldable pub plain_call_in : List (List ℕ) → Option Call

@@ -1,5 +1,5 @@
 -- What each line of a script is answered, and what it changes.
-use Rattle.std.specs.Prelude.{◌≡◌, ◌⊎◌, ℕ, ℤ, ◌+◌, Bool, Result, Ok, Err, Option, Some, None, true, false, List, [], ◌∷◌, ◌++◌, length, take, map, if◌then◌else◌}
+use Rattle.std.specs.Prelude.{◌≡◌, ◌⊎◌, ℕ, ℤ, ◌+◌, Bool, Result, Ok, Err, Option, Some, None, List, [], ◌∷◌, ◌++◌, length, take, map, if◌then◌else◌}
 use Rattle.std.specs.List.{flat_map, range_with_len}
 use Rattle.lv_geometry.specs.Bounds.{Bounds}
 use Rattle.lv_geometry.specs.declared.refusals.Refusal.{Refusal}
@@ -10,7 +10,6 @@ use Rattle.lv_bodies.specs.Body.{Operations}
 use Rattle.lv_bodies.specs.Plain.{plain_value}
 use Rattle.lv_bodies.specs.Six.{SixSummary, six_meaning, six_operations}
 use Rattle.lv_edits.specs.declared.edit.Edit.{Edit}
-use Rattle.lv_edits.specs.declared.edit.Edit.TheVariants as edit
 use Rattle.lv_edits.specs.declared.receipt.Receipt.{Receipt}
 use Rattle.lv_edits.specs.Capacity.{capacity_after}
 use Rattle.lv_edits.specs.History.{list_of}
@@ -25,7 +24,8 @@ use Rattle.lv_live.specs.Step.{Step, edit_reply}
 use Rattle.lv_standing.specs.declared.notes.Note.{Note}
 use Rattle.lv_standing.specs.Queries.{AreNotes, Query, query_of, watch_answer, watch_refusal, without_query}
 use Rattle.lv_script.specs.declared.command.Command.{Command}
-use Rattle.lv_script.specs.declared.command.Command.TheVariants.{Push, Pop, Write, Reserve, Settle, Get, Size, Capacity, Reduce, Cost, Inclusive, Exclusive, Claim, Deliver, Forget, Watch, Unwatch, Answer}
+use Rattle.lv_script.specs.declared.command.Command.TheVariants as command
+use Rattle.lv_script.specs.declared.command.Command.TheVariants.{Settle, Get, Size, Capacity, Reduce, Cost, Scan, Claim, Deliver, Forget, Watch, Unwatch, Answer}
 use Rattle.lv_script.specs.declared.command.Line.{Line}
 use Rattle.lv_script.specs.declared.command.Line.TheVariants.{Nothing, Bad, Do}
 use Rattle.lv_script.specs.Grammar.{line_of}
@@ -135,18 +135,14 @@ named_answer_text edits name (Some q) = named_text (length edits) name (watch_an
 
 -- what a command is answered
 abbrev pub CommandAnswer : ScriptState → Command → List ℕ → ScriptState → Type 0
-CommandAnswer old (Push x) text new = TellsEdit old (edit.Push x) text new
-CommandAnswer old Pop text new = TellsEdit old edit.Pop text new
-CommandAnswer old (Write i x) text new = TellsEdit old (edit.Write i x) text new
-CommandAnswer old (Reserve cells) text new = TellsEdit old (edit.Reserve cells) text new
+CommandAnswer old (command.Edit e) text new = TellsEdit old e text new
 CommandAnswer old Settle text new = TellsEvent old event.Settle text new
 CommandAnswer old (Get i) text new = Tells old (element_text (element_at old.seen.edits i)) text new
 CommandAnswer old Size text new = Tells old (size_text (length (list_of old.seen.edits)) (length old.seen.edits)) text new
 CommandAnswer old Capacity text new = Tells old (capacity_text (capacity_after old.seen.edits)) text new
 CommandAnswer old (Reduce kind lo hi) text new = Tells old (reduced_text old.seen.edits kind lo hi (range_refusal old.seen.edits lo hi)) text new
 CommandAnswer old (Cost lo hi) text new = TellsEvent old (event.Reduce lo hi) text new
-CommandAnswer old (Inclusive kind lo hi) text new = TellsScan old true kind lo hi text new
-CommandAnswer old (Exclusive kind lo hi) text new = TellsScan old false kind lo hi text new
+CommandAnswer old (Scan inclusive kind lo hi) text new = TellsScan old inclusive kind lo hi text new
 -- a claim is refused where there is no room for its job; no node is claimed then
 CommandAnswer old Claim text new = TellsEvent old event.Claim text new ⊎ Tells old (refused_text NoMemory) text new
 CommandAnswer old (Deliver k) text new = TellsEvent old (event.Deliver k) text new

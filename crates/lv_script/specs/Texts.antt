@@ -9,7 +9,7 @@ use Rattle.lv_bodies.specs.declared.kinds.Kind.{Kind}
 use Rattle.lv_bodies.specs.declared.kinds.Shown.{Shown}
 use Rattle.lv_bodies.specs.declared.kinds.Shown.TheVariants.{Sum, Least, Greatest, Best, Affine, Automaton}
 use Rattle.lv_edits.specs.declared.receipt.Receipt.{Receipt}
-use Rattle.lv_edits.specs.declared.receipt.Receipt.TheVariants.{Pushed, Popped, Written, Reserved}
+use Rattle.lv_edits.specs.declared.receipt.Receipt.TheVariants.{Pushed, Popped, Written, Reserved, Swapped, Truncated}
 use Rattle.lv_summary.specs.declared.accepted.Accepted.{Accepted}
 use Rattle.lv_summary.specs.declared.accepted.Accepted.TheVariants.{Installed, Held, Stale}
 use Rattle.lv_script.specs.Grammar.{kind_name}
@@ -33,6 +33,8 @@ receipt_text (Pushed edit index) = reply_line (codes "edit " ++ decimal edit ++ 
 receipt_text (Popped edit value) = reply_line (codes "edit " ++ decimal edit ++ codes " value " ++ signed_decimal value)
 receipt_text (Written edit before) = reply_line (codes "edit " ++ decimal edit ++ codes " was " ++ signed_decimal before)
 receipt_text (Reserved edit capacity) = reply_line (codes "edit " ++ decimal edit ++ codes " capacity " ++ decimal capacity)
+receipt_text (Swapped edit first second) = reply_line (codes "edit " ++ decimal edit ++ codes " now " ++ signed_decimal first ++ codes " " ++ signed_decimal second)
+receipt_text (Truncated edit dropped) = reply_line (codes "edit " ++ decimal edit ++ codes " dropped " ++ decimal dropped)
 
 -- an element that was asked for
 abbrev pub value_text : ℤ → List ℕ

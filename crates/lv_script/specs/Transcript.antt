@@ -1,15 +1,12 @@
 -- Transcripts: a journal of edits, and reductions that were answered, as text; and when such a text is sound.
 use Rattle.std.specs.Prelude.{◌≡◌, ◌⊎◌, ◌↔◌, ℕ, ◌+◌, ◌^◌, ◌<◌, ◌≤◌, None, List, [], ◌∷◌, ◌++◌, length, take, map, All, slice_range, codes, decimal, Option, Result, Ok, Err}
-use Rattle.std.specs.Fmt.{signed_decimal}
 use Rattle.std.specs.List.{flat_map}
 use Rattle.std.specs.List.Sorted.{IsNonDecreasingBy}
 use Rattle.std.specs.Io.KnownBytes.{Appends, Consumes, IsAtEnd}
 use Rattle.lv_geometry.specs.Bounds.{Bounds}
-use Rattle.lv_geometry.specs.Elements.{IsElement}
 use Rattle.lv_bodies.specs.declared.kinds.Kind.{Kind}
 use Rattle.lv_bodies.specs.Plain.{plain_value}
 use Rattle.lv_edits.specs.declared.edit.Edit.{Edit}
-use Rattle.lv_edits.specs.declared.edit.Edit.TheVariants.{Push, Pop, Write, Reserve}
 use Rattle.lv_edits.specs.History.{list_of}
 use Rattle.lv_edits.specs.Kept.{CarriesElement}
 use Rattle.lv_edits.specs.Verdict.{verdict_of}
@@ -18,7 +15,10 @@ use Rattle.lv_script.specs.declared.auditor.Verdict.TheVariants.{Yes, No, Bad}
 use Rattle.lv_script.specs.declared.fault.Fault.{Fault}
 use Rattle.lv_script.specs.declared.fault.Fault.TheVariants.{NoMemory, ReadFault, WriteFault}
 use Rattle.lv_script.specs.declared.transcripts.Claimed.{Claimed}
+use Rattle.lv_script.specs.declared.command.Command.TheVariants as command
 use Rattle.lv_script.specs.Grammar.{kind_name}
+use Rattle.lv_script.specs.Input.{lines_of}
+use Rattle.lv_script.specs.Printed.{printed, IsCommand}
 use Rattle.lv_script.specs.Texts.{bad_text, reply_line, shown_text}
 use Rattle.lv_script.specs.Output.{WritesFront}
 
@@ -32,12 +32,9 @@ first_line = codes "livevec 1"
 abbrev pub end_line : List ℕ
 end_line = codes "end"
 
--- the line of an edit
+-- the line of an edit: `j`, and the edit as a command
 abbrev pub edit_line : Edit → List ℕ
-edit_line (Push x) = codes "j push " ++ signed_decimal x
-edit_line Pop = codes "j pop"
-edit_line (Write i x) = codes "j write " ++ decimal i ++ codes " " ++ signed_decimal x
-edit_line (Reserve n) = codes "j reserve " ++ decimal n
+edit_line e = codes "j " ++ printed (command.Edit e)
 
 -- what the line of a claim begins with: all but its value
 abbrev pub question_text : ℕ → Kind → ℕ → ℕ → List ℕ
@@ -100,15 +97,40 @@ pub record IsSoundTranscript (bytes : List ℕ) : Type 0 where
 
 -- ---- its audit
 
+-- an edit whose numbers fit their types
+abbrev pub IsEdit : Edit → Type 0
+IsEdit e = IsCommand (command.Edit e)
+
 -- the line that tells a verdict
 abbrev pub verdict_text : Verdict → List ℕ
 verdict_text Yes = reply_line (codes "yes")
 verdict_text (No n) = reply_line (codes "no " ++ decimal n)
 verdict_text (Bad n) = bad_text n
 
--- a verdict on bytes is right: it is yes exactly where they are a sound transcript (which line `no` and `bad` name is not said here)
+-- a line has the form of an edit, or begins as a claim does, with any value behind that
+abbrev pub HasForm : List ℕ → Type 0
+HasForm line =
+    ((edit : Edit) × IsEdit edit × (line ≡ edit_line edit))
+    ⊎ ((edit : ℕ) × (kind : Kind) × (lo : ℕ) × (hi : ℕ) × (value : List ℕ) × (line ≡ question_text edit kind lo hi ++ value))
+
+-- the line of this number among some lines has the form of an edit or of a claim
+pub record HasFormAt (lines : List (List ℕ)) (number : ℕ) : Type 0 where
+  pub front : List (List ℕ)
+  pub line : List ℕ
+  pub rest : List (List ℕ)
+  pub all : lines ≡ front ++ line ∷ rest
+  pub number_is : number ≡ 1 + length front
+  pub form : HasForm line
+
+-- what a verdict tells of the line that it names: `no` names one of the right form, of which the first 121 bytes are looked at
+abbrev pub NamesRight : List ℕ → Verdict → Type 0
+NamesRight bytes (No n) = HasFormAt (map (take 121) (lines_of bytes)) n
+NamesRight bytes _ = Unit {0}
+
+-- a verdict on bytes is right: it is yes exactly where they are a sound transcript, and `no` names a line of the right form (that the
+-- line of `bad` is the first that isn't is not said here)
 abbrev pub IsRight : List ℕ → Verdict → Type 0
-IsRight bytes verdict = (verdict ≡ Yes) ↔ IsSoundTranscript bytes
+IsRight bytes verdict = ((verdict ≡ Yes) ↔ IsSoundTranscript bytes) × NamesRight bytes verdict
 
 -- all bytes of an input that is not too long were seen
 abbrev pub IsWhole : List ℕ → Option (List ℕ) → Type 0
@@ -133,13 +155,6 @@ pub record Audited (remaining_old remaining_new contents_old contents_new : Opti
   pub ends : AuditEnds remaining_new contents_old contents_new seen result
 
 -- ---- how it is written
-
--- an edit whose numbers fit their types
-abbrev pub IsEdit : Edit → Type 0
-IsEdit (Push x) = IsElement x
-IsEdit Pop = Unit {0}
-IsEdit (Write i x) = (i < 2 ^ 32) × IsElement x
-IsEdit (Reserve n) = n < 2 ^ 32
 
 -- how the writing of a text ended: all of it was written, no more than a front, or nothing
 abbrev pub Transcribes : {T : Type 0} → Option (List ℕ) → Option (List ℕ) → List ℕ → Result T Fault → Type 0

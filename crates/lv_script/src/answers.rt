@@ -1,4 +1,4 @@
-ghost use Rattle.std.specs.Prelude.{◌≡◌, ◌⊎◌, ◌+◌, ◌*◌, ◌<◌, ◌≤◌, ◌++◌, false, List, ℕ, length, OnOk, vec_len, vec_capacity};
+ghost use Rattle.std.specs.Prelude.{◌≡◌, ◌⊎◌, ◌+◌, ◌*◌, ◌<◌, ◌≤◌, ◌++◌, List, ℕ, length, OnOk, IfErr, vec_len, vec_capacity};
 ghost use Rattle.lv_bodies.specs.Six.{SixSummary};
 ghost use Rattle.lv_bodies.specs.declared.sixes.Six.{Six};
 ghost use Rattle.lv_edits.specs.Capacity.{capacity_after};
@@ -9,16 +9,18 @@ ghost use Rattle.lv_reduce.specs.Answer.{range_refusal};
 ghost use Rattle.lv_live.specs.State.{IsWorld, SameLive, job_at};
 ghost use Rattle.lv_live.specs.declared.events.Event.TheVariants as event;
 ghost use Rattle.lv_standing.specs.Queries.{query_of};
+ghost use Rattle.lv_script.specs.Output.{Writes, WritesFront};
 ghost use Rattle.lv_script.specs.Script.{CommandAnswer, TellsEdit, TellsEvent, TellsUnwatch, TellsWatch, Tells, named_answer_text, notes_text, program_operations, reduced_text};
-ghost use Rattle.lv_script.specs.Scripted.{IsTask, is_scan, state_of};
+ghost use Rattle.lv_script.specs.Scripted.{state_of};
 ghost use Rattle.lv_script.specs.Texts.{capacity_text, element_text, size_text};
 
 use crate::command::Command;
+use crate::fault::Fault;
 use crate::refresh_replies::{put_accepted, put_cost, put_forgotten, put_idle, put_job};
 use crate::replies::{
     LINE, put_answer, put_capacity, put_receipt, put_refusal, put_settled, put_size, put_value,
 };
-use crate::scans::{Asked, reduce};
+use crate::scans::{Asked, answer_scan, reduce};
 use crate::watch_replies::{put_named, put_note, put_unwatched, put_watching};
 use lv_bodies::{Body, Kind, Six, face};
 use lv_edits::Edit;
@@ -27,78 +29,64 @@ use lv_live::Live;
 use lv_refresh::Job;
 use lv_standing::{Name, Note, Standing};
 use std::alloc::Global;
+use std::io::Write;
 
 /// At most how many bytes a reply has, scans apart: a line, and a note for each of 64 queries.
 pub const ROOM: usize = 65 * LINE;
 
-/// What a command asks for: a scan, whose reply may be long, or anything else.
-#[derive(Clone, Copy)]
-pub enum Task {
-    Scan(Asked),
-    Other(Command),
-}
-
-/// What a command asks for.
-pub fn task_of(command: Command) -> Task
-    ensures { IsTask command result }
-{
-    match command {
-        Command::Inclusive { kind, lo, hi } => Task::Scan(Asked {
-            inclusive: true,
-            kind,
-            lo,
-            hi,
-        }),
-        Command::Exclusive { kind, lo, hi } => Task::Scan(Asked {
-            inclusive: false,
-            kind,
-            lo,
-            hi,
-        }),
-        other => Task::Other(other),
-    }
-}
-
-/// Answers a command that asks for no scan.
-pub fn answer(
+/// Answers a command. Only the reply to a scan may be longer than what is held.
+pub fn answer<W: Write>(
     alloc: Global,
     standing: &mut Standing,
     jobs: &mut Vec<Job<Six>>,
     command: Command,
+    writer: &mut W,
     held: &mut Vec<u8>,
-)
+) -> Result<(), Fault>
     requires world { IsWorld program_operations standing.old.live jobs.old.items }
     requires room { vec_len held.old + ROOM ≤ vec_capacity held.old }
-    requires other { is_scan command ≡ false }
-    ensures answer { (reply : List ℕ) × CommandAnswer (state_of standing.old jobs.old.items) command reply (state_of standing.new jobs.new.items)
-        × (held.new.items ≡ held.old.items ++ reply) }
+    ensures ok { OnOk result ((reply : List ℕ) × CommandAnswer (state_of standing.old jobs.old.items) command reply (state_of standing.new jobs.new.items)
+        × Writes (W.contents writer.old) held.old.items (W.contents writer.new) held.new.items reply) }
+    ensures fault { IfErr result (λ fault. (fault ≡ Fault.WriteFault) × (reply : List ℕ)
+        × CommandAnswer (state_of standing.old jobs.old.items) command reply (state_of standing.new jobs.new.items)
+        × WritesFront (W.contents writer.old) held.old.items (W.contents writer.new) reply) }
     ensures world { IsWorld program_operations standing.new.live jobs.new.items }
     ensures room { vec_capacity held.old ≤ vec_capacity held.new }
 {
     match command {
-        Command::Push(x) => put_edit(alloc, standing, Edit::Push(x), held),
-        Command::Pop => put_edit(alloc, standing, Edit::Pop, held),
-        Command::Write { index, value } => put_edit(
-            alloc,
-            standing,
-            Edit::Write { index, value },
-            held,
-        ),
-        Command::Reserve(cells) => put_edit(alloc, standing, Edit::Reserve(cells), held),
+        Command::Edit(edit) => put_edit(alloc, standing, edit, held),
         Command::Settle => put_settle(standing, held),
         Command::Get(i) => put_element_at(standing, i, held),
         Command::Size => put_extent(standing, held),
         Command::Capacity => put_room(standing, held),
         Command::Reduce { kind, lo, hi } => put_reduced(standing, kind, lo, hi, held),
         Command::Cost { lo, hi } => put_reads(standing, lo, hi, held),
+        Command::Scan {
+            inclusive,
+            kind,
+            lo,
+            hi,
+        } => {
+            return answer_scan(
+                standing,
+                writer,
+                held,
+                &Asked {
+                    inclusive,
+                    kind,
+                    lo,
+                    hi,
+                },
+            );
+        }
         Command::Claim => put_claim(standing, jobs, held),
         Command::Deliver(k) => put_delivery(standing, jobs, k, held),
         Command::Forget => put_forget(standing, held),
         Command::Watch { name, kind, lo, hi } => put_watch(standing, name, kind, lo, hi, held),
         Command::Unwatch(name) => put_unwatch(standing, name, held),
         Command::Answer(name) => put_named_answer(standing, name, held),
-        Command::Inclusive { .. } | Command::Exclusive { .. } => unreachable!(),
     }
+    Ok(())
 }
 
 // Makes an edit: its receipt and its notes, or its refusal.

@@ -1,6 +1,6 @@
-ghost use Rattle.std.specs.Prelude.{◌≡◌, ◌≢◌, ◌↔◌, ℕ, ◌+◌, ◌^◌, ◌≤◌, ◌++◌, ◌⊎◌, [], IfOk, MatchResult, IsTrue, length, take, vec_len, vec_capacity};
+ghost use Rattle.std.specs.Prelude.{◌≡◌, ◌↔◌, ℕ, ◌+◌, ◌^◌, ◌≤◌, ◌++◌, ◌⊎◌, [], IfOk, MatchResult, IsTrue, length, take, vec_len, vec_capacity};
 ghost use Rattle.lv_edits.specs.History.{list_of};
-ghost use Rattle.lv_script.specs.Auditing.{AuditState, start_state, state_of, Audits, AuditStep, ClaimBecomes, EditBecomes, Becomes, FirstBecomes, IsAnswer, MayEnd, Takes, TakesEdit, TakesLater};
+ghost use Rattle.lv_script.specs.Auditing.{AuditState, start_state, state_of, Audits, AuditStep, ClaimBecomes, EditBecomes, Becomes, FirstBecomes, IsAnswer, IsVerdictAt, MayEnd, Takes, TakesEdit, TakesLater};
 ghost use Rattle.lv_script.specs.Transcript.{greatest, verdict_text, Audited};
 ghost use Rattle.lv_script.specs.declared.replies.TheConstants.{LINE};
 
@@ -141,9 +141,7 @@ impl Auditor {
 
     // What was found, once all lines were read.
     fn verdict(&self) -> Result<Verdict, Fault>
-        ensures { MatchResult result
-            (λ verdict. (self.now.stage ≢ Stage.NoMemory) × ((verdict ≡ Verdict.Yes) ↔ (self.now.stage ≡ Stage.End)))
-            (λ fault. fault ≡ Fault.NoMemory) }
+        ensures { MatchResult result (IsVerdictAt self.now.stage) (λ fault. fault ≡ Fault.NoMemory) }
     {
         match self.stage {
             Stage::Start | Stage::Edits | Stage::Claims => {
@@ -158,7 +156,7 @@ impl Auditor {
 
     // Takes a line, or finds the first fault.
     fn take_line(&mut self, number: u32, line: &[u8])
-        ensures { Audits (state_of self.old.stage self.old.edits self.old.replay.edit) line.now (state_of self.new.stage self.new.edits self.new.replay.edit) }
+        ensures { Audits (state_of self.old.stage self.old.edits self.old.replay.edit) number line.now (state_of self.new.stage self.new.edits self.new.replay.edit) }
     {
         self.lines = number;
         match self.stage {
@@ -171,7 +169,7 @@ impl Auditor {
 
     // The stage behind a line.
     fn next_stage(&mut self, number: u32, line: &[u8]) -> Stage
-        ensures { Becomes (Takes (state_of self.old.stage self.old.edits self.old.replay.edit) line.now) (state_of result self.new.edits self.new.replay.edit) }
+        ensures { Becomes number line.now (Takes (state_of self.old.stage self.old.edits self.old.replay.edit) line.now) (state_of result self.new.edits self.new.replay.edit) }
     {
         if line.len() > 120 {
             return Stage::Bad(number);
@@ -187,7 +185,7 @@ impl Auditor {
     // The stage behind a line that may be that of an edit.
     fn edit_or_later(&mut self, number: u32, line: &[u8]) -> Stage
         requires { self.old.stage ≡ Stage.Edits }
-        ensures { Becomes (λ new. TakesEdit (state_of self.old.stage self.old.edits self.old.replay.edit) line.now new
+        ensures { Becomes number line.now (λ new. TakesEdit (state_of self.old.stage self.old.edits self.old.replay.edit) line.now new
             ⊎ TakesLater (state_of self.old.stage self.old.edits self.old.replay.edit) line.now new) (state_of result self.new.edits self.new.replay.edit) }
     {
         match read_edit(line, &mut self.text) {
@@ -198,7 +196,7 @@ impl Auditor {
 
     // Makes an edit, where that is possible.
     fn take_edit(&mut self, number: u32, edit: Edit) -> Stage
-        ensures edit { EditBecomes self.old.edits.journal edit result self.new.edits.journal }
+        ensures edit { EditBecomes number self.old.edits.journal edit result self.new.edits.journal }
         ensures replay { self.new.replay ≡ self.old.replay }
     {
         if self.edits.verdict(&edit).is_some() {
@@ -213,7 +211,7 @@ impl Auditor {
     // The stage behind a line that is not that of an edit.
     fn claim_or_last(&mut self, number: u32, line: &[u8]) -> Stage
         requires { MayEnd self.old.stage }
-        ensures { Becomes (TakesLater (state_of self.old.stage self.old.edits self.old.replay.edit) line.now) (state_of result self.new.edits self.new.replay.edit) }
+        ensures { Becomes number line.now (TakesLater (state_of self.old.stage self.old.edits self.old.replay.edit) line.now) (state_of result self.new.edits self.new.replay.edit) }
     {
         if line == b"end".as_slice() {
             return Stage::End;
@@ -226,7 +224,7 @@ impl Auditor {
 
     // Answers a claim's question anew, and compares.
     fn take_claim(&mut self, number: u32, question: Question, value: &[u8]) -> Stage
-        ensures claim { ClaimBecomes self.old.edits.journal self.old.replay.edit question value.now result self.new.replay.edit }
+        ensures claim { ClaimBecomes number self.old.edits.journal self.old.replay.edit question value.now result self.new.replay.edit }
         ensures edits { self.new.edits ≡ self.old.edits }
     {
         if question.edit < self.replay.edit {
@@ -251,7 +249,7 @@ impl Auditor {
 
 // The stage behind a line that should be the first.
 fn first_stage(number: u32, line: &[u8]) -> Stage
-    ensures { FirstBecomes line.now result }
+    ensures { FirstBecomes number line.now result }
 {
     if line == b"livevec 1".as_slice() {
         return Stage::Edits;

@@ -1,20 +1,12 @@
 use lv_bodies::Kind;
+use lv_edits::Edit;
 use lv_standing::Name;
 
 /// What a line of a script asks for.
 #[derive(Clone, Copy, Debug, PartialEq, Eq, Hash)]
 pub enum Command {
-    /// Append an element.
-    Push(i64),
-    /// Take the last element.
-    Pop,
-    /// Put an element over the one at an index.
-    Write {
-        index: u32,
-        value: i64,
-    },
-    /// Make room for this many elements.
-    Reserve(u32),
+    /// Change the vector.
+    Edit(Edit),
     /// Complete the pending write.
     Settle,
     /// Show the element at an index.
@@ -34,14 +26,9 @@ pub enum Command {
         lo: u32,
         hi: u32,
     },
-    /// The reductions of each front of the range, up to and with each element.
-    Inclusive {
-        kind: Kind,
-        lo: u32,
-        hi: u32,
-    },
-    /// The reductions of each front of the range, up to and without each element.
-    Exclusive {
+    /// The reductions of each front of the range: up to each element, and with it where the scan is inclusive.
+    Scan {
+        inclusive: bool,
         kind: Kind,
         lo: u32,
         hi: u32,

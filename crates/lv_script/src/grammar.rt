@@ -1,12 +1,13 @@
 ghost use Rattle.std.specs.Prelude.{◌≡◌, ◌∷◌, ◌++◌};
 ghost use Rattle.std.specs.Str.{bytes_eq};
 ghost use Rattle.lv_script.specs.Words.{words_of};
-ghost use Rattle.lv_script.specs.Grammar.{kind_in, lone_number, lone_element, lone_name, bounds_in, range_in, write_in, watch_in, alone, read_by, command_in, range_forms, other_forms};
+ghost use Rattle.lv_script.specs.Grammar.{kind_in, lone_number, lone_element, lone_name, bounds_in, range_in, swap_in, write_in, watch_in, alone, read_by, command_in, range_forms, other_forms, with_range};
 
 use crate::command::Command;
 use crate::numbers::{element, number};
 use crate::words::{next_word, only_word};
 use lv_bodies::Kind;
+use lv_edits::Edit;
 use lv_standing::Name;
 
 pub(crate) fn spells(word: &[u8], text: &str) -> bool
@@ -94,7 +95,13 @@ fn write(words: &[u8]) -> Option<Command>
     let (word, rest) = next_word(words)?;
     let index = number(word)?;
     let value = lone_element(rest)?;
-    Some(Command::Write { index, value })
+    Some(Command::Edit(Edit::Write { index, value }))
+}
+
+fn swap(words: &[u8]) -> Option<Command>
+    ensures { result ≡ swap_in (words_of words.now) }
+{
+    bounds(words).map(|(first, second)| Command::Edit(Edit::Swap { first, second }))
 }
 
 #[tactic(auto, unfolding(crate::specs::Grammar::watch_in))]
@@ -105,6 +112,17 @@ fn watch(words: &[u8]) -> Option<Command>
     let name = Name::new(word)?;
     let (kind, lo, hi) = range(rest)?;
     Some(Command::Watch { name, kind, lo, hi })
+}
+
+fn scan(inclusive: bool, words: &[u8]) -> Option<Command>
+    ensures { result ≡ with_range (Command.Scan inclusive) (words_of words.now) }
+{
+    range(words).map(|(kind, lo, hi)| Command::Scan {
+        inclusive,
+        kind,
+        lo,
+        hi,
+    })
 }
 
 fn other_command(verb: &[u8], words: &[u8]) -> Option<Command>
@@ -141,10 +159,10 @@ fn range_command(verb: &[u8], words: &[u8]) -> Option<Command>
         return bounds(words).map(|(lo, hi)| Command::Cost { lo, hi });
     }
     if spells(verb, "inc") {
-        return range(words).map(|(kind, lo, hi)| Command::Inclusive { kind, lo, hi });
+        return scan(true, words);
     }
     if spells(verb, "exc") {
-        return range(words).map(|(kind, lo, hi)| Command::Exclusive { kind, lo, hi });
+        return scan(false, words);
     }
     other_command(verb, words)
 }
@@ -155,16 +173,22 @@ pub(crate) fn command(verb: &[u8], words: &[u8]) -> Option<Command>
     ensures { result ≡ command_in (verb.now ∷ words_of words.now) }
 {
     if spells(verb, "push") {
-        return lone_element(words).map(Command::Push);
+        return lone_element(words).map(|value| Command::Edit(Edit::Push(value)));
     }
     if spells(verb, "pop") {
-        return alone(Command::Pop, words);
+        return alone(Command::Edit(Edit::Pop), words);
     }
     if spells(verb, "write") {
         return write(words);
     }
     if spells(verb, "reserve") {
-        return lone_number(words).map(Command::Reserve);
+        return lone_number(words).map(|cells| Command::Edit(Edit::Reserve(cells)));
+    }
+    if spells(verb, "swap") {
+        return swap(words);
+    }
+    if spells(verb, "truncate") {
+        return lone_number(words).map(|kept| Command::Edit(Edit::Truncate(kept)));
     }
     if spells(verb, "settle") {
         return alone(Command::Settle, words);

@@ -5,6 +5,7 @@ ghost use Rattle.lv_script.specs.Schedule.{call_of, plain_call_in};
 
 use crate::command::Command;
 use crate::grammar::{command, lone_number, spells};
+use lv_edits::Edit;
 use lv_machine::Call;
 
 /// The call that a first word and the words after it ask for beside reductions.
@@ -23,23 +24,11 @@ fn call_of(command: Command) -> Option<Call>
     ensures { result ≡ call_of command }
 {
     match command {
-        Command::Push(x) => Some(Call::Push(x)),
-        Command::Pop => Some(Call::Pop),
-        Command::Write { index, value } => Some(Call::Write { index, value }),
+        Command::Edit(Edit::Push(x)) => Some(Call::Push(x)),
+        Command::Edit(Edit::Pop) => Some(Call::Pop),
+        Command::Edit(Edit::Write { index, value }) => Some(Call::Write { index, value }),
         Command::Get(index) => Some(Call::Get(index)),
         Command::Size => Some(Call::Size),
-        Command::Reserve(_)
-        | Command::Settle
-        | Command::Capacity
-        | Command::Reduce { .. }
-        | Command::Cost { .. }
-        | Command::Inclusive { .. }
-        | Command::Exclusive { .. }
-        | Command::Claim
-        | Command::Deliver(_)
-        | Command::Forget
-        | Command::Watch { .. }
-        | Command::Unwatch(_)
-        | Command::Answer(_) => None,
+        _ => None,
     }
 }

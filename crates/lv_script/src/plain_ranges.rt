@@ -55,6 +55,8 @@ fn make(list: &mut Vec<i64>, edit: Edit) -> Result<(), AllocError>
         Edit::Pop => _ = list.pop(),
         Edit::Write { index, value } => list[index as usize] = value,
         Edit::Reserve(_) => {}
+        Edit::Swap { first, second } => list.swap(first as usize, second as usize),
+        Edit::Truncate(kept) => list.truncate(kept as usize),
     }
     Ok(())
 }

@@ -1,13 +1,20 @@
-ghost use Rattle.std.specs.Prelude.{◌≡◌, [], ◌∷◌, ◌++◌, decimal, IfOk, OnOk};
+ghost use Rattle.std.specs.Prelude.{◌≡◌, ◌+◌, ◌≤◌, ◌∷◌, [], ◌++◌, decimal, length, IfOk, vec_len, vec_capacity};
 ghost use Rattle.std.specs.Fmt.{signed_decimal};
+ghost use Rattle.lv_standing.specs.Names.{IsName};
 ghost use Rattle.lv_script.specs.Words.{behind_spaces};
 ghost use Rattle.lv_script.specs.Grammar.{kind_name, line_of};
 ghost use Rattle.lv_script.specs.Printed.{verb_of, arguments_of, range_words, printed, IsCommand};
+ghost use Rattle.lv_script.specs.Texts.{scan_name};
 
 use crate::command::{Command, Line};
-use itoa::Buffer;
+use crate::sender::{put, put_element, put_number};
 use lv_bodies::Kind;
+use lv_edits::Edit;
+use lv_standing::Name;
 use std::alloc::{AllocError, Global};
+
+/// At most how many bytes the text of a command has.
+pub(crate) const COMMAND: usize = 78;
 
 /// The text of a command: its words with one space between, and no zeros before a number. It fails only
 /// where there is no memory.
@@ -16,28 +23,42 @@ pub fn print_command(alloc: Global, command: &Command) -> Result<Vec<u8>, AllocE
     // Read as a line, it is the same command.
     ensures again { IfOk result (λ text. line_of text.items ≡ Line.Do command.now) }
 {
-    let mut text = Vec::from_slice(alloc, verb(command).as_bytes())?;
-    push_arguments(&mut text, command)?;
+    let mut text = Vec::with_capacity(alloc, COMMAND)?;
+    put_command(&mut text, command);
     Ok(text)
+}
+
+/// Puts the text of a command behind what is held.
+pub(crate) fn put_command(held: &mut Vec<u8>, command: &Command)
+    requires { vec_len held.old + COMMAND ≤ vec_capacity held.old }
+    ensures text { held.new.items ≡ held.old.items ++ printed command.now }
+    ensures len { vec_len held.new ≤ vec_len held.old + COMMAND }
+    ensures room { vec_capacity held.old ≤ vec_capacity held.new }
+    ensures fits { IsCommand command.now }
+{
+    put(held, verb(command).as_bytes());
+    put_arguments(held, command);
 }
 
 /// The first word of a command.
 fn verb(command: &Command) -> &'static str
-    ensures { result.now ≡ verb_of command.now }
+    ensures value { result.now ≡ verb_of command.now }
+    ensures short { length result.now ≤ 9 }
 {
     match command {
-        Command::Push(_) => "push",
-        Command::Pop => "pop",
-        Command::Write { .. } => "write",
-        Command::Reserve(_) => "reserve",
+        Command::Edit(Edit::Push(_)) => "push",
+        Command::Edit(Edit::Pop) => "pop",
+        Command::Edit(Edit::Write { .. }) => "write",
+        Command::Edit(Edit::Reserve(_)) => "reserve",
+        Command::Edit(Edit::Swap { .. }) => "swap",
+        Command::Edit(Edit::Truncate(_)) => "truncate",
         Command::Settle => "settle",
         Command::Get(_) => "get",
         Command::Size => "size",
         Command::Capacity => "capacity",
         Command::Reduce { .. } => "reduce",
         Command::Cost { .. } => "cost",
-        Command::Inclusive { .. } => "inc",
-        Command::Exclusive { .. } => "exc",
+        Command::Scan { inclusive, .. } => scan_name(*inclusive),
         Command::Claim => "claim",
         Command::Deliver(_) => "deliver",
         Command::Forget => "forget",
@@ -61,73 +82,108 @@ pub(crate) fn kind_name(kind: Kind) -> &'static str
     }
 }
 
-fn push_word(text: &mut Vec<u8>, word: &[u8]) -> Result<(), AllocError>
-    ensures { OnOk result (text.new.items ≡ text.old.items ++ (32 ∷ word.now)) }
+/// The word of a scan.
+pub(crate) fn scan_name(inclusive: bool) -> &'static str
+    ensures { result.now ≡ scan_name inclusive }
 {
-    text.push(b' ')?;
-    text.extend_from_slice(word)?;
-    Ok(())
+    if inclusive { "inc" } else { "exc" }
 }
 
-fn push_number(text: &mut Vec<u8>, n: u32) -> Result<(), AllocError>
-    ensures { OnOk result (text.new.items ≡ text.old.items ++ (32 ∷ decimal n)) }
+// Puts a word behind a space.
+fn put_word(held: &mut Vec<u8>, word: &[u8])
+    requires { vec_len held.old + 1 + length word.now ≤ vec_capacity held.old }
+    ensures text { held.new.items ≡ held.old.items ++ (32 ∷ word.now) }
+    ensures len { vec_len held.new ≡ vec_len held.old + 1 + length word.now }
+    ensures room { vec_capacity held.old ≤ vec_capacity held.new }
 {
-    let mut buffer = Buffer::new();
-    push_word(text, buffer.format(n).as_bytes())
+    put(held, b" ");
+    put(held, word);
 }
 
-fn push_element(text: &mut Vec<u8>, value: i64) -> Result<(), AllocError>
-    ensures { OnOk result (text.new.items ≡ text.old.items ++ (32 ∷ signed_decimal value)) }
+fn put_name_word(held: &mut Vec<u8>, name: Name)
+    requires { vec_len held.old + 17 ≤ vec_capacity held.old }
+    ensures text { held.new.items ≡ held.old.items ++ (32 ∷ name) }
+    ensures named { IsName name }
+    ensures len { vec_len held.new ≤ vec_len held.old + 17 }
+    ensures room { vec_capacity held.old ≤ vec_capacity held.new }
 {
-    let mut buffer = Buffer::new();
-    push_word(text, buffer.format(value).as_bytes())
+    put_word(held, name.as_bytes());
 }
 
-fn push_bounds(text: &mut Vec<u8>, lo: u32, hi: u32) -> Result<(), AllocError>
-    ensures { OnOk result (text.new.items
-        ≡ text.old.items ++ behind_spaces (decimal lo ∷ decimal hi ∷ [])) }
+fn put_number_word(held: &mut Vec<u8>, n: u32)
+    requires { vec_len held.old + 21 ≤ vec_capacity held.old }
+    ensures text { held.new.items ≡ held.old.items ++ (32 ∷ decimal n) }
+    ensures len { vec_len held.new ≤ vec_len held.old + 21 }
+    ensures room { vec_capacity held.old ≤ vec_capacity held.new }
 {
-    push_number(text, lo)?;
-    push_number(text, hi)
+    put(held, b" ");
+    put_number(held, n.into());
 }
 
-fn push_range(text: &mut Vec<u8>, kind: Kind, lo: u32, hi: u32) -> Result<(), AllocError>
-    ensures { OnOk result (text.new.items
-        ≡ text.old.items ++ behind_spaces (range_words kind lo hi)) }
+fn put_element_word(held: &mut Vec<u8>, value: i64)
+    requires { vec_len held.old + 21 ≤ vec_capacity held.old }
+    ensures text { held.new.items ≡ held.old.items ++ (32 ∷ signed_decimal value) }
+    ensures len { vec_len held.new ≤ vec_len held.old + 21 }
+    ensures room { vec_capacity held.old ≤ vec_capacity held.new }
 {
-    push_word(text, kind_name(kind).as_bytes())?;
-    push_bounds(text, lo, hi)
+    put(held, b" ");
+    put_element(held, value);
 }
 
-fn push_arguments(text: &mut Vec<u8>, command: &Command) -> Result<(), AllocError>
-    ensures words { OnOk result (text.new.items
-        ≡ text.old.items ++ behind_spaces (arguments_of command.now)) }
+// Two numbers, each behind a space.
+fn put_numbers(held: &mut Vec<u8>, first: u32, second: u32)
+    requires { vec_len held.old + 42 ≤ vec_capacity held.old }
+    ensures text { held.new.items ≡ held.old.items ++ behind_spaces (decimal first ∷ decimal second ∷ []) }
+    ensures len { vec_len held.new ≤ vec_len held.old + 42 }
+    ensures room { vec_capacity held.old ≤ vec_capacity held.new }
+{
+    put_number_word(held, first);
+    put_number_word(held, second);
+}
+
+fn put_range(held: &mut Vec<u8>, kind: Kind, lo: u32, hi: u32)
+    requires { vec_len held.old + 52 ≤ vec_capacity held.old }
+    ensures text { held.new.items ≡ held.old.items ++ behind_spaces (range_words kind lo hi) }
+    ensures len { vec_len held.new ≤ vec_len held.old + 52 }
+    ensures room { vec_capacity held.old ≤ vec_capacity held.new }
+{
+    put_word(held, kind_name(kind).as_bytes());
+    put_numbers(held, lo, hi);
+}
+
+// The words of a command after its first, each behind a space.
+fn put_arguments(held: &mut Vec<u8>, command: &Command)
+    requires { vec_len held.old + 69 ≤ vec_capacity held.old }
+    ensures words { held.new.items ≡ held.old.items ++ behind_spaces (arguments_of command.now) }
+    ensures len { vec_len held.new ≤ vec_len held.old + 69 }
+    ensures room { vec_capacity held.old ≤ vec_capacity held.new }
     ensures fits { IsCommand command.now }
 {
     match *command {
-        Command::Push(value) => push_element(text, value),
-        Command::Write { index, value } => {
-            push_number(text, index)?;
-            push_element(text, value)
+        Command::Edit(Edit::Push(value)) => put_element_word(held, value),
+        Command::Edit(Edit::Write { index, value }) => {
+            put_number_word(held, index);
+            put_element_word(held, value);
         }
-        Command::Reserve(n) => push_number(text, n),
-        Command::Get(index) => push_number(text, index),
-        Command::Cost { lo, hi } => push_bounds(text, lo, hi),
-        Command::Reduce { kind, lo, hi } => push_range(text, kind, lo, hi),
-        Command::Inclusive { kind, lo, hi } => push_range(text, kind, lo, hi),
-        Command::Exclusive { kind, lo, hi } => push_range(text, kind, lo, hi),
-        Command::Deliver(job) => push_number(text, job),
+        Command::Edit(Edit::Reserve(cells)) => put_number_word(held, cells),
+        Command::Edit(Edit::Swap { first, second }) => put_numbers(held, first, second),
+        Command::Edit(Edit::Truncate(kept)) => put_number_word(held, kept),
+        Command::Get(index) => put_number_word(held, index),
+        Command::Cost { lo, hi } => put_numbers(held, lo, hi),
+        Command::Reduce { kind, lo, hi } => put_range(held, kind, lo, hi),
+        Command::Scan { kind, lo, hi, .. } => put_range(held, kind, lo, hi),
+        Command::Deliver(job) => put_number_word(held, job),
         Command::Watch { name, kind, lo, hi } => {
-            push_word(text, name.as_bytes())?;
-            push_range(text, kind, lo, hi)
+            put_name_word(held, name);
+            put_range(held, kind, lo, hi);
         }
-        Command::Unwatch(name) => push_word(text, name.as_bytes()),
-        Command::Answer(name) => push_word(text, name.as_bytes()),
-        Command::Pop
+        Command::Unwatch(name) => put_name_word(held, name),
+        Command::Answer(name) => put_name_word(held, name),
+        Command::Edit(Edit::Pop)
         | Command::Settle
         | Command::Size
         | Command::Capacity
         | Command::Claim
-        | Command::Forget => Ok(()),
+        | Command::Forget => {}
     }
 }

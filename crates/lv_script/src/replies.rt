@@ -1,4 +1,4 @@
-ghost use Rattle.std.specs.Prelude.{◌≡◌, ◌+◌, ◌≤◌, ◌++◌, map, decimal, vec_len, vec_capacity};
+ghost use Rattle.std.specs.Prelude.{◌≡◌, ◌+◌, ◌≤◌, ◌++◌, codes, length, map, decimal, vec_len, vec_capacity};
 ghost use Rattle.lv_script.specs.Words.{spaced};
 ghost use Rattle.lv_script.specs.Texts.{answer_text, bad_text, capacity_text, receipt_text, refused_text, settled_text, size_text, shown_text, element_text, value_text};
 
@@ -18,30 +18,56 @@ pub fn put_receipt(held: &mut Vec<u8>, receipt: Receipt)
     ensures len { vec_len held.new ≤ vec_len held.old + LINE }
     ensures room { vec_capacity held.old ≤ vec_capacity held.new }
 {
-    put(held, b"edit ");
     match receipt {
         Receipt::Pushed { edit, index } => {
-            put_number(held, edit.into());
-            put(held, b" at ");
+            put_edit(held, edit, b" at ");
             put_number(held, index.into());
+            put(held, b"\n");
         }
         Receipt::Popped { edit, value } => {
-            put_number(held, edit.into());
-            put(held, b" value ");
+            put_edit(held, edit, b" value ");
             put_element(held, value);
+            put(held, b"\n");
         }
         Receipt::Written { edit, before } => {
-            put_number(held, edit.into());
-            put(held, b" was ");
+            put_edit(held, edit, b" was ");
             put_element(held, before);
+            put(held, b"\n");
         }
         Receipt::Reserved { edit, capacity } => {
-            put_number(held, edit.into());
-            put(held, b" capacity ");
+            put_edit(held, edit, b" capacity ");
             put_number(held, capacity.into());
+            put(held, b"\n");
+        }
+        Receipt::Swapped {
+            edit,
+            first,
+            second,
+        } => {
+            put_edit(held, edit, b" now ");
+            put_element(held, first);
+            put(held, b" ");
+            put_element(held, second);
+            put(held, b"\n");
+        }
+        Receipt::Truncated { edit, dropped } => {
+            put_edit(held, edit, b" dropped ");
+            put_number(held, dropped.into());
+            put(held, b"\n");
         }
     }
-    put(held, b"\n");
+}
+
+// The number of an edit, and the word that comes behind it.
+fn put_edit(held: &mut Vec<u8>, edit: u32, word: &[u8])
+    requires { vec_len held.old + 25 + length word.now ≤ vec_capacity held.old }
+    ensures text { held.new.items ≡ held.old.items ++ (codes "edit " ++ decimal edit ++ word.now) }
+    ensures len { vec_len held.new ≤ vec_len held.old + 25 + length word.now }
+    ensures room { vec_capacity held.old ≤ vec_capacity held.new }
+{
+    put(held, b"edit ");
+    put_number(held, edit.into());
+    put(held, word);
 }
 
 /// A refusal, by its number.

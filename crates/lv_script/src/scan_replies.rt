@@ -1,10 +1,10 @@
 ghost use Rattle.std.specs.Prelude.{◌≡◌, ◌+◌, ◌*◌, ◌≤◌, [], ◌++◌, length, map, IsOk, OnOk, IfErr, vec_len, vec_capacity};
 ghost use Rattle.lv_bodies.specs.Six.{face_of};
 ghost use Rattle.lv_script.specs.Output.{Writes, WritesFront};
-ghost use Rattle.lv_script.specs.Texts.{scan_head, scan_name, scan_text, scanned_text, values_text};
+ghost use Rattle.lv_script.specs.Texts.{scan_head, scan_text, scanned_text, values_text};
 
 use crate::fault::Fault;
-use crate::printing::kind_name;
+use crate::printing::{kind_name, scan_name};
 use crate::replies::{LINE, put_shown};
 use crate::sender::{make_room, put, put_number};
 use lv_bodies::{Body, Kind, Shown, Six, face};
@@ -71,13 +71,6 @@ fn put_head_line(held: &mut Vec<u8>, edit: u32, inclusive: bool, kind: Kind, cou
     put(held, b" ");
     put_number(held, count);
     put(held, b"\n");
-}
-
-// The word of a scan.
-fn scan_name(inclusive: bool) -> &'static str
-    ensures { result.now ≡ scan_name inclusive }
-{
-    if inclusive { "inc" } else { "exc" }
 }
 
 /// The values of a scan, each on a line of its own for which room is made as the line comes.

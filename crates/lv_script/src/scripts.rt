@@ -2,17 +2,16 @@ ghost use Rattle.std.specs.Prelude.{◌≡◌, ◌+◌, ◌≤◌, ◌++◌, [],
 ghost use Rattle.lv_live.specs.State.{IsWorld};
 ghost use Rattle.lv_script.specs.Output.{Writes, WritesFront};
 ghost use Rattle.lv_script.specs.Replies.{Conversed, FailsToReply, Replies};
-ghost use Rattle.lv_script.specs.Script.{CommandAnswer, LineAnswer, ScriptState, ScriptStep, program_operations};
+ghost use Rattle.lv_script.specs.Script.{LineAnswer, ScriptState, ScriptStep, program_operations};
 ghost use Rattle.lv_script.specs.Scripted.{Begins, state_of};
 
-use crate::answers::{ROOM, Task, answer, task_of};
-use crate::command::{Command, Line};
+use crate::answers::{ROOM, answer};
+use crate::command::Line;
 use crate::conversation::converse;
 use crate::fault::Fault;
 use crate::lines::read_line;
 use crate::replies::put_bad;
 use crate::responder::Responder;
-use crate::scans::answer_scan;
 use crate::sender::{HELD, make_room};
 use lv_bodies::Six;
 use lv_geometry::Limits;
@@ -114,35 +113,7 @@ fn answer_line<W: Write>(
     match line {
         Line::Nothing => {}
         Line::Bad => put_bad(held, number),
-        Line::Do(command) => return answer_command(alloc, standing, jobs, command, writer, held),
+        Line::Do(command) => return answer(alloc, standing, jobs, command, writer, held),
     }
     Ok(())
-}
-
-// Answers a command. Only the reply to a scan may be longer than what is held.
-fn answer_command<W: Write>(
-    alloc: Global,
-    standing: &mut Standing,
-    jobs: &mut Vec<Job<Six>>,
-    command: Command,
-    writer: &mut W,
-    held: &mut Vec<u8>,
-) -> Result<(), Fault>
-    requires world { IsWorld program_operations standing.old.live jobs.old.items }
-    requires room { vec_len held.old + ROOM ≤ vec_capacity held.old }
-    ensures ok { OnOk result ((reply : List ℕ) × CommandAnswer (state_of standing.old jobs.old.items) command reply (state_of standing.new jobs.new.items)
-        × Writes (W.contents writer.old) held.old.items (W.contents writer.new) held.new.items reply) }
-    ensures fault { IfErr result (λ fault. (fault ≡ Fault.WriteFault) × (reply : List ℕ)
-        × CommandAnswer (state_of standing.old jobs.old.items) command reply (state_of standing.new jobs.new.items)
-        × WritesFront (W.contents writer.old) held.old.items (W.contents writer.new) reply) }
-    ensures world { IsWorld program_operations standing.new.live jobs.new.items }
-    ensures room { vec_capacity held.old ≤ vec_capacity held.new }
-{
-    match task_of(command) {
-        Task::Scan(asked) => answer_scan(standing, writer, held, &asked),
-        Task::Other(command) => {
-            answer(alloc, standing, jobs, command, held);
-            Ok(())
-        }
-    }
 }

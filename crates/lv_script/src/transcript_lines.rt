@@ -1,7 +1,7 @@
 // The lines of a transcript: how each is put, and how one is read.
 ghost use Rattle.std.specs.Prelude.{◌≡◌, ◌≢◌, ◌+◌, ◌≤◌, ◌++◌, Some, List, ℕ, MatchOption, vec_len, vec_capacity};
 ghost use Rattle.lv_edits.specs.declared.edit.Edit.{Edit};
-ghost use Rattle.lv_script.specs.Auditing.{bounds_before, edit_asked, question_before, question_in, range_before, text_of, IsQuestion};
+ghost use Rattle.lv_script.specs.Auditing.{bounds_before, question_before, question_in, range_before, text_of, IsQuestion};
 ghost use Rattle.lv_script.specs.Transcript.{edit_line, question_text, IsEdit};
 ghost use Rattle.lv_script.specs.Words.{words_of};
 
@@ -9,8 +9,8 @@ use crate::command::{Command, Line};
 use crate::grammar::kind;
 use crate::lines::read_line;
 use crate::numbers::number;
-use crate::printing::kind_name;
-use crate::sender::{put, put_element, put_number};
+use crate::printing::{kind_name, put_command};
+use crate::sender::{put, put_number};
 use crate::words::next_word;
 use lv_bodies::Kind;
 use lv_edits::Edit;
@@ -35,23 +35,8 @@ pub(crate) fn put_edit_line(held: &mut Vec<u8>, edit: Edit)
     ensures room { vec_capacity held.old ≤ vec_capacity held.new }
     ensures fits { IsEdit edit }
 {
-    match edit {
-        Edit::Push(x) => {
-            put(held, b"j push ");
-            put_element(held, x);
-        }
-        Edit::Pop => put(held, b"j pop"),
-        Edit::Write { index, value } => {
-            put(held, b"j write ");
-            put_number(held, index.into());
-            put(held, b" ");
-            put_element(held, value);
-        }
-        Edit::Reserve(cells) => {
-            put(held, b"j reserve ");
-            put_number(held, cells.into());
-        }
-    }
+    put(held, b"j ");
+    put_command(held, &Command::Edit(edit));
 }
 
 /// Puts what the line of a claim begins with, up to its value, after what is held.
@@ -94,19 +79,16 @@ fn likely_edit(line: &[u8]) -> Option<Edit>
 {
     let command = line.strip_prefix(b"j ")?;
     match read_line(command) {
-        Line::Do(command) => edit_asked(command),
+        Line::Do(command) => edit_of(command),
         Line::Nothing | Line::Bad => None,
     }
 }
 
-fn edit_asked(command: Command) -> Option<Edit>
-    ensures { result ≡ edit_asked command }
+fn edit_of(command: Command) -> Option<Edit>
+    ensures { (edit : Edit) → command ≡ Command.Edit edit → result ≡ Some edit }
 {
     match command {
-        Command::Push(x) => Some(Edit::Push(x)),
-        Command::Pop => Some(Edit::Pop),
-        Command::Write { index, value } => Some(Edit::Write { index, value }),
-        Command::Reserve(cells) => Some(Edit::Reserve(cells)),
+        Command::Edit(edit) => Some(edit),
         _ => None,
     }
 }

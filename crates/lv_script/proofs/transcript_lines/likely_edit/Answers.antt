@@ -1,13 +1,13 @@
-use Rattle.std.proofs.Common.{◌≡◌, ap, ◌∙◌, inl, inr}
-use Rattle.lv_script.specs.Auditing.{edit_asked}
-use Rattle.lv_script.proofs.ReadTranscripts.{command_for, edit_asked-command_for, line_of-edit_line}
+use Rattle.std.proofs.Common.{◌≡◌, inl, inr}
+use Rattle.lv_script.specs.declared.command.Command.TheVariants as commands
+use Rattle.lv_script.proofs.ReadTranscripts.{line_of-edit_line}
 use Rattle.lv_script.proofs.transcript_lines.likely_edit.Goals as goal
 
 pub returns-in-Do : goal.returns-in-Do
 returns-in-Do c = λ edit fits is.
     let read = line_of-edit_line c.args.line.now c.in_ok-command.command.now edit fits c.in_ok-command.ensures.cases.1 is in
-    let same : c.in-Do.command ≡ command_for edit = cc (c.in-Do.ensures, read) in
-    c.edit_asked.ensures ∙ ap edit_asked same ∙ edit_asked-command_for edit
+    let same : c.in-Do.command ≡ commands.Edit edit = cc (c.in-Do.ensures, read) in
+    c.edit_of.ensures edit same
 
 pub returns-in-Nothing : goal.returns-in-Nothing
 returns-in-Nothing c = λ edit fits is.

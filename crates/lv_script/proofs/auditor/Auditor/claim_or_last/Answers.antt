@@ -10,7 +10,7 @@ returns-in-Some c =
     let old = state_of self.stage self.edits self.replay.edit in
     let read = c.in-Some.ensures.claim in
     rw c.take_claim.ensures.edits
-    (Becomes-claim old c.args.line.now c.in-Some.value.now c.in-Some.question c.take_claim.result c.take_claim.new.self.replay.edit c.requires read.0 read.1
+    (Becomes-claim c.args.number old c.args.line.now c.in-Some.value.now c.in-Some.question c.take_claim.result c.take_claim.new.self.replay.edit c.requires read.0 read.1
     c.take_claim.ensures.claim)
 
 pub returns-in-None : goal.returns-in-None
