@@ -1,6 +1,6 @@
 -- What a move of one actor leaves as it was for the others.
 use Rattle.std.proofs.Common.{◌≡◌, ◌≢◌, ℕ, zero, suc, ◌/◌, ◌≤◌, max, Bool, true, false, nat_eq, List, [], ◌∷◌, slice_index, slice_set, refl, sym, ap, ◌∙◌, subst, arith}
-use Rattle.std.specs.Prelude.{if◌then◌else◌}
+use Rattle.std.specs.Prelude.{All, if◌then◌else◌}
 use Rattle.std.proofs.lemmas.Bool.{cond-false, cond-true, eq-eqb}
 use Rattle.std.proofs.lemmas.Bool.Decides.{nat_tests}
 use Rattle.std.proofs.lemmas.List.{get_or-set_other}
@@ -17,8 +17,9 @@ use Rattle.lv_machine.proofs.ShowsLaws.{place_is}
 use Rattle.lv_machine.proofs.WordLaws.{cell_version-grows}
 use Rattle.lv_board.specs.declared.actors.Actor.{Actor}
 use Rattle.lv_board.specs.declared.actors.Basis.{Basis}
+use Rattle.lv_board.specs.declared.actors.Installed.{Installed}
 use Rattle.lv_board.specs.declared.actors.View.{View}
-use Rattle.lv_board.specs.Rule.{ActorFits, ViewFits}
+use Rattle.lv_board.specs.Rule.{ActorFits, IsThere, ViewFits}
 
 -- a state goes on to another by a move of actor a: the history grows, by edits of a alone; other looks stay, and no word but the descriptor falls
 pub record Advances (a : ℕ) (c d : Config) : Type 0 where
@@ -100,6 +101,10 @@ moved_advances a c (Read b) is = stays a c
 no_place_first : (b r : ℕ) → place b r ≢ 0
 no_place_first b r is = omega (arith, place_is b r)
 
+-- parts that were installed stand there after any move, or are displaced by later ones
+pub installed_stays : (a : ℕ) (c d : Config) (xs : List Installed) → Advances a c d → All (IsThere c.words) xs → All (IsThere d.words) xs
+installed_stays a c d xs on = All-weaker (IsThere c.words) (IsThere d.words) (λ p was. let more = on.words p.place (λ zero. omega (arith, was.some)) in record { some = was.some; word = omega (arith, was.word) }) xs
+
 -- what another seat's actor knows stays true
 pub actor_stays : (seats a : ℕ) (c d : Config) (owner : ℕ → ℕ) (id : ℕ) (x : Actor) → Advances a c d → x.number ≢ a → ActorFits seats c owner id x → ActorFits seats d owner id x
 actor_stays seats a c d owner id x on apart fits = record {
@@ -119,6 +124,7 @@ actor_stays seats a c d owner id x on apart fits = record {
       let was = fits.marked done has in
       let more = on.words (mark_place (index_of (descriptor_of x.seen) / 8)) (no_place_first _ _) in
       omega arith;
+  installed = installed_stays a c d x.installed on fits.installed;
 }
 
 module _ {B : Type 0} (f : B → Folding) where

@@ -25,7 +25,7 @@ use Rattle.lv_board.specs.Plays.{Exchanges, IsAccepted, IsContended}
 use Rattle.lv_board.specs.Rule.{ActorFits, Holds, IsSeat, terms_of, ViewFits}
 use Rattle.lv_board.specs.Stands.{IsLook, IsReady}
 use Rattle.lv_board.proofs.Handing.{Ends-none}
-use Rattle.lv_board.proofs.Advancing.{own-same}
+use Rattle.lv_board.proofs.Advancing.{accepted_advances, installed_stays, own-same}
 use Rattle.lv_board.proofs.Seating.{legal_look}
 use Rattle.lv_board.proofs.Keeping.{rule_moved, same_basis, seat_fits, shows, state_of}
 
@@ -53,7 +53,7 @@ module _ {S B : Type 0} (f : B → Folding) (z : Basis B) (slots id look new : �
   entry = record { actor = me.0.actor.number; edit = edit }
 
   abbrev next : Actor
-  next = record { number = me.0.actor.number; seen = entry ∷ me.0.actor.seen; known = entry ∷ me.0.actor.seen; own = entry ∷ me.0.actor.own; told = []; helped = false; marked = false }
+  next = record { number = me.0.actor.number; seen = entry ∷ me.0.actor.seen; known = entry ∷ me.0.actor.seen; own = entry ∷ me.0.actor.own; told = []; helped = false; marked = false; installed = me.0.actor.installed }
 
   -- what the exchange is to answer for, where a word is found
   abbrev Ends' : State S (View B) → ℕ → Bool → Type 0
@@ -110,6 +110,7 @@ module _ {S B : Type 0} (f : B → Folding) (z : Basis B) (slots id look new : �
               told = Ends-none (entry ∷ (state_of f z s rule).history);
               helped = λ wrong. absurd (cc);
               marked = λ wrong. absurd (cc);
+              installed = installed_stays me.0.actor.number (state_of f z s rule) (accepted (state_of f z s rule) me.0.actor.number edit) me.0.actor.installed (accepted_advances me.0.actor.number (state_of f z s rule) edit) x.installed;
             })),
         (refl, refl),
         λ b other. subst (λ b. IsAccepted (terms_of f b) me.0.actor next record { actor = me.0.actor.number; edit = edit_between look new }) (same_basis f z me.0 b based other) record {
@@ -130,7 +131,7 @@ module _ {S B : Type 0} (f : B → Folding) (z : Basis B) (slots id look new : �
       let x = fits.sits seat.sits in
       let show = shows f z s rule in
       let h = (state_of f z s rule).history in
-      let y : Actor = record { number = me.0.actor.number; seen = (state_of f z s rule).history; known = (state_of f z s rule).history; own = me.0.actor.own; told = []; helped = false; marked = false } in
+      let y : Actor = record { number = me.0.actor.number; seen = (state_of f z s rule).history; known = (state_of f z s rule).history; own = me.0.actor.own; told = []; helped = false; marked = false; installed = me.0.actor.installed } in
       let own_look : (state_of f z s rule).looks me.0.actor.number ≡ look = x.look ∙ sym is in
       let same : slice_index s.words 0 ≡ slice_index (state_of f z s rule).words 0 = ap (λ ws. slice_index ws 0) rule.words_are in
       let found : slice_index s.words 0 ≡ descriptor_of (state_of f z s rule).history = same ∙ show.first in
@@ -155,6 +156,7 @@ module _ {S B : Type 0} (f : B → Folding) (z : Basis B) (slots id look new : �
               told = Ends-none (state_of f z s rule).history;
               helped = λ wrong. absurd (cc);
               marked = λ wrong. absurd (cc);
+              installed = x.installed;
             })),
         (refl, refl),
         λ b else'. subst (λ b. IsContended (terms_of f b) me.0.actor y (slice_index s.words 0)) (same_basis f z me.0 b based else') record {

@@ -16,7 +16,7 @@ use Rattle.lv_machine.specs.Terms.{Folding}
 use Rattle.lv_board.specs.declared.actors.Actor.{Actor}
 use Rattle.lv_board.specs.declared.actors.Basis.{Basis}
 use Rattle.lv_board.specs.declared.actors.View.{View}
-use Rattle.lv_board.specs.Rule.{ActorFits, dealer_from, gathered, Holds, informed, IsSeat, newcomer, note, spent, terms_of, ViewFits}
+use Rattle.lv_board.specs.Rule.{ActorFits, dealer_from, gathered, Holds, informed, IsSeat, IsThere, newcomer, note, spent, terms_of, ViewFits}
 use Rattle.lv_board.proofs.Advancing.{own-nil}
 
 -- no history is an earlier one of each
@@ -48,6 +48,7 @@ refit seats c owner owner' id id' x fits is = record {
   told = fits.told;
   helped = fits.helped;
   marked = fits.marked;
+  installed = fits.installed;
 }
 
 abbrev owner_dealt : (ℕ → ℕ) → ℕ → ℕ → ℕ → ℕ
@@ -71,7 +72,7 @@ module _ {B : Type 0} (f : B → Folding) (z : Basis B) where
   }
 
   -- a view that says nothing but what it knows
-  quiet_fits : (c : Config) (owner : ℕ → ℕ) (id : ℕ) (k : List Entry) → Ends k c.history → ViewFits f z c owner id record { actor = record { number = 0; seen = []; known = k; own = []; told = []; helped = false; marked = false }; sits = false; deals = false; bases = []; more = [] }
+  quiet_fits : (c : Config) (owner : ℕ → ℕ) (id : ℕ) (k : List Entry) → Ends k c.history → ViewFits f z c owner id record { actor = record { number = 0; seen = []; known = k; own = []; told = []; helped = false; marked = false; installed = [] }; sits = false; deals = false; bases = []; more = [] }
   quiet_fits c owner id k known = record {
     known = known;
     based = λ wrong. absurd (false≢true wrong);
@@ -95,6 +96,7 @@ module _ {B : Type 0} (f : B → Folding) (z : Basis B) where
       told = Ends-none c.history;
       helped = λ wrong. absurd (false≢true wrong);
       marked = λ wrong. absurd (false≢true wrong);
+      installed = All-nil (IsThere c.words);
     };
     deals = λ wrong. absurd (false≢true wrong);
     more = All-nil (ActorFits z.seats c owner id);
@@ -186,6 +188,7 @@ module _ (S : Type 0) {B : Type 0} (f : B → Folding) (z : Basis B) where
                 told = (rule.views other w theirs).known;
                 helped = x.helped;
                 marked = x.marked;
+                installed = x.installed;
               };
               deals = λ wrong. absurd (false≢true (sym seat.deals ∙ wrong));
               more = mine.more;

@@ -1,7 +1,7 @@
 -- Each step of a seat keeps the rule, and tells what it says.
 use Rattle.std.proofs.Common.{◌≡◌, ◌≢◌, ℕ, ◌+◌, ◌-◌, ◌*◌, ◌/◌, ◌%◌, ◌<◌, ◌≤◌, max, true, false, List, [], ◌∷◌, slice_index, slice_set, refl, sym, ap, ◌∙◌, subst, ⊎_elim, arith}
 use Rattle.std.proofs.lemmas.Bool.{cond-true, eq-eqb, false≢true}
-use Rattle.std.proofs.lemmas.List.Elements.{All-nil, All-same}
+use Rattle.std.proofs.lemmas.List.Elements.{All-cons, All-nil, All-same}
 use Rattle.std.proofs.lemmas.List.{get_or-set_same}
 use mathlib.Core.Option.{some, none}
 use lib.ListN.{get_elem?}
@@ -24,11 +24,12 @@ use Rattle.lv_machine.proofs.ShowsLaws.{few_blocks, pending, place_is}
 use Rattle.lv_machine.proofs.WordLaws.{cell_version-grows, cell_version-word, value_of-short}
 use Rattle.lv_board.specs.declared.actors.Actor.{Actor}
 use Rattle.lv_board.specs.declared.actors.Basis.{Basis}
+use Rattle.lv_board.specs.declared.actors.Installed.{Installed}
 use Rattle.lv_board.specs.declared.actors.View.{View}
 use Rattle.lv_board.specs.Plays.{HelpsCell, HelpsMark, Installs, IsRead, Looks, Reads, SeesAll}
-use Rattle.lv_board.specs.Rule.{ActorFits, Holds, IsSeat, terms_of, ViewFits}
+use Rattle.lv_board.specs.Rule.{ActorFits, Holds, IsSeat, IsThere, terms_of, ViewFits}
 use Rattle.lv_board.proofs.Handing.{Ends-none}
-use Rattle.lv_board.proofs.Advancing.{IsOf, moved_advances, raised_advances, view_stays}
+use Rattle.lv_board.proofs.Advancing.{installed_stays, IsOf, moved_advances, raised_advances, view_stays}
 
 first_same : {A : Type 0} (x y : A) → x ∷ [] ≡ y ∷ [] → x ≡ y
 first_same x y e = cc
@@ -101,7 +102,7 @@ module _ {S B : Type 0} (f : B → Folding) (z : Basis B) where
       let fits = rule.views id me.0 at in
       let based = fits.based seat.sits in
       let x = fits.sits seat.sits in
-      let y : Actor = record { number = me.0.actor.number; seen = (state_of s rule).history; known = (state_of s rule).history; own = me.0.actor.own; told = []; helped = false; marked = false } in
+      let y : Actor = record { number = me.0.actor.number; seen = (state_of s rule).history; known = (state_of s rule).history; own = me.0.actor.own; told = []; helped = false; marked = false; installed = me.0.actor.installed } in
       let show = shows s rule in
       let found : slice_index s.words 0 ≡ descriptor_of (state_of s rule).history = ap (λ ws. slice_index ws 0) rule.words_are ∙ show.first in (
         record (me.0) { actor = y },
@@ -120,11 +121,12 @@ module _ {S B : Type 0} (f : B → Folding) (z : Basis B) where
               told = Ends-none (state_of s rule).history;
               helped = λ wrong. absurd (cc);
               marked = λ wrong. absurd (cc);
+              installed = x.installed;
             }),
         (
           (refl, refl),
           record { number = refl; known = x.known; own_is = x.own_is; made = refl },
-          λ b other. subst (λ b. SeesAll (terms_of f b) record { number = me.0.actor.number; seen = (state_of s rule).history; known = (state_of s rule).history; own = me.0.actor.own; told = []; helped = false; marked = false } (slice_index s.words 0)) (same_basis f z me.0 b based other)
+          λ b other. subst (λ b. SeesAll (terms_of f b) record { number = me.0.actor.number; seen = (state_of s rule).history; known = (state_of s rule).history; own = me.0.actor.own; told = []; helped = false; marked = false; installed = me.0.actor.installed } (slice_index s.words 0)) (same_basis f z me.0 b based other)
               record { terms = rule.terms; all = refl; found_is = found; legal = show.legal; made = x.made },
           x.told,
         ),
@@ -155,6 +157,7 @@ module _ {S B : Type 0} (f : B → Folding) (z : Basis B) where
               told = x.told;
               helped = x.helped;
               marked = x.marked;
+              installed = x.installed;
             }),
         (
           (refl, refl),
@@ -208,6 +211,7 @@ module _ {S B : Type 0} (f : B → Folding) (z : Basis B) where
               helped = λ _ _. subst (λ w. edit_of w ≤ cell_version (slice_index (raised (state_of s rule) spot (completing look)).words (cell_place (index_of w)))) is
                   (let more = cell_version-grows (completing look) value (omega arith) in omega (arith, ap cell_version here));
               marked = λ done pend. let was = x.marked done pend in let more = on.words (mark_place (index_of (descriptor_of me.0.actor.seen) / 8)) (λ zero. omega (arith, place_is (index_of (descriptor_of me.0.actor.seen) / 8) 8)) in omega arith;
+              installed = installed_stays me.0.actor.number (state_of s rule) (raised (state_of s rule) spot (completing look)) me.0.actor.installed on x.installed;
             },
         (refl, refl),
       )
@@ -241,6 +245,7 @@ module _ {S B : Type 0} (f : B → Folding) (z : Basis B) where
               told = x.told;
               helped = λ done pend. let was = x.helped done pend in let more = cell_version-grows _ _ (on.words (cell_place (index_of (descriptor_of me.0.actor.seen))) (λ zero. omega (arith, place_is (index_of (descriptor_of me.0.actor.seen) / 8) (index_of (descriptor_of me.0.actor.seen) % 8)))) in omega arith;
               marked = λ _ _. subst (λ w. edit_of w ≤ slice_index (raised (state_of s rule) spot (edit_of look)).words (mark_place (index_of w / 8))) is (omega arith);
+              installed = installed_stays me.0.actor.number (state_of s rule) (raised (state_of s rule) spot (edit_of look)) me.0.actor.installed on x.installed;
             },
         (refl, refl),
       )
@@ -253,11 +258,15 @@ module _ {S B : Type 0} (f : B → Folding) (z : Basis B) where
       let x = fits.sits seat.sits in
       let show = shows s rule in
       let seen = Ends-trans me.0.actor.seen me.0.actor.known (state_of s rule).history x.seen x.known in
-      let on = raised_advances me.0.actor.number (state_of s rule) (part_place b p) n in (
-        me.0,
+      let on = raised_advances me.0.actor.number (state_of s rule) (part_place b p) n in
+      let spot : ℕ = part_place b p in
+      let value : ℕ = max (slice_index (state_of s rule).words spot) n in
+      let here : slice_index (raised (state_of s rule) spot n).words spot ≡ value = get_or-set_same (state_of s rule).words spot value 0 (let q = place_is b (9 + p) in omega (arith, show.count, near, few, rule.terms.few_parts)) in
+      let put : Installed = record { place = part_place b p; word = n } in (
+        record (me.0) { actor = record (me.0.actor) { installed = put ∷ me.0.actor.installed } },
         keeps,
         tt,
-        raised_kept s rule id (part_place b p) n me me.0.actor (Install me.0.actor.number b p n) seat based x refl
+        raised_kept s rule id (part_place b p) n me (record (me.0.actor) { installed = put ∷ me.0.actor.installed }) (Install me.0.actor.number b p n) seat based x refl
             record { block = near; part = few; fits = subst (FitsPart (f z.body) (state_of s rule).history b p) (sym is) (part_fits (terms_of f z) b p me.0.actor.seen (state_of s rule).history rule.terms show.legal seen whole) }
             refl
             record {
@@ -271,6 +280,9 @@ module _ {S B : Type 0} (f : B → Folding) (z : Basis B) where
               told = x.told;
               helped = λ done pend. let was = x.helped done pend in let more = cell_version-grows _ _ (on.words (cell_place (index_of (descriptor_of me.0.actor.seen))) (λ zero. omega (arith, place_is (index_of (descriptor_of me.0.actor.seen) / 8) (index_of (descriptor_of me.0.actor.seen) % 8)))) in omega arith;
               marked = λ done pend. let was = x.marked done pend in let more = on.words (mark_place (index_of (descriptor_of me.0.actor.seen) / 8)) (λ zero. omega (arith, place_is (index_of (descriptor_of me.0.actor.seen) / 8) 8)) in omega arith;
+              installed = All-cons (IsThere (raised (state_of s rule) (part_place b p) n).words) put me.0.actor.installed
+                  record { some = omega (arith, place_is b (9 + p)); word = omega (arith, here) }
+                  (installed_stays me.0.actor.number (state_of s rule) (raised (state_of s rule) (part_place b p) n) me.0.actor.installed on x.installed);
             },
         (refl, refl),
       )

@@ -30,13 +30,14 @@ use Rattle.lv_machine.proofs.ReadyLaws.{block_whole}
 use Rattle.lv_machine.proofs.RightLaws.{same_list}
 use Rattle.lv_board.specs.declared.actors.Actor.{Actor}
 use Rattle.lv_board.specs.declared.actors.Basis.{Basis}
+use Rattle.lv_board.specs.declared.actors.Installed.{Installed}
 use Rattle.lv_board.specs.declared.reductions.Walk.{Walk}
 use Rattle.lv_board.specs.declared.seats.Seat.{Seat}
-use Rattle.lv_board.specs.Calls.{HasLooked, IsSummed}
+use Rattle.lv_board.specs.Calls.{AreInstalled, HasLooked, IsSummed}
 use Rattle.lv_board.specs.Plays.{IsRead, SeesAll}
 use Rattle.lv_board.specs.Rule.{terms_of}
-use Rattle.lv_board.specs.Tells.{actor_of, IsAt, IsCellTaken, IsHelped, IsMarkTaken, IsSame, IsWordLoaded}
-use Rattle.lv_board.specs.Walks.{AreTaken, block_fold, Comes, HasCome, HasRead, MayRead, Sums}
+use Rattle.lv_board.specs.Tells.{actor_of, HasInstalled, IsAt, IsCellTaken, IsHelped, IsMarkTaken, IsWordLoaded}
+use Rattle.lv_board.specs.Walks.{AreTaken, block_fold, block_installed, Comes, HasCome, HasRead, MayRead, Sums}
 use Rattle.lv_board.proofs.Calling.{helped_quiet, looked_then, quiet_same, quiet_then}
 
 -- a seat that has loaded nothing yet
@@ -84,15 +85,6 @@ cell_is_read t i result s u taken = record { stays = taken.stays; look = taken.l
 
 pub mark_is_read : {B : Type 0} (t : Terms) (b : ℕ) (result : Result ℕ Refusal) (s u : Seat B) → IsMarkTaken t b result s u → HasRead s u
 mark_is_read t b result s u taken = record { stays = taken.stays; look = taken.look; quiet = taken.quiet; rest = taken.rest }
-
--- a step that changes nothing for the seat leaves it so
-pub same_read : {B : Type 0} (s u : Seat B) → IsSame s u → HasRead s u
-same_read s u same = record {
-  stays = same.stays;
-  look = same.look;
-  quiet = quiet_same (actor_of s) (actor_of u) (ap (λ (a : Actor). a.number) same.actor) (ap (λ (a : Actor). a.known) same.actor) (ap (λ (a : Actor). a.own) same.actor);
-  rest = same.actor ∙ ap (λ h. record (actor_of s) { known = h }) (sym (ap (λ (a : Actor). a.known) same.actor));
-}
 
 -- a part of the mark's version is that of the whole block's fold
 pub part_read : (t : Terms) (x y : Actor) (at found b p : ℕ) → IsRead t x y at found → 8 * b < capacity_of t.limits.buckets → p < t.folding.parts → at ≡ part_place b p → is_whole (edits_of x.seen) (block b) ≡ true → part_version found ≡ mark_of b x.seen → part_value found ≡ t.folding.part p (cells_of (edits_of x.seen) (block b))
@@ -210,6 +202,20 @@ looked_and_read t x m u w looked helped read =
     looked_then t x (actor_of m) (actor_of w) looked
     (quiet_then (actor_of m) (actor_of u) (actor_of w) (helped_quiet (actor_of m) (actor_of u) helped.made helped.known helped.number) read.quiet)
     (seen_still u w read ∙ helped.seen)
+
+-- nor does it see anything else once it has installed parts
+pub looked_and_installed : {B : Type 0} (t : Terms) (x : Actor) (parts : List Installed) (u w : Seat B) → HasLooked t x (actor_of u) → HasInstalled parts u w → HasLooked t x (actor_of w)
+looked_and_installed t x parts u w looked has =
+    looked_then t x (actor_of u) (actor_of w) looked
+    (quiet_same (actor_of u) (actor_of w) (ap (λ (a : Actor). a.number) has.actor) (ap (λ (a : Actor). a.known) has.actor) (ap (λ (a : Actor). a.own) has.actor))
+    (ap (λ (a : Actor). a.seen) has.actor)
+
+-- the parts of a block that were installed are those that the seat sees
+pub are_installed : {B : Type 0} (t : Terms) (b : ℕ) (u w : Seat B) → HasInstalled (block_installed t b (actor_of u).seen t.folding.parts (actor_of u).installed) u w → AreInstalled t b (actor_of w)
+are_installed t b u w has = (
+  (actor_of u).installed,
+  ap (λ (a : Actor). a.installed) has.actor ∙ ap (λ h. block_installed t b h t.folding.parts (actor_of u).installed) (sym (ap (λ (a : Actor). a.seen) has.actor)),
+)
 
 -- nothing refuses a range in the list
 range_free : (es : List Edit) (lo hi : ℕ) → lo ≤ hi → hi ≤ length (list_of es) → range_refusal es lo hi ≡ None

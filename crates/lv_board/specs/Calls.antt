@@ -17,8 +17,10 @@ use Rattle.lv_reduce.specs.declared.reductions.Answer.{Answer}
 use Rattle.lv_machine.specs.History.{edits_of, elements_of, Ends, IsLegal, own}
 use Rattle.lv_machine.specs.Terms.{Terms}
 use Rattle.lv_board.specs.declared.actors.Actor.{Actor}
+use Rattle.lv_board.specs.declared.actors.Installed.{Installed}
 use Rattle.lv_board.specs.Plays.{IsAccepted, IsQuiet}
 use Rattle.lv_board.specs.Tells.{IsOvertaken}
+use Rattle.lv_board.specs.Walks.{block_installed}
 
 -- an actor looked and made no edit: all that it knew before is in what it sees, a legal history
 pub record HasLooked (t : Terms) (x y : Actor) : Type 0 where
@@ -99,3 +101,7 @@ RefreshAnswers b y (Ok refreshed) =
 RefreshAnswers b y (Err refusal) =
     ((is_whole (edits_of y.seen) (block b) ≡ false) × (refusal ≡ OutOfRange (length (elements_of y.seen))))
     ⊎ ((is_whole (edits_of y.seen) (block b) ≡ true) × IsOvertaken y refusal)
+
+-- the parts of a block, as the actor sees it, are the last that it installed
+abbrev pub AreInstalled : Terms → ℕ → Actor → Type 0
+AreInstalled t b y = (before : List Installed) × (y.installed ≡ block_installed t b y.seen t.folding.parts before)

@@ -67,7 +67,7 @@ module _ {S B : Type 0} where
   HelpsMark step me found after = (after.1 ≡ me.1) × (after.0 ≡ record (me.0) { actor = record (me.0.actor) { marked = true } })
 
   abbrev pub Installs : Step S → Me S (View B) → ℕ → Me S (View B) → Type 0
-  Installs step me found after = (after.1 ≡ me.1) × (after.0 ≡ me.0)
+  Installs step me found after = (after.1 ≡ me.1) × (after.0 ≡ record (me.0) { actor = record (me.0.actor) { installed = record { place = step.word; word = step.first } ∷ me.0.actor.installed } })
 
   module _ (f : B → Folding) where
     abbrev pub Looks : Step S → Me S (View B) → ℕ → Me S (View B) → Type 0

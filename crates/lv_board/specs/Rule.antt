@@ -11,6 +11,7 @@ use Rattle.lv_machine.specs.Terms.{AreTerms, Folding, Terms}
 use Rattle.lv_machine.specs.Words.{cell_version, edit_of, HasPending, index_of}
 use Rattle.lv_board.specs.declared.actors.Actor.{Actor}
 use Rattle.lv_board.specs.declared.actors.Basis.{Basis}
+use Rattle.lv_board.specs.declared.actors.Installed.{Installed}
 use Rattle.lv_board.specs.declared.actors.View.{View}
 
 -- how the folds of a body's blocks are kept: each part of the fold's summary
@@ -19,7 +20,7 @@ folds count parts operations b = record { parts = count; part = λ p xs. slice_i
 
 -- an actor that has seen nothing
 abbrev pub newcomer : ℕ → Actor
-newcomer number = record { number = number; seen = []; known = []; own = []; told = []; helped = false; marked = false }
+newcomer number = record { number = number; seen = []; known = []; own = []; told = []; helped = false; marked = false; installed = [] }
 
 module _ {B : Type 0} where
   -- the view of a seat
@@ -46,7 +47,7 @@ module _ {B : Type 0} where
 
   -- a note tells what a seat knows, and is no seat
   abbrev pub note : View B → View B
-  note v = record { actor = record { number = 0; seen = []; known = v.actor.known; own = []; told = []; helped = false; marked = false }; sits = false; deals = false; bases = []; more = [] }
+  note v = record { actor = record { number = 0; seen = []; known = v.actor.known; own = []; told = []; helped = false; marked = false; installed = [] }; sits = false; deals = false; bases = []; more = [] }
 
   -- a seat that has read a note was told of what it says
   abbrev pub informed : View B → View B → View B
@@ -62,6 +63,11 @@ pub record IsSeat {B : Type 0} (v : View B) : Type 0 where
   pub deals : v.deals ≡ false
   pub more : v.more ≡ []
 
+-- a part that was installed stands in the words, or a later one displaced it
+pub record IsThere (words : List ℕ) (p : Installed) : Type 0 where
+  pub some : 1 ≤ p.place
+  pub word : p.word ≤ slice_index words p.place
+
 -- what a seat's actor knows is true of a state; `owner` tells which token has which number
 pub record ActorFits (seats : ℕ) (c : Config) (owner : ℕ → ℕ) (id : ℕ) (x : Actor) : Type 0 where
   pub number : x.number < seats
@@ -74,6 +80,7 @@ pub record ActorFits (seats : ℕ) (c : Config) (owner : ℕ → ℕ) (id : ℕ)
   pub told : Ends x.told c.history
   pub helped : x.helped ≡ true → HasPending (descriptor_of x.seen) → edit_of (descriptor_of x.seen) ≤ cell_version (slice_index c.words (cell_place (index_of (descriptor_of x.seen))))
   pub marked : x.marked ≡ true → HasPending (descriptor_of x.seen) → edit_of (descriptor_of x.seen) ≤ slice_index c.words (mark_place (index_of (descriptor_of x.seen) / 8))
+  pub installed : All (IsThere c.words) x.installed
 
 -- a seat that is not dealt yet: the dealer owns it, and it has seen and done nothing
 pub record IsUndealt (c : Config) (owner : ℕ → ℕ) (id number : ℕ) : Type 0 where

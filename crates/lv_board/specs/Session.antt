@@ -1,5 +1,5 @@
 -- What each line of a board's session is answered, by what its seat knows before and after.
-use Rattle.std.specs.Prelude.{◌≡◌, ℕ, ℤ, ◌<◌, ◌≤◌, Result, Ok, Err, List, [], length}
+use Rattle.std.specs.Prelude.{◌≡◌, ℕ, ℤ, ◌<◌, ◌≤◌, Result, Ok, Err, List, [], length, IfOk}
 use Rattle.lv_geometry.specs.declared.refusals.Refusal.{Refusal}
 use Rattle.lv_geometry.specs.declared.refusals.Refusal.TheVariants.{BadRange, TooWide}
 use Rattle.lv_bodies.specs.declared.kinds.Kind.{Kind}
@@ -24,7 +24,7 @@ use Rattle.lv_script.specs.BoardLine.{board_line_of}
 use Rattle.lv_script.specs.Schedule.{said_shown, said_text}
 use Rattle.lv_script.specs.Texts.{bad_text}
 use Rattle.lv_board.specs.declared.actors.Actor.{Actor}
-use Rattle.lv_board.specs.Calls.{GetAnswers, HasLooked, ReduceAnswers, RefreshAnswers, TryAnswers}
+use Rattle.lv_board.specs.Calls.{AreInstalled, GetAnswers, HasLooked, ReduceAnswers, RefreshAnswers, TryAnswers}
 
 -- ---- what a call ends with, by its answer
 
@@ -96,6 +96,7 @@ module _ {S : Type 0} (t : Terms) (o : Operations S) where
     pub result : Result Refreshed Refusal
     pub looked : HasLooked t a b
     pub answered : RefreshAnswers block b result
+    pub installed : IfOk result (λ refreshed. AreInstalled t block b)
     pub end_is : end ≡ said_refreshed result
 
   -- what a call ends with

@@ -1,5 +1,5 @@
 -- What the calls of a board tell of a seat, before and after.
-use Rattle.std.specs.Prelude.{◌≡◌, ℕ, ◌<◌, ◌≤◌, Bool, true, length, ℤ, Result, IfOk, IfErr, MatchBool}
+use Rattle.std.specs.Prelude.{◌≡◌, ℕ, ◌<◌, ◌≤◌, Bool, true, List, ◌∷◌, length, ℤ, Result, IfOk, IfErr, MatchBool}
 use Rattle.lv_machine.specs.declared.entries.Entry.{Entry}
 use Rattle.lv_machine.specs.History.{cell_of, IsLegal}
 use Rattle.lv_machine.specs.Words.{signed, value_of}
@@ -10,6 +10,7 @@ use Rattle.lv_geometry.specs.declared.refusals.Refusal.TheVariants.{Overtaken}
 use Rattle.lv_edits.specs.declared.edit.Edit.{Edit}
 use Rattle.lv_board.specs.declared.actors.Actor.{Actor}
 use Rattle.lv_board.specs.declared.actors.Basis.{Basis}
+use Rattle.lv_board.specs.declared.actors.Installed.{Installed}
 use Rattle.atomic_table.specs.Seated.{TableId}
 use Rattle.lv_board.specs.declared.seats.Seat.{Seat}
 use Rattle.lv_board.specs.Plays.{IsAccepted, IsContended, IsQuiet, IsRead, SeesAll}
@@ -58,6 +59,16 @@ module _ {B : Type 0} where
     pub stays : Stays s t
     pub look : t.look ≡ s.look
     pub actor : actor_of t ≡ record (actor_of s) { marked = true }
+
+  -- the parts that a seat installed are these now, and nothing else of it has changed
+  pub record HasInstalled (parts : List Installed) (s t : Seat B) : Type 0 where
+    pub stays : Stays s t
+    pub look : t.look ≡ s.look
+    pub actor : actor_of t ≡ record (actor_of s) { installed = parts }
+
+  -- a word was installed at a place
+  abbrev pub IsInstalled : ℕ → ℕ → Seat B → Seat B → Type 0
+  IsInstalled at word s t = HasInstalled (record { place = at; word = word } ∷ (actor_of s).installed) s t
 
   -- a seat's pending write was completed
   pub record IsHelped (s t : Seat B) : Type 0 where

@@ -10,6 +10,12 @@ pub struct Basis<B: Copy> {
     pub body: B,
 }
 
+/// A part of a block's summary that a seat installed: its place among the words, and its word. No value of it is made.
+pub struct Installed {
+    pub place: usize,
+    pub word: u64,
+}
+
 /// What a seat knows. No value of it is made.
 pub struct Actor {
     pub number: u32,
@@ -24,6 +30,8 @@ pub struct Actor {
     /// Whether the cell, and the mark, of its look's pending write are complete.
     pub helped: bool,
     pub marked: bool,
+    /// The parts that it installed, the last first. Each stands yet, or a later one displaced it.
+    pub installed: LinkedList<Installed>,
 }
 
 /// The view of a token at the table. No value of it is made.

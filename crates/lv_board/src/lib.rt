@@ -23,7 +23,7 @@ mod tries;
 mod verdicts;
 mod words;
 
-pub use actors::{Actor, Basis, View};
+pub use actors::{Actor, Basis, Installed, View};
 pub use answering::Answering;
 pub use board::Board;
 pub use closing::{Closed, Elements};

@@ -3,11 +3,12 @@ ghost use Rattle.std.specs.Prelude.{◌≡◌, ◌<◌, ◌*◌, true, IfOk, IfE
 ghost use Rattle.lv_edits.specs.Touch.{cells_of, is_whole};
 ghost use Rattle.lv_geometry.specs.Cells.{capacity_of};
 ghost use Rattle.lv_machine.specs.History.{edits_of};
+ghost use Rattle.lv_machine.specs.Layout.{part_place};
 ghost use Rattle.lv_machine.specs.Shows.{block, mark_of};
 ghost use Rattle.lv_machine.specs.Words.{part_word};
 ghost use Rattle.lv_board.specs.Rule.{folds, terms_of};
 ghost use Rattle.lv_board.specs.Stands.{IsReady};
-ghost use Rattle.lv_board.specs.Tells.{actor_of, IsAt, IsMarkTaken, IsSame};
+ghost use Rattle.lv_board.specs.Tells.{actor_of, IsAt, IsInstalled, IsMarkTaken};
 
 use crate::board::Board;
 use crate::plays::Install;
@@ -38,7 +39,7 @@ impl<B: Parted> Board<B> {
         requires part { part < B.PARTS }
         requires whole { is_whole (edits_of (actor_of seat.old).seen) (block b) ≡ true }
         requires word { word ≡ part_word (mark_of b (actor_of seat.old).seen) ((terms_of (folds B.PARTS B.parts_of (λ b. B.operations (B.meaning b))) self.now.terms).folding.part part (cells_of (edits_of (actor_of seat.old).seen) (block b))) }
-        ensures { IsSame seat.old seat.new }
+        ensures { IsInstalled (part_place b part) word seat.old seat.new }
     {
         self.table
             .shared

@@ -1,13 +1,13 @@
 //! Refreshes: the parts of a whole block's summary, made from its cells.
-ghost use Rattle.std.specs.Prelude.{◌≡◌, ◌+◌, ◌*◌, ◌<◌, ◌≤◌, length, true};
+ghost use Rattle.std.specs.Prelude.{◌≡◌, ◌+◌, ◌*◌, ◌<◌, ◌≤◌, length, true, IfOk};
 ghost use Rattle.lv_edits.specs.Touch.{is_whole};
 ghost use Rattle.lv_geometry.specs.Cells.{capacity_of};
 ghost use Rattle.lv_machine.specs.History.{edits_of, elements_of};
 ghost use Rattle.lv_machine.specs.Shows.{block, mark_of};
-ghost use Rattle.lv_board.specs.Calls.{HasLooked, RefreshAnswers};
+ghost use Rattle.lv_board.specs.Calls.{AreInstalled, HasLooked, RefreshAnswers};
 ghost use Rattle.lv_board.specs.Rule.{folds, terms_of};
-ghost use Rattle.lv_board.specs.Tells.{actor_of, IsAt, IsSame, Stays};
-ghost use Rattle.lv_board.specs.Walks.{block_fold, MayRead, SumsBlock};
+ghost use Rattle.lv_board.specs.Tells.{actor_of, HasInstalled, IsAt, Stays};
+ghost use Rattle.lv_board.specs.Walks.{block_fold, block_installed, MayRead, SumsBlock};
 
 use crate::board::Board;
 use crate::seats::Seat;
@@ -39,7 +39,7 @@ impl<B: Parted> Board<B> {
         requires whole { is_whole (edits_of (actor_of seat.old).seen) (block b) ≡ true }
         requires mark { mark ≡ mark_of b (actor_of seat.old).seen }
         requires parts { parts ≡ B.parts_of (block_fold (B.operations (B.meaning self.now.terms.body)) b (actor_of seat.old).seen) }
-        ensures { IsSame seat.old seat.new }
+        ensures { HasInstalled (block_installed (terms_of (folds B.PARTS B.parts_of (λ b. B.operations (B.meaning b))) self.now.terms) b (actor_of seat.old).seen B.PARTS (actor_of seat.old).installed) seat.old seat.new }
     {
         for part in 0..B::PARTS {
             self.install(seat, b, part, pack_part(mark, parts[part as usize]));
@@ -54,6 +54,7 @@ impl<B: Parted> Board<B> {
         ensures stays { Stays seat.old seat.new }
         ensures looked { HasLooked (terms_of (folds B.PARTS B.parts_of (λ b. B.operations (B.meaning b))) self.now.terms) (actor_of seat.old) (actor_of seat.new) }
         ensures answer { RefreshAnswers block (actor_of seat.new) result }
+        ensures installed { IfOk result (λ refreshed. AreInstalled (terms_of (folds B.PARTS B.parts_of (λ b. B.operations (B.meaning b))) self.now.terms) block (actor_of seat.new)) }
     {
         self.load_descriptor(seat);
         let size = size_in(seat.look);

@@ -15,6 +15,10 @@ use crate::words::fits_short;
 use lv_bodies::Parted;
 use lv_edits::{Edit, Receipt};
 use lv_geometry::Refusal;
+use std::hint;
+
+// A pause is at most 2 to this many turns of a loop that only waits.
+const LONGEST_PAUSE: u32 = 6;
 
 // Whether only an edit of another seat stood in the way.
 #[inline(always)]
@@ -30,6 +34,14 @@ fn is_outrun(answer: Result<Receipt, Refusal>) -> bool
     )
 }
 
+// A pause after a try that was outrun, so that the seat that was first gets on: the longer the more tries were, a few microseconds at
+// most.
+fn pause(outrun: u32) {
+    for _ in 0..1u32 << outrun.min(LONGEST_PAUSE) {
+        hint::spin_loop();
+    }
+}
+
 impl<B: Parted> Board<B> {
     // One try. Where the kind of the edit is known, it is chosen when this is built.
     #[inline(always)]
@@ -43,8 +55,23 @@ impl<B: Parted> Board<B> {
             Edit::Push(x) => self.try_push(seat, x),
             Edit::Pop => self.try_pop(seat),
             Edit::Write { index, value } => self.try_write(seat, index, value),
-            Edit::Reserve(_) => unreachable!(),
+            Edit::Reserve(_) | Edit::Swap { .. } | Edit::Truncate(_) => unreachable!(),
         }
+    }
+
+    // One try, and a pause where it was outrun.
+    #[inline(always)]
+    fn try_and_pause(&self, seat: &mut Seat<B>, edit: Edit, outrun: u32) -> Result<Receipt, Refusal>
+        requires here { IsAt self.now.table.shared.table_id self.now.terms seat.old }
+        requires short { IsShortEdit edit }
+        ensures still { IsStill seat.old seat.new }
+        ensures answer { TryAnswers (terms_of (folds B.PARTS B.parts_of (λ b. B.operations (B.meaning b))) self.now.terms) (actor_of seat.old) (actor_of seat.new) edit result }
+    {
+        let answer = self.try_edit(seat, edit);
+        if is_outrun(answer) {
+            pause(outrun);
+        }
+        answer
     }
 
     // One try, and further ones while they are outrun.
@@ -56,8 +83,8 @@ impl<B: Parted> Board<B> {
         ensures still { IsStill seat.old seat.new }
         ensures answer { AnswersWithin (terms_of (folds B.PARTS B.parts_of (λ b. B.operations (B.meaning b))) self.now.terms) tries (actor_of seat.old) (actor_of seat.new) edit result }
     {
-        for _outrun in 0..tries - 1 {
-            let answer = self.try_edit(seat, edit);
+        for outrun in 0..tries - 1 {
+            let answer = self.try_and_pause(seat, edit, outrun);
             if !is_outrun(answer) {
                 return answer;
             }

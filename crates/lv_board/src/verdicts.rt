@@ -22,5 +22,9 @@ pub(crate) fn verdict<B: Copy>(terms: &Basis<B>, look: u64, edit: Edit) -> Optio
         Edit::Pop => (size == 0).then_some(Refusal::Empty),
         Edit::Write { index, .. } => (index >= size).then_some(Refusal::OutOfRange { size }),
         Edit::Reserve(cells) => (cells > limit).then_some(Refusal::TooLarge { limit }),
+        Edit::Swap { first, second } => {
+            (first >= size || second >= size).then_some(Refusal::OutOfRange { size })
+        }
+        Edit::Truncate(count) => (count > size).then_some(Refusal::OutOfRange { size }),
     }
 }

@@ -1,7 +1,9 @@
-use Rattle.std.proofs.Common.{◌+◌, refl, ap, ◌∙◌, arith}
+use Rattle.std.proofs.Common.{◌≡◌, ℕ, ◌+◌, List, ◌∷◌, refl, ap, ◌∙◌, arith}
+use Rattle.lv_board.specs.declared.actors.Actor.{Actor}
+use Rattle.lv_board.specs.declared.actors.Installed.{Installed}
 use Rattle.lv_board.specs.Rule.{folds}
 use Rattle.lv_board.proofs.Keeping.{installs_at_key}
-use Rattle.lv_board.proofs.Seating.{block_among, made_same, same_look}
+use Rattle.lv_board.proofs.Seating.{based_after, block_among, made_same, same_look, seat_after}
 use Rattle.lv_board.proofs.board.Board.install.Goals as goal
 
 pub part_place_of-requires : goal.part_place_of-requires
@@ -16,19 +18,24 @@ fetch_max-requires g c = (
 
 pub invariant_of-seat : goal.invariant_of-seat
 invariant_of-seat g c =
-    let same = c.fetch_max.ensures.2.1 in
+    let told = c.fetch_max.ensures.2 in
+    let put : Installed = record { place = c.part_place_of.result; word = c.args.word } in
+    let x : Actor = record (c.args.seat.now.token.me.0.actor) { installed = put ∷ c.args.seat.now.token.me.0.actor.installed } in
+    let same : c.fetch_max.new.seat.me.0.actor.seen ≡ c.args.seat.now.token.me.0.actor.seen = ap (λ v. v.actor.seen) told.1 in
     record {
       basis = c.args.seat.now.basis;
-      sits = record { sits = ap (λ v. v.sits) same ∙ c.args.seat.now.sits.sits; deals = ap (λ v. v.deals) same ∙ c.args.seat.now.sits.deals; more = ap (λ v. v.more) same ∙ c.args.seat.now.sits.more };
-      based = ap (λ v. v.bases) same ∙ c.args.seat.now.based;
-      slots = c.fetch_max.ensures.2.0 ∙ c.args.seat.now.slots;
-      made = made_same c.args.seat.now.token.me.0.actor c.fetch_max.new.seat.me.0.actor (ap (λ v. v.actor.number) same) (ap (λ v. v.actor.known) same) (ap (λ v. v.actor.own) same) c.args.seat.now.made;
-      looks = same_look c.args.seat.now.terms.buckets c.args.seat.now.terms.edits c.args.seat.now.look c.args.seat.now.token.me.0.actor.seen c.fetch_max.new.seat.me.0.actor.seen (ap (λ v. v.actor.seen) same) c.args.seat.now.looks;
+      sits = seat_after c.args.seat.now.token.me.0 c.fetch_max.new.seat.me.0 x told.1 c.args.seat.now.sits;
+      based = based_after c.args.seat.now.token.me.0 c.fetch_max.new.seat.me.0 c.args.seat.now.terms x told.1 c.args.seat.now.based;
+      slots = told.0 ∙ c.args.seat.now.slots;
+      made = made_same c.args.seat.now.token.me.0.actor c.fetch_max.new.seat.me.0.actor (ap (λ v. v.actor.number) told.1) (ap (λ v. v.actor.known) told.1) (ap (λ v. v.actor.own) told.1) c.args.seat.now.made;
+      looks = same_look c.args.seat.now.terms.buckets c.args.seat.now.terms.edits c.args.seat.now.look c.args.seat.now.token.me.0.actor.seen c.fetch_max.new.seat.me.0.actor.seen same c.args.seat.now.looks;
     }
 
 pub returns : goal.returns
-returns g c = record {
-  stays = record { table = c.fetch_max.ensures.0; terms = refl };
-  look = refl;
-  actor = ap (λ v. v.actor) c.fetch_max.ensures.2.1;
-}
+returns g c =
+    let put : ℕ → List Installed = λ at. record { place = at; word = c.args.word } ∷ c.args.seat.now.token.me.0.actor.installed in
+    record {
+      stays = record { table = c.fetch_max.ensures.0; terms = refl };
+      look = refl;
+      actor = ap (λ v. v.actor) c.fetch_max.ensures.2.1 ∙ ap (λ at. record (c.args.seat.now.token.me.0.actor) { installed = put at }) c.part_place_of.ensures;
+    }

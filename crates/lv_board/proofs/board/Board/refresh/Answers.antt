@@ -1,7 +1,7 @@
 use Rattle.std.proofs.Common.{Ok, Err}
 use Rattle.lv_board.specs.Rule.{folds, terms_of}
 use Rattle.lv_board.proofs.Calling.{has_looked}
-use Rattle.lv_board.proofs.Walking.{looked_and_read, mark_is_read, may_after, may_still, read_then, same_read}
+use Rattle.lv_board.proofs.Walking.{are_installed, looked_and_installed, looked_and_read, mark_is_read, may_after, may_still, read_then}
 use Rattle.lv_board.proofs.board.Board.refresh.Goals as goal
 
 pub returns-then-block-size-clause-looked : goal.returns-then-block-size-clause-looked
@@ -24,7 +24,12 @@ returns-in-Err-sum_block-clause-looked g c =
 
 pub returns-clause-looked : goal.returns-clause-looked
 returns-clause-looked g c =
-    let first = mark_is_read (terms_of (folds g.B.Parted.PARTS g.B.Parted.parts_of (λ b. g.B.Body.operations (g.B.Body.meaning b))) c.args.self.now.terms) c.args.block (Ok c.in-Ok.mark) c.help.new.seat c.load_mark.new.seat c.in-Ok.ensures in
-    let both = read_then c.help.new.seat c.load_mark.new.seat c.sum_block.new.seat first c.sum_block.ensures.read in
-    looked_and_read (terms_of (folds g.B.Parted.PARTS g.B.Parted.parts_of (λ b. g.B.Body.operations (g.B.Body.meaning b))) c.args.self.now.terms) c.args.seat.now.token.me.0.actor c.load_descriptor.new.seat c.help.new.seat c.keep_parts.new.seat (has_looked (folds g.B.Parted.PARTS g.B.Parted.parts_of (λ b. g.B.Body.operations (g.B.Body.meaning b))) c.args.seat.now.terms c.args.self.now.terms c.args.seat.now.token.me.0.actor c.load_descriptor.new.seat.token.me.0.actor c.load_descriptor.new.seat.look c.requires.terms c.load_descriptor.ensures.quiet c.load_descriptor.ensures.sees) c.help.ensures
-    (read_then c.help.new.seat c.sum_block.new.seat c.keep_parts.new.seat both (same_read c.sum_block.new.seat c.keep_parts.new.seat c.keep_parts.ensures))
+    let t = terms_of (folds g.B.Parted.PARTS g.B.Parted.parts_of (λ b. g.B.Body.operations (g.B.Body.meaning b))) c.args.self.now.terms in
+    let first = mark_is_read t c.args.block (Ok c.in-Ok.mark) c.help.new.seat c.load_mark.new.seat c.in-Ok.ensures in
+    looked_and_installed t c.args.seat.now.token.me.0.actor _ c.sum_block.new.seat c.keep_parts.new.seat
+    (looked_and_read t c.args.seat.now.token.me.0.actor c.load_descriptor.new.seat c.help.new.seat c.sum_block.new.seat (has_looked (folds g.B.Parted.PARTS g.B.Parted.parts_of (λ b. g.B.Body.operations (g.B.Body.meaning b))) c.args.seat.now.terms c.args.self.now.terms c.args.seat.now.token.me.0.actor c.load_descriptor.new.seat.token.me.0.actor c.load_descriptor.new.seat.look c.requires.terms c.load_descriptor.ensures.quiet c.load_descriptor.ensures.sees) c.help.ensures
+    (read_then c.help.new.seat c.load_mark.new.seat c.sum_block.new.seat first c.sum_block.ensures.read))
+    c.keep_parts.ensures
+
+pub returns-clause-installed : goal.returns-clause-installed
+returns-clause-installed g c = are_installed (terms_of (folds g.B.Parted.PARTS g.B.Parted.parts_of (λ b. g.B.Body.operations (g.B.Body.meaning b))) c.args.self.now.terms) c.args.block c.sum_block.new.seat c.keep_parts.new.seat c.keep_parts.ensures
