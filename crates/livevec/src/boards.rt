@@ -5,11 +5,11 @@ ghost use Rattle.lv_board.specs.declared.board.Board.{Board};
 ghost use Rattle.lv_board.specs.declared.seats.Seat.{Seat};
 ghost use Rattle.lv_board.specs.Tells.{IsAt};
 
+use crate::failures::{Failure, Place};
 use crate::files::Streams;
 use lv_board::{Answering, Board, Seat, run_board_session};
 use lv_bodies::{Affine, Automaton, Best, Greatest, Kind, Least, Sum};
 use lv_geometry::Limits;
-use lv_script::Fault;
 use std::alloc::Global;
 use std::io::{Read, Write};
 use std::thread;
@@ -21,7 +21,7 @@ struct Task<'a, B: Answering<Board<B>, Seat<B>>, F: Drop> {
     board: &'a Board<B>,
     seat: Seat<B>,
     streams: Streams<F>,
-    ended: Result<(), Fault>,
+    ended: Result<(), Failure>,
     ghost here: { IsAt board.now.table.shared.table_id board.now.terms seat },
     ghost own_board: { (b : Board B B.S) → B.board_of b ≡ b },
     ghost own_seat: { (s : Seat B) → B.seat_of s ≡ s },
@@ -35,7 +35,7 @@ pub fn hold_sessions<F: Read + Write + Send + Drop, R: Threads + Sync>(
     limits: Limits,
     kind: Kind,
     streams: Vec<Streams<F>>,
-) -> Result<(), Fault> {
+) -> Result<(), Failure> {
     match kind {
         Kind::Sum => hold_at(rt, alloc, limits, Sum, streams),
         Kind::Least => hold_at(rt, alloc, limits, Least, streams),
@@ -53,15 +53,15 @@ fn hold_at<B: Answering<Board<B>, Seat<B>>, F: Read + Write + Send + Drop, R: Th
     limits: Limits,
     body: B,
     streams: Vec<Streams<F>>,
-) -> Result<(), Fault>
+) -> Result<(), Failure>
     requires own_board { (b : Board B B.S) → B.board_of b ≡ b }
     requires own_seat { (s : Seat B) → B.seat_of s ≡ s }
 {
     let Ok(count) = u32::try_from(streams.len()) else {
-        return Err(Fault::NoMemory);
+        return Err(Failure::memory());
     };
     let Ok((board, seats)) = Board::new(alloc, limits, count, body) else {
-        return Err(Fault::NoMemory);
+        return Err(Failure::memory());
     };
     let ended = hold_all(rt, alloc, &board, seats, streams);
     drop(board);
@@ -75,7 +75,7 @@ fn hold_all<B: Answering<Board<B>, Seat<B>>, F: Read + Write + Send + Drop, R: T
     board: &Board<B>,
     seats: Vec<Seat<B>>,
     streams: Vec<Streams<F>>,
-) -> Result<(), Fault>
+) -> Result<(), Failure>
     requires here { All (IsAt board.now.table.shared.table_id board.now.terms) seats.items }
     requires own_board { (b : Board B B.S) → B.board_of b ≡ b }
     requires own_seat { (s : Seat B) → B.seat_of s ≡ s }
@@ -96,7 +96,7 @@ fn seat_each<'a, B: Answering<Board<B>, Seat<B>>, F: Drop>(
     board: &'a Board<B>,
     seats: Vec<Seat<B>>,
     streams: Vec<Streams<F>>,
-) -> Result<Vec<Task<'a, B, F>>, Fault>
+) -> Result<Vec<Task<'a, B, F>>, Failure>
     requires here { All (IsAt board.now.table.shared.table_id board.now.terms) seats.items }
     requires own_board { (b : Board B B.S) → B.board_of b ≡ b }
     requires own_seat { (s : Seat B) → B.seat_of s ≡ s }
@@ -114,7 +114,7 @@ fn seat_each<'a, B: Answering<Board<B>, Seat<B>>, F: Drop>(
             ended: Ok(()),
         };
         if tasks.push(task).is_err() {
-            return Err(Fault::NoMemory);
+            return Err(Failure::memory());
         }
     }
     Ok(tasks)
@@ -125,11 +125,13 @@ fn hold<B: Answering<Board<B>, Seat<B>>, F: Read + Write + Drop>(
     alloc: Global,
     task: &mut Task<'_, B, F>,
 ) {
-    task.ended = run_board_session(
+    let place = Place::Session(task.streams.number);
+    let ended = run_board_session(
         alloc,
         task.board,
         &mut task.seat,
         &mut task.streams.lines,
         &mut task.streams.replies,
     );
+    task.ended = ended.map_err(|fault| Failure { fault, place });
 }

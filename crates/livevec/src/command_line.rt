@@ -20,6 +20,7 @@ const KINDS: [&str; 6] = ["sum", "least", "greatest", "best", "affine", "automat
 pub fn command<'a>(alloc: Global) -> Result<Command<'a>, AllocError> {
     Command::new(alloc, "livevec")
         .bin_name("livevec")?
+        .version(help::VERSION)
         .about(help::ABOUT)
         .after_help(help::STATUSES)
         .subcommand_required(true)

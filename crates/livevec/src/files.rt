@@ -1,5 +1,6 @@
 //! The files of sessions: which may stand together, and how they are opened.
 
+use crate::failures::{Failure, Place};
 use lv_script::Fault;
 use std::alloc::Global;
 use std::fmt;
@@ -11,6 +12,8 @@ const REPLIES: &str = ".out";
 /// A session's file, and that of its replies.
 #[derive(Drop)]
 pub struct Streams<F: Drop> {
+    /// Which of the files it is, counted from 0.
+    pub number: usize,
     pub lines: F,
     pub replies: F,
 }
@@ -68,19 +71,29 @@ pub fn open_all<R: Files>(
     rt: &R,
     alloc: Global,
     files: &[&str],
-) -> Result<Vec<Streams<R::File>>, Fault> {
+) -> Result<Vec<Streams<R::File>>, Failure> {
     let mut all = Vec::new(alloc);
-    for file in files {
-        let streams = open(rt, alloc, file)?;
-        all.push(streams).map_err(|_| Fault::NoMemory)?;
+    for (number, file) in files.iter().enumerate() {
+        let place = Place::Opening(number);
+        let streams = open(rt, alloc, number, file).map_err(|fault| Failure { fault, place })?;
+        all.push(streams).map_err(|_| Failure::memory())?;
     }
     Ok(all)
 }
 
-// Opens a file and makes that of its replies.
-fn open<R: Files>(rt: &R, alloc: Global, file: &str) -> Result<Streams<R::File>, Fault> {
+// Opens the file of a number and makes that of its replies.
+fn open<R: Files>(
+    rt: &R,
+    alloc: Global,
+    number: usize,
+    file: &str,
+) -> Result<Streams<R::File>, Fault> {
     let lines = File::open(rt, file).map_err(|_| Fault::ReadFault)?;
     let name = format!(in alloc; "{file}{REPLIES}").map_err(|_| Fault::NoMemory)?;
     let replies = File::create(rt, name.as_str()).map_err(|_| Fault::WriteFault)?;
-    Ok(Streams { lines, replies })
+    Ok(Streams {
+        number,
+        lines,
+        replies,
+    })
 }

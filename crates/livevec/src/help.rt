@@ -1,4 +1,7 @@
-//! What `--help` says.
+//! What `--help` and `--version` say.
+
+/// The version of the program, and the toolchain that it is proved and built with, as `rt version` tells it.
+pub const VERSION: &str = "0.1.0 (rattle-kit-13b logic dac8208d650f15bf)";
 
 /// What the program is.
 pub const ABOUT: &str =
@@ -8,7 +11,8 @@ pub const ABOUT: &str =
 pub const STATUSES: &str = "\
 Statuses:
   0  done; of an audit: yes
-  1  a fault, shown on standard error as `livevec: fault N`; of an audit: no or bad
+  1  a fault, shown on standard error as `livevec: fault N`, with what failed in the next line;
+     of an audit: no or bad
   2  a usage fault, told on standard error
 Faults: 6 no memory, 13 a read failed or a file can't be opened, 14 a write failed or an output can't be made";
 
@@ -17,11 +21,13 @@ pub const RUN: &str = "Answers a script: reads lines from standard input, writes
 
 /// The lines of a script and their replies.
 pub const LINES: &str = "\
-Lines (a reply each; N, I, LO and HI are numbers, X an element, HI is excluded):
+Lines (a reply each; N, I, J, LO and HI are numbers, X an element, HI is excluded):
   push X              edit E at I
   pop                 edit E value X
   write I X           edit E was X
   reserve N           edit E capacity C
+  swap I J            edit E now X Y: the elements that stand at I and at J now
+  truncate N          edit E dropped D: the first N elements are kept, D were dropped
   settle              settled
   get I               value X
   size                size N edit E
@@ -57,8 +63,8 @@ pub const SERVE: &str =
 pub const SESSIONS: &str = "\
 1 to 16 files, each named once, none of them another's FILE.out; a file under two spellings isn't
 noticed. The sessions share one vector.
-Each knows the lines push, pop, write, reserve, reduce, inc and exc, as `livevec run --help` tells
-them; any other is answered `bad N`.
+Each knows the lines push, pop, write, reserve, swap, truncate, reduce, inc and exc, as `livevec run
+--help` tells them; any other is answered `bad N`.
 
 Workers sleep while there is nothing to do, and end with the last session. A turn that finds no job
 counts too: for long sessions give workers more of them.

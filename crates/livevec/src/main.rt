@@ -6,10 +6,12 @@ ghost use Rattle.std.specs.Prelude.{◌≡◌, ◌≢◌};
 
 mod boards;
 mod command_line;
+mod failures;
 mod files;
 mod help;
 mod serving;
 
+use crate::failures::{Failure, Told};
 use clap::error::ErrorKind;
 use clap::{ArgMatches, Error};
 use lv_bodies::Sum;
@@ -24,16 +26,23 @@ use std::sync::Wait;
 use std::thread::Threads;
 use std::{env, io};
 
-/// Statuses: 0; 1 on a fault, printed on standard error as `livevec: fault N`, and of an audit that says no or bad; 2 on a
-/// usage fault, whose text goes to standard error.
+/// Statuses: 0; 1 on a fault, printed on standard error as `livevec: fault N` with a line in words behind it, and of an audit that
+/// says no or bad; 2 on a usage fault, whose text goes to standard error.
 fn main(rt: HostRuntime) -> ExitCode {
     match run(&rt) {
         Ok(status) => ExitCode::from(status),
-        Err(fault) => {
-            let _ = eprintln!(rt; "livevec: {fault}");
-            ExitCode::FAILURE
-        }
+        Err(fault) => ExitCode::from(tell(&rt, Failure::standard(fault), &[])),
     }
+}
+
+// Tells of a failure on standard error, and gives the status that it ends with.
+fn tell<R: Eprint>(rt: &R, failure: Failure, files: &[&str]) -> u8
+    ensures { result ≡ 1 }
+{
+    let told = Told { failure, files };
+    let _ = eprintln!(rt; "livevec: {}", failure.fault);
+    let _ = eprintln!(rt; "{told}");
+    1
 }
 
 // Reads the command line and does what it asks.
@@ -121,9 +130,25 @@ where
         let error = command_line::serve_error(alloc, clash).map_err(|_| Fault::NoMemory)?;
         return show(rt, &error);
     }
+    match serve_files(rt, alloc, asked, files, writer) {
+        Ok(()) => Ok(0),
+        Err(failure) => Ok(tell(rt, failure, files)),
+    }
+}
+
+// Opens the files of sessions and serves them.
+fn serve_files<R: Files + Sync + Threads + Wait, W: Write>(
+    rt: &R,
+    alloc: Global,
+    asked: &ArgMatches<'_>,
+    files: &[&str],
+    writer: &mut W,
+) -> Result<(), Failure>
+where
+    R::File: Send,
+{
     let streams = files::open_all(rt, alloc, files)?;
-    serving::serve(rt, alloc, command_line::plan(asked), streams, writer)?;
-    Ok(0)
+    serving::serve(rt, alloc, command_line::plan(asked), streams, writer)
 }
 
 // Holds the sessions that a command line names at a board.
@@ -140,10 +165,25 @@ where
         let error = command_line::board_error(alloc, clash).map_err(|_| Fault::NoMemory)?;
         return show(rt, &error);
     }
+    match hold_files(rt, alloc, asked, files) {
+        Ok(()) => Ok(0),
+        Err(failure) => Ok(tell(rt, failure, files)),
+    }
+}
+
+// Opens the files of sessions and holds them at a board.
+fn hold_files<R: Files + Sync + Threads>(
+    rt: &R,
+    alloc: Global,
+    asked: &ArgMatches<'_>,
+    files: &[&str],
+) -> Result<(), Failure>
+where
+    R::File: Send,
+{
     let streams = files::open_all(rt, alloc, files)?;
     let limits = command_line::limits(asked);
-    boards::hold_sessions(rt, alloc, limits, command_line::kind(asked), streams)?;
-    Ok(0)
+    boards::hold_sessions(rt, alloc, limits, command_line::kind(asked), streams)
 }
 
 // The status that tells of a verdict.

@@ -5,6 +5,7 @@ ghost use Rattle.std.specs.Io.KnownBytes.{Appends};
 ghost use Rattle.lv_bodies.specs.Six.{SixMeaning, meaning_of_six, six_meaning};
 ghost use Rattle.lv_script.specs.Transcript.{AreAccepted, IsSoundTranscript, IsTrueClaim, greatest};
 
+use crate::failures::{Failure, Place};
 use crate::files::Streams;
 use lv_bodies::Six;
 use lv_edits::Edit;
@@ -42,7 +43,7 @@ struct Task<N: Means<Six>, F: Drop> {
 #[derive(Drop)]
 struct Done<N: Means<Six>> {
     share: Share<N>,
-    claims: Result<Vec<Claimed>, Fault>,
+    claims: Result<Vec<Claimed>, Failure>,
 }
 
 impl<N: Means<Six>> Model for Done<N> {
@@ -66,7 +67,7 @@ pub fn serve<F: Read + Write + Send + Drop, W: Write, R: Threads + Wait + Sync>(
     plan: Plan,
     streams: Vec<Streams<F>>,
     writer: &mut W,
-) -> Result<(), Fault>
+) -> Result<(), Failure>
     ensures { OnOk result ((text : List ℕ) × IsSoundTranscript text × Appends (W.contents writer.old) (W.contents writer.new) text) }
 {
     let parts = streams.len() as u64 + 1;
@@ -99,7 +100,7 @@ fn serve_as<
     parts: u64,
     opened: Opened,
     body: Six,
-) -> Result<(), Fault>
+) -> Result<(), Failure>
     requires name { blank.name ≡ N.name }
     requires all { blank.parts ≡ N.parts }
     requires parts { blank.parts ≡ parts }
@@ -112,7 +113,9 @@ fn serve_as<
 {
     let (hub, mut share) = Hub::<Six, N>::new(alloc, plan.limits, body, blank, parts, opened);
     match serve_all(rt, alloc, plan, &hub, &mut share, streams) {
-        Ok(claims) => write_closed(rt, alloc, hub, share, claims, writer),
+        Ok(claims) => {
+            write_closed(rt, alloc, hub, share, claims, writer).map_err(Failure::standard)
+        }
         Err(fault) => {
             drop(hub);
             Err(fault)
@@ -128,7 +131,7 @@ fn serve_all<N: Means<Six> + Send + Sync, F: Read + Write + Send + Drop, R: Thre
     hub: &Hub<Six, N>,
     share: &mut Share<N>,
     streams: Vec<Streams<F>>,
-) -> Result<Vec<Claimed>, Fault>
+) -> Result<Vec<Claimed>, Failure>
     requires parts { share.old.parts ≡ vec_len streams + 1 }
     requires program { ◌≡◌ {A = SixMeaning} (meaning_of_six hub.now) six_meaning }
     ensures parts { IfOk result (λ claims. share.new.parts ≡ share.old.parts) }
@@ -182,7 +185,7 @@ fn share_out<N: Means<Six>, F: Drop>(
     alloc: Global,
     share: &mut Share<N>,
     streams: Vec<Streams<F>>,
-) -> Result<Vec<Task<N, F>>, Fault>
+) -> Result<Vec<Task<N, F>>, Failure>
     requires { share.old.parts ≡ vec_len streams + 1 }
     ensures parts { IfOk result (λ tasks. share.new.parts ≡ 1) }
     ensures all { IfOk result (λ tasks. vec_len tasks ≡ vec_len streams) }
@@ -193,7 +196,7 @@ fn share_out<N: Means<Six>, F: Drop>(
             share: share.split(),
             streams,
         };
-        tasks.push(task).map_err(|_| Fault::NoMemory)?;
+        tasks.push(task).map_err(|_| Failure::memory())?;
     }
     Ok(tasks)
 }
@@ -206,15 +209,15 @@ fn hold_all<N: Means<Six> + Send + Sync, F: Read + Write + Send + Drop, R: Threa
     plan: Plan,
     hub: &Hub<Six, N>,
     tasks: Vec<Task<N, F>>,
-) -> Result<Vec<Done<N>>, Fault>
+) -> Result<Vec<Done<N>>, Failure>
     requires program { ◌≡◌ {A = SixMeaning} (meaning_of_six hub.now) six_meaning }
     ensures { IfOk result (λ done. vec_len done ≡ vec_len tasks) }
 {
     let (workers, turns) = (plan.workers, plan.turns);
     let (worked, done) = thread::join(
         rt,
-        move || -> Result<(), Fault> { refresh(rt, alloc, hub, workers, turns) },
-        move || -> Result<Vec<Done<N>>, Fault>
+        move || -> Result<(), Failure> { refresh(rt, alloc, hub, workers, turns) },
+        move || -> Result<Vec<Done<N>>, Failure>
             requires { ◌≡◌ {A = SixMeaning} (meaning_of_six hub.now) six_meaning }
             ensures { IfOk result (λ done. vec_len done ≡ vec_len tasks) }
         {
@@ -233,14 +236,14 @@ fn hold_each<N: Means<Six> + Send + Sync, F: Read + Write + Send + Drop, R: Thre
     alloc: Global,
     hub: &Hub<Six, N>,
     tasks: Vec<Task<N, F>>,
-) -> Result<Vec<Done<N>>, Fault>
+) -> Result<Vec<Done<N>>, Failure>
     requires program { ◌≡◌ {A = SixMeaning} (meaning_of_six hub.now) six_meaning }
     ensures { IfOk result (λ done. vec_len done ≡ vec_len tasks) }
 {
     let held = |task: Task<N, F>| -> Done<N>
         requires { ◌≡◌ {A = SixMeaning} (meaning_of_six hub.now) six_meaning }
     { hold(rt, alloc, hub, task) };
-    thread::map_vec(rt, tasks, &held).map_err(|_| Fault::NoMemory)
+    thread::map_vec(rt, tasks, &held).map_err(|_| Failure::memory())
 }
 
 // Holds a session.
@@ -264,7 +267,17 @@ fn hold<N: Means<Six>, F: Read + Write + Drop, R: Wait>(
         &mut streams.lines,
         &mut streams.replies,
     );
-    Done { share, claims }
+    let place = Place::Session(streams.number);
+    match claims {
+        Ok(claims) => Done {
+            share,
+            claims: Ok(claims),
+        },
+        Err(fault) => Done {
+            share,
+            claims: Err(Failure { fault, place }),
+        },
+    }
 }
 
 // Refreshes the hub by all workers. Their threads are made once there may be work for them.
@@ -274,14 +287,14 @@ fn refresh<N: Means<Six> + Send + Sync, R: Threads + Wait + Sync>(
     hub: &Hub<Six, N>,
     workers: u32,
     turns: u64,
-) -> Result<(), Fault> {
+) -> Result<(), Failure> {
     if workers == 0 || !hub.wait_for_work(rt) {
         return Ok(());
     }
     let worker = |_: usize| attend(rt, hub, &OpenGate, turns);
     match thread::map_indices(rt, alloc, workers as usize, &worker) {
         Ok(_) => Ok(()),
-        Err(_) => Err(Fault::NoMemory),
+        Err(_) => Err(Failure::memory()),
     }
 }
 
@@ -290,7 +303,7 @@ fn take_back<N: Means<Six>>(
     alloc: Global,
     share: &mut Share<N>,
     done: Vec<Done<N>>,
-) -> Result<Vec<Claimed>, Fault>
+) -> Result<Vec<Claimed>, Failure>
     ensures parts { IfOk result (λ claims. share.new.parts ≡ share.old.parts + vec_len done) }
     ensures all_true { IfOk result (λ claims. All (IsTrueClaim share.new.seen) claims.items) }
 {
@@ -302,7 +315,7 @@ fn take_back<N: Means<Six>>(
         } = session;
         share.join(part);
         let mut claims = claims?;
-        all.append(&mut claims).map_err(|_| Fault::NoMemory)?;
+        all.append(&mut claims).map_err(|_| Failure::memory())?;
     }
     Ok(all)
 }

@@ -1,0 +1,92 @@
+//! What a fault tells: its number, and in words what failed.
+
+use lv_script::Fault;
+use std::fmt;
+
+/// Where a fault came up. Files are counted from 0, as the command line names them.
+#[derive(Clone, Copy, Debug, PartialEq, Eq)]
+pub enum Place {
+    /// On standard input or standard output.
+    Standard,
+    /// Where the file of this number was opened, or that of its replies was made.
+    Opening(usize),
+    /// In the session of the file of this number.
+    Session(usize),
+}
+
+/// A fault, and where it came up.
+#[derive(Clone, Copy, Debug, PartialEq, Eq)]
+pub struct Failure {
+    pub fault: Fault,
+    pub place: Place,
+}
+
+impl Failure {
+    /// Memory was wanting.
+    pub fn memory() -> Failure {
+        Failure::standard(Fault::NoMemory)
+    }
+
+    /// A fault on standard input or standard output.
+    pub fn standard(fault: Fault) -> Failure {
+        Failure {
+            fault,
+            place: Place::Standard,
+        }
+    }
+}
+
+/// A failure, with the files that the command line names.
+#[derive(Clone, Copy)]
+pub struct Told<'a> {
+    pub failure: Failure,
+    pub files: &'a [&'a str],
+}
+
+impl<'a> Told<'a> {
+    // The file of a number.
+    fn file(&self, number: usize) -> &'a str {
+        match self.files.get(number) {
+            Some(file) => file,
+            None => "a file",
+        }
+    }
+}
+
+impl fmt::Display for Told<'_> {
+    fn fmt<W: fmt::Write>(&self, f: &mut fmt::Formatter<W>) -> fmt::Result {
+        match self.failure.fault {
+            Fault::NoMemory => f.write_str("memory was wanting"),
+            Fault::ReadFault => self.tell_read(f),
+            Fault::WriteFault => self.tell_write(f),
+        }
+    }
+}
+
+impl Told<'_> {
+    // What couldn't be read.
+    fn tell_read<W: fmt::Write>(&self, f: &mut fmt::Formatter<W>) -> fmt::Result {
+        match self.failure.place {
+            Place::Standard => {
+                f.write_str("standard input can't be read, or has more than 2^30 bytes")
+            }
+            Place::Opening(number) => write!(f, "'{}' can't be opened", self.file(number)),
+            Place::Session(number) => {
+                write!(
+                    f,
+                    "'{}' can't be read, or has more than 2^30 bytes",
+                    self.file(number)
+                )
+            }
+        }
+    }
+
+    // What couldn't be written.
+    fn tell_write<W: fmt::Write>(&self, f: &mut fmt::Formatter<W>) -> fmt::Result {
+        match self.failure.place {
+            Place::Standard => f.write_str("standard output can't be written"),
+            Place::Opening(number) => write!(f, "'{}.out' can't be made", self.file(number)),
+            Place::Session(number) => write!(f, "'{}.out' can't be written", self.file(number)),
+        }
+    }
+}
