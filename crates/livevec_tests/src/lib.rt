@@ -16,7 +16,11 @@ mod bodies;
 #[cfg(test)]
 mod conversations;
 #[cfg(test)]
+mod edits;
+#[cfg(test)]
 mod geometry;
+#[cfg(test)]
+mod held_to_the_end;
 #[cfg(test)]
 mod hub;
 #[cfg(test)]

@@ -177,13 +177,13 @@ impl<'a> Body for Met<'a> {
     ghost equal = { λ s t. Prim.search rules };
 }
 
-// 65,536 elements, of which the first is 1, the last is 2 and all others 0.
+// 262,144 elements, of which the first is 1, the last is 2 and all others 0.
 fn far_apart(alloc: Global) -> Result<Vec<i64>, AllocError>
     ensures { IfOk result (λ xs. length xs.items ≤ 2 ^ 20) }
 {
-    let mut xs = Vec::with_capacity(alloc, 65_536)?;
+    let mut xs = Vec::with_capacity(alloc, 262_144)?;
     xs.push(1)?;
-    for _ in 0..65_534u32 {
+    for _ in 0..262_142u32 {
         xs.push(0)?;
     }
     xs.push(2)?;
@@ -198,8 +198,8 @@ fn meet_in_reduce<R: Threads + Sync + Abort>(
 ) -> Result<(), Refusal> {
     let meeting = Meeting::new();
     let body = Met { meeting: &meeting };
-    let answer = par_reduce(rt, alloc, view, &body, 0, 65_536)?;
-    assert_eq!(rt; answer, (65_536, 3));
+    let answer = par_reduce(rt, alloc, view, &body, 0, 262_144)?;
+    assert_eq!(rt; answer, (262_144, 3));
     assert!(rt; meeting.took_place());
     Ok(())
 }
@@ -214,9 +214,9 @@ fn meet_in_scan<R: Threads + Sync + Abort>(
     let meeting = Meeting::new();
     let body = Met { meeting: &meeting };
     let scan = if inclusive {
-        par_scan_inclusive(rt, alloc, view, &body, 0, 65_536)?
+        par_scan_inclusive(rt, alloc, view, &body, 0, 262_144)?
     } else {
-        par_scan_exclusive(rt, alloc, view, &body, 0, 65_536)?
+        par_scan_exclusive(rt, alloc, view, &body, 0, 262_144)?
     };
     assert_last(rt, &scan.values, inclusive);
     assert!(rt; meeting.took_place());
@@ -242,7 +242,7 @@ fn meet_in_slice<R: Threads + Sync + Abort>(
 // Sees that as many values end with the sum of all, or of all but the last.
 fn assert_last(rt: &impl Abort, values: &Values<u64>, inclusive: bool) {
     let last = if inclusive { 3 } else { 1 };
-    assert_eq!(rt; values.len(), 65_536);
+    assert_eq!(rt; values.len(), 262_144);
     assert_eq!(rt; values.as_slice().last(), Some(&last));
 }
 

@@ -2,7 +2,7 @@ ghost use Rattle.std.specs.Prelude.{◌≡◌, ◌+◌, ◌<◌, ◌≤◌, None
 ghost use Rattle.lv_geometry.specs.Cells.{capacity_of};
 
 use lv_geometry::{Limits, Refusal};
-use lv_store::{Descriptor, Store};
+use lv_store::{Descriptor, Store, Writes};
 use std::alloc::Global;
 use std::process::Abort;
 use std::test::Fail;
@@ -31,20 +31,20 @@ fn write(store: &mut Store, index: u32, element: i64, size: u32)
     ensures buckets { store.new.buckets ≡ store.old.buckets }
     ensures limits { store.new.limits ≡ store.old.limits }
 {
-    store.announce(Some((index, element)), size);
+    store.announce(Some((index, element)), None, size);
     store.settle();
 }
 
 #[test]
 fn a_pending_write_is_read(rt: HostRuntime) -> Result<(), Fail> {
     let mut store = opened(rt.alloc(), 1)?;
-    store.announce(Some((0, 5)), 1);
+    store.announce(Some((0, 5)), None, 1);
     let pending = (store.read(0), store.edit(), store.version(0));
     store.settle();
     let complete = (store.read(0), store.edit(), store.version(0));
-    store.announce(None, 0);
+    store.announce(None, None, 0);
     let popped = (store.size(), store.edit(), store.version(0));
-    store.announce(Some((0, 5)), 1);
+    store.announce(Some((0, 5)), None, 1);
     let pushed = (store.size(), store.edit(), store.version(0));
     assert_eq!(rt; (pending, complete), ((5, 1, 1), (5, 1, 1)));
     assert_eq!(rt; (popped, pushed), ((0, 2, 1), (1, 3, 3)));
@@ -53,7 +53,10 @@ fn a_pending_write_is_read(rt: HostRuntime) -> Result<(), Fail> {
         Descriptor {
             edit: 3,
             size: 1,
-            pending: Some((0, 5))
+            pending: Some(Writes {
+                first: (0, 5),
+                second: None
+            })
         }
     );
     Ok(())
@@ -65,7 +68,7 @@ fn blocks_meet_at_the_seams_of_buckets(rt: HostRuntime) -> Result<(), Fail> {
     write(&mut store, 7, -7, 25);
     write(&mut store, 8, 8, 25);
     write(&mut store, 23, i64::MAX, 25);
-    store.announce(Some((24, i64::MIN)), 25);
+    store.announce(Some((24, i64::MIN)), None, 25);
     let read = (store.read(7), store.read(8), store.read(23), store.read(24));
     let versions = (
         store.version(0),
@@ -86,7 +89,7 @@ fn blocks_meet_at_the_seams_of_buckets(rt: HostRuntime) -> Result<(), Fail> {
 fn a_pending_write_is_among_its_cells(rt: HostRuntime) -> Result<(), Fail> {
     let mut store = opened(rt.alloc(), 24)?;
     write(&mut store, 16, 1, 24);
-    store.announce(Some((19, 4)), 24);
+    store.announce(Some((19, 4)), None, 24);
     let pending = (store.cells(1), store.cells(2), store.version(2));
     store.open_to(57)?;
     let after = (store.buckets(), store.cells(2), store.version(2));
@@ -95,6 +98,24 @@ fn a_pending_write_is_among_its_cells(rt: HostRuntime) -> Result<(), Fail> {
         ([0, 0, 0, 0, 0, 0, 0, 0], [1, 0, 0, 4, 0, 0, 0, 0], 2)
     );
     assert_eq!(rt; after, (4, [1, 0, 0, 4, 0, 0, 0, 0], 2));
+    Ok(())
+}
+
+#[test]
+fn two_pending_writes_are_read(rt: HostRuntime) -> Result<(), Fail> {
+    let mut store = opened(rt.alloc(), 24)?;
+    write(&mut store, 3, 1, 24);
+    write(&mut store, 16, 2, 24);
+    store.announce(Some((3, 2)), Some((16, 1)), 24);
+    let pending = (store.read(3), store.read(16), store.edit());
+    let versions = (store.version(0), store.version(1), store.version(2));
+    store.settle();
+    let complete = (store.read(3), store.read(16), store.edit());
+    let settled = (store.version(0), store.version(1), store.version(2));
+    assert_eq!(rt; (pending, complete), ((2, 1, 3), (2, 1, 3)));
+    assert_eq!(rt; (versions, settled), ((3, 0, 3), (3, 0, 3)));
+    assert_eq!(rt; store.cells(0), [0, 0, 0, 2, 0, 0, 0, 0]);
+    assert_eq!(rt; store.cells(2), [1, 0, 0, 0, 0, 0, 0, 0]);
     Ok(())
 }
 

@@ -11,18 +11,21 @@ use std::alloc::Global;
 use std::marker::Brand;
 use std::process::Abort;
 use std::sync::Wait;
-use std::sync::atomic::{AtomicBool, Ordering};
+use std::sync::atomic::{AtomicBool, AtomicU32, Ordering};
 use std::sync::ledger::Blank;
 use std::test::Fail;
 use std::thread;
 use std::thread::Threads;
 
-// A gate, and a place within a body's `lift`, where the first call after the gate stands.
+// A gate, and a place within a body's `lift`, where the first call after the gate stands. How often an element was lifted, and how
+// often before the gate.
 #[derive(Drop)]
 struct Stage {
     gate: Latch,
     lift: Latch,
     holds_next: AtomicBool,
+    lifts: AtomicU32,
+    early: AtomicU32,
 }
 
 impl Stage {
@@ -31,6 +34,8 @@ impl Stage {
             gate: Latch::new(),
             lift: Latch::new(),
             holds_next: AtomicBool::new(false),
+            lifts: AtomicU32::new(0),
+            early: AtomicU32::new(0),
         }
     }
 
@@ -41,6 +46,8 @@ impl Stage {
 
 impl Gate for Stage {
     fn hold(&self, _turn: u64) {
+        let lifts = self.lifts.load(Ordering::SeqCst);
+        self.early.store(lifts, Ordering::SeqCst);
         self.gate.stand();
         self.holds_next.store(true, Ordering::SeqCst);
     }
@@ -74,6 +81,7 @@ impl<'a> Body for Held<'a> {
     }
 
     fn lift(&self, x: i64) -> u64 {
+        self.stage.lifts.fetch_add(1, Ordering::SeqCst);
         if self.stage.holds_next.swap(false, Ordering::SeqCst) {
             self.stage.lift.stand();
         }
@@ -174,6 +182,8 @@ fn a_held_job_holds_nobody(rt: HostRuntime) -> Result<(), Fail> {
         &stage,
     )?;
     assert!(rt; stage.was_in_time());
+    // a claim that computes its job under the lock lifts before the gate
+    assert_eq!(rt; stage.early.load(Ordering::SeqCst), 0);
     assert_held(&rt, done);
     Ok(())
 }
