@@ -1,0 +1,4 @@
+pub mod AsBox
+pub mod Empty
+pub mod Openings
+pub mod SpreadFolds

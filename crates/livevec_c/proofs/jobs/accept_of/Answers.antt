@@ -1,0 +1,5 @@
+use Rattle.std.proofs.Common.{refl}
+use Rattle.livevec_c.proofs.jobs.accept_of.Goals as goal
+
+pub returns-in-Vector : goal.returns-in-Vector
+returns-in-Vector c = rw c.in-Vector.is (c.accept_live.new.live, refl, c.accept_live.ensures)

@@ -1,0 +1,5 @@
+use Rattle.livevec_c.proofs.SpreadFolds.{spread-plain}
+use Rattle.livevec_c.proofs.laws.values_are_plain.Goals as goal
+
+pub returns : goal.returns
+returns c = spread-plain

@@ -1,0 +1,110 @@
+-- What the answers of the library are for C.
+use Rattle.std.specs.Prelude.{ℕ, ℤ, pos, true, false, ◌^◌, Result, Ok, Err, replicate, unwrap_or, is_some, option_map}
+use Rattle.std.specs.Int.{int_rem_euclid, int_div_euclid}
+use Rattle.std.specs.Int.RustNames.{unsigned_abs}
+use Rattle.lv_geometry.specs.Numbers.{number_of}
+use Rattle.lv_geometry.specs.declared.refusals.Refusal.{Refusal}
+use Rattle.lv_geometry.specs.declared.refusals.Refusal.TheVariants.{OutOfRange, TooLarge}
+use Rattle.lv_bodies.specs.Six.{SixSummary}
+use Rattle.lv_edits.specs.declared.receipt.Receipt.{Receipt}
+use Rattle.lv_edits.specs.declared.receipt.Receipt.TheVariants.{Pushed, Popped, Written, Reserved, Swapped, Truncated}
+use Rattle.lv_reduce.specs.declared.reductions.Answer.{Answer}
+use Rattle.lv_geometry.specs.declared.nodes.Node.{Node}
+use Rattle.lv_summary.specs.declared.accepted.Accepted.{Accepted}
+use Rattle.lv_summary.specs.declared.accepted.Accepted.TheVariants.{Held, Installed, Stale}
+use Rattle.livevec_c.specs.declared.jobs.Claimed.{Claimed}
+use Rattle.livevec_c.specs.declared.jobs.Delivered.{Delivered}
+use Rattle.livevec_c.specs.declared.jobs.Vetted.{Vetted}
+use Rattle.livevec_c.specs.declared.results.Edited.{Edited}
+use Rattle.livevec_c.specs.declared.results.Element.{Element}
+use Rattle.livevec_c.specs.declared.results.PlainValues.{PlainValues}
+use Rattle.livevec_c.specs.declared.results.Reduced.{Reduced}
+
+-- what a refusal tells beside its number: the size, or the limit
+abbrev pub detail_of : Refusal → ℕ
+detail_of (OutOfRange size) = size
+detail_of (TooLarge limit) = limit
+detail_of _ = 0
+
+-- an edit's receipt: its number, and a place or an element
+abbrev pub received : Receipt → Edited
+received (Pushed edit index) = record { refusal = 0; detail = 0; edit = edit; place = index; value = pos 0 }
+received (Popped edit value) = record { refusal = 0; detail = 0; edit = edit; place = 0; value = value }
+received (Written edit before) = record { refusal = 0; detail = 0; edit = edit; place = 0; value = before }
+received (Reserved edit capacity) = record { refusal = 0; detail = 0; edit = edit; place = capacity; value = pos 0 }
+received (Swapped edit first second) = record { refusal = 0; detail = 0; edit = edit; place = 0; value = first }
+received (Truncated edit dropped) = record { refusal = 0; detail = 0; edit = edit; place = dropped; value = pos 0 }
+
+-- an edit's answer
+abbrev pub edited_by : Result Receipt Refusal → Edited
+edited_by (Ok receipt) = received receipt
+edited_by (Err refusal) = record { refusal = number_of refusal; detail = detail_of refusal; edit = 0; place = 0; value = pos 0 }
+
+-- an edit's answer where a slot was empty
+abbrev pub unedited : Edited
+unedited = record { refusal = 101; detail = 0; edit = 0; place = 0; value = pos 0 }
+
+-- an element's answer
+abbrev pub element_by : Result ℤ Refusal → Element
+element_by (Ok value) = record { refusal = 0; detail = 0; value = value }
+element_by (Err refusal) = record { refusal = number_of refusal; detail = detail_of refusal; value = pos 0 }
+
+-- the same where a slot was empty
+abbrev pub no_element : Element
+no_element = record { refusal = 101; detail = 0; value = pos 0 }
+
+-- the low 64 bits of a number, and the others, which have its sign
+abbrev pub low_half : ℤ → ℕ
+low_half x = unsigned_abs (int_rem_euclid x (pos (2 ^ 64)))
+
+abbrev pub high_half : ℤ → ℤ
+high_half x = int_div_euclid x (pos (2 ^ 64))
+
+-- the six summaries of some elements as their plain values; 0 stands for those that an empty list has not
+abbrev pub spread : SixSummary → PlainValues
+spread s = record {
+  sum = s.0;
+  least = unwrap_or s.1.0 (pos 0);
+  greatest = unwrap_or s.1.1.0 (pos 0);
+  best_low = low_half (unwrap_or (option_map (λ r. r.best) s.1.1.1.0) (pos 0));
+  best_high = high_half (unwrap_or (option_map (λ r. r.best) s.1.1.1.0) (pos 0));
+  affine_a = s.1.1.1.1.0.a;
+  affine_b = s.1.1.1.1.0.b;
+  automaton = s.1.1.1.1.1;
+  any = is_some s.1.0;
+}
+
+-- no values
+abbrev pub valueless : PlainValues
+valueless = record { sum = 0; least = pos 0; greatest = pos 0; best_low = 0; best_high = pos 0; affine_a = 0; affine_b = 0; automaton = replicate 8 0; any = false }
+
+-- a reduction that was refused
+abbrev pub unreduced : ℕ → ℕ → Reduced
+unreduced refusal detail = record { refusal = refusal; detail = detail; edit = 0; cells = 0; summaries = 0; values = valueless }
+
+-- a reduction's answer
+abbrev pub reduced_by : Result (Answer SixSummary) Refusal → Reduced
+reduced_by (Ok answer) = record { refusal = 0; detail = 0; edit = answer.edit; cells = answer.cells_read; summaries = answer.summaries_read; values = spread answer.value }
+reduced_by (Err refusal) = unreduced (number_of refusal) (detail_of refusal)
+
+-- a claim that found no job, or was refused
+abbrev pub unclaimed : ℕ → Claimed
+unclaimed refusal = record { refusal = refusal; found = false; level = 0; number = 0; version = 0 }
+
+-- a claim of a node at a version
+abbrev pub claimed_by : Node → ℕ → Claimed
+claimed_by node version = record { refusal = 0; found = true; level = node.level; number = node.number; version = version }
+
+-- vetting where a slot does not hold what it should
+abbrev pub unvetted : Vetted
+unvetted = record { refusal = 101; yes = false }
+
+-- a delivery that was refused
+abbrev pub unaccepted : ℕ → Delivered
+unaccepted refusal = record { refusal = refusal; became = 0; now = 0 }
+
+-- what became of a delivery
+abbrev pub accepted_by : Accepted → Delivered
+accepted_by Installed = record { refusal = 0; became = 1; now = 0 }
+accepted_by Held = record { refusal = 0; became = 2; now = 0 }
+accepted_by (Stale now) = record { refusal = 0; became = 3; now = now }

@@ -1,0 +1,102 @@
+-- What the calls do and answer, by what lies behind a slot.
+use Rattle.std.specs.Prelude.{◌≡◌, ℕ, Option, Some, None, Result, IfOk, IfErr, length}
+use Rattle.lv_geometry.specs.declared.refusals.Refusal.{Refusal}
+use Rattle.lv_bodies.specs.Six.{SixSummary, six_operations, meaning_of_six}
+use Rattle.lv_bodies.specs.declared.sixes.Six.{Six}
+use Rattle.lv_edits.specs.declared.edit.Edit.{Edit}
+use Rattle.lv_edits.specs.declared.receipt.Receipt.{Receipt}
+use Rattle.lv_edits.specs.Capacity.{capacity_after}
+use Rattle.lv_edits.specs.History.{list_of}
+use Rattle.lv_edits.specs.Verdict.{Answers, element_at}
+use Rattle.lv_reduce.specs.declared.reductions.Answer.{Answer}
+use Rattle.lv_reduce.specs.Answer.{IsAnswer, range_refusal}
+use Rattle.lv_live.specs.Step.{Reduces as ReducesAt}
+use Rattle.lv_edits.specs.Kept.{InLimits}
+use Rattle.lv_live.specs.State.{LiveState, recorded, SameLive, SameRefresh}
+use Rattle.livevec_c.specs.declared.objects.Object.{Object}
+use Rattle.livevec_c.specs.declared.objects.Object.TheVariants.{Vector, Job, Outcome}
+use Rattle.livevec_c.specs.declared.results.Edited.{Edited}
+use Rattle.livevec_c.specs.declared.results.Element.{Element}
+use Rattle.livevec_c.specs.declared.results.Count.{Count}
+use Rattle.livevec_c.specs.declared.results.Reduced.{Reduced}
+use Rattle.livevec_c.specs.declared.reads.Counted.{Counted}
+use Rattle.livevec_c.specs.declared.reads.Counted.TheVariants as counts
+use Rattle.livevec_c.specs.Answers.{edited_by, element_by, no_element, reduced_by, unedited, unreduced}
+
+-- a vector for C: of the six bodies at once
+abbrev pub State : Type 0
+State = LiveState Six SixSummary
+
+-- an edit of a vector: it is answered as the library answers it, and the summaries and claims stay
+abbrev pub EditsVector : Edit → Edited → State → State → Type 0
+EditsVector edit answer old new =
+    InLimits new.history × SameRefresh old new
+    × ((r : Result Receipt Refusal) × (answer ≡ edited_by r) × Answers old.history edit r new.history)
+
+-- an edit of an object: of a vector only
+abbrev pub EditsObject : Edit → Edited → Object → Object → Type 0
+EditsObject edit answer (Vector old) new = (state : State) × (new ≡ Vector state) × EditsVector edit answer old state
+EditsObject edit answer (Job job) new = (answer ≡ unedited) × (new ≡ Job job)
+EditsObject edit answer (Outcome outcome) new = (answer ≡ unedited) × (new ≡ Outcome outcome)
+
+-- an edit of what lies behind a slot
+abbrev pub Edits : Edit → Edited → Option Object → Option Object → Type 0
+Edits edit answer None new = (answer ≡ unedited) × (new ≡ None)
+Edits edit answer (Some old) new = (object : Object) × (new ≡ Some object) × EditsObject edit answer old object
+
+-- the element of an object at an index, as the library answers it
+abbrev pub GetsObject : ℕ → Element → Object → Type 0
+GetsObject index answer (Vector state) = answer ≡ element_by (element_at state.history.journal index)
+GetsObject index answer (Job job) = answer ≡ no_element
+GetsObject index answer (Outcome outcome) = answer ≡ no_element
+
+abbrev pub Gets : ℕ → Element → Option Object → Type 0
+Gets index answer None = answer ≡ no_element
+Gets index answer (Some object) = GetsObject index answer object
+
+-- what is counted of a vector: its elements, those that fit into its memory, its edits
+abbrev pub count : Counted → State → ℕ
+count counts.Size state = length (list_of state.history.journal)
+count counts.Capacity state = capacity_after state.history.journal
+count counts.Edits state = length state.history.journal
+
+-- a count where there is no vector
+abbrev pub no_count : Count
+no_count = record { refusal = 101; value = 0 }
+
+abbrev pub CountsObject : Counted → Count → Object → Type 0
+CountsObject what answer (Vector state) = answer ≡ record { refusal = 0; value = count what state }
+CountsObject what answer (Job job) = answer ≡ no_count
+CountsObject what answer (Outcome outcome) = answer ≡ no_count
+
+abbrev pub Counts : Counted → Count → Option Object → Type 0
+Counts what answer None = answer ≡ no_count
+Counts what answer (Some object) = CountsObject what answer object
+
+-- a reduction of an object, as the library answers it
+abbrev pub ReducesObject : ℕ → ℕ → Reduced → Object → Type 0
+ReducesObject lo hi answer (Vector state) =
+    (r : Result (Answer SixSummary) Refusal) × (answer ≡ reduced_by r) × ReducesAt (six_operations (meaning_of_six state.body)) (recorded state) lo hi r
+ReducesObject lo hi answer (Job job) = answer ≡ unreduced 101 0
+ReducesObject lo hi answer (Outcome outcome) = answer ≡ unreduced 101 0
+
+abbrev pub Reduces : ℕ → ℕ → Reduced → Option Object → Type 0
+Reduces lo hi answer None = answer ≡ unreduced 101 0
+Reduces lo hi answer (Some object) = ReducesObject lo hi answer object
+
+-- a reduction that keeps what it computes: the same answer, counts of reads apart; body, edits, claims and kept versions stay
+pub record AsksVector (lo hi : ℕ) (answer : Reduced) (old new : State) : Type 0 where
+  pub r : Result (Answer SixSummary) Refusal
+  pub answer_is : answer ≡ reduced_by r
+  pub ok : IfOk r (λ a. IsAnswer (six_operations (meaning_of_six old.body)) old.history.journal lo hi a)
+  pub err : IfErr r (λ refusal. range_refusal old.history.journal lo hi ≡ Some refusal)
+  pub same : SameLive old new
+
+abbrev pub AsksObject : ℕ → ℕ → Reduced → Object → Object → Type 0
+AsksObject lo hi answer (Vector old) new = (state : State) × (new ≡ Vector state) × AsksVector lo hi answer old state
+AsksObject lo hi answer (Job job) new = (answer ≡ unreduced 101 0) × (new ≡ Job job)
+AsksObject lo hi answer (Outcome outcome) new = (answer ≡ unreduced 101 0) × (new ≡ Outcome outcome)
+
+abbrev pub Asks : ℕ → ℕ → Reduced → Option Object → Option Object → Type 0
+Asks lo hi answer None new = (answer ≡ unreduced 101 0) × (new ≡ None)
+Asks lo hi answer (Some old) new = (object : Object) × (new ≡ Some object) × AsksObject lo hi answer old object

@@ -1,0 +1,6 @@
+pub mod Owned
+pub mod Answers
+pub mod Behind
+pub mod Lives
+pub mod Working
+pub mod Plainly

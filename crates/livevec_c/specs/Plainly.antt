@@ -1,0 +1,17 @@
+-- The values that C sees, without any summary.
+use Rattle.std.specs.Prelude.{◌≡◌, ℕ, ℤ, pos, List, is_some, unwrap_or}
+use Rattle.lv_bodies.specs.Plain.{plain_affine, plain_automaton, plain_best, plain_greatest, plain_least, plain_sum}
+use Rattle.livevec_c.specs.declared.results.PlainValues.{PlainValues}
+use Rattle.livevec_c.specs.Answers.{high_half, low_half}
+
+-- the plain values of a list; 0 stands for those that an empty list has not
+pub record AreValues (table : List (List ℕ)) (xs : List ℤ) (values : PlainValues) : Type 0 where
+  pub sum : values.sum ≡ plain_sum xs
+  pub any : values.any ≡ is_some (plain_least xs)
+  pub least : values.least ≡ unwrap_or (plain_least xs) (pos 0)
+  pub greatest : values.greatest ≡ unwrap_or (plain_greatest xs) (pos 0)
+  pub best_low : values.best_low ≡ low_half (unwrap_or (plain_best xs) (pos 0))
+  pub best_high : values.best_high ≡ high_half (unwrap_or (plain_best xs) (pos 0))
+  pub affine_a : values.affine_a ≡ (plain_affine xs).0
+  pub affine_b : values.affine_b ≡ (plain_affine xs).1
+  pub automaton : values.automaton ≡ plain_automaton table xs

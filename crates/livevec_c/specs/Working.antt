@@ -1,0 +1,145 @@
+-- What the calls of refresh do and answer, by what lies behind the slots.
+use Rattle.std.specs.Prelude.{◌≡◌, ◌⊎◌, ◌<◌, ◌≤◌, ◌↔◌, ℕ, Bool, true, false, IsTrue, Option, Some, None, option_map, IfSome}
+use Rattle.lv_bodies.specs.Six.{SixSummary, six_operations, meaning_of_six}
+use Rattle.lv_bodies.specs.declared.sixes.Six.{Six}
+use Rattle.lv_refresh.specs.Carried.{Carried}
+use Rattle.lv_refresh.specs.Claim.{IsNextJob}
+use Rattle.lv_refresh.specs.Delivery.{delivery_of}
+use Rattle.lv_refresh.specs.Honesty.{IsHonest, Vouched as VouchedFor}
+use Rattle.lv_live.specs.State.{HasClaim, HasDelivery, HasNoClaims, node_and_version, recorded}
+use Rattle.lv_live.specs.Turns.{TakesTurns}
+use Rattle.livevec_c.specs.declared.objects.Object.{Object}
+use Rattle.livevec_c.specs.declared.objects.Object.TheVariants.{Vector, Job, Outcome}
+use Rattle.livevec_c.specs.declared.results.Count.{Count}
+use Rattle.livevec_c.specs.declared.jobs.Claimed.{Claimed}
+use Rattle.livevec_c.specs.declared.jobs.Delivered.{Delivered}
+use Rattle.livevec_c.specs.declared.jobs.Vetted.{Vetted}
+use Rattle.livevec_c.specs.Answers.{accepted_by, claimed_by, unaccepted, unclaimed, unvetted}
+use Rattle.livevec_c.specs.Behind.{State, no_count}
+
+-- so many jobs were done in place, at most as many as were asked for; fewer only where no node wants one any longer
+pub record RefreshesVector (jobs : ℕ) (answer : Count) (old new : State) : Type 0 where
+  pub granted : answer.refusal ≡ 0
+  pub turns : TakesTurns (six_operations (meaning_of_six old.body)) old new answer.value
+  pub most : answer.value ≤ jobs
+  pub idle : answer.value < jobs → IsNextJob (recorded new) None
+
+abbrev pub RefreshesObject : ℕ → Count → Object → Object → Type 0
+RefreshesObject jobs answer (Vector old) new = (state : State) × (new ≡ Vector state) × RefreshesVector jobs answer old state
+RefreshesObject jobs answer (Job job) new = (answer ≡ no_count) × (new ≡ Job job)
+RefreshesObject jobs answer (Outcome outcome) new = (answer ≡ no_count) × (new ≡ Outcome outcome)
+
+abbrev pub Refreshes : ℕ → Count → Option Object → Option Object → Type 0
+Refreshes jobs answer None new = (answer ≡ no_count) × (new ≡ None)
+Refreshes jobs answer (Some old) new = (object : Object) × (new ≡ Some object) × RefreshesObject jobs answer old object
+
+-- no claim is left
+abbrev pub ForgetsObject : ℕ → Object → Object → Type 0
+ForgetsObject answer (Vector old) new = (state : State) × (new ≡ Vector state) × (answer ≡ 0) × HasNoClaims old state
+ForgetsObject answer (Job job) new = (answer ≡ 101) × (new ≡ Job job)
+ForgetsObject answer (Outcome outcome) new = (answer ≡ 101) × (new ≡ Outcome outcome)
+
+abbrev pub Forgets : ℕ → Option Object → Option Object → Type 0
+Forgets answer None new = (answer ≡ 101) × (new ≡ None)
+Forgets answer (Some old) new = (object : Object) × (new ≡ Some object) × ForgetsObject answer old object
+
+-- what a claim answers
+abbrev pub claim_answers : Option (Carried Six SixSummary) → Claimed
+claim_answers None = unclaimed 0
+claim_answers (Some job) = claimed_by job.node job.version
+
+-- the next job was claimed, if there is one, and it lies behind the slot
+pub record ClaimsJob (answer : Claimed) (old new : State) (slot : Option Object) : Type 0 where
+  pub made : Option (Carried Six SixSummary)
+  pub answer_is : answer ≡ claim_answers made
+  pub slot_is : slot ≡ option_map Job made
+  pub next : IsNextJob (recorded old) (option_map node_and_version made)
+  pub claimed : HasClaim old new (option_map node_and_version made)
+  pub body : IfSome made (λ job. job.body ≡ old.body)
+  pub honest : IfSome made (λ job. IsHonest (six_operations (meaning_of_six old.body)) (recorded new) job.node job.version job.contents)
+
+-- a claim of a vector, or there was no memory, and nothing has changed
+abbrev pub ClaimsVector : Claimed → State → State → Option Object → Type 0
+ClaimsVector answer old new slot = ((answer ≡ unclaimed 6) × (new ≡ old) × (slot ≡ None)) ⊎ ClaimsJob answer old new slot
+
+abbrev pub ClaimsObject : Claimed → Object → Object → Option Object → Type 0
+ClaimsObject answer (Vector old) new slot = (state : State) × (new ≡ Vector state) × ClaimsVector answer old state slot
+ClaimsObject answer (Job job) new slot = (answer ≡ unclaimed 101) × (new ≡ Job job) × (slot ≡ None)
+ClaimsObject answer (Outcome outcome) new slot = (answer ≡ unclaimed 101) × (new ≡ Outcome outcome) × (slot ≡ None)
+
+-- the same for an empty slot of the job
+abbrev pub ClaimsInto : Claimed → Option Object → Option Object → Option Object → Type 0
+ClaimsInto answer None new slot = (answer ≡ unclaimed 101) × (new ≡ None) × (slot ≡ None)
+ClaimsInto answer (Some old) new slot = (object : Object) × (new ≡ Some object) × ClaimsObject answer old object slot
+
+abbrev pub Claims : Claimed → Option Object → Option Object → Option Object → Option Object → Type 0
+Claims answer old (Some job) new slot = (answer ≡ unclaimed 104) × (new ≡ old) × (slot ≡ Some job)
+Claims answer old None new slot = ClaimsInto answer old new slot
+
+-- a job became its outcome: of the same node, version, contents and body
+abbrev pub RunsObject : Bool → Object → Object → Type 0
+RunsObject done (Vector state) new = (done ≡ false) × (new ≡ Vector state)
+RunsObject done (Job job) new = (done ≡ true) × (new ≡ Outcome job)
+RunsObject done (Outcome outcome) new = (done ≡ false) × (new ≡ Outcome outcome)
+
+-- the same behind slots, where that of the outcome is empty
+abbrev pub RunsInto : ℕ → Option Object → Option Object → Option Object → Type 0
+RunsInto number None job outcome = (number ≡ 101) × (job ≡ None) × (outcome ≡ None)
+RunsInto number (Some (Vector state)) job outcome = (number ≡ 101) × (job ≡ Some (Vector state)) × (outcome ≡ None)
+RunsInto number (Some (Job carried)) job outcome = (number ≡ 0) × (job ≡ None) × (outcome ≡ Some (Outcome carried))
+RunsInto number (Some (Outcome carried)) job outcome = (number ≡ 101) × (job ≡ Some (Outcome carried)) × (outcome ≡ None)
+
+abbrev pub Runs : ℕ → Option Object → Option Object → Option Object → Option Object → Type 0
+Runs number old (Some object) job outcome = (number ≡ 104) × (job ≡ old) × (outcome ≡ Some object)
+Runs number old None job outcome = RunsInto number old job outcome
+
+-- an outcome is vouched for by a vector
+abbrev pub Vouched : State → Carried Six SixSummary → Type 0
+Vouched state outcome =
+    VouchedFor (six_operations (meaning_of_six state.body)) (recorded state) (meaning_of_six state.body ≡ meaning_of_six outcome.body) outcome.node outcome.version outcome.contents
+
+abbrev pub VetsVector : Vetted → State → Object → Type 0
+VetsVector answer state (Vector other) = answer ≡ unvetted
+VetsVector answer state (Job job) = answer ≡ unvetted
+VetsVector answer state (Outcome outcome) = (answer.refusal ≡ 0) × (IsTrue answer.yes ↔ Vouched state outcome)
+
+abbrev pub VetsObject : Vetted → Object → Object → Type 0
+VetsObject answer (Vector state) brought = VetsVector answer state brought
+VetsObject answer (Job job) brought = answer ≡ unvetted
+VetsObject answer (Outcome outcome) brought = answer ≡ unvetted
+
+abbrev pub VetsWith : Vetted → Object → Option Object → Type 0
+VetsWith answer object None = answer ≡ unvetted
+VetsWith answer object (Some brought) = VetsObject answer object brought
+
+abbrev pub Vets : Vetted → Option Object → Option Object → Type 0
+Vets answer None outcome = answer ≡ unvetted
+Vets answer (Some object) outcome = VetsWith answer object outcome
+
+-- what became of an outcome that is vouched for
+pub record Takes (answer : Delivered) (old new : State) (outcome : Carried Six SixSummary) : Type 0 where
+  pub vouched : Vouched old outcome
+  pub answer_is : answer ≡ accepted_by (delivery_of (recorded old) outcome.node outcome.version)
+  pub delivered : HasDelivery old new outcome.node outcome.version (delivery_of (recorded old) outcome.node outcome.version)
+
+-- an outcome is taken in where it is vouched for, else refused, and nothing has changed
+abbrev pub AcceptsVector : Delivered → State → State → Carried Six SixSummary → Type 0
+AcceptsVector answer old new outcome = ((answer ≡ unaccepted 15) × (¬ Vouched old outcome) × (new ≡ old)) ⊎ Takes answer old new outcome
+
+abbrev pub AcceptsLive : Delivered → State → State → Object → Type 0
+AcceptsLive answer old new (Vector other) = (answer ≡ unaccepted 101) × (new ≡ old)
+AcceptsLive answer old new (Job job) = (answer ≡ unaccepted 101) × (new ≡ old)
+AcceptsLive answer old new (Outcome outcome) = AcceptsVector answer old new outcome
+
+abbrev pub AcceptsObject : Delivered → Object → Object → Object → Type 0
+AcceptsObject answer (Vector old) new brought = (state : State) × (new ≡ Vector state) × AcceptsLive answer old state brought
+AcceptsObject answer (Job job) new brought = (answer ≡ unaccepted 101) × (new ≡ Job job)
+AcceptsObject answer (Outcome outcome) new brought = (answer ≡ unaccepted 101) × (new ≡ Outcome outcome)
+
+abbrev pub AcceptsWith : Delivered → Object → Object → Option Object → Type 0
+AcceptsWith answer old new None = (answer ≡ unaccepted 101) × (new ≡ old)
+AcceptsWith answer old new (Some brought) = AcceptsObject answer old new brought
+
+abbrev pub Accepts : Delivered → Option Object → Option Object → Option Object → Type 0
+Accepts answer None new outcome = (answer ≡ unaccepted 101) × (new ≡ None)
+Accepts answer (Some old) new outcome = (object : Object) × (new ≡ Some object) × AcceptsWith answer old object outcome

@@ -1,0 +1,373 @@
+//! Refresh: jobs, their outcomes, and what becomes of them.
+ghost use Rattle.std.specs.Prelude.{◌≡◌, None};
+ghost use Rattle.livevec_c.specs.Answers.{accepted_by, claimed_by, unaccepted, unclaimed, unvetted};
+ghost use Rattle.livevec_c.specs.Working.{Accepts, AcceptsLive, AcceptsObject, AcceptsVector, AcceptsWith, Claims, ClaimsObject, ClaimsVector, Forgets, ForgetsObject, Refreshes, RefreshesObject, Runs, RunsObject, Vets, VetsObject, VetsVector, VetsWith};
+
+use crate::lifetimes::new_vector;
+use crate::objects::Object;
+use crate::results::{Count, IN_USE, NO_HANDLE, NO_MEMORY};
+use crate::slots::{Slot, is_full, put, take};
+use lv_bodies::Six;
+use lv_geometry::{Limits, Node};
+use lv_live::Live;
+use lv_refresh::Outcome;
+use lv_summary::Accepted;
+use std::alloc::Global;
+
+/// What a claim answers.
+#[repr(C)]
+#[derive(Clone, Copy)]
+pub struct Claimed {
+    pub refusal: u32,
+    pub found: bool,
+    pub level: u32,
+    pub number: u32,
+    pub version: u32,
+}
+
+/// What became of an outcome.
+#[repr(C)]
+#[derive(Clone, Copy)]
+pub struct Delivered {
+    pub refusal: u32,
+    pub became: u32,
+    pub now: u32,
+}
+
+/// A yes or a no.
+#[repr(C)]
+#[derive(Clone, Copy)]
+pub struct Vetted {
+    pub refusal: u32,
+    pub yes: bool,
+}
+
+// A refresh of an object.
+fn refresh_of(object: &mut Object, jobs: u32) -> Count
+    ensures { RefreshesObject jobs result object.old object.new }
+{
+    match object {
+        Object::Vector(live) => Count {
+            refusal: 0,
+            value: live.refresh(jobs),
+        },
+        _ => Count {
+            refusal: NO_HANDLE,
+            value: 0,
+        },
+    }
+}
+
+/// Computes at most so many summaries in place.
+#[unsafe(no_mangle)]
+pub extern "C" fn livevec_proved_refresh(alloc: Global, slot: &mut Slot, jobs: u32) -> Count
+    ensures { Refreshes jobs result slot.old.raw.inner slot.new.raw.inner }
+{
+    match take(alloc, slot) {
+        None => Count {
+            refusal: NO_HANDLE,
+            value: 0,
+        },
+        Some(mut held) => {
+            let answer = refresh_of(&mut held, jobs);
+            put(slot, held);
+            answer
+        }
+    }
+}
+
+// Forgets the claims of an object.
+fn forget_of(object: &mut Object) -> u32
+    ensures { ForgetsObject result object.old object.new }
+{
+    match object {
+        Object::Vector(live) => {
+            live.forget_claims();
+            0
+        }
+        _ => NO_HANDLE,
+    }
+}
+
+/// Forgets all claims.
+#[unsafe(no_mangle)]
+pub extern "C" fn livevec_proved_forget(alloc: Global, slot: &mut Slot) -> u32
+    ensures { Forgets result slot.old.raw.inner slot.new.raw.inner }
+{
+    match take(alloc, slot) {
+        None => NO_HANDLE,
+        Some(mut held) => {
+            let answer = forget_of(&mut held);
+            put(slot, held);
+            answer
+        }
+    }
+}
+
+// What a claim answers that found no job, or was refused.
+fn not_claimed(refusal: u32) -> Claimed
+    ensures { result ≡ unclaimed refusal }
+{
+    Claimed {
+        refusal,
+        found: false,
+        level: 0,
+        number: 0,
+        version: 0,
+    }
+}
+
+// What a claim answers that found a job.
+fn claim_answer(node: Node, version: u32) -> Claimed
+    ensures { result ≡ claimed_by node version }
+{
+    Claimed {
+        refusal: 0,
+        found: true,
+        level: node.level,
+        number: node.number,
+        version,
+    }
+}
+
+// A claim of a vector, for an empty slot. Room is made before anything changes.
+fn claim_live(alloc: Global, live: &mut Live<Six>, job: &mut Slot) -> Claimed
+    requires { job.old.raw.inner ≡ None }
+    ensures { ClaimsVector result live.old live.new job.new.raw.inner }
+{
+    let Ok(mut room) = new_vector(alloc, Limits::greatest(), Six::program()) else {
+        return not_claimed(NO_MEMORY);
+    };
+    match live.claim() {
+        None => not_claimed(0),
+        Some(found) => {
+            let answer = claim_answer(found.node(), found.version());
+            *room = Object::Job(found);
+            put(job, room);
+            answer
+        }
+    }
+}
+
+// A claim of an object, for an empty slot.
+fn claim_of(alloc: Global, object: &mut Object, job: &mut Slot) -> Claimed
+    requires { job.old.raw.inner ≡ None }
+    ensures { ClaimsObject result object.old object.new job.new.raw.inner }
+{
+    match object {
+        Object::Vector(live) => claim_live(alloc, live, job),
+        _ => not_claimed(NO_HANDLE),
+    }
+}
+
+/// Puts a job for the least node that wants one into an empty slot.
+#[unsafe(no_mangle)]
+pub extern "C" fn livevec_proved_claim(alloc: Global, slot: &mut Slot, job: &mut Slot) -> Claimed
+    ensures { Claims result slot.old.raw.inner job.old.raw.inner slot.new.raw.inner job.new.raw.inner }
+{
+    if is_full(job) {
+        return not_claimed(IN_USE);
+    }
+    match take(alloc, slot) {
+        None => not_claimed(NO_HANDLE),
+        Some(mut held) => {
+            let answer = claim_of(alloc, &mut held, job);
+            put(slot, held);
+            answer
+        }
+    }
+}
+
+// Computes an object that is a job; says whether it is one.
+fn run_of(object: &mut Object) -> bool
+    ensures { RunsObject result object.old object.new }
+{
+    match object {
+        Object::Job(job) => {
+            *object = Object::Outcome(job.run());
+            true
+        }
+        _ => false,
+    }
+}
+
+/// Computes a job. Its outcome lies behind the other slot then.
+#[unsafe(no_mangle)]
+pub extern "C" fn livevec_proved_run(alloc: Global, job: &mut Slot, outcome: &mut Slot) -> u32
+    ensures { Runs result job.old.raw.inner outcome.old.raw.inner job.new.raw.inner outcome.new.raw.inner }
+{
+    if is_full(outcome) {
+        return IN_USE;
+    }
+    match take(alloc, job) {
+        None => NO_HANDLE,
+        Some(mut held) => {
+            if run_of(&mut held) {
+                put(outcome, held);
+                0
+            } else {
+                put(job, held);
+                NO_HANDLE
+            }
+        }
+    }
+}
+
+// What vetting answers where a slot does not hold what it should.
+fn not_vetted() -> Vetted
+    ensures { result ≡ unvetted }
+{
+    Vetted {
+        refusal: NO_HANDLE,
+        yes: false,
+    }
+}
+
+// Whether a vector would accept an object.
+fn vet_live(live: &Live<Six>, brought: &Object) -> Vetted
+    ensures { VetsVector result live.now brought.now }
+{
+    match brought {
+        Object::Outcome(outcome) => Vetted {
+            refusal: 0,
+            yes: live.vet(outcome),
+        },
+        _ => not_vetted(),
+    }
+}
+
+// Whether an object would accept another.
+fn vet_of(object: &Object, brought: &Object) -> Vetted
+    ensures { VetsObject result object.now brought.now }
+{
+    match object {
+        Object::Vector(live) => vet_live(live, brought),
+        _ => not_vetted(),
+    }
+}
+
+// Whether an object would accept what lies behind a slot.
+fn vet_with(alloc: Global, object: &Object, outcome: &mut Slot) -> Vetted
+    ensures answer { VetsWith result object.now outcome.old.raw.inner }
+    ensures same { outcome.new.raw.inner ≡ outcome.old.raw.inner }
+{
+    match take(alloc, outcome) {
+        None => not_vetted(),
+        Some(brought) => {
+            let answer = vet_of(object, &brought);
+            put(outcome, brought);
+            answer
+        }
+    }
+}
+
+/// Whether an outcome would be accepted.
+#[unsafe(no_mangle)]
+pub extern "C" fn livevec_proved_vet(alloc: Global, slot: &mut Slot, outcome: &mut Slot) -> Vetted
+    ensures answer { Vets result slot.old.raw.inner outcome.old.raw.inner }
+    ensures same { slot.new.raw.inner ≡ slot.old.raw.inner }
+    ensures kept { outcome.new.raw.inner ≡ outcome.old.raw.inner }
+{
+    match take(alloc, slot) {
+        None => not_vetted(),
+        Some(held) => {
+            let answer = vet_with(alloc, &held, outcome);
+            put(slot, held);
+            answer
+        }
+    }
+}
+
+// What a delivery answers that was refused.
+fn not_accepted(refusal: u32) -> Delivered
+    ensures { result ≡ unaccepted refusal }
+{
+    Delivered {
+        refusal,
+        became: 0,
+        now: 0,
+    }
+}
+
+// What a delivery answers.
+fn delivery_answer(accepted: Accepted) -> Delivered
+    ensures { result ≡ accepted_by accepted }
+{
+    let (became, now) = match accepted {
+        Accepted::Installed => (1, 0),
+        Accepted::Held => (2, 0),
+        Accepted::Stale { now } => (3, now),
+    };
+    Delivered {
+        refusal: 0,
+        became,
+        now,
+    }
+}
+
+// Delivers an outcome to a vector.
+fn accept_outcome(live: &mut Live<Six>, outcome: Outcome<Six>) -> Delivered
+    ensures { AcceptsVector result live.old live.new outcome }
+{
+    // 15 is the library's `Stranger`.
+    if live.vet(&outcome) {
+        delivery_answer(live.accept(outcome))
+    } else {
+        not_accepted(15)
+    }
+}
+
+// Delivers an object to a vector.
+fn accept_live(live: &mut Live<Six>, brought: &Object) -> Delivered
+    ensures { AcceptsLive result live.old live.new brought.now }
+{
+    match brought {
+        Object::Outcome(outcome) => accept_outcome(live, *outcome),
+        _ => not_accepted(NO_HANDLE),
+    }
+}
+
+// Delivers an object to another.
+fn accept_of(object: &mut Object, brought: &Object) -> Delivered
+    ensures { AcceptsObject result object.old object.new brought.now }
+{
+    match object {
+        Object::Vector(live) => accept_live(live, brought),
+        _ => not_accepted(NO_HANDLE),
+    }
+}
+
+// Delivers what lies behind a slot to an object.
+fn accept_with(alloc: Global, object: &mut Object, outcome: &mut Slot) -> Delivered
+    ensures answer { AcceptsWith result object.old object.new outcome.old.raw.inner }
+    ensures same { outcome.new.raw.inner ≡ outcome.old.raw.inner }
+{
+    match take(alloc, outcome) {
+        None => not_accepted(NO_HANDLE),
+        Some(brought) => {
+            let answer = accept_of(object, &brought);
+            put(outcome, brought);
+            answer
+        }
+    }
+}
+
+/// Takes an outcome in, where vetting says yes. The outcome stays as it is.
+#[unsafe(no_mangle)]
+pub extern "C" fn livevec_proved_accept(
+    alloc: Global,
+    slot: &mut Slot,
+    outcome: &mut Slot,
+) -> Delivered
+    ensures answer { Accepts result slot.old.raw.inner slot.new.raw.inner outcome.old.raw.inner }
+    ensures kept { outcome.new.raw.inner ≡ outcome.old.raw.inner }
+{
+    match take(alloc, slot) {
+        None => not_accepted(NO_HANDLE),
+        Some(mut held) => {
+            let answer = accept_with(alloc, &mut held, outcome);
+            put(slot, held);
+            answer
+        }
+    }
+}

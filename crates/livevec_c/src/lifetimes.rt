@@ -1,0 +1,126 @@
+//! How a vector begins and ends.
+ghost use Rattle.std.specs.Prelude.{◌≡◌, None, is_some, if◌then◌else◌, IfOk};
+ghost use Rattle.lv_bodies.specs.Automata.{table_of};
+ghost use Rattle.lv_bodies.specs.Plain.{program_table};
+ghost use Rattle.lv_bodies.specs.Six.{meaning_of_six, table_of_six};
+ghost use Rattle.livevec_c.specs.Lives.{IsNewObject, Opens, OpensAt, OpensWith};
+
+use crate::objects::Object;
+use crate::results::{IN_USE, NO_HANDLE, NO_MEMORY};
+use crate::slots::{Slot, is_full, put, take};
+use lv_bodies::{Affine, Automaton, Best, Greatest, Least, Pair, Six, Sum};
+use lv_geometry::Limits;
+use lv_live::Live;
+use std::alloc::{AllocError, Global};
+
+/// An automaton's table as C has it.
+#[repr(C)]
+#[derive(Clone, Copy)]
+pub struct Table {
+    pub next: [[u8; 4]; 8],
+}
+
+/// A new vector in a place of its own.
+pub fn new_vector(alloc: Global, limits: Limits, six: Six) -> Result<Box<Object>, AllocError>
+    ensures { IfOk result (λ b. IsNewObject limits (table_of_six (meaning_of_six six)) b.value) }
+{
+    Ok(Box::new(alloc, Object::Vector(Live::new(alloc, limits, six)))?)
+}
+
+// Puts a new vector into an empty slot.
+fn open(alloc: Global, slot: &mut Slot, limits: Limits, six: Six) -> u32
+    requires { slot.old.raw.inner ≡ None }
+    ensures { OpensAt limits (table_of_six (meaning_of_six six)) result slot.new.raw.inner }
+{
+    match new_vector(alloc, limits, six) {
+        Err(_) => NO_MEMORY,
+        Ok(held) => {
+            put(slot, held);
+            0
+        }
+    }
+}
+
+/// Puts a new vector with the program's automaton into an empty slot.
+#[unsafe(no_mangle)]
+pub extern "C" fn livevec_proved_new(
+    alloc: Global,
+    slot: &mut Slot,
+    buckets: u32,
+    edits: u32,
+) -> u32
+    ensures { Opens program_table buckets edits result slot.old.raw.inner slot.new.raw.inner }
+{
+    if is_full(slot) {
+        return IN_USE;
+    }
+    match Limits::new(buckets, edits) {
+        Err(refusal) => refusal.number(),
+        Ok(limits) => open(alloc, slot, limits, Six::program()),
+    }
+}
+
+// The six with an automaton.
+fn six_of(automaton: Automaton) -> Six
+    ensures { table_of_six (meaning_of_six result) ≡ table_of automaton }
+{
+    let last = Pair {
+        first: Affine,
+        second: automaton,
+    };
+    let later = Pair {
+        first: Greatest,
+        second: Pair {
+            first: Best,
+            second: last,
+        },
+    };
+    Six {
+        pairs: Pair {
+            first: Sum,
+            second: Pair {
+                first: Least,
+                second: later,
+            },
+        },
+    }
+}
+
+/// Puts a new vector with an automaton of this table into an empty slot.
+#[unsafe(no_mangle)]
+pub extern "C" fn livevec_proved_new_with_table(
+    alloc: Global,
+    slot: &mut Slot,
+    buckets: u32,
+    edits: u32,
+    table: &Table,
+) -> u32
+    ensures { OpensWith table.now.next buckets edits result slot.old.raw.inner slot.new.raw.inner }
+{
+    if is_full(slot) {
+        return IN_USE;
+    }
+    let limits = match Limits::new(buckets, edits) {
+        Err(refusal) => return refusal.number(),
+        Ok(limits) => limits,
+    };
+    match Automaton::new(table.next) {
+        Err(refusal) => refusal.number(),
+        Ok(automaton) => open(alloc, slot, limits, six_of(automaton)),
+    }
+}
+
+/// Frees what lies behind a slot, and empties it.
+#[unsafe(no_mangle)]
+pub extern "C" fn livevec_proved_free(alloc: Global, slot: &mut Slot) -> u32
+    ensures number { result ≡ (if is_some slot.old.raw.inner then 0 else 101) }
+    ensures empty { slot.new.raw.inner ≡ None }
+{
+    match take(alloc, slot) {
+        None => NO_HANDLE,
+        Some(held) => {
+            drop(held);
+            0
+        }
+    }
+}

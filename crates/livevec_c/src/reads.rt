@@ -1,0 +1,181 @@
+//! Reads of a vector: its elements, its counts and its reductions.
+ghost use Rattle.std.specs.Prelude.{◌≡◌};
+ghost use Rattle.livevec_c.specs.declared.reads.Counted.TheVariants as counts;
+ghost use Rattle.livevec_c.specs.Answers.{no_element, unreduced};
+ghost use Rattle.livevec_c.specs.Behind.{Asks, AsksObject, Counts, CountsObject, Gets, GetsObject, Reduces, ReducesObject};
+
+use crate::objects::Object;
+use crate::results::{
+    Count, Element, NO_HANDLE, Reduced, element_answer, not_reduced, reduction_answer,
+};
+use crate::slots::{Slot, put, take};
+use std::alloc::Global;
+
+// The element where a slot holds no vector.
+fn missing() -> Element
+    ensures { result ≡ no_element }
+{
+    Element {
+        refusal: NO_HANDLE,
+        detail: 0,
+        value: 0,
+    }
+}
+
+// An element of an object.
+fn get_of(object: &Object, index: u32) -> Element
+    ensures { GetsObject index result object.now }
+{
+    match object {
+        Object::Vector(live) => element_answer(live.get(index)),
+        _ => missing(),
+    }
+}
+
+/// The element at an index.
+#[unsafe(no_mangle)]
+pub extern "C" fn livevec_proved_get(alloc: Global, slot: &mut Slot, index: u32) -> Element
+    ensures answer { Gets index result slot.old.raw.inner }
+    ensures same { slot.new.raw.inner ≡ slot.old.raw.inner }
+{
+    match take(alloc, slot) {
+        None => missing(),
+        Some(held) => {
+            let answer = get_of(&held, index);
+            put(slot, held);
+            answer
+        }
+    }
+}
+
+// A count.
+fn count_answer(value: u32) -> Count
+    ensures { result ≡ record { refusal = 0; value = value } }
+{
+    Count { refusal: 0, value }
+}
+
+// The count where a slot holds no vector.
+fn uncounted() -> Count
+    ensures { result ≡ record { refusal = 101; value = 0 } }
+{
+    Count {
+        refusal: NO_HANDLE,
+        value: 0,
+    }
+}
+
+/// What is counted of a vector.
+#[derive(Clone, Copy)]
+pub enum Counted {
+    Size,
+    Capacity,
+    Edits,
+}
+
+// A count of an object.
+fn count_of(object: &Object, what: Counted) -> Count
+    ensures { CountsObject what result object.now }
+{
+    let Object::Vector(live) = object else {
+        return uncounted();
+    };
+    match what {
+        Counted::Size => count_answer(live.size()),
+        Counted::Capacity => count_answer(live.capacity()),
+        Counted::Edits => count_answer(live.edit()),
+    }
+}
+
+// A count of what lies behind a slot.
+fn count_held(alloc: Global, slot: &mut Slot, what: Counted) -> Count
+    ensures answer { Counts what result slot.old.raw.inner }
+    ensures same { slot.new.raw.inner ≡ slot.old.raw.inner }
+{
+    match take(alloc, slot) {
+        None => uncounted(),
+        Some(held) => {
+            let answer = count_of(&held, what);
+            put(slot, held);
+            answer
+        }
+    }
+}
+
+/// How many elements there are.
+#[unsafe(no_mangle)]
+pub extern "C" fn livevec_proved_size(alloc: Global, slot: &mut Slot) -> Count
+    ensures answer { Counts counts.Size result slot.old.raw.inner }
+    ensures same { slot.new.raw.inner ≡ slot.old.raw.inner }
+{
+    count_held(alloc, slot, Counted::Size)
+}
+
+/// How many elements fit into the memory that is held.
+#[unsafe(no_mangle)]
+pub extern "C" fn livevec_proved_capacity(alloc: Global, slot: &mut Slot) -> Count
+    ensures answer { Counts counts.Capacity result slot.old.raw.inner }
+    ensures same { slot.new.raw.inner ≡ slot.old.raw.inner }
+{
+    count_held(alloc, slot, Counted::Capacity)
+}
+
+/// How many edits were accepted.
+#[unsafe(no_mangle)]
+pub extern "C" fn livevec_proved_edits(alloc: Global, slot: &mut Slot) -> Count
+    ensures answer { Counts counts.Edits result slot.old.raw.inner }
+    ensures same { slot.new.raw.inner ≡ slot.old.raw.inner }
+{
+    count_held(alloc, slot, Counted::Edits)
+}
+
+// A reduction of an object.
+fn reduce_of(object: &Object, lo: u32, hi: u32) -> Reduced
+    ensures { ReducesObject lo hi result object.now }
+{
+    match object {
+        Object::Vector(live) => reduction_answer(live.reduce(lo, hi)),
+        _ => not_reduced(NO_HANDLE, 0),
+    }
+}
+
+/// The plain values of the elements of a range.
+#[unsafe(no_mangle)]
+pub extern "C" fn livevec_proved_reduce(alloc: Global, slot: &mut Slot, lo: u32, hi: u32) -> Reduced
+    ensures answer { Reduces lo hi result slot.old.raw.inner }
+    ensures same { slot.new.raw.inner ≡ slot.old.raw.inner }
+{
+    match take(alloc, slot) {
+        None => not_reduced(NO_HANDLE, 0),
+        Some(held) => {
+            let answer = reduce_of(&held, lo, hi);
+            put(slot, held);
+            answer
+        }
+    }
+}
+
+// A reduction of an object, which keeps what it computes.
+fn ask_of(object: &mut Object, lo: u32, hi: u32) -> Reduced
+    ensures { AsksObject lo hi result object.old object.new }
+{
+    match object {
+        Object::Vector(live) => reduction_answer(live.ask(lo, hi)),
+        _ => not_reduced(NO_HANDLE, 0),
+    }
+}
+
+/// The same, and keeps what it computes.
+#[unsafe(no_mangle)]
+pub extern "C" fn livevec_proved_ask(alloc: Global, slot: &mut Slot, lo: u32, hi: u32) -> Reduced
+    ensures { Asks lo hi result slot.old.raw.inner slot.new.raw.inner }
+{
+    match take(alloc, slot) {
+        None => not_reduced(NO_HANDLE, 0),
+        Some(mut held) => {
+            let answer = ask_of(&mut held, lo, hi);
+            put(slot, held);
+            answer
+        }
+    }
+}

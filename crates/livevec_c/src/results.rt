@@ -1,0 +1,226 @@
+//! What the calls answer, in the layouts of the header, and the words that make them.
+ghost use Rattle.std.specs.Prelude.{◌≡◌, pos, option_map, unwrap_or};
+ghost use Rattle.livevec_c.specs.Answers.{detail_of, edited_by, element_by, high_half, low_half, reduced_by, spread, unreduced, valueless};
+
+use lv_bodies::{Body, RunTotals, Six};
+use lv_edits::Receipt;
+use lv_geometry::Refusal;
+use lv_reduce::Answer;
+
+/// The number for want of memory, as the library has it.
+pub const NO_MEMORY: u32 = 6;
+
+/// The number for a slot that should be full and is empty.
+pub const NO_HANDLE: u32 = 101;
+
+/// The number for a slot that should be empty and is full.
+pub const IN_USE: u32 = 104;
+
+/// What an edit answers.
+#[repr(C)]
+#[derive(Clone, Copy)]
+pub struct Edited {
+    pub refusal: u32,
+    pub detail: u32,
+    pub edit: u32,
+    pub place: u32,
+    pub value: i64,
+}
+
+/// A count.
+#[repr(C)]
+#[derive(Clone, Copy)]
+pub struct Count {
+    pub refusal: u32,
+    pub value: u32,
+}
+
+/// An element.
+#[repr(C)]
+#[derive(Clone, Copy)]
+pub struct Element {
+    pub refusal: u32,
+    pub detail: u32,
+    pub value: i64,
+}
+
+/// The plain values of a list of elements, by each of the six kinds.
+#[repr(C)]
+#[derive(Clone, Copy)]
+pub struct PlainValues {
+    pub sum: u64,
+    pub least: i64,
+    pub greatest: i64,
+    pub best_low: u64,
+    pub best_high: i64,
+    pub affine_a: u32,
+    pub affine_b: u32,
+    pub automaton: [u8; 8],
+    pub any: bool,
+}
+
+/// What a reduction answers.
+#[repr(C)]
+#[derive(Clone, Copy)]
+pub struct Reduced {
+    pub refusal: u32,
+    pub detail: u32,
+    pub edit: u32,
+    pub cells: u32,
+    pub summaries: u32,
+    pub values: PlainValues,
+}
+
+/// What a refusal tells beside its number: the size, or the limit.
+pub fn detail(refusal: Refusal) -> u32
+    ensures { result ≡ detail_of refusal }
+{
+    match refusal {
+        Refusal::OutOfRange { size } => size,
+        Refusal::TooLarge { limit } => limit,
+        _ => 0,
+    }
+}
+
+/// What an edit that was not accepted answers.
+fn not_edited(refusal: u32, detail: u32) -> Edited
+    ensures { result ≡ record { refusal = refusal; detail = detail; edit = 0; place = 0; value = pos 0 } }
+{
+    Edited {
+        refusal,
+        detail,
+        edit: 0,
+        place: 0,
+        value: 0,
+    }
+}
+
+/// What an edit answers for C.
+pub fn edit_answer(answer: Result<Receipt, Refusal>) -> Edited
+    ensures { result ≡ edited_by answer }
+{
+    let (edit, place, value) = match answer {
+        Err(refusal) => return not_edited(refusal.number(), detail(refusal)),
+        Ok(Receipt::Pushed { edit, index }) => (edit, index, 0),
+        Ok(Receipt::Popped { edit, value }) => (edit, 0, value),
+        Ok(Receipt::Written { edit, before }) => (edit, 0, before),
+        Ok(Receipt::Reserved { edit, capacity }) => (edit, capacity, 0),
+        Ok(Receipt::Swapped { edit, first, .. }) => (edit, 0, first),
+        Ok(Receipt::Truncated { edit, dropped }) => (edit, dropped, 0),
+    };
+    Edited {
+        refusal: 0,
+        detail: 0,
+        edit,
+        place,
+        value,
+    }
+}
+
+/// The element at an index, for C.
+pub fn element_answer(answer: Result<i64, Refusal>) -> Element
+    ensures { result ≡ element_by answer }
+{
+    match answer {
+        Ok(value) => Element {
+            refusal: 0,
+            detail: 0,
+            value,
+        },
+        Err(refusal) => Element {
+            refusal: refusal.number(),
+            detail: detail(refusal),
+            value: 0,
+        },
+    }
+}
+
+// The high and the low 64 bits of a number of 128 bits.
+fn halves(x: i128) -> (u64, i64)
+    ensures low { result.0 ≡ low_half x }
+    ensures high { result.1 ≡ high_half x }
+{
+    let wide = 1 << 64;
+    (
+        x.rem_euclid(wide).cast_unsigned() as u64,
+        x.div_euclid(wide) as i64,
+    )
+}
+
+// The low and the high half of a total, 0 where there is none.
+fn total_halves(totals: Option<RunTotals>) -> (u64, i64)
+    ensures low { result.0 ≡ low_half (unwrap_or (option_map (λ r. r.best) totals) (pos 0)) }
+    ensures high { result.1 ≡ high_half (unwrap_or (option_map (λ r. r.best) totals) (pos 0)) }
+{
+    match totals {
+        None => (0, 0),
+        Some(totals) => halves(totals.best),
+    }
+}
+
+/// The six summaries of some elements, laid out for C.
+pub fn plain_values(summary: <Six as Body>::S) -> PlainValues
+    ensures { result ≡ spread summary }
+{
+    let (sum, (least, (greatest, (best, (affine, automaton))))) = summary;
+    let (best_low, best_high) = total_halves(best);
+    PlainValues {
+        sum,
+        least: least.unwrap_or(0),
+        greatest: greatest.unwrap_or(0),
+        best_low,
+        best_high,
+        affine_a: affine.a,
+        affine_b: affine.b,
+        automaton,
+        any: least.is_some(),
+    }
+}
+
+// The values where there are none.
+fn no_values() -> PlainValues
+    ensures { result ≡ valueless }
+{
+    PlainValues {
+        sum: 0,
+        least: 0,
+        greatest: 0,
+        best_low: 0,
+        best_high: 0,
+        affine_a: 0,
+        affine_b: 0,
+        automaton: [0; 8],
+        any: false,
+    }
+}
+
+/// What a reduction that was not answered answers.
+pub fn not_reduced(refusal: u32, detail: u32) -> Reduced
+    ensures { result ≡ unreduced refusal detail }
+{
+    Reduced {
+        refusal,
+        detail,
+        edit: 0,
+        cells: 0,
+        summaries: 0,
+        values: no_values(),
+    }
+}
+
+/// What a reduction answers for C.
+pub fn reduction_answer(answer: Result<Answer<<Six as Body>::S>, Refusal>) -> Reduced
+    ensures { result ≡ reduced_by answer }
+{
+    match answer {
+        Err(refusal) => not_reduced(refusal.number(), detail(refusal)),
+        Ok(answer) => Reduced {
+            refusal: 0,
+            detail: 0,
+            edit: answer.edit,
+            cells: answer.cells_read,
+            summaries: answer.summaries_read,
+            values: plain_values(answer.value),
+        },
+    }
+}

@@ -1,0 +1,60 @@
+//! The slot that C holds.
+ghost use Rattle.std.specs.Prelude.{◌≡◌, Option, Some, None, option_map, is_some};
+
+use crate::objects::Object;
+use crate::raw::Raw;
+use std::alloc::Global;
+use std::mem;
+
+/// What C holds: all zeros is 'empty'.
+#[repr(C)]
+#[derive(Drop)]
+pub struct Slot {
+    full: bool,
+    raw: Raw,
+    ghost agrees: { full ≡ is_some raw.inner },
+}
+
+impl Slot {
+    pub fn empty(alloc: Global) -> Slot
+        ensures { result.raw.inner ≡ None }
+    {
+        Slot {
+            full: false,
+            raw: Raw::empty(alloc),
+        }
+    }
+
+    pub fn full_of(b: Box<Object>) -> Slot
+        ensures { result.raw.inner ≡ Some b.value }
+    {
+        Slot {
+            full: true,
+            raw: Raw::of_box(b),
+        }
+    }
+}
+
+/// Takes what a slot holds, and leaves it empty.
+pub fn take(alloc: Global, slot: &mut Slot) -> Option<Box<Object>>
+    ensures taken { slot.old.raw.inner ≡ option_map (λ b. b.value) result }
+    ensures left { slot.new.raw.inner ≡ None }
+{
+    let Slot { full, raw } = mem::replace(slot, Slot::empty(alloc));
+    if full { Some(raw.into_box()) } else { None }
+}
+
+/// Puts a box into a slot that is empty.
+pub fn put(slot: &mut Slot, b: Box<Object>)
+    ensures { slot.new.raw.inner ≡ Some b.value }
+{
+    *slot = Slot::full_of(b);
+}
+
+/// Whether a slot holds something.
+pub fn is_full(slot: &mut Slot) -> bool
+    ensures full { result ≡ is_some slot.old.raw.inner }
+    ensures same { slot.new.raw.inner ≡ slot.old.raw.inner }
+{
+    slot.full
+}

@@ -1,0 +1,267 @@
+/* livevec: a growable vector of 64-bit numbers whose ranges are reduced at once. For C11 and C++17.
+ *
+ * Slots. A vector, a job and an outcome each lie behind a slot. Who calls owes three things, which nobody checks:
+ *   - a slot starts as zeros (`livevec_vector v = {0};`), which is 'empty';
+ *   - a slot is never copied, and nothing but these functions writes it;
+ *   - a slot serves one call at a time. Between calls it may go to another thread, as by a lock, a join or a queue.
+ * A function never follows an empty slot: it answers LIVEVEC_NO_HANDLE. Freeing a slot makes it empty.
+ *
+ * Refusals. Each call tells why it was refused, 0 where it was not. A refused call changes nothing.
+ * Each function names its refusals in the order in which they are tried. NULL is for a null pointer, NO_HANDLE for a slot that
+ * should hold something and is empty, or holds something else.
+ *
+ * Memory. It comes from malloc, realloc and free. Want of it is an answer, LIVEVEC_NO_MEMORY, after which nothing has changed.
+ * No function waits, prints, ends the process or starts a thread. Call none from a signal handler.
+ *
+ * Ranges are of indices from `lo` up to `hi`, `hi` excluded. Edits are numbered 1, 2, 3 and so on; an answer names the last one. */
+#ifndef LIVEVEC_H
+#define LIVEVEC_H
+
+#include <stdbool.h>
+#include <stddef.h>
+#include <stdint.h>
+
+#ifdef __cplusplus
+extern "C" {
+#endif
+
+/* Why a call was refused. */
+typedef enum livevec_refusal {
+    LIVEVEC_OK = 0,
+    LIVEVEC_WORN = 1,          /* as many edits are accepted as the limits allow */
+    LIVEVEC_EMPTY = 2,         /* there is nothing to pop */
+    LIVEVEC_OUT_OF_RANGE = 3,  /* an index, or the end of a range, is past the end; `detail` is the size */
+    LIVEVEC_TOO_LARGE = 4,     /* more was to be reserved than the limits allow; `detail` is the limit in elements */
+    LIVEVEC_FULL = 5,          /* as many elements as the limits allow */
+    LIVEVEC_NO_MEMORY = 6,     /* memory was wanted, and there was none */
+    LIVEVEC_BAD_RANGE = 7,     /* a range whose start is past its end */
+    LIVEVEC_BAD_LIMITS = 8,    /* limits outside their ranges */
+    LIVEVEC_BAD_TABLE = 9,     /* an automaton's table with an entry above 7 */
+    LIVEVEC_NAME_TAKEN = 10,   /* 10 to 14, 16 to 20: answered by no function of this header */
+    LIVEVEC_NO_SUCH_NAME = 11,
+    LIVEVEC_TOO_MANY = 12,
+    LIVEVEC_READ_FAULT = 13,
+    LIVEVEC_WRITE_FAULT = 14,
+    LIVEVEC_STRANGER = 15,     /* an outcome that this vector can't vouch for: another vector's, as a rule */
+    LIVEVEC_TOO_WIDE = 16,
+    LIVEVEC_CONTENDED = 17,
+    LIVEVEC_OVERTAKEN = 18,
+    LIVEVEC_NO_JOB = 19,
+    LIVEVEC_NOT_NOW = 20,
+    LIVEVEC_NO_HANDLE = 101,   /* a slot that should be full is empty: never filled, or freed, or moved from */
+    LIVEVEC_NULL = 102,        /* a null pointer */
+    LIVEVEC_SHORT_BUFFER = 103, /* a buffer shorter than what it should take; `detail` is the wanted length */
+    LIVEVEC_IN_USE = 104       /* a slot that should be empty is full */
+} livevec_refusal;
+
+/* Slots. All zeros is 'empty'. The fields are the library's own. */
+typedef struct livevec_vector {
+    bool full_;
+    void *at_;
+} livevec_vector;
+
+typedef struct livevec_job {
+    bool full_;
+    void *at_;
+} livevec_job;
+
+typedef struct livevec_outcome {
+    bool full_;
+    void *at_;
+} livevec_outcome;
+
+/* An automaton of eight states: from state q, an element x leads to next[q][x mod 4], the remainder never negative. */
+typedef struct livevec_table {
+    uint8_t next[8][4];
+} livevec_table;
+
+/* What an edit answers. Where it was refused, all but `refusal` and `detail` is 0. */
+typedef struct livevec_edited {
+    uint32_t refusal;
+    uint32_t detail; /* of LIVEVEC_OUT_OF_RANGE the size, of LIVEVEC_TOO_LARGE the limit, else 0 */
+    uint32_t edit;   /* the edit's number */
+    uint32_t place;  /* of a push the index where the element lies; of a reserve how many elements now fit; of a truncate how
+                      * many were dropped; else 0 */
+    int64_t value;   /* of a pop the element that was dropped; of a write the one that was overwritten; of a swap the one that
+                      * stands at the first index now; else 0 */
+} livevec_edited;
+
+/* A count, 0 where it was refused. */
+typedef struct livevec_count {
+    uint32_t refusal;
+    uint32_t value;
+} livevec_count;
+
+/* An element, 0 where it was refused. */
+typedef struct livevec_element {
+    uint32_t refusal;
+    uint32_t detail; /* of LIVEVEC_OUT_OF_RANGE the size, else 0 */
+    int64_t value;
+} livevec_element;
+
+/* The plain values of a list of elements, by each of the six kinds. */
+typedef struct livevec_values {
+    uint64_t sum;         /* the sum modulo 2^64 */
+    int64_t least;        /* the least element; 0 where `any` is false */
+    int64_t greatest;     /* the greatest element; 0 where `any` is false */
+    uint64_t best_low;    /* the greatest total of one or more neighbours, 128 bits in two's complement: its low 64 bits, */
+    int64_t best_high;    /* and its high 64 bits, which have the sign; both 0 where `any` is false */
+    uint32_t affine_a;    /* the map y -> a * y + b modulo 2^32 that the elements make: a */
+    uint32_t affine_b;    /* and b */
+    uint8_t automaton[8]; /* the state that the elements lead to from each of the eight */
+    bool any;             /* whether there is an element */
+} livevec_values;
+
+/* What a reduction answers. Where it was refused, all but `refusal` and `detail` is 0. */
+typedef struct livevec_reduced {
+    uint32_t refusal;
+    uint32_t detail;    /* of LIVEVEC_OUT_OF_RANGE the size, else 0 */
+    uint32_t edit;      /* after which edit the values are those of the range */
+    uint32_t cells;     /* how many elements were read for it */
+    uint32_t summaries; /* how many summaries were read for it */
+    livevec_values values;
+} livevec_reduced;
+
+/* What a scan answers. */
+typedef struct livevec_scanned {
+    uint32_t refusal;
+    uint32_t detail; /* of LIVEVEC_OUT_OF_RANGE the size, of LIVEVEC_SHORT_BUFFER the wanted length, else 0 */
+    uint32_t edit;   /* after which edit the values are those of the range; 0 where it was refused */
+    uint32_t length; /* how many values were written; 0 where it was refused */
+} livevec_scanned;
+
+/* What many pushes answer. */
+typedef struct livevec_pushed {
+    uint32_t refusal; /* of the push that was refused; 0 where none was */
+    uint32_t detail;  /* 0 */
+    uint32_t edit;    /* the number of the last edit that was accepted; 0 where none was */
+    uint32_t pushed;  /* how many elements were pushed */
+} livevec_pushed;
+
+/* What a claim answers. Where no job was found, or it was refused, the numbers are 0. */
+typedef struct livevec_claimed {
+    uint32_t refusal;
+    bool found;       /* whether there was a job; if not, its slot stays empty */
+    uint32_t level;   /* the node whose summary is wanted: 8^level elements */
+    uint32_t number;  /* from index number * 8^level on */
+    uint32_t version; /* the edit that touched the node last */
+} livevec_claimed;
+
+/* What became of an outcome. */
+typedef enum livevec_became {
+    LIVEVEC_INSTALLED = 1, /* its summary is kept from now on */
+    LIVEVEC_HELD = 2,      /* it was kept already */
+    LIVEVEC_STALE = 3      /* edits overtook it */
+} livevec_became;
+
+typedef struct livevec_accepted {
+    uint32_t refusal;
+    uint32_t became; /* a livevec_became; 0 where it was refused */
+    uint32_t now;    /* of LIVEVEC_STALE the number of the last edit that touched the node, else 0 */
+} livevec_accepted;
+
+/* A yes or a no, no where it was refused. */
+typedef struct livevec_vetted {
+    uint32_t refusal;
+    bool yes;
+} livevec_vetted;
+
+/* --- A vector --- */
+
+/* Puts a new, empty vector into an empty slot: of at most 1 to 17 buckets (k buckets hold 8 * (2^k - 1) elements, 17 hold
+ * 1,048,568) and 1 to 16,777,215 edits. Its automaton leads from q by x to (2 * q + x mod 4) mod 8.
+ * Refusals: NULL, IN_USE, BAD_LIMITS, NO_MEMORY. Who calls owes a livevec_free. */
+uint32_t livevec_new(livevec_vector *slot, uint32_t buckets, uint32_t edits);
+
+/* The same, with an automaton of a table of the caller's, which is copied. Refusals: NULL, IN_USE, BAD_LIMITS, BAD_TABLE, NO_MEMORY. */
+uint32_t livevec_new_with_table(livevec_vector *slot, uint32_t buckets, uint32_t edits, const livevec_table *table);
+
+/* Frees a vector and empties its slot. Its jobs and outcomes stay good for nothing but to be freed. Refusals: NULL, NO_HANDLE. */
+uint32_t livevec_free(livevec_vector *slot);
+
+/* Puts an element at the end. `place` is its index. Refusals: NULL, NO_HANDLE, WORN, FULL, NO_MEMORY. */
+livevec_edited livevec_push(livevec_vector *slot, int64_t value);
+
+/* Drops the last element. `value` is that element. Refusals: NULL, NO_HANDLE, WORN, EMPTY, NO_MEMORY. */
+livevec_edited livevec_pop(livevec_vector *slot);
+
+/* Overwrites the element at an index. `value` is the element before. Refusals: NULL, NO_HANDLE, WORN, OUT_OF_RANGE, NO_MEMORY. */
+livevec_edited livevec_write(livevec_vector *slot, uint32_t index, int64_t value);
+
+/* Makes room for so many elements in all. `place` is how many now fit. Refusals: NULL, NO_HANDLE, WORN, TOO_LARGE, NO_MEMORY. */
+livevec_edited livevec_reserve(livevec_vector *slot, uint32_t elements);
+
+/* The element at an index. Refusals: NULL, NO_HANDLE, OUT_OF_RANGE. */
+livevec_element livevec_get(livevec_vector *slot, uint32_t index);
+
+/* Exchanges the elements at two indices, which may be one. `value` is the element at the first index now.
+ * Refusals: NULL, NO_HANDLE, WORN, OUT_OF_RANGE, NO_MEMORY. */
+livevec_edited livevec_swap(livevec_vector *slot, uint32_t first, uint32_t second);
+
+/* Keeps so many elements, the first ones, and drops the others. `place` is how many were dropped.
+ * Refusals: NULL, NO_HANDLE, WORN, OUT_OF_RANGE, NO_MEMORY. */
+livevec_edited livevec_truncate(livevec_vector *slot, uint32_t elements);
+
+/* Pushes elements in order, until one is refused. Those before it stay. Refusals: NULL, and those of livevec_push. */
+livevec_pushed livevec_push_many(livevec_vector *slot, const int64_t *values, size_t length);
+
+/* The elements of a range, into a buffer that takes `length` of them. Where it was refused the buffer is as it was.
+ * Refusals: NULL, NO_HANDLE, BAD_RANGE, OUT_OF_RANGE, SHORT_BUFFER. */
+livevec_scanned livevec_read(livevec_vector *slot, uint32_t lo, uint32_t hi, int64_t *buffer, size_t length);
+
+/* How many elements there are; how many fit into the memory that is held; how many edits were accepted.
+ * Refusals: NULL, NO_HANDLE. */
+livevec_count livevec_size(livevec_vector *slot);
+livevec_count livevec_capacity(livevec_vector *slot);
+livevec_count livevec_edits(livevec_vector *slot);
+
+/* --- Reductions --- */
+
+/* The plain values of the elements of a range, by each of the six kinds at once. Takes no memory, changes nothing.
+ * Refusals: NULL, NO_HANDLE, BAD_RANGE, OUT_OF_RANGE. */
+livevec_reduced livevec_reduce(livevec_vector *slot, uint32_t lo, uint32_t hi);
+
+/* The same, and keeps what it computes for it: a range that was asked for costs at most 14 cells and 84 summaries until an
+ * edit touches it. Takes no memory, changes no answer. Refusals: NULL, NO_HANDLE, BAD_RANGE, OUT_OF_RANGE. */
+livevec_reduced livevec_ask(livevec_vector *slot, uint32_t lo, uint32_t hi);
+
+/* The running values of a range: buffer[i] has those of the elements from lo up to lo + i, that one included, or excluded.
+ * Writes hi - lo values; `length` is how many the buffer takes. Where it was refused the buffer is as it was. Each value is
+ * an answer of livevec_ask. Refusals: NULL, NO_HANDLE, BAD_RANGE, OUT_OF_RANGE, SHORT_BUFFER. */
+livevec_scanned livevec_scan_inclusive(livevec_vector *slot, uint32_t lo, uint32_t hi, livevec_values *buffer, size_t length);
+livevec_scanned livevec_scan_exclusive(livevec_vector *slot, uint32_t lo, uint32_t hi, livevec_values *buffer, size_t length);
+
+/* --- Refresh: summaries are computed so that reductions read less. No answer changes by it. --- */
+
+/* Computes at most so many summaries in place, the least node first; tells how many. Fewer than `jobs` where no node wants
+ * one any longer. Takes no memory. Refusals: NULL, NO_HANDLE. */
+livevec_count livevec_refresh(livevec_vector *slot, uint32_t jobs);
+
+/* Puts a job for the least node that wants one into an empty slot, if there is one. It holds nothing of the vector.
+ * Refusals: NULL, IN_USE (of the job's slot), NO_HANDLE, NO_MEMORY. Who calls owes a livevec_run or a livevec_free_job. */
+livevec_claimed livevec_claim(livevec_vector *slot, livevec_job *job);
+
+/* Computes a job, on any thread, beside any call on the vector. The job's slot is then empty, and the outcome's is full.
+ * Takes no memory. Refusals: NULL, IN_USE (of the outcome's slot), NO_HANDLE (of the job's). Who calls owes a livevec_free_outcome. */
+uint32_t livevec_run(livevec_job *job, livevec_outcome *outcome);
+
+/* Whether an outcome would be accepted: yes for every outcome of a job that this vector handed out, however late.
+ * Refusals: NULL, NO_HANDLE (of either slot). */
+livevec_vetted livevec_vet(livevec_vector *slot, livevec_outcome *outcome);
+
+/* Takes an outcome in, if vet says yes. The outcome stays as it is, and may be delivered again. Takes no memory.
+ * Refusals: NULL, NO_HANDLE (of either slot), STRANGER. */
+livevec_accepted livevec_accept(livevec_vector *slot, livevec_outcome *outcome);
+
+/* Forgets all claims, so that their nodes may be claimed again. Jobs that were handed out stay good. Refusals: NULL, NO_HANDLE. */
+uint32_t livevec_forget(livevec_vector *slot);
+
+/* Frees a job that is not run; frees an outcome. The slot is then empty. Refusals: NULL, NO_HANDLE. */
+uint32_t livevec_free_job(livevec_job *job);
+uint32_t livevec_free_outcome(livevec_outcome *outcome);
+
+#ifdef __cplusplus
+}
+#endif
+
+#endif
