@@ -1,0 +1,803 @@
+"""livevec: a growable vector of 64-bit numbers for programs that keep asking it about ranges.
+
+    >>> from livevec import Vector
+    >>> with Vector([300, 120, 500, 80]) as prices:
+    ...     prices[0] = 180
+    ...     prices.sum(), prices.least(0, 2), prices.edits
+    (880, 120, 5)
+
+The library is written and proved in Rattle. This module calls its C form, `liblivevec.so`, by ctypes. The library's functions are proved; the
+module over them is tested.
+
+The shared object is looked for in this order: the file that LIVEVEC_LIB names; `liblivevec.so` in the folder that LIVEVEC_LIB_DIR names; beside
+this module; in the folder `build` of the repository that this module lies in; where the system keeps its libraries.
+
+Threads. Every call into C keeps the interpreter's lock, so a vector may be used by several threads, one call at a time. What takes more than
+one call (`vector[-1]`, a loop over the elements, `edits` after a push) needs a lock of your own if another thread edits meanwhile.
+"""
+from __future__ import annotations
+
+import collections.abc
+import ctypes
+import ctypes.util
+import enum
+import operator
+import os
+import sys
+from array import array
+from typing import Iterable, Iterator, NamedTuple, Optional, Sequence, Union, overload
+
+__all__ = [
+    "Vector", "Job", "Outcome", "Scan", "Values", "Reduced", "Delivered", "Became", "Node",
+    "Refusal", "Worn", "Empty", "OutOfRange", "TooLarge", "Full", "NoMemory", "BadRange", "BadLimits", "BadTable", "Stranger", "Closed",
+    "MOST_BUCKETS", "MOST_EDITS",
+]
+
+MOST_BUCKETS = 17
+"""So many buckets have room for 1,048,568 elements; k have room for 8 * (2**k - 1)."""
+MOST_EDITS = 16_777_215
+
+_LEAST_I64, _MOST_I64, _MOST_U32 = -(1 << 63), (1 << 63) - 1, (1 << 32) - 1
+
+if not getattr(sys, "_is_gil_enabled", lambda: True)():
+    raise ImportError("livevec's calls are kept apart by the interpreter's lock, which this interpreter runs without")
+
+
+# --- Refusals ---
+
+
+class Refusal(Exception):
+    """Why the library refused a call. What is refused changes no element, no edit number and no later answer.
+
+    `number` is the number that the library's rules give it. `detail` is the size of an OutOfRange and the limit of a TooLarge, else 0.
+    `pushed` is how many elements were taken by the `extend` that was refused; these stay.
+    """
+
+    number: int = 0
+    says: str = "refused"
+
+    def __init__(self, detail: int = 0, pushed: int = 0) -> None:
+        self.detail = detail
+        self.pushed = pushed
+        super().__init__(f"{type(self).__name__}: {self.says.format(detail=detail)}")
+
+    def __reduce__(self) -> tuple:
+        return type(self), (self.detail, self.pushed)
+
+
+class Worn(Refusal, OverflowError):
+    """The limit of edits is reached."""
+
+    number, says = 1, "the limit of edits is reached"
+
+
+class Empty(Refusal, IndexError):
+    """A pop of nothing."""
+
+    number, says = 2, "there is nothing to pop"
+
+
+class OutOfRange(Refusal, IndexError):
+    """An index, or the end of a range, is past the end. `detail` is the size."""
+
+    number, says = 3, "the size is {detail}"
+
+
+class TooLarge(Refusal, OverflowError):
+    """More was to be reserved than the limits allow. `detail` is the limit in elements."""
+
+    number, says = 4, "the limit is {detail} elements"
+
+
+class Full(Refusal, OverflowError):
+    """There are as many elements as the limits allow."""
+
+    number, says = 5, "the size is the limit's capacity"
+
+
+class NoMemory(Refusal, MemoryError):
+    """Memory was wanted, and there was none."""
+
+    number, says = 6, "memory was wanted, and there was none"
+
+
+class BadRange(Refusal, ValueError):
+    """A range whose start is past its end."""
+
+    number, says = 7, "a range whose start is past its end"
+
+
+class BadLimits(Refusal, ValueError):
+    """Limits outside 1 to 17 buckets and 1 to 16,777,215 edits."""
+
+    number, says = 8, "limits outside 1 to 17 buckets and 1 to 16,777,215 edits"
+
+
+class BadTable(Refusal, ValueError):
+    """An automaton's table with an entry above 7."""
+
+    number, says = 9, "an automaton's table with an entry above 7"
+
+
+class Stranger(Refusal, ValueError):
+    """An outcome that isn't of a job of this vector."""
+
+    number, says = 15, "an outcome that is not of a job of this vector"
+
+
+class Closed(Refusal, ValueError):
+    """The vector was closed, or the job was run."""
+
+    number, says = 101, "it was closed, or it was run"
+
+
+_REFUSALS = {it.number: it for it in (Worn, Empty, OutOfRange, TooLarge, Full, NoMemory, BadRange, BadLimits, BadTable, Stranger, Closed)}
+
+
+def _refuse(number: int, detail: int = 0, pushed: int = 0) -> Refusal:
+    made = _REFUSALS.get(number, Refusal)(detail, pushed)
+    made.number = number
+    return made
+
+
+# --- The C calls of include/livevec.h ---
+
+
+class _Slot(ctypes.Structure):
+    # A slot is never copied: it lies in the object that owns it, and is passed by its address alone.
+    _fields_ = [("full_", ctypes.c_bool), ("at_", ctypes.c_void_p)]
+
+
+# Slots of three types, so that ctypes refuses one in the place of another.
+class _VectorSlot(_Slot):
+    pass
+
+
+class _JobSlot(_Slot):
+    pass
+
+
+class _OutcomeSlot(_Slot):
+    pass
+
+
+class _Table(ctypes.Structure):
+    _fields_ = [("next", ctypes.c_uint8 * 32)]
+
+
+class _Edited(ctypes.Structure):
+    _fields_ = [("refusal", ctypes.c_uint32), ("detail", ctypes.c_uint32), ("edit", ctypes.c_uint32), ("place", ctypes.c_uint32),
+                ("value", ctypes.c_int64)]
+
+
+class _Pushed(ctypes.Structure):
+    _fields_ = [("refusal", ctypes.c_uint32), ("detail", ctypes.c_uint32), ("edit", ctypes.c_uint32), ("pushed", ctypes.c_uint32)]
+
+
+class _Count(ctypes.Structure):
+    _fields_ = [("refusal", ctypes.c_uint32), ("value", ctypes.c_uint32)]
+
+
+class _Element(ctypes.Structure):
+    _fields_ = [("refusal", ctypes.c_uint32), ("detail", ctypes.c_uint32), ("value", ctypes.c_int64)]
+
+
+class _Values(ctypes.Structure):
+    _fields_ = [("sum", ctypes.c_uint64), ("least", ctypes.c_int64), ("greatest", ctypes.c_int64), ("best_low", ctypes.c_uint64),
+                ("best_high", ctypes.c_int64), ("affine_a", ctypes.c_uint32), ("affine_b", ctypes.c_uint32),
+                ("automaton", ctypes.c_uint8 * 8), ("any", ctypes.c_bool)]
+
+
+class _Reduced(ctypes.Structure):
+    _fields_ = [("refusal", ctypes.c_uint32), ("detail", ctypes.c_uint32), ("edit", ctypes.c_uint32), ("cells", ctypes.c_uint32),
+                ("summaries", ctypes.c_uint32), ("values", _Values)]
+
+
+class _Scanned(ctypes.Structure):
+    _fields_ = [("refusal", ctypes.c_uint32), ("detail", ctypes.c_uint32), ("edit", ctypes.c_uint32), ("length", ctypes.c_uint32)]
+
+
+class _Claimed(ctypes.Structure):
+    _fields_ = [("refusal", ctypes.c_uint32), ("found", ctypes.c_bool), ("level", ctypes.c_uint32), ("number", ctypes.c_uint32),
+                ("version", ctypes.c_uint32)]
+
+
+class _Vetted(ctypes.Structure):
+    _fields_ = [("refusal", ctypes.c_uint32), ("yes", ctypes.c_bool)]
+
+
+class _Accepted(ctypes.Structure):
+    _fields_ = [("refusal", ctypes.c_uint32), ("became", ctypes.c_uint32), ("now", ctypes.c_uint32)]
+
+
+def _found() -> str:
+    """The path of the shared object, or its name where the system finds it."""
+    named = os.environ.get("LIVEVEC_LIB")
+    if named:
+        return named
+    here = os.path.dirname(os.path.abspath(__file__))
+    folders = [os.environ.get("LIVEVEC_LIB_DIR", ""), here, os.path.join(here, "..", "..", "build")]
+    for folder in filter(None, folders):
+        path = os.path.join(folder, "liblivevec.so")
+        if os.path.isfile(path):
+            return path
+    known = ctypes.util.find_library("livevec")
+    if known is None:
+        raise ImportError("there is no liblivevec.so: run `make so` in livevec's repository, or name it by LIVEVEC_LIB")
+    return known
+
+
+# Calls by PyDLL keep the interpreter's lock, so that a slot serves one call at a time.
+_lib = ctypes.PyDLL(_found())
+
+
+def _call(name: str, result: type, *arguments: type):  # type: ignore[no-untyped-def]
+    function = getattr(_lib, name)
+    function.restype, function.argtypes = result, arguments
+    return function
+
+
+_slot, _job, _outcome = ctypes.POINTER(_VectorSlot), ctypes.POINTER(_JobSlot), ctypes.POINTER(_OutcomeSlot)
+_u32, _i64, _pointer, _size = ctypes.c_uint32, ctypes.c_int64, ctypes.c_void_p, ctypes.c_size_t
+_new = _call("livevec_new", _u32, _slot, _u32, _u32)
+_new_with_table = _call("livevec_new_with_table", _u32, _slot, _u32, _u32, ctypes.POINTER(_Table))
+_free = _call("livevec_free", _u32, _slot)
+_push = _call("livevec_push", _Edited, _slot, _i64)
+_pop = _call("livevec_pop", _Edited, _slot)
+_write = _call("livevec_write", _Edited, _slot, _u32, _i64)
+_reserve = _call("livevec_reserve", _Edited, _slot, _u32)
+_swap = _call("livevec_swap", _Edited, _slot, _u32, _u32)
+_truncate = _call("livevec_truncate", _Edited, _slot, _u32)
+_push_many = _call("livevec_push_many", _Pushed, _slot, _pointer, _size)
+_get = _call("livevec_get", _Element, _slot, _u32)
+_read = _call("livevec_read", _Scanned, _slot, _u32, _u32, _pointer, _size)
+_count_size = _call("livevec_size", _Count, _slot)
+_count_capacity = _call("livevec_capacity", _Count, _slot)
+_count_edits = _call("livevec_edits", _Count, _slot)
+_reduce = _call("livevec_reduce", _Reduced, _slot, _u32, _u32)
+_ask = _call("livevec_ask", _Reduced, _slot, _u32, _u32)
+_scan_inclusive = _call("livevec_scan_inclusive", _Scanned, _slot, _u32, _u32, _pointer, _size)
+_scan_exclusive = _call("livevec_scan_exclusive", _Scanned, _slot, _u32, _u32, _pointer, _size)
+_refresh = _call("livevec_refresh", _Count, _slot, _u32)
+_claim = _call("livevec_claim", _Claimed, _slot, _job)
+_run = _call("livevec_run", _u32, _job, _outcome)
+_vet = _call("livevec_vet", _Vetted, _slot, _outcome)
+_accept = _call("livevec_accept", _Accepted, _slot, _outcome)
+_forget = _call("livevec_forget", _u32, _slot)
+_free_job = _call("livevec_free_job", _u32, _job)
+_free_outcome = _call("livevec_free_outcome", _u32, _outcome)
+
+
+class _Handle:
+    """What owns a slot. It can be neither copied nor pickled."""
+
+    __slots__ = ("_slot", "_at", "__weakref__")
+
+    _made_of: type[_Slot]
+
+    # The slot is there before anything can fail, for the object's end looks at it.
+    def __new__(cls, *_: object, **__: object):  # type: ignore[no-untyped-def]
+        made = super().__new__(cls)
+        made._slot = cls._made_of()
+        made._at = ctypes.byref(made._slot)
+        return made
+
+    def __reduce__(self):  # type: ignore[no-untyped-def]
+        raise TypeError(f"a {type(self).__name__} can't be copied or pickled")
+
+    def __copy__(self) -> None:
+        self.__reduce__()
+
+    def __deepcopy__(self, _memo: object) -> None:
+        self.__reduce__()
+
+
+def _as_u32(number: int, what: str) -> int:
+    """A number that C can be given as a uint32_t: ctypes would cut it in silence."""
+    number = operator.index(number)
+    if not 0 <= number <= _MOST_U32:
+        raise OverflowError(f"{what} {number} is outside 0 to {_MOST_U32}")
+    return number
+
+
+def _as_i64(value: int) -> int:
+    """An element that C can be given as an int64_t."""
+    value = operator.index(value)
+    if not _LEAST_I64 <= value <= _MOST_I64:
+        raise OverflowError(f"the element {value} does not fit 64 bits")
+    return value
+
+
+def _address(buffer: Union[array, bytearray, memoryview]) -> ctypes.c_char:
+    """What stands first in a buffer that may be written to. While it lives the buffer can't be resized."""
+    return ctypes.c_char.from_buffer(buffer)
+
+
+# --- What answers look like ---
+
+
+class Values(NamedTuple):
+    """The values of a list of elements, by each of the six kinds."""
+
+    sum: int
+    """The sum modulo 2**64, from 0 up."""
+    least: Optional[int]
+    """The least element; None of nothing."""
+    greatest: Optional[int]
+    """The greatest element; None of nothing."""
+    best: Optional[int]
+    """The greatest total of one or more neighbours; None of nothing."""
+    affine: tuple[int, int]
+    """The map `y -> a * y + b` modulo 2**32 that the maps `y -> (x // 256) * y + x % 256` make in order."""
+    automaton: tuple[int, ...]
+    """The state that the elements lead to from each of the states 0 to 7."""
+
+    @property
+    def signed_sum(self) -> int:
+        """The sum with a sign: the true sum wherever that fits 64 bits."""
+        return self.sum - (1 << 64) if self.sum >> 63 else self.sum
+
+
+class Reduced(NamedTuple):
+    """The answer of a reduction: the values of the range after the edit, and how many reads they took."""
+
+    edit: int
+    cells: int
+    summaries: int
+    values: Values
+
+
+class Node(NamedTuple):
+    """The node of this level and number has the 8**level indices from number * 8**level."""
+
+    level: int
+    number: int
+
+
+class Became(enum.Enum):
+    """What becomes of an outcome. None of these changes an answer."""
+
+    INSTALLED = 1
+    HELD = 2
+    STALE = 3
+
+
+class Delivered(NamedTuple):
+    """What became of an outcome; where it is stale, `now` is the edit that touched its node last, else 0."""
+
+    became: Became
+    now: int
+
+
+def _values_of(raw: _Values) -> Values:
+    least = greatest = best = None
+    if raw.any:
+        least, greatest, best = raw.least, raw.greatest, (raw.best_high << 64) + raw.best_low
+    return Values(raw.sum, least, greatest, best, (raw.affine_a, raw.affine_b), tuple(raw.automaton))
+
+
+class Scan(collections.abc.Sequence):
+    """The values of each beginning of a range, in order."""
+
+    __slots__ = ("edit", "_room", "_length")
+
+    def __init__(self, edit: int, room: bytearray, length: int) -> None:
+        self.edit = edit
+        """The edit after which the range was read."""
+        self._room, self._length = room, length
+
+    def __len__(self) -> int:
+        return self._length
+
+    @overload
+    def __getitem__(self, index: int) -> Values: ...
+    @overload
+    def __getitem__(self, index: slice) -> list[Values]: ...
+    def __getitem__(self, index):  # type: ignore[no-untyped-def]
+        if isinstance(index, slice):
+            return [self[i] for i in range(*index.indices(self._length))]
+        return _values_of(_Values.from_buffer(self._room, range(self._length)[index] * ctypes.sizeof(_Values)))
+
+    def sums(self) -> list[int]:
+        """The sums alone, with their signs, at once."""
+        return memoryview(self._room).cast("q")[:: ctypes.sizeof(_Values) // 8].tolist()[: self._length]
+
+    def __repr__(self) -> str:
+        return f"<livevec.Scan of {self._length} at edit {self.edit}>"
+
+
+# --- Jobs and outcomes ---
+
+
+class Job(_Handle):
+    """A node's summary that is still to be computed. It holds nothing of its vector, so any thread may run it."""
+
+    __slots__ = ("node", "version")
+    _made_of = _JobSlot
+    node: Node
+    version: int
+
+    def run(self) -> Outcome:
+        """Computes it. It can be run once: then it is Closed."""
+        outcome = Outcome(self.node, self.version)
+        refusal = _run(self._at, outcome._at)
+        if refusal:
+            raise _refuse(refusal)
+        return outcome
+
+    def __del__(self, _free=_free_job) -> None:  # type: ignore[no-untyped-def]
+        _free(self._at)
+
+    def __repr__(self) -> str:
+        return f"<livevec.Job of {self.node} at version {self.version}>"
+
+
+class Outcome(_Handle):
+    """What a job came to. It may be delivered any number of times, at any time."""
+
+    __slots__ = ("node", "version")
+    _made_of = _OutcomeSlot
+
+    def __init__(self, node: Node, version: int) -> None:
+        self.node, self.version = node, version
+
+    def __del__(self, _free=_free_outcome) -> None:  # type: ignore[no-untyped-def]
+        _free(self._at)
+
+    def __repr__(self) -> str:
+        return f"<livevec.Outcome of {self.node} at version {self.version}>"
+
+
+# --- The vector ---
+
+_AT_ONCE = 1024
+
+
+class Vector(_Handle, collections.abc.Sequence):
+    """A growable vector of 64-bit numbers that answers reductions and scans of any range.
+
+    It is read like a list: `len(v)`, `v[i]`, `v[-1]`, `v[2:5]`, `for x in v`, `x in v`. Edits are `push` (or `append`), `pop`, `v[i] = x` and
+    `reserve`; each has a number, 1, 2, 3 and so on, and `edits` is the last one. Ranges are `lo` up to `hi`, without `hi`; without `hi` they
+    go up to the end. An answer equals the plain left fold of the range after the last edit.
+
+    `elements` are pushed at the start. `buckets` and `edits` are limits: k buckets have room for 8 * (2**k - 1) elements. `table` is that of the
+    automaton, eight rows of four states from 0 to 7: from state q, an element x leads to table[q][x % 4]; without it, to (2 * q + x % 4) % 8.
+
+    Raises BadLimits, BadTable and NoMemory. The memory is given back by `close`, at the end of a `with`, or with the object.
+    """
+
+    __slots__ = ("_changes",)
+    _made_of = _VectorSlot
+
+    def __init__(self, elements: Iterable[int] = (), *, buckets: int = MOST_BUCKETS, edits: int = MOST_EDITS,
+                 table: Optional[Sequence[Sequence[int]]] = None) -> None:
+        self._changes = 0
+        buckets, edits = _as_u32(buckets, "buckets"), _as_u32(edits, "edits")
+        if table is None:
+            refusal = _new(self._at, buckets, edits)
+        else:
+            refusal = _new_with_table(self._at, buckets, edits, ctypes.byref(_table_of(table)))
+        if refusal:
+            raise _refuse(refusal)
+        self.extend(elements)
+
+    # Edits.
+
+    def push(self, value: int) -> int:
+        """Puts an element at the end, and gives its index. Raises Worn, Full, NoMemory; OverflowError where it does not fit 64 bits."""
+        did = _push(self._at, _as_i64(value))
+        if did.refusal:
+            raise _refuse(did.refusal, did.detail)
+        self._changes += 1
+        return did.place
+
+    def append(self, value: int) -> None:
+        """Puts an element at the end, as a list does. Raises as `push` does."""
+        self.push(value)
+
+    def pop(self) -> int:
+        """Drops the last element, and gives it. Raises Worn, Empty, NoMemory."""
+        did = _pop(self._at)
+        if did.refusal:
+            raise _refuse(did.refusal, did.detail)
+        self._changes += 1
+        return did.value
+
+    def write(self, index: int, value: int) -> int:
+        """Overwrites an element, and gives the one before. Raises Worn, OutOfRange, NoMemory; OverflowError where it does not fit 64 bits."""
+        did = _write(self._at, self._index(index), _as_i64(value))
+        if did.refusal:
+            raise _refuse(did.refusal, did.detail)
+        self._changes += 1
+        return did.value
+
+    def __setitem__(self, index: int, value: int) -> None:
+        if isinstance(index, slice):
+            raise TypeError("elements are overwritten one by one")
+        self.write(index, value)
+
+    def reserve(self, elements: int) -> int:
+        """Makes room for so many elements in all, and gives the capacity. Raises Worn, TooLarge, NoMemory. It is an edit like any other."""
+        did = _reserve(self._at, _as_u32(elements, "elements"))
+        if did.refusal:
+            raise _refuse(did.refusal, did.detail)
+        self._changes += 1
+        return did.place
+
+    def swap(self, first: int, second: int) -> int:
+        """Exchanges two elements, whose indices may be one, and gives the one that stands at the first now. Raises Worn, OutOfRange, NoMemory."""
+        did = _swap(self._at, self._index(first), self._index(second))
+        if did.refusal:
+            raise _refuse(did.refusal, did.detail)
+        self._changes += 1
+        return did.value
+
+    def truncate(self, elements: int) -> int:
+        """Keeps so many elements, the first ones, and gives how many were dropped. Raises Worn, OutOfRange, NoMemory. It gives no memory back."""
+        did = _truncate(self._at, _as_u32(elements, "elements"))
+        if did.refusal:
+            raise _refuse(did.refusal, did.detail)
+        self._changes += 1
+        return did.place
+
+    def extend(self, values: Iterable[int]) -> None:
+        """Pushes each element in order, by one call of C.
+
+        An `array.array('q')`, a numpy array of int64 or any other buffer of 64-bit numbers with a sign is read where it lies. What can't be
+        written to is copied once, as one block. Anything else is put into such an array first.
+
+        Raises Worn, Full and NoMemory at the element that is refused: its `pushed` says how many were taken, and these stay. Raises TypeError and
+        OverflowError before anything is pushed.
+        """
+        buffer = _as_buffer(values)
+        length = len(buffer)
+        if length == 0:
+            if not self._slot.full_:
+                raise _refuse(Closed.number)
+            return
+        did = _push_many(self._at, ctypes.byref(_address(buffer)), length)
+        self._changes += did.pushed
+        if did.refusal:
+            raise _refuse(did.refusal, did.detail, did.pushed)
+
+    # Reads.
+
+    def __len__(self) -> int:
+        told = _count_size(self._at)
+        if told.refusal:
+            raise _refuse(told.refusal)
+        return told.value
+
+    @property
+    def edits(self) -> int:
+        """The number of the last edit, which is how many were accepted."""
+        told = _count_edits(self._at)
+        if told.refusal:
+            raise _refuse(told.refusal)
+        return told.value
+
+    @property
+    def capacity(self) -> int:
+        """How many elements have room without another bucket."""
+        told = _count_capacity(self._at)
+        if told.refusal:
+            raise _refuse(told.refusal)
+        return told.value
+
+    @overload
+    def __getitem__(self, index: int) -> int: ...
+    @overload
+    def __getitem__(self, index: slice) -> list[int]: ...
+    def __getitem__(self, index):  # type: ignore[no-untyped-def]
+        if isinstance(index, slice):
+            lo, hi, step = index.indices(len(self))
+            if step == 1:
+                return self.to_array(lo, max(lo, hi)).tolist()
+            return self.to_array().tolist()[index]
+        got = _get(self._at, self._index(index))
+        if got.refusal:
+            raise _refuse(got.refusal, got.detail)
+        return got.value
+
+    def to_array(self, lo: int = 0, hi: Optional[int] = None) -> array:
+        """The elements of a range as an `array.array('q')`, read by one call. Raises BadRange, OutOfRange."""
+        lo, hi = self._range(lo, hi)
+        read = array("q", bytes(8 * self._room(lo, hi)))
+        # an address is needed also where there is nothing to write
+        room = read or array("q", [0])
+        did = _read(self._at, lo, hi, ctypes.byref(_address(room)), len(read))
+        if did.refusal:
+            raise _refuse(did.refusal, did.detail)
+        return read
+
+    def __iter__(self) -> Iterator[int]:
+        """The elements in order. Raises RuntimeError where the vector is edited meanwhile."""
+        changes, size = self._changes, len(self)
+        for lo in range(0, size, _AT_ONCE):
+            for value in self.to_array(lo, min(lo + _AT_ONCE, size)):
+                yield value
+                if self._changes != changes:
+                    raise RuntimeError("the vector was edited while its elements were gone through")
+
+    def __repr__(self) -> str:
+        if not self._slot.full_:
+            return "<livevec.Vector, closed>"
+        return f"<livevec.Vector of {len(self)} at edit {self.edits}>"
+
+    # Reductions and scans.
+
+    def ask(self, lo: int = 0, hi: Optional[int] = None) -> Reduced:
+        """All six values of a range. What is computed is kept, so the same question is cheap until an edit touches the range.
+
+        Raises BadRange, then OutOfRange."""
+        return self._reduced(_ask, lo, hi)
+
+    def reduce(self, lo: int = 0, hi: Optional[int] = None) -> Reduced:
+        """All six values of a range, as `ask` gives them, but nothing is kept."""
+        return self._reduced(_reduce, lo, hi)
+
+    def sum(self, lo: int = 0, hi: Optional[int] = None) -> int:
+        """The sum modulo 2**64, from 0 up. Asks, and raises as `ask` does."""
+        return self._asked(lo, hi).sum
+
+    def signed_sum(self, lo: int = 0, hi: Optional[int] = None) -> int:
+        """The sum with a sign: the true sum wherever that fits 64 bits. Asks, and raises as `ask` does."""
+        total = self._asked(lo, hi).sum
+        return total - (1 << 64) if total >> 63 else total
+
+    def least(self, lo: int = 0, hi: Optional[int] = None) -> Optional[int]:
+        """The least element; None of an empty range. Asks, and raises as `ask` does."""
+        values = self._asked(lo, hi)
+        return values.least if values.any else None
+
+    def greatest(self, lo: int = 0, hi: Optional[int] = None) -> Optional[int]:
+        """The greatest element; None of an empty range. Asks, and raises as `ask` does."""
+        values = self._asked(lo, hi)
+        return values.greatest if values.any else None
+
+    def best(self, lo: int = 0, hi: Optional[int] = None) -> Optional[int]:
+        """The greatest total of one or more neighbours; None of an empty range. Asks, and raises as `ask` does."""
+        values = self._asked(lo, hi)
+        return (values.best_high << 64) + values.best_low if values.any else None
+
+    def scan_inclusive(self, lo: int = 0, hi: Optional[int] = None) -> Scan:
+        """The values of each beginning of a range, the element itself included. Raises BadRange, OutOfRange, MemoryError."""
+        return self._scan(_scan_inclusive, lo, hi)
+
+    def scan_exclusive(self, lo: int = 0, hi: Optional[int] = None) -> Scan:
+        """The values of each beginning of a range, the element itself excluded. Raises BadRange, OutOfRange, MemoryError."""
+        return self._scan(_scan_exclusive, lo, hi)
+
+    # Refresh: summaries are computed so that reductions read less. No answer changes by it.
+
+    def refresh(self, jobs: int = _MOST_U32) -> int:
+        """Computes at most so many summaries in place, and gives how many."""
+        told = _refresh(self._at, _as_u32(jobs, "jobs"))
+        if told.refusal:
+            raise _refuse(told.refusal)
+        return told.value
+
+    def claim(self) -> Optional[Job]:
+        """A job for the least node that wants one, or None. Raises NoMemory."""
+        job = Job()
+        did = _claim(self._at, job._at)
+        if did.refusal:
+            raise _refuse(did.refusal)
+        job.node, job.version = Node(did.level, did.number), did.version
+        return job if did.found else None
+
+    def vouches_for(self, outcome: Outcome) -> bool:
+        """Whether `deliver` would take an outcome in: yes for each of a job of this vector, however late."""
+        told = _vet(self._at, _checked(outcome)._at)
+        if told.refusal:
+            raise _refuse(told.refusal)
+        return told.yes
+
+    def deliver(self, outcome: Outcome) -> Delivered:
+        """Takes an outcome in. It may be late or come twice. Raises Stranger where it isn't of a job of this vector."""
+        did = _accept(self._at, _checked(outcome)._at)
+        if did.refusal:
+            raise _refuse(did.refusal)
+        return Delivered(Became(did.became), did.now)
+
+    def forget_claims(self) -> None:
+        """Makes every claim void, so that their nodes are handed out again. Jobs that are out stay good."""
+        refusal = _forget(self._at)
+        if refusal:
+            raise _refuse(refusal)
+
+    # The end.
+
+    def close(self) -> None:
+        """Gives the memory back. Every later call raises Closed; to close again does nothing."""
+        _free(self._at)
+
+    def __enter__(self) -> Vector:
+        return self
+
+    def __exit__(self, *_: object) -> None:
+        self.close()
+
+    def __del__(self, _free=_free) -> None:  # type: ignore[no-untyped-def]
+        _free(self._at)
+
+    # Within.
+
+    def _index(self, index: int) -> int:
+        """An index as C wants it, where a negative one counts from the end."""
+        index = operator.index(index)
+        if index < 0:
+            index += len(self)
+        if not 0 <= index <= _MOST_U32:
+            raise _refuse(OutOfRange.number, len(self))
+        return index
+
+    def _range(self, lo: int, hi: Optional[int]) -> tuple[int, int]:
+        lo, hi = operator.index(lo), len(self) if hi is None else operator.index(hi)
+        if lo < 0 or hi < 0:
+            raise ValueError("the ends of a range are counted from 0")
+        # past what C can be given is past the end as well; which of the two is greater is kept
+        if hi > _MOST_U32 or lo > _MOST_U32:
+            raise _refuse(BadRange.number if lo > hi else OutOfRange.number, 0 if lo > hi else len(self))
+        return lo, hi
+
+    def _room(self, lo: int, hi: int) -> int:
+        """How long a buffer C is given: none where the range is refused, which C does before it looks at the length."""
+        return hi - lo if lo <= hi <= len(self) else 0
+
+    def _asked(self, lo: int, hi: Optional[int]) -> _Values:
+        did = _ask(self._at, *self._range(lo, hi))
+        if did.refusal:
+            raise _refuse(did.refusal, did.detail)
+        return did.values
+
+    def _reduced(self, call, lo: int, hi: Optional[int]) -> Reduced:  # type: ignore[no-untyped-def]
+        did = call(self._at, *self._range(lo, hi))
+        if did.refusal:
+            raise _refuse(did.refusal, did.detail)
+        return Reduced(did.edit, did.cells, did.summaries, _values_of(did.values))
+
+    def _scan(self, call, lo: int, hi: Optional[int]) -> Scan:  # type: ignore[no-untyped-def]
+        lo, hi = self._range(lo, hi)
+        length = self._room(lo, hi)
+        room = bytearray(max(length, 1) * ctypes.sizeof(_Values))
+        did = call(self._at, lo, hi, ctypes.byref(_address(room)), length)
+        if did.refusal:
+            raise _refuse(did.refusal, did.detail)
+        return Scan(did.edit, room, did.length)
+
+
+def _checked(outcome: Outcome) -> Outcome:
+    if not isinstance(outcome, Outcome):
+        raise TypeError(f"an Outcome is wanted, not a {type(outcome).__name__}")
+    return outcome
+
+
+def _table_of(table: Sequence[Sequence[int]]) -> _Table:
+    rows = [[operator.index(state) for state in row] for row in table]
+    if len(rows) != 8 or any(len(row) != 4 for row in rows):
+        raise ValueError("an automaton's table has eight rows of four states")
+    made = _Table()
+    for at, state in enumerate(state for row in rows for state in row):
+        if not 0 <= state <= 7:
+            raise _refuse(BadTable.number)
+        made.next[at] = state
+    return made
+
+
+# what stands before the format of a buffer whose bytes are in this machine's order
+_NATIVE = "@=<" if sys.byteorder == "little" else "@=>!"
+
+
+def _as_buffer(values: Iterable[int]) -> memoryview:
+    """The elements as 64-bit numbers with a sign, side by side, where they may be written to. While the view lives they can't be resized."""
+    try:
+        view = memoryview(values)  # type: ignore[arg-type]
+    except TypeError:
+        return memoryview(array("q", values))
+    if view.ndim != 1:
+        raise TypeError("elements stand in one row")
+    if view.itemsize != 8 or view.format.lstrip(_NATIVE) not in ("q", "l") or not view.c_contiguous:
+        # array checks them one by one
+        return memoryview(array("q", iter(values)))
+    return memoryview(array("q", view.tobytes())) if view.readonly else view

@@ -1,0 +1,306 @@
+"""The module from outside. Expected values are worked out by hand from the rules, or by plain Python over the same numbers."""
+import contextlib
+import copy
+import ctypes
+import io
+import itertools
+import os
+import pickle
+import random
+import re
+import sys
+import threading
+import unittest
+from array import array
+
+import livevec
+from livevec import Became, Delivered, Node, Reduced, Vector
+
+
+class Edits(unittest.TestCase):
+    def test_each_edit_answers(self):
+        v = Vector()
+        self.assertEqual((len(v), v.capacity, v.edits), (0, 0, 0))
+        self.assertEqual((v.push(4), v.push(-(2**63)), v.append(7)), (0, 1, None))
+        self.assertEqual((v.write(0, -6), v.reserve(9), v.pop()), (4, 24, 7))
+        v[-1] = 2**63 - 1
+        self.assertEqual((list(v), v.capacity, v.edits), ([-6, 2**63 - 1], 24, 7))
+
+    def test_two_elements_change_places_and_the_end_is_cut(self):
+        v = Vector([4, 6, 9])
+        self.assertEqual((v.swap(0, -1), v.swap(1, 1), list(v)), (9, 6, [9, 6, 4]))
+        with self.assertRaises(livevec.OutOfRange):
+            v.swap(0, 3)
+        self.assertEqual((v.truncate(1), list(v), v.edits, v.capacity), (2, [9], 6, 8))
+        with self.assertRaises(livevec.OutOfRange):
+            v.truncate(2)
+
+    def test_what_is_refused_changes_nothing(self):
+        v = Vector(buckets=1, edits=10)
+        for refused, call in [(livevec.Empty, v.pop), (livevec.OutOfRange, lambda: v.write(0, 1)), (livevec.TooLarge, lambda: v.reserve(9))]:
+            with self.assertRaises(refused):
+                call()
+        v.extend([1] * 8)
+        with self.assertRaises(livevec.Full):
+            v.push(1)
+        self.assertEqual((v.edits, v.pop(), v.pop(), v.edits), (8, 1, 1, 10))
+        with self.assertRaises(livevec.Worn):
+            v[0] = 5
+        self.assertEqual(list(v), [1] * 6)
+
+    def test_refusals_are_the_exceptions_that_python_knows(self):
+        v = Vector([5])
+        with self.assertRaises(IndexError) as caught:
+            v[1]
+        self.assertEqual((type(caught.exception), caught.exception.number, caught.exception.detail), (livevec.OutOfRange, 3, 1))
+        self.assertEqual(str(caught.exception), "OutOfRange: the size is 1")
+        with self.assertRaises(ValueError):
+            v.sum(2, 1)
+        with self.assertRaises(livevec.BadLimits):
+            Vector(buckets=18)
+        self.assertTrue(issubclass(livevec.NoMemory, MemoryError) and issubclass(livevec.Full, OverflowError))
+        again = pickle.loads(pickle.dumps(caught.exception))
+        self.assertEqual((type(again), again.detail), (livevec.OutOfRange, 1))
+
+    def test_what_is_no_element_is_never_cut(self):
+        v = Vector()
+        for call in (lambda: v.push(2**63), lambda: v.extend([1, -(2**63) - 1]), lambda: v.reserve(2**32), lambda: v.refresh(-1)):
+            with self.assertRaises(OverflowError):
+                call()
+        for call in (lambda: v.push(1.5), lambda: v.extend([1, "2"]), lambda: v.extend(array("d", [1.0])), lambda: v.push(None)):
+            with self.assertRaises(TypeError):
+                call()
+        for index in (2**32, -1, -(2**40)):
+            with self.assertRaises(IndexError):
+                v[index]
+        self.assertEqual((len(v), v.edits), (0, 0))
+
+    def test_extend_from_what_holds_numbers(self):
+        numbers = array("q", range(-5, 5))
+        unwritable = memoryview(numbers.tobytes()).cast("q")
+        for values in (numbers, list(numbers), (x for x in numbers), memoryview(numbers), unwritable, array("i", numbers), Vector(numbers),
+                       (ctypes.c_int64 * 10)(*numbers), (ctypes.c_int16 * 10)(*numbers)):
+            self.assertEqual(list(Vector(values)), list(range(-5, 5)))
+        self.assertEqual(list(Vector(memoryview(numbers)[::-2])), [4, 2, 0, -2, -4])
+        self.assertEqual(list(Vector(b"\x01\xff")), [1, 255])
+        self.assertRaises(TypeError, Vector, memoryview(bytes(48)).cast("q", [2, 3]))
+        v = Vector()
+        v.extend([])
+        v.extend(array("q"))
+        self.assertEqual(v.edits, 0)
+        numbers.append(5)  # nothing holds the array any longer
+
+    def test_extend_from_numpy(self):
+        try:
+            import numpy
+        except ImportError:
+            self.skipTest("there is no numpy")
+        self.assertEqual(list(Vector(numpy.arange(5))), [0, 1, 2, 3, 4])
+        self.assertEqual(list(Vector(numpy.arange(10)[::3])), [0, 3, 6, 9])
+        self.assertEqual(numpy.asarray(Vector([1, 2]).to_array()).tolist(), [1, 2])
+
+    def test_an_extend_that_is_refused_says_how_many_it_took(self):
+        v = Vector(buckets=1)
+        v.extend([1, 2, 3])
+        with self.assertRaises(livevec.Full) as caught:
+            v.extend(range(10))
+        self.assertEqual((caught.exception.pushed, list(v)), (5, [1, 2, 3, 0, 1, 2, 3, 4]))
+
+
+class Reads(unittest.TestCase):
+    def test_it_reads_like_a_list(self):
+        numbers = list(range(3000))
+        v = Vector(numbers)
+        self.assertEqual(list(v), numbers)
+        for part in (slice(None), slice(2, 5), slice(-3, None), slice(5, 2), slice(None, None, -7), slice(1, 9999)):
+            self.assertEqual(v[part], numbers[part])
+        self.assertEqual((v[-1], 17 in v, -1 in v, v.index(40), v.count(3)), (2999, True, False, 40, 1))
+        self.assertEqual(v.to_array(1, 3), array("q", [1, 2]))
+        self.assertEqual(v.to_array(3, 3), array("q"))
+
+    def test_going_through_while_it_is_edited_is_told(self):
+        v = Vector([1, 2, 3])
+        with self.assertRaises(RuntimeError):
+            for x in v:
+                v.push(x)
+
+    def test_six_values(self):
+        v = Vector([5, -3, 4, -10, 2])
+        told = v.reduce()
+        self.assertEqual((told.edit, told.values.sum, told.values.signed_sum), (5, 2**64 - 2, -2))
+        self.assertEqual((told.values.least, told.values.greatest, told.values.best), (-10, 5, 6))
+        # each element's map, composed: 2 is y -> 0 * y + 2, and it is the last; the states from 0: 1, 3, 6, 6, 6
+        self.assertEqual((told.values.affine, told.values.automaton[0]), ((0, 2), 6))
+        self.assertEqual((v.sum(), v.signed_sum(1), v.least(0, 2), v.greatest(3), v.best(3)), (2**64 - 2, -7, -3, 2, 2))
+        self.assertEqual((v.sum(2, 2), v.least(2, 2), v.best(5), v.ask(1, 1).values.automaton), (0, None, None, tuple(range(8))))
+
+    def test_best_is_exact_past_64_bits(self):
+        most, least = 2**63 - 1, -(2**63)
+        self.assertEqual((Vector([most, most, least]).best(), Vector([least, least]).best()), (2 * most, least))
+
+    def test_ranges_that_are_refused(self):
+        v = Vector([1, 2, 3])
+        for call in (v.ask, v.reduce, v.sum, v.scan_inclusive, v.scan_exclusive, v.to_array):
+            self.assertRaises(livevec.BadRange, call, 2, 1)
+            self.assertRaises(livevec.BadRange, call, 9, 8)
+            self.assertRaises(livevec.BadRange, call, 2**40, 1)
+            self.assertRaises(livevec.OutOfRange, call, 0, 4)
+            self.assertRaises(livevec.OutOfRange, call, 0, 2**40)
+            self.assertRaises(ValueError, call, -1)
+
+    def test_scans(self):
+        v = Vector([3, -5, 4])
+        inclusive, exclusive = v.scan_inclusive(), v.scan_exclusive()
+        self.assertEqual((inclusive.sums(), exclusive.sums(), inclusive.edit), ([3, -2, 2], [0, 3, -2], 3))
+        self.assertEqual([x.least for x in inclusive], [3, -5, -5])
+        self.assertEqual([x.least for x in exclusive], [None, 3, -5])
+        self.assertEqual((inclusive[-1].best, len(inclusive[1:]), len(v.scan_inclusive(1, 1)), v.scan_inclusive(1, 1).sums()), (4, 2, 0, []))
+
+    def test_a_table_of_ones_own(self):
+        # state 1 says: a remainder of 3 was seen
+        v = Vector([4, 7, 8], table=[[0, 0, 0, 1], [1, 1, 1, 1], *[[0, 0, 0, 0]] * 6])
+        self.assertEqual((v.ask().values.automaton[0], v.ask(2).values.automaton[0]), (1, 0))
+        self.assertRaises(livevec.BadTable, Vector, table=[[8, 0, 0, 0]] * 8)
+        self.assertRaises(ValueError, Vector, table=[[0, 0, 0, 0]] * 7)
+
+    def test_edits_and_answers_beside_a_list(self):
+        chance, plain, v = random.Random(7), [], Vector()
+        for edit in range(1, 2001):
+            what = chance.random()
+            x = chance.choice([chance.randrange(-9, 9), chance.randrange(-(2**63), 2**63)])
+            if what < 0.6 or not plain:
+                plain.append(x)
+                v.push(x)
+            elif what < 0.75:
+                self.assertEqual(v.pop(), plain.pop())
+            else:
+                i = chance.randrange(len(plain))
+                self.assertEqual(v.write(i, x), plain[i])
+                plain[i] = x
+            if edit % 20 == 0:
+                self.assertEqual((v.edits, v.refresh(3) <= 3), (edit, True))
+                lo = chance.randrange(len(plain) + 1)
+                hi = chance.randrange(lo, len(plain) + 1)
+                self.assertEqual(v.ask(lo, hi).values[:5], plain_values(plain[lo:hi]))
+        self.assertEqual(list(v), plain)
+
+
+def plain_values(numbers):
+    """All values but the automaton's, each from its meaning."""
+    runs = [sum(numbers[i:j]) for i, j in itertools.combinations(range(len(numbers) + 1), 2)] if len(numbers) < 60 else best_runs(numbers)
+    a, b = 1, 0
+    for x in numbers:
+        a, b = a * (x // 256) % 2**32, (x // 256 * b + x % 256) % 2**32
+    return sum(numbers) % 2**64, min(numbers, default=None), max(numbers, default=None), max(runs, default=None), (a, b)
+
+
+def best_runs(numbers):
+    """The greatest total of a run that ends at each place."""
+    return itertools.accumulate(numbers, lambda ends, x: max(ends, 0) + x)
+
+
+class Refresh(unittest.TestCase):
+    def test_an_outcome_is_installed_held_stale_or_a_strangers(self):
+        ours, theirs = Vector([1] * 8), Vector([2] * 8)
+        job = ours.claim()
+        self.assertEqual((job.node, job.version, ours.claim()), (Node(1, 0), 8, None))
+        outcome = job.run()
+        self.assertRaises(livevec.Closed, job.run)
+        self.assertEqual((ours.vouches_for(outcome), theirs.vouches_for(outcome)), (True, False))
+        self.assertRaises(livevec.Stranger, theirs.deliver, outcome)
+        self.assertEqual(ours.deliver(outcome), Delivered(Became.INSTALLED, 0))
+        self.assertEqual(ours.reduce()[:3], (8, 0, 1))
+        self.assertEqual(ours.deliver(outcome), Delivered(Became.HELD, 0))
+        ours[0] = 5
+        self.assertEqual(ours.deliver(outcome), Delivered(Became.STALE, 9))
+        self.assertEqual(ours.sum(), 12)
+        self.assertRaises(TypeError, ours.deliver, job)
+
+    def test_claims_are_forgotten_and_refreshed_in_place(self):
+        v = Vector([1] * 64)
+        first = v.claim()
+        v.forget_claims()
+        self.assertEqual((v.refresh(), v.refresh()), (9, 0))
+        self.assertEqual(v.deliver(first.run()).became, Became.HELD)
+        self.assertEqual(v.reduce(), Reduced(64, 0, 1, v.ask().values))
+
+
+class Owning(unittest.TestCase):
+    def test_a_closed_vector_says_so(self):
+        with Vector([1]) as v:
+            pass
+        for call in (v.pop, lambda: v.push(1), lambda: len(v), v.sum, v.claim, lambda: v[0], lambda: list(v), lambda: v.extend([]), v.to_array):
+            self.assertRaises(livevec.Closed, call)
+        v.close()
+        self.assertEqual(repr(v), "<livevec.Vector, closed>")
+
+    def test_it_is_never_copied(self):
+        v = Vector([1])
+        for call in (copy.copy, copy.deepcopy, pickle.dumps):
+            self.assertRaises(TypeError, call, v)
+
+    def test_jobs_outlive_their_vector(self):
+        v = Vector([1] * 8)
+        job = v.claim()
+        v.close()
+        job.run()
+
+    def test_arguments_that_are_wrong_leave_nothing_behind(self):
+        self.assertRaises(TypeError, Vector, [1], 2)
+        self.assertRaises(TypeError, Vector, buckets="3")
+
+    def test_threads_share_a_vector(self):
+        v, before = Vector(), sys.getswitchinterval()
+        sys.setswitchinterval(1e-5)
+        try:
+            def pushes():
+                for x in range(2000):
+                    v.push(x)
+                    v.sum()
+
+            threads = [threading.Thread(target=pushes) for _ in range(4)]
+            for thread in threads:
+                thread.start()
+            for thread in threads:
+                thread.join()
+        finally:
+            sys.setswitchinterval(before)
+        self.assertEqual((len(v), v.edits, v.sum()), (8000, 8000, 4 * 1999 * 1000))
+
+    def test_workers_run_jobs(self):
+        v, done = Vector(range(512)), []
+
+        def work():
+            while (job := v.claim()) is not None:
+                done.append(v.deliver(job.run()).became)
+
+        threads = [threading.Thread(target=work) for _ in range(3)]
+        for thread in threads:
+            thread.start()
+        for thread in threads:
+            thread.join()
+        v.refresh()
+        self.assertEqual((set(done), v.reduce()[:3]), ({Became.INSTALLED}, (512, 0, 1)))
+
+
+class Page(unittest.TestCase):
+    def test_its_first_program_prints_what_it_says(self):
+        with open(os.path.join(os.path.dirname(os.path.abspath(__file__)), "README.md"), encoding="utf-8") as file:
+            page = file.read()
+        program = re.search(r"^```python\n(.*?)^```$", page, re.M | re.S)[1]
+        wanted = re.findall(r"print\(.*\) +# (.*)$", program, re.M)
+        said = io.StringIO()
+        with contextlib.redirect_stdout(said):
+            exec(program, {})
+        self.assertEqual(said.getvalue().splitlines(), wanted)
+
+
+def load_tests(loader, tests, _pattern):
+    import doctest
+
+    tests.addTests(doctest.DocTestSuite(livevec))
+    return tests
+
+
+if __name__ == "__main__":
+    unittest.main()

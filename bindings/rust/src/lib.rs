@@ -1,0 +1,34 @@
+//! livevec: a growable vector of 64-bit numbers for programs that keep asking it about ranges.
+//!
+//! The library is written and proved in Rattle. This crate binds its C form, `liblivevec.a`; `build.rs` says where it is looked for.
+//! The library's calls are proved, the crate over them is tested.
+//!
+//! ```
+//! use livevec::Vector;
+//!
+//! fn main() -> Result<(), livevec::Refusal> {
+//!     let mut prices = Vector::new()?;
+//!     prices.extend_from_slice(&[300, 120, 500, 80])?;
+//!     prices.write(0, 180)?;
+//!     let all = prices.ask(..)?;
+//!     assert_eq!((all.edit, all.values.sum, all.values.least), (5, 880, Some(80)));
+//!     Ok(())
+//! }
+//! ```
+#![warn(missing_docs)]
+#![deny(unsafe_code)]
+
+#[allow(unsafe_code)]
+mod raw;
+mod refusal;
+mod values;
+mod vector;
+
+pub use refusal::Refusal;
+pub use values::{Accepted, Limits, Node, Popped, Pushed, Reduced, Reserved, Stopped, Swapped, Truncated, Values, Written};
+pub use vector::{Beginnings, Elements, Job, Outcome, Scan, Vector};
+
+/// The program on the crate's page runs as one of the tests.
+#[cfg(doctest)]
+#[doc = include_str!("../README.md")]
+struct Page;

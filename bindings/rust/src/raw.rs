@@ -1,0 +1,380 @@
+//! The C calls of `include/livevec.h`, and handles over them. All of the crate's `unsafe` is in this file.
+//!
+//! What C asks of who calls, and how it is kept here:
+//! - A slot starts as zeros: [`Slot::empty`].
+//! - A slot is never copied or moved: it lies in a box of its own, which lives as long as the handle, and no one is given the slot itself.
+//! - A slot serves one call at a time: a handle of a vector or an outcome is not `Sync`, so that its `&self` calls stay on one thread,
+//!   and none of the C calls calls back. A job's slot is used by calls that own or borrow the job alone.
+
+use std::alloc::{Layout, alloc};
+use std::cell::UnsafeCell;
+use std::ffi::c_void;
+use std::ptr;
+
+use crate::Refusal;
+
+/// A slot of C: `livevec_vector`, `livevec_job` and `livevec_outcome` are alike.
+#[repr(C)]
+struct Slot {
+    full: bool,
+    at: *mut c_void,
+}
+
+impl Slot {
+    /// All zeros.
+    fn empty() -> UnsafeCell<Slot> {
+        UnsafeCell::new(Slot { full: false, at: ptr::null_mut() })
+    }
+}
+
+#[repr(C)]
+pub(crate) struct Edited {
+    refusal: u32,
+    detail: u32,
+    pub(crate) edit: u32,
+    pub(crate) place: u32,
+    pub(crate) value: i64,
+}
+
+#[repr(C)]
+struct PushedMany {
+    refusal: u32,
+    detail: u32,
+    // the last edit, which is asked for by itself
+    _edit: u32,
+    pushed: u32,
+}
+
+#[repr(C)]
+struct Count {
+    refusal: u32,
+    value: u32,
+}
+
+#[repr(C)]
+struct Element {
+    refusal: u32,
+    detail: u32,
+    value: i64,
+}
+
+#[repr(C)]
+#[derive(Clone, Copy)]
+pub(crate) struct SixValues {
+    pub(crate) sum: u64,
+    pub(crate) least: i64,
+    pub(crate) greatest: i64,
+    pub(crate) best_low: u64,
+    pub(crate) best_high: i64,
+    pub(crate) affine_a: u32,
+    pub(crate) affine_b: u32,
+    pub(crate) automaton: [u8; 8],
+    pub(crate) any: bool,
+}
+
+#[repr(C)]
+pub(crate) struct Reduced {
+    refusal: u32,
+    detail: u32,
+    pub(crate) edit: u32,
+    pub(crate) cells: u32,
+    pub(crate) summaries: u32,
+    pub(crate) values: SixValues,
+}
+
+#[repr(C)]
+struct Scanned {
+    refusal: u32,
+    detail: u32,
+    edit: u32,
+    length: u32,
+}
+
+#[repr(C)]
+pub(crate) struct Claimed {
+    refusal: u32,
+    found: bool,
+    pub(crate) level: u32,
+    pub(crate) number: u32,
+    pub(crate) version: u32,
+}
+
+#[repr(C)]
+pub(crate) struct Became {
+    refusal: u32,
+    pub(crate) became: u32,
+    pub(crate) now: u32,
+}
+
+#[repr(C)]
+struct Vetted {
+    refusal: u32,
+    yes: bool,
+}
+
+unsafe extern "C" {
+    fn livevec_new(slot: *mut Slot, buckets: u32, edits: u32) -> u32;
+    fn livevec_new_with_table(slot: *mut Slot, buckets: u32, edits: u32, table: *const [[u8; 4]; 8]) -> u32;
+    fn livevec_free(slot: *mut Slot) -> u32;
+    fn livevec_push(slot: *mut Slot, value: i64) -> Edited;
+    fn livevec_pop(slot: *mut Slot) -> Edited;
+    fn livevec_write(slot: *mut Slot, index: u32, value: i64) -> Edited;
+    fn livevec_reserve(slot: *mut Slot, elements: u32) -> Edited;
+    fn livevec_swap(slot: *mut Slot, first: u32, second: u32) -> Edited;
+    fn livevec_truncate(slot: *mut Slot, elements: u32) -> Edited;
+    fn livevec_push_many(slot: *mut Slot, values: *const i64, length: usize) -> PushedMany;
+    fn livevec_get(slot: *mut Slot, index: u32) -> Element;
+    fn livevec_read(slot: *mut Slot, lo: u32, hi: u32, buffer: *mut i64, length: usize) -> Scanned;
+    fn livevec_size(slot: *mut Slot) -> Count;
+    fn livevec_capacity(slot: *mut Slot) -> Count;
+    fn livevec_edits(slot: *mut Slot) -> Count;
+    fn livevec_reduce(slot: *mut Slot, lo: u32, hi: u32) -> Reduced;
+    fn livevec_ask(slot: *mut Slot, lo: u32, hi: u32) -> Reduced;
+    fn livevec_scan_inclusive(slot: *mut Slot, lo: u32, hi: u32, buffer: *mut SixValues, length: usize) -> Scanned;
+    fn livevec_scan_exclusive(slot: *mut Slot, lo: u32, hi: u32, buffer: *mut SixValues, length: usize) -> Scanned;
+    fn livevec_refresh(slot: *mut Slot, jobs: u32) -> Count;
+    fn livevec_claim(slot: *mut Slot, job: *mut Slot) -> Claimed;
+    fn livevec_run(job: *mut Slot, outcome: *mut Slot) -> u32;
+    fn livevec_vet(slot: *mut Slot, outcome: *mut Slot) -> Vetted;
+    fn livevec_accept(slot: *mut Slot, outcome: *mut Slot) -> Became;
+    fn livevec_forget(slot: *mut Slot) -> u32;
+    fn livevec_free_job(job: *mut Slot) -> u32;
+    fn livevec_free_outcome(outcome: *mut Slot) -> u32;
+}
+
+/// The answer where there is no refusal.
+fn answered<T>(refusal: u32, detail: u32, answer: T) -> Result<T, Refusal> {
+    match refusal {
+        0 => Ok(answer),
+        number => Err(Refusal::of(number, detail)),
+    }
+}
+
+/// A value in a box of its own; refused with `NoMemory` where there is none, for `Box::new` would end the process.
+fn boxed<T>(value: T) -> Result<Box<T>, Refusal> {
+    const { assert!(size_of::<T>() > 0) };
+    // SAFETY: the layout is that of T, whose size is above 0.
+    let at = unsafe { alloc(Layout::new::<T>()) }.cast::<T>();
+    if at.is_null() {
+        return Err(Refusal::NoMemory);
+    }
+    // SAFETY: `at` is fresh memory of T's layout from the global allocator, which is what a box owns; it is written before it is owned.
+    unsafe {
+        at.write(value);
+        Ok(Box::from_raw(at))
+    }
+}
+
+/// A buffer with room for so many values; refused with `NoMemory` where there is none.
+fn roomy<T>(length: usize) -> Result<Vec<T>, Refusal> {
+    let mut buffer = Vec::new();
+    buffer.try_reserve_exact(length).map_err(|_| Refusal::NoMemory)?;
+    Ok(buffer)
+}
+
+/// A vector of C. Its slot is full from `new` to the drop.
+pub(crate) struct Vector {
+    slot: Box<UnsafeCell<Slot>>,
+}
+
+// SAFETY: between calls a slot may go to another thread, says the header; the memory behind it is from malloc. A `Vector` that is sent is
+// owned, so no call of it is under way. It is not `Sync`, by its cell: two threads with `&Vector` could be in two calls at one slot.
+unsafe impl Send for Vector {}
+
+impl Vector {
+    pub(crate) fn new(buckets: u32, edits: u32) -> Result<Vector, Refusal> {
+        let slot = boxed(Slot::empty())?;
+        // SAFETY: the slot is empty, and lies in its box until it is dropped.
+        answered(unsafe { livevec_new(slot.get(), buckets, edits) }, 0, ())?;
+        Ok(Vector { slot })
+    }
+
+    pub(crate) fn with_table(buckets: u32, edits: u32, table: &[[u8; 4]; 8]) -> Result<Vector, Refusal> {
+        let slot = boxed(Slot::empty())?;
+        // SAFETY: the slot is empty, and lies in its box until it is dropped; the table is read during the call, 32 bytes as in C.
+        answered(unsafe { livevec_new_with_table(slot.get(), buckets, edits, table) }, 0, ())?;
+        Ok(Vector { slot })
+    }
+
+    // For each call below: the slot is full, since `self` was made, and no other call is at it, since `self` is not `Sync` and C never
+    // calls back. What is passed beside it is plain, or named in a remark of its own.
+
+    pub(crate) fn push(&mut self, value: i64) -> Result<Edited, Refusal> {
+        // SAFETY: see above.
+        let did = unsafe { livevec_push(self.slot.get(), value) };
+        answered(did.refusal, did.detail, did)
+    }
+
+    pub(crate) fn pop(&mut self) -> Result<Edited, Refusal> {
+        // SAFETY: see above.
+        let did = unsafe { livevec_pop(self.slot.get()) };
+        answered(did.refusal, did.detail, did)
+    }
+
+    pub(crate) fn write(&mut self, index: u32, value: i64) -> Result<Edited, Refusal> {
+        // SAFETY: see above.
+        let did = unsafe { livevec_write(self.slot.get(), index, value) };
+        answered(did.refusal, did.detail, did)
+    }
+
+    pub(crate) fn reserve(&mut self, elements: u32) -> Result<Edited, Refusal> {
+        // SAFETY: see above.
+        let did = unsafe { livevec_reserve(self.slot.get(), elements) };
+        answered(did.refusal, did.detail, did)
+    }
+
+    pub(crate) fn swap(&mut self, first: u32, second: u32) -> Result<Edited, Refusal> {
+        // SAFETY: see above.
+        let did = unsafe { livevec_swap(self.slot.get(), first, second) };
+        answered(did.refusal, did.detail, did)
+    }
+
+    pub(crate) fn truncate(&mut self, elements: u32) -> Result<Edited, Refusal> {
+        // SAFETY: see above.
+        let did = unsafe { livevec_truncate(self.slot.get(), elements) };
+        answered(did.refusal, did.detail, did)
+    }
+
+    /// How many were pushed, with the refusal that stopped it, if there was one.
+    pub(crate) fn push_many(&mut self, values: &[i64]) -> (usize, Option<Refusal>) {
+        // SAFETY: see above; so many elements are read from a slice that has them.
+        let did = unsafe { livevec_push_many(self.slot.get(), values.as_ptr(), values.len()) };
+        (did.pushed as usize, answered(did.refusal, did.detail, ()).err())
+    }
+
+    pub(crate) fn get(&self, index: u32) -> Result<i64, Refusal> {
+        // SAFETY: see above.
+        let found = unsafe { livevec_get(self.slot.get(), index) };
+        answered(found.refusal, found.detail, found.value)
+    }
+
+    /// Fills the front of a buffer with the elements of a range, and tells how many they are.
+    pub(crate) fn read(&self, lo: u32, hi: u32, buffer: &mut [i64]) -> Result<usize, Refusal> {
+        // SAFETY: see above; at most so many elements are written as the buffer has.
+        let did = unsafe { livevec_read(self.slot.get(), lo, hi, buffer.as_mut_ptr(), buffer.len()) };
+        answered(did.refusal, did.detail, did.length as usize)
+    }
+
+    pub(crate) fn size(&self) -> u32 {
+        // SAFETY: see above.
+        unsafe { livevec_size(self.slot.get()) }.value
+    }
+
+    pub(crate) fn capacity(&self) -> u32 {
+        // SAFETY: see above.
+        unsafe { livevec_capacity(self.slot.get()) }.value
+    }
+
+    pub(crate) fn edits(&self) -> u32 {
+        // SAFETY: see above.
+        unsafe { livevec_edits(self.slot.get()) }.value
+    }
+
+    pub(crate) fn reduce(&self, lo: u32, hi: u32) -> Result<Reduced, Refusal> {
+        // SAFETY: see above.
+        let did = unsafe { livevec_reduce(self.slot.get(), lo, hi) };
+        answered(did.refusal, did.detail, did)
+    }
+
+    pub(crate) fn ask(&self, lo: u32, hi: u32) -> Result<Reduced, Refusal> {
+        // SAFETY: see above.
+        let did = unsafe { livevec_ask(self.slot.get(), lo, hi) };
+        answered(did.refusal, did.detail, did)
+    }
+
+    /// The edit and the values of a scan.
+    pub(crate) fn scan(&self, lo: u32, hi: u32, inclusive: bool) -> Result<(u32, Vec<SixValues>), Refusal> {
+        // A range that is refused takes no buffer: C looks at the range before it looks at the length.
+        let room = if lo <= hi && hi <= self.size() { (hi - lo) as usize } else { 0 };
+        let mut values = roomy::<SixValues>(room.max(1))?;
+        let call = if inclusive { livevec_scan_inclusive } else { livevec_scan_exclusive };
+        // SAFETY: see above; the buffer has the room that is told.
+        let did = unsafe { call(self.slot.get(), lo, hi, values.as_mut_ptr(), room) };
+        let (edit, length) = answered(did.refusal, did.detail, (did.edit, did.length as usize))?;
+        assert!(length <= room);
+        // SAFETY: C has written `length` values, and the buffer has room for them.
+        unsafe { values.set_len(length) };
+        Ok((edit, values))
+    }
+
+    pub(crate) fn refresh(&mut self, jobs: u32) -> u32 {
+        // SAFETY: see above.
+        unsafe { livevec_refresh(self.slot.get(), jobs) }.value
+    }
+
+    pub(crate) fn forget(&mut self) {
+        // SAFETY: see above.
+        unsafe { livevec_forget(self.slot.get()) };
+    }
+
+    /// A job, if a node wants one.
+    pub(crate) fn claim(&mut self) -> Result<Option<(Claimed, Job)>, Refusal> {
+        let work = boxed(Work { job: Slot::empty(), outcome: Slot::empty() })?;
+        // SAFETY: see above; the job's slot is empty, and lies in its box until it is dropped.
+        let did = unsafe { livevec_claim(self.slot.get(), work.job.get()) };
+        answered(did.refusal, 0, ())?;
+        Ok(did.found.then_some((did, Job { work })))
+    }
+
+    pub(crate) fn vouches_for(&self, outcome: &Outcome) -> bool {
+        // SAFETY: see above; the outcome's slot is full, and no other call is at it, since an outcome is not `Sync` either.
+        unsafe { livevec_vet(self.slot.get(), outcome.work.outcome.get()) }.yes
+    }
+
+    pub(crate) fn accept(&mut self, outcome: &Outcome) -> Result<Became, Refusal> {
+        // SAFETY: see above; the outcome's slot is full, and no other call is at it, since an outcome is not `Sync` either.
+        let did = unsafe { livevec_accept(self.slot.get(), outcome.work.outcome.get()) };
+        answered(did.refusal, 0, did)
+    }
+}
+
+impl Drop for Vector {
+    fn drop(&mut self) {
+        // SAFETY: the slot is full, and nothing calls it any more.
+        unsafe { livevec_free(self.slot.get()) };
+    }
+}
+
+/// The slots of a job and of its outcome. At most one of them is full, and whichever it is, it is freed with the box.
+struct Work {
+    job: UnsafeCell<Slot>,
+    outcome: UnsafeCell<Slot>,
+}
+
+impl Drop for Work {
+    fn drop(&mut self) {
+        // SAFETY: nothing calls these slots any more. An empty slot is left as it is.
+        unsafe {
+            livevec_free_job(self.job.get());
+            livevec_free_outcome(self.outcome.get());
+        }
+    }
+}
+
+/// A job of C: the job's slot is full.
+pub(crate) struct Job {
+    work: Box<Work>,
+}
+
+// SAFETY: a job holds nothing of its vector, and any thread may run it, says the header.
+unsafe impl Send for Job {}
+// SAFETY: no `&self` call reaches the slots.
+unsafe impl Sync for Job {}
+
+impl Job {
+    pub(crate) fn run(self) -> Outcome {
+        // SAFETY: the job's slot is full and the outcome's is empty; both lie in the box, which the outcome takes over.
+        let refusal = unsafe { livevec_run(self.work.job.get(), self.work.outcome.get()) };
+        assert_eq!(refusal, 0, "a job that is full runs");
+        Outcome { work: self.work }
+    }
+}
+
+/// An outcome of C: the outcome's slot is full.
+pub(crate) struct Outcome {
+    work: Box<Work>,
+}
+
+// SAFETY: an outcome holds nothing of its vector, and between calls its slot may go to another thread. It is not `Sync`, by its cells:
+// two vectors on two threads could be handed the same outcome.
+unsafe impl Send for Outcome {}

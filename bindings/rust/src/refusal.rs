@@ -1,0 +1,117 @@
+use std::fmt;
+
+/// Why a call was refused. A refused call changes no element, no edit number and no later answer.
+///
+/// The numbers and the names are those of the library's rules; see [`Refusal::number`].
+///
+/// ```
+/// use livevec::{Refusal, Vector};
+///
+/// # fn main() -> Result<(), Refusal> {
+/// let mut prices = Vector::new()?;
+/// let refusal = prices.pop().unwrap_err();
+/// assert_eq!(refusal, Refusal::Empty);
+/// assert_eq!(refusal.number(), 2);
+/// assert_eq!(refusal.to_string(), "there is nothing to pop");
+/// # Ok(())
+/// # }
+/// ```
+#[derive(Clone, Copy, Debug, PartialEq, Eq, Hash)]
+#[non_exhaustive]
+pub enum Refusal {
+    /// 1: as many edits are accepted as the limits allow.
+    Worn,
+    /// 2: there is nothing to pop.
+    Empty,
+    /// 3: an index, or the end of a range, is past the end.
+    OutOfRange {
+        /// How many elements there are.
+        size: u32,
+    },
+    /// 4: more was to be reserved than the limits allow.
+    TooLarge {
+        /// The most elements.
+        limit: u32,
+    },
+    /// 5: there are as many elements as the limits allow.
+    Full,
+    /// 6: memory was wanted, and there was none.
+    NoMemory,
+    /// 7: a range whose start is past its end.
+    BadRange,
+    /// 8: limits outside their ranges.
+    BadLimits,
+    /// 9: an automaton's table with an entry above 7.
+    BadTable,
+    /// 15: an outcome that is not of a job of this vector.
+    Stranger,
+    /// 103: a buffer shorter than what it should take.
+    ShortBuffer {
+        /// How many values it should take.
+        wanted: u32,
+    },
+    /// Any other number. No call of this crate gives it today.
+    Other {
+        /// The number.
+        number: u32,
+    },
+}
+
+impl Refusal {
+    /// The refusal of a number and its detail (a size, a limit or a length), as C gives them.
+    pub(crate) fn of(number: u32, detail: u32) -> Refusal {
+        match number {
+            1 => Refusal::Worn,
+            2 => Refusal::Empty,
+            3 => Refusal::OutOfRange { size: detail },
+            4 => Refusal::TooLarge { limit: detail },
+            5 => Refusal::Full,
+            6 => Refusal::NoMemory,
+            7 => Refusal::BadRange,
+            8 => Refusal::BadLimits,
+            9 => Refusal::BadTable,
+            15 => Refusal::Stranger,
+            103 => Refusal::ShortBuffer { wanted: detail },
+            number => Refusal::Other { number },
+        }
+    }
+
+    /// The number that the library's rules, scripts and transcripts give this refusal.
+    pub fn number(self) -> u32 {
+        match self {
+            Refusal::Worn => 1,
+            Refusal::Empty => 2,
+            Refusal::OutOfRange { .. } => 3,
+            Refusal::TooLarge { .. } => 4,
+            Refusal::Full => 5,
+            Refusal::NoMemory => 6,
+            Refusal::BadRange => 7,
+            Refusal::BadLimits => 8,
+            Refusal::BadTable => 9,
+            Refusal::Stranger => 15,
+            Refusal::ShortBuffer { .. } => 103,
+            Refusal::Other { number } => number,
+        }
+    }
+}
+
+impl fmt::Display for Refusal {
+    fn fmt(&self, f: &mut fmt::Formatter<'_>) -> fmt::Result {
+        match self {
+            Refusal::Worn => f.write_str("the limit of edits is reached"),
+            Refusal::Empty => f.write_str("there is nothing to pop"),
+            Refusal::OutOfRange { size } => write!(f, "out of range: the size is {size}"),
+            Refusal::TooLarge { limit } => write!(f, "too large: the limit is {limit} elements"),
+            Refusal::Full => f.write_str("full: the size is the limit's capacity"),
+            Refusal::NoMemory => f.write_str("no memory"),
+            Refusal::BadRange => f.write_str("a range whose start is past its end"),
+            Refusal::BadLimits => f.write_str("limits outside their ranges"),
+            Refusal::BadTable => f.write_str("a table with an entry above 7"),
+            Refusal::Stranger => f.write_str("a result that is not this vector's"),
+            Refusal::ShortBuffer { wanted } => write!(f, "a buffer shorter than the {wanted} values"),
+            Refusal::Other { number } => write!(f, "refused {number}"),
+        }
+    }
+}
+
+impl std::error::Error for Refusal {}

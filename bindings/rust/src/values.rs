@@ -1,0 +1,240 @@
+use std::fmt;
+use std::ops::{Bound, RangeBounds};
+
+use crate::Refusal;
+use crate::raw::SixValues;
+
+/// How many buckets and edits a vector may come to have.
+///
+/// `k` buckets have room for `8 * (2^k - 1)` elements.
+///
+/// ```
+/// use livevec::{Limits, Refusal};
+///
+/// let small = Limits::new(3, 1000).unwrap();
+/// assert_eq!(small.room(), 56);
+/// assert_eq!(Limits::new(18, 1), Err(Refusal::BadLimits));
+/// assert_eq!(Limits::GREATEST.room(), 1_048_568);
+/// ```
+#[derive(Clone, Copy, Debug, PartialEq, Eq, Hash)]
+pub struct Limits {
+    buckets: u32,
+    edits: u32,
+}
+
+impl Limits {
+    /// The greatest limits of a vector: 17 buckets and 16,777,215 edits.
+    pub const GREATEST: Limits = Limits { buckets: 17, edits: 16_777_215 };
+
+    /// Refused [`BadLimits`](Refusal::BadLimits) unless `buckets` is in `1..=17` and `edits` in `1..=16_777_215`.
+    pub const fn new(buckets: u32, edits: u32) -> Result<Limits, Refusal> {
+        if buckets < 1 || buckets > 17 || edits < 1 || edits > 16_777_215 {
+            return Err(Refusal::BadLimits);
+        }
+        Ok(Limits { buckets, edits })
+    }
+
+    /// The most buckets.
+    pub const fn buckets(self) -> u32 {
+        self.buckets
+    }
+
+    /// The most edits.
+    pub const fn edits(self) -> u32 {
+        self.edits
+    }
+
+    /// The most elements.
+    pub const fn room(self) -> u32 {
+        8 * ((1 << self.buckets) - 1)
+    }
+}
+
+impl Default for Limits {
+    /// The greatest limits of a vector.
+    fn default() -> Limits {
+        Limits::GREATEST
+    }
+}
+
+/// The values of a list of elements by each of the six kinds.
+///
+/// ```
+/// # fn main() -> Result<(), livevec::Refusal> {
+/// let mut vector = livevec::Vector::new()?;
+/// vector.extend_from_slice(&[513, 768])?;
+/// let values = vector.ask(..)?.values;
+/// assert_eq!((values.sum, values.least, values.greatest), (1281, Some(513), Some(768)));
+/// assert_eq!(values.best, Some(1281));
+/// assert_eq!(values.affine, (6, 3));
+/// assert_eq!(values.automaton, [2, 6, 2, 6, 2, 6, 2, 6]);
+/// # Ok(())
+/// # }
+/// ```
+#[derive(Clone, Copy, Debug, PartialEq, Eq, Hash)]
+pub struct Values {
+    /// The sum modulo 2^64. `sum.cast_signed()` is the true sum wherever that fits an `i64`.
+    pub sum: u64,
+    /// The least element; none of an empty list.
+    pub least: Option<i64>,
+    /// The greatest element; none of an empty list.
+    pub greatest: Option<i64>,
+    /// The greatest total of one or more neighbours, exact; none of an empty list.
+    pub best: Option<i128>,
+    /// The map `y -> a * y + b` modulo 2^32 that the maps `y -> floor(x / 256) * y + x mod 256` make in order.
+    pub affine: (u32, u32),
+    /// The state that the elements lead to from each of the states 0 to 7.
+    pub automaton: [u8; 8],
+}
+
+impl Values {
+    pub(crate) fn of_raw(raw: SixValues) -> Values {
+        let some = |value| raw.any.then_some(value);
+        Values {
+            sum: raw.sum,
+            least: some(raw.least),
+            greatest: some(raw.greatest),
+            best: raw.any.then_some(i128::from(raw.best_high) << 64 | i128::from(raw.best_low)),
+            affine: (raw.affine_a, raw.affine_b),
+            automaton: raw.automaton,
+        }
+    }
+}
+
+/// The answer of a reduction.
+#[derive(Clone, Copy, Debug, PartialEq, Eq, Hash)]
+pub struct Reduced {
+    /// The edit after which the range was read: the last one that was accepted.
+    pub edit: u32,
+    /// How many elements were read for it.
+    pub cells: u32,
+    /// How many summaries were read for it.
+    pub summaries: u32,
+    /// The values of the range.
+    pub values: Values,
+}
+
+impl Reduced {
+    pub(crate) fn of(raw: crate::raw::Reduced) -> Reduced {
+        Reduced { edit: raw.edit, cells: raw.cells, summaries: raw.summaries, values: Values::of_raw(raw.values) }
+    }
+}
+
+/// An accepted push.
+#[derive(Clone, Copy, Debug, PartialEq, Eq, Hash)]
+pub struct Pushed {
+    /// The number of this edit.
+    pub edit: u32,
+    /// Where the element stands.
+    pub index: u32,
+}
+
+/// An accepted pop.
+#[derive(Clone, Copy, Debug, PartialEq, Eq, Hash)]
+pub struct Popped {
+    /// The number of this edit.
+    pub edit: u32,
+    /// The element that stood at the end.
+    pub value: i64,
+}
+
+/// An accepted overwrite.
+#[derive(Clone, Copy, Debug, PartialEq, Eq, Hash)]
+pub struct Written {
+    /// The number of this edit.
+    pub edit: u32,
+    /// The element that stood there before.
+    pub before: i64,
+}
+
+/// An accepted reserve.
+#[derive(Clone, Copy, Debug, PartialEq, Eq, Hash)]
+pub struct Reserved {
+    /// The number of this edit.
+    pub edit: u32,
+    /// The capacity after it.
+    pub capacity: u32,
+}
+
+/// An accepted swap.
+#[derive(Clone, Copy, Debug, PartialEq, Eq, Hash)]
+pub struct Swapped {
+    /// The number of this edit.
+    pub edit: u32,
+    /// The element that stands at the first index now.
+    pub first: i64,
+}
+
+/// An accepted truncate.
+#[derive(Clone, Copy, Debug, PartialEq, Eq, Hash)]
+pub struct Truncated {
+    /// The number of this edit.
+    pub edit: u32,
+    /// How many elements were dropped.
+    pub dropped: u32,
+}
+
+/// A list of pushes that ended early: what stands before the refusal stays pushed.
+#[derive(Clone, Copy, Debug, PartialEq, Eq, Hash)]
+pub struct Stopped {
+    /// How many elements were pushed.
+    pub pushed: usize,
+    /// Why the next one was refused.
+    pub refusal: Refusal,
+}
+
+impl fmt::Display for Stopped {
+    fn fmt(&self, f: &mut fmt::Formatter<'_>) -> fmt::Result {
+        write!(f, "{} pushed, then {}", self.pushed, self.refusal)
+    }
+}
+
+impl std::error::Error for Stopped {
+    fn source(&self) -> Option<&(dyn std::error::Error + 'static)> {
+        Some(&self.refusal)
+    }
+}
+
+impl From<Stopped> for Refusal {
+    fn from(stopped: Stopped) -> Refusal {
+        stopped.refusal
+    }
+}
+
+/// A node: level `l`, from 1 to 6, and number `m` has the `8^l` indices from `m * 8^l`.
+#[derive(Clone, Copy, Debug, PartialEq, Eq, Hash)]
+pub struct Node {
+    /// From 1 to 6.
+    pub level: u32,
+    /// From 0 on.
+    pub number: u32,
+}
+
+/// What became of an outcome that was delivered. None of the three changes an answer.
+#[derive(Clone, Copy, Debug, PartialEq, Eq, Hash)]
+pub enum Accepted {
+    /// It is kept for its node now.
+    Installed,
+    /// What it says is kept already.
+    Held,
+    /// Its node was touched since by the edit `now`, or is no longer whole.
+    Stale {
+        /// The edit that touched the node last.
+        now: u32,
+    },
+}
+
+/// The start and the end of a range of indices, where `size` is the end of one that is open.
+pub(crate) fn ends(range: impl RangeBounds<u32>, size: impl FnOnce() -> u32) -> (u32, u32) {
+    let lo = match range.start_bound() {
+        Bound::Included(&lo) => lo,
+        Bound::Excluded(&before) => before.saturating_add(1),
+        Bound::Unbounded => 0,
+    };
+    let hi = match range.end_bound() {
+        Bound::Included(&last) => last.saturating_add(1),
+        Bound::Excluded(&hi) => hi,
+        Bound::Unbounded => size(),
+    };
+    (lo, hi)
+}

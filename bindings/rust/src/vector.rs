@@ -1,0 +1,531 @@
+use std::fmt;
+use std::iter::FusedIterator;
+use std::ops::RangeBounds;
+
+use crate::values::ends;
+use crate::{Accepted, Limits, Node, Popped, Pushed, Reduced, Refusal, Reserved, Stopped, Swapped, Truncated, Values, Written, raw};
+
+/// A growable vector of `i64` that answers reductions and scans of any range.
+///
+/// Edits are numbered 1, 2, 3 and so on. Each answer names the last edit, and equals the plain left fold of the range after it.
+///
+/// ```
+/// use livevec::Vector;
+///
+/// # fn main() -> Result<(), livevec::Refusal> {
+/// let mut latencies = Vector::new()?;
+/// for micros in [120, 80, 4000, 95] {
+///     latencies.push(micros)?;
+/// }
+/// assert_eq!(latencies.sum(..)?, 4295);
+/// assert_eq!(latencies.greatest(1..)?, Some(4000));
+/// latencies.write(2, 100)?;
+/// assert_eq!(latencies.greatest(1..)?, Some(100));
+/// assert_eq!(latencies.edits(), 5);
+/// # Ok(())
+/// # }
+/// ```
+///
+/// Threads: a `Vector` may be sent to another thread. It can't be shared by `&`, for a question keeps what it computed. Put it into a
+/// `Mutex`, or hand the work out as [`Job`]s.
+///
+/// ```compile_fail
+/// fn shared<T: Sync>(_: T) {}
+/// shared(livevec::Vector::new().unwrap());
+/// ```
+pub struct Vector {
+    raw: raw::Vector,
+}
+
+impl Vector {
+    /// A vector with no elements and no edits, of the greatest limits. Refused with `NoMemory` alone.
+    pub fn new() -> Result<Vector, Refusal> {
+        Vector::with_limits(Limits::GREATEST)
+    }
+
+    /// A vector of limits of its own. Refused with `NoMemory` alone.
+    pub fn with_limits(limits: Limits) -> Result<Vector, Refusal> {
+        Ok(Vector { raw: raw::Vector::new(limits.buckets(), limits.edits())? })
+    }
+
+    /// A vector whose automaton goes by this table: from state `q`, an element `x` leads to `table[q][x mod 4]`, the remainder never negative.
+    /// Refused with `BadTable` where an entry is above 7, then with `NoMemory`.
+    ///
+    /// ```
+    /// use livevec::{Limits, Refusal, Vector};
+    ///
+    /// # fn main() -> Result<(), Refusal> {
+    /// // state 1 says: a remainder of 3 was seen
+    /// let mut table = [[0, 0, 0, 1]; 8];
+    /// table[1] = [1; 4];
+    /// let mut vector = Vector::with_table(Limits::GREATEST, &table)?;
+    /// vector.extend_from_slice(&[4, 7, 8])?;
+    /// assert_eq!(vector.ask(..)?.values.automaton[0], 1);
+    /// assert_eq!(vector.ask(2..)?.values.automaton[0], 0);
+    /// table[7][0] = 8;
+    /// assert_eq!(Vector::with_table(Limits::GREATEST, &table).err(), Some(Refusal::BadTable));
+    /// # Ok(())
+    /// # }
+    /// ```
+    pub fn with_table(limits: Limits, table: &[[u8; 4]; 8]) -> Result<Vector, Refusal> {
+        Ok(Vector { raw: raw::Vector::with_table(limits.buckets(), limits.edits(), table)? })
+    }
+
+    /// Puts an element at the end. Refused with `Worn`, `Full`, `NoMemory`, in this order.
+    pub fn push(&mut self, value: i64) -> Result<Pushed, Refusal> {
+        self.raw.push(value).map(|did| Pushed { edit: did.edit, index: did.place })
+    }
+
+    /// Drops the last element. Refused with `Worn`, `Empty`, `NoMemory`, in this order.
+    pub fn pop(&mut self) -> Result<Popped, Refusal> {
+        self.raw.pop().map(|did| Popped { edit: did.edit, value: did.value })
+    }
+
+    /// Overwrites an element. Refused with `Worn`, `OutOfRange`, `NoMemory`, in this order.
+    pub fn write(&mut self, index: u32, value: i64) -> Result<Written, Refusal> {
+        self.raw.write(index, value).map(|did| Written { edit: did.edit, before: did.value })
+    }
+
+    /// Makes room for so many elements in all. Refused with `Worn`, `TooLarge`, `NoMemory`, in this order. It is an edit like any other.
+    pub fn reserve(&mut self, elements: u32) -> Result<Reserved, Refusal> {
+        self.raw.reserve(elements).map(|did| Reserved { edit: did.edit, capacity: did.place })
+    }
+
+    /// Exchanges the elements at two indices, which may be one. Refused with `Worn`, `OutOfRange`, `NoMemory`, in this order.
+    pub fn swap(&mut self, first: u32, second: u32) -> Result<Swapped, Refusal> {
+        self.raw.swap(first, second).map(|did| Swapped { edit: did.edit, first: did.value })
+    }
+
+    /// Keeps so many elements, the first ones, and drops the others. Refused with `Worn`, `OutOfRange`, `NoMemory`, in this order. It gives
+    /// no memory back.
+    pub fn truncate(&mut self, elements: u32) -> Result<Truncated, Refusal> {
+        self.raw.truncate(elements).map(|did| Truncated { edit: did.edit, dropped: did.place })
+    }
+
+    /// Pushes each element in order, by one call. Where one is refused, those before it stay pushed, and [`Stopped`] says how many they are.
+    /// Tells the number of the last edit.
+    ///
+    /// ```
+    /// use livevec::{Limits, Refusal, Vector};
+    ///
+    /// # fn main() -> Result<(), Refusal> {
+    /// let mut small = Vector::with_limits(Limits::new(1, 100)?)?;
+    /// assert_eq!(small.extend_from_slice(&[1, 2, 3]).unwrap(), 3);
+    /// let stopped = small.extend_from_slice(&[4; 10]).unwrap_err();
+    /// assert_eq!((stopped.pushed, stopped.refusal), (5, Refusal::Full));
+    /// assert_eq!(small.len(), 8);
+    /// # Ok(())
+    /// # }
+    /// ```
+    pub fn extend_from_slice(&mut self, values: &[i64]) -> Result<u32, Stopped> {
+        match self.raw.push_many(values) {
+            (_, None) => Ok(self.edits()),
+            (pushed, Some(refusal)) => Err(Stopped { pushed, refusal }),
+        }
+    }
+
+    /// Pushes what an iterator gives, and ends at the first refusal as [`extend_from_slice`](Vector::extend_from_slice) does.
+    pub fn try_extend(&mut self, values: impl IntoIterator<Item = i64>) -> Result<u32, Stopped> {
+        for (pushed, value) in values.into_iter().enumerate() {
+            self.push(value).map_err(|refusal| Stopped { pushed, refusal })?;
+        }
+        Ok(self.edits())
+    }
+
+    /// The element at an index. Refused with `OutOfRange` alone.
+    pub fn get(&self, index: u32) -> Result<i64, Refusal> {
+        self.raw.get(index)
+    }
+
+    /// The last element, if there is one.
+    pub fn last(&self) -> Option<i64> {
+        self.get(self.len().checked_sub(1)?).ok()
+    }
+
+    /// How many elements there are.
+    pub fn len(&self) -> u32 {
+        self.raw.size()
+    }
+
+    /// Whether there is no element.
+    pub fn is_empty(&self) -> bool {
+        self.len() == 0
+    }
+
+    /// How many elements have room without another bucket.
+    pub fn capacity(&self) -> u32 {
+        self.raw.capacity()
+    }
+
+    /// The number of the last edit, which is how many were accepted.
+    pub fn edits(&self) -> u32 {
+        self.raw.edits()
+    }
+
+    /// All six values of a range. What is computed is kept, so that the same question costs at most 98 reads until an edit touches it.
+    /// Refused with `BadRange`, `OutOfRange`, in this order.
+    pub fn ask(&self, range: impl RangeBounds<u32>) -> Result<Reduced, Refusal> {
+        let (lo, hi) = ends(range, || self.len());
+        self.raw.ask(lo, hi).map(Reduced::of)
+    }
+
+    /// All six values of a range, as [`ask`](Vector::ask) gives them, but nothing is kept.
+    pub fn reduce(&self, range: impl RangeBounds<u32>) -> Result<Reduced, Refusal> {
+        let (lo, hi) = ends(range, || self.len());
+        self.raw.reduce(lo, hi).map(Reduced::of)
+    }
+
+    /// The sum modulo 2^64, as a number with a sign: the true sum wherever that fits an `i64`. Asks, and is refused as [`ask`](Vector::ask) is.
+    pub fn sum(&self, range: impl RangeBounds<u32>) -> Result<i64, Refusal> {
+        Ok(self.ask(range)?.values.sum.cast_signed())
+    }
+
+    /// The least element; none of an empty range. Asks, and is refused as [`ask`](Vector::ask) is.
+    pub fn least(&self, range: impl RangeBounds<u32>) -> Result<Option<i64>, Refusal> {
+        Ok(self.ask(range)?.values.least)
+    }
+
+    /// The greatest element; none of an empty range. Asks, and is refused as [`ask`](Vector::ask) is.
+    pub fn greatest(&self, range: impl RangeBounds<u32>) -> Result<Option<i64>, Refusal> {
+        Ok(self.ask(range)?.values.greatest)
+    }
+
+    /// The greatest total of one or more neighbours; none of an empty range. Asks, and is refused as [`ask`](Vector::ask) is.
+    pub fn best(&self, range: impl RangeBounds<u32>) -> Result<Option<i128>, Refusal> {
+        Ok(self.ask(range)?.values.best)
+    }
+
+    /// The values of each beginning of a range, the element itself included. Refused with `BadRange`, `OutOfRange`, `NoMemory`, in this order.
+    ///
+    /// ```
+    /// # fn main() -> Result<(), livevec::Refusal> {
+    /// let mut vector = livevec::Vector::new()?;
+    /// vector.extend_from_slice(&[3, -5, 4])?;
+    /// let sums: Vec<i64> = vector.scan_inclusive(..)?.iter().map(|values| values.sum.cast_signed()).collect();
+    /// assert_eq!(sums, [3, -2, 2]);
+    /// let before: Vec<i64> = vector.scan_exclusive(..)?.iter().map(|values| values.sum.cast_signed()).collect();
+    /// assert_eq!(before, [0, 3, -2]);
+    /// # Ok(())
+    /// # }
+    /// ```
+    pub fn scan_inclusive(&self, range: impl RangeBounds<u32>) -> Result<Scan, Refusal> {
+        let (lo, hi) = ends(range, || self.len());
+        self.raw.scan(lo, hi, true).map(|(edit, values)| Scan { edit, values })
+    }
+
+    /// The values of each beginning of a range, the element itself excluded. Refused as [`scan_inclusive`](Vector::scan_inclusive) is.
+    pub fn scan_exclusive(&self, range: impl RangeBounds<u32>) -> Result<Scan, Refusal> {
+        let (lo, hi) = ends(range, || self.len());
+        self.raw.scan(lo, hi, false).map(|(edit, values)| Scan { edit, values })
+    }
+
+    /// The elements, from the first on. While the iterator lives the vector can't be edited:
+    ///
+    /// ```compile_fail
+    /// let mut vector = livevec::Vector::new().unwrap();
+    /// for element in &vector {
+    ///     vector.push(element).unwrap();
+    /// }
+    /// ```
+    ///
+    /// ```
+    /// # fn main() -> Result<(), livevec::Refusal> {
+    /// let mut vector = livevec::Vector::new()?;
+    /// vector.try_extend(1..=5)?;
+    /// assert_eq!(vector.iter().rev().collect::<Vec<_>>(), [5, 4, 3, 2, 1]);
+    /// assert_eq!(vector.elements(1..3)?.sum::<i64>(), 5);
+    /// # Ok(())
+    /// # }
+    /// ```
+    pub fn iter(&self) -> Elements<'_> {
+        Elements::new(self, 0, self.len())
+    }
+
+    /// The elements of a range. Refused with `BadRange`, `OutOfRange`, in this order.
+    pub fn elements(&self, range: impl RangeBounds<u32>) -> Result<Elements<'_>, Refusal> {
+        let (lo, hi) = ends(range, || self.len());
+        if lo > hi {
+            return Err(Refusal::BadRange);
+        }
+        let size = self.len();
+        if hi > size {
+            return Err(Refusal::OutOfRange { size });
+        }
+        Ok(Elements::new(self, lo, hi))
+    }
+
+    /// Fills the front of a buffer with the elements of a range, and gives that front.
+    /// Refused with `BadRange`, `OutOfRange`, then `ShortBuffer`.
+    pub fn read_into<'a>(&self, range: impl RangeBounds<u32>, buffer: &'a mut [i64]) -> Result<&'a mut [i64], Refusal> {
+        let (lo, hi) = ends(range, || self.len());
+        let length = self.raw.read(lo, hi, buffer)?;
+        Ok(&mut buffer[..length])
+    }
+
+    /// Computes at most so many summaries in place, the least node first, and tells how many. No answer changes by it.
+    pub fn refresh(&mut self, jobs: u32) -> u32 {
+        self.raw.refresh(jobs)
+    }
+
+    /// A job for the least node that wants one, if there is one. Refused with `NoMemory` alone. See [`Job`].
+    pub fn claim(&mut self) -> Result<Option<Job>, Refusal> {
+        let claimed = self.raw.claim()?;
+        Ok(claimed.map(|(told, raw)| Job { raw, node: Node { level: told.level, number: told.number }, version: told.version }))
+    }
+
+    /// Whether [`deliver`](Vector::deliver) would take an outcome in: yes for each of a job of this vector, however late.
+    pub fn vouches_for(&self, outcome: &Outcome) -> bool {
+        self.raw.vouches_for(&outcome.raw)
+    }
+
+    /// Takes an outcome in. It may be late or come twice: no answer changes by that. Refused with `Stranger` where it is not one of this
+    /// vector's jobs, as [`vouches_for`](Vector::vouches_for) says.
+    pub fn deliver(&mut self, outcome: &Outcome) -> Result<Accepted, Refusal> {
+        let did = self.raw.accept(&outcome.raw)?;
+        Ok(match did.became {
+            1 => Accepted::Installed,
+            2 => Accepted::Held,
+            _ => Accepted::Stale { now: did.now },
+        })
+    }
+
+    /// Makes every claim void, so that their nodes are handed out again. Jobs that are out stay good.
+    pub fn forget_claims(&mut self) {
+        self.raw.forget();
+    }
+}
+
+impl fmt::Debug for Vector {
+    fn fmt(&self, f: &mut fmt::Formatter<'_>) -> fmt::Result {
+        f.debug_struct("Vector").field("len", &self.len()).field("edits", &self.edits()).finish_non_exhaustive()
+    }
+}
+
+impl<'a> IntoIterator for &'a Vector {
+    type Item = i64;
+    type IntoIter = Elements<'a>;
+
+    fn into_iter(self) -> Elements<'a> {
+        self.iter()
+    }
+}
+
+/// A node's summary that is still to be computed. It holds nothing of its vector, so any thread may [`run`](Job::run) it.
+///
+/// ```
+/// use std::thread;
+/// use livevec::{Accepted, Vector};
+///
+/// # fn main() -> Result<(), livevec::Refusal> {
+/// let mut vector = Vector::new()?;
+/// vector.try_extend(1..=8)?;
+/// let job = vector.claim()?.expect("the first block wants a summary");
+/// let worker = thread::spawn(move || job.run());
+/// let outcome = worker.join().unwrap();
+/// assert_eq!(vector.deliver(&outcome)?, Accepted::Installed);
+/// assert_eq!(vector.deliver(&outcome)?, Accepted::Held);
+/// vector.write(3, 9)?;
+/// assert_eq!(vector.deliver(&outcome)?, Accepted::Stale { now: 9 });
+/// assert_eq!(vector.sum(..)?, 41);
+/// # Ok(())
+/// # }
+/// ```
+///
+/// A job that is dropped leaves its node claimed until an edit touches it or [`Vector::forget_claims`] is called.
+#[must_use = "a claimed node waits for its outcome"]
+pub struct Job {
+    raw: raw::Job,
+    node: Node,
+    version: u32,
+}
+
+impl Job {
+    /// Whose summary it computes.
+    pub fn node(&self) -> Node {
+        self.node
+    }
+
+    /// The edit that touched the node last when it was claimed.
+    pub fn version(&self) -> u32 {
+        self.version
+    }
+
+    /// Computes it. Takes no memory.
+    pub fn run(self) -> Outcome {
+        Outcome { raw: self.raw.run(), node: self.node, version: self.version }
+    }
+}
+
+impl fmt::Debug for Job {
+    fn fmt(&self, f: &mut fmt::Formatter<'_>) -> fmt::Result {
+        f.debug_struct("Job").field("node", &self.node).field("version", &self.version).finish_non_exhaustive()
+    }
+}
+
+/// What a [`Job`] came to. It may be delivered any number of times, at any time.
+#[must_use = "only what is delivered saves reads"]
+pub struct Outcome {
+    raw: raw::Outcome,
+    node: Node,
+    version: u32,
+}
+
+impl Outcome {
+    /// Whose summary it has.
+    pub fn node(&self) -> Node {
+        self.node
+    }
+
+    /// The edit that touched the node last when it was claimed.
+    pub fn version(&self) -> u32 {
+        self.version
+    }
+}
+
+impl fmt::Debug for Outcome {
+    fn fmt(&self, f: &mut fmt::Formatter<'_>) -> fmt::Result {
+        f.debug_struct("Outcome").field("node", &self.node).field("version", &self.version).finish_non_exhaustive()
+    }
+}
+
+/// The values of each beginning of a range, in order.
+#[derive(Clone)]
+pub struct Scan {
+    edit: u32,
+    values: Vec<raw::SixValues>,
+}
+
+impl Scan {
+    /// The edit after which the range was read.
+    pub fn edit(&self) -> u32 {
+        self.edit
+    }
+
+    /// How many beginnings there are: one for each element of the range.
+    pub fn len(&self) -> usize {
+        self.values.len()
+    }
+
+    /// Whether the range was empty.
+    pub fn is_empty(&self) -> bool {
+        self.values.is_empty()
+    }
+
+    /// The values of the beginning of this number, from 0.
+    pub fn get(&self, number: usize) -> Option<Values> {
+        self.values.get(number).copied().map(Values::of_raw)
+    }
+
+    /// The values in order.
+    pub fn iter(&self) -> Beginnings<'_> {
+        Beginnings { values: self.values.iter() }
+    }
+}
+
+impl fmt::Debug for Scan {
+    fn fmt(&self, f: &mut fmt::Formatter<'_>) -> fmt::Result {
+        f.debug_struct("Scan").field("edit", &self.edit).field("len", &self.len()).finish_non_exhaustive()
+    }
+}
+
+impl<'a> IntoIterator for &'a Scan {
+    type Item = Values;
+    type IntoIter = Beginnings<'a>;
+
+    fn into_iter(self) -> Beginnings<'a> {
+        self.iter()
+    }
+}
+
+/// The iterator of a [`Scan`].
+#[derive(Clone)]
+pub struct Beginnings<'a> {
+    values: std::slice::Iter<'a, raw::SixValues>,
+}
+
+impl Iterator for Beginnings<'_> {
+    type Item = Values;
+
+    fn next(&mut self) -> Option<Values> {
+        self.values.next().copied().map(Values::of_raw)
+    }
+
+    fn size_hint(&self) -> (usize, Option<usize>) {
+        self.values.size_hint()
+    }
+}
+
+impl DoubleEndedIterator for Beginnings<'_> {
+    fn next_back(&mut self) -> Option<Values> {
+        self.values.next_back().copied().map(Values::of_raw)
+    }
+}
+
+impl ExactSizeIterator for Beginnings<'_> {}
+impl FusedIterator for Beginnings<'_> {}
+
+// So many elements are read by one call.
+const AT_ONCE: u32 = 128;
+
+/// The elements of a range of a [`Vector`], which can't be edited meanwhile.
+pub struct Elements<'a> {
+    vector: &'a Vector,
+    // what is still to be given: those of `read` from `given` on up to `filled`, then lo..hi
+    lo: u32,
+    hi: u32,
+    read: [i64; AT_ONCE as usize],
+    given: usize,
+    filled: usize,
+}
+
+impl<'a> Elements<'a> {
+    // The range lies within the vector.
+    fn new(vector: &'a Vector, lo: u32, hi: u32) -> Elements<'a> {
+        Elements { vector, lo, hi, read: [0; AT_ONCE as usize], given: 0, filled: 0 }
+    }
+
+    fn fill(&mut self) {
+        let upto = self.hi.min(self.lo + AT_ONCE);
+        self.given = 0;
+        self.filled = self.vector.raw.read(self.lo, upto, &mut self.read).expect("the range lies within the vector");
+        self.lo = upto;
+    }
+}
+
+impl Iterator for Elements<'_> {
+    type Item = i64;
+
+    fn next(&mut self) -> Option<i64> {
+        if self.given == self.filled {
+            if self.lo == self.hi {
+                return None;
+            }
+            self.fill();
+        }
+        let value = self.read[self.given];
+        self.given += 1;
+        Some(value)
+    }
+
+    fn size_hint(&self) -> (usize, Option<usize>) {
+        let left = self.filled - self.given + (self.hi - self.lo) as usize;
+        (left, Some(left))
+    }
+}
+
+impl DoubleEndedIterator for Elements<'_> {
+    fn next_back(&mut self) -> Option<i64> {
+        if self.lo < self.hi {
+            self.hi -= 1;
+            return Some(self.vector.raw.get(self.hi).expect("the range lies within the vector"));
+        }
+        if self.given == self.filled {
+            return None;
+        }
+        self.filled -= 1;
+        Some(self.read[self.filled])
+    }
+}
+
+impl ExactSizeIterator for Elements<'_> {}
+impl FusedIterator for Elements<'_> {}

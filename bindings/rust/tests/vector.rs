@@ -1,0 +1,187 @@
+//! The vector from outside. Expected values are worked out by hand from the rules.
+
+use std::sync::Mutex;
+use std::thread;
+
+use livevec::{Accepted, Job, Limits, Node, Outcome, Popped, Pushed, Refusal, Reserved, Swapped, Truncated, Vector, Written};
+
+fn of(elements: &[i64]) -> Vector {
+    let mut vector = Vector::new().unwrap();
+    vector.extend_from_slice(elements).unwrap();
+    vector
+}
+
+#[test]
+fn each_edit_has_its_receipt() {
+    let mut vector = Vector::new().unwrap();
+    assert_eq!((vector.len(), vector.capacity(), vector.edits()), (0, 0, 0));
+    assert_eq!(vector.push(4), Ok(Pushed { edit: 1, index: 0 }));
+    assert_eq!(vector.push(i64::MIN), Ok(Pushed { edit: 2, index: 1 }));
+    assert_eq!(vector.write(0, -6), Ok(Written { edit: 3, before: 4 }));
+    assert_eq!(vector.reserve(9), Ok(Reserved { edit: 4, capacity: 24 }));
+    assert_eq!(vector.pop(), Ok(Popped { edit: 5, value: i64::MIN }));
+    assert_eq!((vector.len(), vector.capacity(), vector.edits()), (1, 24, 5));
+    assert_eq!((vector.get(0), vector.last()), (Ok(-6), Some(-6)));
+    assert_eq!((vector.extend_from_slice(&[]), vector.extend_from_slice(&[1, 2])), (Ok(5), Ok(7)));
+}
+
+#[test]
+fn two_elements_change_places_and_the_end_is_cut() {
+    let mut vector = of(&[4, 6, 9]);
+    assert_eq!(vector.swap(0, 2), Ok(Swapped { edit: 4, first: 9 }));
+    assert_eq!(vector.swap(1, 1), Ok(Swapped { edit: 5, first: 6 }));
+    assert_eq!(vector.swap(0, 3), Err(Refusal::OutOfRange { size: 3 }));
+    assert_eq!(vector.truncate(1), Ok(Truncated { edit: 6, dropped: 2 }));
+    assert_eq!(vector.truncate(2), Err(Refusal::OutOfRange { size: 1 }));
+    assert_eq!((vector.len(), vector.get(0), vector.edits(), vector.capacity()), (1, Ok(9), 6, 8));
+}
+
+#[test]
+fn what_is_refused_changes_nothing() {
+    let mut vector = Vector::with_limits(Limits::new(1, 10).unwrap()).unwrap();
+    assert_eq!(vector.pop(), Err(Refusal::Empty));
+    assert_eq!(vector.last(), None);
+    assert_eq!(vector.write(0, 1), Err(Refusal::OutOfRange { size: 0 }));
+    assert_eq!(vector.reserve(9), Err(Refusal::TooLarge { limit: 8 }));
+    vector.extend_from_slice(&[1; 8]).unwrap();
+    assert_eq!(vector.push(1), Err(Refusal::Full));
+    assert_eq!(vector.get(8), Err(Refusal::OutOfRange { size: 8 }));
+    assert_eq!(vector.edits(), 8);
+    assert_eq!((vector.pop().unwrap().edit, vector.pop().unwrap().edit), (9, 10));
+    // the limit of edits comes before what else is wrong
+    assert_eq!(vector.push(1), Err(Refusal::Worn));
+    assert_eq!(vector.write(99, 1), Err(Refusal::Worn));
+    assert_eq!((vector.len(), vector.edits()), (6, 10));
+}
+
+#[test]
+fn ranges_are_read_as_rust_writes_them() {
+    let vector = of(&[1, 2, 3]);
+    assert_eq!(vector.sum(..), Ok(6));
+    assert_eq!(vector.sum(1..), Ok(5));
+    assert_eq!(vector.sum(..=1), Ok(3));
+    assert_eq!(vector.sum(2..2), Ok(0));
+    assert_eq!(vector.least(2..2), Ok(None));
+    #[allow(clippy::reversed_empty_ranges)]
+    let reversed = vector.sum(2..1);
+    assert_eq!(reversed, Err(Refusal::BadRange));
+    assert_eq!(vector.sum(..=u32::MAX), Err(Refusal::OutOfRange { size: 3 }));
+    assert_eq!(vector.elements(0..4).err(), Some(Refusal::OutOfRange { size: 3 }));
+}
+
+#[test]
+fn six_values_of_one_range() {
+    let vector = of(&[5, -3, 4, -10, 2]);
+    let all = vector.reduce(..).unwrap();
+    assert_eq!((all.edit, all.values.sum.cast_signed()), (5, -2));
+    assert_eq!((all.values.least, all.values.greatest, all.values.best), (Some(-10), Some(5), Some(6)));
+    // each element's map, composed: 5 is (0, 5); -3 is (-1, 253); 4 is (0, 4); -10 is (-1, 246); 2 is (0, 2)
+    assert_eq!(all.values.affine, (0, 2));
+    // from 0: 5 mod 4 = 1 leads to 1, then 1: 2+1 = 3, then 0: 6, then 2: 12+2 mod 8 = 6, then 2: 14 mod 8 = 6
+    assert_eq!(all.values.automaton[0], 6);
+    let none = vector.ask(1..1).unwrap().values;
+    assert_eq!((none.sum, none.least, none.greatest, none.best), (0, None, None, None));
+    assert_eq!((none.affine, none.automaton), ((1, 0), [0, 1, 2, 3, 4, 5, 6, 7]));
+}
+
+#[test]
+fn best_is_exact_past_64_bits() {
+    let vector = of(&[i64::MAX, i64::MAX, i64::MIN]);
+    assert_eq!(vector.best(..2), Ok(Some(2 * i128::from(i64::MAX))));
+    assert_eq!(of(&[i64::MIN, i64::MIN]).best(..), Ok(Some(i128::from(i64::MIN))));
+}
+
+#[test]
+fn elements_from_both_ends() {
+    let vector = of(&(0..300).collect::<Vec<i64>>());
+    let mut elements = vector.iter();
+    assert_eq!(elements.len(), 300);
+    assert_eq!((elements.next(), elements.next_back(), elements.len()), (Some(0), Some(299), 298));
+    assert!(elements.eq(1..299));
+    assert!(vector.iter().rev().eq((0..300).rev()));
+    // the ends meet within what was read at once
+    let mut few = vector.elements(10..13).unwrap();
+    assert_eq!((few.next(), few.next_back(), few.next_back(), few.next(), few.next_back()), (Some(10), Some(12), Some(11), None, None));
+    let mut buffer = [0; 4];
+    assert_eq!(vector.read_into(7..9, &mut buffer).unwrap(), [7, 8]);
+    assert_eq!(vector.read_into(0..5, &mut buffer).unwrap_err(), Refusal::ShortBuffer { wanted: 5 });
+}
+
+#[test]
+fn an_outcome_is_installed_held_stale_or_a_strangers() {
+    let mut ours = of(&[1; 8]);
+    let mut theirs = of(&[2; 8]);
+    let job = ours.claim().unwrap().unwrap();
+    assert_eq!((job.node(), job.version()), (Node { level: 1, number: 0 }, 8));
+    assert!(ours.claim().unwrap().is_none());
+    let outcome = job.run();
+    assert!(ours.vouches_for(&outcome) && !theirs.vouches_for(&outcome));
+    assert_eq!(theirs.deliver(&outcome), Err(Refusal::Stranger));
+    assert_eq!(ours.deliver(&outcome), Ok(Accepted::Installed));
+    assert_eq!(ours.reduce(..).map(|all| (all.cells, all.summaries)), Ok((0, 1)));
+    assert_eq!(ours.deliver(&outcome), Ok(Accepted::Held));
+    ours.write(0, 5).unwrap();
+    assert_eq!(ours.deliver(&outcome), Ok(Accepted::Stale { now: 9 }));
+    assert_eq!(ours.sum(..), Ok(12));
+}
+
+#[test]
+fn claims_are_forgotten_and_jobs_stay_good() {
+    let mut vector = of(&[1; 8]);
+    let first = vector.claim().unwrap().unwrap();
+    vector.forget_claims();
+    let second = vector.claim().unwrap().unwrap();
+    assert_eq!(vector.deliver(&second.run()), Ok(Accepted::Installed));
+    assert_eq!(vector.deliver(&first.run()), Ok(Accepted::Held));
+    // a job that is never run is freed, and its vector may go first
+    let mut short = of(&[1; 8]);
+    let orphan = short.claim().unwrap().unwrap();
+    drop(short);
+    drop(orphan.run());
+}
+
+#[test]
+fn a_refresh_in_place_changes_no_answer() {
+    let mut vector = of(&[1; 64]);
+    // eight blocks, then the node above them
+    assert_eq!(vector.refresh(100), 9);
+    assert_eq!(vector.refresh(100), 0);
+    let all = vector.reduce(0..64).unwrap();
+    assert_eq!((all.values.sum, all.cells, all.summaries), (64, 0, 1));
+}
+
+#[test]
+fn threads_run_jobs_and_hold_vectors() {
+    let vector = Mutex::new(of(&[3; 1024]));
+    let installed: u32 = thread::scope(|scope| {
+        let workers: Vec<_> = (0..4)
+            .map(|_| {
+                scope.spawn(|| {
+                    let mut installed = 0;
+                    loop {
+                        let Some(job) = vector.lock().unwrap().claim().unwrap() else { break installed };
+                        let outcome = job.run();
+                        installed += u32::from(vector.lock().unwrap().deliver(&outcome) == Ok(Accepted::Installed));
+                    }
+                })
+            })
+            .collect();
+        workers.into_iter().map(|worker| worker.join().unwrap()).sum()
+    });
+    // a worker may find nothing while another still has the last blocks of a node: what is left is done here
+    let left = vector.lock().unwrap().refresh(u32::MAX);
+    assert_eq!(installed + left, 128 + 16 + 2);
+    assert_eq!(vector.into_inner().unwrap().sum(..), Ok(3072));
+}
+
+#[test]
+fn what_may_go_to_another_thread() {
+    fn sends<T: Send>() {}
+    fn shares<T: Sync>() {}
+    sends::<Vector>();
+    sends::<Job>();
+    sends::<Outcome>();
+    shares::<Job>();
+    shares::<Mutex<Vector>>();
+    shares::<Refusal>();
+}
