@@ -7,6 +7,8 @@ fn main() {
     show_folds();
     show_reductions();
     show_refreshes();
+    show_wholes::<Sum>("sum");
+    show_wholes::<Best>("best");
 }
 
 // The number after a number.
@@ -308,4 +310,24 @@ fn show_refreshes() {
             u64::from(tree.nodes[1] == Sum::EMPTY)
         });
     }
+}
+
+// Reductions and inclusive scans of all elements but the first few, by one thread.
+fn show_wholes<S: Summary>(kind: &str) {
+    let elements = elements(1_048_560);
+    let mut last = S::EMPTY;
+    show(&format!("plain reduce {kind}"), 1, 40, |number| {
+        let summary = S::fold(&elements[pick(number, 8)..]);
+        u64::from(std::mem::replace(&mut last, summary) == summary)
+    });
+    show(&format!("plain scan {kind}"), 1, 40, |number| {
+        let mut summary = S::EMPTY;
+        let mut values = Vec::new();
+        values.extend(elements[pick(number, 8)..].iter().map(|x| {
+            summary = summary.join(S::of(*x));
+            summary
+        }));
+        let summary = black_box(&values)[values.len() - 1];
+        u64::from(std::mem::replace(&mut last, summary) == summary)
+    });
 }

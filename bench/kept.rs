@@ -1,6 +1,6 @@
-//! A plain Rust program that answers scripts of `watch`, `push`, `pop` and `write` with the same replies and notes as `livevec run`, or with
-//! `script one|many` writes such a script: one query over everything and 20,000 pushes, or 64 of them, 2,000 pushes and 2,000 writes.
-//! Each kind that is asked for has a bottom-up segment tree over the elements, kept at each edit.
+//! A plain Rust program that answers scripts of `watch`, `push`, `pop`, `write`, `reduce` and `inc sum` with the same replies and notes as
+//! `livevec run`. With `trees KIND..` it keeps a bottom-up segment tree over the elements for each kind that is named or watched; with
+//! `folds` it keeps the elements alone, and folds each range that is asked for. With `script WHAT..` it writes such a script.
 use std::io::{BufRead, BufReader, BufWriter, Write};
 
 const KINDS: [&str; 6] = ["sum", "least", "greatest", "best", "affine", "automaton"];
@@ -34,6 +34,10 @@ trait Kind {
     fn lift(x: i64) -> Self::S;
     fn join(a: Self::S, b: Self::S) -> Self::S;
     fn shown(s: Self::S) -> Shown;
+
+    fn fold(items: &[i64]) -> Shown {
+        Self::shown(items.iter().fold(Self::NOTHING, |s, x| Self::join(s, Self::lift(*x))))
+    }
 }
 
 struct Sum;
@@ -201,6 +205,11 @@ fn grown(kind: usize, items: &[i64]) -> Box<dyn Kept> {
     tree
 }
 
+// What a kind folds to over some elements.
+fn folded(kind: usize, items: &[i64]) -> Shown {
+    [Sum::fold, Least::fold, Greatest::fold, Best::fold, Affine::fold, Automaton::fold][kind](items)
+}
+
 struct Watch {
     name: String,
     kind: usize,
@@ -211,6 +220,7 @@ struct Watch {
 
 #[derive(Default)]
 struct Vector {
+    folds: bool,
     items: Vec<i64>,
     edits: usize,
     trees: [Option<Box<dyn Kept>>; 6],
@@ -224,16 +234,48 @@ impl Vector {
         }
     }
 
+    // Keeps a tree for a kind from now on, unless ranges are folded.
+    fn keep(&mut self, kind: usize) {
+        if !self.folds && self.trees[kind].is_none() {
+            self.trees[kind] = Some(grown(kind, &self.items));
+        }
+    }
+
+    // What a kind comes to over a range, as far as there are elements.
+    fn value(&self, kind: usize, lo: usize, hi: usize) -> Shown {
+        match &self.trees[kind] {
+            Some(tree) => tree.ask(lo, hi),
+            None => folded(kind, &self.items[lo.min(self.items.len())..hi.min(self.items.len())]),
+        }
+    }
+
+    fn reduce(&self, kind: usize, lo: usize, hi: usize, out: &mut impl Write) {
+        write!(out, "at {} {} ", self.edits, KINDS[kind]).unwrap();
+        put(out, self.value(kind, lo, hi));
+        out.write_all(b"\n").unwrap();
+    }
+
+    // The running sums of a range, each a line.
+    fn scan(&self, lo: usize, hi: usize, out: &mut impl Write) {
+        writeln!(out, "at {} inc sum {}", self.edits, hi - lo).unwrap();
+        let mut sum = 0u64;
+        for x in &self.items[lo..hi] {
+            sum = sum.wrapping_add(*x as u64);
+            writeln!(out, "= {sum}").unwrap();
+        }
+    }
+
     // One note for each query whose answer is another than before.
     fn notes(&mut self, i: usize, out: &mut impl Write) {
-        for watch in &mut self.watches {
+        for number in 0..self.watches.len() {
+            let watch = &self.watches[number];
             if i < watch.lo || watch.hi <= i {
                 continue;
             }
-            let value = self.trees[watch.kind].as_ref().unwrap().ask(watch.lo, watch.hi);
+            let value = self.value(watch.kind, watch.lo, watch.hi);
             if value != watch.value {
-                watch.value = value;
-                write!(out, "note {} ", watch.name).unwrap();
+                self.watches[number].value = value;
+                write!(out, "note {} ", self.watches[number].name).unwrap();
                 put(out, value);
                 out.write_all(b"\n").unwrap();
             }
@@ -245,14 +287,22 @@ impl Vector {
         let i = match words.next()? {
             "watch" => {
                 let name = words.next()?.to_string();
-                let kind = words.next()?;
-                let kind = KINDS.iter().position(|k| *k == kind)?;
+                let kind = kind_named(words.next()?)?;
                 let (lo, hi) = (words.next()?.parse().ok()?, words.next()?.parse().ok()?);
-                let items = &self.items;
-                let tree = self.trees[kind].get_or_insert_with(|| grown(kind, items));
-                let value = tree.ask(lo, hi);
+                self.keep(kind);
+                let value = self.value(kind, lo, hi);
                 writeln!(out, "watching {name}").unwrap();
                 self.watches.push(Watch { name, kind, lo, hi, value });
+                return Some(());
+            }
+            "reduce" => {
+                let kind = kind_named(words.next()?)?;
+                self.reduce(kind, words.next()?.parse().ok()?, words.next()?.parse().ok()?, out);
+                return Some(());
+            }
+            "inc" => {
+                words.next().filter(|kind| *kind == "sum")?;
+                self.scan(words.next()?.parse().ok()?, words.next()?.parse().ok()?, out);
                 return Some(());
             }
             "push" => {
@@ -285,30 +335,95 @@ impl Vector {
     }
 }
 
-fn script(many: bool, out: &mut impl Write) {
-    let (watches, pushes, writes) = if many { (64, 2_000, 2_000) } else { (1, 20_000, 0) };
-    for n in 0..watches {
-        writeln!(out, "watch w{n} {} 0 1048568", KINDS[n % 6]).unwrap();
+fn kind_named(word: &str) -> Option<usize> {
+    KINDS.iter().position(|kind| *kind == word)
+}
+
+// Numbers that look random, each from the one before.
+struct Numbers(u64);
+
+impl Numbers {
+    fn next(&mut self) -> u64 {
+        self.0 = self.0.wrapping_mul(6364136223846793005).wrapping_add(1442695040888963407);
+        self.0 >> 20
     }
-    let mut seed = 1u64;
-    for n in 0..pushes + writes {
-        seed = seed.wrapping_mul(6364136223846793005).wrapping_add(1442695040888963407);
-        let value = (seed >> 20) as i32;
-        if n < pushes {
-            writeln!(out, "push {value}").unwrap();
-        } else {
-            writeln!(out, "write {} {value}", (seed >> 33) % pushes).unwrap();
+
+    fn element(&mut self) -> i32 {
+        self.next() as i32
+    }
+
+    fn below(&mut self, end: u64) -> u64 {
+        (self.next() >> 13) % end
+    }
+}
+
+fn pushes(count: u64, numbers: &mut Numbers, out: &mut impl Write) {
+    for _ in 0..count {
+        writeln!(out, "push {}", numbers.element()).unwrap();
+    }
+}
+
+fn reductions(kind: &str, among: u64, count: u64, numbers: &mut Numbers, out: &mut impl Write) {
+    for _ in 0..count {
+        let (a, b) = (numbers.below(among + 1), numbers.below(among + 1));
+        writeln!(out, "reduce {kind} {} {}", a.min(b), a.max(b)).unwrap();
+    }
+}
+
+fn writes(among: u64, count: u64, numbers: &mut Numbers, out: &mut impl Write) {
+    for _ in 0..count {
+        writeln!(out, "write {} {}", numbers.below(among), numbers.element()).unwrap();
+    }
+}
+
+// `queries N`: N standing queries over everything, and pushes and writes. `ranges KIND`: a million pushes and 300 reductions. `scan`: a
+// million pushes and a scan of all. `among N WHAT COUNT`: N pushes, and then so many times what is said.
+fn script(words: &[String], out: &mut impl Write) {
+    let number = |at: usize| words[at].parse().expect("a number");
+    let numbers = &mut Numbers(1);
+    match words[0].as_str() {
+        "queries" => {
+            let many = number(1) > 1;
+            for n in 0..number(1) {
+                writeln!(out, "watch w{n} {} 0 1048568", KINDS[n as usize % 6]).unwrap();
+            }
+            pushes(if many { 2_000 } else { 20_000 }, numbers, out);
+            writes(2_000, if many { 2_000 } else { 0 }, numbers, out);
         }
+        "ranges" => {
+            pushes(1_000_000, numbers, out);
+            reductions(&words[1], 1_000_000, 300, numbers, out);
+        }
+        "scan" => {
+            pushes(1_000_000, numbers, out);
+            writeln!(out, "inc sum 0 1000000").unwrap();
+        }
+        "among" => {
+            let (among, count) = (number(1), number(3));
+            pushes(among, numbers, out);
+            if words[2] == "watched" {
+                writeln!(out, "watch all sum 0 1048568").unwrap();
+            }
+            match words[2].as_str() {
+                "reduced" => reductions("sum", among, count, numbers, out),
+                "written" | "watched" => writes(among, count, numbers, out),
+                other => panic!("{}: reduced, written or watched", other),
+            }
+        }
+        other => panic!("{}: queries, ranges, scan or among", other),
     }
 }
 
 fn main() {
     let mut out = BufWriter::with_capacity(1 << 16, std::io::stdout().lock());
-    let mut words = std::env::args().skip(1);
-    if words.next().as_deref() == Some("script") {
-        script(words.next().as_deref() == Some("many"), &mut out);
+    let words: Vec<String> = std::env::args().skip(1).collect();
+    if words[0] == "script" {
+        script(&words[1..], &mut out);
     } else {
-        let mut vector = Vector::default();
+        let mut vector = Vector { folds: words[0] == "folds", ..Vector::default() };
+        for kind in &words[1..] {
+            vector.keep(kind_named(kind).expect("a kind"));
+        }
         for line in BufReader::with_capacity(1 << 16, std::io::stdin().lock()).lines() {
             let line = line.unwrap();
             vector.answer(&line, &mut out).expect("a line that is known and not refused");
