@@ -22,6 +22,7 @@ pub mod RunTotals
 pub mod Scan
 pub mod ShortLaws
 pub mod Six
+pub mod SixLaws
 pub mod SumLaws
 pub mod Sums
 pub mod TableLaws

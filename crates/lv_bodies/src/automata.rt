@@ -52,6 +52,7 @@ impl Automaton {
     }
 
     /// The program's automaton: from state `q`, an element `x` leads to `(2 * q + x mod 4) mod 8`.
+    #[inline(always)]
     pub fn program() -> Automaton
         ensures { table_of result ≡ program_table }
     {

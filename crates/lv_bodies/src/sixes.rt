@@ -1,7 +1,8 @@
-ghost use Rattle.std.specs.Prelude.{◌≡◌, ℤ, List};
+ghost use Rattle.std.specs.Prelude.{◌≡◌, ℕ, ℤ, List};
+ghost use Rattle.lv_bodies.specs.Automata.{table_of};
 ghost use Rattle.lv_bodies.specs.Body.{CanFold, fold_of};
 ghost use Rattle.lv_bodies.specs.Plain.{plain_value, plain_value_with};
-ghost use Rattle.lv_bodies.specs.Six.{SixMeaning, six_meaning, table_of_six, face_of};
+ghost use Rattle.lv_bodies.specs.Six.{six_operations, six_operations_by, face_of};
 
 use crate::affine::Affine;
 use crate::automata::Automaton;
@@ -17,72 +18,109 @@ use crate::sums::Sum;
 /// All six bodies side by side, in the order of the kinds.
 pub type SixPairs = Pair<Sum, Pair<Least, Pair<Greatest, Pair<Best, Pair<Affine, Automaton>>>>>;
 
-/// The nested pair of all six, as one body. It has a type of its own, so that what is generic over it stays small.
+/// All six as one body, with the program's automaton. It has a type of its own, so that what is generic over it stays small.
 #[derive(Clone, Copy, Debug, PartialEq, Eq, Hash)]
-pub struct Six {
-    pub pairs: SixPairs,
+pub struct Six;
+
+/// All six as one body, with an automaton by any table.
+#[derive(Clone, Copy, Debug, PartialEq, Eq, Hash)]
+pub struct SixByTable {
+    pub automaton: Automaton,
 }
 
 impl Body for Six {
-    ghost use Rattle.std.proofs.lemmas.Bool.Decides.{Decides-eqb, Decides-int_eq};
-    ghost use Rattle.lv_bodies.specs.EqualLaws.{exact_numbers, exact_option};
-    ghost use Rattle.lv_bodies.specs.AffineLaws.{exact_maps};
-    ghost use Rattle.lv_bodies.specs.PairLaws.{exact_pair};
-    ghost use Rattle.lv_bodies.specs.TotalsLaws.{exact_totals};
-    ghost use Rattle.lv_bodies.specs.Six.{SixMeaning, six_operations};
+    ghost use Rattle.lv_bodies.specs.Six.{six_operations, six_within};
+    ghost use Rattle.lv_bodies.specs.SixLaws.{exact_six, six_laws};
 
     type S = <SixPairs as Body>::S;
 
-    ghost Meaning = { SixMeaning };
+    ghost Meaning = { Unit {0} };
 
-    ghost meaning = { λ b. ⟦<SixPairs as Body>⟧.meaning b.pairs };
+    ghost meaning = { λ _. tt };
 
-    ghost operations = { six_operations };
+    ghost operations = { λ _. six_operations };
 
-    ghost is_within = { ⟦<SixPairs as Body>⟧.is_within };
+    ghost is_within = { λ _. six_within };
 
-    ghost laws = { λ b. ⟦<SixPairs as Body>⟧.laws b.pairs };
+    ghost laws = { λ _. six_laws };
 
     #[inline(always)]
     fn identity(&self) -> <SixPairs as Body>::S {
-        self.pairs.identity()
+        program_pairs().identity()
     }
 
     #[inline(always)]
     fn lift(&self, x: i64) -> <SixPairs as Body>::S {
-        self.pairs.lift(x)
+        program_pairs().lift(x)
     }
 
     #[inline(always)]
     fn combine(&self, a: <SixPairs as Body>::S, b: <SixPairs as Body>::S) -> <SixPairs as Body>::S {
-        self.pairs.combine(a, b)
+        program_pairs().combine(a, b)
     }
 
-    fn same(&self, other: &Six) -> bool {
-        self.pairs.same(&other.pairs)
+    fn same(&self, _other: &Six) -> bool {
+        true
     }
 
-    ghost equal = { exact_pair _ _ Decides-eqb (exact_pair _ _ (exact_option _ Decides-int_eq) (exact_pair _ _ (exact_option _ Decides-int_eq)
-        (exact_pair _ _ (exact_option _ exact_totals) (exact_pair _ _ exact_maps exact_numbers)))) };
+    ghost equal = { exact_six };
 }
 
-impl Six {
-    /// The six with the program's automaton.
-    pub fn program() -> Six
-        ensures { ◌≡◌ {A = SixMeaning} (⟦<Six as Body>⟧.meaning result) six_meaning }
-    {
-        Six {
-            pairs: program_pairs(),
-        }
+impl Body for SixByTable {
+    ghost use Rattle.lv_bodies.specs.Automata.{table_of};
+    ghost use Rattle.lv_bodies.specs.Six.{six_operations_by, six_within};
+    ghost use Rattle.lv_bodies.specs.SixLaws.{exact_six, six_laws_by};
+
+    type S = <SixPairs as Body>::S;
+
+    ghost Meaning = { List (List ℕ) };
+
+    ghost meaning = { λ b. table_of b.automaton };
+
+    ghost operations = { six_operations_by };
+
+    ghost is_within = { λ _. six_within };
+
+    ghost laws = { λ b. six_laws_by b.automaton.table b.automaton.valid };
+
+    #[inline(always)]
+    fn identity(&self) -> <SixPairs as Body>::S {
+        pairs_with(self.automaton).identity()
     }
+
+    #[inline(always)]
+    fn lift(&self, x: i64) -> <SixPairs as Body>::S {
+        pairs_with(self.automaton).lift(x)
+    }
+
+    #[inline(always)]
+    fn combine(&self, a: <SixPairs as Body>::S, b: <SixPairs as Body>::S) -> <SixPairs as Body>::S {
+        pairs_with(self.automaton).combine(a, b)
+    }
+
+    fn same(&self, other: &SixByTable) -> bool {
+        self.automaton.same(&other.automaton)
+    }
+
+    ghost equal = { exact_six };
 }
 
+/// The six side by side, with the program's automaton.
+#[inline(always)]
 fn program_pairs() -> SixPairs
-    ensures { ◌≡◌ {A = SixMeaning} (⟦<SixPairs as Body>⟧.meaning result) six_meaning }
+    ensures { ⟦<SixPairs as Body>⟧.operations (⟦<SixPairs as Body>⟧.meaning result) ≡ six_operations }
+{
+    pairs_with(Automaton::program())
+}
+
+/// The six side by side, with an automaton.
+#[inline(always)]
+fn pairs_with(automaton: Automaton) -> SixPairs
+    ensures { ⟦<SixPairs as Body>⟧.operations (⟦<SixPairs as Body>⟧.meaning result) ≡ six_operations_by (table_of automaton) }
 {
     let last = Pair {
         first: Affine,
-        second: Automaton::program(),
+        second: automaton,
     };
     let later = Pair {
         first: Greatest,
@@ -101,35 +139,27 @@ fn program_pairs() -> SixPairs
 }
 
 /// Shows the summary of one kind.
-pub fn face(six: &Six, kind: Kind, s: <Six as Body>::S) -> Shown
+pub fn face(kind: Kind, s: <Six as Body>::S) -> Shown
     ensures shown { result ≡ face_of kind s }
     // Of a fold, the plain value is shown.
-    ensures plain { let m = ⟦<Six as Body>⟧.meaning six.now in (xs : List ℤ) → CanFold xs
-        → s ≡ fold_of (⟦<Six as Body>⟧.operations m) xs → result ≡ plain_value_with (table_of_six m) kind xs }
-    // So it is for the program's six.
-    ensures program { (xs : List ℤ) → CanFold xs
-        → s ≡ fold_of (⟦<Six as Body>⟧.operations six_meaning) xs → result ≡ plain_value kind xs }
+    ensures plain { (xs : List ℤ) → CanFold xs → s ≡ fold_of six_operations xs → result ≡ plain_value kind xs }
+    // So it is by any table.
+    ensures by_table { (table : List (List ℕ)) (xs : List ℤ) → CanFold xs
+        → s ≡ fold_of (six_operations_by table) xs → result ≡ plain_value_with table kind xs }
 {
-    part_shown(six, kind, s)
+    part_shown(kind, s)
 }
 
-fn part_shown(six: &Six, kind: Kind, s: <Six as Body>::S) -> Shown
+fn part_shown(kind: Kind, s: <Six as Body>::S) -> Shown
     ensures { result ≡ face_of kind s }
 {
     let (sum, (least, (greatest, (best, (affine, automaton))))) = s;
     match kind {
-        Kind::Sum => six.pairs.first.shown(sum),
-        Kind::Least => six.pairs.second.first.shown(least),
-        Kind::Greatest => six.pairs.second.second.first.shown(greatest),
-        Kind::Best => six.pairs.second.second.second.first.shown(best),
-        Kind::Affine => six.pairs.second.second.second.second.first.shown(affine),
-        Kind::Automaton => six
-            .pairs
-            .second
-            .second
-            .second
-            .second
-            .second
-            .shown(automaton),
+        Kind::Sum => Sum.shown(sum),
+        Kind::Least => Least.shown(least),
+        Kind::Greatest => Greatest.shown(greatest),
+        Kind::Best => Best.shown(best),
+        Kind::Affine => Affine.shown(affine),
+        Kind::Automaton => Automaton::program().shown(automaton),
     }
 }
