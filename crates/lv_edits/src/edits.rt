@@ -47,24 +47,12 @@ impl Edits {
         }
     }
 
-    /// Puts `x` at the end. Refused with `Worn`, `Full`, then `NoMemory`; the room in the journal, then the element's bucket,
-    /// is made before anything changes.
+    /// Puts `x` at the end. Refused with `Worn`, `Full`, then `NoMemory`.
     pub fn push(&mut self, x: i64) -> Result<Receipt, Refusal>
         ensures answer { Answers self.old (Edit.Push x) result self.new }
         ensures limits { InLimits self.new }
     {
-        let edit = Edit::Push(x);
-        if let Some(refusal) = self.verdict(&edit) {
-            return Err(refusal);
-        }
-        let index = self.store.size();
-        make_room(&mut self.store, &mut self.journal, index + 1)?;
-        self.store.announce(Some((index, x)), None, index + 1);
-        append(&mut self.journal, edit);
-        Ok(Receipt::Pushed {
-            edit: self.store.edit(),
-            index,
-        })
+        self.apply(Edit::Push(x))
     }
 
     /// Drops the last element. Refused with `Worn`, `Empty`, then `NoMemory`. No bucket is closed.
@@ -72,18 +60,7 @@ impl Edits {
         ensures answer { Answers self.old Edit.Pop result self.new }
         ensures limits { InLimits self.new }
     {
-        if let Some(refusal) = self.verdict(&Edit::Pop) {
-            return Err(refusal);
-        }
-        let last = self.store.size() - 1;
-        let value = self.store.read(last);
-        make_room(&mut self.store, &mut self.journal, 0)?;
-        self.store.announce(None, None, last);
-        append(&mut self.journal, Edit::Pop);
-        Ok(Receipt::Popped {
-            edit: self.store.edit(),
-            value,
-        })
+        self.apply(Edit::Pop)
     }
 
     /// Overwrites the element at `index`. Refused with `Worn`, `OutOfRange`, then `NoMemory`.
@@ -91,19 +68,7 @@ impl Edits {
         ensures answer { Answers self.old (Edit.Write index value) result self.new }
         ensures limits { InLimits self.new }
     {
-        let edit = Edit::Write { index, value };
-        if let Some(refusal) = self.verdict(&edit) {
-            return Err(refusal);
-        }
-        let before = self.store.read(index);
-        make_room(&mut self.store, &mut self.journal, 0)?;
-        let size = self.store.size();
-        self.store.announce(Some((index, value)), None, size);
-        append(&mut self.journal, edit);
-        Ok(Receipt::Written {
-            edit: self.store.edit(),
-            before,
-        })
+        self.apply(Edit::Write { index, value })
     }
 
     /// Opens the buckets that `cells` elements need. Refused with `Worn`, `TooLarge`, then `NoMemory`. Within the
@@ -112,18 +77,7 @@ impl Edits {
         ensures answer { Answers self.old (Edit.Reserve cells) result self.new }
         ensures limits { InLimits self.new }
     {
-        let edit = Edit::Reserve(cells);
-        if let Some(refusal) = self.verdict(&edit) {
-            return Err(refusal);
-        }
-        make_room(&mut self.store, &mut self.journal, cells)?;
-        let size = self.store.size();
-        self.store.announce(None, None, size);
-        append(&mut self.journal, edit);
-        Ok(Receipt::Reserved {
-            edit: self.store.edit(),
-            capacity: capacity(self.store.buckets()),
-        })
+        self.apply(Edit::Reserve(cells))
     }
 
     /// Exchanges the elements at two indices. Refused with `Worn`, `OutOfRange`, then `NoMemory`. Where they are one it
@@ -132,22 +86,7 @@ impl Edits {
         ensures answer { Answers self.old (Edit.Swap first second) result self.new }
         ensures limits { InLimits self.new }
     {
-        let edit = Edit::Swap { first, second };
-        if let Some(refusal) = self.verdict(&edit) {
-            return Err(refusal);
-        }
-        let before = self.store.read(first);
-        let after = self.store.read(second);
-        make_room(&mut self.store, &mut self.journal, 0)?;
-        let other = write_at_second(first, second, before);
-        let size = self.store.size();
-        self.store.announce(Some((first, after)), other, size);
-        append(&mut self.journal, edit);
-        Ok(Receipt::Swapped {
-            edit: self.store.edit(),
-            first: after,
-            second: before,
-        })
+        self.apply(Edit::Swap { first, second })
     }
 
     /// Keeps the first `count` elements and drops the others. Refused with `Worn`, `OutOfRange`, then `NoMemory`. No bucket is
@@ -156,32 +95,36 @@ impl Edits {
         ensures answer { Answers self.old (Edit.Truncate count) result self.new }
         ensures limits { InLimits self.new }
     {
-        let edit = Edit::Truncate(count);
-        if let Some(refusal) = self.verdict(&edit) {
-            return Err(refusal);
-        }
-        let size = self.store.size();
-        make_room(&mut self.store, &mut self.journal, 0)?;
-        self.store.announce(None, None, count);
-        append(&mut self.journal, edit);
-        Ok(Receipt::Truncated {
-            edit: self.store.edit(),
-            dropped: size - count,
-        })
+        self.apply(Edit::Truncate(count))
     }
 
-    /// Makes any edit: the call that its kind names.
+    /// Makes any edit, where nothing refuses it: it is judged once.
     pub fn apply(&mut self, edit: Edit) -> Result<Receipt, Refusal>
         ensures answer { Answers self.old edit result self.new }
         ensures limits { InLimits self.new }
     {
+        // What is refused leaves a list within its limits.
+        let _ = &self.store;
+        match self.verdict(&edit) {
+            Some(refusal) => Err(refusal),
+            None => self.make(edit),
+        }
+    }
+
+    /// Makes an edit that the verdict allows, so that it is refused with `NoMemory` alone. The room in the journal, then the
+    /// bucket, is made before anything changes.
+    pub fn make(&mut self, edit: Edit) -> Result<Receipt, Refusal>
+        requires { verdict_of self.old.limits self.old.journal edit ≡ None }
+        ensures answer { Answers self.old edit result self.new }
+        ensures limits { InLimits self.new }
+    {
         match edit {
-            Edit::Push(x) => self.push(x),
-            Edit::Pop => self.pop(),
-            Edit::Write { index, value } => self.write(index, value),
-            Edit::Reserve(cells) => self.reserve(cells),
-            Edit::Swap { first, second } => self.swap(first, second),
-            Edit::Truncate(count) => self.truncate(count),
+            Edit::Push(x) => self.make_push(x),
+            Edit::Pop => self.make_pop(),
+            Edit::Write { index, value } => self.make_write(index, value),
+            Edit::Reserve(cells) => self.make_reserve(cells),
+            Edit::Swap { first, second } => self.make_swap(first, second),
+            Edit::Truncate(count) => self.make_truncate(count),
         }
     }
 
@@ -285,6 +228,110 @@ impl Edits {
         ensures { result ≡ self.now.limits }
     {
         self.store.limits()
+    }
+}
+
+impl Edits {
+    // Makes a push that the verdict allows.
+    fn make_push(&mut self, x: i64) -> Result<Receipt, Refusal>
+        requires { verdict_of self.old.limits self.old.journal (Edit.Push x) ≡ None }
+        ensures answer { Answers self.old (Edit.Push x) result self.new }
+        ensures limits { InLimits self.new }
+    {
+        let index = self.store.size();
+        make_room(&mut self.store, &mut self.journal, index + 1)?;
+        self.store.announce(Some((index, x)), None, index + 1);
+        append(&mut self.journal, Edit::Push(x));
+        Ok(Receipt::Pushed {
+            edit: self.store.edit(),
+            index,
+        })
+    }
+
+    // Makes a pop that the verdict allows.
+    fn make_pop(&mut self) -> Result<Receipt, Refusal>
+        requires { verdict_of self.old.limits self.old.journal Edit.Pop ≡ None }
+        ensures answer { Answers self.old Edit.Pop result self.new }
+        ensures limits { InLimits self.new }
+    {
+        let last = self.store.size() - 1;
+        let value = self.store.read(last);
+        make_room(&mut self.store, &mut self.journal, 0)?;
+        self.store.announce(None, None, last);
+        append(&mut self.journal, Edit::Pop);
+        Ok(Receipt::Popped {
+            edit: self.store.edit(),
+            value,
+        })
+    }
+
+    // Makes a write that the verdict allows.
+    fn make_write(&mut self, index: u32, value: i64) -> Result<Receipt, Refusal>
+        requires { verdict_of self.old.limits self.old.journal (Edit.Write index value) ≡ None }
+        ensures answer { Answers self.old (Edit.Write index value) result self.new }
+        ensures limits { InLimits self.new }
+    {
+        let before = self.store.read(index);
+        make_room(&mut self.store, &mut self.journal, 0)?;
+        let size = self.store.size();
+        self.store.announce(Some((index, value)), None, size);
+        append(&mut self.journal, Edit::Write { index, value });
+        Ok(Receipt::Written {
+            edit: self.store.edit(),
+            before,
+        })
+    }
+
+    // Makes a reserve that the verdict allows.
+    fn make_reserve(&mut self, cells: u32) -> Result<Receipt, Refusal>
+        requires { verdict_of self.old.limits self.old.journal (Edit.Reserve cells) ≡ None }
+        ensures answer { Answers self.old (Edit.Reserve cells) result self.new }
+        ensures limits { InLimits self.new }
+    {
+        make_room(&mut self.store, &mut self.journal, cells)?;
+        let size = self.store.size();
+        self.store.announce(None, None, size);
+        append(&mut self.journal, Edit::Reserve(cells));
+        Ok(Receipt::Reserved {
+            edit: self.store.edit(),
+            capacity: capacity(self.store.buckets()),
+        })
+    }
+
+    // Makes a swap that the verdict allows.
+    fn make_swap(&mut self, first: u32, second: u32) -> Result<Receipt, Refusal>
+        requires { verdict_of self.old.limits self.old.journal (Edit.Swap first second) ≡ None }
+        ensures answer { Answers self.old (Edit.Swap first second) result self.new }
+        ensures limits { InLimits self.new }
+    {
+        let before = self.store.read(first);
+        let after = self.store.read(second);
+        make_room(&mut self.store, &mut self.journal, 0)?;
+        let other = write_at_second(first, second, before);
+        let size = self.store.size();
+        self.store.announce(Some((first, after)), other, size);
+        append(&mut self.journal, Edit::Swap { first, second });
+        Ok(Receipt::Swapped {
+            edit: self.store.edit(),
+            first: after,
+            second: before,
+        })
+    }
+
+    // Makes a truncate that the verdict allows.
+    fn make_truncate(&mut self, count: u32) -> Result<Receipt, Refusal>
+        requires { verdict_of self.old.limits self.old.journal (Edit.Truncate count) ≡ None }
+        ensures answer { Answers self.old (Edit.Truncate count) result self.new }
+        ensures limits { InLimits self.new }
+    {
+        let size = self.store.size();
+        make_room(&mut self.store, &mut self.journal, 0)?;
+        self.store.announce(None, None, count);
+        append(&mut self.journal, Edit::Truncate(count));
+        Ok(Receipt::Truncated {
+            edit: self.store.edit(),
+            dropped: size - count,
+        })
     }
 }
 

@@ -1,25 +1,22 @@
-use Rattle.std.proofs.Common.{◌≡◌, ◌+◌, ◌-◌, ◌<◌, ◌≤◌, None, pos, get_or, length, sym, ap, ◌∙◌, arith}
+use Rattle.std.proofs.Common.{◌≡◌, ◌+◌, ◌-◌, ◌<◌, ◌≤◌, None, pos, get_or, length, ap, ◌∙◌, arith}
 use Rattle.std.specs.Int.{w64}
 use Rattle.std.proofs.lemmas.Int.{to_z-of_z}
 use Rattle.lv_edits.specs.declared.edit.Edit.TheVariants.{Pop}
 use Rattle.lv_edits.specs.History.{list_of}
 use Rattle.lv_edits.specs.Verdict.{verdict_of}
 use Rattle.lv_edits.proofs.HoldsLaws.{InLimits-alike, InLimits-held, fits_held, pop_fits, pop_held, read_held, size_held}
-use Rattle.lv_edits.proofs.edits.Edits.pop.Goals as goal
-use Rattle.lv_edits.proofs.edits.Edits.pop.Goals.{After-size-last}
+use Rattle.lv_edits.proofs.edits.Edits.make_pop.Goals as goal
+use Rattle.lv_edits.proofs.edits.Edits.make_pop.Goals.{After-size-last}
 
 -- nothing refuses the pop
 free : (c : After-size-last) → verdict_of c.self.inside.store.limits c.self.inside.journal.items Pop ≡ None
-free c = rw (← c.self.view_is) at (sym c.verdict.ensures ∙ c.in_default.is)
+free c = rw (← c.self.view_is) at c.requires
 
 -- there is a last element
 last : (c : After-size-last) → (1 ≤ c.size-last.result) × (c.size-last.result - 1 < c.self.inside.store.descriptor.size)
 last c =
     let some = pop_fits _ _ c.self.invariant (free c) in
     (omega (arith, c.size-last.ensures.value), omega (arith, c.size-last.ensures.value))
-
-pub returns-in-Some-clause-limits : goal.returns-in-Some-clause-limits
-returns-in-Some-clause-limits c = rw (← c.self.view_is) (InLimits-held _ _ c.self.invariant)
 
 pub overflow_sub-last : goal.overflow_sub-last
 overflow_sub-last c = (last c).0

@@ -1,20 +1,17 @@
-use Rattle.std.proofs.Common.{◌≡◌, ◌+◌, None, sym, ap, ◌∙◌}
+use Rattle.std.proofs.Common.{◌≡◌, ◌+◌, None, ap, ◌∙◌}
 use Rattle.lv_edits.specs.declared.edit.Edit.TheVariants.{Reserve}
 use Rattle.lv_edits.specs.Capacity.{capacity_after}
 use Rattle.lv_edits.specs.Verdict.{verdict_of}
 use Rattle.lv_edits.proofs.HoldsLaws.{InLimits-alike, InLimits-held, reserve_fits, reserve_held}
-use Rattle.lv_edits.proofs.edits.Edits.reserve.Goals as goal
-use Rattle.lv_edits.proofs.edits.Edits.reserve.Goals.{In_default}
+use Rattle.lv_edits.proofs.edits.Edits.make_reserve.Goals as goal
+use Rattle.lv_edits.proofs.edits.Edits.make_reserve.Goals.{After-self}
 
 -- nothing refuses the reserve
-free : (c : In_default) → verdict_of c.self.inside.store.limits c.self.inside.journal.items (Reserve c.args.cells) ≡ None
-free c = rw (← c.self.view_is) at (sym c.verdict.ensures ∙ c.in_default.is)
-
-pub returns-in-Some-clause-limits : goal.returns-in-Some-clause-limits
-returns-in-Some-clause-limits c = rw (← c.self.view_is) (InLimits-held _ _ c.self.invariant)
+free : (c : After-self) → verdict_of c.self.inside.store.limits c.self.inside.journal.items (Reserve c.args.cells) ≡ None
+free c = rw (← c.self.view_is) at c.requires
 
 pub make_room-requires-clause-few : goal.make_room-requires-clause-few
-make_room-requires-clause-few c = reserve_fits _ _ c.args.cells c.self.invariant (free (goal.at.make_room-requires-clause-few c).In_default)
+make_room-requires-clause-few c = reserve_fits _ _ c.args.cells c.self.invariant (free (goal.at.make_room-requires-clause-few c).After-self)
 
 pub returns-in_err-make_room-clause-limits : goal.returns-in_err-make_room-clause-limits
 returns-in_err-make_room-clause-limits c =
@@ -25,7 +22,7 @@ pub invariant_of-self-2 : goal.invariant_of-self-2
 invariant_of-self-2 c =
     let e = c.in_ok-make_room.ensures in
     rw (c.announce.ensures.state, c.append.ensures, e.journal)
-    (reserve_held _ _ _ c.args.cells _ c.size-size.ensures.value c.self.invariant (free (goal.at.invariant_of-self-2 c).In_default) e.alike e.settled e.buckets (rw c.announce.ensures.state at c.announce.ensures.sound))
+    (reserve_held _ _ _ c.args.cells _ c.size-size.ensures.value c.self.invariant (free (goal.at.invariant_of-self-2 c).After-self) e.alike e.settled e.buckets (rw c.announce.ensures.state at c.announce.ensures.sound))
 
 pub returns-clause-answer : goal.returns-clause-answer
 returns-clause-answer c =
@@ -35,7 +32,7 @@ returns-clause-answer c =
     let number = c.edit.ensures.value ∙ ap (λ s. s.descriptor.edit) c.announce.ensures.state ∙ ap (λ n. n + 1) (e.alike.edit ∙ held.edit) in
     let cells = c.capacity.ensures.value ∙ rw c.buckets.ensures.value ((invariant_of-self-2 c).replay.opened) ∙ ap capacity_after edits in
     rw (← c.self.view_is) record {
-      verdict = free (goal.at.returns-clause-answer c).In_default;
+      verdict = free (goal.at.returns-clause-answer c).After-self;
       receipt_is = rw (number, cells);
       journal = rw (c.announce.ensures.state, edits, e.alike.limits);
     }

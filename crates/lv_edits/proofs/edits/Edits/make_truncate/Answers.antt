@@ -1,20 +1,17 @@
-use Rattle.std.proofs.Common.{◌≡◌, ◌+◌, ◌≤◌, None, sym, ap, ◌∙◌, arith}
+use Rattle.std.proofs.Common.{◌≡◌, ◌+◌, ◌≤◌, None, ap, ◌∙◌, arith}
 use Rattle.lv_edits.specs.declared.edit.Edit.TheVariants.{Truncate}
 use Rattle.lv_edits.specs.Verdict.{verdict_of}
 use Rattle.lv_edits.proofs.HoldsLaws.{InLimits-alike, InLimits-held, size_held, truncate_fits, truncate_held}
-use Rattle.lv_edits.proofs.edits.Edits.truncate.Goals as goal
-use Rattle.lv_edits.proofs.edits.Edits.truncate.Goals.{In_default}
+use Rattle.lv_edits.proofs.edits.Edits.make_truncate.Goals as goal
+use Rattle.lv_edits.proofs.edits.Edits.make_truncate.Goals.{After-self}
 
 -- nothing refuses the truncate
-free : (c : In_default) → verdict_of c.self.inside.store.limits c.self.inside.journal.items (Truncate c.args.count) ≡ None
-free c = rw (← c.self.view_is) at (sym c.verdict.ensures ∙ c.in_default.is)
+free : (c : After-self) → verdict_of c.self.inside.store.limits c.self.inside.journal.items (Truncate c.args.count) ≡ None
+free c = rw (← c.self.view_is) at c.requires
 
 -- there are as many elements as it keeps
-inside : (c : In_default) → c.args.count ≤ c.self.inside.store.descriptor.size
+inside : (c : After-self) → c.args.count ≤ c.self.inside.store.descriptor.size
 inside c = truncate_fits _ _ c.args.count c.self.invariant (free c)
-
-pub returns-in-Some-clause-limits : goal.returns-in-Some-clause-limits
-returns-in-Some-clause-limits c = rw (← c.self.view_is) (InLimits-held _ _ c.self.invariant)
 
 pub returns-in_err-make_room-clause-limits : goal.returns-in_err-make_room-clause-limits
 returns-in_err-make_room-clause-limits c =
@@ -24,17 +21,17 @@ returns-in_err-make_room-clause-limits c =
 pub announce-requires-clause-size : goal.announce-requires-clause-size
 announce-requires-clause-size c =
     let e = c.in_ok-make_room.ensures in
-    omega (arith, inside (goal.at.announce-requires-clause-size c).In_default, e.alike.size, e.sound.size)
+    omega (arith, inside (goal.at.announce-requires-clause-size c).After-self, e.alike.size, e.sound.size)
 
 pub overflow_sub-result : goal.overflow_sub-result
 overflow_sub-result c =
-    omega (arith, inside (goal.at.overflow_sub-result c).In_default, c.size-size.ensures.value)
+    omega (arith, inside (goal.at.overflow_sub-result c).After-self, c.size-size.ensures.value)
 
 pub invariant_of-self-2 : goal.invariant_of-self-2
 invariant_of-self-2 c =
     let e = c.in_ok-make_room.ensures in
     rw (c.announce.ensures.state, c.append.ensures, e.journal)
-    (truncate_held _ _ _ c.args.count c.self.invariant (free (goal.at.invariant_of-self-2 c).In_default) e.alike e.settled e.buckets (rw c.announce.ensures.state at c.announce.ensures.sound))
+    (truncate_held _ _ _ c.args.count c.self.invariant (free (goal.at.invariant_of-self-2 c).After-self) e.alike e.settled e.buckets (rw c.announce.ensures.state at c.announce.ensures.sound))
 
 pub returns-clause-answer : goal.returns-clause-answer
 returns-clause-answer c =
@@ -44,7 +41,7 @@ returns-clause-answer c =
     let number = c.edit.ensures.value ∙ ap (λ s. s.descriptor.edit) c.announce.ensures.state ∙ ap (λ n. n + 1) (e.alike.edit ∙ held.edit) in
     let size = c.size-size.ensures.value ∙ size_held _ _ held in
     rw (← c.self.view_is) record {
-      verdict = free (goal.at.returns-clause-answer c).In_default;
+      verdict = free (goal.at.returns-clause-answer c).After-self;
       receipt_is = rw (number, size);
       journal = rw (c.announce.ensures.state, edits, e.alike.limits);
     }

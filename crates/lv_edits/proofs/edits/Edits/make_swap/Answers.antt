@@ -1,28 +1,25 @@
-use Rattle.std.proofs.Common.{◌≡◌, ◌+◌, ◌<◌, None, pos, sym, ap, ◌∙◌, arith}
+use Rattle.std.proofs.Common.{◌≡◌, ◌+◌, ◌<◌, None, pos, ap, ◌∙◌, arith}
 use Rattle.std.specs.Int.{w64}
 use Rattle.std.proofs.lemmas.Int.{to_z-of_z}
 use Rattle.lv_edits.specs.declared.edit.Edit.TheVariants.{Swap}
 use Rattle.lv_edits.specs.Verdict.{verdict_of}
 use Rattle.lv_edits.proofs.HoldsLaws.{InLimits-alike, InLimits-held, fits_held, read_held, second_apart, swap_fits, swap_held}
-use Rattle.lv_edits.proofs.edits.Edits.swap.Goals as goal
-use Rattle.lv_edits.proofs.edits.Edits.swap.Goals.{In_default}
+use Rattle.lv_edits.proofs.edits.Edits.make_swap.Goals as goal
+use Rattle.lv_edits.proofs.edits.Edits.make_swap.Goals.{After-self}
 
 -- nothing refuses the swap
-free : (c : In_default) → verdict_of c.self.inside.store.limits c.self.inside.journal.items (Swap c.args.first c.args.second) ≡ None
-free c = rw (← c.self.view_is) at (sym c.verdict.ensures ∙ c.in_default.is)
+free : (c : After-self) → verdict_of c.self.inside.store.limits c.self.inside.journal.items (Swap c.args.first c.args.second) ≡ None
+free c = rw (← c.self.view_is) at c.requires
 
 -- its indices are those of elements
-inside : (c : In_default) → (c.args.first < c.self.inside.store.descriptor.size) × (c.args.second < c.self.inside.store.descriptor.size)
+inside : (c : After-self) → (c.args.first < c.self.inside.store.descriptor.size) × (c.args.second < c.self.inside.store.descriptor.size)
 inside c = swap_fits _ _ c.args.first c.args.second c.self.invariant (free c)
 
-pub returns-in-Some-clause-limits : goal.returns-in-Some-clause-limits
-returns-in-Some-clause-limits c = rw (← c.self.view_is) (InLimits-held _ _ c.self.invariant)
-
 pub read-before-requires : goal.read-before-requires
-read-before-requires c = omega (arith, (inside (goal.at.read-before-requires c).In_default).0, c.self.invariant.sound.size)
+read-before-requires c = omega (arith, (inside (goal.at.read-before-requires c).After-self).0, c.self.invariant.sound.size)
 
 pub read-after-requires : goal.read-after-requires
-read-after-requires c = omega (arith, (inside (goal.at.read-after-requires c).In_default).1, c.self.invariant.sound.size)
+read-after-requires c = omega (arith, (inside (goal.at.read-after-requires c).After-self).1, c.self.invariant.sound.size)
 
 pub returns-in_err-make_room-clause-limits : goal.returns-in_err-make_room-clause-limits
 returns-in_err-make_room-clause-limits c =
@@ -32,18 +29,18 @@ returns-in_err-make_room-clause-limits c =
 pub announce-requires-clause-index : goal.announce-requires-clause-index
 announce-requires-clause-index c =
     let e = c.in_ok-make_room.ensures in
-    omega (arith, (inside (goal.at.announce-requires-clause-index c).In_default).0, e.alike.size, e.sound.size)
+    omega (arith, (inside (goal.at.announce-requires-clause-index c).After-self).0, e.alike.size, e.sound.size)
 
 pub announce-requires-clause-second : goal.announce-requires-clause-second
 announce-requires-clause-second c =
     let e = c.in_ok-make_room.ensures in
     rw c.write_at_second-other.ensures
-    (second_apart c.args.first c.args.second _ _ c.read-after.result (omega (arith, (inside (goal.at.announce-requires-clause-second c).In_default).1, e.alike.size, e.sound.size)))
+    (second_apart c.args.first c.args.second _ _ c.read-after.result (omega (arith, (inside (goal.at.announce-requires-clause-second c).After-self).1, e.alike.size, e.sound.size)))
 
 pub invariant_of-self-2 : goal.invariant_of-self-2
 invariant_of-self-2 c =
     let e = c.in_ok-make_room.ensures in
-    let at = (goal.at.invariant_of-self-2 c).In_default in
+    let at = (goal.at.invariant_of-self-2 c).After-self in
     let held = c.self.invariant in
     let within = inside at in
     let first = to_z-of_z w64 c.read-before.result (rw c.read-before.ensures (fits_held _ _ _ held within.0)) in
@@ -54,7 +51,7 @@ invariant_of-self-2 c =
 pub returns-clause-answer : goal.returns-clause-answer
 returns-clause-answer c =
     let e = c.in_ok-make_room.ensures in
-    let at = (goal.at.returns-clause-answer c).In_default in
+    let at = (goal.at.returns-clause-answer c).After-self in
     let held = c.self.invariant in
     let within = inside at in
     let first = to_z-of_z w64 c.read-before.result (rw c.read-before.ensures (fits_held _ _ _ held within.0)) in

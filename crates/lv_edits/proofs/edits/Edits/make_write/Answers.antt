@@ -1,25 +1,22 @@
-use Rattle.std.proofs.Common.{◌≡◌, ◌+◌, ◌<◌, None, pos, sym, ap, ◌∙◌, arith}
+use Rattle.std.proofs.Common.{◌≡◌, ◌+◌, ◌<◌, None, pos, ap, ◌∙◌, arith}
 use Rattle.std.specs.Int.{w64}
 use Rattle.std.proofs.lemmas.Int.{to_z-of_z}
 use Rattle.lv_edits.specs.declared.edit.Edit.TheVariants.{Write}
 use Rattle.lv_edits.specs.Verdict.{verdict_of}
 use Rattle.lv_edits.proofs.HoldsLaws.{InLimits-alike, InLimits-held, fits_held, read_held, write_fits, write_held}
-use Rattle.lv_edits.proofs.edits.Edits.write.Goals as goal
-use Rattle.lv_edits.proofs.edits.Edits.write.Goals.{In_default}
+use Rattle.lv_edits.proofs.edits.Edits.make_write.Goals as goal
+use Rattle.lv_edits.proofs.edits.Edits.make_write.Goals.{After-self}
 
 -- nothing refuses the write
-free : (c : In_default) → verdict_of c.self.inside.store.limits c.self.inside.journal.items (Write c.args.index c.args.value) ≡ None
-free c = rw (← c.self.view_is) at (sym c.verdict.ensures ∙ c.in_default.is)
+free : (c : After-self) → verdict_of c.self.inside.store.limits c.self.inside.journal.items (Write c.args.index c.args.value) ≡ None
+free c = rw (← c.self.view_is) at c.requires
 
 -- its index is that of an element
-inside : (c : In_default) → c.args.index < c.self.inside.store.descriptor.size
+inside : (c : After-self) → c.args.index < c.self.inside.store.descriptor.size
 inside c = write_fits _ _ c.args.index c.args.value c.self.invariant (free c)
 
-pub returns-in-Some-clause-limits : goal.returns-in-Some-clause-limits
-returns-in-Some-clause-limits c = rw (← c.self.view_is) (InLimits-held _ _ c.self.invariant)
-
 pub read-before-requires : goal.read-before-requires
-read-before-requires c = omega (arith, inside (goal.at.read-before-requires c).In_default, c.self.invariant.sound.size)
+read-before-requires c = omega (arith, inside (goal.at.read-before-requires c).After-self, c.self.invariant.sound.size)
 
 pub returns-in_err-make_room-clause-limits : goal.returns-in_err-make_room-clause-limits
 returns-in_err-make_room-clause-limits c =
@@ -29,19 +26,19 @@ returns-in_err-make_room-clause-limits c =
 pub announce-requires-clause-index : goal.announce-requires-clause-index
 announce-requires-clause-index c =
     let e = c.in_ok-make_room.ensures in
-    omega (arith, inside (goal.at.announce-requires-clause-index c).In_default, e.alike.size, e.sound.size)
+    omega (arith, inside (goal.at.announce-requires-clause-index c).After-self, e.alike.size, e.sound.size)
 
 pub invariant_of-self-2 : goal.invariant_of-self-2
 invariant_of-self-2 c =
     let e = c.in_ok-make_room.ensures in
     let same = to_z-of_z w64 c.args.value c.ranges.value in
     rw (c.announce.ensures.state, c.append.ensures, same, e.journal)
-    (write_held _ _ _ c.args.index c.args.value _ c.size-size.ensures.value c.self.invariant (free (goal.at.invariant_of-self-2 c).In_default) c.ranges.value e.alike e.settled e.buckets (rw (c.announce.ensures.state, same) at c.announce.ensures.sound))
+    (write_held _ _ _ c.args.index c.args.value _ c.size-size.ensures.value c.self.invariant (free (goal.at.invariant_of-self-2 c).After-self) c.ranges.value e.alike e.settled e.buckets (rw (c.announce.ensures.state, same) at c.announce.ensures.sound))
 
 pub returns-clause-answer : goal.returns-clause-answer
 returns-clause-answer c =
     let e = c.in_ok-make_room.ensures in
-    let at = (goal.at.returns-clause-answer c).In_default in
+    let at = (goal.at.returns-clause-answer c).After-self in
     let held = c.self.invariant in
     let same = to_z-of_z w64 c.args.value c.ranges.value in
     let fits = to_z-of_z w64 c.read-before.result (rw c.read-before.ensures (fits_held _ _ _ held (inside at))) in

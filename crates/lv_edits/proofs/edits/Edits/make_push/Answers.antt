@@ -1,4 +1,4 @@
-use Rattle.std.proofs.Common.{◌≡◌, ◌+◌, ◌≤◌, None, sym, ap, ◌∙◌, arith}
+use Rattle.std.proofs.Common.{◌≡◌, ◌+◌, ◌≤◌, None, ap, ◌∙◌, arith}
 use Rattle.std.specs.Int.{w64}
 use Rattle.std.proofs.lemmas.Int.{to_z-of_z}
 use Rattle.lv_geometry.specs.Cells.{capacity_of}
@@ -6,12 +6,12 @@ use Rattle.lv_geometry.proofs.Capacities.{capacity_of_most}
 use Rattle.lv_edits.specs.declared.edit.Edit.TheVariants.{Push}
 use Rattle.lv_edits.specs.Verdict.{verdict_of}
 use Rattle.lv_edits.proofs.HoldsLaws.{InLimits-alike, InLimits-held, push_fits, push_held, size_held}
-use Rattle.lv_edits.proofs.edits.Edits.push.Goals as goal
-use Rattle.lv_edits.proofs.edits.Edits.push.Goals.{After-size-index}
+use Rattle.lv_edits.proofs.edits.Edits.make_push.Goals as goal
+use Rattle.lv_edits.proofs.edits.Edits.make_push.Goals.{After-size-index}
 
 -- nothing refuses the push
 free : (c : After-size-index) → verdict_of c.self.inside.store.limits c.self.inside.journal.items (Push c.args.x) ≡ None
-free c = rw (← c.self.view_is) at (sym c.verdict.ensures ∙ c.in_default.is)
+free c = rw (← c.self.view_is) at c.requires
 
 -- it has room within the limits, and these are allowed
 fits : (c : After-size-index) → (c.size-index.result + 1 ≤ capacity_of c.self.inside.store.limits.buckets) × (c.size-index.result + 1 ≤ 1048568)
@@ -19,9 +19,6 @@ fits c =
     let within = push_fits _ _ c.args.x c.self.invariant (free c) in
     let allowed = c.self.invariant.sound.allowed in
     (omega (arith, c.size-index.ensures.value, within), omega (arith, c.size-index.ensures.value, within, capacity_of_most c.self.inside.store.limits.buckets allowed.few_buckets))
-
-pub returns-in-Some-clause-limits : goal.returns-in-Some-clause-limits
-returns-in-Some-clause-limits c = rw (← c.self.view_is) (InLimits-held _ _ c.self.invariant)
 
 pub overflow_add-index : goal.overflow_add-index
 overflow_add-index c = omega (arith, (fits (goal.at.overflow_add-index c).After-size-index).1)
