@@ -31,7 +31,7 @@ use Rattle.lv_refresh.specs.Honesty.{AreContents, IsHonest, Stands}
 use Rattle.lv_refresh.specs.Record.{Record, is_fresh, is_version}
 
 -- a node's width is eight times a child's
-child_width : (n : Node) → 1 < n.level → 8 ^ n.level ≡ 8 * 8 ^ (n.level - 1)
+pub child_width : (n : Node) → 1 < n.level → 8 ^ n.level ≡ 8 * 8 ^ (n.level - 1)
 child_width n above =
     let next : n.level - 1 + 1 ≡ n.level = omega arith in
     ap (λ l. 8 ^ l) (sym next) ∙ pow_more 8 (n.level - 1) ∙ mul_comm (8 ^ (n.level - 1)) 8
@@ -231,7 +231,7 @@ cells_of_children es n above =
     ∙ parts_in_turn xs w (8 * n.number) 0 8
 
 -- what holds of each element of two lists joined end to end holds of each element of both
-parts_of_all : {A : Type 0} (P : A → Type 0) (xs ys : List A) → All P (xs ++ ys) → All P xs × All P ys
+pub parts_of_all : {A : Type 0} (P : A → Type 0) (xs ys : List A) → All P (xs ++ ys) → All P xs × All P ys
 parts_of_all P xs ys all =
     (All-same P xs _ (sym (take-append_seam xs ys)) (All-take P (length xs) (xs ++ ys) all), All-same P ys _ (sym (drop-append_seam xs ys)) (All-drop P (length xs) (xs ++ ys) all))
 

@@ -1,4 +1,5 @@
 mod ClaimLaws
+mod ComputeLaws
 mod GatherLaws
 mod HintLaws
 mod JoinLaws

@@ -80,6 +80,10 @@ pub record IsFirstHint (rows : ClaimRows) (number : ℕ) : Type 0 where
 abbrev pub children_fresh_in : {S : Type 0} → Table S → Node → Bool
 children_fresh_in t n = list_all (λ k. fresh_in t (child n k)) (range_with_len 0 8)
 
+-- above level 1 the eight children of a node are fresh in a table
+abbrev pub IsReady : {S : Type 0} → Table S → Node → Type 0
+IsReady t n = 1 < n.level → children_fresh_in t n ≡ true
+
 -- whether a node wants a job by a table, where it was last claimed at a version, if at all
 abbrev pub wants_in : {S : Type 0} → Table S → Option ℕ → Node → Bool
 wants_in t claimed n =

@@ -1,5 +1,7 @@
 ghost use Rattle.std.specs.Prelude.{◌≡◌, ℕ, ◌+◌, ◌*◌, ◌/◌, ◌^◌, ◌<◌, ◌≤◌, ◌&&◌, ◌||◌, Bool, true, false, None, Some, option_map, length, IfSome, IfNone, OnOk, OnErr, IfErr, if◌then◌else◌};
 ghost use Rattle.lv_geometry.specs.Nodes.{covers, is_below, is_node, parent, same_node};
+ghost use Rattle.lv_bodies.specs.Body.{fold_of};
+ghost use Rattle.lv_edits.specs.Touch.{cells_of};
 ghost use Rattle.lv_summary.specs.Agrees.{Agrees};
 ghost use Rattle.lv_summary.specs.Table.{whole_in};
 ghost use Rattle.lv_refresh.specs.Claim.{IsNextJob};
@@ -7,6 +9,7 @@ ghost use Rattle.lv_refresh.specs.Claimed.{AreHints, claim_blocks, claimed_in, i
 ghost use Rattle.lv_refresh.specs.Honesty.{Stands};
 ghost use Rattle.lv_refresh.specs.Inner.{CanServe, GivesNext, HintsNode, HintsWants, IsJobOf, ServesNext, children_fresh_in};
 
+use crate::computing::{Computed, summary_of};
 use crate::contents::Contents;
 use crate::gathering::children_of;
 use crate::jobs::{Job, JobOf};
@@ -177,6 +180,34 @@ impl Claims {
     {
         match self.next(table) {
             Some((node, version)) => job_of(cells, table, node, version, body),
+            None => None,
+        }
+    }
+
+    /// The summary of the least node that wants a job, computed where its contents lie. The node is claimed with it, as `claim` would,
+    /// and no job is made; none where no node wants one. Takes no memory, and looks only at nodes that are hinted at.
+    pub fn compute<B: Body>(
+        &mut self,
+        cells: &Edits,
+        table: &Summaries<B::S>,
+        body: &B,
+    ) -> Option<Computed<B::S>>
+        requires agrees { Agrees (B.operations (B.meaning body.now)) cells.now.journal table.now }
+        requires hints { AreHints (record_of cells.now.journal table.now self.old) self.old }
+        requires grown { table.now.size ≤ 8 * claim_blocks self.old }
+        ensures next { IsNextJob (record_of cells.now.journal table.now self.old) (option_map (λ done. (done.node, done.version)) result) }
+        ensures claimed { IfSome result (λ done. (n : Node) → claimed_in self.new n ≡ (if same_node n done.node then Some done.version else claimed_in self.old n)) }
+        ensures idle { IfNone result ((n : Node) → claimed_in self.new n ≡ claimed_in self.old n) }
+        ensures hints { AreHints (record_of cells.now.journal table.now self.new) self.new }
+        ensures summary { IfSome result (λ done. done.summary ≡ fold_of (B.operations (B.meaning body.now)) (cells_of cells.now.journal done.node)) }
+        ensures blocks { claim_blocks self.new ≡ claim_blocks self.old }
+    {
+        match self.next(table) {
+            Some((node, version)) => Some(Computed {
+                node,
+                version,
+                summary: summary_of(cells, table, body, node),
+            }),
             None => None,
         }
     }

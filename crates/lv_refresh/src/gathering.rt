@@ -48,9 +48,9 @@ pub fn are_children_fresh<S: Copy>(table: &Summaries<S>, node: Node) -> bool
         && table.fresh(child_of(node, 7))
 }
 
-// A child of a node above level 1.
+/// A child of a node above level 1.
 #[inline(always)]
-fn child_of(node: Node, k: u32) -> Node
+pub fn child_of(node: Node, k: u32) -> Node
     requires above { 1 < node.level }
     requires fits { 8 * node.number + k < 2 ^ 32 }
     ensures { result ≡ child node k }

@@ -2,10 +2,12 @@
 //!
 //! `Claims` hands out jobs, the least node first; a `Job` is run anywhere, and gives an `Outcome` of the same node,
 //! version, contents and body. Which job comes next is stated on a record of all that the vector has seen, and a job's
-//! contents are those of its node then. It installs nothing, and knows nothing of who runs a job, or when.
+//! contents are those of its node then. Where a job is done at once, `Claims::compute` makes none: it claims the node and gives
+//! its summary. It installs nothing, and knows nothing of who runs a job, or when.
 #![tactic(auto)]
 
 mod claims;
+mod computing;
 mod contents;
 mod gathering;
 mod jobs;
@@ -15,6 +17,7 @@ mod outcomes;
 mod wants;
 
 pub use claims::Claims;
+pub use computing::Computed;
 pub use contents::{Contents, Eight};
 pub use gathering::children_of;
 pub use jobs::{Job, JobOf};

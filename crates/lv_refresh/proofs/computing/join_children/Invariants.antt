@@ -1,0 +1,10 @@
+use Rattle.std.proofs.Common.{◌≡◌}
+use Rattle.lv_bodies.specs.Body.{CanFold}
+use Rattle.lv_edits.specs.History.{list_of}
+use Rattle.lv_refresh.proofs.ComputeLaws.{Joins}
+use Rattle.lv_refresh.proofs.computing.join_children.Given as goal
+
+-- the summaries of the first k children were joined
+abbrev pub invariant-loop-k : goal.invariant-loop-k
+invariant-loop-k g l =
+    Joins (g.B.Body.operations (g.B.Body.meaning l.body)) l.cells.journal l.node l.k l.sum

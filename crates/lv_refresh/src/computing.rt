@@ -1,0 +1,67 @@
+ghost use Rattle.std.specs.Prelude.{◌≡◌, ◌+◌, ◌*◌, ◌<◌, true};
+ghost use Rattle.lv_bodies.specs.Body.{fold_of};
+ghost use Rattle.lv_edits.specs.Touch.{cells_of};
+ghost use Rattle.lv_summary.specs.Agrees.{Agrees};
+ghost use Rattle.lv_summary.specs.Table.{whole_in};
+ghost use Rattle.lv_refresh.specs.Inner.{IsReady};
+
+use crate::gathering::child_of;
+use lv_bodies::{Body, fold_slice};
+use lv_edits::Edits;
+use lv_geometry::Node;
+use lv_summary::Summaries;
+
+/// A node that was claimed at a version, and its summary then.
+#[derive(Clone, Copy, Debug, PartialEq, Eq, Hash)]
+pub struct Computed<S> {
+    pub node: Node,
+    pub version: u32,
+    pub summary: S,
+}
+
+/// The fold of a whole node's elements, computed where its contents lie: from the elements of a block, and above from the
+/// summaries of the children, which are fresh.
+#[inline(always)]
+pub fn summary_of<B: Body>(cells: &Edits, table: &Summaries<B::S>, body: &B, node: Node) -> B::S
+    requires agrees { Agrees (B.operations (B.meaning body.now)) cells.now.journal table.now }
+    requires whole { whole_in table.now node ≡ true }
+    requires ready { IsReady table.now node }
+    ensures { result ≡ fold_of (B.operations (B.meaning body.now)) (cells_of cells.now.journal node) }
+{
+    if node.level == 1 {
+        fold_block(cells, table, body, node)
+    } else {
+        join_children(cells, table, body, node)
+    }
+}
+
+// The fold of the elements of a whole block. The table only says that it is whole.
+fn fold_block<B: Body>(cells: &Edits, _table: &Summaries<B::S>, body: &B, block: Node) -> B::S
+    requires agrees { Agrees (B.operations (B.meaning body.now)) cells.now.journal _table.now }
+    requires whole { whole_in _table.now block ≡ true }
+    requires level { block.level ≡ 1 }
+    ensures { result ≡ fold_of (B.operations (B.meaning body.now)) (cells_of cells.now.journal block) }
+{
+    let elements = cells.block(block.number);
+    fold_slice(body, &elements)
+}
+
+// The join of the summaries of a whole node's children, from left to right.
+fn join_children<B: Body>(cells: &Edits, table: &Summaries<B::S>, body: &B, node: Node) -> B::S
+    requires agrees { Agrees (B.operations (B.meaning body.now)) cells.now.journal table.now }
+    requires whole { whole_in table.now node ≡ true }
+    requires above { 1 < node.level }
+    requires ready { IsReady table.now node }
+    ensures { result ≡ fold_of (B.operations (B.meaning body.now)) (cells_of cells.now.journal node) }
+{
+    // The elements are few enough for a fold, and the children's numbers are of 32 bits.
+    let _size = cells.size();
+    let mut sum = body.identity();
+    for k in 0..8 {
+        let Some(summary) = table.entry(child_of(node, k)) else {
+            unreachable!()
+        };
+        sum = body.combine(sum, summary);
+    }
+    sum
+}
