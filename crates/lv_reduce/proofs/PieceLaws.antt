@@ -1,5 +1,5 @@
 -- The fold of a range with a node's elements at its end.
-use Rattle.std.proofs.Common.{◌≡◌, ℕ, ℤ, ◌+◌, ◌-◌, ◌*◌, ◌/◌, ◌%◌, ◌^◌, ◌≤◌, List, ◌++◌, length, drop, take, slice_range, sym, ap, subst, ◌∙◌, arith, length-drop}
+use Rattle.std.proofs.Common.{◌≡◌, ℕ, ℤ, ◌+◌, ◌-◌, ◌*◌, ◌/◌, ◌%◌, ◌^◌, ◌≤◌, Bool, List, ◌++◌, length, drop, take, slice_range, sym, ap, subst, ◌∙◌, arith, length-drop}
 use Rattle.std.proofs.lemmas.List.{drop-drop, length-take-le, take_all}
 use Rattle.std.proofs.Math.Seq.{take-add}
 use Rattle.lv_geometry.specs.Nodes.{over}
@@ -12,10 +12,11 @@ use Rattle.lv_summary.specs.Agrees.{Agrees}
 use Rattle.lv_summary.specs.Table.{Table}
 use Rattle.lv_summary.proofs.AgreesLaws.{entry_folds}
 use Rattle.lv_summary.proofs.FoldableLaws.{part_can_fold}
+use Rattle.lv_reduce.specs.Answer.{scan_of}
 use Rattle.lv_reduce.specs.Pieces.{IsGreatestFresh}
-use Rattle.lv_reduce.specs.Running.{CanGoOn, reached}
+use Rattle.lv_reduce.specs.Running.{CanGoOn, reached, scan_from}
 use Rattle.lv_reduce.proofs.NodeLaws.{first_of_aligned}
-use Rattle.lv_reduce.proofs.RunLaws.{reached-append}
+use Rattle.lv_reduce.proofs.RunLaws.{reached-append, scan_of-append}
 
 -- a slice that ends later has a further slice at its end
 pub slice_range-append : {A : Type 0} (xs : List A) (lo at end : ℕ) → lo ≤ at → at ≤ end → slice_range xs lo end ≡ slice_range xs lo at ++ slice_range xs at end
@@ -47,6 +48,21 @@ length-block xs at block begins inside is =
 -- the fold of no elements is the identity
 pub slice-nothing : {S : Type 0} (o : Operations S) (xs : List ℤ) (lo : ℕ) → o.identity ≡ fold_of o (slice_range xs lo lo)
 slice-nothing o xs lo = let nothing : 0 ≡ lo - lo = omega arith in ap (λ n. fold_of o (take n (drop lo xs))) nothing
+
+-- the fold and the scan of a range that go on over a piece behind it are those of the longer range
+pub slice_scanned : {S : Type 0} (o : Operations S) (inclusive : Bool) (xs : List ℤ) (lo at end : ℕ) (piece : List ℤ) → slice_range xs lo end ≡ slice_range xs lo at ++ piece → (s r : S) (items longer : List S) → s ≡ fold_of o (slice_range xs lo at) → items ≡ scan_of inclusive o (slice_range xs lo at)
+    → r ≡ reached o s piece → longer ≡ items ++ scan_from inclusive o s piece → (r ≡ fold_of o (slice_range xs lo end)) × (longer ≡ scan_of inclusive o (slice_range xs lo end))
+slice_scanned o inclusive xs lo at end piece more s r items longer so_far scanned is gone = (
+  is
+      ∙ ap (λ t. reached o t piece) so_far
+      ∙ sym (reached-append o o.identity (slice_range xs lo at) piece)
+      ∙ ap (fold_of o) (sym more),
+  gone
+      ∙ ap (λ ys. ys ++ scan_from inclusive o s piece) scanned
+      ∙ ap (λ t. scan_of inclusive o (slice_range xs lo at) ++ scan_from inclusive o t piece) so_far
+      ∙ sym (scan_of-append o inclusive (slice_range xs lo at) piece)
+      ∙ ap (scan_of inclusive o) (sym more),
+)
 
 module _ {S : Type 0} (o : Operations S) (within : S → ℕ → Type 0) (laws : BodyLaws o within) (xs : List ℤ) (can : CanFold xs) where
   -- the fold of a range is within its width

@@ -11,7 +11,7 @@ use crate::scans::{Scan, running_folds};
 use crate::stretches::Stretch;
 use crate::values::Values;
 use crate::views::{View, refusal_of};
-use halves::{fold_halved, halvings};
+use halves::{LEAST_FOLD, LEAST_SCAN, fold_halved, halvings};
 use lv_bodies::Body;
 use lv_edits::Edits;
 use lv_geometry::Refusal;
@@ -38,7 +38,7 @@ pub fn par_reduce<R: Threads + Sync, B: Body>(
     if let Some(refusal) = refusal_of(view.cells, lo, hi) {
         return Err(refusal);
     }
-    let depth = halvings(rt, body, hi - lo);
+    let depth = halvings(rt, body, hi - lo, LEAST_FOLD);
     let value = fold_halved(rt, Row::Cells(view.cells), body, lo, hi, depth);
     Ok((view.cells.edit(), value))
 }
@@ -128,7 +128,7 @@ fn scan_range<R: Threads + Sync, B: Body>(
         (scan_of inclusive (B.operations (B.meaning body.now)) (slice_of view.entry.cells.now.journal lo hi)) scan) }
     ensures err { IfErr result (λ refusal. IsScanRefusal view.entry.cells.now.journal lo hi refusal) }
 {
-    if halvings(rt, body, hi.saturating_sub(lo)) == 0 {
+    if halvings(rt, body, hi.saturating_sub(lo), LEAST_SCAN) == 0 {
         return running_folds(alloc, view, body, lo, hi, inclusive);
     }
     let stretch = Stretch::copy(alloc, view.cells, *body, lo, hi)?;

@@ -1,6 +1,7 @@
-ghost use Rattle.std.specs.Prelude.{◌≡◌, ◌+◌, ◌<◌, [], ◌∷◌, ◌++◌, vec_len, vec_capacity, IfOk, IfErr, if◌then◌else◌};
+ghost use Rattle.std.specs.Prelude.{◌≡◌, ◌+◌, ◌<◌, ◌≤◌, [], ◌∷◌, ◌++◌, length, vec_len, vec_capacity, IfOk, IfErr, if◌then◌else◌};
 ghost use Rattle.lv_bodies.specs.Scan.{exclusive_scan, inclusive_scan};
 ghost use Rattle.lv_reduce.specs.Answer.{IsScan, IsScanRefusal, scan_of, slice_of};
+ghost use Rattle.lv_reduce.specs.Running.{CanGoOn, reached, scan_from};
 
 use crate::values::Values;
 use crate::views::{View, refusal_of};
@@ -67,13 +68,46 @@ pub fn running_folds<B: Body>(
         return Err(Refusal::NoMemory);
     };
     let mut sum = body.identity();
-    for i in lo..hi {
-        let before = sum;
-        sum = fold_more(body, before, view.cells.read(i));
-        values.push_reserved(if inclusive { sum } else { before });
+    let mut at = lo;
+    while at < hi {
+        if at % 8 == 0 && hi - at >= 8 {
+            let block = view.cells.block(at / 8);
+            sum = push_folds(body, inclusive, sum, &block, &mut values);
+            at += 8;
+        } else {
+            let cell = [view.cells.read(at)];
+            sum = push_folds(body, inclusive, sum, &cell, &mut values);
+            at += 1;
+        }
     }
     Ok(Scan {
         edit: view.cells.edit(),
         values: Values::from_vec(values),
     })
+}
+
+// Puts the scan of some elements, from what stands before them, behind the values that are there, and gives what they lead to. There
+// is room for all.
+#[inline(always)]
+fn push_folds<B: Body>(
+    body: &B,
+    inclusive: bool,
+    before: B::S,
+    xs: &[i64],
+    values: &mut Vec<B::S>,
+) -> B::S
+    requires can { CanGoOn (B.is_within (B.meaning body.now)) before (length xs.now) }
+    requires room { vec_len values.old + length xs.now ≤ vec_capacity values.old }
+    ensures values { values.new.items ≡ values.old.items ++ scan_from inclusive (B.operations (B.meaning body.now)) before xs.now }
+    ensures sum { result ≡ reached (B.operations (B.meaning body.now)) before xs.now }
+    ensures len { vec_len values.new ≡ vec_len values.old + length xs.now }
+    ensures capacity { vec_capacity values.new ≡ vec_capacity values.old }
+{
+    let mut sum = before;
+    for x in xs {
+        let sum_before = sum;
+        sum = fold_more(body, sum_before, *x);
+        values.push_reserved(if inclusive { sum } else { sum_before });
+    }
+    sum
 }

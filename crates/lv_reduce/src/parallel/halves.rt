@@ -14,17 +14,21 @@ use std::mem::size_of_val;
 use std::thread;
 use std::thread::Threads;
 
-// How many bytes of summaries are worth threads: with each of the six kinds an element takes about a tenth of a nanosecond
-// for each byte of a summary, so these take one thread 100 microseconds.
-const LEAST_WORK: usize = 1 << 20;
+/// How many bytes of summaries are worth threads where they are folded: with each of the six kinds an element takes about a tenth
+/// of a nanosecond for each byte of a summary, so these take one thread 100 microseconds.
+pub const LEAST_FOLD: usize = 1 << 20;
 
-/// How often a row of so many elements is halved: not at all where it is too short for threads to pay, and else until there
-/// are as many parts as processors.
-pub fn halvings<R: Threads, B: Body>(rt: &R, body: &B, len: u32) -> u32
+/// How many are worth threads where each is kept, as in a scan. Several threads write twice what one writes once, since the room
+/// is filled first, and they copy the elements. That costs more than it saves where a summary is as cheap as a sum.
+pub const LEAST_SCAN: usize = 1 << 24;
+
+/// How often a row of so many elements is halved: not at all where its summaries have fewer bytes than the least that is worth
+/// threads, and else until there are as many parts as processors.
+pub fn halvings<R: Threads, B: Body>(rt: &R, body: &B, len: u32, least: usize) -> u32
     ensures { result < 64 }
 {
     let size = size_of_val(&body.identity());
-    if size.saturating_mul(len as usize) < LEAST_WORK {
+    if size.saturating_mul(len as usize) < least {
         return 0;
     }
     current_num_threads(rt).ilog2()

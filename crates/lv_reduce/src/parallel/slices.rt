@@ -6,7 +6,7 @@ ghost use Rattle.lv_bodies.specs.Body.{CanFold, fold_of};
 ghost use Rattle.lv_reduce.specs.Answer.{scan_of};
 ghost use Rattle.lv_reduce.specs.Running.{AreBefore, AreOfPieces, CanGoOn, scan_from};
 
-use crate::parallel::halves::halvings;
+use crate::parallel::halves::{LEAST_SCAN, halvings};
 use crate::reductions::join;
 use lv_bodies::{Body, fold_more, fold_slice};
 use rayon::prelude::*;
@@ -24,7 +24,7 @@ pub fn scan_slice<R: Threads + Sync, B: Body>(
     requires { length xs.now ≤ 2 ^ 20 }
     ensures { IfOk result (λ values. values.items ≡ scan_of inclusive (B.operations (B.meaning body.now)) xs.now) }
 {
-    let depth = halvings(rt, body, xs.len() as u32);
+    let depth = halvings(rt, body, xs.len() as u32, LEAST_SCAN);
     if depth == 0 {
         return scan_alone(alloc, body, xs, inclusive);
     }

@@ -1,33 +1,71 @@
-use Rattle.std.proofs.Common.{◌≡◌, ◌-◌, ◌+◌, ◌<◌, ◌⊎◌, true, false, FitsSigned, length, rules, subst, inl, inr, arith}
+use Rattle.std.proofs.Common.{◌≡◌, ◌+◌, ◌<◌, ◌++◌, ◌∷◌, [], FitsSigned, length, rules, sym, subst, ap, ◌∙◌, arith}
 use Rattle.std.specs.Int.{w64}
 use Rattle.std.proofs.lemmas.Int.{to_z-of_z}
 use Rattle.lv_edits.specs.History.{list_of}
-use Rattle.lv_reduce.proofs.ScanLaws.{fold_of-slice-more, scan_of-slice-more}
+use Rattle.lv_edits.proofs.Slices.{slice_range-more}
+use Rattle.lv_summary.proofs.FoldableLaws.{can_fold}
+use Rattle.lv_reduce.specs.Running.{CanGoOn, reached, scan_from}
+use Rattle.lv_reduce.proofs.PieceLaws.{length-block, slice_can_go_on, slice_range-block, slice_scanned}
 use Rattle.lv_reduce.proofs.scans.running_folds.Goals as goal
-use Rattle.lv_reduce.proofs.scans.running_folds.Goals.{then-inclusive, else-inclusive}
 
-pub loop-i-preserved : goal.loop-i-preserved
-loop-i-preserved g c =
+pub push_folds-sum-requires-clause-can : goal.push_folds-sum-requires-clause-can
+push_folds-sum-requires-clause-can g c κs within =
     let meaning = g.B.Body.meaning c.args.body.now in
-    let o = g.B.Body.operations meaning in
-    let edits = c.args.view.cells.now.journal in
-    let xs = list_of edits in
-    let lo = c.args.lo in
-    let i = c.loop-i.i in
-    let x = c.read.result in
-    let small : i < length xs = omega (arith, c.in_default.ensures.inside) in
-    let fits : FitsSigned w64 x = search rules in
-    let fold = fold_of-slice-more o xs lo i x c.loop-i.auto.i small c.read.ensures.value c.loop-i.sum c.fold_more-sum.result _ (to_z-of_z w64 x fits) c.loop-i.invariant.fold c.fold_more-sum.ensures.value in
-    let place : i - lo + 1 ≡ i + 1 - lo = omega arith in
-    let chosen : ((c.args.inclusive ≡ true) × (c.if-inclusive.push_reserved ≡ c.fold_more-sum.result)) ⊎ ((c.args.inclusive ≡ false) × (c.if-inclusive.push_reserved ≡ c.loop-i.sum)) =
-    elim c.if-inclusive.branch [
-      | then-inclusive w ↦ inl (w.if-inclusive.true, w.push_reserved-is)
-      | else-inclusive w ↦ inr (w.if-inclusive.false, w.push_reserved-is)
-    ] in
+    let xs = list_of c.args.view.cells.now.journal in
+    let at = c.loop-at.at in
+    let can = can_fold c.args.view.cells.now c.in_default.ensures.limits in
+    let eight = length-block xs at c.block-block.result c.if-at-eq0.true (omega (arith, c.in_default.ensures.inside)) c.block-block.ensures.value in
+    let more : 8 ≡ length c.block-block.result = sym eight in
+    subst (CanGoOn (g.B.Body.is_within meaning) c.loop-at.sum) more
+    (slice_can_go_on (g.B.Body.operations meaning) (g.B.Body.is_within meaning) (g.B.Body.laws c.args.body.now) xs can c.args.lo at 8 c.loop-at.invariant.low (omega (arith, c.in_default.ensures.inside)) c.loop-at.sum c.loop-at.invariant.sum)
+
+pub loop-at-preserved-then-hi-at-ge8 : goal.loop-at-preserved-then-hi-at-ge8
+loop-at-preserved-then-hi-at-ge8 g c =
+    let o = g.B.Body.operations (g.B.Body.meaning c.args.body.now) in
+    let xs = list_of c.args.view.cells.now.journal in
+    let at = c.loop-at.at in
+    let block = c.block-block.result in
+    let kept = c.loop-at.invariant in
+    let made = c.push_folds-sum.ensures in
+    let eight : length block ≡ 8 = length-block xs at block c.if-at-eq0.true (omega (arith, c.in_default.ensures.inside)) c.block-block.ensures.value in
+    let more = slice_range-block xs c.args.lo at block kept.low c.if-at-eq0.true c.block-block.ensures.value in
+    let gone = slice_scanned o c.args.inclusive xs c.args.lo at (at + 8) block more c.loop-at.sum c.push_folds-sum.result c.loop-at.values.items c.push_folds-sum.new.values.items kept.sum kept.values made.sum made.values in
     record {
-      values = scan_of-slice-more o xs lo i x c.loop-i.auto.i small c.read.ensures.value c.args.inclusive c.loop-i.values.items c.push_reserved.new.self.items c.loop-i.sum c.fold_more-sum.result c.if-inclusive.push_reserved c.loop-i.invariant.fold fold c.loop-i.invariant.values chosen c.push_reserved.ensures.items;
-      fold = fold;
-      within = subst (λ n. g.B.Body.is_within meaning c.fold_more-sum.result n) place (c.fold_more-sum.ensures.within (i - lo) c.loop-i.invariant.within (omega arith));
-      count = omega arith;
-      room = omega arith;
+      low = omega (arith, kept.low);
+      high = omega arith;
+      values = gone.1;
+      sum = gone.0;
+      count = omega (arith, made.len, eight, kept.count, kept.low);
+      room = omega (arith, made.capacity, kept.room);
+    }
+
+pub push_folds-sum-requires-else-at-eq0-clause-can : goal.push_folds-sum-requires-else-at-eq0-clause-can
+push_folds-sum-requires-else-at-eq0-clause-can g c κs within =
+    let meaning = g.B.Body.meaning c.args.body.now in
+    let xs = list_of c.args.view.cells.now.journal in
+    let can = can_fold c.args.view.cells.now c.in_default.ensures.limits in
+    slice_can_go_on (g.B.Body.operations meaning) (g.B.Body.is_within meaning) (g.B.Body.laws c.args.body.now) xs can c.args.lo c.loop-at.at 1 c.loop-at.invariant.low (omega (arith, c.in_default.ensures.inside)) c.loop-at.sum c.loop-at.invariant.sum
+
+pub loop-at-preserved : goal.loop-at-preserved
+loop-at-preserved g c =
+    let o = g.B.Body.operations (g.B.Body.meaning c.args.body.now) in
+    let xs = list_of c.args.view.cells.now.journal in
+    let at = c.loop-at.at in
+    let x = c.read.result in
+    let kept = c.loop-at.invariant in
+    let made = c.push_folds-sum-else-at-eq0.ensures in
+    let small : at < length xs = omega (arith, c.in_default.ensures.inside) in
+    let fits : FitsSigned w64 x = search rules in
+    let same = to_z-of_z w64 x fits in
+    let more = slice_range-more xs c.args.lo at x kept.low small c.read.ensures.value in
+    let gone = slice_scanned o c.args.inclusive xs c.args.lo at (at + 1) (x ∷ []) more c.loop-at.sum c.push_folds-sum-else-at-eq0.result c.loop-at.values.items c.push_folds-sum-else-at-eq0.new.values.items kept.sum kept.values
+    (made.sum ∙ ap (λ y. reached o c.loop-at.sum (y ∷ [])) same)
+    (made.values ∙ ap (λ y. c.loop-at.values.items ++ scan_from c.args.inclusive o c.loop-at.sum (y ∷ [])) same) in
+    record {
+      low = omega (arith, kept.low);
+      high = omega arith;
+      values = gone.1;
+      sum = gone.0;
+      count = omega (arith, made.len, kept.count, kept.low);
+      room = omega (arith, made.capacity, kept.room);
     }
