@@ -1,10 +1,13 @@
 pub mod DeliverLaws
 pub mod EditLaws
+pub mod EveryRunLaws
 pub mod HonestSteps
 pub mod LiveLaws
+pub mod OneOutcomeLaws
 pub mod PlayLaws
 pub mod QueryLaws
 mod RefreshLaws
 pub mod RunLaws
 pub mod VouchLaws
+mod TurnLaws
 pub mod WorldLaws

@@ -3,22 +3,23 @@ use Rattle.std.proofs.Common.{◌≡◌, ℕ, zero, suc, ◌+◌, ◌-◌, false
 use Rattle.std.proofs.lemmas.Bool.{and_from, and_parts, cond-false, cond-true, eq-eqb, ne_eqb, not-true}
 use Rattle.std.proofs.lemmas.List.{append_assoc, length-map, length_push, map-append}
 use Rattle.lv_geometry.specs.declared.nodes.Node.{Node}
-use Rattle.lv_bodies.specs.Body.{Operations}
-use Rattle.lv_edits.specs.Kept.{InLimits}
-use Rattle.lv_edits.specs.Touch.{is_whole, touched_by}
-use Rattle.lv_summary.specs.declared.accepted.Accepted.{Accepted}
+use Rattle.lv_geometry.specs.Nodes.{child}
+use Rattle.lv_bodies.specs.Body.{Operations, fold_of}
+use Rattle.lv_edits.specs.declared.edit.Edit.{Edit}
+use Rattle.lv_edits.specs.Touch.{cells_of, is_whole, touched_by}
 use Rattle.lv_summary.specs.declared.accepted.Accepted.TheVariants.{Held, Installed, Stale}
 use Rattle.lv_refresh.specs.Carried.{Carried}
+use Rattle.lv_refresh.specs.declared.contents.Contents.{Contents}
+use Rattle.lv_refresh.specs.declared.contents.Contents.TheVariants.{Children, Elements}
+use Rattle.lv_refresh.specs.declared.contents.Eight.{Eight}
 use Rattle.lv_refresh.specs.Claim.{IsNextJob, wants_job}
 use Rattle.lv_refresh.specs.Delivery.{delivery_of}
-use Rattle.lv_refresh.specs.Honesty.{IsHonest, Vouched}
 use Rattle.lv_refresh.specs.Record.{Record, is_fresh, is_version}
-use Rattle.lv_refresh.proofs.HonestyLaws.{vouched_of_honest}
 use Rattle.lv_live.specs.declared.events.Event.TheVariants as event
 use Rattle.lv_live.specs.declared.replies.Reply.TheVariants as reply
-use Rattle.lv_live.specs.State.{HasClaim, HasDelivery, LiveState, job_at, node_and_version, recorded, with_issued}
+use Rattle.lv_live.specs.State.{HasClaim, LiveState, job_at, node_and_version, recorded, with_issued}
 use Rattle.lv_live.specs.Step.{Run, Step}
-use Rattle.lv_live.specs.Turns.{TakesTurns, turn_replies, turns}
+use Rattle.lv_live.specs.Turns.{TakesTurn, TakesTurns, turn_replies, turns}
 use Rattle.lv_live.proofs.WorldLaws.{run_goes_on, step_claim, step_delivery}
 
 -- one turn more at the end
@@ -55,7 +56,7 @@ job_at_end jobs job =
     at_end (y ∷ xs) x = at_end xs x
 
 -- the outcome of the next job is installed
-installed_next : (r : Record) (n : Node) (v : ℕ) → IsNextJob r (Some (n, v)) → delivery_of r n v ≡ Installed
+pub installed_next : (r : Record) (n : Node) (v : ℕ) → IsNextJob r (Some (n, v)) → delivery_of r n v ≡ Installed
 installed_next r n v next =
     let all = and_parts (is_whole r.edits n && not (is_fresh r n) && not (is_version (touched_by r.edits n) (r.claimed n))) _ next.0 in
     let two = and_parts (is_whole r.edits n && not (is_fresh r n)) _ all.0 in
@@ -69,6 +70,17 @@ installed_claimed : (r s : Record) (n : Node) (v : ℕ) → s.edits ≡ r.edits 
 installed_claimed r s n v edits kept =
     ap (λ edits. cond (is_whole edits n && nat_eq (touched_by edits n) v) (cond (is_version v (s.kept n)) Held Installed) (Stale (touched_by edits n))) edits
     ∙ ap (λ kept. cond (is_whole r.edits n && nat_eq (touched_by r.edits n) v) (cond (is_version v kept) Held Installed) (Stale (touched_by r.edits n))) kept
+
+module _ {S : Type 0} (o : Operations S) where
+  -- the folds of a node's eight children
+  abbrev child_folds : List Edit → Node → Eight S
+  child_folds es n =
+      let part = λ (k : ℕ). fold_of o (cells_of es (child n k)) in
+      record { a = part 0; b = part 1; c = part 2; d = part 3; e = part 4; f = part 5; g = part 6; h = part 7 }
+
+  -- what a job of a node carries
+  abbrev contents_of : List Edit → Node → Contents S
+  contents_of es n = cond (nat_eq n.level 1) (Elements (cells_of es n)) (Children (child_folds es n))
 
 module _ {B S : Type 0} (o : Operations S) where
   -- no turn was taken
@@ -94,18 +106,19 @@ module _ {B S : Type 0} (o : Operations S) where
   pub still_idle : (old new : LiveState B S) → IsNextJob (recorded old) None → HasClaim old new None → IsNextJob (recorded new) None
   still_idle old new none claim n = ap (λ r. wants_job r n) (record_idle old new claim []) ∙ none n
 
-  -- a claimed job's outcome is vouched for
-  pub vouched_claimed : {M : Type 0} (meaning : B → M) (old new : LiveState B S) (job : Carried B S) → InLimits old.history → HasClaim old new (Some (node_and_version job)) → job.body ≡ old.body → IsHonest o (recorded new) job.node job.version job.contents
-      → Vouched o (recorded new) (meaning new.body ≡ meaning job.body) job.node job.version job.contents
-  vouched_claimed meaning old new job limits claim body honest whole touched =
-      let now : InLimits new.history = rw claim.history limits in
-      (ap meaning (claim.body ∙ sym body), vouched_of_honest o (recorded new) job.node job.version job.contents now.legal honest whole touched)
+  -- the job of a node, as it stood
+  abbrev job_taken : LiveState B S → Node × ℕ → Carried B S
+  job_taken s job = record { node = job.0; version = job.1; contents = contents_of o s.history.journal job.0; body = s.body }
 
   -- one more turn was taken
-  pub turns_next : (first old mid new : LiveState B S) (n : ℕ) (job : Carried B S) (accepted : Accepted) → TakesTurns o first old n → IsNextJob (recorded old) (Some (node_and_version job)) → HasClaim old mid (Some (node_and_version job))
-      → accepted ≡ delivery_of (recorded mid) job.node job.version → HasDelivery mid new job.node job.version accepted → TakesTurns o first new (n + 1)
-  turns_next first old mid new n job accepted turned next claim is delivered =
+  pub turns_next : (first old new : LiveState B S) (n : ℕ) → TakesTurns o first old n → TakesTurn old new → TakesTurns o first new (n + 1)
+  turns_next first old new n turned turn =
       let jobs = turned.jobs in
+      let mid = turn.mid in
+      let job = job_taken old turn.job in
+      let next = turn.next in
+      let claim = turn.claims in
+      let delivered = turn.delivers in
       let more : List (Carried B S) = jobs ++ job ∷ [] in
       let number : length jobs + 1 ≡ 1 + n = omega (arith, turned.many) in
       let installed : delivery_of (recorded mid) job.node job.version ≡ Installed =
@@ -113,7 +126,7 @@ module _ {B S : Type 0} (o : Operations S) where
       let claims : Step o first.history.limits (with_issued old jobs) event.Claim (reply.Claimed (length jobs + 1) job.node job.version) (with_issued mid more) =
       step_claim o old mid (Some job) jobs next claim in
       let delivers : Step o first.history.limits (with_issued mid more) (event.Deliver (length jobs + 1)) (reply.Gave Installed) (with_issued new more) =
-      rw installed at (step_delivery o mid new (length jobs + 1) job more (job_at_end jobs job) (rw is at delivered)) in
+      rw installed at (step_delivery o mid new (length jobs + 1) job more (job_at_end jobs job) (rw (sym installed) at delivered)) in
       let once = run_goes_on o first.history.limits (recorded first) (with_issued old jobs) (with_issued mid more) (turns 1 n) (turn_replies 1 (map node_and_version jobs)) event.Claim (reply.Claimed (length jobs + 1) job.node job.version) turned.run claims in
       let twice = run_goes_on o first.history.limits (recorded first) (with_issued mid more) (with_issued new more) (turns 1 n ++ event.Claim ∷ []) (turn_replies 1 (map node_and_version jobs) ++ reply.Claimed (length jobs + 1) job.node job.version ∷ []) (event.Deliver (length jobs + 1)) (reply.Gave Installed) once delivers in
       let events : turns 1 n ++ event.Claim ∷ [] ++ event.Deliver (length jobs + 1) ∷ [] ≡ turns 1 (n + 1) =

@@ -25,7 +25,7 @@ use Rattle.lv_live.specs.Step.{EditStep, Reduces, Run, Scans, Step, after_accept
 use Rattle.lv_live.specs.PlainAnswers.{AllHadRoom, answers_in, edits_after, edits_with, is_refresh, plain_answer, plain_answers, plain_edit_reply, plain_reduction_reply, plain_scan_reply, without_counts, without_refresh}
 
 -- a delivery leaves the edits
-delivered_edits : (r : Record) (job : Option (Node × ℕ)) → (after_delivery r job).edits ≡ r.edits
+pub delivered_edits : (r : Record) (job : Option (Node × ℕ)) → (after_delivery r job).edits ≡ r.edits
 delivered_edits r None = refl
 delivered_edits r (Some job) = accepted_edits (delivery_of r job.0 job.1)
   where
@@ -35,7 +35,7 @@ delivered_edits r (Some job) = accepted_edits (delivery_of r job.0 job.1)
     accepted_edits (Stale now) = refl
 
 -- a claim leaves the edits
-claimed_edits : (r : Record) (job : Option (Node × ℕ)) → (after_claim r job).edits ≡ r.edits
+pub claimed_edits : (r : Record) (job : Option (Node × ℕ)) → (after_claim r job).edits ≡ r.edits
 claimed_edits r None = refl
 claimed_edits r (Some job) = refl
 

@@ -1,3 +1,4 @@
+pub mod EveryRun
 pub mod Follows
 pub mod PlainAnswers
 pub mod State

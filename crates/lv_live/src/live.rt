@@ -14,9 +14,9 @@ ghost use Rattle.lv_reduce.specs.Answer.{IsAnswer, IsScanRefusal, range_refusal}
 ghost use Rattle.lv_reduce.specs.Asked.{AreTopsKnown, IsFewAsked};
 ghost use Rattle.lv_reduce.specs.Cost.{IsFew};
 ghost use Rattle.lv_reduce.specs.Stretch.{IsStretch};
-ghost use Rattle.lv_live.specs.State.{HasClaim, HasDelivery, HasNoClaims, SameLive, SameRefresh, node_and_version, recorded};
+ghost use Rattle.lv_live.specs.State.{HasClaim, HasDelivery, HasNoClaims, IsLive, SameLive, SameRefresh, node_and_version, recorded};
 ghost use Rattle.lv_live.specs.Step.{Reduces, Scans};
-ghost use Rattle.lv_live.specs.Turns.{TakesTurns};
+ghost use Rattle.lv_live.specs.Turns.{TakesTurn, TakesTurns};
 
 use crate::following::{follow, make_room, touched_indices};
 use crate::vouching::stands_here;
@@ -66,19 +66,29 @@ impl<B: Body> Live<B> {
         }
     }
 
-    /// Makes an edit. Refused as `verdict` says, else with `NoMemory`; room for summaries, claims, element and journal is
-    /// made before anything changes.
+    /// Makes an edit. Refused as `verdict` says, else with `NoMemory`, and nothing has changed then.
     pub fn apply(&mut self, edit: Edit) -> Result<Receipt, Refusal>
         ensures answer { Answers self.old.history edit result self.new.history }
         ensures limits { InLimits self.new.history }
         ensures refresh { SameRefresh self.old self.new }
     {
-        if let Some(refusal) = self.cells.verdict(&edit) {
-            return Err(refusal);
+        match self.cells.verdict(&edit) {
+            Some(refusal) => Err(refusal),
+            None => self.make(edit),
         }
+    }
+
+    /// Makes an edit that the verdict allows, so that it is refused with `NoMemory` alone. Room for summaries, claims, element and
+    /// journal is made before anything changes.
+    pub fn make(&mut self, edit: Edit) -> Result<Receipt, Refusal>
+        requires { verdict_of self.old.history.limits self.old.history.journal edit ≡ None }
+        ensures answer { Answers self.old.history edit result self.new.history }
+        ensures limits { InLimits self.new.history }
+        ensures refresh { SameRefresh self.old self.new }
+    {
         let touched = touched_indices(&edit, self.table.size());
         make_room(&mut self.table, &mut self.claims, touched)?;
-        let receipt = self.cells.apply(edit)?;
+        let receipt = self.cells.make(edit)?;
         follow(
             &mut self.table,
             &mut self.claims,
@@ -206,15 +216,28 @@ impl<B: Body> Live<B> {
         ensures most { result ≤ jobs }
         ensures idle { result < jobs → IsNextJob (recorded self.new) None }
     {
-        // Each edit is within the limits.
-        let _size = self.cells.size();
         for done in 0..jobs {
-            let Some(job) = self.claim() else {
+            if !self.take_turn() {
                 return done;
-            };
-            let _ = self.accept(job.run());
+            }
         }
         jobs
+    }
+
+    // Claims the least node that wants a job, computes its summary where its contents lie, and installs that. Tells whether a node
+    // wanted one. No job is made, since jobs are wide.
+    #[inline(always)]
+    fn take_turn(&mut self) -> bool
+        ensures turn { result ≡ true → TakesTurn self.old self.new }
+        ensures idle { result ≡ false → IsNextJob (recorded self.old) None }
+        ensures same { result ≡ false → HasClaim self.old self.new None }
+    {
+        let Some(done) = self.claims.compute(&self.cells, &self.table, &self.body) else {
+            return false;
+        };
+        let _ = self.table.install(done.node, done.version, done.summary);
+        self.claims.hint_parent(done.node);
+        true
     }
 
     /// Forgets all claims. Jobs that were handed out stay good. Takes no memory.
@@ -256,6 +279,14 @@ impl<B: Body> Live<B> {
             self.claims.hint_parent(node);
         }
         accepted
+    }
+
+    /// Says what every vector keeps, to a caller who sees no invariant: it is a live one. Computes nothing.
+    #[inline(always)]
+    pub fn keeps(&self)
+        ensures { IsLive (B.operations (B.meaning self.now.body)) self.now }
+    {
+        let _ = &self.body;
     }
 
     // What a query reads.

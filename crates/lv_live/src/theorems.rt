@@ -1,4 +1,4 @@
-ghost use Rattle.std.specs.Prelude.{◌≡◌, ℕ, List};
+ghost use Rattle.std.specs.Prelude.{◌≡◌, ℕ, List, ◌++◌};
 ghost use Rattle.lv_geometry.specs.Bounds.{Bounds};
 ghost use Rattle.lv_geometry.specs.declared.nodes.Node.{Node};
 ghost use Rattle.lv_geometry.specs.declared.refusals.Refusal.{Refusal};
@@ -6,6 +6,7 @@ ghost use Rattle.lv_edits.specs.History.{IsLegal};
 ghost use Rattle.lv_refresh.specs.declared.contents.Contents.{Contents};
 ghost use Rattle.lv_refresh.specs.Honesty.{IsHonest, Vouched};
 ghost use Rattle.lv_refresh.specs.Record.{Record, SameRecord};
+ghost use Rattle.lv_live.specs.EveryRun.{AreTrueOf, accepted_in};
 ghost use Rattle.lv_live.specs.PlainAnswers.{AllHadRoom, answers_in, plain_answers, without_refresh};
 ghost use Rattle.lv_live.specs.Step.{Run, Step};
 ghost use Rattle.lv_live.specs.declared.events.Event.{Event};
@@ -13,6 +14,16 @@ ghost use Rattle.lv_live.specs.declared.replies.Reply.{Reply};
 ghost use Rattle.lv_live.specs.declared.replies.Reply.TheVariants.{Refused};
 
 use lv_bodies::Body;
+
+/// Every run, also one that meets want of memory, leaves the edits that there were and then those that it accepted, in order; and
+/// each of its answers is true of these: a reduction at edit e is the plain left fold of its range after the first e of them, a
+/// scan its running folds, and a receipt that of its edit.
+pub fn every_run_is_true_of_its_edits<B: Body>()
+    ensures edits { (m : B.Meaning) (limits : Bounds) (r next : Record) (events : List Event) (replies : List (Reply B.S)) →
+        Run (B.operations m) limits r events replies next → next.edits ≡ r.edits ++ accepted_in events replies }
+    ensures answers { (m : B.Meaning) (limits : Bounds) (r next : Record) (events : List Event) (replies : List (Reply B.S)) →
+        Run (B.operations m) limits r events replies next → AreTrueOf (B.operations m) next.edits events replies }
+{}
 
 /// In every run edits and queries are answered by the edits alone: each reduction is the plain left fold of its range, and
 /// each scan its running folds, after the edits accepted before it, counts of reads apart. Runs that meet want of memory apart.
@@ -30,6 +41,17 @@ pub fn refresh_changes_no_answer<B: Body>()
         Run (B.operations m) limits q others answers after → AllHadRoom answers →
         r.edits ≡ q.edits → without_refresh events ≡ without_refresh others →
         answers_in events replies ≡ answers_in others answers }
+{}
+
+/// Where memory is never wanted, a run has one outcome: from records that say the same, the same events have the same replies,
+/// with every count and every job, and leave records that say the same.
+pub fn runs_have_one_outcome<B: Body>()
+    ensures replies { (m : B.Meaning) (limits : Bounds) (r next q after : Record) (events : List Event) (replies answers : List (Reply B.S)) →
+        SameRecord r q → Run (B.operations m) limits r events replies next → AllHadRoom replies →
+        Run (B.operations m) limits q events answers after → AllHadRoom answers → replies ≡ answers }
+    ensures record { (m : B.Meaning) (limits : Bounds) (r next q after : Record) (events : List Event) (replies answers : List (Reply B.S)) →
+        SameRecord r q → Run (B.operations m) limits r events replies next → AllHadRoom replies →
+        Run (B.operations m) limits q events answers after → AllHadRoom answers → SameRecord next after }
 {}
 
 /// Whatever is refused changes nothing: the record is the same after any refusal.
@@ -51,4 +73,12 @@ pub fn honesty_lasts<B: Body>()
 pub fn honest_outcomes_are_vouched_for<B: Body>()
     ensures { (m other : B.Meaning) (r : Record) (n : Node) (v : ℕ) (contents : Contents B.S) →
         m ≡ other → IsLegal r.edits → IsHonest (B.operations m) r n v contents → Vouched (B.operations m) r (m ≡ other) n v contents }
+{}
+
+/// A job stays good: contents that were taken honestly at some moment of a run are vouched for at its end, whatever happened
+/// between, and so at every later moment.
+pub fn jobs_stay_vouched_for<B: Body>()
+    ensures { (m other : B.Meaning) (limits : Bounds) (r next : Record) (events : List Event) (replies : List (Reply B.S)) (n : Node) (v : ℕ) (contents : Contents B.S) →
+        m ≡ other → IsLegal r.edits → Run (B.operations m) limits r events replies next →
+        IsHonest (B.operations m) r n v contents → Vouched (B.operations m) next (m ≡ other) n v contents }
 {}

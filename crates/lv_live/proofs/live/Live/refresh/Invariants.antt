@@ -1,7 +1,6 @@
-use Rattle.lv_edits.specs.Kept.{InLimits}
 use Rattle.lv_live.specs.Turns.{TakesTurns}
 use Rattle.lv_live.proofs.live.Live.refresh.Given as goal
 
 -- so many turns were taken
 abbrev pub invariant-loop-done : goal.invariant-loop-done
-invariant-loop-done g l = InLimits l.self.history × TakesTurns (g.B.Body.operations (g.B.Body.meaning l.initial.self.body)) l.initial.self l.self l.done
+invariant-loop-done g l = TakesTurns (g.B.Body.operations (g.B.Body.meaning l.initial.self.body)) l.initial.self l.self l.done
