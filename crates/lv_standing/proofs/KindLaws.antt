@@ -4,23 +4,14 @@ use Rattle.std.proofs.lemmas.List.Sums.{fold-append}
 use Rattle.std.proofs.Math.Seq.{drop-append_seam, take-append_seam}
 use Rattle.std.proofs.lemmas.List.Elements.{All-drop, All-head, All-take}
 use Rattle.lv_geometry.specs.Elements.{IsElement}
-use Rattle.lv_bodies.specs.Body.{BodyLaws, CanFold, CanGrow, fold_of}
+use Rattle.lv_bodies.specs.Body.{CanFold, CanGrow, fold_of}
 use Rattle.lv_bodies.specs.FoldLaws.{fold_of-within}
-use Rattle.lv_bodies.specs.AffineLaws.{affine_laws}
-use Rattle.lv_bodies.specs.AffineMaps.{IsAffineMap}
-use Rattle.lv_bodies.specs.ExtremeLaws.{greatest_laws, least_laws}
-use Rattle.lv_bodies.specs.Extremes.{IsExtreme}
-use Rattle.lv_bodies.specs.PairLaws.{pair_laws}
-use Rattle.lv_bodies.specs.Pairs.{IsPairWithin}
 use Rattle.lv_bodies.specs.RunTotals.{IsBest, best_operations}
-use Rattle.lv_bodies.specs.SumLaws.{sum_laws}
-use Rattle.lv_bodies.specs.Sums.{IsSum}
-use Rattle.lv_bodies.specs.TableLaws.{automaton_laws}
 use Rattle.lv_bodies.specs.Tables.{IsStateMap}
-use Rattle.lv_bodies.specs.TotalsLaws.{best_laws}
 use Rattle.lv_bodies.specs.declared.best.RunTotals.{RunTotals}
 use Rattle.lv_bodies.specs.Plain.{plain_value, program_table}
-use Rattle.lv_bodies.specs.Six.{SixSummary, face_of, six_meaning, six_operations}
+use Rattle.lv_bodies.specs.Six.{SixSummary, face_of, six_operations, six_within}
+use Rattle.lv_bodies.specs.SixLaws.{six_laws}
 use Rattle.lv_bodies.specs.declared.kinds.Kind.{Kind}
 use Rattle.lv_bodies.specs.declared.kinds.Kind.TheVariants.{Sum, Least, Greatest, Best, Affine, Automaton}
 use Rattle.lv_bodies.proofs.SixFolds.{face_of-fold}
@@ -49,13 +40,13 @@ shown_of_part Automaton s = refl
 -- what is shown of the summary of some elements is their plain value
 pub shown_is_plain : (k : Kind) (xs : List ℤ) → CanFold xs → shown_of (summary_of k xs) ≡ plain_value k xs
 shown_is_plain k xs can =
-    let s = fold_of (six_operations six_meaning) xs in
-    shown_of_part k s ∙ face_of-fold six_meaning k s xs can refl
+    let s = fold_of six_operations xs in
+    shown_of_part k s ∙ face_of-fold program_table k s xs can refl
 
 -- the fold of some elements and one more is theirs, joined with what that one lifts to
-pub six_more : (xs : List ℤ) (x : ℤ) → fold_of (six_operations six_meaning) (xs ++ x ∷ []) ≡ (six_operations six_meaning).join (fold_of (six_operations six_meaning) xs) ((six_operations six_meaning).lift x)
+pub six_more : (xs : List ℤ) (x : ℤ) → fold_of six_operations (xs ++ x ∷ []) ≡ six_operations.join (fold_of six_operations xs) (six_operations.lift x)
 six_more xs x =
-    let o = six_operations six_meaning in
+    let o = six_operations in
     fold-append (λ s y. o.join s (o.lift y)) o.identity xs (x ∷ [])
 
 -- what can be folded with one more can be folded without it
@@ -65,21 +56,13 @@ can_fold_front xs x can = record {
   elements = subst (All IsElement) (take-append_seam xs (x ∷ [])) (All-take IsElement (length xs) (xs ++ x ∷ []) can.elements);
 }
 
--- what keeps the bounds of all six
-abbrev six_within : SixSummary → ℕ → Type 0
-six_within = IsPairWithin IsSum (IsPairWithin IsExtreme (IsPairWithin IsExtreme (IsPairWithin IsBest (IsPairWithin IsAffineMap IsStateMap))))
-
--- the six keep the laws of a body
-six_laws : BodyLaws (six_operations six_meaning) six_within
-six_laws = pair_laws _ _ _ _ sum_laws (pair_laws _ _ _ _ least_laws (pair_laws _ _ _ _ greatest_laws (pair_laws _ _ _ _ best_laws (pair_laws _ _ _ _ affine_laws (automaton_laws program_table refl)))))
-
 module _ (before : List ℤ) (x : ℤ) (can : CanFold (before ++ x ∷ [])) where
   -- the fold of all but the last keeps its bounds
-  front_within : six_within (fold_of (six_operations six_meaning) before) (length before)
-  front_within = fold_of-within (six_operations six_meaning) six_within six_laws before (can_fold_front before x can)
+  front_within : six_within (fold_of six_operations before) (length before)
+  front_within = fold_of-within six_operations six_within six_laws before (can_fold_front before x can)
 
   -- so that best runs may take one more element
-  pub best_can_grow : (s : Option RunTotals) → s ≡ (fold_of (six_operations six_meaning) before).1.1.1.0 → CanGrow IsBest s
+  pub best_can_grow : (s : Option RunTotals) → s ≡ (fold_of six_operations before).1.1.1.0 → CanGrow IsBest s
   best_can_grow s e = record {
     count = length before;
     count_within = subst (λ t. IsBest t (length before)) (sym e) front_within.1.1.1.0;
@@ -87,7 +70,7 @@ module _ (before : List ℤ) (x : ℤ) (can : CanFold (before ++ x ∷ [])) wher
   }
 
   -- and an automaton's row
-  pub row_can_grow : (s : List ℕ) → s ≡ (fold_of (six_operations six_meaning) before).1.1.1.1.1 → CanGrow IsStateMap s
+  pub row_can_grow : (s : List ℕ) → s ≡ (fold_of six_operations before).1.1.1.1.1 → CanGrow IsStateMap s
   row_can_grow s e = record {
     count = length before;
     count_within = subst (λ t. IsStateMap t (length before)) (sym e) front_within.1.1.1.1.1;
@@ -96,12 +79,12 @@ module _ (before : List ℤ) (x : ℤ) (can : CanFold (before ++ x ∷ [])) wher
 
 module _ (k : KindSummary) (before : List ℤ) (from : k ≡ summary_of (kind_of k) before) where
   -- best runs that are kept are those of the fold
-  pub best_is : (s : Option RunTotals) → k ≡ kept.Best s → s ≡ (fold_of (six_operations six_meaning) before).1.1.1.0
-  best_is s is = let e : kept.Best s ≡ kept.Best (fold_of (six_operations six_meaning) before).1.1.1.0 = subst (λ j. j ≡ summary_of (kind_of j) before) is from in cc
+  pub best_is : (s : Option RunTotals) → k ≡ kept.Best s → s ≡ (fold_of six_operations before).1.1.1.0
+  best_is s is = let e : kept.Best s ≡ kept.Best (fold_of six_operations before).1.1.1.0 = subst (λ j. j ≡ summary_of (kind_of j) before) is from in cc
 
   -- so is a row
-  pub row_is : (s : List ℕ) → k ≡ kept.Automaton s → s ≡ (fold_of (six_operations six_meaning) before).1.1.1.1.1
-  row_is s is = let e : kept.Automaton s ≡ kept.Automaton (fold_of (six_operations six_meaning) before).1.1.1.1.1 = subst (λ j. j ≡ summary_of (kind_of j) before) is from in cc
+  pub row_is : (s : List ℕ) → k ≡ kept.Automaton s → s ≡ (fold_of six_operations before).1.1.1.1.1
+  row_is s is = let e : kept.Automaton s ≡ kept.Automaton (fold_of six_operations before).1.1.1.1.1 = subst (λ j. j ≡ summary_of (kind_of j) before) is from in cc
 
   -- best runs with one more element
   pub best_more : (s r : Option RunTotals) (x : ℤ) → k ≡ kept.Best s → r ≡ best_operations.join s (best_operations.lift x) → kept.Best r ≡ summary_of (kind_of k) (before ++ x ∷ [])
@@ -110,14 +93,14 @@ module _ (k : KindSummary) (before : List ℤ) (from : k ≡ summary_of (kind_of
       ∙ ap (λ j. summary_of (kind_of j) (before ++ x ∷ [])) (sym is)
 
 -- a part of the fold of some elements is their summary by its kind
-pub part_is_current : (k : Kind) (xs : List ℤ) (six : SixSummary) (s : KindSummary) → s ≡ part_of k six → six ≡ fold_of (six_operations six_meaning) xs → s ≡ summary_of (kind_of s) xs
+pub part_is_current : (k : Kind) (xs : List ℤ) (six : SixSummary) (s : KindSummary) → s ≡ part_of k six → six ≡ fold_of six_operations xs → s ≡ summary_of (kind_of s) xs
 part_is_current k xs six s part fold =
     let e : s ≡ summary_of k xs = part ∙ ap (part_of k) fold in
-    e ∙ ap (λ j. summary_of j xs) (sym (ap kind_of e ∙ kind_of_part k (fold_of (six_operations six_meaning) xs)))
+    e ∙ ap (λ j. summary_of j xs) (sym (ap kind_of e ∙ kind_of_part k (fold_of six_operations xs)))
 
 -- a summary by a kind is one by the kind that it is of
 pub summary_is_current : (k : Kind) (xs : List ℤ) → summary_of k xs ≡ summary_of (kind_of (summary_of k xs)) xs
-summary_is_current k xs = part_is_current k xs (fold_of (six_operations six_meaning) xs) (summary_of k xs) refl refl
+summary_is_current k xs = part_is_current k xs (fold_of six_operations xs) (summary_of k xs) refl refl
 
 -- the last of what can be folded is a number of 64 bits
 pub last_is_element : (before : List ℤ) (x : ℤ) → CanFold (before ++ x ∷ []) → IsElement x

@@ -3,5 +3,4 @@ pub mod KeptNames
 pub mod KindLaws
 pub mod NoteLaws
 pub mod RangeLaws
-mod ProgramLaws
 mod SameLaws

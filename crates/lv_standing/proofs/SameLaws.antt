@@ -1,13 +1,6 @@
 -- A vector that learnt something is as it was for its queries.
-use Rattle.std.proofs.Common.{◌≡◌, ◌∙◌, refl, subst, sym}
-use Rattle.lv_bodies.specs.declared.sixes.Six.{Six}
-use Rattle.lv_bodies.specs.Six.{SixMeaning, six_meaning}
+use Rattle.std.proofs.Common.{◌∙◌, refl}
 use Rattle.lv_live.specs.State.{LiveState, SameLive, SameRefresh}
-
--- a body that is the same means the same
-pub still_six : (old new : Six) → new ≡ old → ◌≡◌ {A = SixMeaning} (tt, (tt, (tt, (tt, (tt, old.pairs.second.second.second.second.second.table))))) six_meaning
-    → ◌≡◌ {A = SixMeaning} (tt, (tt, (tt, (tt, (tt, new.pairs.second.second.second.second.second.table))))) six_meaning
-still_six old new same is = subst (λ (b : Six). ◌≡◌ {A = SixMeaning} (tt, (tt, (tt, (tt, (tt, b.pairs.second.second.second.second.second.table))))) six_meaning) (sym same) is
 
 module _ {B S : Type 0} where
   -- a vector is as it is

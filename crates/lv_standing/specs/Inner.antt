@@ -3,7 +3,7 @@ use Rattle.std.specs.Prelude.{◌≡◌, ◌≢◌, ◌⊎◌, ◌≤◌, ℕ, �
 use Rattle.std.specs.List.{slice_range}
 use Rattle.indexmap.specs.IndexMap.{set_value_at}
 use Rattle.lv_bodies.specs.Body.{fold_of}
-use Rattle.lv_bodies.specs.Six.{SixSummary, six_meaning, six_operations}
+use Rattle.lv_bodies.specs.Six.{SixSummary, six_operations}
 use Rattle.lv_bodies.specs.declared.kinds.Shown.{Shown}
 use Rattle.lv_edits.specs.declared.edit.Edit.{Edit}
 use Rattle.lv_edits.specs.declared.edit.Edit.TheVariants.{Push, Pop, Write, Reserve, Swap, Truncate}
@@ -22,7 +22,7 @@ refreshed edits entry = (entry.0, record entry.1 { summary = summary_at edits en
 
 -- what all six make of the elements that a range has after some edits
 abbrev pub six_of : List Edit → ℕ → ℕ → SixSummary
-six_of edits lo hi = fold_of (six_operations six_meaning) (slice_range (list_of edits) lo hi)
+six_of edits lo hi = fold_of six_operations (slice_range (list_of edits) lo hi)
 
 -- it is what all six make of its range
 abbrev pub IsOfRange : List Edit → OfRange → Type 0

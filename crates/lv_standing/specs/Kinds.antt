@@ -1,7 +1,7 @@
 -- What a standing query keeps of the elements that its range has: their summary by its own kind.
 use Rattle.std.specs.Prelude.{ℤ, List, option_map}
 use Rattle.lv_bodies.specs.Body.{fold_of}
-use Rattle.lv_bodies.specs.Six.{SixSummary, six_meaning, six_operations}
+use Rattle.lv_bodies.specs.Six.{SixSummary, six_operations}
 use Rattle.lv_bodies.specs.declared.kinds.Kind.{Kind}
 use Rattle.lv_bodies.specs.declared.kinds.Kind.TheVariants as kind
 use Rattle.lv_bodies.specs.declared.kinds.Shown.{Shown}
@@ -38,4 +38,4 @@ shown_of (Automaton s) = shown.Automaton s
 
 -- the summary of some elements by a kind
 abbrev pub summary_of : Kind → List ℤ → KindSummary
-summary_of k xs = part_of k (fold_of (six_operations six_meaning) xs)
+summary_of k xs = part_of k (fold_of six_operations xs)

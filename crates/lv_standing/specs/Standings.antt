@@ -2,7 +2,7 @@
 use Rattle.std.specs.Prelude.{◌≡◌, ◌≤◌, ℕ, List, length, map}
 use Rattle.std.specs.List.{AllByRecursion, slice_range}
 use Rattle.lv_bodies.specs.declared.sixes.Six.{Six}
-use Rattle.lv_bodies.specs.Six.{SixMeaning, SixSummary, six_meaning}
+use Rattle.lv_bodies.specs.Six.{SixSummary}
 use Rattle.lv_edits.specs.declared.edit.Edit.{Edit}
 use Rattle.lv_edits.specs.History.{list_of}
 use Rattle.lv_edits.specs.Kept.{InLimits}
@@ -33,10 +33,8 @@ summary_at edits watch = summary_of (kind_of watch.summary) (slice_range (list_o
 abbrev pub IsCurrent : List Edit → List ℕ × Watch → Type 0
 IsCurrent edits entry = entry.1.summary ≡ summary_at edits entry.1
 
--- the vector is within its limits, its body is the program's six, there are at most 64 queries, and each watch keeps the summary
--- of its range at the last edit
-pub record IsStanding (meaning : SixMeaning) (live : LiveState Six SixSummary) (entries : List (List ℕ × Watch)) : Type 0 where
+-- the vector is within its limits, there are at most 64 queries, and each watch keeps the summary of its range at the last edit
+pub record IsStanding (live : LiveState Six SixSummary) (entries : List (List ℕ × Watch)) : Type 0 where
   pub limits : InLimits live.history
-  pub six : meaning ≡ six_meaning
   pub few : length entries ≤ 64
   pub current : AllByRecursion (IsCurrent live.history.journal) entries

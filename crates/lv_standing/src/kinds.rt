@@ -1,6 +1,5 @@
 ghost use Rattle.std.specs.Prelude.{◌≡◌, ℤ, List, [], ◌∷◌, ◌++◌};
 ghost use Rattle.lv_bodies.specs.Body.{CanFold};
-ghost use Rattle.lv_bodies.specs.Six.{SixMeaning, six_meaning};
 ghost use Rattle.lv_standing.specs.Kinds.{kind_of, part_of, shown_of, summary_of};
 
 use lv_bodies::{

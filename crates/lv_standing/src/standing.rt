@@ -1,6 +1,6 @@
 ghost use Rattle.std.specs.Prelude.{◌≡◌, ◌↔◌, ◌⊎◌, ◌≤◌, None, Some, IsTrue, IsSome, IfSome, IfOk, IfErr, OnOk, OnErr, List, [], ◌∷◌, ◌++◌, length, option_map};
 ghost use Rattle.lv_geometry.specs.declared.nodes.Node.{Node};
-ghost use Rattle.lv_bodies.specs.Six.{SixMeaning, six_meaning, six_operations};
+ghost use Rattle.lv_bodies.specs.Six.{six_operations};
 ghost use Rattle.lv_edits.specs.Kept.{InLimits};
 ghost use Rattle.lv_edits.specs.Verdict.{Accepts, IsRefusal, Refuses};
 ghost use Rattle.lv_summary.specs.Table.{OnlyLearns, known_in};
@@ -42,7 +42,7 @@ impl Model for Standing {
 
     ghost view = { λ a. record { live = a.live; queries = queries_of a.watches.entries } };
 
-    ghost invariant = { λ a. IsStanding (⟦<Six as Body>⟧.meaning a.live.body) a.live a.watches.entries };
+    ghost invariant = { λ a. IsStanding a.live a.watches.entries };
 }
 
 impl Standing {
@@ -55,7 +55,7 @@ impl Standing {
         ensures nothing_kept { (n : Node) → (recorded result.live).kept n ≡ None }
     {
         Standing {
-            live: Live::new(alloc, limits, Six::program()),
+            live: Live::new(alloc, limits, Six),
             watches: IndexMap::new(alloc),
         }
     }
@@ -134,7 +134,7 @@ impl Standing {
         let Ok(mut notes) = Vec::with_capacity(alloc, count_asked(&self.watches, changed)) else {
             return Err(Refusal::NoMemory);
         };
-        let receipt = self.live.apply(edit)?;
+        let receipt = self.live.make(edit)?;
         tell(
             &mut self.live,
             &mut self.watches,
@@ -148,7 +148,7 @@ impl Standing {
     /// The fold of the elements from index `lo` up to `hi` by all six, keeping what is computed for it: so a range that was asked
     /// for is cheap until an edit touches it. Refused with `BadRange`, then `OutOfRange`. Takes no memory.
     pub fn ask(&mut self, lo: u32, hi: u32) -> Result<Answer<<Six as Body>::S>, Refusal>
-        ensures ok { IfOk result (λ answer. IsAnswer (six_operations six_meaning) self.old.live.history.journal lo hi answer) }
+        ensures ok { IfOk result (λ answer. IsAnswer six_operations self.old.live.history.journal lo hi answer) }
         ensures err { IfErr result (λ refusal. range_refusal self.old.live.history.journal lo hi ≡ Some refusal) }
         ensures live { SameLive self.old.live self.new.live }
         ensures learns { OnlyLearns self.old.live.table self.new.live.table }
@@ -163,7 +163,6 @@ impl Standing {
     /// The live vector.
     pub fn live(&self) -> &Live<Six>
         ensures value { result.now ≡ self.now.live }
-        ensures program { ◌≡◌ {A = SixMeaning} (⟦<Six as Body>⟧.meaning self.now.live.body) six_meaning }
         ensures limits { InLimits self.now.live.history }
     {
         &self.live
@@ -182,7 +181,7 @@ impl Standing {
         ensures next { IsNextJob (recorded self.old.live) (option_map node_and_version result) }
         ensures claimed { HasClaim self.old.live self.new.live (option_map node_and_version result) }
         ensures body { IfSome result (λ job. job.body ≡ self.old.live.body) }
-        ensures honest { IfSome result (λ job. IsHonest (six_operations six_meaning)
+        ensures honest { IfSome result (λ job. IsHonest six_operations
             (recorded self.new.live) job.node job.version job.contents) }
         ensures queries { self.new.queries ≡ self.old.queries }
     {
@@ -199,7 +198,7 @@ impl Standing {
 
     /// Whether an outcome may be accepted. Yes for each outcome of a job that this vector handed out. Takes no memory.
     pub fn vet(&self, outcome: &Outcome<Six>) -> bool
-        ensures { IsTrue result ↔ Vouched (six_operations six_meaning) (recorded self.now.live)
+        ensures { IsTrue result ↔ Vouched six_operations (recorded self.now.live)
             (⟦<Six as Body>⟧.meaning self.now.live.body ≡ ⟦<Six as Body>⟧.meaning outcome.now.body) outcome.now.node outcome.now.version outcome.now.contents }
     {
         self.live.vet(outcome)
@@ -207,7 +206,7 @@ impl Standing {
 
     /// Takes an outcome in: it is stale, or held already, or its summary is installed. Takes no memory.
     pub fn accept(&mut self, outcome: Outcome<Six>) -> Accepted
-        requires { Vouched (six_operations six_meaning) (recorded self.old.live)
+        requires { Vouched six_operations (recorded self.old.live)
             (⟦<Six as Body>⟧.meaning self.old.live.body ≡ ⟦<Six as Body>⟧.meaning outcome.body) outcome.node outcome.version outcome.contents }
         ensures accepted { result ≡ delivery_of (recorded self.old.live) outcome.node outcome.version }
         ensures delivered { HasDelivery self.old.live self.new.live outcome.node outcome.version result }

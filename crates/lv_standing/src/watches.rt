@@ -2,7 +2,6 @@ ghost use Rattle.std.specs.Prelude.{◌≡◌, ℤ, IfSome, Some, map, slice_get
 ghost use Rattle.std.specs.List.{AllByRecursion, slice_range};
 ghost use Rattle.indexmap.specs.IndexMap.{index_map_len, set_value_at};
 ghost use Rattle.lv_bodies.specs.Body.{CanFold};
-ghost use Rattle.lv_bodies.specs.Six.{SixMeaning, six_meaning};
 ghost use Rattle.lv_edits.specs.declared.edit.Edit.{Edit as Change};
 ghost use Rattle.lv_edits.specs.History.{list_of};
 ghost use Rattle.lv_edits.specs.Kept.{InLimits};
@@ -51,7 +50,6 @@ impl Watch {
 
 /// What all six make of the elements that a range has, which may reach past the end. Takes no memory.
 pub fn ask(live: &Live<Six>, lo: u32, hi: u32) -> <Six as Body>::S
-    requires six { ◌≡◌ {A = SixMeaning} (⟦<Six as Body>⟧.meaning live.now.body) six_meaning }
     ensures { result ≡ six_of live.now.history.journal lo hi }
 {
     let end = hi.min(live.size());
@@ -64,7 +62,6 @@ pub fn ask(live: &Live<Six>, lo: u32, hi: u32) -> <Six as Body>::S
 
 // The same of a vector that may keep what is computed for it, so that a range is cheap to ask for after one edit more.
 fn ask_keeping(live: &mut Live<Six>, lo: u32, hi: u32) -> <Six as Body>::S
-    requires six { ◌≡◌ {A = SixMeaning} (⟦<Six as Body>⟧.meaning live.old.body) six_meaning }
     ensures value { result ≡ six_of live.old.history.journal lo hi }
     ensures live { SameLive live.old live.new }
 {
@@ -111,7 +108,6 @@ struct OfRange {
 
 // The summary of a query's range: part of what was asked for last, where that has the same range; else the vector is asked.
 fn summary_asked(live: &mut Live<Six>, watch: &Watch, last: &mut Option<OfRange>) -> KindSummary
-    requires six { ◌≡◌ {A = SixMeaning} (⟦<Six as Body>⟧.meaning live.old.body) six_meaning }
     requires last { IfSome last.old (IsOfRange live.old.history.journal) }
     ensures value { result ≡ summary_at live.old.history.journal watch.now }
     ensures last { IfSome last.new (IsOfRange live.old.history.journal) }
@@ -141,7 +137,6 @@ fn summary_after(
 ) -> KindSummary
     ghost before: { List ℤ }
     requires limits { InLimits live.old.history }
-    requires six { ◌≡◌ {A = SixMeaning} (⟦<Six as Body>⟧.meaning live.old.body) six_meaning }
     requires current { watch.now.summary ≡ summary_of (kind_of watch.now.summary) before }
     requires pushed { IfSome pushed (λ x. slice_range (list_of live.old.history.journal) watch.now.lo watch.now.hi ≡ before ++ x ∷ []) }
     requires last { IfSome last.old (IsOfRange live.old.history.journal) }
@@ -189,7 +184,6 @@ fn tell_one(
 )
     ghost old: { List Change }
     requires limits { InLimits live.old.history }
-    requires six { ◌≡◌ {A = SixMeaning} (⟦<Six as Body>⟧.meaning live.old.body) six_meaning }
     requires before { CanFold (list_of old) }
     requires elsewhere { SameElsewhere changed old live.old.history.journal }
     requires pushed { IfSome pushed (IsPushed changed old live.old.history.journal) }
@@ -222,7 +216,6 @@ pub fn tell(
 )
     ghost old: { List Change }
     requires limits { InLimits live.old.history }
-    requires six { ◌≡◌ {A = SixMeaning} (⟦<Six as Body>⟧.meaning live.old.body) six_meaning }
     requires before { CanFold (list_of old) }
     requires elsewhere { SameElsewhere changed old live.old.history.journal }
     requires pushed { IfSome pushed (IsPushed changed old live.old.history.journal) }

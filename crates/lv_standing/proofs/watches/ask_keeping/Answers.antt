@@ -1,6 +1,6 @@
-use Rattle.std.proofs.Common.{◌∙◌, ap, arith, slice_range}
+use Rattle.std.proofs.Common.{◌∙◌, ap, arith}
 use Rattle.lv_bodies.specs.Body.{fold_of}
-use Rattle.lv_bodies.specs.Six.{six_meaning, six_operations}
+use Rattle.lv_bodies.specs.Six.{six_operations}
 use Rattle.lv_edits.specs.History.{list_of}
 use Rattle.lv_standing.proofs.RangeLaws.{range_cut}
 use Rattle.lv_standing.proofs.watches.ask_keeping.Goals as goal
@@ -9,5 +9,4 @@ pub returns-clause-value : goal.returns-clause-value
 returns-clause-value c =
     let all = list_of c.args.live.now.history.journal in
     c.in-Ok.ensures.ok.value
-    ∙ ap (λ m. fold_of (six_operations m) (slice_range all c.min-start.result c.min-end.result)) c.requires.six
-    ∙ ap (fold_of (six_operations six_meaning)) (range_cut all c.args.lo c.args.hi c.min-start.result c.min-end.result (omega (arith, c.min-end.ensures, c.size.ensures)) (omega (arith, c.min-start.ensures)))
+    ∙ ap (fold_of six_operations) (range_cut all c.args.lo c.args.hi c.min-start.result c.min-end.result (omega (arith, c.min-end.ensures, c.size.ensures)) (omega (arith, c.min-start.ensures)))

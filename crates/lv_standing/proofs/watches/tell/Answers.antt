@@ -5,7 +5,7 @@ use Rattle.lv_standing.specs.Standings.{IsCurrent}
 use Rattle.lv_edits.proofs.Slices.{there_is}
 use Rattle.lv_standing.proofs.EntryLaws.{all_at, asked_more, rest_is}
 use Rattle.lv_standing.proofs.NoteLaws.{as_before, as_long, told_entries, told_notes, told_room}
-use Rattle.lv_standing.proofs.SameLaws.{same_live-along, still_six}
+use Rattle.lv_standing.proofs.SameLaws.{same_live-along}
 use Rattle.lv_standing.proofs.watches.tell.Goals as goal
 
 pub tell_one-requires : goal.tell_one-requires
@@ -17,26 +17,23 @@ tell_one-requires g c =
     let kept = as_before new all c.loop-i.watches.entries c.loop-i.i inside c.loop-i.invariant.entries in
     let still = c.loop-i.invariant.live.history in
     let limits : InLimits c.loop-i.live.history = rw still c.requires.0 in
-    let elsewhere : SameElsewhere c.args.changed g.old c.loop-i.live.history.journal = rw still c.requires.1.1.1.0 in
-    let pushed : IfSome c.args.pushed (IsPushed c.args.changed g.old c.loop-i.live.history.journal) = rw still c.requires.1.1.1.1.0 in
+    let elsewhere : SameElsewhere c.args.changed g.old c.loop-i.live.history.journal = rw still c.requires.1.1.0 in
+    let pushed : IfSome c.args.pushed (IsPushed c.args.changed g.old c.loop-i.live.history.journal) = rw still c.requires.1.1.1.0 in
     let last : IfSome c.loop-i.last (IsOfRange c.loop-i.live.history.journal) = rw still c.loop-i.invariant.last in (
       limits,
       (
-        still_six c.args.live.now.body c.loop-i.live.body c.loop-i.invariant.live.body c.requires.1.0,
+        c.requires.1.0,
         (
-          c.requires.1.1.0,
+          elsewhere,
           (
-            elsewhere,
+            pushed,
             (
-              pushed,
+              last,
               (
-                last,
+                omega (arith, inside, same),
                 (
-                  omega (arith, inside, same),
-                  (
-                    (λ e at. all_at (IsCurrent g.old) all c.loop-i.i e c.requires.1.1.1.1.1.0 (sym kept ∙ at)),
-                    (λ e at. omega (arith, c.loop-i.invariant.room, c.loop-i.notes.ok.0, asked_more c.args.changed e (drop (c.loop-i.i + 1) all), ap (λ es. length (asked c.args.changed es)) (rest_is all c.loop-i.i e (sym kept ∙ at)))),
-                  ),
+                  (λ e at. all_at (IsCurrent g.old) all c.loop-i.i e c.requires.1.1.1.1.0 (sym kept ∙ at)),
+                  (λ e at. omega (arith, c.loop-i.invariant.room, c.loop-i.notes.ok.0, asked_more c.args.changed e (drop (c.loop-i.i + 1) all), ap (λ es. length (asked c.args.changed es)) (rest_is all c.loop-i.i e (sym kept ∙ at)))),
                 ),
               ),
             ),

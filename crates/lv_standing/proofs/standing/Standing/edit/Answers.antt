@@ -11,7 +11,6 @@ use Rattle.lv_standing.specs.Standings.{IsCurrent, queries_of, query_at}
 use Rattle.lv_standing.proofs.EntryLaws.{all_refreshed, queries_refreshed}
 use Rattle.lv_standing.proofs.NoteLaws.{before_last, few_notes}
 use Rattle.lv_standing.proofs.RangeLaws.{edit_elsewhere, push_is_last}
-use Rattle.lv_standing.proofs.SameLaws.{still_six}
 use Rattle.lv_standing.proofs.standing.Standing.edit.Goals as goal
 
 -- a history with one more edit, without that edit
@@ -31,27 +30,24 @@ pushed_after old new edit changed x grown is by pushed =
 pub tell-requires : goal.tell-requires
 tell-requires c =
     let before = c.self.inside.live.history in
-    let after = c.apply.new.self.history in
+    let after = c.make.new.self.history in
     let grown = c.in_ok-receipt.ensures.answer.journal in
     let back = was before after c.args.edit grown in
     let changed : c.changed_by-changed.result ≡ changed_by (length (list_of before.journal)) c.args.edit = c.changed_by-changed.ensures ∙ ap (λ n. changed_by n c.args.edit) c.size.ensures in
     let pushed = push_is_last before c.args.edit c.self.invariant.limits.legal c.in_ok-receipt.ensures.answer.verdict in (
-      c.apply.ensures.limits,
+      c.make.ensures.limits,
       (
-        still_six _ _ c.apply.ensures.refresh.body c.self.invariant.six,
+        subst (λ js. CanFold (list_of js)) (sym back) (can_fold before c.self.invariant.limits),
         (
-          subst (λ js. CanFold (list_of js)) (sym back) (can_fold before c.self.invariant.limits),
+          (λ lo hi apart.
+              ap (λ (h : History). slice_range (list_of h.journal) lo hi) grown
+              ∙ edit_elsewhere before c.args.edit lo hi c.self.invariant.limits.legal c.in_ok-receipt.ensures.answer.verdict (sym (ap (has_changed lo hi) changed) ∙ apart)
+              ∙ ap (λ js. slice_range (list_of js) lo hi) (sym back)),
           (
-            (λ lo hi apart.
-                ap (λ (h : History). slice_range (list_of h.journal) lo hi) grown
-                ∙ edit_elsewhere before c.args.edit lo hi c.self.invariant.limits.legal c.in_ok-receipt.ensures.answer.verdict (sym (ap (has_changed lo hi) changed) ∙ apart)
-                ∙ ap (λ js. slice_range (list_of js) lo hi) (sym back)),
+            pushed_after before after c.args.edit c.changed_by-changed.result c.pushed_by.result grown changed c.pushed_by.ensures pushed,
             (
-              pushed_after before after c.args.edit c.changed_by-changed.result c.pushed_by.result grown changed c.pushed_by.ensures pushed,
-              (
-                subst (λ js. AllByRecursion (IsCurrent js) c.self.inside.watches.entries) (sym back) c.self.invariant.current,
-                (c.in-Ok.ensures.items, omega (arith, c.count_asked.ensures, c.in-Ok.ensures.capacity)),
-              ),
+              subst (λ js. AllByRecursion (IsCurrent js) c.self.inside.watches.entries) (sym back) c.self.invariant.current,
+              (c.in-Ok.ensures.items, omega (arith, c.count_asked.ensures, c.in-Ok.ensures.capacity)),
             ),
           ),
         ),
@@ -60,10 +56,9 @@ tell-requires c =
 
 pub invariant_of-self-2 : goal.invariant_of-self-2
 invariant_of-self-2 c = record {
-  limits = rw c.tell.ensures.live.history c.apply.ensures.limits;
-  six = still_six _ _ c.tell.ensures.live.body (still_six _ _ c.apply.ensures.refresh.body c.self.invariant.six);
-  few = omega (arith, ap length c.tell.ensures.entries, length-map c.self.inside.watches.entries (refreshed c.apply.new.self.history.journal), c.self.invariant.few);
-  current = rw c.tell.ensures.live.history (subst (AllByRecursion (IsCurrent c.apply.new.self.history.journal)) (sym c.tell.ensures.entries) (all_refreshed c.apply.new.self.history.journal c.self.inside.watches.entries));
+  limits = rw c.tell.ensures.live.history c.make.ensures.limits;
+  few = omega (arith, ap length c.tell.ensures.entries, length-map c.self.inside.watches.entries (refreshed c.make.new.self.history.journal), c.self.invariant.few);
+  current = rw c.tell.ensures.live.history (subst (AllByRecursion (IsCurrent c.make.new.self.history.journal)) (sym c.tell.ensures.entries) (all_refreshed c.make.new.self.history.journal c.self.inside.watches.entries));
 }
 
 pub returns-clause-few : goal.returns-clause-few
@@ -71,4 +66,4 @@ returns-clause-few c =
     omega (arith, few_notes _ _ (queries_of c.self.inside.watches.entries) c.tell.new.notes.items c.tell.ensures.notes, length-map c.self.inside.watches.entries query_at, c.self.invariant.few)
 
 pub returns-clause-queries : goal.returns-clause-queries
-returns-clause-queries c = rw (← c.self.view_is) (ap queries_of c.tell.ensures.entries ∙ queries_refreshed c.apply.new.self.history.journal c.self.inside.watches.entries)
+returns-clause-queries c = rw (← c.self.view_is) (ap queries_of c.tell.ensures.entries ∙ queries_refreshed c.make.new.self.history.journal c.self.inside.watches.entries)

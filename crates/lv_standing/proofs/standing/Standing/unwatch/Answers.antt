@@ -12,7 +12,6 @@ returns-in_default-clause-err c =
 pub invariant_of-self-2 : goal.invariant_of-self-2
 invariant_of-self-2 c = record {
   limits = c.self.invariant.limits;
-  six = c.self.invariant.six;
   few = omega (arith, c.in-Some.ensures.len, c.self.invariant.few);
   current = subst (AllByRecursion (IsCurrent c.self.inside.live.history.journal)) (sym c.in-Some.ensures.entries)
       (all_removed (IsCurrent c.self.inside.live.history.journal) (bytes_eq c.args.name) c.self.inside.watches.entries c.self.invariant.current);

@@ -30,7 +30,6 @@ invariant_of-self-2 c =
     let added = c.in-Ok.ensures.entries ∙ insert_entry-new bytes_eq c.self.inside.watches c.args.name _ missing in
     record {
       limits = c.self.invariant.limits;
-      six = c.self.invariant.six;
       few = omega (arith, ap length added, length-append c.self.inside.watches.entries ((c.args.name, record { lo = c.args.lo; hi = c.args.hi; summary = c.of-summary.result }) ∷ []), c.len.ensures.len);
       current = subst (AllByRecursion (IsCurrent c.self.inside.live.history.journal)) (sym added)
           (all_added (IsCurrent c.self.inside.live.history.journal) c.self.inside.watches.entries _ c.self.invariant.current
