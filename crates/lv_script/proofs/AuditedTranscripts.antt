@@ -142,7 +142,8 @@ module _ {remaining_old remaining_new before : Option (List ℕ)} (old new : Aud
   -- a conversation that ended by a fault wrote nothing
   pub Audited-stopped : (T : Type 0) (f : Fault) → Conversed AuditStep {T = T} old new remaining_old remaining_new before after (Err f) → Audited remaining_old remaining_new before after (Err f)
   Audited-stopped T fault.NoMemory c = record { seen = c.seen; read = c.read; few = c.few; ends = rw c.ends.2 (Appends-nil before) }
-  Audited-stopped T fault.ReadFault c = record { seen = c.seen; read = c.read; few = c.few; ends = all_nothing old new _ before after c.ends }
+  Audited-stopped T fault.ReadFault c = record { seen = c.seen; read = c.read; few = c.few; ends = (c.ends.0, all_nothing old new _ before after c.ends.1) }
+  Audited-stopped T fault.TooLong c = record { seen = c.seen; read = c.read; few = c.few; ends = (c.ends.0, all_nothing old new _ before after c.ends.1) }
   Audited-stopped T fault.WriteFault c = record {
     seen = c.seen;
     read = c.read;

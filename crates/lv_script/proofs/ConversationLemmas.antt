@@ -3,7 +3,7 @@ use Rattle.std.proofs.Common.{◌≡◌, ℕ, ◌+◌, ◌^◌, ◌<◌, List, [
 use Rattle.std.specs.Io.KnownBytes.{Appends}
 use Rattle.std.proofs.lemmas.List.{map-append, length-map}
 use Rattle.lv_script.specs.declared.fault.Fault.{Fault}
-use Rattle.lv_script.specs.declared.fault.Fault.TheVariants.{NoMemory, ReadFault, WriteFault}
+use Rattle.lv_script.specs.declared.fault.Fault.TheVariants.{NoMemory, ReadFault, TooLong, WriteFault}
 use Rattle.lv_script.specs.Input.{lines_of, whole_lines_of, unended_of, last_line}
 use Rattle.lv_script.specs.Output.{WritesFront}
 use Rattle.lv_script.specs.Replies.{AnswersAll, AnswersFront, Conversed}
@@ -106,7 +106,9 @@ module _ {S : Type 0} (step : S → ℕ → List ℕ → List ℕ → S → Type
       → Conversed step {T = T} start.state new.state remaining_old remaining_new start.contents new.contents (Err fault)
   Conversed-stopped new remaining_old remaining_new NoMemory h = absurd h.stops
   Conversed-stopped new remaining_old remaining_new ReadFault h =
-      record { seen = h.seen; read = h.read; few = h.few; ends = AnswersAll-Feeds new h.seen h.stops.0 h.stops.1 }
+      record { seen = h.seen; read = h.read; few = h.few; ends = (omega (arith, h.stops.0), AnswersAll-Feeds new h.seen h.stops.1 h.stops.2) }
+  Conversed-stopped new remaining_old remaining_new TooLong h =
+      record { seen = h.seen; read = h.read; few = h.few; ends = (h.stops.0, AnswersAll-Feeds new h.seen h.stops.1 h.stops.2) }
   Conversed-stopped new remaining_old remaining_new WriteFault h =
       record { seen = h.seen; read = h.read; few = h.few; ends = inl (AnswersFront-Feeds new h.seen h.stops) }
 

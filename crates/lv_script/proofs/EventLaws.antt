@@ -1,5 +1,5 @@
 -- What the calls of a vector with standing queries make of a script.
-use Rattle.std.proofs.Common.{◌≡◌, ℕ, ◌+◌, Bool, Option, Some, None, option_map, Result, Ok, Err, OnOk, IfErr, List, [], ◌∷◌, ◌++◌, length, drop, ◌-◌, arith, subst, refl, sym, ap, ◌∙◌, inl, inr}
+use Rattle.std.proofs.Common.{◌≡◌, ℕ, ◌+◌, Bool, Option, Some, None, option_map, Result, Ok, Err, OnOk, IfErr, List, [], ◌∷◌, ◌++◌, length, drop, ◌-◌, arith, refl, sym, ap, ◌∙◌, inl, inr}
 use Rattle.std.proofs.lemmas.List.{append-nil, length-drop, length-take}
 use Rattle.std.proofs.lemmas.List.Elements.{All-drop, All-take}
 use Rattle.lv_geometry.specs.declared.refusals.Refusal.{Refusal}
@@ -9,7 +9,7 @@ use Rattle.lv_bodies.specs.declared.kinds.Shown.{Shown}
 use Rattle.lv_bodies.specs.declared.sixes.Six.{Six}
 use Rattle.lv_bodies.specs.Body.{CanFold}
 use Rattle.lv_bodies.specs.Plain.{plain_value}
-use Rattle.lv_bodies.specs.Six.{SixMeaning, SixSummary, six_meaning, six_operations}
+use Rattle.lv_bodies.specs.Six.{SixSummary, six_operations}
 use Rattle.lv_edits.specs.declared.edit.Edit.{Edit}
 use Rattle.lv_edits.specs.declared.receipt.Receipt.{Receipt}
 use Rattle.lv_edits.specs.History.{History, list_of}
@@ -19,7 +19,6 @@ use Rattle.lv_edits.specs.Verdict.{Accepts, Refuses}
 use Rattle.lv_refresh.specs.Carried.{Carried}
 use Rattle.lv_refresh.specs.Claim.{IsNextJob}
 use Rattle.lv_refresh.specs.Delivery.{delivery_of}
-use Rattle.lv_refresh.specs.Record.{Record}
 use Rattle.lv_reduce.specs.declared.reductions.Answer.{Answer}
 use Rattle.lv_reduce.specs.Answer.{range_refusal, slice_of}
 use Rattle.lv_live.specs.declared.events.Event.TheVariants as event
@@ -35,7 +34,7 @@ use Rattle.lv_script.specs.declared.fault.Fault.TheVariants.{WriteFault}
 use Rattle.lv_script.specs.Output.{Writes, WritesFront}
 use Rattle.lv_script.specs.Replies.{FailsToReply, Replies}
 use Rattle.lv_script.proofs.OutputLemmas.{Writes-trans, WritesFront-after}
-use Rattle.lv_script.specs.Script.{HasQueries, Tells, TellsEdit, TellsEvent, TellsScan, edit_text, notes_text, plain_scan, program_operations, reduced_text, reply_text, scanned_range_text}
+use Rattle.lv_script.specs.Script.{HasQueries, Tells, TellsEdit, TellsEvent, TellsScan, edit_text, notes_text, plain_scan, reduced_text, reply_text, scanned_range_text}
 use Rattle.lv_script.specs.Scripted.{state_of}
 use Rattle.lv_script.specs.Texts.{answer_text, refused_text, scan_text}
 
@@ -49,7 +48,7 @@ pub tells_claim : (old new : StandingState) (job : Option (Carried Six SixSummar
 tells_claim old new job jobs next has queries =
     record {
       answered = claim_reply (length jobs + 1) (option_map node_and_version job);
-      does = record { step = step_claim program_operations old.live new.live job jobs next has; limits = ap (λ h. h.limits) has.history; queries = queries };
+      does = record { step = step_claim six_operations old.live new.live job jobs next has; limits = ap (λ h. h.limits) has.history; queries = queries };
       text_is = refl;
     }
 
@@ -59,24 +58,24 @@ pub tells_delivery : (old new : StandingState) (k : ℕ) (job : Carried Six SixS
 tells_delivery old new k job jobs is has queries =
     record {
       answered = reply.Gave (delivery_of (recorded old.live) job.node job.version);
-      does = record { step = step_delivery program_operations old.live new.live k job jobs is has; limits = ap (λ h. h.limits) has.history; queries = queries };
+      does = record { step = step_delivery six_operations old.live new.live k job jobs is has; limits = ap (λ h. h.limits) has.history; queries = queries };
       text_is = refl;
     }
 
 -- a delivery of no job
 pub tells_no_job : (s : StandingState) (k : ℕ) (jobs : List (Carried Six SixSummary)) → job_at jobs k ≡ None → TellsEvent (state_of s jobs) (event.Deliver k) (refused_text NoJob) (state_of s jobs)
 tells_no_job s k jobs none =
-    record { answered = reply.Refused NoJob; does = record { step = step_no_job program_operations s.live k jobs none; limits = refl; queries = refl }; text_is = refl }
+    record { answered = reply.Refused NoJob; does = record { step = step_no_job six_operations s.live k jobs none; limits = refl; queries = refl }; text_is = refl }
 
 -- that claims are forgotten
 pub tells_forget : (old new : StandingState) (jobs : List (Carried Six SixSummary)) → HasNoClaims old.live new.live → new.queries ≡ old.queries → TellsEvent (state_of old jobs) event.Forget (reply_text reply.Forgotten) (state_of new jobs)
 tells_forget old new jobs has queries =
-    record { answered = reply.Forgotten; does = record { step = step_forget program_operations old.live new.live jobs has; limits = ap (λ h. h.limits) has.history; queries = queries }; text_is = refl }
+    record { answered = reply.Forgotten; does = record { step = step_forget six_operations old.live new.live jobs has; limits = ap (λ h. h.limits) has.history; queries = queries }; text_is = refl }
 
 -- that what is pending is completed
 pub tells_settle : (old new : StandingState) (jobs : List (Carried Six SixSummary)) → SameLive old.live new.live → new.queries ≡ old.queries → TellsEvent (state_of old jobs) event.Settle (reply_text reply.Settled) (state_of new jobs)
 tells_settle old new jobs same queries =
-    record { answered = reply.Settled; does = record { step = step_settle program_operations old.live new.live jobs same; limits = ap (λ h. h.limits) same.history; queries = queries }; text_is = refl }
+    record { answered = reply.Settled; does = record { step = step_settle six_operations old.live new.live jobs same; limits = ap (λ h. h.limits) same.history; queries = queries }; text_is = refl }
 
 -- an answer of a vector that may have learnt something
 pub tells_still : (old new : StandingState) (text : List ℕ) (jobs : List (Carried Six SixSummary)) → SameLive old.live new.live → new.queries ≡ old.queries → Tells (state_of old jobs) text text (state_of new jobs)
@@ -90,10 +89,10 @@ tells_still old new text jobs same queries = (
 )
 
 -- what is read for a reduction
-pub tells_reads : (s : StandingState) (lo hi : ℕ) (answer : Result (Answer SixSummary) Refusal) (jobs : List (Carried Six SixSummary)) → Reduces program_operations (recorded s.live) lo hi answer
+pub tells_reads : (s : StandingState) (lo hi : ℕ) (answer : Result (Answer SixSummary) Refusal) (jobs : List (Carried Six SixSummary)) → Reduces six_operations (recorded s.live) lo hi answer
     → TellsEvent (state_of s jobs) (event.Reduce lo hi) (reply_text (reduction_reply answer)) (state_of s jobs)
 tells_reads s lo hi answer jobs is =
-    record { answered = reduction_reply answer; does = record { step = step_reduction program_operations s.live lo hi answer jobs is; limits = refl; queries = refl }; text_is = refl }
+    record { answered = reduction_reply answer; does = record { step = step_reduction six_operations s.live lo hi answer jobs is; limits = refl; queries = refl }; text_is = refl }
 
 -- an edit that was accepted, with its notes
 pub tells_accepted : (old new : StandingState) (e : Edit) (receipt : Receipt) (notes : List Note) (jobs : List (Carried Six SixSummary)) → SameRefresh old.live new.live → Accepts old.live.history e receipt new.live.history → new.queries ≡ old.queries
@@ -102,7 +101,7 @@ tells_accepted old new e receipt notes jobs same accepts queries are =
     record {
       answer = Ok receipt;
       notes = notes;
-      does = record { step = step_edit program_operations old.live new.live e (Ok receipt) jobs same accepts; limits = ap (λ h. h.limits) accepts.journal; queries = queries };
+      does = record { step = step_edit six_operations old.live new.live e (Ok receipt) jobs same accepts; limits = ap (λ h. h.limits) accepts.journal; queries = queries };
       notes_are = are;
       text_is = refl;
     }
@@ -119,7 +118,7 @@ tells_refused old new e refusal jobs same refuses queries =
     record {
       answer = Err refusal;
       notes = [];
-      does = record { step = step_edit program_operations old.live new.live e (Err refusal) jobs same refuses; limits = ap (λ h. h.limits) refuses.same; queries = queries };
+      does = record { step = step_edit six_operations old.live new.live e (Err refusal) jobs same refuses; limits = ap (λ h. h.limits) refuses.same; queries = queries };
       notes_are = rw refuses.same (no_notes old.live.history.journal old.queries);
       text_is = sym (append-nil (refused_text refusal));
     }
@@ -136,10 +135,6 @@ can_fold_slice h lo hi limits =
       few = omega (arith, limits.few, length-take (hi - lo) (drop lo (list_of h.journal)), length-drop lo (list_of h.journal));
       elements = All-take IsElement (hi - lo) (drop lo (list_of h.journal)) (All-drop IsElement lo (list_of h.journal) limits.elements);
     }
-
--- a reduction by the program's six is one by the program's operations
-pub reduces_by_program : (m : SixMeaning) (r : Record) (lo hi : ℕ) (answer : Result (Answer SixSummary) Refusal) → m ≡ six_meaning → Reduces (six_operations m) r lo hi answer → Reduces program_operations r lo hi answer
-reduces_by_program m r lo hi answer is = subst (λ m. Reduces (six_operations m) r lo hi answer) is
 
 -- the reply to a scan of a range that nothing refuses
 abbrev granted_text : StandingState → Bool → Kind → ℕ → ℕ → List ℕ

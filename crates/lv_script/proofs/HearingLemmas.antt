@@ -1,7 +1,7 @@
 -- How the reading ends.
 use Rattle.std.proofs.Common.{◌≡◌, ℕ, ◌<◌, ◌≤◌, List, [], length, Option, Ok, Err, arith}
 use Rattle.std.specs.Io.KnownBytes.{Appends, Consumes, IsAtEnd}
-use Rattle.lv_script.specs.declared.fault.Fault.TheVariants.{ReadFault, WriteFault}
+use Rattle.lv_script.specs.declared.fault.Fault.TheVariants.{ReadFault, TooLong, WriteFault}
 use Rattle.lv_script.specs.Output.{WritesFront}
 use Rattle.lv_script.specs.Progress.{Point, Feeds, Hears}
 use Rattle.lv_script.proofs.ProgressLemmas.{Feeds-sent, FeedsFront-sent}
@@ -14,11 +14,17 @@ module _ {S : Type 0} (step : S → ℕ → List ℕ → List ℕ → S → Type
   Hears-unsent contents held few unsent =
       record { seen = seen; read = read; few = few; stops = FeedsFront-sent step start here contents held seen fed unsent }
 
-  -- what is held is sent, and then no more is read
-  pub Hears-unread : {T : Type 0} (contents : Option (List ℕ)) (held : List ℕ) → length seen ≤ most → (held ≡ []) × Appends here.contents contents here.held
+  -- what is held is sent, and then a read fails
+  pub Hears-unread : {T : Type 0} (contents : Option (List ℕ)) (held : List ℕ) → length seen < most → (held ≡ []) × Appends here.contents contents here.held
       → Hears step {T = T} start record here { contents = contents; held = held } remaining_old remaining_new most (Err ReadFault)
   Hears-unread contents held few sent =
-      record { seen = seen; read = read; few = few; stops = (Feeds-sent step start here contents held seen fed sent, sent.0) }
+      record { seen = seen; read = read; few = omega arith; stops = (few, Feeds-sent step start here contents held seen fed sent, sent.0) }
+
+  -- what is held is sent, and then no more may be read
+  pub Hears-most : {T : Type 0} (contents : Option (List ℕ)) (held : List ℕ) → length seen ≡ most → (held ≡ []) × Appends here.contents contents here.held
+      → Hears step {T = T} start record here { contents = contents; held = held } remaining_old remaining_new most (Err TooLong)
+  Hears-most contents held all sent =
+      record { seen = seen; read = read; few = omega arith; stops = (all, Feeds-sent step start here contents held seen fed sent, sent.0) }
 
   -- what is held is sent, and then there is no more
   pub Hears-end : {T : Type 0} (contents : Option (List ℕ)) (held : List ℕ) (x : T) → IsAtEnd remaining_new → length seen < most → (held ≡ []) × Appends here.contents contents here.held

@@ -2,6 +2,7 @@ pub mod ConversationLemmas
 pub mod CutWords
 pub mod HearingLemmas
 pub mod InputLemmas
+pub mod OneTextLaws
 pub mod OutputLemmas
 pub mod PrintedNumbers
 pub mod PrintedWords

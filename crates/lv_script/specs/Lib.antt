@@ -2,6 +2,7 @@ pub mod Faults
 pub mod Grammar
 pub mod Input
 pub mod Numbers
+pub mod OneText
 pub mod Output
 pub mod Printed
 pub mod Progress

@@ -2,7 +2,7 @@
 use Rattle.std.specs.Prelude.{◌≡◌, ℕ, ◌+◌, ◌<◌, ◌≤◌, false, List, [], ◌++◌, length, take, map, Option, Result, Ok, Err, vec_capacity}
 use Rattle.std.specs.Io.KnownBytes.{Consumes, IsAtEnd}
 use Rattle.lv_script.specs.declared.fault.Fault.{Fault}
-use Rattle.lv_script.specs.declared.fault.Fault.TheVariants.{NoMemory, ReadFault, WriteFault}
+use Rattle.lv_script.specs.declared.fault.Fault.TheVariants.{NoMemory, ReadFault, TooLong, WriteFault}
 use Rattle.lv_script.specs.declared.sender.TheConstants.{HELD}
 use Rattle.lv_script.specs.declared.progress.Progress.{Progress}
 use Rattle.lv_script.specs.Input.{whole_lines_of, has_end, unended_of, last_line}
@@ -61,10 +61,11 @@ module _ {S : Type 0} (step : S → ℕ → List ℕ → List ℕ → S → Type
     pub answered : Answered step old.state old.number front text new.state
     pub written : WritesFront old.contents old.held new.contents text
 
-  -- how the reading ended, by the bytes that were seen: at the end of the input, where a read failed (or as many bytes were seen as may be), or where a write failed
+  -- how the reading ended, by the bytes that were seen: at the end of the input, where a read failed, where as many bytes were seen as are read, or where a write failed
   abbrev pub Stops : {T : Type 0} → Point S → Point S → Option (List ℕ) → ℕ → List ℕ → Result T Fault → Type 0
   Stops old new remaining_new most seen (Ok _) = IsAtEnd remaining_new × (length seen < most) × Feeds old new seen × (new.held ≡ [])
-  Stops old new remaining_new most seen (Err ReadFault) = Feeds old new seen × (new.held ≡ [])
+  Stops old new remaining_new most seen (Err ReadFault) = (length seen < most) × Feeds old new seen × (new.held ≡ [])
+  Stops old new remaining_new most seen (Err TooLong) = (length seen ≡ most) × Feeds old new seen × (new.held ≡ [])
   Stops old new remaining_new most seen (Err WriteFault) = FeedsFront old new seen
   Stops old new remaining_new most seen (Err NoMemory) = ⊥
 

@@ -2,9 +2,17 @@
 use Rattle.std.specs.Prelude.{◌≡◌, ◌⊎◌, ℕ, ◌+◌, ◌^◌, ◌≤◌, List, [], ◌∷◌, ◌++◌, length, take, map, Option, Result, Ok, Err}
 use Rattle.std.specs.Io.KnownBytes.{Appends, Consumes, IsAtEnd}
 use Rattle.lv_script.specs.declared.fault.Fault.{Fault}
-use Rattle.lv_script.specs.declared.fault.Fault.TheVariants.{NoMemory, ReadFault, WriteFault}
+use Rattle.lv_script.specs.declared.fault.Fault.TheVariants.{NoMemory, ReadFault, TooLong, WriteFault}
 use Rattle.lv_script.specs.Input.{lines_of, whole_lines_of}
 use Rattle.lv_script.specs.Output.{Writes, WritesFront}
+
+-- of an input no more bytes were seen than it may have
+abbrev pub IsNotTooLong : List ℕ → Type 0
+IsNotTooLong seen = length seen ≤ 2 ^ 30
+
+-- one more was seen. Then no more are read
+abbrev pub IsTooLong : List ℕ → Type 0
+IsTooLong seen = length seen ≡ 2 ^ 30 + 1
 
 module _ {S : Type 0} (step : S → ℕ → List ℕ → List ℕ → S → Type 0) where
   -- from state old the lines, numbered from n, were answered in turn with this text, to state new
@@ -54,16 +62,19 @@ module _ {S : Type 0} (step : S → ℕ → List ℕ → List ℕ → S → Type
     pub answered : Answered old 1 front text new
     pub written : WritesFront old_contents [] new_contents text
 
-  -- how a conversation ended, by the bytes that were seen. Ok: at the end of the input. ReadFault: a read failed, or the input is
-  -- too long. WriteFault: a write failed. NoMemory: it never began
+  -- how a conversation ended, by the bytes that were seen. Ok: at the end of the input. ReadFault: a read failed, and what was seen is
+  -- not too long. TooLong: what was seen is. WriteFault: a write failed. NoMemory: it never began.
+  -- No clause can say of ReadFault that the reader answered an error: all that `Read` tells of an error is that no byte is lost by it
   abbrev pub Ends : {T : Type 0} → S → S → Option (List ℕ) → Option (List ℕ) → Option (List ℕ) → Option (List ℕ) → List ℕ → Result T Fault → Type 0
   Ends old new remaining_old remaining_new contents_old contents_new seen (Ok _) =
-      IsAtEnd remaining_new × (length seen ≤ 2 ^ 30) × AnswersAll old (lines_of seen) new contents_old contents_new
+      IsAtEnd remaining_new × IsNotTooLong seen × AnswersAll old (lines_of seen) new contents_old contents_new
   Ends old new remaining_old remaining_new contents_old contents_new seen (Err ReadFault) =
-      AnswersAll old (whole_lines_of seen) new contents_old contents_new
+      IsNotTooLong seen × AnswersAll old (whole_lines_of seen) new contents_old contents_new
+  Ends old new remaining_old remaining_new contents_old contents_new seen (Err TooLong) =
+      IsTooLong seen × AnswersAll old (whole_lines_of seen) new contents_old contents_new
   Ends old new remaining_old remaining_new contents_old contents_new seen (Err WriteFault) =
       AnswersFront old (whole_lines_of seen) new contents_old contents_new
-      ⊎ (IsAtEnd remaining_new × (length seen ≤ 2 ^ 30) × AnswersFront old (lines_of seen) new contents_old contents_new)
+      ⊎ (IsAtEnd remaining_new × IsNotTooLong seen × AnswersFront old (lines_of seen) new contents_old contents_new)
   Ends old new remaining_old remaining_new contents_old contents_new seen (Err NoMemory) =
       (new ≡ old) × (remaining_new ≡ remaining_old) × (contents_new ≡ contents_old)
 

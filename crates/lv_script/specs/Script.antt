@@ -6,9 +6,8 @@ use Rattle.lv_geometry.specs.declared.refusals.Refusal.{Refusal}
 use Rattle.lv_geometry.specs.declared.refusals.Refusal.TheVariants.{NoMemory, NoSuchName}
 use Rattle.lv_bodies.specs.declared.kinds.Kind.{Kind}
 use Rattle.lv_bodies.specs.declared.kinds.Shown.{Shown}
-use Rattle.lv_bodies.specs.Body.{Operations}
 use Rattle.lv_bodies.specs.Plain.{plain_value}
-use Rattle.lv_bodies.specs.Six.{SixSummary, six_meaning, six_operations}
+use Rattle.lv_bodies.specs.Six.{SixSummary, six_operations}
 use Rattle.lv_edits.specs.declared.edit.Edit.{Edit}
 use Rattle.lv_edits.specs.declared.receipt.Receipt.{Receipt}
 use Rattle.lv_edits.specs.Capacity.{capacity_after}
@@ -37,10 +36,6 @@ pub record ScriptState : Type 0 where
   pub seen : Record
   pub queries : List Query
 
--- the operations of all six bodies, with the program's automaton
-abbrev pub program_operations : Operations SixSummary
-program_operations = six_operations six_meaning
-
 -- only the queries have changed, and are these now
 pub record HasQueries (old new : ScriptState) (queries : List Query) : Type 0 where
   pub limits : new.limits ≡ old.limits
@@ -49,7 +44,7 @@ pub record HasQueries (old new : ScriptState) (queries : List Query) : Type 0 wh
 
 -- an event was answered, and nothing but the record has changed
 pub record Does (old : ScriptState) (event : Event) (answered : Reply SixSummary) (new : ScriptState) : Type 0 where
-  pub step : Step program_operations old.limits old.seen event answered new.seen
+  pub step : Step six_operations old.limits old.seen event answered new.seen
   pub limits : new.limits ≡ old.limits
   pub queries : new.queries ≡ old.queries
 

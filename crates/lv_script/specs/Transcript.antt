@@ -13,7 +13,7 @@ use Rattle.lv_edits.specs.Verdict.{verdict_of}
 use Rattle.lv_script.specs.declared.auditor.Verdict.{Verdict}
 use Rattle.lv_script.specs.declared.auditor.Verdict.TheVariants.{Yes, No, Bad}
 use Rattle.lv_script.specs.declared.fault.Fault.{Fault}
-use Rattle.lv_script.specs.declared.fault.Fault.TheVariants.{NoMemory, ReadFault, WriteFault}
+use Rattle.lv_script.specs.declared.fault.Fault.TheVariants.{NoMemory, ReadFault, TooLong, WriteFault}
 use Rattle.lv_script.specs.declared.transcripts.Claimed.{Claimed}
 use Rattle.lv_script.specs.declared.command.Command.TheVariants as command
 use Rattle.lv_script.specs.Grammar.{kind_name}
@@ -21,6 +21,7 @@ use Rattle.lv_script.specs.Input.{lines_of}
 use Rattle.lv_script.specs.Printed.{printed, IsCommand}
 use Rattle.lv_script.specs.Texts.{bad_text, reply_line, shown_text}
 use Rattle.lv_script.specs.Output.{WritesFront}
+use Rattle.lv_script.specs.Replies.{IsNotTooLong, IsTooLong}
 
 -- ---- the text
 
@@ -134,7 +135,7 @@ IsRight bytes verdict = ((verdict ≡ Yes) ↔ IsSoundTranscript bytes) × Names
 
 -- all bytes of an input that is not too long were seen
 abbrev pub IsWhole : List ℕ → Option (List ℕ) → Type 0
-IsWhole seen remaining = IsAtEnd remaining × (length seen ≤ 2 ^ 30)
+IsWhole seen remaining = IsAtEnd remaining × IsNotTooLong seen
 
 -- how an audit ended, by the bytes that were seen: the right verdict was written on the whole input; or a write failed,
 -- after no more than a front of it; or a read failed, the input is too long, or there was no memory, and nothing was written
@@ -144,7 +145,8 @@ AuditEnds remaining contents_old contents_new seen (Ok verdict) =
 AuditEnds remaining contents_old contents_new seen (Err WriteFault) =
     Appends contents_old contents_new []
     ⊎ ((verdict : Verdict) × IsWhole seen remaining × IsRight seen verdict × WritesFront contents_old [] contents_new (verdict_text verdict))
-AuditEnds remaining contents_old contents_new seen (Err ReadFault) = Appends contents_old contents_new []
+AuditEnds remaining contents_old contents_new seen (Err ReadFault) = IsNotTooLong seen × Appends contents_old contents_new []
+AuditEnds remaining contents_old contents_new seen (Err TooLong) = IsTooLong seen × Appends contents_old contents_new []
 AuditEnds remaining contents_old contents_new seen (Err NoMemory) = Appends contents_old contents_new []
 
 -- an input was audited, of which at most 2 ^ 30 + 1 bytes were read
@@ -162,3 +164,4 @@ Transcribes contents_old contents_new text (Ok _) = Appends contents_old content
 Transcribes contents_old contents_new text (Err WriteFault) = WritesFront contents_old [] contents_new text
 Transcribes contents_old contents_new text (Err NoMemory) = contents_new ≡ contents_old
 Transcribes contents_old contents_new text (Err ReadFault) = ⊥
+Transcribes contents_old contents_new text (Err TooLong) = ⊥

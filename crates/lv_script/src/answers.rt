@@ -1,5 +1,5 @@
 ghost use Rattle.std.specs.Prelude.{◌≡◌, ◌⊎◌, ◌+◌, ◌*◌, ◌<◌, ◌≤◌, ◌++◌, List, ℕ, length, OnOk, IfErr, vec_len, vec_capacity};
-ghost use Rattle.lv_bodies.specs.Six.{SixSummary};
+ghost use Rattle.lv_bodies.specs.Six.{SixSummary, six_operations};
 ghost use Rattle.lv_bodies.specs.declared.sixes.Six.{Six};
 ghost use Rattle.lv_edits.specs.Capacity.{capacity_after};
 ghost use Rattle.lv_edits.specs.History.{list_of};
@@ -10,7 +10,7 @@ ghost use Rattle.lv_live.specs.State.{IsWorld, SameLive, job_at};
 ghost use Rattle.lv_live.specs.declared.events.Event.TheVariants as event;
 ghost use Rattle.lv_standing.specs.Queries.{query_of};
 ghost use Rattle.lv_script.specs.Output.{Writes, WritesFront};
-ghost use Rattle.lv_script.specs.Script.{CommandAnswer, TellsEdit, TellsEvent, TellsUnwatch, TellsWatch, Tells, named_answer_text, notes_text, program_operations, reduced_text};
+ghost use Rattle.lv_script.specs.Script.{CommandAnswer, TellsEdit, TellsEvent, TellsUnwatch, TellsWatch, Tells, named_answer_text, notes_text, reduced_text};
 ghost use Rattle.lv_script.specs.Scripted.{state_of};
 ghost use Rattle.lv_script.specs.Texts.{capacity_text, element_text, size_text};
 
@@ -43,14 +43,14 @@ pub fn answer<W: Write>(
     writer: &mut W,
     held: &mut Vec<u8>,
 ) -> Result<(), Fault>
-    requires world { IsWorld program_operations standing.old.live jobs.old.items }
+    requires world { IsWorld six_operations standing.old.live jobs.old.items }
     requires room { vec_len held.old + ROOM ≤ vec_capacity held.old }
     ensures ok { OnOk result ((reply : List ℕ) × CommandAnswer (state_of standing.old jobs.old.items) command reply (state_of standing.new jobs.new.items)
         × Writes (W.contents writer.old) held.old.items (W.contents writer.new) held.new.items reply) }
     ensures fault { IfErr result (λ fault. (fault ≡ Fault.WriteFault) × (reply : List ℕ)
         × CommandAnswer (state_of standing.old jobs.old.items) command reply (state_of standing.new jobs.new.items)
         × WritesFront (W.contents writer.old) held.old.items (W.contents writer.new) reply) }
-    ensures world { IsWorld program_operations standing.new.live jobs.new.items }
+    ensures world { IsWorld six_operations standing.new.live jobs.new.items }
     ensures room { vec_capacity held.old ≤ vec_capacity held.new }
 {
     match command {
@@ -94,7 +94,7 @@ fn put_edit(alloc: Global, standing: &mut Standing, edit: Edit, held: &mut Vec<u
     requires { vec_len held.old + ROOM ≤ vec_capacity held.old }
     ensures answer { (reply : List ℕ) × ((jobs : List (Carried Six SixSummary)) → TellsEdit (state_of standing.old jobs) edit reply (state_of standing.new jobs))
         × (held.new.items ≡ held.old.items ++ reply) }
-    ensures world { (jobs : List (Carried Six SixSummary)) → IsWorld program_operations standing.old.live jobs → IsWorld program_operations standing.new.live jobs }
+    ensures world { (jobs : List (Carried Six SixSummary)) → IsWorld six_operations standing.old.live jobs → IsWorld six_operations standing.new.live jobs }
     ensures room { vec_capacity held.old ≤ vec_capacity held.new }
 {
     match standing.edit(alloc, edit) {
@@ -122,7 +122,7 @@ fn put_settle(standing: &mut Standing, held: &mut Vec<u8>)
     requires { vec_len held.old + ROOM ≤ vec_capacity held.old }
     ensures answer { (reply : List ℕ) × ((jobs : List (Carried Six SixSummary)) → TellsEvent (state_of standing.old jobs) event.Settle reply (state_of standing.new jobs))
         × (held.new.items ≡ held.old.items ++ reply) }
-    ensures world { (jobs : List (Carried Six SixSummary)) → IsWorld program_operations standing.old.live jobs → IsWorld program_operations standing.new.live jobs }
+    ensures world { (jobs : List (Carried Six SixSummary)) → IsWorld six_operations standing.old.live jobs → IsWorld six_operations standing.new.live jobs }
     ensures room { vec_capacity held.old ≤ vec_capacity held.new }
 {
     standing.settle();
@@ -183,12 +183,7 @@ fn put_reduced(standing: &mut Standing, kind: Kind, lo: u32, hi: u32, held: &mut
     ensures room { vec_capacity held.old ≤ vec_capacity held.new }
 {
     match standing.ask(lo, hi) {
-        Ok(answer) => put_answer(
-            held,
-            answer.edit,
-            kind,
-            face(&Six::program(), kind, answer.value),
-        ),
+        Ok(answer) => put_answer(held, answer.edit, kind, face(kind, answer.value)),
         Err(refusal) => put_refusal(held, refusal),
     }
 }
@@ -211,7 +206,7 @@ fn put_claim(standing: &mut Standing, jobs: &mut Vec<Job<Six>>, held: &mut Vec<u
     requires { vec_len held.old + ROOM ≤ vec_capacity held.old }
     ensures answer { (reply : List ℕ) × CommandAnswer (state_of standing.old jobs.old.items) Command.Claim reply (state_of standing.new jobs.new.items)
         × (held.new.items ≡ held.old.items ++ reply) }
-    ensures world { IsWorld program_operations standing.old.live jobs.old.items → IsWorld program_operations standing.new.live jobs.new.items }
+    ensures world { IsWorld six_operations standing.old.live jobs.old.items → IsWorld six_operations standing.new.live jobs.new.items }
     ensures room { vec_capacity held.old ≤ vec_capacity held.new }
 {
     let Ok(()) = jobs.reserve(1) else {
@@ -227,7 +222,7 @@ fn put_next_job(standing: &mut Standing, jobs: &mut Vec<Job<Six>>, held: &mut Ve
     requires jobs { vec_len jobs.old < vec_capacity jobs.old }
     ensures answer { (reply : List ℕ) × TellsEvent (state_of standing.old jobs.old.items) event.Claim reply (state_of standing.new jobs.new.items)
         × (held.new.items ≡ held.old.items ++ reply) }
-    ensures world { IsWorld program_operations standing.old.live jobs.old.items → IsWorld program_operations standing.new.live jobs.new.items }
+    ensures world { IsWorld six_operations standing.old.live jobs.old.items → IsWorld six_operations standing.new.live jobs.new.items }
     ensures room { vec_capacity held.old ≤ vec_capacity held.new }
 {
     let Some(job) = standing.claim() else {
@@ -249,11 +244,11 @@ fn node_and_version<B: Body>(job: &Job<B>) -> (Node, u32)
 
 // Delivers the outcome of a job, where there is one of that number.
 fn put_delivery(standing: &mut Standing, jobs: &[Job<Six>], k: u32, held: &mut Vec<u8>)
-    requires world { IsWorld program_operations standing.old.live jobs.now }
+    requires world { IsWorld six_operations standing.old.live jobs.now }
     requires room { vec_len held.old + ROOM ≤ vec_capacity held.old }
     ensures answer { (reply : List ℕ) × TellsEvent (state_of standing.old jobs.now) (event.Deliver k) reply (state_of standing.new jobs.now)
         × (held.new.items ≡ held.old.items ++ reply) }
-    ensures world { IsWorld program_operations standing.new.live jobs.now }
+    ensures world { IsWorld six_operations standing.new.live jobs.now }
     ensures room { vec_capacity held.old ≤ vec_capacity held.new }
 {
     match job_of_number(jobs, k) {
@@ -274,7 +269,7 @@ fn put_forget(standing: &mut Standing, held: &mut Vec<u8>)
     requires { vec_len held.old + ROOM ≤ vec_capacity held.old }
     ensures answer { (reply : List ℕ) × ((jobs : List (Carried Six SixSummary)) → TellsEvent (state_of standing.old jobs) event.Forget reply (state_of standing.new jobs))
         × (held.new.items ≡ held.old.items ++ reply) }
-    ensures world { (jobs : List (Carried Six SixSummary)) → IsWorld program_operations standing.old.live jobs → IsWorld program_operations standing.new.live jobs }
+    ensures world { (jobs : List (Carried Six SixSummary)) → IsWorld six_operations standing.old.live jobs → IsWorld six_operations standing.new.live jobs }
     ensures room { vec_capacity held.old ≤ vec_capacity held.new }
 {
     standing.forget_claims();

@@ -30,9 +30,9 @@ pub enum Verdict {
 /// Audits a transcript: reads it to its end, and writes the verdict as a line.
 ///
 /// Each edit is made anew, and each claim's value is the left fold of the elements of its range, one by one. Memory
-/// grows with the journal, and not with the text. Nothing is written where a read fails or the input has more than
-/// 2^30 bytes, which is `ReadFault`, and where there is no memory, which is `NoMemory`. A failed write, and one that
-/// takes no byte, is `WriteFault`.
+/// grows with the journal, and not with the text. Nothing is written where a read fails, which is `ReadFault`, where the
+/// input has more than 2^30 bytes, which is `TooLong`, and where there is no memory, which is `NoMemory`. A failed
+/// write, and one that takes no byte, is `WriteFault`.
 pub fn audit<R: Read, W: Write>(
     alloc: Global,
     reader: &mut R,

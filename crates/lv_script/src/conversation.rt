@@ -20,8 +20,8 @@ const MOST: usize = (1 << 30) + 1;
 /// sent before more is read.
 ///
 /// Memory is taken before anything is read or written: where there is none, the fault is `NoMemory`. A
-/// failed read, and an input of more than 2^30 bytes, is `ReadFault`; a failed write, and one that takes no
-/// byte, `WriteFault`.
+/// failed read is `ReadFault`; an input of more than 2^30 bytes `TooLong`; a failed write, and one that takes
+/// no byte, `WriteFault`.
 pub fn converse<A: Responder, R: Read, W: Write>(
     alloc: Global,
     responder: &mut A,
@@ -77,7 +77,7 @@ pub(crate) fn hear<A: Responder, R: Read, W: Write>(
         left -= count;
     }
     send(writer, &mut progress.held)?;
-    Err(Fault::ReadFault)
+    Err(Fault::TooLong)
 }
 
 // Reads at most `most` bytes into the front of the chunk. None are the end of the input.

@@ -8,9 +8,12 @@ pub enum Fault {
     /// There was no memory to begin with.
     #[error("fault 6")]
     NoMemory,
-    /// A read failed, or the input is too long.
+    /// A read failed.
     #[error("fault 13")]
     ReadFault,
+    /// The input has more than 2^30 bytes. Its number is that of a failed read.
+    #[error("fault 13")]
+    TooLong,
     /// A write failed, or took no byte.
     #[error("fault 14")]
     WriteFault,
@@ -25,7 +28,7 @@ impl Fault {
     {
         match self {
             Fault::NoMemory => 6,
-            Fault::ReadFault => 13,
+            Fault::ReadFault | Fault::TooLong => 13,
             Fault::WriteFault => 14,
         }
     }

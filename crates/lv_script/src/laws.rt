@@ -1,6 +1,10 @@
 ghost use Rattle.std.specs.Prelude.{◌≡◌, ℕ, List, [], ◌∷◌, ◌++◌, map, take};
 ghost use Rattle.lv_script.specs.Input.{last_line, lines_of, unended_of, whole_lines_of};
+ghost use Rattle.lv_geometry.specs.Bounds.{Bounds};
+ghost use Rattle.lv_script.specs.OneText.{StepWithRoom};
 ghost use Rattle.lv_script.specs.Replies.{Answered, AnsweredInParts};
+ghost use Rattle.lv_script.specs.Script.{ScriptState};
+ghost use Rattle.lv_script.specs.Scripted.{Begins};
 
 use crate::responder::Responder;
 
@@ -26,4 +30,10 @@ pub fn a_front_of_the_input_has_its_first_lines()
 pub fn a_front_of_the_input_gives_a_front_of_the_text<A: Responder>()
     ensures { (old new : A.State) (xs ys text : List ℕ) → Answered A.step old 1 (map (take 121) (lines_of (xs ++ ys))) text new
         → AnsweredInParts A.step old 1 (map (take 121) (whole_lines_of xs)) (map (take 121) (lines_of (unended_of xs ++ ys))) text new }
+{}
+
+/// Where memory is never wanted, a script has one text: the same lines within the same limits are answered with the same bytes.
+pub fn a_script_has_one_text()
+    ensures { (limits : Bounds) (first other last end : ScriptState) (lines : List (List ℕ)) (text told : List ℕ) →
+        Begins limits first → Begins limits other → Answered StepWithRoom first 1 lines text last → Answered StepWithRoom other 1 lines told end → text ≡ told }
 {}

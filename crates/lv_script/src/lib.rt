@@ -49,7 +49,7 @@ pub use conversation::converse;
 pub use fault::Fault;
 pub use laws::{
     a_front_of_the_input_gives_a_front_of_the_text, a_front_of_the_input_has_its_first_lines,
-    a_front_of_the_lines_gives_a_front_of_the_text,
+    a_front_of_the_lines_gives_a_front_of_the_text, a_script_has_one_text,
 };
 pub use lines::read_line;
 pub use printing::print_command;

@@ -89,9 +89,8 @@ pub fn put_values<W: Write>(
     ensures idle { vec_len held.old + LINE * length values.now ≤ vec_capacity held.old → IsOk result × (writer.new ≡ writer.old) }
     ensures room { vec_capacity held.old ≤ vec_capacity held.new }
 {
-    let six = Six::program();
     for value in values {
-        put_scanned(writer, held, face(&six, kind, *value))?;
+        put_scanned(writer, held, face(kind, *value))?;
     }
     Ok(())
 }

@@ -4,13 +4,13 @@ ghost use Rattle.lv_edits.specs.History.{list_of};
 ghost use Rattle.lv_edits.specs.Kept.{InLimits};
 ghost use Rattle.lv_refresh.specs.Carried.{Carried};
 ghost use Rattle.lv_bodies.specs.Body.{CanFold, fold_of};
-ghost use Rattle.lv_bodies.specs.Six.{SixSummary};
+ghost use Rattle.lv_bodies.specs.Six.{SixSummary, six_operations};
 ghost use Rattle.lv_bodies.specs.declared.sixes.Six.{Six};
 ghost use Rattle.lv_reduce.specs.Answer.{range_refusal, slice_of};
 ghost use Rattle.lv_script.specs.Output.{Writes, WritesFront};
 ghost use Rattle.lv_live.specs.State.{recorded};
 ghost use Rattle.lv_live.specs.Step.{Reduces};
-ghost use Rattle.lv_script.specs.Script.{TellsScan, plain_scan, program_operations, scan_by};
+ghost use Rattle.lv_script.specs.Script.{TellsScan, plain_scan, scan_by};
 ghost use Rattle.lv_script.specs.Scripted.{state_of};
 ghost use Rattle.lv_script.specs.Texts.{scan_text, values_text};
 
@@ -186,7 +186,7 @@ fn element_at(live: &Live<Six>, i: u32) -> i64
 
 /// A reduction of all six bodies.
 pub fn reduce(standing: &Standing, lo: u32, hi: u32) -> Result<Answer<<Six as Body>::S>, Refusal>
-    ensures answer { Reduces program_operations (recorded standing.now.live) lo hi result }
+    ensures answer { Reduces six_operations (recorded standing.now.live) lo hi result }
     ensures limits { InLimits standing.now.live.history }
 {
     standing.live().reduce(lo, hi)

@@ -1,8 +1,9 @@
 ghost use Rattle.std.specs.Prelude.{◌≡◌, ◌+◌, ◌≤◌, ◌++◌, [], List, ℕ, length, OnOk, IfErr, vec_len, vec_capacity};
+ghost use Rattle.lv_bodies.specs.Six.{six_operations};
 ghost use Rattle.lv_live.specs.State.{IsWorld};
 ghost use Rattle.lv_script.specs.Output.{Writes, WritesFront};
 ghost use Rattle.lv_script.specs.Replies.{Conversed, FailsToReply, Replies};
-ghost use Rattle.lv_script.specs.Script.{LineAnswer, ScriptState, ScriptStep, program_operations};
+ghost use Rattle.lv_script.specs.Script.{LineAnswer, ScriptState, ScriptStep};
 ghost use Rattle.lv_script.specs.Scripted.{Begins, state_of};
 
 use crate::answers::{ROOM, answer};
@@ -24,8 +25,8 @@ use std::marker::Model;
 /// Answers a script: reads its lines, and writes the reply to each, until the reader ends.
 ///
 /// Ends with `NoMemory` where there was no memory to begin with: nothing is read or written then; with `ReadFault` where a
-/// read fails, or the input has more than 2^30 bytes: the replies to all whole lines are written; with `WriteFault` where a
-/// write fails or takes no byte: what went out is a front of the replies.
+/// read fails, and with `TooLong` where the input has more than 2^30 bytes: the replies to all whole lines that were read
+/// are written; with `WriteFault` where a write fails or takes no byte: what went out is a front of the replies.
 pub fn run_script<R: Read, W: Write>(
     alloc: Global,
     limits: Limits,
@@ -52,15 +53,15 @@ struct Script {
 }
 
 impl Model for Script {
+    ghost use Rattle.lv_bodies.specs.Six.{six_operations};
     ghost use Rattle.lv_live.specs.State.{IsWorld};
-    ghost use Rattle.lv_script.specs.Script.{program_operations};
     ghost use Rattle.lv_script.specs.Scripted.{Scripted};
 
     ghost Value = { Scripted };
 
     ghost view = { λ a. record { standing = a.standing; jobs = a.jobs.items } };
 
-    ghost invariant = { λ a. IsWorld program_operations a.standing.live a.jobs.items };
+    ghost invariant = { λ a. IsWorld six_operations a.standing.live a.jobs.items };
 }
 
 impl Responder for Script {
@@ -100,14 +101,14 @@ fn answer_line<W: Write>(
     writer: &mut W,
     held: &mut Vec<u8>,
 ) -> Result<(), Fault>
-    requires world { IsWorld program_operations standing.old.live jobs.old.items }
+    requires world { IsWorld six_operations standing.old.live jobs.old.items }
     requires room { vec_len held.old + ROOM ≤ vec_capacity held.old }
     ensures ok { OnOk result ((reply : List ℕ) × LineAnswer (state_of standing.old jobs.old.items) number line reply (state_of standing.new jobs.new.items)
         × Writes (W.contents writer.old) held.old.items (W.contents writer.new) held.new.items reply) }
     ensures fault { IfErr result (λ fault. (fault ≡ Fault.WriteFault) × (reply : List ℕ)
         × LineAnswer (state_of standing.old jobs.old.items) number line reply (state_of standing.new jobs.new.items)
         × WritesFront (W.contents writer.old) held.old.items (W.contents writer.new) reply) }
-    ensures world { IsWorld program_operations standing.new.live jobs.new.items }
+    ensures world { IsWorld six_operations standing.new.live jobs.new.items }
     ensures room { vec_capacity held.old ≤ vec_capacity held.new }
 {
     match line {

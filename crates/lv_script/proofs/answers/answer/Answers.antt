@@ -1,6 +1,7 @@
+use Rattle.lv_bodies.specs.Six.{six_operations}
 use Rattle.lv_live.proofs.WorldLaws.{world_settle}
 use Rattle.lv_reduce.specs.Answer.{range_refusal}
-use Rattle.lv_script.specs.Script.{program_operations, reduced_text}
+use Rattle.lv_script.specs.Script.{reduced_text}
 use Rattle.lv_script.proofs.EventLaws.{tells_still}
 use Rattle.lv_script.proofs.OutputLemmas.{Writes-put}
 use Rattle.lv_script.proofs.answers.answer.Goals as goal
@@ -27,4 +28,4 @@ returns-in-Reduce-clause-ok g c =
 
 pub returns-in-Reduce-clause-world : goal.returns-in-Reduce-clause-world
 returns-in-Reduce-clause-world g c =
-    world_settle program_operations c.args.standing.now.live c.put_reduced.new.standing.live c.args.jobs.now.items c.put_reduced.ensures.live c.requires.world
+    world_settle six_operations c.args.standing.now.live c.put_reduced.new.standing.live c.args.jobs.now.items c.put_reduced.ensures.live c.requires.world

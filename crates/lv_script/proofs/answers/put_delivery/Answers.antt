@@ -1,15 +1,14 @@
 use Rattle.std.proofs.Common.{◌∙◌, sym}
+use Rattle.lv_bodies.specs.Six.{six_operations}
 use Rattle.lv_bodies.specs.declared.sixes.Six.{Six}
-use Rattle.lv_bodies.specs.Six.{SixMeaning}
 use Rattle.lv_live.proofs.WorldLaws.{vouched_job, world_delivery}
-use Rattle.lv_script.specs.Script.{program_operations}
 use Rattle.lv_script.proofs.EventLaws.{tells_delivery, tells_no_job}
 use Rattle.lv_script.proofs.answers.put_delivery.Goals as goal
 
 pub accept-requires : goal.accept-requires
 accept-requires c =
-    let meaning : Six → SixMeaning = λ b. (tt, (tt, (tt, (tt, (tt, b.pairs.second.second.second.second.second.table))))) in
-    rw c.run.ensures (vouched_job program_operations meaning c.args.standing.now.live c.args.jobs.now c.args.k c.in-Some.job c.requires.world (sym c.job_of_number.ensures ∙ c.in-Some.is))
+    let meaning : Six → Unit {0} = λ _. tt in
+    rw c.run.ensures (vouched_job six_operations meaning c.args.standing.now.live c.args.jobs.now c.args.k c.in-Some.job c.requires.world (sym c.job_of_number.ensures ∙ c.in-Some.is))
 
 pub returns-in-Some-clause-answer : goal.returns-in-Some-clause-answer
 returns-in-Some-clause-answer c =
@@ -21,7 +20,7 @@ pub returns-in-Some-clause-world : goal.returns-in-Some-clause-world
 returns-in-Some-clause-world c =
     let named = rw c.run.ensures at c.accept.ensures.delivered in
     let answered = rw c.run.ensures at c.accept.ensures.accepted in
-    world_delivery program_operations c.args.standing.now.live c.accept.new.self.live c.in-Some.job.node c.in-Some.job.version c.args.jobs.now (rw answered at named) c.requires.world
+    world_delivery six_operations c.args.standing.now.live c.accept.new.self.live c.in-Some.job.node c.in-Some.job.version c.args.jobs.now (rw answered at named) c.requires.world
 
 pub returns-in-None-clause-answer : goal.returns-in-None-clause-answer
 returns-in-None-clause-answer c =

@@ -1,7 +1,8 @@
 use Rattle.std.proofs.Common.{◌++◌, ◌∙◌, Ok, ap}
 use Rattle.std.proofs.lemmas.List.{append_assoc}
+use Rattle.lv_bodies.specs.Six.{six_operations}
 use Rattle.lv_live.proofs.WorldLaws.{world_edit}
-use Rattle.lv_script.specs.Script.{notes_text, program_operations}
+use Rattle.lv_script.specs.Script.{notes_text}
 use Rattle.lv_script.specs.Texts.{receipt_text}
 use Rattle.lv_script.proofs.EventLaws.{tells_accepted, tells_refused}
 use Rattle.lv_script.proofs.answers.put_edit.Goals as goal
@@ -17,7 +18,7 @@ returns-in-Ok-clause-answer c =
 
 pub returns-in-Ok-clause-world : goal.returns-in-Ok-clause-world
 returns-in-Ok-clause-world c = λ jobs world.
-    world_edit program_operations c.args.standing.now.live c.edit.new.self.live c.args.edit (Ok c.in-Ok.receipt) jobs c.in-Ok.ensures.refresh c.in-Ok.ensures.ok c.in-Ok.ensures.limits world
+    world_edit six_operations c.args.standing.now.live c.edit.new.self.live c.args.edit (Ok c.in-Ok.receipt) jobs c.in-Ok.ensures.refresh c.in-Ok.ensures.ok c.in-Ok.ensures.limits world
 
 pub returns-in-Err-clause-answer : goal.returns-in-Err-clause-answer
 returns-in-Err-clause-answer c =

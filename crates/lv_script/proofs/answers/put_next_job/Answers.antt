@@ -1,6 +1,6 @@
 use Rattle.std.proofs.Common.{◌≡◌, ◌+◌, None, Some, length, arith}
+use Rattle.lv_bodies.specs.Six.{six_operations}
 use Rattle.lv_live.proofs.WorldLaws.{world_claim}
-use Rattle.lv_script.specs.Script.{program_operations}
 use Rattle.lv_script.proofs.EventLaws.{tells_claim}
 use Rattle.lv_script.proofs.answers.put_next_job.Goals as goal
 
@@ -18,4 +18,4 @@ returns-clause-answer c =
 
 pub returns-clause-world : goal.returns-clause-world
 returns-clause-world c = λ world.
-    rw c.push_reserved.ensures.items (world_claim program_operations c.args.standing.now.live c.claim.new.self.live (Some c.in-Some.job) c.args.jobs.now.items c.in-Some.ensures.claimed c.in-Some.ensures.body c.in-Some.ensures.honest world)
+    rw c.push_reserved.ensures.items (world_claim six_operations c.args.standing.now.live c.claim.new.self.live (Some c.in-Some.job) c.args.jobs.now.items c.in-Some.ensures.claimed c.in-Some.ensures.body c.in-Some.ensures.honest world)

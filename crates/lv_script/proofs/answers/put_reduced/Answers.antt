@@ -9,5 +9,5 @@ returns-in-Ok-clause-text c =
     let history = c.args.standing.now.live.history in
     let is = c.in-Ok.ensures.ok in
     let limits : InLimits history = rw c.ask.ensures.live.history at c.ask.ensures.limits in
-    let shown = c.face.ensures.program (slice_of history.journal c.args.lo c.args.hi) (can_fold_slice history c.args.lo c.args.hi limits) is.value in
+    let shown = c.face.ensures.plain (slice_of history.journal c.args.lo c.args.hi) (can_fold_slice history c.args.lo c.args.hi limits) is.value in
     c.put_answer.ensures.text ∙ ap (λ text. c.args.held.now.items ++ text) (reduced_ok history.journal c.args.kind c.args.lo c.args.hi c.in-Ok.answer.edit c.face.result is.granted is.edit shown)

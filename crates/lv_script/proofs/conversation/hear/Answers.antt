@@ -4,7 +4,7 @@ use Rattle.std.proofs.lemmas.List.{length-append, length-take-le}
 use Rattle.std.proofs.lemmas.Result.{err_from_is_err_and}
 use Rattle.lv_script.specs.Progress.{point_of}
 use Rattle.lv_script.proofs.ProgressLemmas.{Feeds-nil, Feeds-trans, FeedsFront-after, Feeds-sent, number-Feeds}
-use Rattle.lv_script.proofs.HearingLemmas.{Hears-unsent, Hears-unread, Hears-end}
+use Rattle.lv_script.proofs.HearingLemmas.{Hears-unsent, Hears-unread, Hears-most, Hears-end}
 use Rattle.lv_script.proofs.conversation.hear.Goals as goal
 
 pub loop-left-init : goal.loop-left-init
@@ -120,4 +120,4 @@ returns-clause-hears g c =
     let start = point_of (g.A.Responder.state c.args.responder.now) c.args.progress.now (g.W.Write.contents c.args.writer.now) in
     let here = point_of (g.A.Responder.state c.loop-left.responder) c.loop-left.progress (g.W.Write.contents c.loop-left.writer) in
     let loop = c.loop-left.invariant in
-    Hears-unread g.A.Responder.step start here loop.seen loop.fed _ _ c.args.most loop.read _ _ (omega (arith, loop.count)) c.in_ok-send-2.ensures.ok
+    Hears-most g.A.Responder.step start here loop.seen loop.fed _ _ c.args.most loop.read _ _ (omega (arith, loop.count)) c.in_ok-send-2.ensures.ok
