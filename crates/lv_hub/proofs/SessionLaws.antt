@@ -1,7 +1,7 @@
 -- Conversations whatever they give.
 use Rattle.std.proofs.Common.{◌≡◌, ℕ, Option, Result, Ok, Err, MatchResult, IfOk, List}
 use Rattle.lv_script.specs.declared.fault.Fault.{Fault}
-use Rattle.lv_script.specs.declared.fault.Fault.TheVariants.{NoMemory, ReadFault, WriteFault}
+use Rattle.lv_script.specs.declared.fault.Fault.TheVariants.{NoMemory, ReadFault, TooLong, WriteFault}
 use Rattle.lv_script.specs.Replies.{Conversed}
 
 module _ {S T U : Type 0} {step : S → ℕ → List ℕ → List ℕ → S → Type 0} {old new : S} {a b k l : Option (List ℕ)} where
@@ -11,6 +11,7 @@ module _ {S T U : Type 0} {step : S → ℕ → List ℕ → List ℕ → S → 
   conversed_as (Ok x) given result is c = rw is (record { seen = c.seen; read = c.read; few = c.few; ends = c.ends })
   conversed_as (Err NoMemory) given result is c = rw is (record { seen = c.seen; read = c.read; few = c.few; ends = c.ends })
   conversed_as (Err ReadFault) given result is c = rw is (record { seen = c.seen; read = c.read; few = c.few; ends = c.ends })
+  conversed_as (Err TooLong) given result is c = rw is (record { seen = c.seen; read = c.read; few = c.few; ends = c.ends })
   conversed_as (Err WriteFault) given result is c = rw is (record { seen = c.seen; read = c.read; few = c.few; ends = c.ends })
 
 -- what is given at the end, if anything is

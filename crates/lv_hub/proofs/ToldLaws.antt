@@ -1,7 +1,8 @@
 -- What the vector in the lock answers is what the hub tells.
-use Rattle.std.proofs.Common.{◌≡◌, ℕ, Option, Some, IfSome, option_map, Result, Ok, Err, IfOk, IfErr, List, refl, sym, ap, ◌∙◌, subst}
+use Rattle.std.proofs.Common.{◌≡◌, ℕ, Option, Some, IfSome, option_map, Result, Ok, Err, IfOk, IfErr, OnErr, List, refl, sym, ap, ◌∙◌, subst}
 use mathlib.Core.List.{IsPrefix}
 use Rattle.lv_geometry.specs.Bounds.{Bounds}
+use Rattle.lv_geometry.specs.declared.nodes.Node.{Node}
 use Rattle.lv_geometry.specs.declared.refusals.Refusal.{Refusal}
 use Rattle.lv_bodies.specs.Body.{Operations}
 use Rattle.lv_edits.specs.declared.edit.Edit.{Edit}
@@ -16,9 +17,9 @@ use Rattle.lv_refresh.specs.Honesty.{IsHonest}
 use Rattle.lv_reduce.specs.declared.reductions.Answer.{Answer}
 use Rattle.lv_reduce.specs.Answer.{IsAnswer, IsScanRefusal, range_refusal}
 use Rattle.lv_reduce.specs.Stretch.{IsStretch, StretchState}
-use Rattle.lv_live.specs.State.{HasClaim, LiveState, node_and_version, recorded}
+use Rattle.lv_live.specs.State.{HasClaim, HasDelivery, IsLive, LiveState, node_and_version, recorded}
 use Rattle.lv_live.specs.Step.{Reduces}
-use Rattle.lv_hub.specs.Told.{AskTold, ClaimTold, EditTold, Gives, GiveTold, IsVector, ReductionTold, StretchTold, VouchedBy, history_of}
+use Rattle.lv_hub.specs.Told.{AskTold, ClaimTold, EditTold, Gives, GiveTold, IsStanding, IsVector, ReductionTold, StretchTold, VouchedBy, history_of}
 
 -- a vector of these limits has this history
 limits_said : (limits : Bounds) (h : History) → h.limits ≡ limits → h ≡ history_of limits h.journal
@@ -47,21 +48,27 @@ edit_told limits s t old new e result vector seen is answers =
     }
 
 module _ {B S : Type 0} (o : B → Operations S) (limits : Bounds) (body : B) (s : LiveState B S) (old new : List Edit) (lo hi : ℕ) (vector : IsVector limits s.history) (of : s.body ≡ body) (seen : IsPrefix old new) (is : new ≡ s.history.journal) where
+  -- it stands there
+  standing : IsLive (o s.body) s → IsStanding (o body) limits new s
+  standing live = record { limits_are = vector.limits_are; edits_are = sym is; live = subst (λ b. IsLive (o b) s) of live }
+
   -- a reduction
-  pub reduction_told : (result : Result (Answer S) Refusal) → Reduces (o s.body) (recorded s) lo hi result → ReductionTold (o body) limits old new lo hi result
-  reduction_told result reduces = record {
+  pub reduction_told : (result : Result (Answer S) Refusal) → IsLive (o s.body) s → Reduces (o s.body) (recorded s) lo hi result → ReductionTold B (o body) limits old new lo hi result
+  reduction_told result live reduces = record {
     seen = seen;
     within = within_said limits s.history new vector is;
-    standing = recorded s;
-    edits = sym is;
+    standing = s;
+    live = standing live;
     reduces = subst (λ b. Reduces (o b) (recorded s) lo hi result) of reduces;
   }
 
   -- an answer to a range that was asked for
-  pub ask_told : (result : Result (Answer S) Refusal) → IfOk result (λ answer. IsAnswer (o s.body) s.history.journal lo hi answer) → IfErr result (λ refusal. range_refusal s.history.journal lo hi ≡ Some refusal) → AskTold (o body) limits old new lo hi result
-  ask_told result answered refused = record {
+  pub ask_told : (result : Result (Answer S) Refusal) → IsLive (o s.body) s → IfOk result (λ answer. IsAnswer (o s.body) s.history.journal lo hi answer) → IfErr result (λ refusal. range_refusal s.history.journal lo hi ≡ Some refusal) → AskTold B (o body) limits old new lo hi result
+  ask_told result live answered refused = record {
     seen = seen;
     within = within_said limits s.history new vector is;
+    standing = s;
+    live = standing live;
     answered = subst (λ b. IfOk result (λ answer. IsAnswer (o b) new lo hi answer)) of (subst (λ es. IfOk result (λ answer. IsAnswer (o s.body) es lo hi answer)) (sym is) answered);
     refused = subst (λ es. IfErr result (λ refusal. range_refusal es lo hi ≡ Some refusal)) (sym is) refused;
   }
@@ -77,12 +84,14 @@ module _ {B S : Type 0} (o : B → Operations S) (limits : Bounds) (body : B) (s
   }
 
 -- a claim
-pub claim_told : {B S : Type 0} (o : B → Operations S) (limits : Bounds) (body : B) (s t : LiveState B S) (result : Option (Carried B S)) → IsVector limits s.history → s.body ≡ body → IsNextJob (recorded s) (option_map node_and_version result) → HasClaim s t (option_map node_and_version result) → IfSome result (λ job. job.body ≡ s.body) → IfSome result (λ job. IsHonest (o s.body) (recorded t) job.node job.version job.contents) → ClaimTold (o body) body limits result
-claim_told o limits body s t result vector of next claimed job_body honest = record {
+pub claim_told : {B S : Type 0} (o : B → Operations S) (limits : Bounds) (body : B) (s t : LiveState B S) (result : Option (Carried B S)) → IsVector limits s.history → s.body ≡ body → IsLive (o s.body) s → IsLive (o t.body) t → IsNextJob (recorded s) (option_map node_and_version result) → HasClaim s t (option_map node_and_version result) → IfSome result (λ job. job.body ≡ s.body) → IfSome result (λ job. IsHonest (o s.body) (recorded t) job.node job.version job.contents) → ClaimTold (o body) body limits result
+claim_told o limits body s t result vector of live stays next claimed job_body honest = record {
   before = s;
   after = t;
   vector = vector;
   of = of;
+  live = subst (λ b. IsLive (o b) s) of live;
+  stays_live = subst (λ b. IsLive (o b) t) (claimed.body ∙ of) stays;
   next = next;
   claimed = claimed;
   body_is = subst (λ b. IfSome result (λ job. job.body ≡ b)) of job_body;
@@ -90,6 +99,11 @@ claim_told o limits body s t result vector of next claimed job_body honest = rec
 }
 
 -- an outcome
-pub give_told : {B S M : Type 0} (meaning : B → M) (operations : M → Operations S) (limits : Bounds) (body : B) (s : LiveState B S) (outcome : Carried B S) (result : Result Accepted Refusal) → IsVector limits s.history → s.body ≡ body → Gives (recorded s) (VouchedBy meaning operations s outcome) outcome result → GiveTold meaning operations body limits outcome result
-give_told meaning operations limits body s outcome result vector of gives =
-    record { state = s; vector = vector; of = of; gives = gives }
+pub give_told : {B S M : Type 0} (meaning : B → M) (operations : M → Operations S) (limits : Bounds) (body : B) (s : LiveState B S) (outcome : Carried B S) (result : Result Accepted Refusal) → IsVector limits s.history → s.body ≡ body → IsLive (operations (meaning s.body)) s → Gives (recorded s) (VouchedBy meaning operations s outcome) outcome result → GiveTold meaning operations body limits outcome result
+give_told meaning operations limits body s outcome result vector of live gives =
+    record { state = s; vector = vector; of = of; live = subst (λ b. IsLive (operations (meaning b)) s) of live; gives = gives }
+
+-- an outcome that is given leaves body and history
+pub given_leaves : {B S : Type 0} (old new : LiveState B S) (n : Node) (v : ℕ) (result : Result Accepted Refusal) → IfOk result (λ accepted. HasDelivery old new n v accepted) → OnErr result (new ≡ old) → (new.body ≡ old.body) × (new.history ≡ old.history)
+given_leaves old new n v (Ok accepted) delivered unchanged = (delivered.body, delivered.history)
+given_leaves old new n v (Err refusal) delivered unchanged = (ap (λ s. s.body) unchanged, ap (λ s. s.history) unchanged)

@@ -10,9 +10,10 @@ use Rattle.lv_geometry.specs.Elements.{IsElement}
 use Rattle.lv_geometry.specs.declared.refusals.Refusal.{Refusal}
 use Rattle.lv_geometry.specs.declared.refusals.Refusal.TheVariants.{BadRange, OutOfRange}
 use Rattle.lv_bodies.specs.declared.kinds.Kind.{Kind}
+use Rattle.lv_bodies.specs.declared.sixes.Six.{Six}
 use Rattle.lv_bodies.specs.Body.{CanFold}
-use Rattle.lv_bodies.specs.Plain.{plain_value, plain_value_with}
-use Rattle.lv_bodies.specs.Six.{SixMeaning, SixSummary, face_of, six_meaning, six_operations, table_of_six}
+use Rattle.lv_bodies.specs.Plain.{plain_value, program_table}
+use Rattle.lv_bodies.specs.Six.{SixSummary, face_of, six_operations}
 use Rattle.lv_bodies.proofs.SixFolds.{face_of-fold}
 use Rattle.lv_edits.specs.declared.edit.Edit.{Edit}
 use Rattle.lv_edits.specs.declared.receipt.Receipt.{Receipt}
@@ -25,7 +26,7 @@ use Rattle.lv_script.specs.declared.command.Command.TheVariants as commands
 use Rattle.lv_script.specs.declared.command.Line.{Line}
 use Rattle.lv_script.specs.declared.command.Line.TheVariants.{Nothing, Bad, Do}
 use Rattle.lv_script.specs.declared.fault.Fault.{Fault}
-use Rattle.lv_script.specs.declared.fault.Fault.TheVariants.{NoMemory, ReadFault, WriteFault}
+use Rattle.lv_script.specs.declared.fault.Fault.TheVariants.{NoMemory, ReadFault, TooLong, WriteFault}
 use Rattle.lv_script.specs.declared.transcripts.Claimed.{Claimed}
 use Rattle.lv_script.specs.Grammar.{line_of}
 use Rattle.lv_script.specs.Replies.{Answered, Conversed}
@@ -80,24 +81,23 @@ slice_folds limits edits lo hi within =
       elements = All-take IsElement (hi - lo) (drop lo xs) (All-drop IsElement lo xs within.elements);
     }
 
--- what a session's step keeps: it has seen more, and where the six are the program's and all that is listed was true of what was seen,
--- it is still
-pub record Keeps (m : SixMeaning) (old new : SessionState) : Type 0 where
+-- what a session's step keeps: it has seen more, and where all that is listed was true of what was seen, it is still
+pub record Keeps (old new : SessionState) : Type 0 where
   pub seen : IsPrefix old.seen new.seen
-  pub all_true : ◌≡◌ {A = SixMeaning} m six_meaning → All (IsTrueClaim old.seen) old.claims → All (IsTrueClaim new.seen) new.claims
+  pub all_true : All (IsTrueClaim old.seen) old.claims → All (IsTrueClaim new.seen) new.claims
 
 -- an edit lists nothing
 edit_lists_nothing : (s : SessionState) (result : Result Receipt Refusal) → (after_edit s result).claims ≡ s.claims
 edit_lists_nothing s (Ok receipt) = refl
 edit_lists_nothing s (Err refusal) = refl
 
-module _ (m : SixMeaning) (limits : Bounds) where
+module _ (limits : Bounds) where
   -- an answer is true, by its edits
-  answer_true : (edits : List Edit) (kind : Kind) (lo hi : ℕ) (answer : Answer SixSummary) → ◌≡◌ {A = SixMeaning} m six_meaning → InLimits (history_of limits edits) → IsAnswer (six_operations m) edits lo hi answer → IsTrueClaim edits (claim_of kind lo hi answer)
-  answer_true edits kind lo hi answer program within is =
+  answer_true : (edits : List Edit) (kind : Kind) (lo hi : ℕ) (answer : Answer SixSummary) → InLimits (history_of limits edits) → IsAnswer six_operations edits lo hi answer → IsTrueClaim edits (claim_of kind lo hi answer)
+  answer_true edits kind lo hi answer within is =
       let all : take answer.edit edits ≡ edits = take_all answer.edit edits (omega (arith, is.edit)) in
       let range = in_range edits lo hi is.granted in
-      let value : face_of kind answer.value ≡ plain_value kind (slice_of edits lo hi) = face_of-fold m kind answer.value (slice_of edits lo hi) (slice_folds limits edits lo hi within) is.value ∙ ap (λ (m : SixMeaning). plain_value_with (table_of_six m) kind (slice_of edits lo hi)) program in
+      let value : face_of kind answer.value ≡ plain_value kind (slice_of edits lo hi) = face_of-fold program_table kind answer.value (slice_of edits lo hi) (slice_folds limits edits lo hi within) is.value in
       record {
         edit = omega (arith, is.edit);
         range = range.range;
@@ -106,35 +106,35 @@ module _ (m : SixMeaning) (limits : Bounds) where
       }
 
   -- so is the answer of a reduction that was told
-  told_true : (old new : List Edit) (kind : Kind) (lo hi : ℕ) (answer : Answer SixSummary) → ◌≡◌ {A = SixMeaning} m six_meaning → ReductionTold (six_operations m) limits old new lo hi (Ok answer) → IsTrueClaim new (claim_of kind lo hi answer)
-  told_true old new kind lo hi answer program told =
-      answer_true new kind lo hi answer program told.within (subst (λ es. IsAnswer (six_operations m) es lo hi answer) told.edits told.reduces.0)
+  told_true : (old new : List Edit) (kind : Kind) (lo hi : ℕ) (answer : Answer SixSummary) → ReductionTold Six six_operations limits old new lo hi (Ok answer) → IsTrueClaim new (claim_of kind lo hi answer)
+  told_true old new kind lo hi answer told =
+      answer_true new kind lo hi answer told.within (subst (λ es. IsAnswer six_operations es lo hi answer) told.live.edits_are told.reduces.0)
 
   -- who has seen more, and lists nothing more, keeps
-  keeps_by_more : (old new : SessionState) → IsPrefix old.seen new.seen → new.claims ≡ old.claims → Keeps m old new
+  keeps_by_more : (old new : SessionState) → IsPrefix old.seen new.seen → new.claims ≡ old.claims → Keeps old new
   keeps_by_more old new more same =
-      record { seen = more; all_true = λ program holds. subst (All (IsTrueClaim new.seen)) (sym same) (all_true_of_more old.seen new.seen old.claims more holds) }
+      record { seen = more; all_true = λ holds. subst (All (IsTrueClaim new.seen)) (sym same) (all_true_of_more old.seen new.seen old.claims more holds) }
 
   -- so does who changes nothing
-  keeps_same : (old new : SessionState) → new ≡ old → Keeps m old new
+  keeps_same : (old new : SessionState) → new ≡ old → Keeps old new
   keeps_same old new same = keeps_by_more old new (subst (IsPrefix old.seen) (sym (ap (λ s. s.seen) same)) (prefix_self old.seen)) (ap (λ s. s.claims) same)
 
   -- a reduction
-  reduction_keeps : (old new : SessionState) (kind : Kind) (lo hi : ℕ) (text : List ℕ) (result : Result (Answer SixSummary) Refusal) → ReductionTold (six_operations m) limits old.seen new.seen lo hi result → Lists (up_to old new.seen) kind lo hi result text new → Keeps m old new
+  reduction_keeps : (old new : SessionState) (kind : Kind) (lo hi : ℕ) (text : List ℕ) (result : Result (Answer SixSummary) Refusal) → ReductionTold Six six_operations limits old.seen new.seen lo hi result → Lists (up_to old new.seen) kind lo hi result text new → Keeps old new
   reduction_keeps old new kind lo hi text (Ok answer) told lists =
       elim lists [
         | inl listed ↦ record {
           seen = told.seen;
-          all_true = λ program holds.
+          all_true = λ holds.
               subst (All (IsTrueClaim new.seen)) (sym (ap (λ s. s.claims) listed.1))
-              (All-push (IsTrueClaim new.seen) old.claims (claim_of kind lo hi answer) (all_true_of_more old.seen new.seen old.claims told.seen holds) (told_true old.seen new.seen kind lo hi answer program told));
+              (All-push (IsTrueClaim new.seen) old.claims (claim_of kind lo hi answer) (all_true_of_more old.seen new.seen old.claims told.seen holds) (told_true old.seen new.seen kind lo hi answer told));
         }
         | inr not_listed ↦ keeps_by_more old new told.seen (ap (λ s. s.claims) not_listed.1)
       ]
   reduction_keeps old new kind lo hi text (Err refusal) told lists = keeps_by_more old new told.seen (ap (λ s. s.claims) lists.1)
 
   -- a command
-  command_keeps : (old new : SessionState) (n : ℕ) (command : Command) (text : List ℕ) → CommandAnswer (six_operations m) limits old n command text new → Keeps m old new
+  command_keeps : (old new : SessionState) (n : ℕ) (command : Command) (text : List ℕ) → CommandAnswer limits old n command text new → Keeps old new
   command_keeps old new n (commands.Edit e) text a =
       keeps_by_more old new (edit_grows limits old.seen new.seen e a.result a.told) (ap (λ s. s.claims) a.state ∙ edit_lists_nothing (up_to old new.seen) a.result)
   command_keeps old new n (commands.Reduce kind lo hi) text a = reduction_keeps old new kind lo hi text a.result a.told a.lists
@@ -142,30 +142,31 @@ module _ (m : SixMeaning) (limits : Bounds) where
   command_keeps old new n _ text a = keeps_same old new a.1
 
   -- a line
-  line_keeps : (old new : SessionState) (n : ℕ) (line : Line) (text : List ℕ) → LineAnswer (six_operations m) limits old n line text new → Keeps m old new
+  line_keeps : (old new : SessionState) (n : ℕ) (line : Line) (text : List ℕ) → LineAnswer limits old n line text new → Keeps old new
   line_keeps old new n Nothing text a = keeps_same old new a.1
   line_keeps old new n Bad text a = keeps_same old new a.1
   line_keeps old new n (Do command) text a = command_keeps old new n command text a
 
-  step_keeps : (old new : SessionState) (n : ℕ) (line text : List ℕ) → SessionStep (six_operations m) limits old n line text new → Keeps m old new
+  step_keeps : (old new : SessionState) (n : ℕ) (line text : List ℕ) → SessionStep limits old n line text new → Keeps old new
   unfolding SessionStep
   step_keeps old new n line text a = line_keeps old new n (line_of line) text a
 
   -- one after the other
-  keeps_both : (old mid new : SessionState) → Keeps m old mid → Keeps m mid new → Keeps m old new
+  keeps_both : (old mid new : SessionState) → Keeps old mid → Keeps mid new → Keeps old new
   keeps_both old mid new first second =
-      record { seen = prefix_trans old.seen mid.seen new.seen first.seen second.seen; all_true = λ program holds. second.all_true program (first.all_true program holds) }
+      record { seen = prefix_trans old.seen mid.seen new.seen first.seen second.seen; all_true = λ holds. second.all_true (first.all_true holds) }
 
   -- many lines
-  lines_keep : (old new : SessionState) (n : ℕ) (lines : List (List ℕ)) (text : List ℕ) → Answered (SessionStep (six_operations m) limits) old n lines text new → Keeps m old new
+  lines_keep : (old new : SessionState) (n : ℕ) (lines : List (List ℕ)) (text : List ℕ) → Answered (SessionStep limits) old n lines text new → Keeps old new
   lines_keep old new n [] text a = keeps_same old new a.1
   lines_keep old new n (line ∷ lines) text a =
       keeps_both old a.2 new (step_keeps old a.2 n line a.0 a.3) (lines_keep a.2 new (n + 1) lines a.1 a.4)
 
   -- a conversation
-  pub conversed_keeps : {T : Type 0} (old new : SessionState) (a b k l : Option (List ℕ)) (result : Result T Fault) → Conversed (SessionStep (six_operations m) limits) old new a b k l result → Keeps m old new
+  pub conversed_keeps : {T : Type 0} (old new : SessionState) (a b k l : Option (List ℕ)) (result : Result T Fault) → Conversed (SessionStep limits) old new a b k l result → Keeps old new
   conversed_keeps old new a b k l (Ok x) c = lines_keep old new 1 _ c.ends.2.text c.ends.2.answered
-  conversed_keeps old new a b k l (Err ReadFault) c = lines_keep old new 1 _ c.ends.text c.ends.answered
+  conversed_keeps old new a b k l (Err ReadFault) c = lines_keep old new 1 _ c.ends.1.text c.ends.1.answered
+  conversed_keeps old new a b k l (Err TooLong) c = lines_keep old new 1 _ c.ends.1.text c.ends.1.answered
   conversed_keeps old new a b k l (Err WriteFault) c =
       elim c.ends [
         | inl part ↦ lines_keep old new 1 _ part.text part.answered

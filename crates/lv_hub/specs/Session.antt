@@ -4,9 +4,8 @@ use Rattle.lv_geometry.specs.Bounds.{Bounds}
 use Rattle.lv_geometry.specs.declared.refusals.Refusal.{Refusal}
 use Rattle.lv_geometry.specs.declared.refusals.Refusal.TheVariants.{NoMemory}
 use Rattle.lv_bodies.specs.declared.kinds.Kind.{Kind}
+use Rattle.lv_bodies.specs.Six.{SixSummary, face_of, six_operations}
 use Rattle.lv_bodies.specs.declared.sixes.Six.{Six}
-use Rattle.lv_bodies.specs.Body.{Operations}
-use Rattle.lv_bodies.specs.Six.{SixSummary, face_of, meaning_of_six, six_operations}
 use Rattle.lv_edits.specs.declared.edit.Edit.{Edit}
 use Rattle.lv_edits.specs.declared.receipt.Receipt.{Receipt}
 use Rattle.lv_reduce.specs.declared.reductions.Answer.{Answer}
@@ -32,10 +31,6 @@ pub record SessionState : Type 0 where
 -- the state of a session with this share, where these reductions were answered
 abbrev pub session_at : Holding → List Claimed → SessionState
 session_at share claims = record { count = share.count; seen = share.seen; claims = claims }
-
--- what a body of all six computes
-abbrev pub operations_of_six : Six → Operations SixSummary
-operations_of_six six = six_operations (meaning_of_six six)
 
 -- the state once the hub's edits were seen up to these
 abbrev pub up_to : SessionState → List Edit → SessionState
@@ -70,7 +65,7 @@ abbrev pub scan_reply_text : Bool → Kind → Result (Scan SixSummary) Refusal 
 scan_reply_text inclusive kind (Ok scan) = scan_text scan.edit inclusive kind (map (face_of kind) scan.values)
 scan_reply_text inclusive kind (Err refusal) = refused_text refusal
 
-module _ (o : Operations SixSummary) (limits : Bounds) where
+module _ (limits : Bounds) where
   -- an edit is answered by its receipt or its refusal
   pub record TellsEdit (old : SessionState) (e : Edit) (text : List ℕ) (new : SessionState) : Type 0 where
     pub result : Result Receipt Refusal
@@ -81,13 +76,13 @@ module _ (o : Operations SixSummary) (limits : Bounds) where
   -- a reduction is answered by its value, and listed; or by its refusal
   pub record TellsReduction (old : SessionState) (kind : Kind) (lo hi : ℕ) (text : List ℕ) (new : SessionState) : Type 0 where
     pub result : Result (Answer SixSummary) Refusal
-    pub told : ReductionTold o limits old.seen new.seen lo hi result
+    pub told : ReductionTold Six six_operations limits old.seen new.seen lo hi result
     pub lists : Lists (up_to old new.seen) kind lo hi result text new
 
   -- a scan is answered by its values or its refusal, and changes nothing else
   pub record TellsScan (old : SessionState) (inclusive : Bool) (kind : Kind) (lo hi : ℕ) (text : List ℕ) (new : SessionState) : Type 0 where
     pub result : Result (Scan SixSummary) Refusal
-    pub told : ScanTold o limits old.seen new.seen lo hi inclusive result
+    pub told : ScanTold six_operations limits old.seen new.seen lo hi inclusive result
     pub text_is : text ≡ scan_reply_text inclusive kind result
     pub state : new ≡ up_to old new.seen
 

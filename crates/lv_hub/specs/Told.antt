@@ -20,7 +20,7 @@ use Rattle.lv_reduce.specs.declared.reductions.Answer.{Answer}
 use Rattle.lv_reduce.specs.declared.scans.Scan.{Scan}
 use Rattle.lv_reduce.specs.Answer.{IsAnswer, IsScan, IsScanRefusal, range_refusal, scan_of, slice_of}
 use Rattle.lv_reduce.specs.Stretch.{IsStretch, StretchState}
-use Rattle.lv_live.specs.State.{HasClaim, LiveState, node_and_version, recorded}
+use Rattle.lv_live.specs.State.{HasClaim, IsLive, LiveState, node_and_version, recorded}
 use Rattle.lv_live.specs.Step.{Reduces}
 
 -- a vector whose edits are legal, within these limits
@@ -32,6 +32,12 @@ pub record IsVector (limits : Bounds) (h : History) : Type 0 where
 abbrev pub history_of : Bounds → List Edit → History
 history_of limits edits = record { limits = limits; journal = edits }
 
+-- a live vector of these limits, with these edits, whose summaries are by these operations
+pub record IsStanding {B S : Type 0} (o : Operations S) (limits : Bounds) (edits : List Edit) (s : LiveState B S) : Type 0 where
+  pub limits_are : s.history.limits ≡ limits
+  pub edits_are : s.history.journal ≡ edits
+  pub live : IsLive o s
+
 -- of a hub whose edits were seen up to old: it came to some edits, and there answered one edit more, after which it had new
 pub record EditTold (limits : Bounds) (old new : List Edit) (edit : Edit) (result : Result Receipt Refusal) : Type 0 where
   pub before : List Edit
@@ -39,18 +45,20 @@ pub record EditTold (limits : Bounds) (old new : List Edit) (edit : Edit) (resul
   pub within : InLimits (history_of limits before)
   pub answers : Answers (history_of limits before) edit result (history_of limits new)
 
--- of a hub whose edits were seen up to old: it came to new, and there answered a reduction
-pub record ReductionTold {S : Type 0} (o : Operations S) (limits : Bounds) (old new : List Edit) (lo hi : ℕ) (result : Result (Answer S) Refusal) : Type 0 where
+-- of a hub whose edits were seen up to old: it came to new, and there a live vector answered a reduction
+pub record ReductionTold (B : Type 0) {S : Type 0} (o : Operations S) (limits : Bounds) (old new : List Edit) (lo hi : ℕ) (result : Result (Answer S) Refusal) : Type 0 where
   pub seen : IsPrefix old new
   pub within : InLimits (history_of limits new)
-  pub standing : Record
-  pub edits : standing.edits ≡ new
-  pub reduces : Reduces o standing lo hi result
+  pub standing : LiveState B S
+  pub live : IsStanding o limits new standing
+  pub reduces : Reduces o (recorded standing) lo hi result
 
--- of a hub whose edits were seen up to old: it came to new, and there was asked for a range, and answered the fold of it
-pub record AskTold {S : Type 0} (o : Operations S) (limits : Bounds) (old new : List Edit) (lo hi : ℕ) (result : Result (Answer S) Refusal) : Type 0 where
+-- of a hub whose edits were seen up to old: it came to new, and there a live vector was asked for a range, and answered the fold of it
+pub record AskTold (B : Type 0) {S : Type 0} (o : Operations S) (limits : Bounds) (old new : List Edit) (lo hi : ℕ) (result : Result (Answer S) Refusal) : Type 0 where
   pub seen : IsPrefix old new
   pub within : InLimits (history_of limits new)
+  pub standing : LiveState B S
+  pub live : IsStanding o limits new standing
   pub answered : IfOk result (λ answer. IsAnswer o new lo hi answer)
   pub refused : IfErr result (λ refusal. range_refusal new lo hi ≡ Some refusal)
 
@@ -69,13 +77,15 @@ pub record StretchTold {B : Type 0} (body : B) (limits : Bounds) (old new : List
   pub of : IfOk result (λ stretch. stretch.body ≡ body)
   pub refused : IfErr result (λ refusal. IsScanRefusal new lo hi refusal)
 
--- a claim was answered as after some legal edits of the hub's vector, which has this body: by the least node that wants a job, whose
--- contents were taken honestly, or by none
+-- a claim was answered as after some legal edits of the hub's vector, which has this body and is a live one before and after: by the
+-- least node that wants a job, whose contents were taken honestly, or by none
 pub record ClaimTold {B S : Type 0} (o : Operations S) (body : B) (limits : Bounds) (result : Option (Carried B S)) : Type 0 where
   pub before : LiveState B S
   pub after : LiveState B S
   pub vector : IsVector limits before.history
   pub of : before.body ≡ body
+  pub live : IsLive o before
+  pub stays_live : IsLive o after
   pub next : IsNextJob (recorded before) (option_map node_and_version result)
   pub claimed : HasClaim before after (option_map node_and_version result)
   pub body_is : IfSome result (λ job. job.body ≡ body)
@@ -92,9 +102,10 @@ abbrev pub VouchedBy : {B S M : Type 0} → (B → M) → (M → Operations S) �
 VouchedBy meaning operations state outcome =
     Vouched (operations (meaning state.body)) (recorded state) (meaning state.body ≡ meaning outcome.body) outcome.node outcome.version outcome.contents
 
--- an outcome was taken or refused as after some legal edits of the hub's vector, which has this body
+-- an outcome was taken or refused as after some legal edits of the hub's vector, which has this body and is a live one
 pub record GiveTold {B S M : Type 0} (meaning : B → M) (operations : M → Operations S) (body : B) (limits : Bounds) (outcome : Carried B S) (result : Result Accepted Refusal) : Type 0 where
   pub state : LiveState B S
   pub vector : IsVector limits state.history
   pub of : state.body ≡ body
+  pub live : IsLive (operations (meaning body)) state
   pub gives : Gives (recorded state) (VouchedBy meaning operations state outcome) outcome result

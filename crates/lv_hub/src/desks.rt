@@ -4,7 +4,7 @@ ghost use Rattle.lv_edits.specs.Verdict.{Answers};
 ghost use Rattle.lv_reduce.specs.Answer.{IsAnswer, range_refusal};
 ghost use Rattle.lv_refresh.specs.Claim.{IsNextJob};
 ghost use Rattle.lv_refresh.specs.Honesty.{IsHonest};
-ghost use Rattle.lv_live.specs.State.{HasClaim, HasDelivery, SameLive, SameRefresh, node_and_version, recorded};
+ghost use Rattle.lv_live.specs.State.{HasClaim, HasDelivery, IsLive, SameLive, SameRefresh, node_and_version, recorded};
 ghost use Rattle.lv_hub.specs.Counting.{Counts};
 ghost use Rattle.lv_hub.specs.Told.{Gives, IsVector, VouchedBy};
 
@@ -87,7 +87,9 @@ impl<B: Body, N: Naming> Desk<B, N> {
         ensures err { IfErr result (λ refusal. range_refusal self.old.history.journal lo hi ≡ Some refusal) }
         ensures same { SameLive self.old self.new }
         ensures vector { IsVector N.limits self.old.history }
+        ensures live { IsLive (B.operations (B.meaning self.old.body)) self.old }
     {
+        self.live.keeps();
         self.live.ask(lo, hi)
     }
 
@@ -98,8 +100,13 @@ impl<B: Body, N: Naming> Desk<B, N> {
         ensures body { IfSome result (λ job. job.body ≡ self.old.body) }
         ensures honest { IfSome result (λ job. IsHonest (B.operations (B.meaning self.old.body)) (recorded self.new) job.node job.version job.contents) }
         ensures vector { IsVector N.limits self.old.history }
+        ensures live { IsLive (B.operations (B.meaning self.old.body)) self.old }
+        ensures stays_live { IsLive (B.operations (B.meaning self.new.body)) self.new }
     {
-        self.live.claim()
+        self.live.keeps();
+        let job = self.live.claim();
+        self.live.keeps();
+        job
     }
 
     /// Takes an outcome in. Refused with `Stranger` exactly where `Live::vet` says no. Takes no memory.
@@ -108,7 +115,9 @@ impl<B: Body, N: Naming> Desk<B, N> {
         ensures delivered { IfOk result (λ accepted. HasDelivery self.old self.new outcome.node outcome.version accepted) }
         ensures unchanged { OnErr result (self.new ≡ self.old) }
         ensures vector { IsVector N.limits self.old.history }
+        ensures live { IsLive (B.operations (B.meaning self.old.body)) self.old }
     {
+        self.live.keeps();
         if !self.live.vet(&outcome) {
             return Err(Refusal::Stranger);
         }
@@ -119,7 +128,9 @@ impl<B: Body, N: Naming> Desk<B, N> {
     pub fn live(&self) -> &Live<B>
         ensures same { result.now ≡ self.now }
         ensures vector { IsVector N.limits self.now.history }
+        ensures live { IsLive (B.operations (B.meaning self.now.body)) self.now }
     {
+        self.live.keeps();
         &self.live
     }
 

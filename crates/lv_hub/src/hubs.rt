@@ -103,7 +103,7 @@ impl<B: Body, N: Means<B>> Hub<B, N> {
         lo: u32,
         hi: u32,
     ) -> Result<Answer<B::S>, Refusal>
-        ensures told { ReductionTold (B.operations (B.meaning self.now)) N.limits share.old.seen share.new.seen lo hi result }
+        ensures told { ReductionTold B (B.operations (B.meaning self.now)) N.limits share.old.seen share.new.seen lo hi result }
         ensures share { share.new ≡ having_seen share.old share.new.seen }
         ensures bad_range { (result ≡ Err Refusal.BadRange) ↔ (hi < lo) }
     {
@@ -121,7 +121,7 @@ impl<B: Body, N: Means<B>> Hub<B, N> {
         lo: u32,
         hi: u32,
     ) -> Result<Answer<B::S>, Refusal>
-        ensures told { AskTold (B.operations (B.meaning self.now)) N.limits share.old.seen share.new.seen lo hi result }
+        ensures told { AskTold B (B.operations (B.meaning self.now)) N.limits share.old.seen share.new.seen lo hi result }
         ensures share { share.new ≡ having_seen share.old share.new.seen }
         ensures bad_range { (result ≡ Err Refusal.BadRange) ↔ (hi < lo) }
     {

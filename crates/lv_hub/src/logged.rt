@@ -4,7 +4,7 @@ ghost use Rattle.lv_edits.specs.Verdict.{Answers};
 ghost use Rattle.lv_reduce.specs.Answer.{IsAnswer, range_refusal};
 ghost use Rattle.lv_refresh.specs.Claim.{IsNextJob};
 ghost use Rattle.lv_refresh.specs.Honesty.{IsHonest};
-ghost use Rattle.lv_live.specs.State.{HasClaim, HasDelivery, SameLive, SameRefresh, node_and_version, recorded};
+ghost use Rattle.lv_live.specs.State.{HasClaim, HasDelivery, IsLive, SameLive, SameRefresh, node_and_version, recorded};
 ghost use Rattle.lv_script.specs.Transcript.{AreAccepted, greatest};
 ghost use Rattle.lv_hub.specs.Counting.{Counts, having_seen};
 ghost use Rattle.lv_hub.specs.Told.{Gives, IsVector, VouchedBy};
@@ -105,6 +105,7 @@ impl<B: Body, N: Means<B>> LoggedDesk<B, N> {
         ensures same { SameLive self.old self.new }
         ensures vector { IsVector N.limits self.old.history }
         ensures body { N.body ≡ Some self.old.body }
+        ensures live { IsLive (B.operations (B.meaning self.old.body)) self.old }
     {
         self.desk.ask(lo, hi)
     }
@@ -117,6 +118,8 @@ impl<B: Body, N: Means<B>> LoggedDesk<B, N> {
         ensures honest { IfSome result (λ job. IsHonest (B.operations (B.meaning self.old.body)) (recorded self.new) job.node job.version job.contents) }
         ensures vector { IsVector N.limits self.old.history }
         ensures body { N.body ≡ Some self.old.body }
+        ensures live { IsLive (B.operations (B.meaning self.old.body)) self.old }
+        ensures stays_live { IsLive (B.operations (B.meaning self.new.body)) self.new }
     {
         self.desk.claim()
     }
@@ -128,6 +131,7 @@ impl<B: Body, N: Means<B>> LoggedDesk<B, N> {
         ensures unchanged { OnErr result (self.new ≡ self.old) }
         ensures vector { IsVector N.limits self.old.history }
         ensures body { N.body ≡ Some self.old.body }
+        ensures live { IsLive (B.operations (B.meaning self.old.body)) self.old }
     {
         self.desk.give(outcome)
     }
@@ -137,6 +141,7 @@ impl<B: Body, N: Means<B>> LoggedDesk<B, N> {
         ensures same { result.now ≡ self.now }
         ensures vector { IsVector N.limits self.now.history }
         ensures body { N.body ≡ Some self.now.body }
+        ensures live { IsLive (B.operations (B.meaning self.now.body)) self.now }
     {
         self.desk.live()
     }

@@ -2,7 +2,7 @@ ghost use Rattle.std.specs.Prelude.{◌≡◌, ◌+◌, ◌≤◌, ◌++◌, ℕ
 ghost use Rattle.lv_script.specs.declared.transcripts.Claimed.{Claimed};
 ghost use Rattle.lv_script.specs.Output.{Writes, WritesFront};
 ghost use Rattle.lv_hub.specs.Counting.{having_seen};
-ghost use Rattle.lv_hub.specs.Session.{CommandAnswer, LineAnswer, TellsEdit, TellsReduction, TellsScan, operations_of_six, session_at};
+ghost use Rattle.lv_hub.specs.Session.{CommandAnswer, LineAnswer, TellsEdit, TellsReduction, TellsScan, session_at};
 
 use crate::hubs::Hub;
 use crate::naming::Means;
@@ -31,10 +31,10 @@ pub fn answer_line<N: Means<Six>, T: Wait, W: Write>(
 ) -> Result<(), Fault>
     requires { vec_len held.old + LINE ≤ vec_capacity held.old }
     ensures ok { OnOk result ((reply : List ℕ)
-        × LineAnswer (operations_of_six hub.now) N.limits (session_at share.old claims.old.items) number line reply (session_at share.new claims.new.items)
+        × LineAnswer N.limits (session_at share.old claims.old.items) number line reply (session_at share.new claims.new.items)
         × Writes (W.contents writer.old) held.old.items (W.contents writer.new) held.new.items reply) }
     ensures fault { IfErr result (λ fault. (fault ≡ Fault.WriteFault) × (reply : List ℕ)
-        × LineAnswer (operations_of_six hub.now) N.limits (session_at share.old claims.old.items) number line reply (session_at share.new claims.new.items)
+        × LineAnswer N.limits (session_at share.old claims.old.items) number line reply (session_at share.new claims.new.items)
         × WritesFront (W.contents writer.old) held.old.items (W.contents writer.new) reply) }
     ensures parts { share.new.parts ≡ share.old.parts }
     ensures more { share.old.count ≤ share.new.count }
@@ -65,10 +65,10 @@ fn answer<N: Means<Six>, T: Wait, W: Write>(
 ) -> Result<(), Fault>
     requires { vec_len held.old + LINE ≤ vec_capacity held.old }
     ensures ok { OnOk result ((reply : List ℕ)
-        × CommandAnswer (operations_of_six hub.now) N.limits (session_at share.old claims.old.items) number command reply (session_at share.new claims.new.items)
+        × CommandAnswer N.limits (session_at share.old claims.old.items) number command reply (session_at share.new claims.new.items)
         × Writes (W.contents writer.old) held.old.items (W.contents writer.new) held.new.items reply) }
     ensures fault { IfErr result (λ fault. (fault ≡ Fault.WriteFault) × (reply : List ℕ)
-        × CommandAnswer (operations_of_six hub.now) N.limits (session_at share.old claims.old.items) number command reply (session_at share.new claims.new.items)
+        × CommandAnswer N.limits (session_at share.old claims.old.items) number command reply (session_at share.new claims.new.items)
         × WritesFront (W.contents writer.old) held.old.items (W.contents writer.new) reply) }
     ensures parts { share.new.parts ≡ share.old.parts }
     ensures more { share.old.count ≤ share.new.count }
@@ -100,7 +100,7 @@ fn put_edit<N: Means<Six>, T: Wait>(
 )
     requires { vec_len held.old + LINE ≤ vec_capacity held.old }
     ensures answer { (reply : List ℕ)
-        × ((claims : List Claimed) → TellsEdit (operations_of_six hub.now) N.limits (session_at share.old claims) edit reply (session_at share.new claims))
+        × ((claims : List Claimed) → TellsEdit N.limits (session_at share.old claims) edit reply (session_at share.new claims))
         × (held.new.items ≡ held.old.items ++ reply) }
     ensures parts { share.new.parts ≡ share.old.parts }
     ensures more { share.old.count ≤ share.new.count }
@@ -125,14 +125,14 @@ fn put_reduction<N: Means<Six>, T: Wait>(
 )
     requires { vec_len held.old + LINE ≤ vec_capacity held.old }
     ensures answer { (reply : List ℕ)
-        × TellsReduction (operations_of_six hub.now) N.limits (session_at share.old claims.old.items) kind lo hi reply (session_at share.new claims.new.items)
+        × TellsReduction N.limits (session_at share.old claims.old.items) kind lo hi reply (session_at share.new claims.new.items)
         × (held.new.items ≡ held.old.items ++ reply) }
     ensures share { share.new ≡ having_seen share.old share.new.seen }
     ensures room { vec_capacity held.old ≤ vec_capacity held.new }
 {
     match hub.ask(rt, share, lo, hi) {
         Ok(answer) => {
-            let value = face(&Six::program(), kind, answer.value);
+            let value = face(kind, answer.value);
             let claim = Claimed {
                 edit: answer.edit,
                 kind,
@@ -164,10 +164,10 @@ fn put_scanned<N: Means<Six>, T: Wait, W: Write>(
 ) -> Result<(), Fault>
     requires { vec_len held.old + LINE ≤ vec_capacity held.old }
     ensures ok { OnOk result ((reply : List ℕ)
-        × ((claims : List Claimed) → TellsScan (operations_of_six hub.now) N.limits (session_at share.old claims) inclusive kind lo hi reply (session_at share.new claims))
+        × ((claims : List Claimed) → TellsScan N.limits (session_at share.old claims) inclusive kind lo hi reply (session_at share.new claims))
         × Writes (W.contents writer.old) held.old.items (W.contents writer.new) held.new.items reply) }
     ensures fault { IfErr result (λ fault. (fault ≡ Fault.WriteFault) × (reply : List ℕ)
-        × ((claims : List Claimed) → TellsScan (operations_of_six hub.now) N.limits (session_at share.old claims) inclusive kind lo hi reply (session_at share.new claims))
+        × ((claims : List Claimed) → TellsScan N.limits (session_at share.old claims) inclusive kind lo hi reply (session_at share.new claims))
         × WritesFront (W.contents writer.old) held.old.items (W.contents writer.new) reply) }
     ensures share { share.new ≡ having_seen share.old share.new.seen }
     ensures room { vec_capacity held.old ≤ vec_capacity held.new }

@@ -1,13 +1,11 @@
 ghost use Rattle.std.specs.Prelude.{◌≡◌, ◌+◌, ◌≤◌, ◌++◌, ℕ, All, List, [], Ok, Err, MatchResult, OnOk, OnErr, IfOk, IfErr, vec_len, vec_capacity};
 ghost use mathlib.Core.List.{IsPrefix};
-ghost use Rattle.lv_bodies.specs.Body.{Operations};
-ghost use Rattle.lv_bodies.specs.Six.{SixMeaning, SixSummary, meaning_of_six, six_meaning, six_operations};
 ghost use Rattle.lv_script.specs.declared.transcripts.Claimed.{Claimed};
 ghost use Rattle.lv_script.specs.Replies.{Conversed};
 ghost use Rattle.lv_script.specs.Transcript.{AreInOrder, IsTrueClaim};
 ghost use Rattle.std.specs.List.Sorted.{IsPermutation};
 ghost use Rattle.lv_hub.specs.Counting.{Holding};
-ghost use Rattle.lv_hub.specs.Session.{KeepTies, SessionState, SessionStep, operations_of_six, session_at};
+ghost use Rattle.lv_hub.specs.Session.{KeepTies, SessionState, SessionStep, session_at};
 
 use crate::hubs::Hub;
 use crate::naming::Means;
@@ -35,7 +33,7 @@ pub fn run_session<N: Means<Six>, T: Wait, R: Read, W: Write>(
     writer: &mut W,
 ) -> Result<Vec<Claimed>, Fault>
     ensures conversed { (last : SessionState)
-        × Conversed (SessionStep (operations_of_six hub.now) N.limits) (session_at share.old []) last
+        × Conversed (SessionStep N.limits) (session_at share.old []) last
         (R.remaining reader.old) (R.remaining reader.new) (W.contents writer.old) (W.contents writer.new) result
         × (share.new.count ≡ last.count)
         × (share.new.seen ≡ last.seen)
@@ -43,8 +41,8 @@ pub fn run_session<N: Means<Six>, T: Wait, R: Read, W: Write>(
     ensures parts { share.new.parts ≡ share.old.parts }
     ensures more { share.old.count ≤ share.new.count }
     ensures seen { IsPrefix share.old.seen share.new.seen }
-    // By the program's six, each reduction is true of the edits that were seen.
-    ensures all_true { ◌≡◌ {A = SixMeaning} (meaning_of_six hub.now) six_meaning → IfOk result (λ claims. All (IsTrueClaim share.new.seen) claims.items) }
+    // Each reduction is true of the edits that were seen.
+    ensures all_true { IfOk result (λ claims. All (IsTrueClaim share.new.seen) claims.items) }
 {
     let Share {
         token,
@@ -74,17 +72,13 @@ fn listed(claims: Vec<Claimed>, ended: Result<(), Fault>) -> Result<Vec<Claimed>
     Ok(claims)
 }
 
-/// What a share holds when it is lent to a session, and what the hub's body computes.
+/// What a share holds when it is lent to a session.
 pub trait Lent {
     ghost holding: { Holding };
-
-    ghost operations: { Operations SixSummary };
 }
 
 impl Lent for Brand {
     ghost holding = { record { parts = 0; count = 0; seen = [] } };
-
-    ghost operations = { six_operations six_meaning };
 }
 
 // Holds a session with a share, and gives the share back with the reductions that were answered.
@@ -97,8 +91,7 @@ fn hold<K: Lent, N: Means<Six>, T: Wait, R: Read, W: Write>(
     writer: &mut W,
 ) -> (Share<N>, Vec<Claimed>, Result<(), Fault>)
     requires lent { share ≡ K.holding }
-    requires computes { operations_of_six hub.now ≡ K.operations }
-    ensures conversed { Conversed (SessionStep K.operations N.limits) (session_at share []) (session_at result.0 result.1.items)
+    ensures conversed { Conversed (SessionStep N.limits) (session_at share []) (session_at result.0 result.1.items)
         (R.remaining reader.old) (R.remaining reader.new) (W.contents writer.old) (W.contents writer.new) result.2 }
     ensures parts { result.0.parts ≡ share.parts }
     ensures more { share.count ≤ result.0.count }
@@ -129,13 +122,13 @@ struct Session<'a, N: Means<Six>, T: Wait, K: Lent> {
 
 impl<'a, N: Means<Six>, T: Wait, K: Lent> Model for Session<'a, N, T, K> {
     ghost use Rattle.std.specs.Prelude.{◌≡◌, ◌≤◌};
-    ghost use Rattle.lv_hub.specs.Session.{SessionState, operations_of_six, session_at};
+    ghost use Rattle.lv_hub.specs.Session.{SessionState, session_at};
 
     ghost Value = { SessionState };
 
     ghost view = { λ s. session_at s.share s.claims.items };
 
-    ghost invariant = { λ s. (s.share.parts ≡ K.holding.parts) × (K.holding.count ≤ s.share.count) × (operations_of_six s.hub.now ≡ K.operations) };
+    ghost invariant = { λ s. (s.share.parts ≡ K.holding.parts) × (K.holding.count ≤ s.share.count) };
 }
 
 impl<'a, N: Means<Six>, T: Wait, K: Lent> Responder for Session<'a, N, T, K> {
@@ -143,7 +136,7 @@ impl<'a, N: Means<Six>, T: Wait, K: Lent> Responder for Session<'a, N, T, K> {
 
     ghost state = { λ s. s };
 
-    ghost step = { SessionStep K.operations N.limits };
+    ghost step = { SessionStep N.limits };
 
     fn respond<W: Write>(
         &mut self,

@@ -1,12 +1,14 @@
 use Rattle.std.proofs.Common.{◌≡◌, ◌++◌, ◌∷◌, [], Ok, Err, List, refl, ap, ◌∙◌, inl, inr}
 use Rattle.lv_geometry.specs.declared.refusals.Refusal.TheVariants.{NoMemory}
+use Rattle.lv_bodies.specs.Six.{six_operations}
 use Rattle.lv_bodies.specs.declared.kinds.Shown.{Shown}
 use Rattle.lv_script.specs.declared.transcripts.Claimed.{Claimed}
 use Rattle.lv_refresh.specs.Record.{is_fresh}
+use Rattle.lv_live.specs.State.{recorded}
 use Rattle.lv_script.specs.Texts.{answer_text, refused_text}
 use Rattle.lv_hub.specs.Counting.{Holding}
-use Rattle.lv_hub.specs.Session.{operations_of_six, session_at, up_to}
-use Rattle.lv_hub.proofs.AskedLaws.{counted, plain_record, refused_as_reduction, told_as_reduction}
+use Rattle.lv_hub.specs.Session.{session_at, up_to}
+use Rattle.lv_hub.proofs.AskedLaws.{counted, refused_as_reduction, told_as_reduction}
 use Rattle.lv_hub.proofs.replying.put_reduction.Goals as goal
 
 -- a state whose share saw more, and whose list became this
@@ -22,8 +24,8 @@ returns-in-Ok-push-clause-answer g c =
     let listed : Shown → Claimed = λ value. record { edit = answer.edit; kind = kind; lo = c.args.lo; hi = c.args.hi; value = value } in (
       answer_text answer.edit kind c.face-value.result,
       record {
-        result = Ok (counted (is_fresh (plain_record new.seen)) c.args.lo c.args.hi answer);
-        told = told_as_reduction (operations_of_six c.args.hub.now) g.N.Naming.limits c.args.share.now.seen new.seen c.args.lo c.args.hi answer told;
+        result = Ok (counted (is_fresh (recorded told.standing)) c.args.lo c.args.hi answer);
+        told = told_as_reduction six_operations g.N.Naming.limits c.args.share.now.seen new.seen c.args.lo c.args.hi answer told;
         lists = inl (
           ap (answer_text answer.edit kind) c.face-value.ensures.shown,
           ap (λ items. session_at new items) (c.in-Ok-push.ensures.items ∙ ap (λ value. c.args.claims.now.items ++ listed value ∷ []) c.face-value.ensures.shown)
@@ -40,8 +42,8 @@ returns-in-Err-push-clause-answer g c =
     let new = c.ask.new.share in (
       refused_text NoMemory,
       record {
-        result = Ok (counted (is_fresh (plain_record new.seen)) c.args.lo c.args.hi answer);
-        told = told_as_reduction (operations_of_six c.args.hub.now) g.N.Naming.limits c.args.share.now.seen new.seen c.args.lo c.args.hi answer told;
+        result = Ok (counted (is_fresh (recorded told.standing)) c.args.lo c.args.hi answer);
+        told = told_as_reduction six_operations g.N.Naming.limits c.args.share.now.seen new.seen c.args.lo c.args.hi answer told;
         lists = inr (refl, ap (λ items. session_at new items) c.in-Err-push.ensures.items ∙ seen_and_listed c.args.share.now new c.args.claims.now.items _ c.in-Ok.ensures.share);
       },
       c.put_refusal.ensures.text,
@@ -53,7 +55,7 @@ returns-in-Err-clause-answer g c =
       refused_text c.in-Err.refusal,
       record {
         result = Err c.in-Err.refusal;
-        told = refused_as_reduction (operations_of_six c.args.hub.now) g.N.Naming.limits c.args.share.now.seen new.seen c.args.lo c.args.hi c.in-Err.refusal c.in-Err.ensures.told;
+        told = refused_as_reduction six_operations g.N.Naming.limits c.args.share.now.seen new.seen c.args.lo c.args.hi c.in-Err.refusal c.in-Err.ensures.told;
         lists = (refl, seen_and_listed c.args.share.now new c.args.claims.now.items _ c.in-Err.ensures.share);
       },
       c.put_refusal-in-Err.ensures.text,

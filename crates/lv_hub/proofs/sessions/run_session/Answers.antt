@@ -1,6 +1,5 @@
 use Rattle.std.proofs.Common.{◌≡◌, All, refl, rules, ap, sym}
 use Rattle.std.proofs.lemmas.List.Elements.{All-nil}
-use Rattle.lv_bodies.specs.Six.{meaning_of_six}
 use Rattle.lv_script.specs.Transcript.{IsTrueClaim}
 use Rattle.lv_hub.proofs.SessionLaws.{conversed_as, given_as}
 use Rattle.lv_hub.proofs.TruthLaws.{conversed_keeps}
@@ -24,13 +23,12 @@ pub returns-clause-seen : goal.returns-clause-seen
 returns-clause-seen g c =
     let saw : c.again.result ≡ c.args.share.now.seen = search rules in
     let sees : c.hold-back.result.0.seen ≡ c.back.inside.front = ap (λ h. h.seen) (sym c.back.view_is) in
-    let keeps = conversed_keeps (meaning_of_six c.args.hub.now) g.N.Naming.limits _ _ _ _ _ _ c.hold-back.result.2 c.hold-back.ensures.conversed in
+    let keeps = conversed_keeps g.N.Naming.limits _ _ _ _ _ _ c.hold-back.result.2 c.hold-back.ensures.conversed in
     rw (← saw, ← sees) keeps.seen
 
 pub returns-clause-all_true : goal.returns-clause-all_true
 returns-clause-all_true g c =
     let sees : c.hold-back.result.0.seen ≡ c.back.inside.front = ap (λ h. h.seen) (sym c.back.view_is) in
-    let keeps = conversed_keeps (meaning_of_six c.args.hub.now) g.N.Naming.limits _ _ _ _ _ _ c.hold-back.result.2 c.hold-back.ensures.conversed in
-    λ program.
-    let holds : All (IsTrueClaim c.back.inside.front) c.hold-back.result.1.items = rw (← sees) (keeps.all_true program (All-nil (IsTrueClaim c.again.result))) in
+    let keeps = conversed_keeps g.N.Naming.limits _ _ _ _ _ _ c.hold-back.result.2 c.hold-back.ensures.conversed in
+    let holds : All (IsTrueClaim c.back.inside.front) c.hold-back.result.1.items = rw (← sees) (keeps.all_true (All-nil (IsTrueClaim c.again.result))) in
     given_as (λ claims. All (IsTrueClaim c.back.inside.front) claims.items) c.hold-back.result.2 c.hold-back.result.1 c.listed.result c.listed.ensures holds

@@ -1,5 +1,4 @@
-use Rattle.lv_hub.specs.Session.{operations_of_six}
 use Rattle.lv_hub.proofs.sessions.run_session.Given as goal
 
 abbrev pub ghosts-hold : goal.ghosts-hold
-ghosts-hold g a = record { holding = a.share; operations = operations_of_six a.hub.now }
+ghosts-hold g a = record { holding = a.share }

@@ -1,0 +1,14 @@
+use Rattle.std.proofs.Common.{◌≡◌, Some, ap, rules, sym, ◌∙◌}
+use Rattle.std.proofs.lemmas.Option.{same_Some}
+use mathlib.Core.List.{IsPrefix}
+use Rattle.lv_hub.proofs.ToldLaws.{ask_told}
+use Rattle.lv_hub.proofs.hubs.Hub.ask.Goals as goal
+
+-- it was answered by what the lock held, which has the hub's body
+pub returns-clause-told : goal.returns-clause-told
+returns-clause-told g c =
+    let s = c.deref_mut.result.now.desk in
+    let of : s.body ≡ c.args.self.now = same_Some _ _ (sym c.ask.ensures.body ∙ c.self.invariant ∙ ap Some c.self.view_is) in
+    let seen : IsPrefix c.args.share.now.seen c.show.new.share.seen = search rules in
+    let is : c.show.new.share.seen ≡ s.history.journal = search rules in
+    ask_told (λ body. g.B.Body.operations (g.B.Body.meaning body)) _ _ s _ _ _ _ c.ask.ensures.vector of seen is c.ask.result c.ask.ensures.live c.ask.ensures.ok c.ask.ensures.err
