@@ -1,7 +1,7 @@
 -- A conversation, seen by what its states stand for.
 use Rattle.std.proofs.Common.{ℕ, ◌+◌, Option, Result, Ok, Err, List, [], ◌∷◌, refl, inl, inr}
 use Rattle.lv_script.specs.declared.fault.Fault.{Fault}
-use Rattle.lv_script.specs.declared.fault.Fault.TheVariants.{NoMemory, ReadFault, WriteFault}
+use Rattle.lv_script.specs.declared.fault.Fault.TheVariants.{NoMemory, ReadFault, TooLong, WriteFault}
 use Rattle.lv_script.specs.Replies.{Answered, AnswersAll, AnswersFront, Conversed, Ends}
 
 -- each line that moves a state moves what it stands for, by a step of its own
@@ -29,7 +29,10 @@ module _ {S T : Type 0} {step : S → ℕ → List ℕ → List ℕ → S → Ty
   ends_as : {R : Type 0} (s : S) (t : T) (u : S) (a b k l : Option (List ℕ)) (seen : List ℕ) (result : Result R Fault) → Fits s t → Ends step s u a b k l seen result → (v : T) × Fits u v × Ends next t v a b k l seen result
   ends_as s t u a b k l seen (Ok x) fits e =
       let came = all_as s t _ u k l fits e.2 in (came.0, came.1, (e.0, e.1, came.2))
-  ends_as s t u a b k l seen (Err ReadFault) fits e = all_as s t _ u k l fits e
+  ends_as s t u a b k l seen (Err ReadFault) fits e =
+      let came = all_as s t _ u k l fits e.1 in (came.0, came.1, (e.0, came.2))
+  ends_as s t u a b k l seen (Err TooLong) fits e =
+      let came = all_as s t _ u k l fits e.1 in (came.0, came.1, (e.0, came.2))
   ends_as s t u a b k l seen (Err WriteFault) fits (inl e) =
       let came = front_as s t _ u k l fits e in (came.0, came.1, inl came.2)
   ends_as s t u a b k l seen (Err WriteFault) fits (inr e) =

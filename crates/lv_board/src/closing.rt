@@ -2,6 +2,7 @@
 ghost use Rattle.std.specs.Prelude.{◌≡◌, ℕ, ◌<◌, ◌≤◌, true, [], ◌∷◌, ◌++◌, map, slice_index, vec_capacity, All, IfOk, IfErr};
 ghost use Rattle.std.specs.List.{range_with_len};
 ghost use Rattle.std.specs.Mem.Slots.{slots_items, slots_len, IsFull};
+ghost use Rattle.lv_geometry.specs.Cells.{capacity_of};
 ghost use Rattle.lv_machine.specs.Layout.{cell_place, count_of};
 ghost use Rattle.lv_machine.specs.Words.{edit_of, signed, size_of};
 ghost use Rattle.lv_board.specs.Closing.{AreAll, AreAt, IsClosed, IsSettled, shown_at};
@@ -112,6 +113,28 @@ impl<B: Parted> Board<B> {
         table.close_with(token)
     }
 
+    /// How many elements the board takes: so many a vector has room for into which it is closed.
+    pub fn capacity(&self) -> u32
+        ensures { result ≡ capacity_of self.now.terms.buckets }
+    {
+        capacity(self.terms.buckets)
+    }
+
+    /// The vector when its threads are done, in a vector that has room for its elements: this takes no memory. All seats are handed in.
+    pub fn close_into(self, seats: Vec<Seat<B>>, mut elements: Vec<i64>) -> Closed
+        requires at { AreAt self.table.shared.table_id self.terms seats.items }
+        requires all { AreAll self.terms.seats seats.items }
+        requires none { elements.items ≡ [] }
+        requires room { capacity_of self.terms.buckets ≤ vec_capacity elements }
+        ensures { IsClosed (terms_of (folds B.PARTS B.parts_of (λ b. B.operations (B.meaning b))) self.terms) seats.items result }
+    {
+        let words = self.settle(seats);
+        let look = words.word(0);
+        collect(&words, look, &mut elements);
+        words.free();
+        closed_at(look, elements)
+    }
+
     /// The vector when its threads are done: the number of its last edit, and its elements. All seats are handed in. For want of
     /// memory board and seats come back as they were.
     pub fn close(
@@ -124,14 +147,9 @@ impl<B: Parted> Board<B> {
         ensures ok { IfOk result (λ closed. IsClosed (terms_of (folds B.PARTS B.parts_of (λ b. B.operations (B.meaning b))) self.terms) seats.items closed) }
         ensures err { IfErr result (λ r. (r.0 ≡ self) × (r.1.items ≡ seats.items)) }
     {
-        let Ok(mut elements) = Vec::with_capacity(alloc, capacity(self.terms.buckets) as usize)
-        else {
+        let Ok(elements) = Vec::with_capacity(alloc, self.capacity() as usize) else {
             return Err((self, seats));
         };
-        let words = self.settle(seats);
-        let look = words.word(0);
-        collect(&words, look, &mut elements);
-        words.free();
-        Ok(closed_at(look, elements))
+        Ok(self.close_into(seats, elements))
     }
 }

@@ -5,7 +5,7 @@ use Rattle.lv_machine.specs.Words.{edit_of, size_of}
 use Rattle.lv_board.specs.Closing.{shown_at}
 use Rattle.lv_board.specs.Rule.{folds, terms_of}
 use Rattle.lv_board.proofs.Closes.{cell_within, closed_of, size_within, word_read}
-use Rattle.lv_board.proofs.board.Board.close.Goals as goal
+use Rattle.lv_board.proofs.board.Board.close_into.Goals as goal
 
 pub collect-requires-clause-within : goal.collect-requires-clause-within
 collect-requires-clause-within g c = λ i less.
@@ -19,10 +19,10 @@ collect-requires-clause-room g c =
     let settled = c.settle-words.ensures.settled in
     let first = word_read (slots_items c.settle-words.result.words) 0 c.word-look.result c.word-look.ensures in
     let few = size_within (terms_of (folds g.B.Parted.PARTS g.B.Parted.parts_of (λ b. g.B.Body.operations (g.B.Body.meaning b))) c.args.self.terms) (slots_items c.settle-words.result.words) settled.history settled.looks settled.terms settled.shown in
-    omega (arith, ap size_of first, c.in-Ok.ensures.capacity, c.capacity.ensures.value)
+    omega (arith, ap size_of first, c.requires.room)
 
-pub returns-clause-ok : goal.returns-clause-ok
-returns-clause-ok g c =
+pub returns : goal.returns
+returns g c =
     let first = word_read (slots_items c.settle-words.result.words) 0 c.word-look.result c.word-look.ensures in
     closed_of (terms_of (folds g.B.Parted.PARTS g.B.Parted.parts_of (λ b. g.B.Body.operations (g.B.Body.meaning b))) c.args.self.terms) c.args.seats.items (slots_items c.settle-words.result.words) c.closed_at.result c.settle-words.ensures.settled c.requires.all
     (c.closed_at.ensures.edit ∙ ap edit_of (sym first))
