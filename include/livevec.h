@@ -166,6 +166,12 @@ typedef struct livevec_vetted {
     bool yes;
 } livevec_vetted;
 
+/* Why an edit would be refused, 0 where it would be accepted. */
+typedef struct livevec_verdict {
+    uint32_t refusal;
+    uint32_t detail; /* of LIVEVEC_OUT_OF_RANGE the size, of LIVEVEC_TOO_LARGE the limit, else 0 */
+} livevec_verdict;
+
 /* --- A vector --- */
 
 /* Puts a new, empty vector into an empty slot: of at most 1 to 17 buckets (k buckets hold 8 * (2^k - 1) elements, 17 hold
@@ -201,6 +207,14 @@ livevec_edited livevec_swap(livevec_vector *slot, uint32_t first, uint32_t secon
 /* Keeps so many elements, the first ones, and drops the others. `place` is how many were dropped.
  * Refusals: NULL, NO_HANDLE, WORN, OUT_OF_RANGE, NO_MEMORY. */
 livevec_edited livevec_truncate(livevec_vector *slot, uint32_t elements);
+
+/* Why that very edit would be refused, want of memory apart; nothing is changed. Refusals: those of the edit but NO_MEMORY. */
+livevec_verdict livevec_verdict_push(livevec_vector *slot, int64_t value);
+livevec_verdict livevec_verdict_pop(livevec_vector *slot);
+livevec_verdict livevec_verdict_write(livevec_vector *slot, uint32_t index, int64_t value);
+livevec_verdict livevec_verdict_reserve(livevec_vector *slot, uint32_t elements);
+livevec_verdict livevec_verdict_swap(livevec_vector *slot, uint32_t first, uint32_t second);
+livevec_verdict livevec_verdict_truncate(livevec_vector *slot, uint32_t elements);
 
 /* Pushes elements in order, until one is refused. Those before it stay. Refusals: NULL, and those of livevec_push. */
 livevec_pushed livevec_push_many(livevec_vector *slot, const int64_t *values, size_t length);

@@ -25,6 +25,13 @@ livevec_vetted livevec_proved_vet(livevec_vector *slot, livevec_outcome *outcome
 livevec_accepted livevec_proved_accept(livevec_vector *slot, livevec_outcome *outcome);
 uint32_t livevec_proved_forget(livevec_vector *slot);
 
+livevec_verdict livevec_proved_verdict_push(livevec_vector *slot, int64_t value);
+livevec_verdict livevec_proved_verdict_pop(livevec_vector *slot);
+livevec_verdict livevec_proved_verdict_write(livevec_vector *slot, uint32_t index, int64_t value);
+livevec_verdict livevec_proved_verdict_reserve(livevec_vector *slot, uint32_t elements);
+livevec_verdict livevec_proved_verdict_swap(livevec_vector *slot, uint32_t first, uint32_t second);
+livevec_verdict livevec_proved_verdict_truncate(livevec_vector *slot, uint32_t elements);
+
 static livevec_edited not_edited(void)
 {
     livevec_edited answer = {LIVEVEC_NULL, 0, 0, 0, 0};
@@ -34,6 +41,12 @@ static livevec_edited not_edited(void)
 static livevec_count not_counted(void)
 {
     livevec_count answer = {LIVEVEC_NULL, 0};
+    return answer;
+}
+
+static livevec_verdict not_judged(void)
+{
+    livevec_verdict answer = {LIVEVEC_NULL, 0};
     return answer;
 }
 
@@ -86,6 +99,36 @@ livevec_edited livevec_swap(livevec_vector *slot, uint32_t first, uint32_t secon
 livevec_edited livevec_truncate(livevec_vector *slot, uint32_t elements)
 {
     return slot ? livevec_proved_truncate(slot, elements) : not_edited();
+}
+
+livevec_verdict livevec_verdict_push(livevec_vector *slot, int64_t value)
+{
+    return slot ? livevec_proved_verdict_push(slot, value) : not_judged();
+}
+
+livevec_verdict livevec_verdict_pop(livevec_vector *slot)
+{
+    return slot ? livevec_proved_verdict_pop(slot) : not_judged();
+}
+
+livevec_verdict livevec_verdict_write(livevec_vector *slot, uint32_t index, int64_t value)
+{
+    return slot ? livevec_proved_verdict_write(slot, index, value) : not_judged();
+}
+
+livevec_verdict livevec_verdict_reserve(livevec_vector *slot, uint32_t elements)
+{
+    return slot ? livevec_proved_verdict_reserve(slot, elements) : not_judged();
+}
+
+livevec_verdict livevec_verdict_swap(livevec_vector *slot, uint32_t first, uint32_t second)
+{
+    return slot ? livevec_proved_verdict_swap(slot, first, second) : not_judged();
+}
+
+livevec_verdict livevec_verdict_truncate(livevec_vector *slot, uint32_t elements)
+{
+    return slot ? livevec_proved_verdict_truncate(slot, elements) : not_judged();
 }
 
 livevec_element livevec_get(livevec_vector *slot, uint32_t index)

@@ -158,6 +158,34 @@ static void moves(void)
     IS(livevec_free(&v), 0);
 }
 
+/* Verdicts: each is what the edit is then refused with, and changes nothing. */
+static void verdicts(void)
+{
+    livevec_vector v = empty_vector;
+    IS(livevec_verdict_push(&v, 1).refusal, LIVEVEC_NO_HANDLE);
+    IS(livevec_verdict_truncate(NULL, 0).refusal, LIVEVEC_NULL);
+    IS(livevec_new(&v, 1, 10), 0);
+    IS(livevec_verdict_pop(&v).refusal, LIVEVEC_EMPTY);
+    IS(livevec_verdict_push(&v, 1).refusal, 0);
+    for (int64_t i = 0; i < 8; i++)
+        IS(livevec_push(&v, i).refusal, 0);
+    IS(livevec_verdict_push(&v, 1).refusal, LIVEVEC_FULL);
+    IS(livevec_verdict_write(&v, 8, 1).refusal, LIVEVEC_OUT_OF_RANGE);
+    IS(livevec_verdict_write(&v, 8, 1).detail, 8);
+    IS(livevec_verdict_reserve(&v, 9).refusal, LIVEVEC_TOO_LARGE);
+    IS(livevec_verdict_reserve(&v, 9).detail, 8);
+    IS(livevec_verdict_swap(&v, 0, 9).refusal, LIVEVEC_OUT_OF_RANGE);
+    IS(livevec_verdict_truncate(&v, 9).refusal, LIVEVEC_OUT_OF_RANGE);
+    IS(livevec_verdict_truncate(&v, 8).refusal, 0);
+    IS(livevec_verdict_swap(&v, 0, 7).refusal, 0);
+    IS(livevec_edits(&v).value, 8);
+    IS(livevec_swap(&v, 0, 7).edit, 9);
+    IS(livevec_pop(&v).edit, 10);
+    IS(livevec_verdict_pop(&v).refusal, LIVEVEC_WORN);
+    IS(livevec_verdict_pop(&v).detail, 0);
+    IS(livevec_free(&v), 0);
+}
+
 /* Limits and tables at birth. */
 static void births(void)
 {
@@ -298,6 +326,7 @@ int main(void)
     edits();
     reductions();
     moves();
+    verdicts();
     births();
     jobs();
     misuse();

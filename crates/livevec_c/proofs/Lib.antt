@@ -1,4 +1,5 @@
 pub mod AsBox
 pub mod Empty
 pub mod Openings
+pub mod PlainAnswers
 pub mod SpreadFolds

@@ -3,7 +3,7 @@ use Rattle.std.proofs.Common.{◌≡◌, ℕ, ℤ, pos, List, [], refl, ap}
 use Rattle.std.specs.Prelude.{Option, None, is_some, unwrap_or}
 use Rattle.lv_bodies.specs.Body.{CanFold, fold_of}
 use Rattle.lv_bodies.specs.Plain.{plain_value_with}
-use Rattle.lv_bodies.specs.Six.{SixMeaning, SixSummary, face_of, six_operations, table_of_six}
+use Rattle.lv_bodies.specs.Six.{SixSummary, face_of, six_operations_by}
 use Rattle.lv_bodies.specs.declared.kinds.Kind.{Kind}
 use Rattle.lv_bodies.specs.declared.kinds.Kind.TheVariants.{Sum, Least, Greatest, Best, Affine, Automaton}
 use Rattle.lv_bodies.specs.declared.kinds.Shown.{Shown}
@@ -35,10 +35,10 @@ abbrev states_shown : Shown → List ℕ
 states_shown (shown.Automaton states) = states
 states_shown _ = []
 
-pub spread-plain : (m : SixMeaning) (xs : List ℤ) → CanFold xs → AreValues (table_of_six m) xs (spread (fold_of (six_operations m) xs))
-spread-plain m xs can =
-    let s : SixSummary = fold_of (six_operations m) xs in
-    let at : (kind : Kind) → face_of kind s ≡ plain_value_with (table_of_six m) kind xs = λ kind. face_of-fold m kind s xs can refl in
+pub spread-plain : (table : List (List ℕ)) (xs : List ℤ) → CanFold xs → AreValues table xs (spread (fold_of (six_operations_by table) xs))
+spread-plain table xs can =
+    let s : SixSummary = fold_of (six_operations_by table) xs in
+    let at : (kind : Kind) → face_of kind s ≡ plain_value_with table kind xs = λ kind. face_of-fold table kind s xs can refl in
     record {
       sum = ap sum_in (at Sum);
       any = ap (λ v. is_some (number_in v)) (at Least);

@@ -1,5 +1,5 @@
 -- What the answers of the library are for C.
-use Rattle.std.specs.Prelude.{ℕ, ℤ, pos, true, false, ◌^◌, Result, Ok, Err, replicate, unwrap_or, is_some, option_map}
+use Rattle.std.specs.Prelude.{ℕ, ℤ, pos, true, false, ◌^◌, Option, Some, None, Result, Ok, Err, replicate, unwrap_or, is_some, option_map}
 use Rattle.std.specs.Int.{int_rem_euclid, int_div_euclid}
 use Rattle.std.specs.Int.RustNames.{unsigned_abs}
 use Rattle.lv_geometry.specs.Numbers.{number_of}
@@ -19,6 +19,7 @@ use Rattle.livevec_c.specs.declared.results.Edited.{Edited}
 use Rattle.livevec_c.specs.declared.results.Element.{Element}
 use Rattle.livevec_c.specs.declared.results.PlainValues.{PlainValues}
 use Rattle.livevec_c.specs.declared.results.Reduced.{Reduced}
+use Rattle.livevec_c.specs.declared.verdicts.Verdict.{Verdict}
 
 -- what a refusal tells beside its number: the size, or the limit
 abbrev pub detail_of : Refusal → ℕ
@@ -43,6 +44,15 @@ edited_by (Err refusal) = record { refusal = number_of refusal; detail = detail_
 -- an edit's answer where a slot was empty
 abbrev pub unedited : Edited
 unedited = record { refusal = 101; detail = 0; edit = 0; place = 0; value = pos 0 }
+
+-- why an edit would be refused, if it would be
+abbrev pub judged_by : Option Refusal → Verdict
+judged_by None = record { refusal = 0; detail = 0 }
+judged_by (Some refusal) = record { refusal = number_of refusal; detail = detail_of refusal }
+
+-- the same where a slot was empty
+abbrev pub unjudged : Verdict
+unjudged = record { refusal = 101; detail = 0 }
 
 -- an element's answer
 abbrev pub element_by : Result ℤ Refusal → Element

@@ -1,13 +1,14 @@
 -- What the calls do and answer, by what lies behind a slot.
 use Rattle.std.specs.Prelude.{◌≡◌, ℕ, Option, Some, None, Result, IfOk, IfErr, length}
 use Rattle.lv_geometry.specs.declared.refusals.Refusal.{Refusal}
-use Rattle.lv_bodies.specs.Six.{SixSummary, six_operations, meaning_of_six}
-use Rattle.lv_bodies.specs.declared.sixes.Six.{Six}
+use Rattle.lv_bodies.specs.Automata.{table_of}
+use Rattle.lv_bodies.specs.Six.{SixSummary, six_operations_by}
+use Rattle.lv_bodies.specs.declared.sixes.SixByTable.{SixByTable}
 use Rattle.lv_edits.specs.declared.edit.Edit.{Edit}
 use Rattle.lv_edits.specs.declared.receipt.Receipt.{Receipt}
 use Rattle.lv_edits.specs.Capacity.{capacity_after}
 use Rattle.lv_edits.specs.History.{list_of}
-use Rattle.lv_edits.specs.Verdict.{Answers, element_at}
+use Rattle.lv_edits.specs.Verdict.{Answers, element_at, verdict_of}
 use Rattle.lv_reduce.specs.declared.reductions.Answer.{Answer}
 use Rattle.lv_reduce.specs.Answer.{IsAnswer, range_refusal}
 use Rattle.lv_live.specs.Step.{Reduces as ReducesAt}
@@ -17,15 +18,16 @@ use Rattle.livevec_c.specs.declared.objects.Object.{Object}
 use Rattle.livevec_c.specs.declared.objects.Object.TheVariants.{Vector, Job, Outcome}
 use Rattle.livevec_c.specs.declared.results.Edited.{Edited}
 use Rattle.livevec_c.specs.declared.results.Element.{Element}
+use Rattle.livevec_c.specs.declared.verdicts.Verdict.{Verdict}
 use Rattle.livevec_c.specs.declared.results.Count.{Count}
 use Rattle.livevec_c.specs.declared.results.Reduced.{Reduced}
 use Rattle.livevec_c.specs.declared.reads.Counted.{Counted}
 use Rattle.livevec_c.specs.declared.reads.Counted.TheVariants as counts
-use Rattle.livevec_c.specs.Answers.{edited_by, element_by, no_element, reduced_by, unedited, unreduced}
+use Rattle.livevec_c.specs.Answers.{edited_by, element_by, judged_by, no_element, reduced_by, unedited, unjudged, unreduced}
 
 -- a vector for C: of the six bodies at once
 abbrev pub State : Type 0
-State = LiveState Six SixSummary
+State = LiveState SixByTable SixSummary
 
 -- an edit of a vector: it is answered as the library answers it, and the summaries and claims stay
 abbrev pub EditsVector : Edit → Edited → State → State → Type 0
@@ -43,6 +45,16 @@ EditsObject edit answer (Outcome outcome) new = (answer ≡ unedited) × (new �
 abbrev pub Edits : Edit → Edited → Option Object → Option Object → Type 0
 Edits edit answer None new = (answer ≡ unedited) × (new ≡ None)
 Edits edit answer (Some old) new = (object : Object) × (new ≡ Some object) × EditsObject edit answer old object
+
+-- why an edit of an object would be refused, as the library judges it
+abbrev pub JudgesObject : Edit → Verdict → Object → Type 0
+JudgesObject edit answer (Vector state) = answer ≡ judged_by (verdict_of state.history.limits state.history.journal edit)
+JudgesObject edit answer (Job job) = answer ≡ unjudged
+JudgesObject edit answer (Outcome outcome) = answer ≡ unjudged
+
+abbrev pub Judges : Edit → Verdict → Option Object → Type 0
+Judges edit answer None = answer ≡ unjudged
+Judges edit answer (Some object) = JudgesObject edit answer object
 
 -- the element of an object at an index, as the library answers it
 abbrev pub GetsObject : ℕ → Element → Object → Type 0
@@ -76,7 +88,7 @@ Counts what answer (Some object) = CountsObject what answer object
 -- a reduction of an object, as the library answers it
 abbrev pub ReducesObject : ℕ → ℕ → Reduced → Object → Type 0
 ReducesObject lo hi answer (Vector state) =
-    (r : Result (Answer SixSummary) Refusal) × (answer ≡ reduced_by r) × ReducesAt (six_operations (meaning_of_six state.body)) (recorded state) lo hi r
+    (r : Result (Answer SixSummary) Refusal) × (answer ≡ reduced_by r) × InLimits state.history × ReducesAt (six_operations_by (table_of state.body.automaton)) (recorded state) lo hi r
 ReducesObject lo hi answer (Job job) = answer ≡ unreduced 101 0
 ReducesObject lo hi answer (Outcome outcome) = answer ≡ unreduced 101 0
 
@@ -88,8 +100,9 @@ Reduces lo hi answer (Some object) = ReducesObject lo hi answer object
 pub record AsksVector (lo hi : ℕ) (answer : Reduced) (old new : State) : Type 0 where
   pub r : Result (Answer SixSummary) Refusal
   pub answer_is : answer ≡ reduced_by r
-  pub ok : IfOk r (λ a. IsAnswer (six_operations (meaning_of_six old.body)) old.history.journal lo hi a)
+  pub ok : IfOk r (λ a. IsAnswer (six_operations_by (table_of old.body.automaton)) old.history.journal lo hi a)
   pub err : IfErr r (λ refusal. range_refusal old.history.journal lo hi ≡ Some refusal)
+  pub within : InLimits old.history
   pub same : SameLive old new
 
 abbrev pub AsksObject : ℕ → ℕ → Reduced → Object → Object → Type 0

@@ -2,7 +2,8 @@
 use Rattle.std.specs.Prelude.{◌≡◌, ◌⊎◌, ◌<◌, ◌≤◌, ℕ, Option, Some, None, List, [], All, Any}
 use Rattle.lv_geometry.specs.Bounds.{AreAllowed, Bounds}
 use Rattle.lv_geometry.specs.declared.nodes.Node.{Node}
-use Rattle.lv_bodies.specs.Six.{meaning_of_six, table_of_six}
+use Rattle.lv_bodies.specs.Automata.{table_of}
+use Rattle.lv_edits.specs.Kept.{InLimits}
 use Rattle.lv_live.specs.State.{recorded}
 use Rattle.livevec_c.specs.declared.objects.Object.{Object}
 use Rattle.livevec_c.specs.declared.objects.Object.TheVariants.{Vector}
@@ -10,8 +11,9 @@ use Rattle.livevec_c.specs.Behind.{State}
 
 -- a vector of these limits and of an automaton of this table, with no edits, no claims and nothing kept
 pub record IsNew (limits : Bounds) (table : List (List ℕ)) (state : State) : Type 0 where
-  pub table_is : table_of_six (meaning_of_six state.body) ≡ table
+  pub table_is : table_of state.body.automaton ≡ table
   pub history : state.history ≡ record { limits = limits; journal = [] }
+  pub within : InLimits state.history
   pub unclaimed : (n : Node) → (recorded state).claimed n ≡ None
   pub nothing_kept : (n : Node) → (recorded state).kept n ≡ None
 

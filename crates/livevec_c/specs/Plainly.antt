@@ -1,8 +1,14 @@
 -- The values that C sees, without any summary.
-use Rattle.std.specs.Prelude.{◌≡◌, ℕ, ℤ, pos, List, is_some, unwrap_or}
+use Rattle.std.specs.Prelude.{◌≡◌, ℕ, ℤ, pos, Option, Some, None, List, is_some, unwrap_or}
 use Rattle.lv_bodies.specs.Plain.{plain_affine, plain_automaton, plain_best, plain_greatest, plain_least, plain_sum}
+use Rattle.lv_bodies.specs.Automata.{table_of}
+use Rattle.lv_reduce.specs.Answer.{slice_of}
+use Rattle.livevec_c.specs.declared.objects.Object.{Object}
+use Rattle.livevec_c.specs.declared.objects.Object.TheVariants.{Vector, Job, Outcome}
 use Rattle.livevec_c.specs.declared.results.PlainValues.{PlainValues}
+use Rattle.livevec_c.specs.declared.results.Reduced.{Reduced}
 use Rattle.livevec_c.specs.Answers.{high_half, low_half}
+use Rattle.livevec_c.specs.Behind.{State}
 
 -- the plain values of a list; 0 stands for those that an empty list has not
 pub record AreValues (table : List (List ℕ)) (xs : List ℤ) (values : PlainValues) : Type 0 where
@@ -15,3 +21,17 @@ pub record AreValues (table : List (List ℕ)) (xs : List ℤ) (values : PlainVa
   pub affine_a : values.affine_a ≡ (plain_affine xs).0
   pub affine_b : values.affine_b ≡ (plain_affine xs).1
   pub automaton : values.automaton ≡ plain_automaton table xs
+
+-- a reduction of a vector that was answered has the plain values of the elements of its range, by the vector's own table
+abbrev pub IsPlainOf : ℕ → ℕ → Reduced → State → Type 0
+IsPlainOf lo hi answer state =
+    answer.refusal ≡ 0 → AreValues (table_of state.body.automaton) (slice_of state.history.journal lo hi) answer.values
+
+abbrev pub IsPlainObject : ℕ → ℕ → Reduced → Object → Type 0
+IsPlainObject lo hi answer (Vector state) = IsPlainOf lo hi answer state
+IsPlainObject lo hi answer (Job job) = Unit {0}
+IsPlainObject lo hi answer (Outcome outcome) = Unit {0}
+
+abbrev pub IsPlain : ℕ → ℕ → Reduced → Option Object → Type 0
+IsPlain lo hi answer None = Unit {0}
+IsPlain lo hi answer (Some object) = IsPlainObject lo hi answer object

@@ -1,7 +1,8 @@
 -- What the calls of refresh do and answer, by what lies behind the slots.
 use Rattle.std.specs.Prelude.{◌≡◌, ◌⊎◌, ◌<◌, ◌≤◌, ◌↔◌, ℕ, Bool, true, false, IsTrue, Option, Some, None, option_map, IfSome}
-use Rattle.lv_bodies.specs.Six.{SixSummary, six_operations, meaning_of_six}
-use Rattle.lv_bodies.specs.declared.sixes.Six.{Six}
+use Rattle.lv_bodies.specs.Automata.{table_of}
+use Rattle.lv_bodies.specs.Six.{SixSummary, six_operations_by}
+use Rattle.lv_bodies.specs.declared.sixes.SixByTable.{SixByTable}
 use Rattle.lv_refresh.specs.Carried.{Carried}
 use Rattle.lv_refresh.specs.Claim.{IsNextJob}
 use Rattle.lv_refresh.specs.Delivery.{delivery_of}
@@ -20,7 +21,7 @@ use Rattle.livevec_c.specs.Behind.{State, no_count}
 -- so many jobs were done in place, at most as many as were asked for; fewer only where no node wants one any longer
 pub record RefreshesVector (jobs : ℕ) (answer : Count) (old new : State) : Type 0 where
   pub granted : answer.refusal ≡ 0
-  pub turns : TakesTurns (six_operations (meaning_of_six old.body)) old new answer.value
+  pub turns : TakesTurns (six_operations_by (table_of old.body.automaton)) old new answer.value
   pub most : answer.value ≤ jobs
   pub idle : answer.value < jobs → IsNextJob (recorded new) None
 
@@ -44,19 +45,19 @@ Forgets answer None new = (answer ≡ 101) × (new ≡ None)
 Forgets answer (Some old) new = (object : Object) × (new ≡ Some object) × ForgetsObject answer old object
 
 -- what a claim answers
-abbrev pub claim_answers : Option (Carried Six SixSummary) → Claimed
+abbrev pub claim_answers : Option (Carried SixByTable SixSummary) → Claimed
 claim_answers None = unclaimed 0
 claim_answers (Some job) = claimed_by job.node job.version
 
 -- the next job was claimed, if there is one, and it lies behind the slot
 pub record ClaimsJob (answer : Claimed) (old new : State) (slot : Option Object) : Type 0 where
-  pub made : Option (Carried Six SixSummary)
+  pub made : Option (Carried SixByTable SixSummary)
   pub answer_is : answer ≡ claim_answers made
   pub slot_is : slot ≡ option_map Job made
   pub next : IsNextJob (recorded old) (option_map node_and_version made)
   pub claimed : HasClaim old new (option_map node_and_version made)
   pub body : IfSome made (λ job. job.body ≡ old.body)
-  pub honest : IfSome made (λ job. IsHonest (six_operations (meaning_of_six old.body)) (recorded new) job.node job.version job.contents)
+  pub honest : IfSome made (λ job. IsHonest (six_operations_by (table_of old.body.automaton)) (recorded new) job.node job.version job.contents)
 
 -- a claim of a vector, or there was no memory, and nothing has changed
 abbrev pub ClaimsVector : Claimed → State → State → Option Object → Type 0
@@ -94,9 +95,9 @@ Runs number old (Some object) job outcome = (number ≡ 104) × (job ≡ old) ×
 Runs number old None job outcome = RunsInto number old job outcome
 
 -- an outcome is vouched for by a vector
-abbrev pub Vouched : State → Carried Six SixSummary → Type 0
+abbrev pub Vouched : State → Carried SixByTable SixSummary → Type 0
 Vouched state outcome =
-    VouchedFor (six_operations (meaning_of_six state.body)) (recorded state) (meaning_of_six state.body ≡ meaning_of_six outcome.body) outcome.node outcome.version outcome.contents
+    VouchedFor (six_operations_by (table_of state.body.automaton)) (recorded state) (table_of state.body.automaton ≡ table_of outcome.body.automaton) outcome.node outcome.version outcome.contents
 
 abbrev pub VetsVector : Vetted → State → Object → Type 0
 VetsVector answer state (Vector other) = answer ≡ unvetted
@@ -117,13 +118,13 @@ Vets answer None outcome = answer ≡ unvetted
 Vets answer (Some object) outcome = VetsWith answer object outcome
 
 -- what became of an outcome that is vouched for
-pub record Takes (answer : Delivered) (old new : State) (outcome : Carried Six SixSummary) : Type 0 where
+pub record Takes (answer : Delivered) (old new : State) (outcome : Carried SixByTable SixSummary) : Type 0 where
   pub vouched : Vouched old outcome
   pub answer_is : answer ≡ accepted_by (delivery_of (recorded old) outcome.node outcome.version)
   pub delivered : HasDelivery old new outcome.node outcome.version (delivery_of (recorded old) outcome.node outcome.version)
 
 -- an outcome is taken in where it is vouched for, else refused, and nothing has changed
-abbrev pub AcceptsVector : Delivered → State → State → Carried Six SixSummary → Type 0
+abbrev pub AcceptsVector : Delivered → State → State → Carried SixByTable SixSummary → Type 0
 AcceptsVector answer old new outcome = ((answer ≡ unaccepted 15) × (¬ Vouched old outcome) × (new ≡ old)) ⊎ Takes answer old new outcome
 
 abbrev pub AcceptsLive : Delivered → State → State → Object → Type 0

@@ -7,7 +7,7 @@ use crate::lifetimes::new_vector;
 use crate::objects::Object;
 use crate::results::{Count, IN_USE, NO_HANDLE, NO_MEMORY};
 use crate::slots::{Slot, is_full, put, take};
-use lv_bodies::Six;
+use lv_bodies::{Automaton, SixByTable};
 use lv_geometry::{Limits, Node};
 use lv_live::Live;
 use lv_refresh::Outcome;
@@ -131,11 +131,11 @@ fn claim_answer(node: Node, version: u32) -> Claimed
 }
 
 // A claim of a vector, for an empty slot. Room is made before anything changes.
-fn claim_live(alloc: Global, live: &mut Live<Six>, job: &mut Slot) -> Claimed
+fn claim_live(alloc: Global, live: &mut Live<SixByTable>, job: &mut Slot) -> Claimed
     requires { job.old.raw.inner ≡ None }
     ensures { ClaimsVector result live.old live.new job.new.raw.inner }
 {
-    let Ok(mut room) = new_vector(alloc, Limits::greatest(), Six::program()) else {
+    let Ok(mut room) = new_vector(alloc, Limits::greatest(), Automaton::program()) else {
         return not_claimed(NO_MEMORY);
     };
     match live.claim() {
@@ -224,7 +224,7 @@ fn not_vetted() -> Vetted
 }
 
 // Whether a vector would accept an object.
-fn vet_live(live: &Live<Six>, brought: &Object) -> Vetted
+fn vet_live(live: &Live<SixByTable>, brought: &Object) -> Vetted
     ensures { VetsVector result live.now brought.now }
 {
     match brought {
@@ -306,7 +306,7 @@ fn delivery_answer(accepted: Accepted) -> Delivered
 }
 
 // Delivers an outcome to a vector.
-fn accept_outcome(live: &mut Live<Six>, outcome: Outcome<Six>) -> Delivered
+fn accept_outcome(live: &mut Live<SixByTable>, outcome: Outcome<SixByTable>) -> Delivered
     ensures { AcceptsVector result live.old live.new outcome }
 {
     // 15 is the library's `Stranger`.
@@ -318,7 +318,7 @@ fn accept_outcome(live: &mut Live<Six>, outcome: Outcome<Six>) -> Delivered
 }
 
 // Delivers an object to a vector.
-fn accept_live(live: &mut Live<Six>, brought: &Object) -> Delivered
+fn accept_live(live: &mut Live<SixByTable>, brought: &Object) -> Delivered
     ensures { AcceptsLive result live.old live.new brought.now }
 {
     match brought {

@@ -10,3 +10,4 @@ mod reads;
 mod results;
 mod slots;
 mod vectors;
+mod verdicts;

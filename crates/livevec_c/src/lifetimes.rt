@@ -2,13 +2,12 @@
 ghost use Rattle.std.specs.Prelude.{◌≡◌, None, is_some, if◌then◌else◌, IfOk};
 ghost use Rattle.lv_bodies.specs.Automata.{table_of};
 ghost use Rattle.lv_bodies.specs.Plain.{program_table};
-ghost use Rattle.lv_bodies.specs.Six.{meaning_of_six, table_of_six};
 ghost use Rattle.livevec_c.specs.Lives.{IsNewObject, Opens, OpensAt, OpensWith};
 
 use crate::objects::Object;
 use crate::results::{IN_USE, NO_HANDLE, NO_MEMORY};
 use crate::slots::{Slot, is_full, put, take};
-use lv_bodies::{Affine, Automaton, Best, Greatest, Least, Pair, Six, Sum};
+use lv_bodies::{Automaton, SixByTable};
 use lv_geometry::Limits;
 use lv_live::Live;
 use std::alloc::{AllocError, Global};
@@ -21,18 +20,25 @@ pub struct Table {
 }
 
 /// A new vector in a place of its own.
-pub fn new_vector(alloc: Global, limits: Limits, six: Six) -> Result<Box<Object>, AllocError>
-    ensures { IfOk result (λ b. IsNewObject limits (table_of_six (meaning_of_six six)) b.value) }
+pub fn new_vector(
+    alloc: Global,
+    limits: Limits,
+    automaton: Automaton,
+) -> Result<Box<Object>, AllocError>
+    ensures { IfOk result (λ b. IsNewObject limits (table_of automaton) b.value) }
 {
-    Ok(Box::new(alloc, Object::Vector(Live::new(alloc, limits, six)))?)
+    Ok(Box::new(
+        alloc,
+        Object::Vector(Live::new(alloc, limits, SixByTable { automaton })),
+    )?)
 }
 
 // Puts a new vector into an empty slot.
-fn open(alloc: Global, slot: &mut Slot, limits: Limits, six: Six) -> u32
+fn open(alloc: Global, slot: &mut Slot, limits: Limits, automaton: Automaton) -> u32
     requires { slot.old.raw.inner ≡ None }
-    ensures { OpensAt limits (table_of_six (meaning_of_six six)) result slot.new.raw.inner }
+    ensures { OpensAt limits (table_of automaton) result slot.new.raw.inner }
 {
-    match new_vector(alloc, limits, six) {
+    match new_vector(alloc, limits, automaton) {
         Err(_) => NO_MEMORY,
         Ok(held) => {
             put(slot, held);
@@ -56,33 +62,7 @@ pub extern "C" fn livevec_proved_new(
     }
     match Limits::new(buckets, edits) {
         Err(refusal) => refusal.number(),
-        Ok(limits) => open(alloc, slot, limits, Six::program()),
-    }
-}
-
-// The six with an automaton.
-fn six_of(automaton: Automaton) -> Six
-    ensures { table_of_six (meaning_of_six result) ≡ table_of automaton }
-{
-    let last = Pair {
-        first: Affine,
-        second: automaton,
-    };
-    let later = Pair {
-        first: Greatest,
-        second: Pair {
-            first: Best,
-            second: last,
-        },
-    };
-    Six {
-        pairs: Pair {
-            first: Sum,
-            second: Pair {
-                first: Least,
-                second: later,
-            },
-        },
+        Ok(limits) => open(alloc, slot, limits, Automaton::program()),
     }
 }
 
@@ -106,7 +86,7 @@ pub extern "C" fn livevec_proved_new_with_table(
     };
     match Automaton::new(table.next) {
         Err(refusal) => refusal.number(),
-        Ok(automaton) => open(alloc, slot, limits, six_of(automaton)),
+        Ok(automaton) => open(alloc, slot, limits, automaton),
     }
 }
 

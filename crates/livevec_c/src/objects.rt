@@ -1,12 +1,12 @@
 //! What lies behind a slot.
-use lv_bodies::Six;
+use lv_bodies::SixByTable;
 use lv_live::Live;
 use lv_refresh::{Job, Outcome};
 
 /// What a slot holds for C: one of these.
 #[derive(Drop)]
 pub enum Object {
-    Vector(Live<Six>),
-    Job(Job<Six>),
-    Outcome(Outcome<Six>),
+    Vector(Live<SixByTable>),
+    Job(Job<SixByTable>),
+    Outcome(Outcome<SixByTable>),
 }

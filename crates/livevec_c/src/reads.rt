@@ -3,6 +3,7 @@ ghost use Rattle.std.specs.Prelude.{◌≡◌};
 ghost use Rattle.livevec_c.specs.declared.reads.Counted.TheVariants as counts;
 ghost use Rattle.livevec_c.specs.Answers.{no_element, unreduced};
 ghost use Rattle.livevec_c.specs.Behind.{Asks, AsksObject, Counts, CountsObject, Gets, GetsObject, Reduces, ReducesObject};
+ghost use Rattle.livevec_c.specs.Plainly.{IsPlain};
 
 use crate::objects::Object;
 use crate::results::{
@@ -134,7 +135,10 @@ fn reduce_of(object: &Object, lo: u32, hi: u32) -> Reduced
     ensures { ReducesObject lo hi result object.now }
 {
     match object {
-        Object::Vector(live) => reduction_answer(live.reduce(lo, hi)),
+        Object::Vector(live) => {
+            live.keeps();
+            reduction_answer(live.reduce(lo, hi))
+        }
         _ => not_reduced(NO_HANDLE, 0),
     }
 }
@@ -143,6 +147,7 @@ fn reduce_of(object: &Object, lo: u32, hi: u32) -> Reduced
 #[unsafe(no_mangle)]
 pub extern "C" fn livevec_proved_reduce(alloc: Global, slot: &mut Slot, lo: u32, hi: u32) -> Reduced
     ensures answer { Reduces lo hi result slot.old.raw.inner }
+    ensures plain { IsPlain lo hi result slot.old.raw.inner }
     ensures same { slot.new.raw.inner ≡ slot.old.raw.inner }
 {
     match take(alloc, slot) {
@@ -160,7 +165,10 @@ fn ask_of(object: &mut Object, lo: u32, hi: u32) -> Reduced
     ensures { AsksObject lo hi result object.old object.new }
 {
     match object {
-        Object::Vector(live) => reduction_answer(live.ask(lo, hi)),
+        Object::Vector(live) => {
+            live.keeps();
+            reduction_answer(live.ask(lo, hi))
+        }
         _ => not_reduced(NO_HANDLE, 0),
     }
 }
@@ -168,7 +176,8 @@ fn ask_of(object: &mut Object, lo: u32, hi: u32) -> Reduced
 /// The same, and keeps what it computes.
 #[unsafe(no_mangle)]
 pub extern "C" fn livevec_proved_ask(alloc: Global, slot: &mut Slot, lo: u32, hi: u32) -> Reduced
-    ensures { Asks lo hi result slot.old.raw.inner slot.new.raw.inner }
+    ensures answer { Asks lo hi result slot.old.raw.inner slot.new.raw.inner }
+    ensures plain { IsPlain lo hi result slot.old.raw.inner }
 {
     match take(alloc, slot) {
         None => not_reduced(NO_HANDLE, 0),

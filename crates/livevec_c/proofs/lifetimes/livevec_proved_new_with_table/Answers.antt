@@ -1,4 +1,4 @@
-use Rattle.std.proofs.Common.{refl, inr, sym, ◌∙◌}
+use Rattle.std.proofs.Common.{refl, inr, sym}
 use Rattle.livevec_c.proofs.Empty.{is_none-None}
 use Rattle.livevec_c.proofs.Openings.{opens_alike}
 use Rattle.livevec_c.proofs.lifetimes.livevec_proved_new_with_table.Goals as goal
@@ -9,5 +9,5 @@ returns-in-Ok-new c =
     (inr (inr (
       c.in-Ok.ensures.allowed.0 refl,
       c.in-Ok-new.ensures.taken.0 refl,
-      opens_alike _ _ _ _ _ _ c.in-Ok.ensures.ok (c.six_of.ensures ∙ c.in-Ok-new.ensures.table) c.open.ensures,
+      opens_alike _ _ _ _ _ _ c.in-Ok.ensures.ok c.in-Ok-new.ensures.table c.open.ensures,
     )))

@@ -1,0 +1,70 @@
+-- What is answered of a range are its plain values.
+use Rattle.std.proofs.Common.{◌≡◌, ℕ, ◌≤◌, lit≤, sym, ap, ◌∙◌, subst, arith}
+use Rattle.std.specs.Prelude.{◌-◌, Result, Ok, Err, IfOk}
+use Rattle.lv_geometry.specs.Numbers.{number_of}
+use Rattle.lv_geometry.specs.declared.refusals.Refusal.{Refusal}
+use Rattle.lv_geometry.specs.declared.refusals.Refusal.TheVariants.{Worn, Empty, OutOfRange, TooLarge, Full, NoMemory, BadRange, BadLimits, BadTable, NameTaken, NoSuchName, TooMany, ReadFault, WriteFault, Stranger, TooWide, Contended, Overtaken, NoJob, NotNow}
+use Rattle.lv_bodies.specs.Body.{CanFold}
+use Rattle.lv_bodies.specs.Automata.{table_of}
+use Rattle.lv_bodies.specs.Six.{SixSummary, six_operations_by}
+use Rattle.lv_edits.specs.History.{list_of}
+use Rattle.lv_edits.specs.Kept.{InLimits}
+use Rattle.lv_reduce.specs.declared.reductions.Answer.{Answer}
+use Rattle.lv_reduce.specs.Answer.{IsAnswer, slice_of}
+use Rattle.lv_summary.proofs.FoldableLaws.{can_fold, part_can_fold}
+use Rattle.livevec_c.specs.declared.objects.Object.{Object}
+use Rattle.livevec_c.specs.declared.objects.Object.TheVariants.{Vector, Job, Outcome}
+use Rattle.livevec_c.specs.declared.results.Reduced.{Reduced}
+use Rattle.livevec_c.specs.Answers.{reduced_by, spread}
+use Rattle.livevec_c.specs.Behind.{AsksObject, ReducesObject, State}
+use Rattle.livevec_c.specs.Plainly.{AreValues, IsPlainObject, IsPlainOf}
+use Rattle.livevec_c.proofs.SpreadFolds.{spread-plain}
+
+-- no refusal has the number 0
+positive : (r : Refusal) → 1 ≤ number_of r
+positive Worn = lit≤ tt
+positive Empty = lit≤ tt
+positive (OutOfRange size) = lit≤ tt
+positive (TooLarge limit) = lit≤ tt
+positive Full = lit≤ tt
+positive NoMemory = lit≤ tt
+positive BadRange = lit≤ tt
+positive BadLimits = lit≤ tt
+positive BadTable = lit≤ tt
+positive NameTaken = lit≤ tt
+positive NoSuchName = lit≤ tt
+positive TooMany = lit≤ tt
+positive ReadFault = lit≤ tt
+positive WriteFault = lit≤ tt
+positive Stranger = lit≤ tt
+positive TooWide = lit≤ tt
+positive (Contended edit) = lit≤ tt
+positive (Overtaken edit) = lit≤ tt
+positive NoJob = lit≤ tt
+positive NotNow = lit≤ tt
+
+refused : (r : Refusal) → number_of r ≡ 0 → ⊥
+refused r zero = omega (arith, positive r, zero)
+
+-- the elements of a range may be folded
+may_fold : (state : State) (lo hi : ℕ) → InLimits state.history → CanFold (slice_of state.history.journal lo hi)
+may_fold state lo hi within = part_can_fold (hi - lo) lo (list_of state.history.journal) (can_fold state.history within)
+
+-- an answer that is the fold of its range
+pub plain_ok : (state : State) (lo hi : ℕ) (r : Result (Answer SixSummary) Refusal) (answer : Reduced) → answer ≡ reduced_by r → IfOk r (λ a. IsAnswer (six_operations_by (table_of state.body.automaton)) state.history.journal lo hi a) → InLimits state.history → IsPlainOf lo hi answer state
+plain_ok state lo hi (Ok a) answer is fine within zero =
+    let xs = slice_of state.history.journal lo hi in
+    let m = table_of state.body.automaton in
+    subst (λ q. AreValues (m) xs q.values) (sym is) (subst (λ s. AreValues (m) xs (spread s)) (sym fine.value) (spread-plain m xs (may_fold state lo hi within)))
+plain_ok state lo hi (Err refusal) answer is fine within zero = elim (refused refusal (sym (ap (λ q. q.refusal) is) ∙ zero)) [ ]
+
+pub reduces_plain : (lo hi : ℕ) (answer : Reduced) (object : Object) → ReducesObject lo hi answer object → IsPlainObject lo hi answer object
+reduces_plain lo hi answer (Vector state) (Ok a, is, within, fine) = plain_ok state lo hi (Ok a) answer is fine.0 within
+reduces_plain lo hi answer (Vector state) (Err refusal, is, within, why) = plain_ok state lo hi (Err refusal) answer is tt within
+reduces_plain lo hi answer (Job job) reduces = tt
+reduces_plain lo hi answer (Outcome outcome) reduces = tt
+
+pub asks_plain : (lo hi : ℕ) (answer : Reduced) (old new : Object) → AsksObject lo hi answer old new → IsPlainObject lo hi answer old
+asks_plain lo hi answer (Vector state) new (after, same, asks) = plain_ok state lo hi asks.r answer asks.answer_is asks.ok asks.within
+asks_plain lo hi answer (Job job) new asks = tt
+asks_plain lo hi answer (Outcome outcome) new asks = tt
