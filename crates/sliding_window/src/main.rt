@@ -3,14 +3,10 @@
 #![tactic(auto)]
 
 ghost use Rattle.std.specs.Prelude.{◌≡◌, IfOk};
-ghost use Rattle.lv_bodies.specs.Plain.{plain_sum};
-ghost use Rattle.lv_reduce.specs.Answer.{slice_of};
+ghost use Rattle.lv_vector.specs.Plain.{plain_sum};
+ghost use Rattle.lv_vector.specs.Answer.{slice_of};
 
-use lv_bodies::Sum;
-use lv_edits::Edit;
-use lv_geometry::{Limits, Refusal};
-use lv_live::Live;
-use lv_reduce::Answer;
+use lv_vector::{Answer, Edit, Limits, Live, Refusal, Sum};
 use std::{fmt, io};
 
 /// How many readings there are.

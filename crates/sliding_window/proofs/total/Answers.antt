@@ -1,13 +1,13 @@
 use Rattle.std.proofs.Common.{◌≡◌, ℕ, Result, Ok, Err, IfOk, ◌∙◌}
-use Rattle.lv_geometry.specs.declared.refusals.Refusal.{Refusal}
-use Rattle.lv_bodies.specs.Plain.{plain_sum}
-use Rattle.lv_bodies.specs.SumLaws.{fold_of-sum}
-use Rattle.lv_bodies.specs.Sums.{sum_operations}
-use Rattle.lv_refresh.specs.Record.{Record}
-use Rattle.lv_reduce.specs.Answer.{slice_of}
-use Rattle.lv_reduce.specs.declared.reductions.Answer.{Answer}
-use Rattle.lv_live.specs.State.{recorded}
-use Rattle.lv_live.specs.Step.{Reduces}
+use Rattle.lv_vector.specs.Refusal.{Refusal}
+use Rattle.lv_vector.specs.Plain.{plain_sum}
+use Rattle.lv_vector.specs.SumLaws.{fold_of-sum}
+use Rattle.lv_vector.specs.Sums.{sum_operations}
+use Rattle.lv_vector.specs.Record.{Record}
+use Rattle.lv_vector.specs.Answer.{slice_of}
+use Rattle.lv_vector.specs.AnswerType.{Answer}
+use Rattle.lv_vector.specs.State.{recorded}
+use Rattle.lv_vector.specs.Step.{Reduces}
 use Rattle.sliding_window.proofs.total.Goals as goal
 
 -- a reduction by sums is the plain sum of its range
