@@ -58,6 +58,7 @@ impl fmt::Display for Told<'_> {
         match self.failure.fault {
             Fault::NoMemory => f.write_str("memory was wanting"),
             Fault::ReadFault => self.tell_read(f),
+            Fault::TooLong => self.tell_length(f),
             Fault::WriteFault => self.tell_write(f),
         }
     }
@@ -67,16 +68,18 @@ impl Told<'_> {
     // What couldn't be read.
     fn tell_read<W: fmt::Write>(&self, f: &mut fmt::Formatter<W>) -> fmt::Result {
         match self.failure.place {
-            Place::Standard => {
-                f.write_str("standard input can't be read, or has more than 2^30 bytes")
-            }
+            Place::Standard => f.write_str("standard input can't be read"),
             Place::Opening(number) => write!(f, "'{}' can't be opened", self.file(number)),
-            Place::Session(number) => {
-                write!(
-                    f,
-                    "'{}' can't be read, or has more than 2^30 bytes",
-                    self.file(number)
-                )
+            Place::Session(number) => write!(f, "'{}' can't be read", self.file(number)),
+        }
+    }
+
+    // What is too long.
+    fn tell_length<W: fmt::Write>(&self, f: &mut fmt::Formatter<W>) -> fmt::Result {
+        match self.failure.place {
+            Place::Standard => f.write_str("standard input has more than 2^30 bytes"),
+            Place::Opening(number) | Place::Session(number) => {
+                write!(f, "'{}' has more than 2^30 bytes", self.file(number))
             }
         }
     }

@@ -2,7 +2,6 @@
 
 ghost use Rattle.std.specs.Prelude.{◌≡◌, ◌+◌, ℕ, All, IfOk, List, OnOk, Some, vec_len};
 ghost use Rattle.std.specs.Io.KnownBytes.{Appends};
-ghost use Rattle.lv_bodies.specs.Six.{SixMeaning, meaning_of_six, six_meaning};
 ghost use Rattle.lv_script.specs.Transcript.{AreAccepted, IsSoundTranscript, IsTrueClaim, greatest};
 
 use crate::failures::{Failure, Place};
@@ -80,7 +79,7 @@ pub fn serve<F: Read + Write + Send + Drop, W: Write, R: Threads + Wait + Sync>(
         Blank::new(parts),
         parts,
         Opened::new(),
-        Six::program(),
+        Six,
     )
 }
 
@@ -108,7 +107,6 @@ fn serve_as<
     requires limits { plan.limits ≡ N.limits }
     requires history { opened ≡ N.history }
     requires body { N.body ≡ Some body }
-    requires program { ◌≡◌ {A = SixMeaning} (meaning_of_six body) six_meaning }
     ensures { OnOk result ((text : List ℕ) × IsSoundTranscript text × Appends (W.contents writer.old) (W.contents writer.new) text) }
 {
     let (hub, mut share) = Hub::<Six, N>::new(alloc, plan.limits, body, blank, parts, opened);
@@ -133,7 +131,6 @@ fn serve_all<N: Means<Six> + Send + Sync, F: Read + Write + Send + Drop, R: Thre
     streams: Vec<Streams<F>>,
 ) -> Result<Vec<Claimed>, Failure>
     requires parts { share.old.parts ≡ vec_len streams + 1 }
-    requires program { ◌≡◌ {A = SixMeaning} (meaning_of_six hub.now) six_meaning }
     ensures parts { IfOk result (λ claims. share.new.parts ≡ share.old.parts) }
     ensures all_true { IfOk result (λ claims. All (IsTrueClaim share.new.seen) claims.items) }
 {
@@ -210,7 +207,6 @@ fn hold_all<N: Means<Six> + Send + Sync, F: Read + Write + Send + Drop, R: Threa
     hub: &Hub<Six, N>,
     tasks: Vec<Task<N, F>>,
 ) -> Result<Vec<Done<N>>, Failure>
-    requires program { ◌≡◌ {A = SixMeaning} (meaning_of_six hub.now) six_meaning }
     ensures { IfOk result (λ done. vec_len done ≡ vec_len tasks) }
 {
     let (workers, turns) = (plan.workers, plan.turns);
@@ -218,7 +214,6 @@ fn hold_all<N: Means<Six> + Send + Sync, F: Read + Write + Send + Drop, R: Threa
         rt,
         move || -> Result<(), Failure> { refresh(rt, alloc, hub, workers, turns) },
         move || -> Result<Vec<Done<N>>, Failure>
-            requires { ◌≡◌ {A = SixMeaning} (meaning_of_six hub.now) six_meaning }
             ensures { IfOk result (λ done. vec_len done ≡ vec_len tasks) }
         {
             let done = hold_each(rt, alloc, hub, tasks);
@@ -237,12 +232,9 @@ fn hold_each<N: Means<Six> + Send + Sync, F: Read + Write + Send + Drop, R: Thre
     hub: &Hub<Six, N>,
     tasks: Vec<Task<N, F>>,
 ) -> Result<Vec<Done<N>>, Failure>
-    requires program { ◌≡◌ {A = SixMeaning} (meaning_of_six hub.now) six_meaning }
     ensures { IfOk result (λ done. vec_len done ≡ vec_len tasks) }
 {
-    let held = |task: Task<N, F>| -> Done<N>
-        requires { ◌≡◌ {A = SixMeaning} (meaning_of_six hub.now) six_meaning }
-    { hold(rt, alloc, hub, task) };
+    let held = |task: Task<N, F>| -> Done<N> { hold(rt, alloc, hub, task) };
     thread::map_vec(rt, tasks, &held).map_err(|_| Failure::memory())
 }
 
@@ -252,9 +244,7 @@ fn hold<N: Means<Six>, F: Read + Write + Drop, R: Wait>(
     alloc: Global,
     hub: &Hub<Six, N>,
     task: Task<N, F>,
-) -> Done<N>
-    requires program { ◌≡◌ {A = SixMeaning} (meaning_of_six hub.now) six_meaning }
-{
+) -> Done<N> {
     let Task {
         mut share,
         mut streams,

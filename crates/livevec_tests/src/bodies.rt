@@ -5,7 +5,7 @@ ghost use Rattle.lv_bodies.specs.Parts.{IsShort};
 
 use lv_bodies::{
     Affine, AffineMap, Automaton, Best, Body, Greatest, Kind, Least, Pair, Parted, RunTotals,
-    Shown, Single, Six, Sum, best_is_the_best_run, eight_come_back_from_parts,
+    Shown, Single, Six, SixByTable, Sum, best_is_the_best_run, eight_come_back_from_parts,
     extremes_are_reached_bounds, face, fold_more, fold_slice, pair_folds_apart,
 };
 use lv_geometry::Refusal;
@@ -39,9 +39,8 @@ fn each_body_shows_its_kind(rt: HostRuntime) {
         show(&Automaton::program(), &xs),
         Shown::Automaton([3, 7, 3, 7, 3, 7, 3, 7])
     );
-    let six = Six::program();
     assert_eq!(rt;
-        face(&six, Kind::Affine, fold_slice(&six, &xs)),
+        face(Kind::Affine, fold_slice(&Six, &xs)),
         Shown::Affine { a: 0, b: 244 }
     );
 }
@@ -52,6 +51,16 @@ fn tables_are_checked(rt: HostRuntime) -> Result<(), Fail> {
     let sevens = Automaton::new(table)?;
     assert!(rt; sevens.same(&sevens));
     assert!(rt; !sevens.same(&Automaton::program()));
+    let by_sevens = SixByTable { automaton: sevens };
+    assert!(rt;
+        !by_sevens.same(&SixByTable {
+            automaton: Automaton::program()
+        })
+    );
+    assert_eq!(rt;
+        face(Kind::Automaton, fold_slice(&by_sevens, &[5])),
+        Shown::Automaton([7; 8])
+    );
     table[2][3] = 8;
     assert_eq!(rt; Automaton::new(table), Err(Refusal::BadTable));
     Ok(())
@@ -66,8 +75,7 @@ fn pairs_fold_side_by_side(rt: HostRuntime) {
     assert_eq!(rt; fold_slice(&pair, &[3, -1]), (2, Some(-1)));
     assert_eq!(rt; fold_slice(&pair, &[]), (0, None));
     assert!(rt; pair.same(&pair));
-    let all: Six = Six::program();
-    assert!(rt; all.same(&Six::program()));
+    assert!(rt; Six.same(&Six));
 }
 
 #[test]

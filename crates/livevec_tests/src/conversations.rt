@@ -215,6 +215,7 @@ fn faults_have_numbers_and_texts(rt: HostRuntime) -> Result<(), Fail> {
     let table = [
         (Fault::NoMemory, 6, "fault 6"),
         (Fault::ReadFault, 13, "fault 13"),
+        (Fault::TooLong, 13, "fault 13"),
         (Fault::WriteFault, 14, "fault 14"),
     ];
     for (fault, number, text) in table {
@@ -244,7 +245,7 @@ fn an_input_has_at_most_2_to_the_30_bytes(rt: HostRuntime) {
     let most = 1 << 30;
     let table: [(usize, Result<(), Fault>, &[u8]); 2] = [
         (most, Ok(()), b"bad 1\n"),
-        (most + 1, Err(Fault::ReadFault), b""),
+        (most + 1, Err(Fault::TooLong), b""),
     ];
     for (left, end, replies) in table {
         let mut reader = Hashes { left };
@@ -275,7 +276,7 @@ fn commands_are_printed(rt: HostRuntime) -> Result<(), Fail> {
 
 #[test]
 fn scans_that_are_not_written(rt: HostRuntime) -> Result<(), Fail> {
-    let none = fold_slice(&Six::program(), &[]);
+    let none = fold_slice(&Six, &[]);
     let values = Vec::from_elem(rt.alloc(), none, 5_000)?;
     for failure in [Failure::Refuses, Failure::Stalls] {
         let mut held = Vec::with_capacity(rt.alloc(), HELD)?;
