@@ -10,19 +10,20 @@ The library is written and proved in Rattle. This module calls its C form, `libl
 module over them is tested.
 
 The shared object is looked for in this order: the file that LIVEVEC_LIB names; `liblivevec.so` in the folder that LIVEVEC_LIB_DIR names; beside
-this module; in the folder `build` of the repository that this module lies in; where the system keeps its libraries.
+this module; in the folder `build` of the repository that this module lies in; where the system's loader looks (LD_LIBRARY_PATH, then its own
+folders); in `lib` of the interpreter's prefix, which is that of a virtual environment; in /usr/local/lib.
 
-Threads. Every call into C keeps the interpreter's lock, so a vector may be used by several threads, one call at a time. What takes more than
+Threads. A `Vector`'s calls into C keep the interpreter's lock, so it may be used by several threads, one call at a time. What takes more than
 one call (`vector[-1]`, a loop over the elements, `edits` after a push) needs a lock of your own if another thread edits meanwhile.
 """
 from __future__ import annotations
 
 import collections.abc
 import ctypes
-import ctypes.util
 import enum
 import operator
 import os
+import struct
 import sys
 from array import array
 from typing import Iterable, Iterator, NamedTuple, Optional, Sequence, Union, overload
@@ -30,6 +31,7 @@ from typing import Iterable, Iterator, NamedTuple, Optional, Sequence, Union, ov
 __all__ = [
     "Vector", "Job", "Outcome", "Scan", "Values", "Reduced", "Delivered", "Became", "Node",
     "Refusal", "Worn", "Empty", "OutOfRange", "TooLarge", "Full", "NoMemory", "BadRange", "BadLimits", "BadTable", "Stranger", "Closed",
+    "ShortBuffer",
     "MOST_BUCKETS", "MOST_EDITS",
 ]
 
@@ -49,7 +51,8 @@ if not getattr(sys, "_is_gil_enabled", lambda: True)():
 class Refusal(Exception):
     """Why the library refused a call. What is refused changes no element, no edit number and no later answer.
 
-    `number` is the number that the library's rules give it. `detail` is the size of an OutOfRange and the limit of a TooLarge, else 0.
+    `number` is the number that the library's rules give it. `detail` is the size of an OutOfRange, the limit of a TooLarge and the wanted length
+    of a ShortBuffer, else 0.
     `pushed` is how many elements were taken by the `extend` that was refused; these stay.
     """
 
@@ -59,7 +62,7 @@ class Refusal(Exception):
     def __init__(self, detail: int = 0, pushed: int = 0) -> None:
         self.detail = detail
         self.pushed = pushed
-        super().__init__(f"{type(self).__name__}: {self.says.format(detail=detail)}")
+        super().__init__(self.says.format(detail=detail))
 
     def __reduce__(self) -> tuple:
         return type(self), (self.detail, self.pushed)
@@ -80,19 +83,19 @@ class Empty(Refusal, IndexError):
 class OutOfRange(Refusal, IndexError):
     """An index, or the end of a range, is past the end. `detail` is the size."""
 
-    number, says = 3, "the size is {detail}"
+    number, says = 3, "out of range: the size is {detail}"
 
 
 class TooLarge(Refusal, OverflowError):
     """More was to be reserved than the limits allow. `detail` is the limit in elements."""
 
-    number, says = 4, "the limit is {detail} elements"
+    number, says = 4, "too large: the limit is {detail} elements"
 
 
 class Full(Refusal, OverflowError):
     """There are as many elements as the limits allow."""
 
-    number, says = 5, "the size is the limit's capacity"
+    number, says = 5, "full: there are as many elements as the limits allow"
 
 
 class NoMemory(Refusal, MemoryError):
@@ -110,7 +113,7 @@ class BadRange(Refusal, ValueError):
 class BadLimits(Refusal, ValueError):
     """Limits outside 1 to 17 buckets and 1 to 16,777,215 edits."""
 
-    number, says = 8, "limits outside 1 to 17 buckets and 1 to 16,777,215 edits"
+    number, says = 8, "limits are 1 to 17 buckets and 1 to 16,777,215 edits"
 
 
 class BadTable(Refusal, ValueError):
@@ -131,7 +134,13 @@ class Closed(Refusal, ValueError):
     number, says = 101, "it was closed, or it was run"
 
 
-_REFUSALS = {it.number: it for it in (Worn, Empty, OutOfRange, TooLarge, Full, NoMemory, BadRange, BadLimits, BadTable, Stranger, Closed)}
+class ShortBuffer(Refusal, ValueError):
+    """A buffer shorter than what it should take. `detail` is the wanted length."""
+
+    number, says = 103, "the buffer is shorter than the {detail} elements"
+
+
+_REFUSALS = {it.number: it for it in (Worn, Empty, OutOfRange, TooLarge, Full, NoMemory, BadRange, BadLimits, BadTable, Stranger, Closed, ShortBuffer)}
 
 
 def _refuse(number: int, detail: int = 0, pushed: int = 0) -> Refusal:
@@ -148,7 +157,7 @@ class _Slot(ctypes.Structure):
     _fields_ = [("full_", ctypes.c_bool), ("at_", ctypes.c_void_p)]
 
 
-# Slots of three types, so that ctypes refuses one in the place of another.
+# Slots of several types, so that ctypes refuses one in the place of another.
 class _VectorSlot(_Slot):
     pass
 
@@ -210,29 +219,53 @@ class _Accepted(ctypes.Structure):
     _fields_ = [("refusal", ctypes.c_uint32), ("became", ctypes.c_uint32), ("now", ctypes.c_uint32)]
 
 
+class _Verdict(ctypes.Structure):
+    _fields_ = [("refusal", ctypes.c_uint32), ("detail", ctypes.c_uint32)]
+
+
 def _found() -> str:
-    """The path of the shared object, or its name where the system finds it."""
+    """The path of the shared object, or its name where the system's loader finds it."""
     named = os.environ.get("LIVEVEC_LIB")
     if named:
         return named
     here = os.path.dirname(os.path.abspath(__file__))
-    folders = [os.environ.get("LIVEVEC_LIB_DIR", ""), here, os.path.join(here, "..", "..", "build")]
-    for folder in filter(None, folders):
-        path = os.path.join(folder, "liblivevec.so")
-        if os.path.isfile(path):
-            return path
-    known = ctypes.util.find_library("livevec")
-    if known is None:
-        raise ImportError("there is no liblivevec.so: run `make so` in livevec's repository, or name it by LIVEVEC_LIB")
-    return known
+    near = [os.environ.get("LIVEVEC_LIB_DIR", ""), here, os.path.join(here, "..", "..", "build")]
+    far = [os.path.join(sys.prefix, "lib"), "/usr/local/lib"]
+    return _lying_in(near) or _known_to_the_system() or _lying_in(far) or "liblivevec.so"
 
 
-# Calls by PyDLL keep the interpreter's lock, so that a slot serves one call at a time.
-_lib = ctypes.PyDLL(_found())
+def _lying_in(folders: Iterable[str]) -> Optional[str]:
+    paths = (os.path.join(folder, "liblivevec.so") for folder in folders if folder)
+    return next(filter(os.path.isfile, paths), None)
+
+
+def _known_to_the_system() -> Optional[str]:
+    for name in ("liblivevec.so.0", "liblivevec.so"):
+        try:
+            ctypes.PyDLL(name)
+        except OSError:
+            continue
+        return name
+    return None
+
+
+def _opened() -> ctypes.PyDLL:
+    found = _found()
+    try:
+        # Calls by PyDLL keep the interpreter's lock, so that a slot serves one call at a time.
+        return ctypes.PyDLL(found)
+    except OSError as error:
+        raise ImportError(f"{error}; run `make so` or `make install-lib` in livevec's repository, or name the file by LIVEVEC_LIB") from None
+
+
+_lib = _opened()
 
 
 def _call(name: str, result: type, *arguments: type):  # type: ignore[no-untyped-def]
-    function = getattr(_lib, name)
+    try:
+        function = getattr(_lib, name)
+    except AttributeError:
+        raise ImportError(f"{_lib._name} has no {name}: it is older than this module") from None
     function.restype, function.argtypes = result, arguments
     return function
 
@@ -266,6 +299,12 @@ _accept = _call("livevec_accept", _Accepted, _slot, _outcome)
 _forget = _call("livevec_forget", _u32, _slot)
 _free_job = _call("livevec_free_job", _u32, _job)
 _free_outcome = _call("livevec_free_outcome", _u32, _outcome)
+_verdict_push = _call("livevec_verdict_push", _Verdict, _slot, _i64)
+_verdict_pop = _call("livevec_verdict_pop", _Verdict, _slot)
+_verdict_write = _call("livevec_verdict_write", _Verdict, _slot, _u32, _i64)
+_verdict_reserve = _call("livevec_verdict_reserve", _Verdict, _slot, _u32)
+_verdict_swap = _call("livevec_verdict_swap", _Verdict, _slot, _u32, _u32)
+_verdict_truncate = _call("livevec_verdict_truncate", _Verdict, _slot, _u32)
 
 
 class _Handle:
@@ -320,7 +359,7 @@ class Values(NamedTuple):
     """The values of a list of elements, by each of the six kinds."""
 
     sum: int
-    """The sum modulo 2**64, from 0 up."""
+    """The sum; where that does not fit 64 bits, the number from -2**63 to 2**63 - 1 that is the sum modulo 2**64."""
     least: Optional[int]
     """The least element; None of nothing."""
     greatest: Optional[int]
@@ -331,11 +370,6 @@ class Values(NamedTuple):
     """The map `y -> a * y + b` modulo 2**32 that the maps `y -> (x // 256) * y + x % 256` make in order."""
     automaton: tuple[int, ...]
     """The state that the elements lead to from each of the states 0 to 7."""
-
-    @property
-    def signed_sum(self) -> int:
-        """The sum with a sign: the true sum wherever that fits 64 bits."""
-        return self.sum - (1 << 64) if self.sum >> 63 else self.sum
 
 
 class Reduced(NamedTuple):
@@ -369,11 +403,15 @@ class Delivered(NamedTuple):
     now: int
 
 
+def _signed(total: int) -> int:
+    return total - (1 << 64) if total >> 63 else total
+
+
 def _values_of(raw: _Values) -> Values:
     least = greatest = best = None
     if raw.any:
         least, greatest, best = raw.least, raw.greatest, (raw.best_high << 64) + raw.best_low
-    return Values(raw.sum, least, greatest, best, (raw.affine_a, raw.affine_b), tuple(raw.automaton))
+    return Values(_signed(raw.sum), least, greatest, best, (raw.affine_a, raw.affine_b), tuple(raw.automaton))
 
 
 class Scan(collections.abc.Sequence):
@@ -399,7 +437,7 @@ class Scan(collections.abc.Sequence):
         return _values_of(_Values.from_buffer(self._room, range(self._length)[index] * ctypes.sizeof(_Values)))
 
     def sums(self) -> list[int]:
-        """The sums alone, with their signs, at once."""
+        """The sums alone, at once."""
         return memoryview(self._room).cast("q")[:: ctypes.sizeof(_Values) // 8].tolist()[: self._length]
 
     def __repr__(self) -> str:
@@ -456,11 +494,13 @@ _AT_ONCE = 1024
 class Vector(_Handle, collections.abc.Sequence):
     """A growable vector of 64-bit numbers that answers reductions and scans of any range.
 
-    It is read like a list: `len(v)`, `v[i]`, `v[-1]`, `v[2:5]`, `for x in v`, `x in v`. Edits are `push` (or `append`), `pop`, `v[i] = x` and
-    `reserve`; each has a number, 1, 2, 3 and so on, and `edits` is the last one. Ranges are `lo` up to `hi`, without `hi`; without `hi` they
-    go up to the end. An answer equals the plain left fold of the range after the last edit.
+    It is read like a list: `len(v)`, `v[i]`, `v[-1]`, `v[2:5]`, `for x in v`, `x in v`. Edits are `push` (or `append`), `pop`, `v[i] = x`, `swap`,
+    `truncate`, `reserve` and `extend` (or `+=`); each has a number, 1, 2, 3 and so on, and `edits` is the last one. Ranges are `lo` up to `hi`,
+    without `hi`; where no `hi` is given they go up to the end. As in a slice, a negative end counts from the vector's end; other than a slice,
+    a range that goes past an end is refused. An answer equals the plain left fold of the range after the last edit. Vectors are compared by
+    identity: compare `to_array()` for their elements.
 
-    `elements` are pushed at the start. `buckets` and `edits` are limits: k buckets have room for 8 * (2**k - 1) elements. `table` is that of the
+    `elements` are pushed at the start. There are limits of buckets, of which k have room for 8 * (2**k - 1) elements, and of edits. `table` is that of the
     automaton, eight rows of four states from 0 to 7: from state q, an element x leads to table[q][x % 4]; without it, to (2 * q + x % 4) % 8.
 
     Raises BadLimits, BadTable and NoMemory. The memory is given back by `close`, at the end of a `with`, or with the object.
@@ -469,10 +509,10 @@ class Vector(_Handle, collections.abc.Sequence):
     __slots__ = ("_changes",)
     _made_of = _VectorSlot
 
-    def __init__(self, elements: Iterable[int] = (), *, buckets: int = MOST_BUCKETS, edits: int = MOST_EDITS,
+    def __init__(self, elements: Iterable[int] = (), *, most_buckets: int = MOST_BUCKETS, most_edits: int = MOST_EDITS,
                  table: Optional[Sequence[Sequence[int]]] = None) -> None:
         self._changes = 0
-        buckets, edits = _as_u32(buckets, "buckets"), _as_u32(edits, "edits")
+        buckets, edits = _as_u32(most_buckets, "most_buckets"), _as_u32(most_edits, "most_edits")
         if table is None:
             refusal = _new(self._at, buckets, edits)
         else:
@@ -540,14 +580,47 @@ class Vector(_Handle, collections.abc.Sequence):
         self._changes += 1
         return did.place
 
+    # Verdicts: the refusal that an edit would meet, want of memory apart, or None where it would be accepted. Nothing is changed.
+
+    def why_not_push(self, value: int) -> Optional[Refusal]:
+        """Why `push` would be refused, or None. Like the five below it gives the refusal and doesn't raise it; want of memory isn't told."""
+        return self._why(_verdict_push(self._at, _as_i64(value)))
+
+    def why_not_pop(self) -> Optional[Refusal]:
+        """Why `pop` would be refused, or None."""
+        return self._why(_verdict_pop(self._at))
+
+    def why_not_write(self, index: int, value: int) -> Optional[Refusal]:
+        """Why `write` would be refused, or None."""
+        return self._why(_verdict_write(self._at, self._index(index), _as_i64(value)))
+
+    def why_not_reserve(self, elements: int) -> Optional[Refusal]:
+        """Why `reserve` would be refused, or None."""
+        return self._why(_verdict_reserve(self._at, _as_u32(elements, "elements")))
+
+    def why_not_swap(self, first: int, second: int) -> Optional[Refusal]:
+        """Why `swap` would be refused, or None."""
+        return self._why(_verdict_swap(self._at, self._index(first), self._index(second)))
+
+    def why_not_truncate(self, elements: int) -> Optional[Refusal]:
+        """Why `truncate` would be refused, or None."""
+        return self._why(_verdict_truncate(self._at, _as_u32(elements, "elements")))
+
+    @staticmethod
+    def _why(told: _Verdict) -> Optional[Refusal]:
+        if told.refusal == Closed.number:
+            raise _refuse(told.refusal)
+        return _refuse(told.refusal, told.detail) if told.refusal else None
+
     def extend(self, values: Iterable[int]) -> None:
         """Pushes each element in order, by one call of C.
 
-        An `array.array('q')`, a numpy array of int64 or any other buffer of 64-bit numbers with a sign is read where it lies. What can't be
-        written to is copied once, as one block. Anything else is put into such an array first.
+        An `array.array('q')`, a numpy array of int64 or any other buffer of 64-bit numbers with a sign is read where it lies. Where such a buffer
+        has gaps or can't be written to, it is copied once, as one block. A buffer of other whole numbers, and anything else that can be gone
+        through, is put into such an array first.
 
         Raises Worn, Full and NoMemory at the element that is refused: its `pushed` says how many were taken, and these stay. Raises TypeError and
-        OverflowError before anything is pushed.
+        OverflowError before anything is pushed: of a buffer of several dimensions, of floats or of what else is no whole number of 64 bits.
         """
         buffer = _as_buffer(values)
         length = len(buffer)
@@ -559,6 +632,10 @@ class Vector(_Handle, collections.abc.Sequence):
         self._changes += did.pushed
         if did.refusal:
             raise _refuse(did.refusal, did.detail, did.pushed)
+
+    def __iadd__(self, values: Iterable[int]) -> Vector:
+        self.extend(values)
+        return self
 
     # Reads.
 
@@ -590,10 +667,11 @@ class Vector(_Handle, collections.abc.Sequence):
     def __getitem__(self, index: slice) -> list[int]: ...
     def __getitem__(self, index):  # type: ignore[no-untyped-def]
         if isinstance(index, slice):
-            lo, hi, step = index.indices(len(self))
-            if step == 1:
-                return self.to_array(lo, max(lo, hi)).tolist()
-            return self.to_array().tolist()[index]
+            wanted = range(len(self))[index]
+            if not wanted:
+                return []
+            first, last = sorted((wanted[0], wanted[-1]))
+            return self.to_array(first, last + 1)[:: wanted.step].tolist()
         got = _get(self._at, self._index(index))
         if got.refusal:
             raise _refuse(got.refusal, got.detail)
@@ -610,14 +688,54 @@ class Vector(_Handle, collections.abc.Sequence):
             raise _refuse(did.refusal, did.detail)
         return read
 
+    def read_into(self, buffer: Union[array, memoryview], lo: int = 0, hi: Optional[int] = None) -> int:
+        """Fills the front of a buffer with the elements of a range, by one call, and gives how many they are.
+
+        The buffer has 64-bit numbers with a sign side by side, and may be written to: an `array.array('q')`, a numpy array of int64, a memoryview
+        of either. Any other raises TypeError. Raises BadRange, OutOfRange, ShortBuffer.
+        """
+        view = memoryview(buffer)
+        if not _is_plain(view) or view.readonly or not view.c_contiguous:
+            raise TypeError("elements are read into a buffer of 64-bit numbers with a sign, side by side, that may be written to")
+        lo, hi = self._range(lo, hi)
+        # an address is needed also where there is nothing to write
+        did = _read(self._at, lo, hi, ctypes.byref(_address(view if len(view) else array("q", [0]))), len(view))
+        if did.refusal:
+            raise _refuse(did.refusal, did.detail)
+        return did.length
+
     def __iter__(self) -> Iterator[int]:
         """The elements in order. Raises RuntimeError where the vector is edited meanwhile."""
-        changes, size = self._changes, len(self)
-        for lo in range(0, size, _AT_ONCE):
-            for value in self.to_array(lo, min(lo + _AT_ONCE, size)):
-                yield value
+        size = len(self)
+        return self._through(self._changes, ((lo, min(lo + _AT_ONCE, size)) for lo in range(0, size, _AT_ONCE)), iter)
+
+    def __reversed__(self) -> Iterator[int]:
+        """The elements from the last on. Raises RuntimeError where the vector is edited meanwhile."""
+        size = len(self)
+        return self._through(self._changes, ((max(hi - _AT_ONCE, 0), hi) for hi in range(size, 0, -_AT_ONCE)), reversed)
+
+    def _through(self, changes, parts, order) -> Iterator[int]:  # type: ignore[no-untyped-def]
+        for lo, hi in parts:
+            if self._changes != changes:
+                break
+            for value in order(self.to_array(lo, hi)):
                 if self._changes != changes:
-                    raise RuntimeError("the vector was edited while its elements were gone through")
+                    break
+                yield value
+        if self._changes != changes:
+            raise RuntimeError("the vector was edited while its elements were gone through")
+
+    def index(self, value: int, start: int = 0, stop: Optional[int] = None) -> int:
+        """The index of the first element of this value; between `start` and `stop`, as a list takes them. Raises ValueError where there is none."""
+        lo, hi, _ = slice(start, stop).indices(len(self))
+        try:
+            return lo + self.to_array(lo, max(lo, hi)).index(value)
+        except ValueError:
+            raise ValueError(f"{value!r} is not in the vector") from None
+
+    def count(self, value: int) -> int:
+        """How many elements have this value."""
+        return self.to_array().count(value)
 
     def __repr__(self) -> str:
         if not self._slot.full_:
@@ -637,13 +755,8 @@ class Vector(_Handle, collections.abc.Sequence):
         return self._reduced(_reduce, lo, hi)
 
     def sum(self, lo: int = 0, hi: Optional[int] = None) -> int:
-        """The sum modulo 2**64, from 0 up. Asks, and raises as `ask` does."""
-        return self._asked(lo, hi).sum
-
-    def signed_sum(self, lo: int = 0, hi: Optional[int] = None) -> int:
-        """The sum with a sign: the true sum wherever that fits 64 bits. Asks, and raises as `ask` does."""
-        total = self._asked(lo, hi).sum
-        return total - (1 << 64) if total >> 63 else total
+        """The sum, wherever it fits 64 bits; else modulo 2**64, as `Values.sum` has it. Asks, and raises as `ask` does."""
+        return _signed(self._asked(lo, hi).sum)
 
     def least(self, lo: int = 0, hi: Optional[int] = None) -> Optional[int]:
         """The least element; None of an empty range. Asks, and raises as `ask` does."""
@@ -724,22 +837,10 @@ class Vector(_Handle, collections.abc.Sequence):
     # Within.
 
     def _index(self, index: int) -> int:
-        """An index as C wants it, where a negative one counts from the end."""
-        index = operator.index(index)
-        if index < 0:
-            index += len(self)
-        if not 0 <= index <= _MOST_U32:
-            raise _refuse(OutOfRange.number, len(self))
-        return index
+        return _place(operator.index(index), self)
 
     def _range(self, lo: int, hi: Optional[int]) -> tuple[int, int]:
-        lo, hi = operator.index(lo), len(self) if hi is None else operator.index(hi)
-        if lo < 0 or hi < 0:
-            raise ValueError("the ends of a range are counted from 0")
-        # past what C can be given is past the end as well; which of the two is greater is kept
-        if hi > _MOST_U32 or lo > _MOST_U32:
-            raise _refuse(BadRange.number if lo > hi else OutOfRange.number, 0 if lo > hi else len(self))
-        return lo, hi
+        return _ends(operator.index(lo), None if hi is None else operator.index(hi), self)
 
     def _room(self, lo: int, hi: int) -> int:
         """How long a buffer C is given: none where the range is refused, which C does before it looks at the length."""
@@ -767,6 +868,26 @@ class Vector(_Handle, collections.abc.Sequence):
         return Scan(did.edit, room, did.length)
 
 
+def _place(index: int, holder: Vector) -> int:
+    """An index as C wants it, where a negative one counts from the end. What C can't be given it is given as one that it refuses."""
+    if index < 0:
+        index += len(holder)
+    return index if 0 <= index < _MOST_U32 else _MOST_U32
+
+
+def _ends(lo: int, hi: Optional[int], holder: Vector) -> tuple[int, int]:
+    """A range as C wants it, where a negative end counts from the end."""
+    if hi is not None and 0 <= lo <= _MOST_U32 and 0 <= hi <= _MOST_U32:
+        return lo, hi
+    size = len(holder)
+    hi = size if hi is None else hi
+    lo, hi = lo + size * (lo < 0), hi + size * (hi < 0)
+    # C can't be given what is before the start or above its numbers; which of the two is greater is kept
+    if min(lo, hi) < 0 or max(lo, hi) > _MOST_U32:
+        raise _refuse(BadRange.number) if lo > hi else _refuse(OutOfRange.number, size)
+    return lo, hi
+
+
 def _checked(outcome: Outcome) -> Outcome:
     if not isinstance(outcome, Outcome):
         raise TypeError(f"an Outcome is wanted, not a {type(outcome).__name__}")
@@ -785,8 +906,13 @@ def _table_of(table: Sequence[Sequence[int]]) -> _Table:
     return made
 
 
-# what stands before the format of a buffer whose bytes are in this machine's order
-_NATIVE = "@=<" if sys.byteorder == "little" else "@=>!"
+# what may stand before the format of a buffer whose bytes are in this machine's order
+_NATIVE = ("", "@", "=", "<") if sys.byteorder == "little" else ("", "@", "=", ">", "!")
+
+
+def _is_plain(view: memoryview) -> bool:
+    """Whether a buffer has 64-bit numbers with a sign in one row, in this machine's order."""
+    return view.ndim == 1 and view.itemsize == 8 and view.format[-1:] in ("q", "l") and view.format[:-1] in _NATIVE
 
 
 def _as_buffer(values: Iterable[int]) -> memoryview:
@@ -795,9 +921,12 @@ def _as_buffer(values: Iterable[int]) -> memoryview:
         view = memoryview(values)  # type: ignore[arg-type]
     except TypeError:
         return memoryview(array("q", values))
+    if _is_plain(view):
+        return view if view.c_contiguous and not view.readonly else memoryview(array("q", view.tobytes()))
     if view.ndim != 1:
-        raise TypeError("elements stand in one row")
-    if view.itemsize != 8 or view.format.lstrip(_NATIVE) not in ("q", "l") or not view.c_contiguous:
-        # array checks them one by one
-        return memoryview(array("q", iter(values)))
-    return memoryview(array("q", view.tobytes())) if view.readonly else view
+        raise TypeError(f"elements stand in one row, and this buffer has {view.ndim} dimensions")
+    order, kind = view.format[:-1], view.format[-1:]
+    if kind not in "bBhHiIlLqQnN?" or order not in ("", "@", "=", "<", ">", "!"):
+        raise TypeError(f"elements are whole numbers, and this buffer's format is {view.format!r}")
+    # array checks them one by one
+    return memoryview(array("q", struct.unpack(f"{order}{len(view)}{kind}", view.tobytes())))

@@ -8,6 +8,7 @@ import os
 import pickle
 import random
 import re
+import subprocess
 import sys
 import threading
 import unittest
@@ -36,7 +37,7 @@ class Edits(unittest.TestCase):
             v.truncate(2)
 
     def test_what_is_refused_changes_nothing(self):
-        v = Vector(buckets=1, edits=10)
+        v = Vector(most_buckets=1, most_edits=10)
         for refused, call in [(livevec.Empty, v.pop), (livevec.OutOfRange, lambda: v.write(0, 1)), (livevec.TooLarge, lambda: v.reserve(9))]:
             with self.assertRaises(refused):
                 call()
@@ -48,16 +49,39 @@ class Edits(unittest.TestCase):
             v[0] = 5
         self.assertEqual(list(v), [1] * 6)
 
+    def test_verdicts_are_what_the_edits_answer(self):
+        v = Vector(most_buckets=1, most_edits=14)
+        asked = [(v.why_not_push, v.push, 7), (v.why_not_pop, v.pop), (v.why_not_write, v.write, 2, 5), (v.why_not_write, v.write, -1, 5),
+                 (v.why_not_reserve, v.reserve, 9), (v.why_not_swap, v.swap, 0, -4), (v.why_not_truncate, v.truncate, 6)]
+        for size in range(9):
+            before = v.edits
+            told = [call(*arguments) for call, _, *arguments in asked]
+            self.assertEqual((len(v), v.edits), (size, before))
+            short = (livevec.OutOfRange, size)
+            wanted = [(livevec.Full, 0) if size == 8 else None, (livevec.Empty, 0) if size == 0 else None, short if size < 3 else None,
+                      short if size < 1 else None, (livevec.TooLarge, 8), short if size < 4 else None, short if size < 6 else None]
+            self.assertEqual([why and (type(why), why.detail) for why in told], wanted)
+            for why, (_, call, *arguments) in zip(told, asked):
+                if why is not None:
+                    self.assertRaises(type(why), call, *arguments)
+            if size < 8:
+                v.push(1)
+        for _ in range(6):
+            v[0] = 2
+        self.assertEqual({type(call(*arguments)) for call, _, *arguments in asked}, {livevec.Worn})
+        v.close()
+        self.assertRaises(livevec.Closed, v.why_not_pop)
+
     def test_refusals_are_the_exceptions_that_python_knows(self):
         v = Vector([5])
         with self.assertRaises(IndexError) as caught:
             v[1]
         self.assertEqual((type(caught.exception), caught.exception.number, caught.exception.detail), (livevec.OutOfRange, 3, 1))
-        self.assertEqual(str(caught.exception), "OutOfRange: the size is 1")
+        self.assertEqual(str(caught.exception), "out of range: the size is 1")
         with self.assertRaises(ValueError):
             v.sum(2, 1)
         with self.assertRaises(livevec.BadLimits):
-            Vector(buckets=18)
+            Vector(most_buckets=18)
         self.assertTrue(issubclass(livevec.NoMemory, MemoryError) and issubclass(livevec.Full, OverflowError))
         again = pickle.loads(pickle.dumps(caught.exception))
         self.assertEqual((type(again), again.detail), (livevec.OutOfRange, 1))
@@ -77,18 +101,44 @@ class Edits(unittest.TestCase):
 
     def test_extend_from_what_holds_numbers(self):
         numbers = array("q", range(-5, 5))
-        unwritable = memoryview(numbers.tobytes()).cast("q")
-        for values in (numbers, list(numbers), (x for x in numbers), memoryview(numbers), unwritable, array("i", numbers), Vector(numbers),
-                       (ctypes.c_int64 * 10)(*numbers), (ctypes.c_int16 * 10)(*numbers)):
+        for values in (numbers, list(numbers), tuple(numbers), (x for x in numbers), array("i", numbers), Vector(numbers), dict.fromkeys(numbers)):
             self.assertEqual(list(Vector(values)), list(range(-5, 5)))
-        self.assertEqual(list(Vector(memoryview(numbers)[::-2])), [4, 2, 0, -2, -4])
-        self.assertEqual(list(Vector(b"\x01\xff")), [1, 255])
-        self.assertRaises(TypeError, Vector, memoryview(bytes(48)).cast("q", [2, 3]))
         v = Vector()
         v.extend([])
         v.extend(array("q"))
-        self.assertEqual(v.edits, 0)
+        v += [7]
+        self.assertEqual((list(v), v.edits), ([7], 1))
         numbers.append(5)  # nothing holds the array any longer
+
+    def test_extend_from_buffers_of_64_bits(self):
+        numbers = array("q", range(-5, 5))
+        unwritable = memoryview(numbers.tobytes()).cast("q")
+        for values in (memoryview(numbers), memoryview(numbers).toreadonly(), unwritable, (ctypes.c_int64 * 10)(*numbers), memoryview(bytearray(numbers)).cast("l")):
+            self.assertEqual(list(Vector(values)), list(range(-5, 5)))
+        for part in (slice(None, None, 2), slice(None, None, -2), slice(7, 2, -3), slice(3, 3)):
+            for values in (memoryview(numbers), unwritable):
+                self.assertEqual(list(Vector(values[part])), numbers[part].tolist())
+
+    def test_extend_from_buffers_of_other_whole_numbers(self):
+        self.assertEqual(list(Vector(b"\x01\xff")), [1, 255])
+        self.assertEqual(list(Vector(memoryview(array("i", range(10)))[::-3])), [9, 6, 3, 0])
+        self.assertEqual(list(Vector((ctypes.c_int16 * 3)(-1, 2, -3))), [-1, 2, -3])
+        self.assertEqual(list(Vector((ctypes.c_int64.__ctype_be__ * 2)(1, -2))), [1, -2])
+        self.assertEqual(list(Vector((ctypes.c_uint32.__ctype_le__ * 1)(2**32 - 1))), [2**32 - 1])
+        self.assertEqual(list(Vector(memoryview(b"\x00\x01").cast("?"))), [0, 1])
+        with self.assertRaises(OverflowError):
+            Vector(array("Q", [1, 2**63]))
+
+    def test_buffers_that_are_refused(self):
+        v = Vector()
+        for values in (array("d", [1.0]), memoryview(bytes(8)).cast("d"), memoryview(b"ab").cast("c"), array("f"), "12", memoryview(bytes(8)).cast("P")):
+            with self.assertRaises(TypeError):
+                v.extend(values)
+        with self.assertRaisesRegex(TypeError, "2 dimensions"):
+            v.extend(memoryview(bytes(48)).cast("q", [2, 3]))
+        with self.assertRaisesRegex(TypeError, "format is 'd'"):
+            v.extend(array("d", [1.0]))
+        self.assertEqual(v.edits, 0)
 
     def test_extend_from_numpy(self):
         try:
@@ -97,10 +147,16 @@ class Edits(unittest.TestCase):
             self.skipTest("there is no numpy")
         self.assertEqual(list(Vector(numpy.arange(5))), [0, 1, 2, 3, 4])
         self.assertEqual(list(Vector(numpy.arange(10)[::3])), [0, 3, 6, 9])
-        self.assertEqual(numpy.asarray(Vector([1, 2]).to_array()).tolist(), [1, 2])
+        self.assertEqual(list(Vector(numpy.arange(6, dtype=">i2"))), [0, 1, 2, 3, 4, 5])
+        for values in (numpy.arange(3.0), numpy.zeros((2, 2), dtype=numpy.int64), numpy.int64(3)):
+            self.assertRaises(TypeError, Vector, values)
+        held = numpy.asarray(Vector([1, 2]).to_array())
+        self.assertEqual((held.dtype, held.tolist()), (numpy.int64, [1, 2]))
+        room = numpy.zeros(5, dtype=numpy.int64)
+        self.assertEqual((Vector([1, 2]).read_into(room[2:]), room.tolist()), (2, [0, 0, 1, 2, 0]))
 
     def test_an_extend_that_is_refused_says_how_many_it_took(self):
-        v = Vector(buckets=1)
+        v = Vector(most_buckets=1)
         v.extend([1, 2, 3])
         with self.assertRaises(livevec.Full) as caught:
             v.extend(range(10))
@@ -112,31 +168,68 @@ class Reads(unittest.TestCase):
         numbers = list(range(3000))
         v = Vector(numbers)
         self.assertEqual(list(v), numbers)
-        for part in (slice(None), slice(2, 5), slice(-3, None), slice(5, 2), slice(None, None, -7), slice(1, 9999)):
-            self.assertEqual(v[part], numbers[part])
+        for ends in itertools.product((None, 0, 2, 1500, 2999, 3000, 9999, -1, -3, -3000, -9999), repeat=2):
+            for step in (None, 1, 2, 7, 5000, -1, -7, -5000):
+                part = slice(*ends, step)
+                self.assertEqual(v[part], numbers[part])
+        self.assertRaises(ValueError, lambda: v[::0])
+        self.assertRaises(TypeError, lambda: v[1.0:])
+        self.assertEqual((Vector()[:], Vector()[::-1]), ([], []))
         self.assertEqual((v[-1], 17 in v, -1 in v, v.index(40), v.count(3)), (2999, True, False, 40, 1))
         self.assertEqual(v.to_array(1, 3), array("q", [1, 2]))
         self.assertEqual(v.to_array(3, 3), array("q"))
 
+    def test_it_is_searched_and_gone_through_backwards_like_a_list(self):
+        numbers = [x % 7 for x in range(3000)]
+        v = Vector(numbers)
+        self.assertEqual(list(reversed(v)), numbers[::-1])
+        for start, stop in ((0, None), (5, 9), (-9, None), (2990, 9999), (4, -2990)):
+            self.assertEqual(v.index(6, start, stop), numbers.index(6, start, len(numbers) if stop is None else stop))
+        self.assertRaisesRegex(ValueError, "9 is not in the vector", v.index, 9)
+        self.assertRaises(ValueError, v.index, 6, 7, 2)
+        self.assertEqual((v.count(6), v.count("6"), list(reversed(Vector())), bool(v), bool(Vector())), (numbers.count(6), 0, [], True, False))
+
     def test_going_through_while_it_is_edited_is_told(self):
-        v = Vector([1, 2, 3])
-        with self.assertRaises(RuntimeError):
-            for x in v:
-                v.push(x)
+        for through in (iter, reversed):
+            v = Vector([1, 2, 3])
+            with self.assertRaises(RuntimeError):
+                for x in through(v):
+                    v.push(x)
+            self.assertEqual(len(v), 4)
+
+    def test_elements_are_read_into_a_buffer(self):
+        v = Vector(range(10))
+        room = array("q", [-1] * 5)
+        self.assertEqual((v.read_into(room, 7), room.tolist()), (3, [7, 8, 9, -1, -1]))
+        self.assertEqual((v.read_into(memoryview(room)[3:], 0, 2), room.tolist()), (2, [7, 8, 9, 0, 1]))
+        self.assertEqual((v.read_into(array("q"), 4, 4), v.read_into((ctypes.c_int64 * 10)())), (0, 10))
+        with self.assertRaises(livevec.ShortBuffer) as caught:
+            v.read_into(room, 1)
+        self.assertEqual((caught.exception.detail, str(caught.exception)), (9, "the buffer is shorter than the 9 elements"))
+        self.assertRaises(livevec.OutOfRange, v.read_into, room, 0, 11)
+        for wrong in (bytes(80), bytearray(80), array("Q", range(10)), memoryview(room)[::2], memoryview(room).toreadonly(), [0] * 10):
+            self.assertRaises(TypeError, v.read_into, wrong)
+        self.assertEqual(room.tolist(), [7, 8, 9, 0, 1])
 
     def test_six_values(self):
         v = Vector([5, -3, 4, -10, 2])
         told = v.reduce()
-        self.assertEqual((told.edit, told.values.sum, told.values.signed_sum), (5, 2**64 - 2, -2))
+        self.assertEqual((told.edit, told.values.sum), (5, -2))
         self.assertEqual((told.values.least, told.values.greatest, told.values.best), (-10, 5, 6))
         # each element's map, composed: 2 is y -> 0 * y + 2, and it is the last; the states from 0: 1, 3, 6, 6, 6
         self.assertEqual((told.values.affine, told.values.automaton[0]), ((0, 2), 6))
-        self.assertEqual((v.sum(), v.signed_sum(1), v.least(0, 2), v.greatest(3), v.best(3)), (2**64 - 2, -7, -3, 2, 2))
+        self.assertEqual((v.sum(), v.sum(1), v.least(0, 2), v.greatest(3), v.best(3)), (-2, -7, -3, 2, 2))
         self.assertEqual((v.sum(2, 2), v.least(2, 2), v.best(5), v.ask(1, 1).values.automaton), (0, None, None, tuple(range(8))))
 
     def test_best_is_exact_past_64_bits(self):
         most, least = 2**63 - 1, -(2**63)
         self.assertEqual((Vector([most, most, least]).best(), Vector([least, least]).best()), (2 * most, least))
+
+    def test_sums_are_exact_within_64_bits_and_wrap_past_them(self):
+        most, least = 2**63 - 1, -(2**63)
+        for elements, wanted in [([most, 1], least), ([least, -1], most), ([most, most], -2), ([most, 1, -1], most), ([least, least], 0)]:
+            v = Vector(elements)
+            self.assertEqual((v.sum(), v.ask().values.sum, v.scan_inclusive().sums()[-1], v.scan_inclusive()[-1].sum), (wanted,) * 4)
 
     def test_ranges_that_are_refused(self):
         v = Vector([1, 2, 3])
@@ -146,7 +239,17 @@ class Reads(unittest.TestCase):
             self.assertRaises(livevec.BadRange, call, 2**40, 1)
             self.assertRaises(livevec.OutOfRange, call, 0, 4)
             self.assertRaises(livevec.OutOfRange, call, 0, 2**40)
-            self.assertRaises(ValueError, call, -1)
+            self.assertRaises(livevec.OutOfRange, call, -4)
+            self.assertRaises(livevec.OutOfRange, call, -(2**40), 2)
+            self.assertRaises(livevec.BadRange, call, 1, -3)
+            self.assertRaises(livevec.BadRange, call, 0, -4)
+            self.assertRaises(TypeError, call, 1.0)
+            self.assertRaises(TypeError, call, slice(0, 1))
+
+    def test_negative_ends_count_from_the_end(self):
+        v = Vector([1, 20, 300])
+        self.assertEqual((v.sum(-1), v.sum(-3), v.sum(0, -1), v.sum(-2, -1), v.sum(3)), (300, 321, 21, 20, 0))
+        self.assertEqual((v.to_array(-2).tolist(), v.scan_inclusive(-2).sums(), v.ask(-1).values.least), ([20, 300], [20, 320], 300))
 
     def test_scans(self):
         v = Vector([3, -5, 4])
@@ -191,7 +294,7 @@ def plain_values(numbers):
     a, b = 1, 0
     for x in numbers:
         a, b = a * (x // 256) % 2**32, (x // 256 * b + x % 256) % 2**32
-    return sum(numbers) % 2**64, min(numbers, default=None), max(numbers, default=None), max(runs, default=None), (a, b)
+    return (sum(numbers) + 2**63) % 2**64 - 2**63, min(numbers, default=None), max(numbers, default=None), max(runs, default=None), (a, b)
 
 
 def best_runs(numbers):
@@ -234,6 +337,26 @@ class Owning(unittest.TestCase):
         v.close()
         self.assertEqual(repr(v), "<livevec.Vector, closed>")
 
+    @unittest.skipUnless(os.path.exists("/proc/self/statm"), "this system doesn't tell how much memory a process has")
+    def test_want_of_memory_changes_nothing(self):
+        program = """
+import resource, livevec
+vector = livevec.Vector([5])
+with open("/proc/self/statm") as file:
+    held = int(file.read().split()[0]) * resource.getpagesize()
+_, most = resource.getrlimit(resource.RLIMIT_AS)
+resource.setrlimit(resource.RLIMIT_AS, (held + (1 << 20), most))
+try:
+    vector.reserve(1_000_000)
+except livevec.NoMemory as refusal:
+    print(refusal.number, len(vector), vector.edits, vector.sum())
+resource.setrlimit(resource.RLIMIT_AS, (most, most))
+vector.reserve(1_000_000)
+print(vector.edits)
+"""
+        said = subprocess.run([sys.executable, "-c", program], cwd=os.path.dirname(os.path.abspath(__file__)), capture_output=True, text=True)
+        self.assertEqual((said.stdout, said.stderr), ("6 1 1 5\n2\n", ""))
+
     def test_it_is_never_copied(self):
         v = Vector([1])
         for call in (copy.copy, copy.deepcopy, pickle.dumps):
@@ -247,7 +370,7 @@ class Owning(unittest.TestCase):
 
     def test_arguments_that_are_wrong_leave_nothing_behind(self):
         self.assertRaises(TypeError, Vector, [1], 2)
-        self.assertRaises(TypeError, Vector, buckets="3")
+        self.assertRaises(TypeError, Vector, most_buckets="3")
 
     def test_threads_share_a_vector(self):
         v, before = Vector(), sys.getswitchinterval()
@@ -284,15 +407,17 @@ class Owning(unittest.TestCase):
 
 
 class Page(unittest.TestCase):
-    def test_its_first_program_prints_what_it_says(self):
+    def test_its_programs_print_what_they_say(self):
         with open(os.path.join(os.path.dirname(os.path.abspath(__file__)), "README.md"), encoding="utf-8") as file:
             page = file.read()
-        program = re.search(r"^```python\n(.*?)^```$", page, re.M | re.S)[1]
-        wanted = re.findall(r"print\(.*\) +# (.*)$", program, re.M)
-        said = io.StringIO()
-        with contextlib.redirect_stdout(said):
-            exec(program, {})
-        self.assertEqual(said.getvalue().splitlines(), wanted)
+        programs = [it for it in re.findall(r"^```python\n(.*?)^```$", page, re.M | re.S) if "import numpy" not in it]
+        self.assertEqual(len(programs), 1)
+        for program in programs:
+            wanted = re.findall(r"print\(.*\) +# (.*)$", program, re.M)
+            said = io.StringIO()
+            with contextlib.redirect_stdout(said):
+                exec(program, {})
+            self.assertEqual(said.getvalue().splitlines(), wanted)
 
 
 def load_tests(loader, tests, _pattern):

@@ -63,7 +63,7 @@ class Live:
     def row(self) -> Row:
         size = len(self.readings)
         start = max(0, size - WINDOW)
-        total = self.readings.signed_sum(start, size)
+        total = self.readings.sum(start, size)
         return Row(size, total / (size - start), self.readings.least(start), self.readings.greatest(start), self.changes.best(start + 1, size))
 
 

@@ -15,7 +15,7 @@
 //!     Ok(())
 //! }
 //! ```
-#![warn(missing_docs)]
+#![warn(missing_docs, missing_debug_implementations)]
 #![deny(unsafe_code)]
 
 #[allow(unsafe_code)]
@@ -25,7 +25,7 @@ mod values;
 mod vector;
 
 pub use refusal::Refusal;
-pub use values::{Accepted, Limits, Node, Popped, Pushed, Reduced, Reserved, Stopped, Swapped, Truncated, Values, Written};
+pub use values::{Accepted, Edit, Limits, Node, Popped, Pushed, Reduced, Reserved, Stopped, Swapped, Truncated, Values, Written};
 pub use vector::{Beginnings, Elements, Job, Outcome, Scan, Vector};
 
 /// The program on the crate's page runs as one of the tests.

@@ -11,7 +11,7 @@ use std::cell::UnsafeCell;
 use std::ffi::c_void;
 use std::ptr;
 
-use crate::Refusal;
+use crate::{Edit, Refusal};
 
 /// A slot of C: `livevec_vector`, `livevec_job` and `livevec_outcome` are alike.
 #[repr(C)]
@@ -112,6 +112,12 @@ struct Vetted {
     yes: bool,
 }
 
+#[repr(C)]
+struct Verdict {
+    refusal: u32,
+    detail: u32,
+}
+
 unsafe extern "C" {
     fn livevec_new(slot: *mut Slot, buckets: u32, edits: u32) -> u32;
     fn livevec_new_with_table(slot: *mut Slot, buckets: u32, edits: u32, table: *const [[u8; 4]; 8]) -> u32;
@@ -140,6 +146,12 @@ unsafe extern "C" {
     fn livevec_forget(slot: *mut Slot) -> u32;
     fn livevec_free_job(job: *mut Slot) -> u32;
     fn livevec_free_outcome(outcome: *mut Slot) -> u32;
+    fn livevec_verdict_push(slot: *mut Slot, value: i64) -> Verdict;
+    fn livevec_verdict_pop(slot: *mut Slot) -> Verdict;
+    fn livevec_verdict_write(slot: *mut Slot, index: u32, value: i64) -> Verdict;
+    fn livevec_verdict_reserve(slot: *mut Slot, elements: u32) -> Verdict;
+    fn livevec_verdict_swap(slot: *mut Slot, first: u32, second: u32) -> Verdict;
+    fn livevec_verdict_truncate(slot: *mut Slot, elements: u32) -> Verdict;
 }
 
 /// The answer where there is no refusal.
@@ -233,6 +245,23 @@ impl Vector {
         // SAFETY: see above.
         let did = unsafe { livevec_truncate(self.slot.get(), elements) };
         answered(did.refusal, did.detail, did)
+    }
+
+    /// Why an edit would be refused, want of memory apart.
+    pub(crate) fn verdict(&self, edit: Edit) -> Result<(), Refusal> {
+        let slot = self.slot.get();
+        // SAFETY: see above.
+        let told = unsafe {
+            match edit {
+                Edit::Push(value) => livevec_verdict_push(slot, value),
+                Edit::Pop => livevec_verdict_pop(slot),
+                Edit::Write { index, value } => livevec_verdict_write(slot, index, value),
+                Edit::Reserve(elements) => livevec_verdict_reserve(slot, elements),
+                Edit::Swap { first, second } => livevec_verdict_swap(slot, first, second),
+                Edit::Truncate(elements) => livevec_verdict_truncate(slot, elements),
+            }
+        };
+        answered(told.refusal, told.detail, ())
     }
 
     /// How many were pushed, with the refusal that stopped it, if there was one.

@@ -73,8 +73,8 @@ impl Default for Limits {
 /// ```
 #[derive(Clone, Copy, Debug, PartialEq, Eq, Hash)]
 pub struct Values {
-    /// The sum modulo 2^64. `sum.cast_signed()` is the true sum wherever that fits an `i64`.
-    pub sum: u64,
+    /// The sum, which wraps where it does not fit an `i64`.
+    pub sum: i64,
     /// The least element; none of an empty list.
     pub least: Option<i64>,
     /// The greatest element; none of an empty list.
@@ -91,7 +91,7 @@ impl Values {
     pub(crate) fn of_raw(raw: SixValues) -> Values {
         let some = |value| raw.any.then_some(value);
         Values {
-            sum: raw.sum,
+            sum: raw.sum.cast_signed(),
             least: some(raw.least),
             greatest: some(raw.greatest),
             best: raw.any.then_some(i128::from(raw.best_high) << 64 | i128::from(raw.best_low)),
@@ -172,6 +172,33 @@ pub struct Truncated {
     pub edit: u32,
     /// How many elements were dropped.
     pub dropped: u32,
+}
+
+/// An edit of a vector, as [`Vector::verdict`](crate::Vector::verdict) is asked about it.
+#[derive(Clone, Copy, Debug, PartialEq, Eq, Hash)]
+pub enum Edit {
+    /// An element at the end.
+    Push(i64),
+    /// The last element is dropped.
+    Pop,
+    /// An element is overwritten.
+    Write {
+        /// Where.
+        index: u32,
+        /// By what.
+        value: i64,
+    },
+    /// Room for so many elements in all.
+    Reserve(u32),
+    /// Two elements change places.
+    Swap {
+        /// Where one of them stands.
+        first: u32,
+        /// Where the other stands.
+        second: u32,
+    },
+    /// So many elements are kept, the first ones.
+    Truncate(u32),
 }
 
 /// A list of pushes that ended early: what stands before the refusal stays pushed.

@@ -3,7 +3,7 @@ use std::iter::FusedIterator;
 use std::ops::RangeBounds;
 
 use crate::values::ends;
-use crate::{Accepted, Limits, Node, Popped, Pushed, Reduced, Refusal, Reserved, Stopped, Swapped, Truncated, Values, Written, raw};
+use crate::{Accepted, Edit, Limits, Node, Popped, Pushed, Reduced, Refusal, Reserved, Stopped, Swapped, Truncated, Values, Written, raw};
 
 /// A growable vector of `i64` that answers reductions and scans of any range.
 ///
@@ -132,6 +132,24 @@ impl Vector {
         Ok(self.edits())
     }
 
+    /// Why an edit would be refused, want of memory apart, or `Ok` where it would be accepted. Changes nothing.
+    ///
+    /// ```
+    /// use livevec::{Edit, Limits, Refusal, Vector};
+    ///
+    /// # fn main() -> Result<(), Refusal> {
+    /// let mut small = Vector::with_limits(Limits::new(1, 100)?)?;
+    /// assert_eq!(small.verdict(Edit::Pop), Err(Refusal::Empty));
+    /// small.extend_from_slice(&[1; 8])?;
+    /// assert_eq!(small.verdict(Edit::Push(1)), Err(Refusal::Full));
+    /// assert_eq!(small.verdict(Edit::Write { index: 7, value: 1 }), Ok(()));
+    /// # Ok(())
+    /// # }
+    /// ```
+    pub fn verdict(&self, edit: Edit) -> Result<(), Refusal> {
+        self.raw.verdict(edit)
+    }
+
     /// The element at an index. Refused with `OutOfRange` alone.
     pub fn get(&self, index: u32) -> Result<i64, Refusal> {
         self.raw.get(index)
@@ -175,9 +193,9 @@ impl Vector {
         self.raw.reduce(lo, hi).map(Reduced::of)
     }
 
-    /// The sum modulo 2^64, as a number with a sign: the true sum wherever that fits an `i64`. Asks, and is refused as [`ask`](Vector::ask) is.
+    /// The sum, which wraps where it does not fit an `i64`. Asks, and is refused as [`ask`](Vector::ask) is.
     pub fn sum(&self, range: impl RangeBounds<u32>) -> Result<i64, Refusal> {
-        Ok(self.ask(range)?.values.sum.cast_signed())
+        Ok(self.ask(range)?.values.sum)
     }
 
     /// The least element; none of an empty range. Asks, and is refused as [`ask`](Vector::ask) is.
@@ -201,9 +219,9 @@ impl Vector {
     /// # fn main() -> Result<(), livevec::Refusal> {
     /// let mut vector = livevec::Vector::new()?;
     /// vector.extend_from_slice(&[3, -5, 4])?;
-    /// let sums: Vec<i64> = vector.scan_inclusive(..)?.iter().map(|values| values.sum.cast_signed()).collect();
+    /// let sums: Vec<i64> = vector.scan_inclusive(..)?.iter().map(|values| values.sum).collect();
     /// assert_eq!(sums, [3, -2, 2]);
-    /// let before: Vec<i64> = vector.scan_exclusive(..)?.iter().map(|values| values.sum.cast_signed()).collect();
+    /// let before: Vec<i64> = vector.scan_exclusive(..)?.iter().map(|values| values.sum).collect();
     /// assert_eq!(before, [0, 3, -2]);
     /// # Ok(())
     /// # }
@@ -443,6 +461,12 @@ pub struct Beginnings<'a> {
     values: std::slice::Iter<'a, raw::SixValues>,
 }
 
+impl fmt::Debug for Beginnings<'_> {
+    fn fmt(&self, f: &mut fmt::Formatter<'_>) -> fmt::Result {
+        f.debug_struct("Beginnings").field("len", &self.len()).finish_non_exhaustive()
+    }
+}
+
 impl Iterator for Beginnings<'_> {
     type Item = Values;
 
@@ -489,6 +513,12 @@ impl<'a> Elements<'a> {
         self.given = 0;
         self.filled = self.vector.raw.read(self.lo, upto, &mut self.read).expect("the range lies within the vector");
         self.lo = upto;
+    }
+}
+
+impl fmt::Debug for Elements<'_> {
+    fn fmt(&self, f: &mut fmt::Formatter<'_>) -> fmt::Result {
+        f.debug_struct("Elements").field("len", &self.len()).finish_non_exhaustive()
     }
 }
 

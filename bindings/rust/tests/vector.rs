@@ -3,7 +3,7 @@
 use std::sync::Mutex;
 use std::thread;
 
-use livevec::{Accepted, Job, Limits, Node, Outcome, Popped, Pushed, Refusal, Reserved, Swapped, Truncated, Vector, Written};
+use livevec::{Accepted, Edit, Job, Limits, Node, Outcome, Popped, Pushed, Refusal, Reserved, Swapped, Truncated, Vector, Written};
 
 fn of(elements: &[i64]) -> Vector {
     let mut vector = Vector::new().unwrap();
@@ -55,6 +55,41 @@ fn what_is_refused_changes_nothing() {
 }
 
 #[test]
+fn verdicts_are_what_the_edits_answer() {
+    let mut vector = Vector::with_limits(Limits::new(1, 12).unwrap()).unwrap();
+    let edits = [
+        Edit::Push(7),
+        Edit::Pop,
+        Edit::Write { index: 2, value: 5 },
+        Edit::Reserve(9),
+        Edit::Swap { first: 0, second: 3 },
+        Edit::Truncate(4),
+    ];
+    for size in 0..=8 {
+        let before = (vector.len(), vector.edits());
+        let verdicts = edits.map(|edit| vector.verdict(edit));
+        assert_eq!((vector.len(), vector.edits()), before);
+        let range = |ok| if ok { Ok(()) } else { Err(Refusal::OutOfRange { size }) };
+        let wanted = [
+            if size < 8 { Ok(()) } else { Err(Refusal::Full) },
+            if size > 0 { Ok(()) } else { Err(Refusal::Empty) },
+            range(size > 2),
+            Err(Refusal::TooLarge { limit: 8 }),
+            range(size > 3),
+            range(size >= 4),
+        ];
+        assert_eq!(verdicts, wanted);
+        if size < 8 {
+            vector.push(1).unwrap();
+        }
+    }
+    for _ in 0..4 {
+        vector.write(0, 2).unwrap();
+    }
+    assert_eq!(edits.map(|edit| vector.verdict(edit)), [Err(Refusal::Worn); 6]);
+}
+
+#[test]
 fn ranges_are_read_as_rust_writes_them() {
     let vector = of(&[1, 2, 3]);
     assert_eq!(vector.sum(..), Ok(6));
@@ -73,7 +108,7 @@ fn ranges_are_read_as_rust_writes_them() {
 fn six_values_of_one_range() {
     let vector = of(&[5, -3, 4, -10, 2]);
     let all = vector.reduce(..).unwrap();
-    assert_eq!((all.edit, all.values.sum.cast_signed()), (5, -2));
+    assert_eq!((all.edit, all.values.sum), (5, -2));
     assert_eq!((all.values.least, all.values.greatest, all.values.best), (Some(-10), Some(5), Some(6)));
     // each element's map, composed: 5 is (0, 5); -3 is (-1, 253); 4 is (0, 4); -10 is (-1, 246); 2 is (0, 2)
     assert_eq!(all.values.affine, (0, 2));
@@ -89,6 +124,14 @@ fn best_is_exact_past_64_bits() {
     let vector = of(&[i64::MAX, i64::MAX, i64::MIN]);
     assert_eq!(vector.best(..2), Ok(Some(2 * i128::from(i64::MAX))));
     assert_eq!(of(&[i64::MIN, i64::MIN]).best(..), Ok(Some(i128::from(i64::MIN))));
+}
+
+#[test]
+fn sums_wrap_past_64_bits() {
+    for (elements, wanted) in [([i64::MAX, 1], i64::MIN), ([i64::MIN, -1], i64::MAX), ([i64::MAX, i64::MAX], -2), ([-3, 1], -2)] {
+        let vector = of(&elements);
+        assert_eq!((vector.sum(..), vector.reduce(..).unwrap().values.sum), (Ok(wanted), wanted));
+    }
 }
 
 #[test]
