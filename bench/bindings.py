@@ -1,6 +1,7 @@
 """livevec from Python beside plain Python, and numpy where there is one: the work of bindings.rs, with the same line of answers at its end.
 
 Plain Python sums, and takes the least and the greatest, by its own calls on slices of a list; a best run has no such call, so it is not timed.
+numpy gives all four.
 """
 import sys
 import time
@@ -60,7 +61,28 @@ def lengths(holder):
 
 
 def mixed(values):
-    return (values.signed_sum + values.least + values.greatest + values.best) & M64
+    return (values.sum + values.least + values.greatest + values.best) & M64
+
+
+def three(part):
+    return sum(part), min(part), max(part)
+
+
+def beside_numpy(values, spans, wanted):
+    try:
+        import numpy
+    except ImportError:
+        return
+    held = numpy.frombuffer(values, dtype=numpy.int64)
+
+    def four(part):
+        ends = numpy.cumsum(part)
+        starts = numpy.concatenate(([0], ends[:-1]))
+        return ends[-1], part.min(), part.max(), (ends - numpy.minimum.accumulate(starts)).max()
+
+    given = timed("numpy ask", RANGES, lambda: [four(held[lo:hi]) for lo, hi in spans])
+    if given != [(it.sum, it.least, it.greatest, it.best) for it in wanted]:
+        sys.exit("livevec and numpy don't give the same")
 
 
 def main():
@@ -69,23 +91,15 @@ def main():
     vector = Vector()
     timed("livevec extend from a list", PUSHES, lambda: vector.extend(values))
     side_by_side = array("q", values)
-    timed("livevec extend from an array", PUSHES, lambda: Vector().extend(side_by_side))
+    timed("livevec extend", PUSHES, lambda: Vector().extend(side_by_side))
     plain = timed("plain push", PUSHES, lambda: appended(values))
 
     first = timed("livevec ask", RANGES, lambda: [vector.ask(lo, hi).values for lo, hi in spans])
     timed("livevec ask again", RANGES, lambda: [vector.ask(lo, hi) for lo, hi in spans])
-    sums = timed("plain sum", RANGES, lambda: [sum(plain[lo:hi]) for lo, hi in spans])
-    ends = timed("plain least and greatest", RANGES, lambda: [(min(plain[lo:hi]), max(plain[lo:hi])) for lo, hi in spans])
-    if [(it.signed_sum, (it.least, it.greatest)) for it in first] != list(zip(sums, ends)):
+    plains = timed("plain ask", RANGES, lambda: [three(plain[lo:hi]) for lo, hi in spans])
+    if [(it.sum, it.least, it.greatest) for it in first] != plains:
         sys.exit("livevec and plain Python don't give the same")
-    try:
-        import numpy
-    except ImportError:
-        pass
-    else:
-        held = numpy.array(values, dtype=numpy.int64)
-        timed("numpy sum", RANGES, lambda: [held[lo:hi].sum() for lo, hi in spans])
-        timed("livevec extend from numpy", PUSHES, lambda: Vector().extend(held))
+    beside_numpy(side_by_side, spans, first)
 
     timed("livevec get", PUSHES, lambda: got(vector))
     timed("plain get", PUSHES, lambda: got(plain))
