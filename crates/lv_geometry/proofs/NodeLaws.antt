@@ -1,10 +1,12 @@
--- The levels and the widths of nodes, and how many rows are enough for a level.
-use Rattle.std.proofs.Common.{◌≡◌, ℕ, ◌+◌, ◌-◌, ◌*◌, ◌^◌, ◌<◌, ◌≤◌, true, subst, sym, inl, inr, arith}
+-- The levels and the widths of nodes, what shifts give of them, and how many rows are enough for a level.
+use Rattle.std.proofs.Common.{◌≡◌, ℕ, zero, suc, ◌+◌, ◌-◌, ◌*◌, ◌/◌, ◌%◌, ◌^◌, ◌<◌, ◌≤◌, true, nat_le, nat_lt, refl, ap, ◌∙◌, subst, sym, inl, inr, arith}
 use Rattle.std.specs.Int.{div_ceil}
-use Rattle.std.proofs.Math.Nat.{le_of_mul-le-mul_right, mul-le-mul_right, one-le-pow}
-use Rattle.std.proofs.lemmas.Bool.{and_from, and_parts, cases_eq, cases_lt, le-leb, leb-true}
+use Rattle.std.proofs.Math.Nat.{div-mul-le_self, le_of_mul-le-mul_right, lt-div-mul-add, mul-le-mul_right, one-le-pow, pow-suc}
+use Rattle.std.proofs.lemmas.Bool.{and_from, and_parts, cases_eq, cases_lt, le-leb, le-ltb, leb-true, lt-leb, lt-ltb}
+use Rattle.std.proofs.lemmas.Nat.{one_shl}
 use Rattle.lv_geometry.specs.declared.nodes.Node.{Node}
-use Rattle.lv_geometry.specs.Nodes.{is_node}
+use Rattle.lv_geometry.specs.Nodes.{is_below, is_node, over}
+use Rattle.lv_geometry.proofs.HighestBits.{times_eight}
 
 -- what holds at each number from 0 to 7 holds of each below 8
 pub at_each_child : (P : ℕ → Type 0) → P 0 → P 1 → P 2 → P 3 → P 4 → P 5 → P 6 → P 7 → (k : ℕ) → k < 8 → P k
@@ -73,3 +75,35 @@ covers_more rows blocks more n width enough covers =
     let least : rows * width ≤ (rows + (n - rows)) * width = mul-le-mul_right width few in
     let most : n * width ≤ (rows + (n - rows)) * width = mul-le-mul_right width many in
     elim (cases_lt blocks more) [ inl above ↦ omega arith | inr within ↦ omega arith ]
+
+-- the width of a level is so many twos
+pub width_in_twos : (level : ℕ) → 8 ^ level ≡ 2 ^ (3 * level)
+width_in_twos zero = refl
+width_in_twos (suc level) =
+    let next : 3 * suc level ≡ 3 * level + 3 = omega arith in
+    pow-suc 8 level ∙ ap (λ w. w * 8) (width_in_twos level) ∙ omega (arith, times_eight (3 * level)) ∙ ap (λ k. 2 ^ k) (sym next)
+
+-- one shifted by three places for each level is the width of the level
+pub width_by_shift : (level : ℕ) → level ≤ 6 → 1 * 2 ^ (3 * level) % 2 ^ 32 ≡ 8 ^ level
+width_by_shift level low = one_shl (3 * level) 32 (omega arith) ∙ sym (width_in_twos level)
+
+-- the node of a level over an index has the number that a shift finds
+pub node_by_shift : (at level : ℕ) → record { level = level; number = at / 2 ^ (3 * level) } ≡ over level at
+node_by_shift at level = ap (λ w. record { level = level; number = at / w }) (sym (width_in_twos level))
+
+-- one more than a number fits into a quotient where the number is below it
+lt-quotient : (number size width : ℕ) → 0 < width → nat_lt number (size / width) ≡ nat_le ((number + 1) * width) size
+lt-quotient number size width some =
+    elim (cases_lt number (size / width)) [
+      | inl below ↦
+          let least : (number + 1) * width ≤ size / width * width = mul-le-mul_right width (omega arith) in
+          lt-ltb _ _ below ∙ sym (le-leb _ _ (omega (arith, div-mul-le_self size width)))
+      | inr above ↦
+          let most : size / width * width ≤ number * width = mul-le-mul_right width above in
+          le-ltb _ _ above ∙ sym (lt-leb ((number + 1) * width) size (omega (arith, lt-div-mul-add {a = size} {b = width} some)))
+    ]
+
+-- a node ends below a size where its number is below the size shifted by three bits a level
+pub below_by_shift : (n : Node) (size : ℕ) → nat_lt n.number (size / 2 ^ (3 * n.level)) ≡ is_below n size
+below_by_shift n size =
+    ap (λ width. nat_lt n.number (size / width)) (sym (width_in_twos n.level)) ∙ lt-quotient n.number size (8 ^ n.level) (some_width n.level)

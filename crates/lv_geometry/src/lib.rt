@@ -6,13 +6,15 @@
 #![tactic(auto)]
 
 mod cells;
+mod levels;
 mod limits;
 mod nodes;
 mod places;
 mod refusals;
 
 pub use cells::{buckets_for, capacity, index, place};
+pub use levels::Levels;
 pub use limits::Limits;
-pub use nodes::{Node, block_of};
+pub use nodes::{Node, block_of, parents_of, width};
 pub use places::Place;
 pub use refusals::Refusal;

@@ -2,10 +2,12 @@
 use Rattle.std.proofs.Common.{◌≡◌, ℕ, ◌+◌, ◌-◌, ◌*◌, ◌/◌, ◌^◌, ◌<◌, ◌≤◌, true, false, ◌&&◌, cond, if◌then◌else◌, Option, None, Some, length, get_or, nat_eq, nat_le, refl, sym, ap, ◌∙◌, inl, inr, arith}
 use Rattle.std.proofs.lemmas.Bool.{cases_Bool, cond_both, eqb-true, ne_eqb, true≢false}
 use Rattle.std.proofs.lemmas.List.{length-set}
+use Rattle.lv_geometry.specs.declared.levels.Levels.{Levels}
 use Rattle.lv_geometry.specs.declared.nodes.Node.{Node}
+use Rattle.lv_geometry.specs.Levels.{thing_at, with_thing}
 use Rattle.lv_geometry.specs.Nodes.{covers, is_node, same_node}
-use Rattle.lv_geometry.proofs.NodeLaws.{level_of_node}
-use Rattle.lv_summary.specs.Inner.{IsLevel, IsSound, filled, with_kept, with_learnt, with_touch}
+use Rattle.lv_geometry.proofs.NodeLaws.{at_each_level, level_of_node}
+use Rattle.lv_summary.specs.Inner.{IsLevel, IsSound, Shelf, filled, table_of, with_kept, with_learnt, with_touch}
 use Rattle.lv_summary.specs.Table.{AnswersAlike, HasSize, Keeps, Learns, Rows, Table, Touches, beside, blocks_in, computed_in, kept_in, no_rows, rows_for, touched_in, whole_in}
 use Rattle.lv_summary.proofs.LevelLaws.{IsLevel-empty, IsLevel-filled, IsLevel-with_kept, IsLevel-with_learnt, IsLevel-with_touch, computed_at, computed_at-filled, computed_at-with_kept, computed_at-with_learnt, kept_at, kept_at-filled, kept_at-with_kept, kept_at-with_learnt, length-lengthened, touched_at, touched_at-filled, touched_at-with_touch}
 use Rattle.lv_summary.proofs.TableLaws.{node_of_whole}
@@ -82,6 +84,18 @@ HasRowsKept old new n k version s = HasRowsChanged old new k (λ rows. with_kept
 -- the rows of every level after a summary was learnt for a node
 abbrev pub HasRowsLearnt : {S : Type 0} → Table S → Table S → Node → ℕ → S → Type 0
 HasRowsLearnt old new n k s = HasRowsChanged old new k (λ rows. with_learnt rows n.number s)
+
+-- a table of six levels, of which one has other rows
+pub HasRowsChanged-one : {S : Type 0} (size : ℕ) (of : Levels (Shelf S)) (k : ℕ) (shelf : Shelf S) (change : Rows S → Rows S) → 1 ≤ k → k ≤ 6 → shelf.rows ≡ change (thing_at of k).rows → HasRowsChanged (table_of size of) (table_of size (with_thing of k shelf)) k change
+HasRowsChanged-one size of k shelf change low high is =
+    at_each_level (λ k. shelf.rows ≡ change (thing_at of k).rows → HasRowsChanged (table_of size of) (table_of size (with_thing of k shelf)) k change)
+    (λ is. at_each_level _ is refl refl refl refl refl)
+    (λ is. at_each_level _ refl is refl refl refl refl)
+    (λ is. at_each_level _ refl refl is refl refl refl)
+    (λ is. at_each_level _ refl refl refl is refl refl)
+    (λ is. at_each_level _ refl refl refl refl is refl)
+    (λ is. at_each_level _ refl refl refl refl refl is)
+    k low high is
 
 -- a change of one level that leaves the edits of its rows
 module _ {S : Type 0} (change : Rows S → Rows S) (same_edits : (rows : Rows S) → (change rows).touched ≡ rows.touched) where

@@ -1,14 +1,13 @@
 -- What a table says of a node, by the rows of its level.
-use Rattle.std.proofs.Common.{◌≡◌, ℕ, ◌+◌, ◌-◌, ◌*◌, ◌/◌, ◌^◌, ◌<◌, ◌≤◌, Bool, true, false, ◌&&◌, ◌||◌, cond, Some, None, length, get_or, nat_eq, nat_le, nat_lt, slice_get, option_map, refl, sym, ap, ◌∙◌, inl, inr, arith}
+use Rattle.std.proofs.Common.{◌≡◌, ℕ, ◌+◌, ◌-◌, ◌*◌, ◌/◌, ◌^◌, ◌<◌, ◌≤◌, Bool, true, false, ◌&&◌, ◌||◌, cond, Some, None, length, get_or, nat_eq, slice_get, option_map, refl, sym, ap, ◌∙◌, inl, inr, arith}
 use Rattle.std.specs.List.{slice_index_or}
-use Rattle.std.proofs.lemmas.Bool.{and_parts, cases_Bool, cases_eq, cases_lt, cond-false, cond-true, eq-eqb, eqb-true, le-leb, le-ltb, leb-true, lt-leb, lt-ltb, ne_eqb}
+use Rattle.std.proofs.lemmas.Bool.{and_parts, cases_Bool, cases_eq, cases_lt, cond-false, cond-true, eq-eqb, eqb-true, leb-true, ne_eqb}
 use Rattle.std.proofs.lemmas.List.{get_or_past}
 use Rattle.std.proofs.lemmas.List.Elements.{All-get_or}
 use Rattle.std.proofs.lemmas.Nat.{div_below}
-use Rattle.std.proofs.Math.Nat.{div-mul-le_self, lt-div-mul-add, mul-le-mul_right}
 use Rattle.lv_geometry.specs.declared.nodes.Node.{Node}
 use Rattle.lv_geometry.specs.Nodes.{is_below, is_node}
-use Rattle.lv_geometry.proofs.NodeLaws.{at_each_level, level_of_node, number_below, some_width}
+use Rattle.lv_geometry.proofs.NodeLaws.{level_of_node, number_below, some_width}
 use Rattle.lv_edits.proofs.Slices.{there_is}
 use Rattle.lv_summary.specs.Inner.{IsLevelOf, IsRowOf, IsSound}
 use Rattle.lv_summary.specs.Table.{Rows, Table, blocks_in, computed_in, entry_in, fresh_in, has_version, is_computed_in, kept_in, known_entry_in, known_in, no_rows, rows_for, touched_in, whole_in}
@@ -61,24 +60,6 @@ computed_in-outside t n outside = cond-and_false (is_node n) _ _ _ outside
 pub blocks_in-rows : {S : Type 0} (t : Table S) → blocks_in t ≡ length (rows_at t 1).touched
 unfolding blocks_in
 blocks_in-rows t = refl
-
--- one more than a number fits into a quotient where the number is below it
-lt-quotient : (number size width : ℕ) → 0 < width → nat_lt number (size / width) ≡ nat_le ((number + 1) * width) size
-lt-quotient number size width some =
-    elim (cases_lt number (size / width)) [
-      | inl below ↦
-          let least : (number + 1) * width ≤ size / width * width = mul-le-mul_right width (omega arith) in
-          lt-ltb _ _ below ∙ sym (le-leb _ _ (omega (arith, div-mul-le_self size width)))
-      | inr above ↦
-          let most : size / width * width ≤ number * width = mul-le-mul_right width above in
-          le-ltb _ _ above ∙ sym (lt-leb ((number + 1) * width) size (omega (arith, lt-div-mul-add {a = size} {b = width} some)))
-    ]
-
--- a node ends below a size where its number is below the size shifted by three bits a level
-pub below_by_shift : (n : Node) (size : ℕ) → 1 ≤ n.level → n.level ≤ 6 → nat_lt n.number (size / 2 ^ (3 * n.level)) ≡ is_below n size
-below_by_shift n size low high =
-    ap (λ width. nat_lt n.number (size / width)) (at_each_level (λ level. 2 ^ (3 * level) ≡ 8 ^ level) refl refl refl refl refl refl n.level low high)
-    ∙ lt-quotient n.number size (8 ^ n.level) (some_width n.level)
 
 -- each index of the blocks has its row on each level
 pub row_of_index : {S : Type 0} (t : Table S) (i level : ℕ) → IsSound t → i / 8 < blocks_in t → 1 ≤ level → level ≤ 6 → i / 8 ^ level < length (rows_at t level).touched

@@ -1,6 +1,7 @@
 -- What the fields of `Summaries` keep, and how one of its levels is seen and changed.
 use Rattle.std.specs.Prelude.{◌≡◌, ℕ, ◌+◌, ◌-◌, ◌*◌, ◌^◌, ◌<◌, ◌≤◌, true, List, [], ◌∷◌, ◌++◌, length, replicate, slice_index, slice_set, All}
 use Rattle.std.specs.List.{slice_index_or}
+use Rattle.lv_geometry.specs.declared.levels.Levels.{Levels}
 use Rattle.lv_geometry.specs.declared.nodes.Node.{Node}
 use Rattle.lv_geometry.specs.Nodes.{is_node}
 use Rattle.lv_summary.specs.Table.{Rows, Table, blocks_in, no_rows, rows_for, whole_in}
@@ -39,8 +40,12 @@ with_learnt rows number s =
     record rows { computed = slice_set rows.computed number (slice_index rows.touched number + 1); kept = slice_set rows.kept number s }
 
 -- a table of six levels
-abbrev pub table_of : {S : Type 0} → ℕ → Rows S → Rows S → Rows S → Rows S → Rows S → Rows S → Table S
-table_of size l1 l2 l3 l4 l5 l6 = record { size = size; levels = l1 ∷ l2 ∷ l3 ∷ l4 ∷ l5 ∷ l6 ∷ [] }
+abbrev pub table_of : {S : Type 0} → ℕ → Levels (Shelf S) → Table S
+table_of size of =
+    record {
+      size = size;
+      levels = of.level_1.rows ∷ of.level_2.rows ∷ of.level_3.rows ∷ of.level_4.rows ∷ of.level_5.rows ∷ of.level_6.rows ∷ [];
+    }
 
 -- a row of a level has its four parts, every index of the blocks has its row, and no edit is past the last that is possible
 pub record IsLevel {S : Type 0} (blocks level : ℕ) (rows : Rows S) : Type 0 where

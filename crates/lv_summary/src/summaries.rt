@@ -1,23 +1,18 @@
-ghost use Rattle.std.specs.Prelude.{◌≡◌, ◌/◌, ◌*◌, ◌<◌, ◌≤◌, ◌&&◌, true, false, option_map, None, IfSome, IfNone, OnOk, OnErr, IfErr};
-ghost use Rattle.lv_geometry.specs.Nodes.{is_below, is_node};
+ghost use Rattle.std.specs.Prelude.{◌≡◌, ◌/◌, ◌*◌, ◌<◌, ◌≤◌, true, false, option_map, None, IfSome, IfNone, OnOk, OnErr, IfErr};
+ghost use Rattle.lv_geometry.specs.Nodes.{is_node};
 ghost use Rattle.lv_summary.specs.Inner.{IsLevelOf, IsRowOf};
 ghost use Rattle.lv_summary.specs.Table.{AfterDelivery, AnswersAlike, HasSize, Keeps, Learns, Touches, blocks_in, computed_in, delivery_in, entry_in, fresh_in, kept_in, known_entry_in, touched_in, whole_in};
 
 use crate::accepted::Accepted;
 use crate::level::Level;
-use lv_geometry::{Node, Refusal};
+use lv_geometry::{Levels, Node, Refusal, parents_of};
 use std::alloc::Global;
 use std::marker::Model;
 
 /// What is kept for each node.
 #[derive(Drop)]
 pub struct Summaries<S> {
-    level_1: Level<S>,
-    level_2: Level<S>,
-    level_3: Level<S>,
-    level_4: Level<S>,
-    level_5: Level<S>,
-    level_6: Level<S>,
+    levels: Levels<Level<S>>,
     blank: S,
     size: u32,
 }
@@ -28,9 +23,9 @@ impl<S> Model for Summaries<S> {
 
     ghost Value = { Table S };
 
-    ghost view = { λ a. table_of a.size a.level_1.rows a.level_2.rows a.level_3.rows a.level_4.rows a.level_5.rows a.level_6.rows };
+    ghost view = { λ a. table_of a.size a.levels };
 
-    ghost invariant = { λ a. IsSound (table_of a.size a.level_1.rows a.level_2.rows a.level_3.rows a.level_4.rows a.level_5.rows a.level_6.rows) };
+    ghost invariant = { λ a. IsSound (table_of a.size a.levels) };
 }
 
 impl<S: Copy> Summaries<S> {
@@ -44,12 +39,14 @@ impl<S: Copy> Summaries<S> {
         ensures nothing_computed { (n : Node) → computed_in result n ≡ None }
     {
         Summaries {
-            level_1: Level::new(alloc),
-            level_2: Level::new(alloc),
-            level_3: Level::new(alloc),
-            level_4: Level::new(alloc),
-            level_5: Level::new(alloc),
-            level_6: Level::new(alloc),
+            levels: Levels {
+                level_1: Level::new(alloc),
+                level_2: Level::new(alloc),
+                level_3: Level::new(alloc),
+                level_4: Level::new(alloc),
+                level_5: Level::new(alloc),
+                level_6: Level::new(alloc),
+            },
             blank,
             size: 0,
         }
@@ -64,23 +61,23 @@ impl<S: Copy> Summaries<S> {
         ensures err { IfErr result (λ refusal. refusal ≡ Refusal.NoMemory) }
         ensures unchanged { OnErr result (self.new ≡ self.old) }
     {
-        let rows_2 = blocks.div_ceil(8);
-        let rows_3 = rows_2.div_ceil(8);
-        let rows_4 = rows_3.div_ceil(8);
-        let rows_5 = rows_4.div_ceil(8);
-        let rows_6 = rows_5.div_ceil(8);
-        self.level_1.reserve(blocks)?;
-        self.level_2.reserve(rows_2)?;
-        self.level_3.reserve(rows_3)?;
-        self.level_4.reserve(rows_4)?;
-        self.level_5.reserve(rows_5)?;
-        self.level_6.reserve(rows_6)?;
-        self.level_1.fill(blocks, self.blank);
-        self.level_2.fill(rows_2, self.blank);
-        self.level_3.fill(rows_3, self.blank);
-        self.level_4.fill(rows_4, self.blank);
-        self.level_5.fill(rows_5, self.blank);
-        self.level_6.fill(rows_6, self.blank);
+        let rows_2 = parents_of(blocks);
+        let rows_3 = parents_of(rows_2);
+        let rows_4 = parents_of(rows_3);
+        let rows_5 = parents_of(rows_4);
+        let rows_6 = parents_of(rows_5);
+        self.levels.level_1.reserve(blocks)?;
+        self.levels.level_2.reserve(rows_2)?;
+        self.levels.level_3.reserve(rows_3)?;
+        self.levels.level_4.reserve(rows_4)?;
+        self.levels.level_5.reserve(rows_5)?;
+        self.levels.level_6.reserve(rows_6)?;
+        self.levels.level_1.fill(blocks, self.blank);
+        self.levels.level_2.fill(rows_2, self.blank);
+        self.levels.level_3.fill(rows_3, self.blank);
+        self.levels.level_4.fill(rows_4, self.blank);
+        self.levels.level_5.fill(rows_5, self.blank);
+        self.levels.level_6.fill(rows_6, self.blank);
         Ok(())
     }
 
@@ -99,12 +96,12 @@ impl<S: Copy> Summaries<S> {
         requires edit { edit ≤ 16777215 }
         ensures { Touches self.old self.new i edit }
     {
-        self.level_1.touch(i / 8, edit);
-        self.level_2.touch(i / 64, edit);
-        self.level_3.touch(i / 512, edit);
-        self.level_4.touch(i / 4096, edit);
-        self.level_5.touch(i / 32768, edit);
-        self.level_6.touch(i / 262144, edit);
+        self.levels.level_1.touch(i / 8, edit);
+        self.levels.level_2.touch(i / 64, edit);
+        self.levels.level_3.touch(i / 512, edit);
+        self.levels.level_4.touch(i / 4096, edit);
+        self.levels.level_5.touch(i / 32768, edit);
+        self.levels.level_6.touch(i / 262144, edit);
     }
 
     /// How many elements the vector has.
@@ -121,7 +118,7 @@ impl<S: Copy> Summaries<S> {
         ensures value { result ≡ blocks_in self.now }
         ensures bound { result ≤ 131071 }
     {
-        self.level_1.rows() as u32
+        self.levels.level_1.rows() as u32
     }
 
     /// The number of the last edit that touched a node; 0 where none did, and outside the table.
@@ -141,7 +138,7 @@ impl<S: Copy> Summaries<S> {
     pub fn whole(&self, node: Node) -> bool
         ensures { result ≡ whole_in self.now node }
     {
-        is_whole(node, self.size)
+        node.is_whole(self.size)
     }
 
     /// Whether a node is whole, and what is kept for it has the number of the last edit that touched it.
@@ -212,14 +209,7 @@ impl<S: Copy> Summaries<S> {
         requires whole { whole_in self.old node ≡ true }
         ensures { Learns self.old self.new node s }
     {
-        match node.level {
-            1 => self.level_1.learn(node.number, s),
-            2 => self.level_2.learn(node.number, s),
-            3 => self.level_3.learn(node.number, s),
-            4 => self.level_4.learn(node.number, s),
-            5 => self.level_5.learn(node.number, s),
-            _ => self.level_6.learn(node.number, s),
-        }
+        self.levels.at_mut(node.level).learn(node.number, s);
     }
 
     // Keeps a summary of a version for a whole node.
@@ -228,14 +218,7 @@ impl<S: Copy> Summaries<S> {
         requires version { version ≤ 16777215 }
         ensures { Keeps self.old self.new node version s }
     {
-        match node.level {
-            1 => self.level_1.keep(node.number, version, s),
-            2 => self.level_2.keep(node.number, version, s),
-            3 => self.level_3.keep(node.number, version, s),
-            4 => self.level_4.keep(node.number, version, s),
-            5 => self.level_5.keep(node.number, version, s),
-            _ => self.level_6.keep(node.number, version, s),
-        }
+        self.levels.at_mut(node.level).keep(node.number, version, s);
     }
 
     // The level of a node; none where there is no such level.
@@ -244,15 +227,10 @@ impl<S: Copy> Summaries<S> {
         ensures some { IfSome result (λ level. IsLevelOf self.now node level.now.rows) }
         ensures none { IfNone result (is_node node ≡ false) }
     {
-        match node.level {
-            1 => Some(&self.level_1),
-            2 => Some(&self.level_2),
-            3 => Some(&self.level_3),
-            4 => Some(&self.level_4),
-            5 => Some(&self.level_5),
-            6 => Some(&self.level_6),
-            _ => None,
+        if node.level == 0 || node.level > 6 {
+            return None;
         }
+        Some(self.levels.at(node.level))
     }
 
     // The level of a node that is whole, in which it has a row; none where the node is not whole.
@@ -261,21 +239,10 @@ impl<S: Copy> Summaries<S> {
         ensures some { IfSome result (λ level. IsRowOf self.now node level.now.rows) }
         ensures none { IfNone result (whole_in self.now node ≡ false) }
     {
-        if is_whole(node, self.size) {
+        if node.is_whole(self.size) {
             self.level(node)
         } else {
             None
         }
     }
-}
-
-// Whether a node is of the table, and all its indices are below a size.
-#[inline(always)]
-fn is_whole(node: Node, size: u32) -> bool
-    ensures { result ≡ (is_node node && is_below node size) }
-{
-    if node.level == 0 || node.level > 6 {
-        return false;
-    }
-    node.number < size >> (3 * node.level)
 }

@@ -1,43 +1,18 @@
-use Rattle.std.proofs.Common.{◌≡◌, arith, refl}
-use Rattle.lv_summary.proofs.Changes.{IsSound-kept, Keeps-at}
-use Rattle.lv_geometry.proofs.NodeLaws.{at_each_level}
+use Rattle.std.proofs.Common.{refl, ap, ◌∙◌}
+use Rattle.lv_summary.specs.Inner.{with_kept}
+use Rattle.lv_summary.proofs.Changes.{HasRowsChanged-one, IsSound-kept, Keeps-at}
 use Rattle.lv_summary.proofs.NodeRows.{levels_of_whole}
 use Rattle.lv_summary.proofs.summaries.Summaries.keep.Goals as goal
 
 pub invariant_of-self : goal.invariant_of-self
-invariant_of-self g c = IsSound-kept c.self.invariant refl c.args.node 1 c.args.version c.args.s (at_each_level _ c.keep.ensures refl refl refl refl refl)
+invariant_of-self g c =
+    let levels = levels_of_whole c.args.self.now c.args.node c.requires.whole in
+    IsSound-kept c.self.invariant refl c.args.node c.args.node.level c.args.version c.args.s
+    (HasRowsChanged-one c.self.inside.size c.self.inside.levels c.args.node.level c.keep.new.self (λ rows. with_kept rows c.args.node.number c.args.version c.args.s) levels.0 levels.1 (c.keep.ensures ∙ ap (λ shelf. with_kept shelf.rows c.args.node.number c.args.version c.args.s) c.at_mut.ensures.thing))
 
-pub invariant_of-self-in-2 : goal.invariant_of-self-in-2
-invariant_of-self-in-2 g c = IsSound-kept c.self.invariant refl c.args.node 2 c.args.version c.args.s (at_each_level _ refl c.keep-in-2.ensures refl refl refl refl)
-
-pub invariant_of-self-in-3 : goal.invariant_of-self-in-3
-invariant_of-self-in-3 g c = IsSound-kept c.self.invariant refl c.args.node 3 c.args.version c.args.s (at_each_level _ refl refl c.keep-in-3.ensures refl refl refl)
-
-pub invariant_of-self-in-4 : goal.invariant_of-self-in-4
-invariant_of-self-in-4 g c = IsSound-kept c.self.invariant refl c.args.node 4 c.args.version c.args.s (at_each_level _ refl refl refl c.keep-in-4.ensures refl refl)
-
-pub invariant_of-self-in-5 : goal.invariant_of-self-in-5
-invariant_of-self-in-5 g c = IsSound-kept c.self.invariant refl c.args.node 5 c.args.version c.args.s (at_each_level _ refl refl refl refl c.keep-in-5.ensures refl)
-
-pub invariant_of-self-in_default : goal.invariant_of-self-in_default
-invariant_of-self-in_default g c = IsSound-kept c.self.invariant refl c.args.node 6 c.args.version c.args.s (at_each_level _ refl refl refl refl refl c.keep-in_default.ensures)
-
-pub returns-in-1 : goal.returns-in-1
-returns-in-1 g c = rw (← c.self.view_is) (Keeps-at c.self.invariant refl c.args.node 1 c.args.version c.args.s (rw (← c.self.view_is) at c.requires.whole) c.in-1.is (at_each_level _ c.keep.ensures refl refl refl refl refl))
-
-pub returns-in-2 : goal.returns-in-2
-returns-in-2 g c = rw (← c.self.view_is) (Keeps-at c.self.invariant refl c.args.node 2 c.args.version c.args.s (rw (← c.self.view_is) at c.requires.whole) c.in-2.is (at_each_level _ refl c.keep-in-2.ensures refl refl refl refl))
-
-pub returns-in-3 : goal.returns-in-3
-returns-in-3 g c = rw (← c.self.view_is) (Keeps-at c.self.invariant refl c.args.node 3 c.args.version c.args.s (rw (← c.self.view_is) at c.requires.whole) c.in-3.is (at_each_level _ refl refl c.keep-in-3.ensures refl refl refl))
-
-pub returns-in-4 : goal.returns-in-4
-returns-in-4 g c = rw (← c.self.view_is) (Keeps-at c.self.invariant refl c.args.node 4 c.args.version c.args.s (rw (← c.self.view_is) at c.requires.whole) c.in-4.is (at_each_level _ refl refl refl c.keep-in-4.ensures refl refl))
-
-pub returns-in-5 : goal.returns-in-5
-returns-in-5 g c = rw (← c.self.view_is) (Keeps-at c.self.invariant refl c.args.node 5 c.args.version c.args.s (rw (← c.self.view_is) at c.requires.whole) c.in-5.is (at_each_level _ refl refl refl refl c.keep-in-5.ensures refl))
-
-pub returns-in_default : goal.returns-in_default
-returns-in_default g c =
-    let last : c.args.node.level ≡ 6 = omega (arith, levels_of_whole c.args.self.now c.args.node c.requires.whole) in
-    rw (← c.self.view_is) (Keeps-at c.self.invariant refl c.args.node 6 c.args.version c.args.s (rw (← c.self.view_is) at c.requires.whole) last (at_each_level _ refl refl refl refl refl c.keep-in_default.ensures))
+pub returns : goal.returns
+returns g c =
+    let levels = levels_of_whole c.args.self.now c.args.node c.requires.whole in
+    rw (← c.self.view_is) (
+    Keeps-at c.self.invariant refl c.args.node c.args.node.level c.args.version c.args.s (rw (← c.self.view_is) at c.requires.whole) refl
+    (HasRowsChanged-one c.self.inside.size c.self.inside.levels c.args.node.level c.keep.new.self (λ rows. with_kept rows c.args.node.number c.args.version c.args.s) levels.0 levels.1 (c.keep.ensures ∙ ap (λ shelf. with_kept shelf.rows c.args.node.number c.args.version c.args.s) c.at_mut.ensures.thing)))
