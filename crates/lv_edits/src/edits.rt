@@ -1,5 +1,5 @@
 ghost use Rattle.std.specs.Prelude.{◌≡◌, ℕ, ◌+◌, ◌*◌, ◌<◌, ◌≤◌, max, None, [], ◌∷◌, ◌++◌, length, take, drop, OnOk, OnErr, IfErr, vec_len, vec_capacity};
-ghost use Rattle.std.specs.List.{slice_index_or};
+ghost use Rattle.std.specs.List.{slice_index_or, slice_range};
 ghost use Rattle.lv_geometry.specs.Cells.{AreFewest, capacity_of};
 ghost use Rattle.lv_store.specs.Inner.{IsStore};
 ghost use Rattle.lv_store.specs.State.{AreAlike};
@@ -186,6 +186,18 @@ impl Edits {
         ensures limits { InLimits self.now }
     {
         self.store.cells(block)
+    }
+
+    /// Elements from index `from` on, before `to`, lent where they lie: as many as lie side by side with no write pending among them.
+    /// There are none only where the last edit's write at `from` isn't in its cell yet: then `read` tells the element.
+    pub fn stretch(&self, from: u32, to: u32) -> &[i64]
+        requires order { from < to }
+        requires inside { to ≤ length (list_of self.now.journal) }
+        ensures elements { result.now ≡ slice_range (list_of self.now.journal) from (from + length result.now) }
+        ensures few { from + length result.now ≤ to }
+        ensures limits { InLimits self.now }
+    {
+        self.store.stretch(from, to)
     }
 
     /// How many elements there are.

@@ -1,12 +1,10 @@
--- The cells of a block: its elements, with what is pending among them, and the greatest of its versions.
-use Rattle.std.proofs.Common.{◌≡◌, ℕ, ℤ, pos, ◌+◌, ◌*◌, ◌/◌, ◌%◌, ◌<◌, ◌≤◌, max, ◌≢◌, if◌then◌else◌, Some, List, length, map, fold, take, drop, get_or, set, nat_eq, refl, sym, ap, ◌∙◌, arith, inl, inr}
+-- The cells of a block: its elements, with what is pending among them.
+use Rattle.std.proofs.Common.{◌≡◌, ℕ, ℤ, pos, ◌+◌, ◌*◌, ◌/◌, ◌%◌, ◌<◌, ◌≤◌, ◌≢◌, if◌then◌else◌, Some, List, length, map, take, drop, get_or, set, nat_eq, refl, sym, ap, ◌∙◌, arith, inl, inr}
 use Rattle.std.specs.List.{range_with_len}
 use Rattle.std.proofs.lemmas.Bool.{cases_eq, cond-false, cond-true, eq-eqb, ne_eqb}
 use Rattle.std.proofs.lemmas.List.{ext_get_or, get_or-drop, get_or-set_other, get_or-set_same, get_or-take, length-drop, length-set, length-take-le}
-use Rattle.std.proofs.lemmas.List.Folds.{fold-map}
 use Rattle.std.proofs.lemmas.List.FromFn.{get_or-map-range_with_len, length-map-range_with_len}
 use Rattle.lv_store.specs.State.{indices_of, written}
-use Rattle.lv_geometry.proofs.Ranges.{greatest}
 
 -- neighbours in a list are what it has at their indices
 pub part_is : {T : Type 0} (xs : List T) (a n : ℕ) (d : T) → a + n ≤ length xs → take n (drop a xs) ≡ map (λ i. get_or xs i d) (range_with_len a n)
@@ -41,12 +39,6 @@ put_among f a n j k x d inside at =
           ∙ get_or-map-range_with_len f a n m (a + m) d small refl
           ∙ sym (get_or-map-range_with_len g a n m (a + m) d small refl ∙ cond-false _ _ _ (ne_eqb k (a + m) (λ same. other (omega arith))))
     ])
-
--- the greatest of neighbours is the greatest value of the list at their indices
-pub greatest_of_part : (xs : List ℕ) (a n : ℕ) → a + n ≤ length xs → fold (λ most x. max most x) 0 (take n (drop a xs)) ≡ greatest (λ i. get_or xs i 0) a n
-unfolding greatest
-greatest_of_part xs a n inside =
-    ap (fold (λ most x. max most x) 0) (part_is xs a n 0 inside) ∙ fold-map (λ most x. max most x) (λ i. get_or xs i 0) 0 (range_with_len a n)
 
 -- what is put among the elements of a block where a write is in it
 pub written_among : (f : ℕ → ℤ) (w : ℕ × ℤ) (block : ℕ) → w.0 / 8 ≡ block → set (map f (indices_of block)) (w.0 % 8) w.1 ≡ map (λ i. written (Some w) i (f i)) (indices_of block)

@@ -158,13 +158,12 @@ part_of_bucket f (w ∷ vs) (suc k) c n e inside within =
 pub block_in_bucket : (block : ℕ) (p : Place) → IsCell p → index_of p ≡ 8 * block → p.cell + 8 ≤ cells_in p.bucket
 block_in_bucket block p cell at = omega (arith, pow_pos p.bucket)
 
--- and its cells are neighbours there
-pub block_at : {V T : Type 0} (f : V → List T) (vs : List V) (p : Place) (block : ℕ) (e : V) → p.bucket < length vs → IsCell p → index_of p ≡ 8 * block → AreBuckets (map f vs) → take 8 (drop (8 * block) (flat_map f vs)) ≡ take 8 (drop p.cell (f (get_or vs p.bucket e)))
-block_at f vs p block e inside cell at h =
-    let within : p.cell + 8 ≤ length (f (get_or vs p.bucket e)) = omega (arith, block_in_bucket block p cell at, size_at f vs p.bucket e inside h) in
-    ap (λ i. take 8 (drop i (flat_map f vs))) (sym at)
-    ∙ ap (λ n. take 8 (drop (n + p.cell) (flat_map f vs))) (sym (cells_before f vs p.bucket (omega arith) h))
-    ∙ part_of_bucket f vs p.bucket p.cell 8 e inside within
+-- cells that are neighbours in a bucket are neighbours among all
+part_at : {V T : Type 0} (f : V → List T) (vs : List V) (p : Place) (i n : ℕ) (e : V) → p.bucket < length vs → p.cell + n ≤ cells_in p.bucket → index_of p ≡ i → AreBuckets (map f vs) → take n (drop i (flat_map f vs)) ≡ take n (drop p.cell (f (get_or vs p.bucket e)))
+part_at f vs p i n e inside within at h =
+    ap (λ j. take n (drop j (flat_map f vs))) (sym at)
+    ∙ ap (λ k. take n (drop (k + p.cell) (flat_map f vs))) (sym (cells_before f vs p.bucket (omega arith) h))
+    ∙ part_of_bucket f vs p.bucket p.cell n e inside (omega (arith, size_at f vs p.bucket e inside h))
 
 -- what is read at the place of an index is what the index has
 pub read_at : {V T : Type 0} (f : V → List T) (vs : List V) (i : ℕ) (p : Place) (b : V) (x : T) → p.bucket < length vs → IsCell p → index_of p ≡ i → b ≡ get_or vs p.bucket b → x ≡ get_or (f b) p.cell x → AreBuckets (map f vs) → x ≡ get_or (flat_map f vs) i x
@@ -178,10 +177,10 @@ read_at f vs i p b x inside cell at bucket is h =
 pub size_of_read : {V T : Type 0} (f : V → List T) (vs : List V) (p : Place) (b : V) → p.bucket < length vs → b ≡ get_or vs p.bucket b → AreBuckets (map f vs) → length (f b) ≡ cells_in p.bucket
 size_of_read f vs p b inside bucket h = ap (λ v. length (f v)) bucket ∙ size_at f vs p.bucket b inside h
 
--- eight neighbours that are read from the place of a block's first index are those of the block
-pub block_read : {V T : Type 0} (f : V → List T) (vs : List V) (block : ℕ) (p : Place) (b : V) → p.bucket < length vs → IsCell p → index_of p ≡ 8 * block → b ≡ get_or vs p.bucket b → AreBuckets (map f vs) → take 8 (drop p.cell (f b)) ≡ take 8 (drop (8 * block) (flat_map f vs))
-block_read f vs block p b inside cell at bucket h =
-    ap (λ v. take 8 (drop p.cell (f v))) bucket ∙ sym (block_at f vs p block b inside cell at h)
+-- neighbours that are read from the place of an index are those from the index on
+pub part_read : {V T : Type 0} (f : V → List T) (vs : List V) (i n : ℕ) (p : Place) (b : V) → p.bucket < length vs → p.cell + n ≤ cells_in p.bucket → index_of p ≡ i → b ≡ get_or vs p.bucket b → AreBuckets (map f vs) → take n (drop p.cell (f b)) ≡ take n (drop i (flat_map f vs))
+part_read f vs i n p b inside within at bucket h =
+    ap (λ v. take n (drop p.cell (f v))) bucket ∙ sym (part_at f vs p i n b inside within at h)
 
 -- some buckets, and the cells of them
 abbrev pub cells_of : {T : Type 0} → ℕ → List T → Cells T

@@ -1,12 +1,12 @@
 -- The elements of a store as a list: what is at an index of it, and what each change of the store makes of it.
-use Rattle.std.proofs.Common.{◌≡◌, ◌*◌, ℕ, ℤ, pos, ◌+◌, ◌<◌, ◌≤◌, if◌then◌else◌, Some, None, Option, [], ◌∷◌, ◌++◌, length, map, take, drop, get_or, set, nat_eq, refl, sym, ap, ◌∙◌, arith}
+use Rattle.std.proofs.Common.{◌≡◌, ◌*◌, ℕ, ℤ, pos, ◌+◌, ◌-◌, ◌<◌, ◌≤◌, if◌then◌else◌, Some, None, Option, false, [], ◌∷◌, ◌++◌, length, map, take, drop, slice_range, get_or, set, nat_eq, refl, sym, ap, ◌∙◌, arith}
 use Rattle.std.specs.List.{range_with_len}
-use Rattle.std.proofs.lemmas.Bool.{cond-false, cond-true, eq-eqb, ne_eqb}
+use Rattle.std.proofs.lemmas.Bool.{cond-false, cond-true, eq-eqb, ne_eqb, or_parts}
 use Rattle.std.proofs.lemmas.List.{ext_get_or, get_or-take, length-take-le}
 use Rattle.std.proofs.lemmas.List.FromFn.{get_or-map-range_with_len, length-map-range_with_len, map-range_with_len_more}
 use Rattle.lv_store.specs.Inner.{IsStore}
 use Rattle.lv_store.specs.declared.descriptors.Writes.{Writes}
-use Rattle.lv_store.specs.State.{AreAlike, Opens, StoreState, announced, completed, elements_of, indices_of, settled, value_in, written_by}
+use Rattle.lv_store.specs.State.{AreAlike, Opens, StoreState, announced, are_at, completed, elements_of, indices_of, is_at, settled, value_in, written, written_by}
 use Rattle.lv_store.proofs.Blocks.{part_is, put_among, same_at}
 use Rattle.lv_store.proofs.ShowsLaws.{value_in-completed, value_in-opens}
 
@@ -18,10 +18,20 @@ length-elements s = length-map-range_with_len (value_in s) 0 s.descriptor.size
 pub get_or-elements : (s : StoreState) (i : ℕ) (d : ℤ) → i < s.descriptor.size → get_or (elements_of s) i d ≡ value_in s i
 get_or-elements s i d inside = get_or-map-range_with_len (value_in s) 0 s.descriptor.size i i d inside (omega arith)
 
--- the elements of a block that is below the size
+-- the elements of neighbours that are below the size
+part_of_elements : (s : StoreState) (from n : ℕ) → from + n ≤ s.descriptor.size → map (value_in s) (range_with_len from n) ≡ take n (drop from (elements_of s))
+part_of_elements s from n inside =
+    sym (part_is (elements_of s) from n (pos 0) (omega (arith, length-elements s)) ∙ same_at (λ i. get_or (elements_of s) i (pos 0)) (value_in s) from n (pos 0) (λ i low below. get_or-elements s i (pos 0) (omega arith)))
+
+-- those of a block
 pub block_of_elements : (s : StoreState) (block : ℕ) → 8 * block + 8 ≤ s.descriptor.size → map (value_in s) (indices_of block) ≡ take 8 (drop (8 * block) (elements_of s))
-block_of_elements s block inside =
-    sym (part_is (elements_of s) (8 * block) 8 (pos 0) (omega (arith, length-elements s)) ∙ same_at (λ i. get_or (elements_of s) i (pos 0)) (value_in s) (8 * block) 8 (pos 0) (λ i from below. get_or-elements s i (pos 0) (omega arith)))
+block_of_elements s block inside = part_of_elements s (8 * block) 8 inside
+
+-- and those of a range, which is told by its ends
+pub range_of_elements : (s : StoreState) (from n : ℕ) → from + n ≤ s.descriptor.size → map (value_in s) (range_with_len from n) ≡ slice_range (elements_of s) from (from + n)
+range_of_elements s from n inside =
+    let count : n ≡ from + n - from = omega arith in
+    part_of_elements s from n inside ∙ ap (λ k. take k (drop from (elements_of s))) count
 
 -- stores that read alike have the same elements
 pub elements_alike : (s t : StoreState) → AreAlike s t → elements_of t ≡ elements_of s
@@ -100,3 +110,21 @@ elements-rewritten s i j x y none first second =
 -- no write, and the same size, leaves the elements
 pub elements-unwritten : (s : StoreState) → s.descriptor.pending ≡ None → elements_of (announced s None None s.descriptor.size) ≡ elements_of s
 elements-unwritten s none = same_at _ (value_in s) 0 s.descriptor.size (pos 0) (λ i from below. sym (unpending s i none))
+
+-- a write that is not at an index leaves what is there
+unwritten_once : (write : Option (ℕ × ℤ)) (i : ℕ) (x : ℤ) → is_at i write ≡ false → written write i x ≡ x
+unwritten_once None i x free = refl
+unwritten_once (Some w) i x free = cond-false (nat_eq w.0 i) w.1 x free
+
+-- and so do all of an edit's
+unwritten_at : (writes : Option Writes) (i : ℕ) (x : ℤ) → are_at i writes ≡ false → written_by writes i x ≡ x
+unwritten_at None i x free = refl
+unwritten_at (Some w) i x free =
+    let parts = or_parts (is_at i w.second) (is_at i (Some w.first)) free in
+    unwritten_once w.second i (written (Some w.first) i x) parts.0 ∙ unwritten_once (Some w.first) i x parts.1
+
+-- neighbours in the cells are the elements there, where no write is pending at any of them
+pub free_of_writes : (s : StoreState) (from n : ℕ) → from + n ≤ length s.values → ((i : ℕ) → from ≤ i → i < from + n → are_at i s.descriptor.pending ≡ false) → take n (drop from s.values) ≡ map (value_in s) (range_with_len from n)
+free_of_writes s from n inside free =
+    part_is s.values from n (pos 0) inside
+    ∙ same_at (λ i. get_or s.values i (pos 0)) (value_in s) from n (pos 0) (λ i low below. sym (unwritten_at s.descriptor.pending i (get_or s.values i (pos 0)) (free i low below)))

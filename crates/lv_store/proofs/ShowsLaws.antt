@@ -1,99 +1,31 @@
 -- What a store shows: as long as no index reads otherwise, and after one more edit.
-use Rattle.std.proofs.Common.{◌≡◌, ℕ, ℤ, pos, ◌+◌, ◌-◌, ◌*◌, ◌/◌, ◌<◌, ◌≤◌, Bool, true, false, ◌||◌, if◌then◌else◌, Option, Some, None, List, [], ◌∷◌, ◌++◌, length, replicate, get_or, set, slice_get, nat_eq, refl, sym, ap, ◌∙◌, inl, inr, arith}
+use Rattle.std.proofs.Common.{◌≡◌, ℕ, ℤ, pos, ◌+◌, ◌-◌, ◌/◌, ◌<◌, ◌≤◌, Bool, true, false, ◌||◌, if◌then◌else◌, Option, Some, None, List, [], ◌∷◌, ◌++◌, length, replicate, get_or, set, slice_get, nat_eq, refl, sym, ap, ◌∙◌, inl, inr, arith}
 use Rattle.std.specs.Prelude.{All, IfSome}
-use Rattle.std.proofs.lemmas.Bool.{cases_Bool, cases_eq, cases_lt, cond-false, cond-true, eq-eqb, eqb-false, eqb-true, false≢true, ne_eqb, or_cases, or_from, or_left, or_parts, or_right}
+use Rattle.std.proofs.lemmas.Bool.{cases_eq, cases_lt, cond-false, cond-true, eq-eqb, ne_eqb}
 use Rattle.std.proofs.lemmas.List.{get_or-append_right, get_or-replicate, get_or-set_other, get_or-set_same, get_or_append_left, get_or_past, get_or_push, length_push, length-replicate, length-set}
-use Rattle.std.proofs.lemmas.List.Elements.{All-get_or, All-set, All-weaker}
+use Rattle.std.proofs.lemmas.List.Elements.{All-set}
 use Rattle.std.proofs.lemmas.List.Sums.{fold_push}
 use Rattle.std.proofs.lemmas.Option.{IfSome_then, slice_get-get_or}
+use Rattle.lv_geometry.specs.Cells.{capacity_of}
 use Rattle.lv_geometry.specs.Elements.{IsElement}
-use Rattle.lv_store.specs.Announced.{Announcements, Shows, are_in, is_in, last_value, last_version, writes_at}
+use Rattle.lv_store.specs.Announced.{Announcements, Shows, last_value, last_version, writes_at}
 use Rattle.lv_store.specs.Inner.{IsStore}
 use Rattle.lv_store.specs.declared.descriptors.Writes.{Writes}
-use Rattle.lv_store.specs.State.{Opens, StoreState, announced, are_at, block_version, completed, empty_store, is_at, value_in, version_in, with_element, with_version, writes_of, written, written_by}
+use Rattle.lv_store.specs.State.{Opens, StoreState, announced, are_in, block_version, blocks_of, completed, empty_store, is_in, value_in, with_element, with_version, writes_of, written, written_by}
 use Rattle.lv_geometry.specs.Bounds.{Bounds}
-use Rattle.lv_geometry.proofs.Ranges.{greatest, greatest_above, greatest_least, greatest_same, last_pass, last_pass-next, last_pass_same}
+use Rattle.lv_geometry.proofs.Ranges.{last_pass, last_pass-next, last_pass_same}
 
--- a block's version is the greatest at its indices
-pub block_version_is : (s : StoreState) (block : ℕ) → block_version s block ≡ greatest (version_in s) (8 * block) 8
-unfolding greatest
-block_version_is s block = refl
+-- an index whose cell is open is in a block that is open
+block_open : (i buckets : ℕ) → i < capacity_of buckets → i / 8 < blocks_of buckets
+block_open i buckets inside = omega arith
 
--- a number that is put among those of a list is no greater than what none is greater than
-put_low : (xs : List ℕ) (here : Bool) (e i : ℕ) → All (λ v. v ≤ e) xs → (if here then e else get_or xs i 0) ≤ e
-put_low xs true e i low = omega arith
-put_low xs false e i low =
-    elim (cases_lt i (length xs)) [
-      | inl inside ↦ All-get_or (λ v. v ≤ e) xs i 0 inside low
-      | inr past ↦ omega (arith, get_or_past xs i 0 past)
-    ]
-
--- a value that is put over a list with none greater is the greatest of a block that it is in
-greatest_with : (xs : List ℕ) (here : ℕ → Bool) (j e block : ℕ) → All (λ v. v ≤ e) xs → here j ≡ true → j / 8 ≡ block → greatest (λ i. if here i then e else get_or xs i 0) (8 * block) 8 ≡ e
-greatest_with xs here j e block low at there =
-    let f = λ (i : ℕ). if here i then e else get_or xs i 0 in
-    let put : f j ≡ e = cond-true (here j) e (get_or xs j 0) at in
-    let above : f j ≤ greatest f (8 * block) 8 = greatest_above f (8 * block) 8 j (omega arith) (omega arith) in
-    let below : greatest f (8 * block) 8 ≤ e = greatest_least f (8 * block) 8 e (λ i from to. put_low xs (here i) e i low) in
-    omega arith
-
--- and leaves the greatest of a block that it is not in
-greatest_without : (xs : List ℕ) (here : ℕ → Bool) (e block : ℕ) → ((i : ℕ) → i / 8 ≡ block → here i ≡ false) → greatest (λ i. if here i then e else get_or xs i 0) (8 * block) 8 ≡ greatest (λ i. get_or xs i 0) (8 * block) 8
-greatest_without xs here e block elsewhere =
-    greatest_same _ _ (8 * block) 8 (λ i from below. cond-false _ _ _ (elsewhere i (omega arith)))
-
--- a write in a block is at an index of it
-in_at : (block : ℕ) (write : Option (ℕ × ℤ)) → is_in block write ≡ true → (i : ℕ) × (is_at i write ≡ true) × (i / 8 ≡ block)
-in_at block None there = absurd (false≢true there)
-in_at block (Some w) there = (w.0, eq-eqb w.0 w.0 refl, eqb-true _ _ there)
-
--- and one of some writes
-are_in_at : (block : ℕ) (writes : Option Writes) → are_in block writes ≡ true → (i : ℕ) × (are_at i writes ≡ true) × (i / 8 ≡ block)
-are_in_at block None there = absurd (false≢true there)
-are_in_at block (Some w) there =
-    elim (or_cases (is_in block w.second) (is_in block (Some w.first)) there) [
-      | inl second ↦ let at = in_at block w.second second in (at.0, or_left _ _ at.1, at.2)
-      | inr first ↦ let at = in_at block (Some w.first) first in (at.0, or_right _ _ at.1, at.2)
-    ]
-
--- a write that is not in a block is at no index of it
-not_at : (block i : ℕ) (write : Option (ℕ × ℤ)) → is_in block write ≡ false → i / 8 ≡ block → is_at i write ≡ false
-not_at block i None elsewhere within = refl
-not_at block i (Some w) elsewhere within = ne_eqb w.0 i (λ same. eqb-false _ _ elsewhere (omega arith))
-
--- and none of some writes
-pub are_not_at : (block i : ℕ) (writes : Option Writes) → are_in block writes ≡ false → i / 8 ≡ block → are_at i writes ≡ false
-are_not_at block i None elsewhere within = refl
-are_not_at block i (Some w) elsewhere within =
-    let parts = or_parts _ _ elsewhere in
-    or_from _ _ (not_at block i w.second parts.0 within) (not_at block i (Some w.first) parts.1 within)
-
--- past the end of a list the greatest is 0
-pub none_past : (xs : List ℕ) (a : ℕ) → length xs ≤ a → greatest (λ i. get_or xs i 0) a 8 ≡ 0
-none_past xs a past =
-    let none = greatest_least (λ i. get_or xs i 0) a 8 0 (λ i from below. let outside = get_or_past xs i 0 (omega arith) in omega arith) in
-    omega arith
-
--- the version of a block is the number of the last edit, where it announced a write in the block
-pub written_version : (s : StoreState) (block : ℕ) → All (λ v. v ≤ s.descriptor.edit) s.versions → are_in block s.descriptor.pending ≡ true → block_version s block ≡ s.descriptor.edit
-written_version s block low there =
-    let at = are_in_at block s.descriptor.pending there in
-    block_version_is s block
-    ∙ greatest_with s.versions (λ i. are_at i s.descriptor.pending) at.0 s.descriptor.edit block low at.1 at.2
-
--- and else the greatest of those in its cells
-pub unwritten_version : (s : StoreState) (block : ℕ) → are_in block s.descriptor.pending ≡ false → block_version s block ≡ greatest (λ i. get_or s.versions i 0) (8 * block) 8
-unwritten_version s block elsewhere =
-    block_version_is s block
-    ∙ greatest_without s.versions (λ i. are_at i s.descriptor.pending) s.descriptor.edit block (λ i within. are_not_at block i s.descriptor.pending elsewhere within)
-
--- two states that read alike at each index, after as many edits, show the same announcements
-pub Shows-same : (old new : StoreState) → new.descriptor.edit ≡ old.descriptor.edit → ((i : ℕ) → value_in new i ≡ value_in old i) → ((i : ℕ) → version_in new i ≡ version_in old i) → (all : Announcements) → Shows old all → Shows new all
+-- two states that read alike at each index and in each block, after as many edits, show the same announcements
+pub Shows-same : (old new : StoreState) → new.descriptor.edit ≡ old.descriptor.edit → ((i : ℕ) → value_in new i ≡ value_in old i) → ((block : ℕ) → block_version new block ≡ block_version old block) → (all : Announcements) → Shows old all → Shows new all
 Shows-same old new edits values versions all h =
     record {
       edit = edits ∙ h.edit;
       values = λ i. values i ∙ h.values i;
-      versions = λ block. block_version_is new block ∙ greatest_same (version_in new) (version_in old) (8 * block) 8 (λ i from below. versions i) ∙ sym (block_version_is old block) ∙ h.versions block;
+      versions = λ block. versions block ∙ h.versions block;
     }
 
 -- copies of what is read past their end read alike everywhere
@@ -121,7 +53,7 @@ value_in-opens old new cells h i =
 pub Shows-opens : (old new : StoreState) (cells : ℕ) → Opens old new cells → (all : Announcements) → Shows old all → Shows new all
 Shows-opens old new cells h =
     Shows-same old new (ap (λ d. d.edit) h.descriptor) (value_in-opens old new cells h)
-    (λ i. ap (λ d. if are_at i d.pending then d.edit else get_or new.versions i 0) h.descriptor ∙ ap (λ n. if are_at i old.descriptor.pending then old.descriptor.edit else n) (ap (λ xs. get_or xs i 0) h.versions ∙ get_or-longer old.versions _ 0 i))
+    (λ block. ap (λ d. if are_in block d.pending then d.edit else get_or new.versions block 0) h.descriptor ∙ ap (λ n. if are_in block old.descriptor.pending then old.descriptor.edit else n) (ap (λ xs. get_or xs block 0) h.versions ∙ get_or-longer old.versions _ 0 block))
 
 -- an element that is put into a list is read there, and the others elsewhere
 get_or-put : {T : Type 0} (xs : List T) (j : ℕ) (x d : T) (i : ℕ) → j < length xs → get_or (set xs j x) i d ≡ if nat_eq j i then x else get_or xs i d
@@ -137,9 +69,9 @@ get_or-with_element None xs i inside = refl
 get_or-with_element (Some w) xs i inside = get_or-put xs w.0 w.1 (pos 0) i inside
 
 -- and its edit's number among versions
-get_or-with_version : (write : Option (ℕ × ℤ)) (edit : ℕ) (xs : List ℕ) (i : ℕ) → IfSome write (λ w. w.0 < length xs) → get_or (with_version write edit xs) i 0 ≡ if is_at i write then edit else get_or xs i 0
-get_or-with_version None edit xs i inside = refl
-get_or-with_version (Some w) edit xs i inside = get_or-put xs w.0 edit 0 i inside
+get_or-with_version : (write : Option (ℕ × ℤ)) (edit : ℕ) (xs : List ℕ) (block : ℕ) → IfSome write (λ w. w.0 / 8 < length xs) → get_or (with_version write edit xs) block 0 ≡ if is_in block write then edit else get_or xs block 0
+get_or-with_version None edit xs block inside = refl
+get_or-with_version (Some w) edit xs block inside = get_or-put xs (w.0 / 8) edit 0 block inside
 
 -- one of two, put over the other
 either_put : {T : Type 0} (second first : Bool) (x y : T) → (if second then x else if first then x else y) ≡ if second || first then x else y
@@ -158,17 +90,17 @@ value_in-completed s (Some w) is sound i =
     ∙ ap (λ p. written_by p i (get_or s.values i (pos 0))) (sym is)
 
 -- and no version
-version_in-completed : (s : StoreState) (writes : Option Writes) → s.descriptor.pending ≡ writes → IsStore s → (i : ℕ) → version_in (completed s writes) i ≡ version_in s i
-version_in-completed s None is sound i = refl
-version_in-completed s (Some w) is sound i =
+block_version-completed : (s : StoreState) (writes : Option Writes) → s.descriptor.pending ≡ writes → IsStore s → (block : ℕ) → block_version (completed s writes) block ≡ block_version s block
+block_version-completed s None is sound block = refl
+block_version-completed s (Some w) is sound block =
     let inside = rw is at sound.pending in
     let edit = s.descriptor.edit in
     let first = with_version (Some w.first) edit s.versions in
-    let long = length-set s.versions w.first.0 edit in
-    get_or-with_version w.second edit first i (IfSome_then w.second inside.1 (λ v at. omega (arith, at.0.0, sound.versions, long)))
-    ∙ ap (λ v. if is_at i w.second then edit else v) (get_or-with_version (Some w.first) edit s.versions i (omega (arith, inside.0.0, sound.versions)))
-    ∙ either_put (is_at i w.second) (is_at i (Some w.first)) edit (get_or s.versions i 0)
-    ∙ ap (λ p. if are_at i p then edit else get_or s.versions i 0) (sym is)
+    let long = length-set s.versions (w.first.0 / 8) edit in
+    get_or-with_version w.second edit first block (IfSome_then w.second inside.1 (λ v at. omega (arith, block_open v.0 s.buckets at.0.0, sound.versions, long)))
+    ∙ ap (λ v. if is_in block w.second then edit else v) (get_or-with_version (Some w.first) edit s.versions block (omega (arith, block_open w.first.0 s.buckets inside.0.0, sound.versions)))
+    ∙ either_put (is_in block w.second) (is_in block (Some w.first)) edit (get_or s.versions block 0)
+    ∙ ap (λ p. if are_in block p then edit else get_or s.versions block 0) (sym is)
 
 -- nor the edit
 edit_completed : (s : StoreState) (writes : Option Writes) → (completed s writes).descriptor.edit ≡ s.descriptor.edit
@@ -178,7 +110,7 @@ edit_completed s (Some w) = refl
 -- and no answer
 pub Shows-completed : (s : StoreState) (writes : Option Writes) → s.descriptor.pending ≡ writes → IsStore s → (all : Announcements) → Shows s all → Shows (completed s writes) all
 Shows-completed s writes is sound =
-    Shows-same s (completed s writes) (edit_completed s writes) (value_in-completed s writes is sound) (version_in-completed s writes is sound)
+    Shows-same s (completed s writes) (edit_completed s writes) (value_in-completed s writes is sound) (block_version-completed s writes is sound)
 
 -- a list of numbers of 64 bits stays one with such a write
 elements_with : (write : Option (ℕ × ℤ)) (xs : List ℤ) → IfSome write (λ w. IsElement w.1) → All IsElement xs → (length (with_element write xs) ≡ length xs) × All IsElement (with_element write xs)
@@ -189,7 +121,7 @@ elements_with (Some w) xs fits all = (length-set xs w.0 w.1, All-set IsElement x
 versions_with : (write : Option (ℕ × ℤ)) (edit : ℕ) (xs : List ℕ) → All (λ version. version ≤ edit) xs → (length (with_version write edit xs) ≡ length xs) × All (λ version. version ≤ edit) (with_version write edit xs)
 versions_with None edit xs all = (refl, all)
 versions_with (Some w) edit xs all =
-    (length-set xs w.0 edit, All-set (λ version. version ≤ edit) xs w.0 edit (omega arith) all)
+    (length-set xs (w.0 / 8) edit, All-set (λ version. version ≤ edit) xs (w.0 / 8) edit (omega arith) all)
 
 -- a store whose writes are completed keeps what a store keeps
 pub IsStore-completed : (s : StoreState) (writes : Option Writes) → s.descriptor.pending ≡ writes → IsStore s → IsStore (completed s writes)
@@ -219,7 +151,7 @@ unfolding last_value last_version
 Shows-empty limits = record {
   edit = refl;
   values = λ i. get_or_past [] i (pos 0) (omega arith);
-  versions = λ block. block_version_is (empty_store limits) block ∙ none_past [] (8 * block) (omega arith);
+  versions = λ block. get_or_past [] block 0 (omega arith);
 }
 
 -- the element announced last, after one more edit
@@ -254,25 +186,20 @@ last_version-snoc all writes block =
     ∙ rw (writes_at_last all writes block, before, ← last_version_is all block) refl
 
 -- the version of a block is the next edit's number where it announced a write there, and else what it was
-block_version-announced : (s : StoreState) (first second : Option (ℕ × ℤ)) (size block : ℕ) → s.descriptor.pending ≡ None → IsStore s → block_version (announced s first second size) block ≡ if are_in block (writes_of first second) then s.descriptor.edit + 1 else block_version s block
-block_version-announced s first second size block settled h =
-    let later = All-weaker (λ v. v ≤ s.descriptor.edit) (λ v. v ≤ s.descriptor.edit + 1) (λ v low. omega arith) s.versions h.past in
-    let next = announced s first second size in
-    elim (cases_Bool (are_in block (writes_of first second))) [
-      | inl there ↦ written_version next block later there ∙ sym (cond-true _ _ _ there)
-      | inr elsewhere ↦ unwritten_version next block elsewhere ∙ sym (cond-false _ _ _ elsewhere ∙ unwritten_version s block (ap (are_in block) settled))
-    ]
+block_version-announced : (s : StoreState) (first second : Option (ℕ × ℤ)) (size block : ℕ) → s.descriptor.pending ≡ None → block_version (announced s first second size) block ≡ if are_in block (writes_of first second) then s.descriptor.edit + 1 else block_version s block
+block_version-announced s first second size block settled =
+    ap (λ n. if are_in block (writes_of first second) then s.descriptor.edit + 1 else n) (sym (ap (λ p. if are_in block p then s.descriptor.edit else get_or s.versions block 0) settled))
 
 -- a store that announces writes, or none, shows them after what it showed
-pub Shows-announced : (s : StoreState) (first second : Option (ℕ × ℤ)) (size : ℕ) → s.descriptor.pending ≡ None → IsStore s → (all : Announcements) → Shows s all → Shows (announced s first second size) (all ++ writes_of first second ∷ [])
-Shows-announced s first second size settled h all shown =
+pub Shows-announced : (s : StoreState) (first second : Option (ℕ × ℤ)) (size : ℕ) → s.descriptor.pending ≡ None → (all : Announcements) → Shows s all → Shows (announced s first second size) (all ++ writes_of first second ∷ [])
+Shows-announced s first second size settled all shown =
     let writes = writes_of first second in
     let next : s.descriptor.edit + 1 ≡ length all + 1 = ap (λ n. n + 1) shown.edit in
     record {
       edit = next ∙ sym (length_push all writes);
       values = λ i. ap (written_by writes i) (sym (ap (λ p. written_by p i (get_or s.values i (pos 0))) settled) ∙ shown.values i) ∙ sym (last_value-snoc all writes i);
       versions = λ block.
-          block_version-announced s first second size block settled h
+          block_version-announced s first second size block settled
           ∙ ap (λ n. if are_in block writes then n else block_version s block) next
           ∙ ap (λ n. if are_in block writes then length all + 1 else n) (shown.versions block)
           ∙ sym (last_version-snoc all writes block);

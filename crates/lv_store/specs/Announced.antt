@@ -1,9 +1,9 @@
 -- What announcements make of a store: of each edit the writes that it announced, if it did.
-use Rattle.std.specs.Prelude.{◌≡◌, ℕ, ℤ, pos, ◌+◌, ◌/◌, Option, Some, None, Bool, false, ◌||◌, List, length, fold, slice_get, nat_eq, if◌then◌else◌}
+use Rattle.std.specs.Prelude.{◌≡◌, ℕ, ℤ, pos, ◌+◌, Option, Bool, false, List, length, fold, slice_get, if◌then◌else◌}
 use Rattle.std.specs.List.{range_with_len}
 use Rattle.std.specs.Option.{option_map_or}
 use Rattle.lv_store.specs.declared.descriptors.Writes.{Writes}
-use Rattle.lv_store.specs.State.{StoreState, block_version, value_in, written_by}
+use Rattle.lv_store.specs.State.{StoreState, are_in, block_version, value_in, written_by}
 
 -- what edits announced, in order
 abbrev pub Announcements : Type 0
@@ -12,15 +12,6 @@ Announcements = List (Option Writes)
 -- the element that was announced last for an index; 0 where none was
 unfoldable pub last_value : Announcements → ℕ → ℤ
 last_value announced i = fold (λ x writes. written_by writes i x) (pos 0) announced
-
--- whether a write, if there is one, is in a block
-abbrev pub is_in : ℕ → Option (ℕ × ℤ) → Bool
-is_in block write = option_map_or (λ w. nat_eq (w.0 / 8) block) write false
-
--- whether one of an edit's writes, if it has any, is in a block
-abbrev pub are_in : ℕ → Option Writes → Bool
-are_in block None = false
-are_in block (Some writes) = is_in block writes.second || is_in block (Some writes.first)
 
 -- whether edit j + 1 wrote in a block
 abbrev pub writes_at : Announcements → ℕ → ℕ → Bool

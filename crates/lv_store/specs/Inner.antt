@@ -1,11 +1,11 @@
 -- What the fields of a store and of a two-level array keep.
-use Rattle.std.specs.Prelude.{◌≡◌, ◌≢◌, ◌<◌, ℕ, ℤ, ◌≤◌, ◌*◌, ◌^◌, IfSome, List, length, map, All}
+use Rattle.std.specs.Prelude.{◌≡◌, ◌≢◌, ◌<◌, ℕ, ℤ, ◌≤◌, ◌*◌, ◌^◌, Bool, true, false, IfSome, List, length, map, All}
 use Rattle.std.specs.List.{range_with_len}
 use Rattle.lv_geometry.specs.Bounds.{AreAllowed}
 use Rattle.lv_geometry.specs.Cells.{capacity_of}
 use Rattle.lv_geometry.specs.Elements.{IsElement}
 use Rattle.lv_store.specs.declared.descriptors.Writes.{Writes}
-use Rattle.lv_store.specs.State.{StoreState}
+use Rattle.lv_store.specs.State.{StoreState, blocks_of}
 
 -- the first bucket has 8 cells, each further one twice as many, and there are at most 17
 pub record AreBuckets {T : Type 0} (buckets : List (List T)) : Type 0 where
@@ -21,15 +21,22 @@ abbrev pub AreWrites : ℕ → Writes → Type 0
 AreWrites buckets writes =
     IsWrite buckets writes.first × IfSome writes.second (λ write. IsWrite buckets write × (write.0 ≢ writes.first.0))
 
--- elements and versions for every open cell, within the limits; no version is of an edit to come; and pending writes are at cells
--- that are open
+-- an element for every open cell and a version for every open block, within the limits; no version is of an edit to come; and
+-- pending writes are at cells that are open
 pub record IsStore (s : StoreState) : Type 0 where
   pub allowed : AreAllowed s.limits.buckets s.limits.edits
   pub few : s.buckets ≤ s.limits.buckets
   pub values : length s.values ≡ capacity_of s.buckets
-  pub versions : length s.versions ≡ capacity_of s.buckets
+  pub versions : length s.versions ≡ blocks_of s.buckets
   pub elements : All IsElement s.values
   pub past : All (λ version. version ≤ s.descriptor.edit) s.versions
   pub edits : s.descriptor.edit ≤ s.limits.edits
   pub size : s.descriptor.size ≤ capacity_of s.buckets
   pub pending : IfSome s.descriptor.pending (AreWrites s.buckets)
+
+-- a range from one index up to another, cut before the first index that is taken, if one is
+pub record EndsBefore (is_taken : ℕ → Bool) (from to end : ℕ) : Type 0 where
+  pub low : from ≤ end
+  pub high : end ≤ to
+  pub free : (i : ℕ) → from ≤ i → i < end → is_taken i ≡ false
+  pub cut : end < to → is_taken end ≡ true

@@ -1,19 +1,24 @@
--- What a store holds, and what it answers, by index.
-use Rattle.std.specs.Prelude.{◌≡◌, ℕ, ℤ, pos, ◌+◌, ◌*◌, Option, Some, None, Bool, false, ◌||◌, List, [], ◌++◌, ◌-◌, fold, map, max, replicate, slice_index, slice_set, nat_eq, if◌then◌else◌}
+-- What a store holds, and what it answers, by index and by block.
+use Rattle.std.specs.Prelude.{◌≡◌, ℕ, ℤ, pos, ◌+◌, ◌*◌, ◌/◌, ◌^◌, Option, Some, None, Bool, false, ◌||◌, List, [], ◌++◌, ◌-◌, map, max, replicate, slice_index, slice_set, nat_eq, if◌then◌else◌}
 use Rattle.std.specs.List.{range_with_len, slice_index_or}
+use Rattle.std.specs.Option.{option_map_or}
 use Rattle.lv_geometry.specs.Bounds.{Bounds}
 use Rattle.lv_geometry.specs.Cells.{AreFewest, capacity_of}
 use Rattle.lv_store.specs.declared.descriptors.Descriptor.{Descriptor}
 use Rattle.lv_store.specs.declared.descriptors.Writes.{Writes}
 
--- its limits, its descriptor, how many buckets are open, and of the cells the elements, and the numbers of the edits that wrote
--- them, 0 where none did
+-- its limits, its descriptor, how many buckets are open, of each open cell the element, and of each open block the number of the
+-- last edit whose write was completed there, 0 where none was
 pub record StoreState : Type 0 where
   pub limits : Bounds
   pub descriptor : Descriptor
   pub buckets : ℕ
   pub values : List ℤ
   pub versions : List ℕ
+
+-- how many blocks lie in k open buckets: one in the first, in each further one twice as many as in the one before
+abbrev pub blocks_of : ℕ → ℕ
+blocks_of k = 2 ^ k - 1
 
 -- whether a write, if there is one, is at an index
 abbrev pub is_at : ℕ → Option (ℕ × ℤ) → Bool
@@ -43,17 +48,22 @@ value_in s i = written_by s.descriptor.pending i (slice_index_or s.values i (pos
 abbrev pub elements_of : StoreState → List ℤ
 elements_of s = map (value_in s) (range_with_len 0 s.descriptor.size)
 
--- the number of the edit that wrote an index last, its write pending or not; 0 where none did
-abbrev pub version_in : StoreState → ℕ → ℕ
-version_in s i = if are_at i s.descriptor.pending then s.descriptor.edit else slice_index s.versions i
-
 -- the eight indices of a block
 abbrev pub indices_of : ℕ → List ℕ
 indices_of block = range_with_len (8 * block) 8
 
--- the number of the last edit that wrote in a block: the greatest of its eight indices'
+-- whether a write, if there is one, is in a block
+abbrev pub is_in : ℕ → Option (ℕ × ℤ) → Bool
+is_in block write = option_map_or (λ w. nat_eq (w.0 / 8) block) write false
+
+-- whether one of an edit's writes, if it has any, is in a block
+abbrev pub are_in : ℕ → Option Writes → Bool
+are_in block None = false
+are_in block (Some writes) = is_in block writes.second || is_in block (Some writes.first)
+
+-- the number of the last edit that wrote in a block, its write pending or not; 0 where none did, as in a block that is not open
 abbrev pub block_version : StoreState → ℕ → ℕ
-block_version s block = fold (λ most i. max most (version_in s i)) 0 (indices_of block)
+block_version s block = if are_in block s.descriptor.pending then s.descriptor.edit else slice_index s.versions block
 
 -- an empty store, with no bucket open
 abbrev pub empty_store : Bounds → StoreState
@@ -74,12 +84,12 @@ abbrev pub with_element : Option (ℕ × ℤ) → List ℤ → List ℤ
 with_element None values = values
 with_element (Some write) values = slice_set values write.0 write.1
 
--- versions with the number of an edit in the cell of its write, if there is one
+-- versions with the number of an edit for the block of its write, if there is one
 abbrev pub with_version : Option (ℕ × ℤ) → ℕ → List ℕ → List ℕ
 with_version None edit versions = versions
-with_version (Some write) edit versions = slice_set versions write.0 edit
+with_version (Some write) edit versions = slice_set versions (write.0 / 8) edit
 
--- the store with the writes, if there are any, of the last edit in their cells, and none pending
+-- the store with the writes, if there are any, of the last edit in their cells, its number for their blocks, and none pending
 abbrev pub completed : StoreState → Option Writes → StoreState
 completed s None = s
 completed s (Some writes) =
@@ -97,7 +107,7 @@ settled s = completed s s.descriptor.pending
 pub record Opens (old new : StoreState) (cells : ℕ) : Type 0 where
   pub buckets : (k : ℕ) → AreFewest cells k → new.buckets ≡ max old.buckets k
   pub values : new.values ≡ old.values ++ replicate (capacity_of new.buckets - capacity_of old.buckets) (pos 0)
-  pub versions : new.versions ≡ old.versions ++ replicate (capacity_of new.buckets - capacity_of old.buckets) 0
+  pub versions : new.versions ≡ old.versions ++ replicate (blocks_of new.buckets - blocks_of old.buckets) 0
   pub descriptor : new.descriptor ≡ old.descriptor
   pub limits : new.limits ≡ old.limits
 

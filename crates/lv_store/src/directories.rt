@@ -1,9 +1,9 @@
-ghost use Rattle.std.specs.Prelude.{◌≡◌, ◌+◌, ◌*◌, ◌^◌, ◌<◌, ◌≤◌, [], length, replicate, take, drop, ◌↔◌, IsTrue, OnOk, OnErr, IfOk, IfErr};
+ghost use Rattle.std.specs.Prelude.{◌≡◌, ◌+◌, ◌-◌, ◌*◌, ◌^◌, ◌<◌, ◌≤◌, [], length, min, replicate, take, drop, OnOk, OnErr, IfOk, IfErr};
 ghost use Rattle.std.specs.List.{slice_index_or};
 ghost use Rattle.lv_geometry.specs.Cells.{capacity_of};
 ghost use Rattle.lv_store.specs.Directory.{first_buckets, with_bucket, with_buckets, with_cell};
 
-use lv_geometry::{Refusal, capacity, place};
+use lv_geometry::{Refusal, place};
 use std::alloc::Global;
 use std::marker::Model;
 
@@ -110,12 +110,21 @@ impl<T: Copy> Directory<T> {
         eight_from(&buckets[place.bucket as usize], place.cell as usize)
     }
 
-    /// Whether the cells of a block are open.
-    #[inline(always)]
-    pub fn has_block(&self, block: u32) -> bool
-        ensures { IsTrue result ↔ (8 * block + 8 ≤ length self.now.cells) }
+    /// The cells from an index up to the end of its bucket, at most so many, where they lie.
+    pub fn slice_from(&self, i: u32, most: u32) -> &[T]
+        requires open { i < length self.now.cells }
+        requires inside { i + most ≤ length self.now.cells }
+        ensures cells { result.now ≡ take (length result.now) (drop i self.now.cells) }
+        ensures few { length result.now ≤ most }
+        ensures some { 0 < most → 0 < length result.now }
     {
-        block < capacity(self.buckets()) / 8
+        let buckets = &self.buckets;
+        let place = place(i);
+        neighbours(
+            &buckets[place.bucket as usize],
+            place.cell as usize,
+            most as usize,
+        )
     }
 
     /// Puts a value into the cell of an index.
@@ -153,4 +162,13 @@ fn eight_from<T: Copy>(cells: &[T], from: usize) -> [T; 8]
     let mut eight = [cells[from]; 8];
     eight.copy_from_slice(&cells[from..from + 8]);
     eight
+}
+
+// The cells of a bucket from one on, at most so many.
+fn neighbours<T: Copy>(cells: &[T], from: usize, most: usize) -> &[T]
+    requires { from < length cells.now }
+    ensures { result.now ≡ take (min most (length cells.now - from)) (drop from cells.now) }
+{
+    let count = most.min(cells.len() - from);
+    &cells[from..from + count]
 }

@@ -1,12 +1,13 @@
-ghost use Rattle.std.specs.Prelude.{◌≡◌, ◌≢◌, ℕ, ℤ, ◌+◌, ◌*◌, ◌<◌, ◌≤◌, None, [], ◌∷◌, ◌++◌, fold, length, map, max, OnOk, OnErr, IfErr, IfSome, IsSomeAnd};
+ghost use Rattle.std.specs.Prelude.{◌≡◌, ◌≢◌, ℕ, ℤ, ◌+◌, ◌*◌, ◌/◌, ◌<◌, ◌≤◌, None, [], ◌∷◌, ◌++◌, length, map, replicate, true, OnOk, OnErr, IfErr, IfSome, IsSomeAnd, vec_capacity, vec_len};
+ghost use Rattle.std.specs.List.{range_with_len};
 ghost use Rattle.lv_geometry.specs.Cells.{capacity_of};
-ghost use Rattle.lv_store.specs.Announced.{Announcements, Shows, are_in, is_in};
-ghost use Rattle.lv_store.specs.Inner.{IsStore};
-ghost use Rattle.lv_store.specs.State.{Opens, announced, block_version, empty_store, indices_of, settled, value_in, with_element, with_version, writes_of, written};
+ghost use Rattle.lv_store.specs.Announced.{Announcements, Shows};
+ghost use Rattle.lv_store.specs.Inner.{EndsBefore, IsStore};
+ghost use Rattle.lv_store.specs.State.{Opens, announced, are_at, are_in, block_version, empty_store, indices_of, is_at, is_in, settled, value_in, with_element, with_version, writes_of, written};
 
 use crate::descriptors::{Descriptor, Writes};
 use crate::directories::Directory;
-use lv_geometry::{Limits, Refusal, buckets_for};
+use lv_geometry::{Limits, Refusal, buckets_for, capacity};
 use std::alloc::Global;
 use std::marker::Model;
 
@@ -14,21 +15,21 @@ use std::marker::Model;
 #[derive(Drop)]
 pub struct Store {
     values: Directory<i64>,
-    versions: Directory<u32>,
+    // One for each block, in one list that moves where it grows: it is 512 KB at most, and nothing in it is lent.
+    versions: Vec<u32>,
     descriptor: Descriptor,
     limits: Limits,
 }
 
 impl Model for Store {
-    ghost use Rattle.std.specs.Prelude.{◌≡◌};
     ghost use Rattle.lv_store.specs.Inner.{IsStore};
     ghost use Rattle.lv_store.specs.State.{StoreState};
 
     ghost Value = { StoreState };
 
-    ghost view = { λ a. record { limits = a.limits; descriptor = a.descriptor; buckets = a.values.buckets; values = a.values.cells; versions = a.versions.cells } };
+    ghost view = { λ a. record { limits = a.limits; descriptor = a.descriptor; buckets = a.values.buckets; values = a.values.cells; versions = a.versions.items } };
 
-    ghost invariant = { λ a. IsStore record { limits = a.limits; descriptor = a.descriptor; buckets = a.values.buckets; values = a.values.cells; versions = a.versions.cells } × (a.versions.buckets ≡ a.values.buckets) };
+    ghost invariant = { λ a. IsStore record { limits = a.limits; descriptor = a.descriptor; buckets = a.values.buckets; values = a.values.cells; versions = a.versions.items } };
 }
 
 impl Store {
@@ -42,7 +43,7 @@ impl Store {
         let _allowed = limits.buckets();
         Store {
             values: Directory::new(alloc),
-            versions: Directory::new(alloc),
+            versions: Vec::new(alloc),
             descriptor: Descriptor {
                 edit: 0,
                 size: 0,
@@ -63,13 +64,12 @@ impl Store {
         ensures shows { (all : Announcements) → Shows self.old all → Shows self.new all }
         ensures sound { IsStore self.new }
     {
-        let open = self.values.buckets();
+        let open = self.versions.len();
         let buckets = buckets_for(cells);
+        let more = ((capacity(buckets) / 8) as usize).saturating_sub(open);
+        self.versions.reserve(more).map_err(|_| Refusal::NoMemory)?;
         self.values.open_to(buckets, 0)?;
-        if let Err(refusal) = self.versions.open_to(buckets, 0) {
-            self.values.close_to(open);
-            return Err(refusal);
-        }
+        add_blanks(&mut self.versions, more);
         Ok(())
     }
 
@@ -148,6 +148,19 @@ impl Store {
         cells
     }
 
+    /// The elements from index `from` on, before `to`, up to the end of the bucket or the first index at which a write is pending. They
+    /// are lent where they lie. There are none only where a write is pending at `from` itself.
+    pub fn stretch(&self, from: u32, to: u32) -> &[i64]
+        requires order { from < to }
+        requires inside { to ≤ capacity_of self.now.buckets }
+        ensures items { result.now ≡ map (value_in self.now) (range_with_len from (length result.now)) }
+        ensures few { from + length result.now ≤ to }
+        ensures some { length result.now ≡ 0 → are_at from self.now.descriptor.pending ≡ true }
+    {
+        let end = end_before_writes(self.descriptor.pending, from, to);
+        self.values.slice_from(from, end - from)
+    }
+
     /// The number of the last edit that wrote in a block, its write pending or not; 0 where none did.
     #[inline(always)]
     pub fn version(&self, block: u32) -> u32
@@ -156,11 +169,7 @@ impl Store {
         if are_in(block, self.descriptor.pending) {
             return self.descriptor.edit;
         }
-        if self.versions.has_block(block) {
-            greatest(self.versions.block(block))
-        } else {
-            0
-        }
+        self.versions.get(block as usize).copied().unwrap_or(0)
     }
 
     /// The number of the last edit, 0 before the first.
@@ -218,22 +227,27 @@ fn writes_of(first: Option<(u32, i64)>, second: Option<(u32, i64)>) -> Option<Wr
     }
 }
 
-// Puts a write of an edit, if there is one, into its cell.
+// Adds so many versions of blocks where nothing was written, for which there is room.
+fn add_blanks(versions: &mut Vec<u32>, more: usize)
+    requires { vec_len versions.old + more ≤ vec_capacity versions.old }
+    ensures { versions.new.items ≡ versions.old.items ++ replicate more 0 }
+{
+    let Ok(()) = versions.resize(versions.len() + more, 0) else {
+        unreachable!()
+    };
+}
+
+// Puts a write of an edit, if there is one, into its cell, and the edit's number for its block.
 #[inline(always)]
-fn put(
-    values: &mut Directory<i64>,
-    versions: &mut Directory<u32>,
-    edit: u32,
-    write: Option<(u32, i64)>,
-)
+fn put(values: &mut Directory<i64>, versions: &mut Vec<u32>, edit: u32, write: Option<(u32, i64)>)
     requires values { IfSome write (λ write. write.0 < length values.old.cells) }
-    requires versions { IfSome write (λ write. write.0 < length versions.old.cells) }
+    requires versions { IfSome write (λ write. write.0 / 8 < length versions.old.items) }
     ensures values { values.new ≡ record values.old { cells = with_element write values.old.cells } }
-    ensures versions { versions.new ≡ record versions.old { cells = with_version write edit versions.old.cells } }
+    ensures versions { versions.new.items ≡ with_version write edit versions.old.items }
 {
     if let Some((index, element)) = write {
         values.set(index, element);
-        versions.set(index, edit);
+        versions[(index / 8) as usize] = edit;
     }
 }
 
@@ -246,6 +260,31 @@ fn put_among(cells: &mut [i64; 8], block: u32, write: Option<(u32, i64)>)
         if index / 8 == block {
             cells[(index % 8) as usize] = element;
         }
+    }
+}
+
+// Where a range ends that goes on, from one index up to another, until the first of an edit's writes, if it has any.
+fn end_before_writes(writes: Option<Writes>, from: u32, to: u32) -> u32
+    requires { from ≤ to }
+    ensures { EndsBefore (λ i. are_at i writes) from to result }
+{
+    match writes {
+        Some(writes) => {
+            let end = end_before(Some(writes.first), from, to);
+            end_before(writes.second, from, end)
+        }
+        None => to,
+    }
+}
+
+// The same for one write, if there is one.
+fn end_before(write: Option<(u32, i64)>, from: u32, to: u32) -> u32
+    requires { from ≤ to }
+    ensures { EndsBefore (λ i. is_at i write) from to result }
+{
+    match write {
+        Some((index, _)) if from <= index && index < to => index,
+        _ => to,
     }
 }
 
@@ -269,16 +308,4 @@ fn is_in(block: u32, write: Option<(u32, i64)>) -> bool
         Some((index, _)) => index / 8 == block,
         None => false,
     }
-}
-
-// The greatest of some numbers, 0 where there are none.
-#[inline(always)]
-fn greatest(numbers: [u32; 8]) -> u32
-    ensures { result ≡ fold (λ most number. max most number) 0 numbers }
-{
-    let mut most = 0;
-    for number in numbers {
-        most = most.max(number);
-    }
-    most
 }

@@ -1,6 +1,6 @@
-use Rattle.std.proofs.Common.{◌<◌, ◌≤◌, ap, arith, length, ◌∙◌, take, drop}
+use Rattle.std.proofs.Common.{◌*◌, ◌<◌, ◌≤◌, ap, arith, length, ◌∙◌, take, drop}
 use Rattle.std.proofs.Math.Nat.{lt_of_le_of_lt, mul-le-mul_right}
-use Rattle.lv_store.proofs.BucketLaws.{block_in_bucket, block_read, bucket_open, cells_few, size_of_read}
+use Rattle.lv_store.proofs.BucketLaws.{block_in_bucket, bucket_open, cells_few, part_read, size_of_read}
 use Rattle.lv_store.proofs.directories.Directory.block.Given.{Over}
 use Rattle.lv_store.proofs.directories.Directory.block.Goals as goal
 use Rattle.lv_store.proofs.directories.Directory.block.Goals.{After-place-place}
@@ -36,4 +36,4 @@ returns g c =
     rw (← c.self.view_is)
     (c.eight_from.ensures
     ∙ ap (λ xs. take 8 (drop c.place-place.result.cell xs)) c.deref.ensures.value
-    ∙ block_read (λ b. b.items) c.self.inside.buckets.items c.args.block c.place-place.result c.index.result.now (within g (goal.at.returns g c).After-place-place) c.place-place.ensures.cell c.place-place.ensures.back c.index.ensures c.self.invariant)
+    ∙ part_read (λ b. b.items) c.self.inside.buckets.items (8 * c.args.block) 8 c.place-place.result c.index.result.now (within g (goal.at.returns g c).After-place-place) (block_in_bucket c.args.block c.place-place.result c.place-place.ensures.cell c.place-place.ensures.back) c.place-place.ensures.back c.index.ensures c.self.invariant)

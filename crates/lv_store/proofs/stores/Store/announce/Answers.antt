@@ -3,4 +3,4 @@ use Rattle.lv_store.proofs.stores.Store.announce.Goals as goal
 
 pub returns-clause-shows : goal.returns-clause-shows
 returns-clause-shows c =
-    rw (← c.self.view_is, c.writes_of.ensures) (Shows-announced _ c.args.first c.args.second c.args.size (rw (← c.self.view_is) at c.requires.settled) c.self.invariant.0)
+    rw (← c.self.view_is, c.writes_of.ensures) (Shows-announced _ c.args.first c.args.second c.args.size (rw (← c.self.view_is) at c.requires.settled))

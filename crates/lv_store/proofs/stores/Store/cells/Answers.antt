@@ -7,7 +7,7 @@ use Rattle.lv_store.proofs.stores.Store.cells.Goals.{After-block-cells}
 
 -- the store is as it must be
 sound : (c : After-block-cells) → IsStore c.args.self.now
-sound c = subst IsStore c.self.view_is c.self.invariant.0
+sound c = subst IsStore c.self.view_is c.self.invariant
 
 -- what is in the cells of the block is read
 block_is : (c : After-block-cells) → c.block-cells.result ≡ map (λ i. get_or c.args.self.now.values i (pos 0)) (indices_of c.args.block)
