@@ -4,6 +4,7 @@ pub mod EveryRunLaws
 pub mod HonestSteps
 pub mod LiveLaws
 pub mod OneOutcomeLaws
+pub mod PlaceLaws
 pub mod PlayLaws
 pub mod QueryLaws
 mod RefreshLaws

@@ -80,6 +80,11 @@ pub record WorldState (B S : Type 0) : Type 0 where
   pub live : LiveState B S
   pub jobs : List (Carried B S)
 
+-- the jobs that were handed out, in the order of their numbers from 1, and how many more there is room for
+pub record IssuedState (B S : Type 0) : Type 0 where
+  pub jobs : List (Carried B S)
+  pub room : ℕ
+
 -- the record of a live vector, with the jobs that were issued
 abbrev pub with_issued : {B S : Type 0} → LiveState B S → List (Carried B S) → Record
 with_issued live jobs = record (recorded live) { issued = map node_and_version jobs }

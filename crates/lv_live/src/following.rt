@@ -29,7 +29,8 @@ pub fn touched_indices(edit: &Edit, size: u32) -> Touched
     }
 }
 
-// Makes rows for the block of an index, and for all blocks before it: in the table, and then for claims.
+// Makes rows for the block of an index, and for all blocks before it: in the table, and then for claims. They are made for 64 blocks
+// at once, so that most pushes make none.
 #[inline]
 fn make_row<S: Copy>(
     table: &mut Summaries<S>,
@@ -44,7 +45,7 @@ fn make_row<S: Copy>(
     ensures claim_rows { OnOk result (index / 8 < claim_blocks claims.new) }
     ensures err { IfErr result (λ refusal. refusal ≡ Refusal.NoMemory) }
 {
-    let blocks = index / 8 + 1;
+    let blocks = (index / 512 * 64 + 64).min(131_071);
     if table.blocks() < blocks {
         table.grow(blocks)?;
     }

@@ -7,7 +7,9 @@
 
 mod events;
 mod following;
+mod issued;
 mod live;
+mod places;
 mod playing;
 mod replies;
 mod theorems;
@@ -15,6 +17,7 @@ mod vouching;
 mod worlds;
 
 pub use events::Event;
+pub use issued::Issued;
 pub use live::Live;
 pub use replies::Reply;
 pub use theorems::{

@@ -10,7 +10,7 @@ ghost use Rattle.lv_refresh.specs.Honesty.{IsHonest, Vouched};
 ghost use Rattle.lv_refresh.specs.Record.{is_fresh};
 ghost use Rattle.lv_summary.specs.Agrees.{Agrees};
 ghost use Rattle.lv_summary.specs.Table.{OnlyLearns, known_in};
-ghost use Rattle.lv_reduce.specs.Answer.{IsAnswer, IsScanRefusal, range_refusal};
+ghost use Rattle.lv_reduce.specs.Answer.{IsAnswer, IsScanRefusal, IsTotal, range_refusal};
 ghost use Rattle.lv_reduce.specs.Asked.{AreTopsKnown, IsFewAsked};
 ghost use Rattle.lv_reduce.specs.Cost.{IsFew};
 ghost use Rattle.lv_reduce.specs.Stretch.{IsStretch};
@@ -172,6 +172,16 @@ impl<B: Body> Live<B> {
         ensures few { IfOk result (λ answer. IsFewAsked (known_in self.old.table) (known_in self.new.table) lo hi answer.cells_read answer.summaries_read) }
     {
         lv_reduce::ask(&self.cells, &mut self.table, &self.body, lo, hi)
+    }
+
+    /// The fold of the elements from index `lo` up to `hi` by any body, with the number of the last edit. It folds the elements where
+    /// they lie and reads no summary, so it is meant for ranges that are so short that their summaries would cost more. Refused with
+    /// `BadRange`, then `OutOfRange`. Takes no memory.
+    pub fn fold_by<K: Body>(&self, body: &K, lo: u32, hi: u32) -> Result<(u32, K::S), Refusal>
+        ensures ok { IfOk result (λ answer. IsTotal (K.operations (K.meaning body.now)) self.now.history.journal lo hi answer) }
+        ensures err { IfErr result (λ refusal. range_refusal self.now.history.journal lo hi ≡ Some refusal) }
+    {
+        lv_reduce::fold_elements(&self.cells, body, lo, hi)
     }
 
     /// The running folds of the elements from index `lo` up to `hi`, each with its own. Refused with `BadRange`, `OutOfRange`,

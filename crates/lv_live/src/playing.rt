@@ -1,37 +1,37 @@
 ghost use Rattle.std.specs.Prelude.{◌≡◌, ◌+◌, ◌≤◌, ◌<◌, [], ◌∷◌, ◌++◌, List, length, vec_capacity, vec_len};
 ghost use Rattle.lv_refresh.specs.Carried.{Carried};
-ghost use Rattle.lv_live.specs.State.{IsWorld, SameSetting, job_at, recorded, with_issued};
+ghost use Rattle.lv_live.specs.State.{IsWorld, SameSetting, recorded, with_issued};
 ghost use Rattle.lv_live.specs.Step.{Run, Scans, Step};
 ghost use Rattle.lv_live.specs.declared.events.Event.TheVariants as event;
 
 use crate::events::Event;
+use crate::issued::Issued;
 use crate::live::Live;
 use crate::replies::Reply;
 use lv_bodies::Body;
 use lv_edits::Edit;
 use lv_geometry::Refusal;
 use lv_reduce::Scan;
-use lv_refresh::Job;
 use std::alloc::Global;
 
 /// Plays events in turn, and puts the reply to each after the replies. The room was made before.
 pub fn play<B: Body>(
     alloc: Global,
     live: &mut Live<B>,
-    jobs: &mut Vec<Job<B>>,
+    issued: &mut Issued<B>,
     events: &[Event],
     replies: &mut Vec<Reply<B::S>>,
 )
-    requires world { IsWorld (B.operations (B.meaning live.old.body)) live.old jobs.old.items }
-    requires jobs { vec_len jobs.old + length events.now ≤ vec_capacity jobs.old }
+    requires world { IsWorld (B.operations (B.meaning live.old.body)) live.old issued.old.jobs }
+    requires issued { length events.now ≤ issued.old.room }
     requires replies { vec_len replies.old + length events.now ≤ vec_capacity replies.old }
     ensures run { (said : List (Reply B.S)) × (replies.new.items ≡ replies.old.items ++ said)
-        × Run (B.operations (B.meaning live.old.body)) live.old.history.limits (with_issued live.old jobs.old.items) events.now said (with_issued live.new jobs.new.items) }
-    ensures world { IsWorld (B.operations (B.meaning live.old.body)) live.new jobs.new.items }
+        × Run (B.operations (B.meaning live.old.body)) live.old.history.limits (with_issued live.old issued.old.jobs) events.now said (with_issued live.new issued.new.jobs) }
+    ensures world { IsWorld (B.operations (B.meaning live.old.body)) live.new issued.new.jobs }
     ensures setting { SameSetting live.old live.new }
 {
     for event in events {
-        let reply = play_one(alloc, live, jobs, *event);
+        let reply = play_one(alloc, live, issued, *event);
         replies.push_reserved(reply);
     }
 }
@@ -40,22 +40,21 @@ pub fn play<B: Body>(
 fn play_one<B: Body>(
     alloc: Global,
     live: &mut Live<B>,
-    jobs: &mut Vec<Job<B>>,
+    issued: &mut Issued<B>,
     event: Event,
 ) -> Reply<B::S>
-    requires world { IsWorld (B.operations (B.meaning live.old.body)) live.old jobs.old.items }
-    requires room { vec_len jobs.old < vec_capacity jobs.old }
-    ensures step { Step (B.operations (B.meaning live.old.body)) live.old.history.limits (with_issued live.old jobs.old.items) event result (with_issued live.new jobs.new.items) }
-    ensures world { IsWorld (B.operations (B.meaning live.old.body)) live.new jobs.new.items }
+    requires world { IsWorld (B.operations (B.meaning live.old.body)) live.old issued.old.jobs }
+    requires room { 0 < issued.old.room }
+    ensures step { Step (B.operations (B.meaning live.old.body)) live.old.history.limits (with_issued live.old issued.old.jobs) event result (with_issued live.new issued.new.jobs) }
+    ensures world { IsWorld (B.operations (B.meaning live.old.body)) live.new issued.new.jobs }
     ensures setting { SameSetting live.old live.new }
-    ensures capacity { vec_capacity jobs.old ≤ vec_capacity jobs.new }
-    ensures len { vec_len jobs.new ≤ vec_len jobs.old + 1 }
+    ensures room { issued.old.room ≤ issued.new.room + 1 }
 {
     match event {
         Event::Edit(edit) => play_edit(live, edit),
         Event::Settle => play_settle(live),
-        Event::Claim => play_claim(live, jobs),
-        Event::Deliver(k) => play_delivery(live, jobs, k),
+        Event::Claim => play_claim(live, issued),
+        Event::Deliver(k) => play_delivery(live, issued, k),
         Event::Forget => play_forget(live),
         Event::Reduce { lo, hi } => play_reduction(live, lo, hi),
         Event::Scan { lo, hi, inclusive } => play_scan(alloc, live, lo, hi, inclusive),
@@ -85,44 +84,35 @@ fn play_settle<B: Body>(live: &mut Live<B>) -> Reply<B::S>
 }
 
 // Claims a job, and keeps it under its number.
-fn play_claim<B: Body>(live: &mut Live<B>, jobs: &mut Vec<Job<B>>) -> Reply<B::S>
-    requires room { vec_len jobs.old < vec_capacity jobs.old }
-    ensures step { Step (B.operations (B.meaning live.old.body)) live.old.history.limits (with_issued live.old jobs.old.items) event.Claim result (with_issued live.new jobs.new.items) }
-    ensures world { IsWorld (B.operations (B.meaning live.old.body)) live.old jobs.old.items → IsWorld (B.operations (B.meaning live.old.body)) live.new jobs.new.items }
+fn play_claim<B: Body>(live: &mut Live<B>, issued: &mut Issued<B>) -> Reply<B::S>
+    requires room { 0 < issued.old.room }
+    ensures step { Step (B.operations (B.meaning live.old.body)) live.old.history.limits (with_issued live.old issued.old.jobs) event.Claim result (with_issued live.new issued.new.jobs) }
+    ensures world { IsWorld (B.operations (B.meaning live.old.body)) live.old issued.old.jobs → IsWorld (B.operations (B.meaning live.old.body)) live.new issued.new.jobs }
     ensures setting { SameSetting live.old live.new }
-    ensures capacity { vec_capacity jobs.old ≤ vec_capacity jobs.new }
-    ensures len { vec_len jobs.new ≤ vec_len jobs.old + 1 }
+    ensures room { issued.old.room ≤ issued.new.room + 1 }
 {
     let Some(job) = live.claim() else {
         return Reply::Idle;
     };
     let (node, version) = (job.node(), job.version());
-    jobs.push_reserved(job);
     Reply::Claimed {
-        job: jobs.len() as u64,
+        job: issued.keep(job),
         node,
         version,
     }
 }
 
 // Delivers the outcome of a job.
-fn play_delivery<B: Body>(live: &mut Live<B>, jobs: &[Job<B>], k: u64) -> Reply<B::S>
-    requires world { IsWorld (B.operations (B.meaning live.old.body)) live.old jobs.now }
-    ensures step { Step (B.operations (B.meaning live.old.body)) live.old.history.limits (with_issued live.old jobs.now) (event.Deliver k) result (with_issued live.new jobs.now) }
-    ensures world { IsWorld (B.operations (B.meaning live.old.body)) live.new jobs.now }
+fn play_delivery<B: Body>(live: &mut Live<B>, issued: &Issued<B>, k: u64) -> Reply<B::S>
+    requires world { IsWorld (B.operations (B.meaning live.old.body)) live.old issued.now.jobs }
+    ensures step { Step (B.operations (B.meaning live.old.body)) live.old.history.limits (with_issued live.old issued.now.jobs) (event.Deliver k) result (with_issued live.new issued.now.jobs) }
+    ensures world { IsWorld (B.operations (B.meaning live.old.body)) live.new issued.now.jobs }
     ensures setting { SameSetting live.old live.new }
 {
-    match job_of_number(jobs, k) {
-        Some(job) => Reply::Gave(live.accept(job.run())),
+    match issued.outcome(k) {
+        Some(outcome) => Reply::Gave(live.accept(outcome)),
         None => Reply::Refused(Refusal::NoJob),
     }
-}
-
-// The job of a number, counted from 1, if there is one.
-fn job_of_number<B: Body>(jobs: &[Job<B>], k: u64) -> Option<Job<B>>
-    ensures { result ≡ job_at jobs.now k }
-{
-    jobs.get(k.checked_sub(1)? as usize).copied()
 }
 
 // Forgets all claims.

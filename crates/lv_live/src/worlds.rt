@@ -1,15 +1,15 @@
-ghost use Rattle.std.specs.Prelude.{◌≡◌, ◌+◌, ◌≤◌, None, [], length, IfOk, IfErr, OnErr, vec_capacity, vec_len};
+ghost use Rattle.std.specs.Prelude.{◌≡◌, ◌+◌, ◌≤◌, None, [], length, IfOk, IfErr, OnErr};
 ghost use Rattle.lv_geometry.specs.declared.nodes.Node.{Node};
 ghost use Rattle.lv_live.specs.State.{SameSetting, world_record};
 ghost use Rattle.lv_live.specs.Step.{Run};
 
 use crate::events::Event;
+use crate::issued::Issued;
 use crate::live::Live;
 use crate::playing::play;
 use crate::replies::Reply;
 use lv_bodies::Body;
 use lv_geometry::{Limits, Refusal};
-use lv_refresh::Job;
 use std::alloc::Global;
 use std::marker::Model;
 
@@ -17,7 +17,7 @@ use std::marker::Model;
 #[derive(Drop)]
 pub struct World<B: Body> {
     live: Live<B>,
-    jobs: Vec<Job<B>>,
+    issued: Issued<B>,
 }
 
 impl<B: Body> Model for World<B> {
@@ -25,9 +25,9 @@ impl<B: Body> Model for World<B> {
 
     ghost Value = { WorldState B B.S };
 
-    ghost view = { λ a. record { live = a.live; jobs = a.jobs.items } };
+    ghost view = { λ a. record { live = a.live; jobs = a.issued.jobs } };
 
-    ghost invariant = { λ a. IsWorld (B.operations (B.meaning a.live.body)) a.live a.jobs.items };
+    ghost invariant = { λ a. IsWorld (B.operations (B.meaning a.live.body)) a.live a.issued.jobs };
 }
 
 impl<B: Body> World<B> {
@@ -41,7 +41,7 @@ impl<B: Body> World<B> {
     {
         World {
             live: Live::new(alloc, limits, body),
-            jobs: Vec::new(alloc),
+            issued: Issued::new(alloc),
         }
     }
 
@@ -72,13 +72,13 @@ pub fn run<B: Body>(
     let Ok(mut replies) = Vec::with_capacity(alloc, events.len()) else {
         return Err(Refusal::NoMemory);
     };
-    let Ok(()) = world.jobs.reserve(events.len()) else {
+    let Ok(()) = world.issued.make_room(events.len()) else {
         return Err(Refusal::NoMemory);
     };
     play(
         alloc,
         &mut world.live,
-        &mut world.jobs,
+        &mut world.issued,
         events,
         &mut replies,
     );

@@ -23,7 +23,6 @@ use Rattle.lv_reduce.proofs.NodeLaws.{cell_fits, first_of_aligned}
 use Rattle.lv_reduce.proofs.PieceLaws.{slice-joined, slice-nothing, slice-within, slices_can_join}
 use Rattle.lv_reduce.proofs.UsedLaws.{top_parts, used_parts}
 use Rattle.lv_reduce.proofs.Walk.{IsWalk, first_top, no_top_here, top_in_node, walk_cell, walk_ends, walk_node, walk_starts}
-use Rattle.lv_reduce.proofs.Zeros.{width_in_twos}
 
 -- every node is one of those that the walk goes over
 abbrev pub any_node : Node → Bool
@@ -53,10 +52,6 @@ node_whole t at hi level low high fits inside =
     let first = first_of_aligned level at fits.begins in
     and_from (is_node (over level at)) (is_below (over level at) t.size) (node_of_level (over level at) low high)
     (le-leb _ _ (omega (arith, fits.ends)))
-
--- it has the number that a shift finds
-pub node_by_shift : (at level : ℕ) → record { level = level; number = at / 2 ^ (3 * level) } ≡ over level at
-node_by_shift at level = ap (λ w. record { level = level; number = at / w }) (sym (width_in_twos level))
 
 -- the elements of such a node are those from the index on
 node_elements : (edits : List Edit) (at level : ℕ) → at % 8 ^ level ≡ 0 → cells_of edits (over level at) ≡ slice_range (list_of edits) at (at + 8 ^ level)

@@ -1,5 +1,5 @@
 -- The greatest fresh node that begins at an index, looked for from the greatest level that fits on down.
-use Rattle.std.proofs.Common.{◌≡◌, ℕ, ◌-◌, ◌*◌, ◌/◌, ◌^◌, ◌≤◌, true, false, Option, None, sym, ap, ◌∙◌, inl, inr, arith}
+use Rattle.std.proofs.Common.{◌≡◌, ℕ, ◌-◌, ◌≤◌, true, false, None, sym, ap, ◌∙◌, inl, inr, arith}
 use Rattle.std.proofs.lemmas.Bool.{cases_Bool, cases_lt}
 use Rattle.std.proofs.lemmas.Option.{none-some}
 use Rattle.lv_geometry.specs.declared.nodes.Node.{Node}
@@ -7,14 +7,8 @@ use Rattle.lv_geometry.specs.Nodes.{over}
 use Rattle.lv_summary.specs.Table.{Table, entry_in, fresh_in}
 use Rattle.lv_summary.proofs.TableLaws.{entry_of_fresh, fresh_of_entry}
 use Rattle.lv_reduce.specs.Pieces.{IsGreatestFresh, NoneFresh}
-use Rattle.lv_reduce.proofs.Zeros.{width_in_twos}
 
 module _ {S : Type 0} (t : Table S) where
-  -- the node of a level over an index has the number that a shift finds
-  pub entry_by_shift : (at level : ℕ) (entry : Option S) → entry ≡ entry_in t record { level = level; number = at / 2 ^ (3 * level) } → entry_in t (over level at) ≡ entry
-  entry_by_shift at level entry is =
-      ap (λ w. entry_in t record { level = level; number = at / w }) (width_in_twos level) ∙ sym is
-
   -- a node with no entry isn't fresh
   pub stale_of_none : (n : Node) → entry_in t n ≡ None → fresh_in t n ≡ false
   stale_of_none n none =

@@ -5,9 +5,9 @@ use Rattle.std.proofs.lemmas.Nat.{div-add-mod', mul-le}
 use Rattle.std.proofs.Math.Nat.{add-mod_right, div-eq_of_lt-le, div-mul-le_self, lt-div-mul-add, mul-mod_left}
 use Rattle.std.proofs.Math.Pow.{pow_mono}
 use Rattle.lv_geometry.specs.Nodes.{first_index, over}
-use Rattle.lv_geometry.proofs.NodeLaws.{some_width}
+use Rattle.lv_geometry.proofs.NodeLaws.{some_width, width_in_twos}
 use Rattle.lv_reduce.specs.Pieces.{Fits}
-use Rattle.lv_reduce.proofs.Zeros.{lesser_power, width_in_twos}
+use Rattle.lv_reduce.proofs.Zeros.{lesser_power}
 
 -- a lesser level is no wider
 pub no_wider : (lesser level : ℕ) → lesser ≤ level → 8 ^ lesser ≤ 8 ^ level

@@ -104,6 +104,12 @@ module _ {S : Type 0} (o : Operations S) where
   pub reached-append : (s : S) (xs ys : List ℤ) → reached o s (xs ++ ys) ≡ reached o (reached o s xs) ys
   reached-append s xs ys = fold-append (λ t x. o.join t (o.lift x)) s xs ys
 
+  -- and so does a scan
+  pub scan_from-append : (inclusive : Bool) (s : S) (xs ys : List ℤ) → scan_from inclusive o s (xs ++ ys) ≡ scan_from inclusive o s xs ++ scan_from inclusive o (reached o s xs) ys
+  scan_from-append inclusive s [] ys = refl
+  scan_from-append inclusive s (x ∷ xs) ys =
+      ap (λ zs. (if inclusive then o.join s (o.lift x) else s) ∷ zs) (scan_from-append inclusive (o.join s (o.lift x)) xs ys)
+
   -- so is the beginning of each so many pieces
   front_pieces : (inclusive : Bool) (size : ℕ) (xs : List ℤ) (ys : List S) → length ys ≡ length xs → ((n : ℕ) → n * size < length xs → take size (drop (n * size) ys) ≡ scan_from inclusive o (fold_of o (take (n * size) xs)) (take size (drop (n * size) xs))) → (n : ℕ) → take (n * size) ys ≡ scan_of inclusive o (take (n * size) xs)
   front_pieces inclusive size xs ys same each zero =

@@ -1,13 +1,13 @@
 -- How far a number is aligned, by the zeros at its end.
 use Rattle.std.proofs.Common.{◌≡◌, ℕ, zero, suc, ◌+◌, ◌-◌, ◌*◌, ◌/◌, ◌%◌, ◌^◌, ◌<◌, ◌≤◌, refl, sym, ap, ◌∙◌, inl, inr, arith}
 use Rattle.std.proofs.lemmas.Bool.{cases_lt}
-use Rattle.std.proofs.lemmas.Nat.{mod-pow-add, one_shl, pow-add, pow_pos}
+use Rattle.std.proofs.lemmas.Nat.{mod-pow-add, pow-add, pow_pos}
 use Rattle.std.proofs.lemmas.Nat.Bits.{bit_at-trailing_zeros}
-use Rattle.std.proofs.Math.Nat.{pow-suc, zero-mod}
+use Rattle.std.proofs.Math.Nat.{zero-mod}
 use Rattle.std.proofs.Math.Pow.{pow_mono}
 use Rattle.std.specs.Int.{bit_at, trailing_zeros, w32}
 use Rattle.std.specs.Int.Count.{trailing_of_zero}
-use Rattle.lv_geometry.proofs.HighestBits.{times_eight}
+use Rattle.lv_geometry.proofs.NodeLaws.{width_in_twos}
 use Rattle.lv_reduce.specs.Pieces.{Fits}
 
 -- a number is its multiple of 2 ^ k, its bit k, and the rest
@@ -51,13 +51,6 @@ zeros_by_aligned n j fits small aligned =
       | inr none ↦ let is : n ≡ 0 = omega arith in omega (arith, ap (trailing_zeros w32) is, trailing_of_zero 32)
     ]
 
--- the width of a level is so many twos
-pub width_in_twos : (level : ℕ) → 8 ^ level ≡ 2 ^ (3 * level)
-width_in_twos zero = refl
-width_in_twos (suc level) =
-    let next : 3 * suc level ≡ 3 * level + 3 = omega arith in
-    pow-suc 8 level ∙ ap (λ w. w * 8) (width_in_twos level) ∙ omega (arith, times_eight (3 * level)) ∙ ap (λ k. 2 ^ k) (sym next)
-
 -- a level whose twos are as many as the zeros at the end of an index, and no more than the highest bit of what is left
 -- of the range, fits there
 pub fits_by_bits : (at hi highest level : ℕ) → at < hi → hi < 2 ^ 32 → 2 ^ highest ≤ hi - at → 3 * level ≤ trailing_zeros w32 at → 3 * level ≤ highest → Fits at hi level
@@ -81,7 +74,3 @@ bits_by_fits at hi highest level some small next low fits =
         | inr no_more ↦ no_more
       ],
     )
-
--- one shifted by three places for each level is the width of the level
-pub width_by_shift : (level : ℕ) → level ≤ 6 → 1 * 2 ^ (3 * level) % 2 ^ 32 ≡ 8 ^ level
-width_by_shift level low = one_shl (3 * level) 32 (omega arith) ∙ sym (width_in_twos level)

@@ -5,11 +5,11 @@ ghost use Rattle.lv_summary.specs.Table.{OnlyLearns, known_in, whole_in};
 ghost use Rattle.lv_reduce.specs.Answer.{IsAnswer, range_refusal};
 ghost use Rattle.lv_reduce.specs.Asked.{AreTopsKnown, IsFewAsked, Knows};
 
-use crate::reductions::{Answer, greatest_level, join, width};
+use crate::reductions::{Answer, greatest_level, join};
 use crate::views::refusal_of;
 use lv_bodies::{Body, fold_more, fold_slice};
 use lv_edits::Edits;
-use lv_geometry::{Node, Refusal};
+use lv_geometry::{Node, Refusal, width};
 use lv_summary::Summaries;
 
 /// The summary of a node, and how many cells and summaries were read for it.
@@ -54,8 +54,7 @@ pub fn ask<B: Body>(
             at += 1;
             cells_read += 1;
         } else {
-            let number = at >> (3 * level);
-            let known = know(cells, table, body, Node { level, number });
+            let known = know(cells, table, body, Node::over(level, at));
             value = join(body, value, known.summary);
             at += width(level);
             cells_read += known.cells_read;
@@ -92,11 +91,7 @@ fn know<B: Body>(cells: &Edits, table: &mut Summaries<B::S>, body: &B, node: Nod
     let mut cells_read = 0;
     let mut summaries_read = 0;
     for k in 0..8 {
-        let child = Node {
-            level: node.level - 1,
-            number: 8 * node.number + k,
-        };
-        let known = know(cells, table, body, child);
+        let known = know(cells, table, body, node.child(k));
         summary = join(body, summary, known.summary);
         cells_read += known.cells_read;
         summaries_read += known.summaries_read;

@@ -8,16 +8,16 @@ mod rows;
 mod slices;
 
 use crate::scans::{Scan, running_folds};
-use crate::stretches::Stretch;
 use crate::values::Values;
 use crate::views::{View, refusal_of};
 use halves::{LEAST_FOLD, LEAST_SCAN, fold_halved, halvings};
 use lv_bodies::Body;
 use lv_edits::Edits;
 use lv_geometry::Refusal;
-use rows::Row;
+use rows::Part;
+pub use rows::{Row, fold_range};
 pub use slices::scan_alone;
-use slices::scan_slice;
+use slices::{scan_part, scan_slice};
 use std::alloc::{AllocError, Global};
 use std::thread::Threads;
 
@@ -103,18 +103,19 @@ pub fn copy_range(alloc: Global, cells: &Edits, lo: u32, hi: u32) -> Result<Vec<
     let mut xs = Vec::with_capacity(alloc, (hi - lo) as usize)?;
     let mut at = lo;
     while at < hi {
-        if at % 8 == 0 && hi - at >= 8 {
-            xs.extend_from_slice(&cells.block(at / 8))?;
-            at += 8;
-        } else {
+        let run = cells.stretch(at, hi);
+        if run.is_empty() {
             xs.push_reserved(cells.read(at));
             at += 1;
+        } else {
+            xs.extend_from_slice(run)?;
+            at += run.len() as u32;
         }
     }
     Ok(xs)
 }
 
-// One of the two scans of a range: where the elements lie, by one thread, or on a copy of them by as many threads as pay.
+// One of the two scans of a range, where the elements lie, by as many threads as pay.
 fn scan_range<R: Threads + Sync, B: Body>(
     rt: &R,
     alloc: Global,
@@ -128,9 +129,19 @@ fn scan_range<R: Threads + Sync, B: Body>(
         (scan_of inclusive (B.operations (B.meaning body.now)) (slice_of view.entry.cells.now.journal lo hi)) scan) }
     ensures err { IfErr result (λ refusal. IsScanRefusal view.entry.cells.now.journal lo hi refusal) }
 {
-    if halvings(rt, body, hi.saturating_sub(lo), LEAST_SCAN) == 0 {
+    let depth = halvings(rt, body, hi.saturating_sub(lo), LEAST_SCAN);
+    if depth == 0 {
         return running_folds(alloc, view, body, lo, hi, inclusive);
     }
-    let stretch = Stretch::copy(alloc, view.cells, *body, lo, hi)?;
-    stretch.scan(rt, alloc, inclusive)
+    if let Some(refusal) = refusal_of(view.cells, lo, hi) {
+        return Err(refusal);
+    }
+    let row = Row::Cells(view.cells);
+    let Ok(values) = scan_part(rt, alloc, Part { row, lo, hi }, body, inclusive, depth) else {
+        return Err(Refusal::NoMemory);
+    };
+    Ok(Scan {
+        edit: view.cells.edit(),
+        values: Values::from_vec(values),
+    })
 }

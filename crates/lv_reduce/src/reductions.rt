@@ -8,7 +8,7 @@ ghost use Rattle.lv_reduce.specs.Pieces.{Fits, IsGreatestFresh, NoneFresh};
 
 use crate::views::{View, refusal_of};
 use lv_bodies::{Body, fold_more};
-use lv_geometry::{Node, Refusal};
+use lv_geometry::{Node, Refusal, width};
 use lv_summary::Summaries;
 
 /// The answer to a reduction: the number of the last edit, the fold of the range's elements, and how many cells and
@@ -76,8 +76,7 @@ fn greatest_fresh<S: Copy>(table: &Summaries<S>, at: u32, hi: u32) -> Option<Pie
     ensures none { IfNone result (NoneFresh (fresh_in table.now) at hi 0) }
 {
     for level in (1..=greatest_level(at, hi)).rev() {
-        let number = at >> (3 * level);
-        if let Some(summary) = table.entry(Node { level, number }) {
+        if let Some(summary) = table.entry(Node::over(level, at)) {
             return Some(Piece { level, summary });
         }
     }
@@ -93,15 +92,6 @@ pub fn greatest_level(at: u32, hi: u32) -> u32
     ensures greatest { (level : ℕ) → level ≤ 6 → Fits at hi level → level ≤ result }
 {
     at.trailing_zeros().min((hi - at).ilog2()).min(18) / 3
-}
-
-/// How many indices a node of a level has.
-#[inline(always)]
-pub fn width(level: u32) -> u32
-    requires { level ≤ 6 }
-    ensures { result ≡ 8 ^ level }
-{
-    1 << (3 * level)
 }
 
 /// A fold with the fold of what follows joined at its end.

@@ -70,14 +70,14 @@ pub fn running_folds<B: Body>(
     let mut sum = body.identity();
     let mut at = lo;
     while at < hi {
-        if at % 8 == 0 && hi - at >= 8 {
-            let block = view.cells.block(at / 8);
-            sum = push_folds(body, inclusive, sum, &block, &mut values);
-            at += 8;
-        } else {
+        let run = view.cells.stretch(at, hi);
+        if run.is_empty() {
             let cell = [view.cells.read(at)];
             sum = push_folds(body, inclusive, sum, &cell, &mut values);
             at += 1;
+        } else {
+            sum = push_folds(body, inclusive, sum, run, &mut values);
+            at += run.len() as u32;
         }
     }
     Ok(Scan {

@@ -1,6 +1,7 @@
 -- What the fields of the crate's types keep, and how one level of claims is seen and changed.
 use Rattle.std.specs.Prelude.{◌≡◌, ℕ, ◌+◌, ◌-◌, ◌*◌, ◌^◌, ◌<◌, ◌≤◌, Bool, true, false, ◌&&◌, ◌||◌, not, Option, Some, None, List, [], ◌∷◌, ◌++◌, length, replicate, slice_get, slice_index, slice_set, sum, nat_eq, if◌then◌else◌}
 use Rattle.std.specs.List.{list_all, range_with_len, slice_index_or}
+use Rattle.lv_geometry.specs.declared.levels.Levels.{Levels}
 use Rattle.lv_geometry.specs.declared.nodes.Node.{Node}
 use Rattle.lv_geometry.specs.Nodes.{child, is_node, same_node}
 use Rattle.lv_edits.specs.declared.edit.Edit.{Edit}
@@ -26,8 +27,8 @@ pub record ClaimShelf : Type 0 where
   pub capacity : ℕ
 
 -- claims of six levels
-abbrev pub claims_of : ClaimRows → ClaimRows → ClaimRows → ClaimRows → ClaimRows → ClaimRows → ClaimTable
-claims_of l1 l2 l3 l4 l5 l6 = record { levels = l1 ∷ l2 ∷ l3 ∷ l4 ∷ l5 ∷ l6 ∷ [] }
+abbrev pub claims_of : Levels ClaimShelf → ClaimTable
+claims_of of = record { levels = of.level_1.rows ∷ of.level_2.rows ∷ of.level_3.rows ∷ of.level_4.rows ∷ of.level_5.rows ∷ of.level_6.rows ∷ [] }
 
 -- every index of the blocks has its row, and every row its hint
 pub record IsClaimLevel (blocks level : ℕ) (rows : ClaimRows) : Type 0 where

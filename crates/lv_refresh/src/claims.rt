@@ -17,7 +17,7 @@ use crate::level::Level;
 use crate::wants::wants;
 use lv_bodies::Body;
 use lv_edits::Edits;
-use lv_geometry::{Node, Refusal};
+use lv_geometry::{Levels, Node, Refusal, parents_of};
 use lv_summary::Summaries;
 use std::alloc::Global;
 use std::marker::Model;
@@ -26,12 +26,7 @@ use std::marker::Model;
 /// touch and install, so that every node that wants a job is hinted at; a hint at any other node is only looked at.
 #[derive(Drop)]
 pub struct Claims {
-    level_1: Level,
-    level_2: Level,
-    level_3: Level,
-    level_4: Level,
-    level_5: Level,
-    level_6: Level,
+    levels: Levels<Level>,
 }
 
 impl Model for Claims {
@@ -40,9 +35,9 @@ impl Model for Claims {
 
     ghost Value = { ClaimTable };
 
-    ghost view = { λ a. claims_of a.level_1.rows a.level_2.rows a.level_3.rows a.level_4.rows a.level_5.rows a.level_6.rows };
+    ghost view = { λ a. claims_of a.levels };
 
-    ghost invariant = { λ a. AreClaims (claims_of a.level_1.rows a.level_2.rows a.level_3.rows a.level_4.rows a.level_5.rows a.level_6.rows) };
+    ghost invariant = { λ a. AreClaims (claims_of a.levels) };
 }
 
 impl Claims {
@@ -52,12 +47,14 @@ impl Claims {
         ensures claimed { (n : Node) → claimed_in result n ≡ None }
     {
         Claims {
-            level_1: Level::new(alloc),
-            level_2: Level::new(alloc),
-            level_3: Level::new(alloc),
-            level_4: Level::new(alloc),
-            level_5: Level::new(alloc),
-            level_6: Level::new(alloc),
+            levels: Levels {
+                level_1: Level::new(alloc),
+                level_2: Level::new(alloc),
+                level_3: Level::new(alloc),
+                level_4: Level::new(alloc),
+                level_5: Level::new(alloc),
+                level_6: Level::new(alloc),
+            },
         }
     }
 
@@ -71,23 +68,23 @@ impl Claims {
         ensures err { IfErr result (λ refusal. refusal ≡ Refusal.NoMemory) }
         ensures unchanged { OnErr result (self.new ≡ self.old) }
     {
-        let rows_2 = blocks.div_ceil(8);
-        let rows_3 = rows_2.div_ceil(8);
-        let rows_4 = rows_3.div_ceil(8);
-        let rows_5 = rows_4.div_ceil(8);
-        let rows_6 = rows_5.div_ceil(8);
-        self.level_1.reserve(blocks)?;
-        self.level_2.reserve(rows_2)?;
-        self.level_3.reserve(rows_3)?;
-        self.level_4.reserve(rows_4)?;
-        self.level_5.reserve(rows_5)?;
-        self.level_6.reserve(rows_6)?;
-        self.level_1.fill(blocks);
-        self.level_2.fill(rows_2);
-        self.level_3.fill(rows_3);
-        self.level_4.fill(rows_4);
-        self.level_5.fill(rows_5);
-        self.level_6.fill(rows_6);
+        let rows_2 = parents_of(blocks);
+        let rows_3 = parents_of(rows_2);
+        let rows_4 = parents_of(rows_3);
+        let rows_5 = parents_of(rows_4);
+        let rows_6 = parents_of(rows_5);
+        self.levels.level_1.reserve(blocks)?;
+        self.levels.level_2.reserve(rows_2)?;
+        self.levels.level_3.reserve(rows_3)?;
+        self.levels.level_4.reserve(rows_4)?;
+        self.levels.level_5.reserve(rows_5)?;
+        self.levels.level_6.reserve(rows_6)?;
+        self.levels.level_1.fill(blocks);
+        self.levels.level_2.fill(rows_2);
+        self.levels.level_3.fill(rows_3);
+        self.levels.level_4.fill(rows_4);
+        self.levels.level_5.fill(rows_5);
+        self.levels.level_6.fill(rows_6);
         Ok(())
     }
 
@@ -96,7 +93,7 @@ impl Claims {
         ensures value { result ≡ claim_blocks self.now }
         ensures bound { result ≤ 131071 }
     {
-        self.level_1.rows() as u32
+        self.levels.level_1.rows() as u32
     }
 
     /// Hears that an edit touched index `i`, so that every node that has it may want a job.
@@ -107,12 +104,12 @@ impl Claims {
         ensures hints { (n : Node) → is_hinted self.new n ≡ ((is_node n && covers n i) || is_hinted self.old n) }
         ensures blocks { claim_blocks self.new ≡ claim_blocks self.old }
     {
-        self.level_1.hint(i / 8);
-        self.level_2.hint(i / 64);
-        self.level_3.hint(i / 512);
-        self.level_4.hint(i / 4096);
-        self.level_5.hint(i / 32768);
-        self.level_6.hint(i / 262144);
+        self.levels.level_1.hint(i / 8);
+        self.levels.level_2.hint(i / 64);
+        self.levels.level_3.hint(i / 512);
+        self.levels.level_4.hint(i / 4096);
+        self.levels.level_5.hint(i / 32768);
+        self.levels.level_6.hint(i / 262144);
     }
 
     /// Hears that a summary was installed for a node, so that its parent may want a job.
@@ -134,14 +131,9 @@ impl Claims {
         requires inside { is_below node (8 * claim_blocks self.old) ≡ true }
         ensures { HintsNode self.old self.new (parent node) }
     {
-        let number = node.number / 8;
-        match node.level {
-            1 => self.level_2.hint(number),
-            2 => self.level_3.hint(number),
-            3 => self.level_4.hint(number),
-            4 => self.level_5.hint(number),
-            5 => self.level_6.hint(number),
-            _ => {}
+        let above = node.parent();
+        if above.level <= 6 {
+            self.levels.at_mut(above.level).hint(above.number);
         }
     }
 
@@ -151,12 +143,12 @@ impl Claims {
         ensures hints { (n : Node) → is_node n ≡ true → is_below n (8 * claim_blocks self.old) ≡ true → is_hinted self.new n ≡ true }
         ensures blocks { claim_blocks self.new ≡ claim_blocks self.old }
     {
-        self.level_1.forget();
-        self.level_2.forget();
-        self.level_3.forget();
-        self.level_4.forget();
-        self.level_5.forget();
-        self.level_6.forget();
+        self.levels.level_1.forget();
+        self.levels.level_2.forget();
+        self.levels.level_3.forget();
+        self.levels.level_4.forget();
+        self.levels.level_5.forget();
+        self.levels.level_6.forget();
     }
 
     /// The job of the least node that wants one, by level and then by number, which is claimed with it; none where no
@@ -219,22 +211,22 @@ impl Claims {
         requires grown { table.now.size ≤ 8 * claim_blocks self.old }
         ensures { ServesNext table.now self.old self.new result }
     {
-        if let Some(next) = next_of(&mut self.level_1, 1, table) {
+        if let Some(next) = next_of(&mut self.levels.level_1, 1, table) {
             return Some(next);
         }
-        if let Some(next) = next_of(&mut self.level_2, 2, table) {
+        if let Some(next) = next_of(&mut self.levels.level_2, 2, table) {
             return Some(next);
         }
-        if let Some(next) = next_of(&mut self.level_3, 3, table) {
+        if let Some(next) = next_of(&mut self.levels.level_3, 3, table) {
             return Some(next);
         }
-        if let Some(next) = next_of(&mut self.level_4, 4, table) {
+        if let Some(next) = next_of(&mut self.levels.level_4, 4, table) {
             return Some(next);
         }
-        if let Some(next) = next_of(&mut self.level_5, 5, table) {
+        if let Some(next) = next_of(&mut self.levels.level_5, 5, table) {
             return Some(next);
         }
-        next_of(&mut self.level_6, 6, table)
+        next_of(&mut self.levels.level_6, 6, table)
     }
 }
 

@@ -5,7 +5,6 @@ ghost use Rattle.lv_summary.specs.Agrees.{Agrees};
 ghost use Rattle.lv_summary.specs.Table.{whole_in};
 ghost use Rattle.lv_refresh.specs.Inner.{IsReady};
 
-use crate::gathering::child_of;
 use lv_bodies::{Body, fold_slice};
 use lv_edits::Edits;
 use lv_geometry::Node;
@@ -58,7 +57,7 @@ fn join_children<B: Body>(cells: &Edits, table: &Summaries<B::S>, body: &B, node
     let _size = cells.size();
     let mut sum = body.identity();
     for k in 0..8 {
-        let Some(summary) = table.entry(child_of(node, k)) else {
+        let Some(summary) = table.entry(node.child(k)) else {
             unreachable!()
         };
         sum = body.combine(sum, summary);

@@ -1,4 +1,4 @@
-ghost use Rattle.std.specs.Prelude.{◌≡◌, ℕ, ◌+◌, ◌*◌, ◌^◌, ◌<◌, true, false, slice_get, IfSome, IfNone};
+ghost use Rattle.std.specs.Prelude.{◌≡◌, ℕ, ◌<◌, true, false, slice_get, IfSome, IfNone};
 ghost use Rattle.lv_geometry.specs.Nodes.{child};
 ghost use Rattle.lv_summary.specs.Table.{entry_in, whole_in};
 ghost use Rattle.lv_refresh.specs.Contents.{in_order};
@@ -19,14 +19,14 @@ pub fn children_of<S: Copy>(table: &Summaries<S>, node: Node) -> Option<Eight<S>
     // The size tells that the children's numbers are of 32 bits.
     let _size = table.size();
     Some(Eight {
-        a: table.entry(child_of(node, 0))?,
-        b: table.entry(child_of(node, 1))?,
-        c: table.entry(child_of(node, 2))?,
-        d: table.entry(child_of(node, 3))?,
-        e: table.entry(child_of(node, 4))?,
-        f: table.entry(child_of(node, 5))?,
-        g: table.entry(child_of(node, 6))?,
-        h: table.entry(child_of(node, 7))?,
+        a: table.entry(node.child(0))?,
+        b: table.entry(node.child(1))?,
+        c: table.entry(node.child(2))?,
+        d: table.entry(node.child(3))?,
+        e: table.entry(node.child(4))?,
+        f: table.entry(node.child(5))?,
+        g: table.entry(node.child(6))?,
+        h: table.entry(node.child(7))?,
     })
 }
 
@@ -38,25 +38,12 @@ pub fn are_children_fresh<S: Copy>(table: &Summaries<S>, node: Node) -> bool
 {
     // The size tells that the children's numbers are of 32 bits.
     let _size = table.size();
-    table.fresh(child_of(node, 0))
-        && table.fresh(child_of(node, 1))
-        && table.fresh(child_of(node, 2))
-        && table.fresh(child_of(node, 3))
-        && table.fresh(child_of(node, 4))
-        && table.fresh(child_of(node, 5))
-        && table.fresh(child_of(node, 6))
-        && table.fresh(child_of(node, 7))
-}
-
-/// A child of a node above level 1.
-#[inline(always)]
-pub fn child_of(node: Node, k: u32) -> Node
-    requires above { 1 < node.level }
-    requires fits { 8 * node.number + k < 2 ^ 32 }
-    ensures { result ≡ child node k }
-{
-    Node {
-        level: node.level - 1,
-        number: 8 * node.number + k,
-    }
+    table.fresh(node.child(0))
+        && table.fresh(node.child(1))
+        && table.fresh(node.child(2))
+        && table.fresh(node.child(3))
+        && table.fresh(node.child(4))
+        && table.fresh(node.child(5))
+        && table.fresh(node.child(6))
+        && table.fresh(node.child(7))
 }

@@ -6,6 +6,7 @@
 //! its summary. It installs nothing, and knows nothing of who runs a job, or when.
 #![tactic(auto)]
 
+mod block_jobs;
 mod claims;
 mod computing;
 mod contents;
@@ -16,6 +17,7 @@ mod marks;
 mod outcomes;
 mod wants;
 
+pub use block_jobs::BlockJob;
 pub use claims::Claims;
 pub use computing::Computed;
 pub use contents::{Contents, Eight};

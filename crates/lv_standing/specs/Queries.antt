@@ -1,5 +1,5 @@
 -- Standing queries: what each answers, and which notes an edit sends.
-use Rattle.std.specs.Prelude.{◌≡◌, ◌≢◌, ◌⊎◌, ℕ, Option, Some, None, List, [], ◌∷◌, length, filter, not, nat_lt, if◌then◌else◌}
+use Rattle.std.specs.Prelude.{◌≡◌, ◌≢◌, ◌⊎◌, ℕ, ℤ, Option, Some, None, List, [], ◌∷◌, length, filter, not, nat_lt, if◌then◌else◌}
 use Rattle.std.specs.List.{slice_range}
 use Rattle.std.specs.Str.{bytes_eq}
 use Rattle.lv_geometry.specs.declared.refusals.Refusal.{Refusal}
@@ -9,7 +9,19 @@ use Rattle.lv_bodies.specs.declared.kinds.Shown.{Shown}
 use Rattle.lv_bodies.specs.Plain.{plain_value}
 use Rattle.lv_edits.specs.declared.edit.Edit.{Edit}
 use Rattle.lv_edits.specs.History.{list_of}
+use Rattle.lv_reduce.specs.Answer.{range_refusal, slice_of}
+use Rattle.lv_standing.specs.declared.notes.Answered.{Answered}
 use Rattle.lv_standing.specs.declared.notes.Note.{Note}
+
+-- what is shown of a range at the last edit, by what is shown of a list: nothing refuses the range
+pub record IsShown (plain : List ℤ → Shown) (edits : List Edit) (lo hi : ℕ) (answered : Answered) : Type 0 where
+  pub granted : range_refusal edits lo hi ≡ None
+  pub edit : answered.edit ≡ length edits
+  pub value : answered.value ≡ plain (slice_of edits lo hi)
+
+-- the value of a kind over a range: the plain value of its elements
+abbrev pub IsValue : List Edit → Kind → ℕ → ℕ → Answered → Type 0
+IsValue edits kind = IsShown (plain_value kind) edits
 
 -- a standing query: its name, and the kind and range that it asks for
 pub record Query : Type 0 where

@@ -11,6 +11,7 @@ mod kinds;
 mod names;
 mod notes;
 mod standing;
+mod values;
 mod watches;
 
 pub use names::Name;

@@ -10,15 +10,16 @@ ghost use Rattle.lv_refresh.specs.Claim.{IsNextJob};
 ghost use Rattle.lv_refresh.specs.Delivery.{delivery_of};
 ghost use Rattle.lv_refresh.specs.Honesty.{IsHonest, Vouched};
 ghost use Rattle.lv_live.specs.State.{HasClaim, HasDelivery, HasNoClaims, SameLive, SameRefresh, node_and_version, recorded};
-ghost use Rattle.lv_standing.specs.Queries.{AreNotes, Query, query_of, watch_answer, watch_refusal, without_query};
+ghost use Rattle.lv_standing.specs.Queries.{AreNotes, Query, query_of, watch_answer, watch_refusal, without_query, IsValue};
 
 use crate::changes::{changed_by, pushed_by};
 use crate::kinds::KindSummary;
 use crate::names::Name;
 use crate::notes::{Answered, Note};
+use crate::values::{SHORT, folded};
 use crate::watches::{Watch, ask, count_asked, tell};
 use indexmap::IndexMap;
-use lv_bodies::{Body, Kind, Six};
+use lv_bodies::{Body, Kind, Six, face};
 use lv_edits::{Edit, Receipt};
 use lv_geometry::{Limits, Refusal};
 use lv_live::Live;
@@ -158,6 +159,27 @@ impl Standing {
         ensures limits { InLimits self.new.live.history }
     {
         self.live.ask(lo, hi)
+    }
+
+    /// The value of a kind over the elements from index `lo` up to `hi`. A short range is folded by that kind alone, where its
+    /// elements lie; of a longer one what is computed is kept, as `ask` does. Refused with `BadRange`, then `OutOfRange`. Takes no
+    /// memory.
+    pub fn value(&mut self, kind: Kind, lo: u32, hi: u32) -> Result<Answered, Refusal>
+        ensures ok { IfOk result (λ answered. IsValue self.old.live.history.journal kind lo hi answered) }
+        ensures err { IfErr result (λ refusal. range_refusal self.old.live.history.journal lo hi ≡ Some refusal) }
+        ensures live { SameLive self.old.live self.new.live }
+        ensures learns { OnlyLearns self.old.live.table self.new.live.table }
+        ensures queries { self.new.queries ≡ self.old.queries }
+        ensures limits { InLimits self.new.live.history }
+    {
+        if hi.saturating_sub(lo) <= SHORT {
+            return folded(&self.live, kind, lo, hi);
+        }
+        let answer = self.live.ask(lo, hi)?;
+        Ok(Answered {
+            edit: answer.edit,
+            value: face(kind, answer.value),
+        })
     }
 
     /// The live vector.

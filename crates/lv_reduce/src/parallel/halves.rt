@@ -14,24 +14,26 @@ use std::mem::size_of_val;
 use std::thread;
 use std::thread::Threads;
 
-/// How many bytes of summaries are worth threads where they are folded: with each of the six kinds an element takes about a tenth
-/// of a nanosecond for each byte of a summary, so these take one thread 100 microseconds.
+/// How many bytes of summaries make a part that is worth a thread where they are folded. A thread takes about 10 microseconds to
+/// start and to end, and the second level of halves 15 more; a sum takes 20 microseconds for so many bytes, a best run 25. So two
+/// parts pay from 2 MiB on, and four from 4 MiB on. More parts than processors only cost. The affine map and the automaton take
+/// longer for a byte, and are left to one thread for some 30 and 150 microseconds more.
 pub const LEAST_FOLD: usize = 1 << 20;
 
-/// How many are worth threads where each is kept, as in a scan. Several threads write twice what one writes once, since the room
-/// is filled first, and they copy the elements. That costs more than it saves where a summary is as cheap as a sum.
-pub const LEAST_SCAN: usize = 1 << 24;
+/// How many make a part that is worth a thread where each is kept, as in a scan. One thread has to fill the room first, which is three
+/// quarters of a scan by one thread where summaries are wide; then all threads write it again. So four threads gain little, and
+/// lose where summaries are few: a million sums take one thread half a millisecond.
+pub const LEAST_SCAN: usize = 1 << 23;
 
-/// How often a row of so many elements is halved: not at all where its summaries have fewer bytes than the least that is worth
-/// threads, and else until there are as many parts as processors.
+/// How often a row of so many elements is halved: until a part's summaries have fewer bytes than twice the least that is worth a
+/// thread, or until there are as many parts as processors.
 pub fn halvings<R: Threads, B: Body>(rt: &R, body: &B, len: u32, least: usize) -> u32
+    requires { 0 < least }
     ensures { result < 64 }
 {
     let size = size_of_val(&body.identity());
-    if size.saturating_mul(len as usize) < least {
-        return 0;
-    }
-    current_num_threads(rt).ilog2()
+    let parts = size.saturating_mul(len as usize) / least;
+    parts.min(current_num_threads(rt)).max(1).ilog2()
 }
 
 /// The fold of the elements of a row from index `lo` up to `hi`, which is halved so often.

@@ -17,6 +17,14 @@ pub enum Row<'a> {
     Slice(&'a [i64]),
 }
 
+/// The elements of a row from index `lo` up to `hi`.
+#[derive(Clone, Copy)]
+pub struct Part<'a> {
+    pub row: Row<'a>,
+    pub lo: u32,
+    pub hi: u32,
+}
+
 /// The fold of the elements of a row from index `lo` up to `hi`.
 pub fn fold_range<B: Body>(row: Row<'_>, body: &B, lo: u32, hi: u32) -> B::S
     requires can { CanFold (elements_in row) }
@@ -30,7 +38,7 @@ pub fn fold_range<B: Body>(row: Row<'_>, body: &B, lo: u32, hi: u32) -> B::S
     }
 }
 
-// The fold of a range of a vector, block by block, and cell by cell where it begins or ends inside a block.
+// The fold of a range of a vector, by runs of elements that lie side by side, and cell by cell where a write is pending.
 fn fold_cells<B: Body>(cells: &Edits, body: &B, lo: u32, hi: u32) -> B::S
     requires can { CanFold (list_of cells.now.journal) }
     requires order { lo ≤ hi }
@@ -40,13 +48,13 @@ fn fold_cells<B: Body>(cells: &Edits, body: &B, lo: u32, hi: u32) -> B::S
     let mut sum = body.identity();
     let mut at = lo;
     while at < hi {
-        if at % 8 == 0 && hi - at >= 8 {
-            let block = cells.block(at / 8);
-            sum = fold_on(body, sum, &block);
-            at += 8;
-        } else {
+        let run = cells.stretch(at, hi);
+        if run.is_empty() {
             sum = fold_more(body, sum, cells.read(at));
             at += 1;
+        } else {
+            sum = fold_on(body, sum, run);
+            at += run.len() as u32;
         }
     }
     sum

@@ -1,17 +1,21 @@
-//! The two scans of a slice: as one piece into a new vector, and by several threads into disjoint pieces of one.
-ghost use Rattle.std.specs.Prelude.{◌≡◌, ◌+◌, ◌/◌, ◌%◌, ◌<◌, ◌≤◌, ◌^◌, length, min, take, vec_len, All, IfOk};
+//! The two scans of elements where they lie: as one piece into a new vector, and by several threads into disjoint pieces of one.
+ghost use Rattle.std.specs.Prelude.{◌≡◌, ℕ, ◌+◌, ◌-◌, ◌*◌, ◌%◌, ◌<◌, ◌≤◌, ◌^◌, ◌++◌, length, take, drop, vec_len, All, IfOk};
 ghost use Rattle.std.specs.List.{slice_range};
 ghost use Rattle.lv_geometry.specs.Elements.{IsElement};
 ghost use Rattle.lv_bodies.specs.Body.{CanFold, fold_of};
-ghost use Rattle.lv_reduce.specs.Answer.{scan_of};
-ghost use Rattle.lv_reduce.specs.Running.{AreBefore, AreOfPieces, CanGoOn, scan_from};
+ghost use Rattle.lv_edits.specs.History.{list_of};
+ghost use Rattle.lv_reduce.specs.Answer.{scan_of, slice_of};
+ghost use Rattle.lv_reduce.specs.Rows.{IsPart, elements_of};
+ghost use Rattle.lv_reduce.specs.Running.{AreBefore, AreOfPieces, CanGoOn, reached, scan_from};
 
 use crate::parallel::halves::{LEAST_SCAN, halvings};
+use crate::parallel::rows::{Part, Row, fold_range};
 use crate::reductions::join;
-use lv_bodies::{Body, fold_more, fold_slice};
+use lv_bodies::{Body, fold_more};
+use lv_edits::Edits;
 use rayon::prelude::*;
 use std::alloc::{AllocError, Global};
-use std::thread::{Threads, map_chunks};
+use std::thread::{Threads, map_indices};
 
 /// One of the two scans of a slice, by as many threads as pay.
 pub fn scan_slice<R: Threads + Sync, B: Body>(
@@ -24,19 +28,44 @@ pub fn scan_slice<R: Threads + Sync, B: Body>(
     requires { length xs.now ≤ 2 ^ 20 }
     ensures { IfOk result (λ values. values.items ≡ scan_of inclusive (B.operations (B.meaning body.now)) xs.now) }
 {
-    let depth = halvings(rt, body, xs.len() as u32, LEAST_SCAN);
+    let len = xs.len() as u32;
+    let depth = halvings(rt, body, len, LEAST_SCAN);
     if depth == 0 {
         return scan_alone(alloc, body, xs, inclusive);
     }
-    let size = (xs.len() >> depth) + 1;
-    let befores = befores_of(rt, alloc, body, xs, size)?;
-    let mut values = Vec::with_capacity(alloc, xs.len())?;
-    values.resize(xs.len(), body.identity())?;
+    tell_elements(xs);
+    let part = Part {
+        row: Row::Slice(xs),
+        lo: 0,
+        hi: len,
+    };
+    scan_part(rt, alloc, part, body, inclusive, depth)
+}
+
+/// One of the two scans of a part of a row, in pieces, of which each is folded and then scanned where it lies by a thread of its
+/// own. The part is halved so often.
+pub fn scan_part<R: Threads + Sync, B: Body>(
+    rt: &R,
+    alloc: Global,
+    part: Part<'_>,
+    body: &B,
+    inclusive: bool,
+    depth: u32,
+) -> Result<Vec<B::S>, AllocError>
+    requires part { IsPart part }
+    requires depth { depth < 64 }
+    ensures { IfOk result (λ values. values.items ≡ scan_of inclusive (B.operations (B.meaning body.now)) (elements_of part.entry)) }
+{
+    let len = (part.hi - part.lo) as usize;
+    let size = (len >> depth) + 1;
+    let befores = befores_of(rt, alloc, part, body, size)?;
+    let mut values = Vec::with_capacity(alloc, len)?;
+    values.resize(len, body.identity())?;
     scan_pieces(
         rt,
+        part,
         body,
         inclusive,
-        xs,
         befores.as_slice(),
         size,
         values.as_mut_slice(),
@@ -68,22 +97,32 @@ pub fn scan_alone<B: Body>(
 fn fold_pieces<R: Threads + Sync, B: Body>(
     rt: &R,
     alloc: Global,
+    part: Part<'_>,
     body: &B,
-    xs: &[i64],
     size: usize,
 ) -> Result<Vec<B::S>, AllocError>
-    requires few { length xs.now ≤ 2 ^ 20 }
+    requires part { IsPart part }
     requires size { 0 < size }
-    ensures can { IfOk result (λ folds. CanFold xs.now) }
-    ensures count { IfOk result (λ folds. vec_len folds ≡ length xs.now / size + min 1 (length xs.now % size)) }
-    ensures folds { IfOk result (λ folds. AreOfPieces (B.operations (B.meaning body.now)) size xs.now folds.items) }
+    ensures count { IfOk result (λ folds. length (elements_of part.entry) ≤ vec_len folds * size) }
+    ensures folds { IfOk result (λ folds. AreOfPieces (B.operations (B.meaning body.now)) size (elements_of part.entry) folds.items) }
 {
-    tell_elements(xs);
-    let fold = |_start: usize, cells: &[i64]| -> B::S
-        requires { length cells.now ≤ 2 ^ 20 }
-        ensures { result ≡ fold_of (B.operations (B.meaning body.entry.now)) cells.now }
-    { fold_slice(body, cells) };
-    map_chunks(rt, alloc, xs, size, &fold)
+    let count = ((part.hi - part.lo) as usize).div_ceil(size);
+    let fold = |n: usize| -> B::S
+        requires { IsPart part × (n * size < part.hi - part.lo) }
+        ensures { result ≡ fold_of (B.operations (B.meaning body.entry.now)) (take size (drop (n * size) (elements_of part.entry))) }
+    { fold_piece(part, body, size, n) };
+    map_indices(rt, alloc, count, &fold)
+}
+
+// The fold of the piece of so many elements that has a number.
+fn fold_piece<B: Body>(part: Part<'_>, body: &B, size: usize, n: usize) -> B::S
+    requires part { IsPart part }
+    requires inside { n * size < part.hi - part.lo }
+    ensures { result ≡ fold_of (B.operations (B.meaning body.now)) (take size (drop (n * size) (elements_of part.entry))) }
+{
+    let from = part.lo + (n * size) as u32;
+    let count = size.min((part.hi - from) as usize) as u32;
+    fold_range(part.row, body, from, from + count)
 }
 
 // Tells that the elements of a slice are of 64 bits. No step of it is left where it runs.
@@ -99,16 +138,15 @@ fn tell_elements(xs: &[i64])
 fn befores_of<R: Threads + Sync, B: Body>(
     rt: &R,
     alloc: Global,
+    part: Part<'_>,
     body: &B,
-    xs: &[i64],
     size: usize,
 ) -> Result<Vec<B::S>, AllocError>
-    requires few { length xs.now ≤ 2 ^ 20 }
+    requires part { IsPart part }
     requires size { 0 < size }
-    ensures can { IfOk result (λ befores. CanFold xs.now) }
-    ensures befores { IfOk result (λ befores. AreBefore (B.operations (B.meaning body.now)) size xs.now befores.items) }
+    ensures { IfOk result (λ befores. AreBefore (B.operations (B.meaning body.now)) size (elements_of part.entry) befores.items) }
 {
-    let folds = fold_pieces(rt, alloc, body, xs, size)?;
+    let folds = fold_pieces(rt, alloc, part, body, size)?;
     let mut befores = Vec::with_capacity(alloc, folds.len())?;
     let mut before = body.identity();
     for fold in folds.as_slice() {
@@ -121,68 +159,118 @@ fn befores_of<R: Threads + Sync, B: Body>(
 // Puts the scan of each piece of so many elements where its values belong, by a thread that has the piece.
 fn scan_pieces<R: Threads + Sync, B: Body>(
     rt: &R,
+    part: Part<'_>,
     body: &B,
     inclusive: bool,
-    xs: &[i64],
     befores: &[B::S],
     size: usize,
     values: &mut [B::S],
 )
-    requires can { CanFold xs.now }
-    requires befores { AreBefore (B.operations (B.meaning body.now)) size xs.now befores.now }
-    requires len { length values.old ≡ length xs.now }
+    requires part { IsPart part }
+    requires befores { AreBefore (B.operations (B.meaning body.now)) size (elements_of part) befores.now }
+    requires len { length values.old ≡ part.hi - part.lo }
     requires size { 0 < size }
-    ensures { values.new ≡ scan_of inclusive (B.operations (B.meaning body.now)) xs.now }
+    ensures { values.new ≡ scan_of inclusive (B.operations (B.meaning body.now)) (elements_of part.entry) }
 {
     par_chunks_mut_for_each(
         rt,
         values,
         size,
         |start: usize, piece: &mut [B::S]|
-            requires { CanFold xs.now × AreBefore (B.operations (B.meaning body.now)) size xs.now befores.now × (0 < size) × (start % size ≡ 0) × (0 < length piece.now) × (start + length piece.now ≤ length xs.now) }
-            ensures { piece.exit.now ≡ scan_from inclusive (B.operations (B.meaning body.entry.now)) (fold_of (B.operations (B.meaning body.entry.now)) (take start xs.entry.now)) (slice_range xs.entry.now start (start + length piece.entry.now)) }
-        { scan_piece(body, inclusive, xs, befores, size, start, piece) },
+            requires { IsPart part × AreBefore (B.operations (B.meaning body.now)) size (elements_of part) befores.now × (0 < size) × (start % size ≡ 0) × (0 < length piece.now) × (start + length piece.now ≤ part.hi - part.lo) }
+            ensures { piece.exit.now ≡ scan_from inclusive (B.operations (B.meaning body.entry.now)) (fold_of (B.operations (B.meaning body.entry.now)) (take start (elements_of part.entry))) (slice_range (elements_of part.entry) start (start + length piece.entry.now)) }
+        { scan_piece(part, body, inclusive, befores, size, start, piece) },
     );
 }
 
 // Puts the scan of the piece that begins at an index where its values belong.
 fn scan_piece<B: Body>(
+    part: Part<'_>,
     body: &B,
     inclusive: bool,
-    xs: &[i64],
     befores: &[B::S],
     size: usize,
     start: usize,
     piece: &mut [B::S],
 )
-    requires can { CanFold xs.now }
-    requires befores { AreBefore (B.operations (B.meaning body.now)) size xs.now befores.now }
+    requires part { IsPart part }
+    requires befores { AreBefore (B.operations (B.meaning body.now)) size (elements_of part) befores.now }
     requires size { 0 < size }
     requires begins { start % size ≡ 0 }
     requires some { 0 < length piece.old }
-    requires inside { start + length piece.old ≤ length xs.now }
-    ensures { piece.new ≡ scan_from inclusive (B.operations (B.meaning body.now)) (fold_of (B.operations (B.meaning body.now)) (take start xs.now)) (slice_range xs.now start (start + length piece.old)) }
+    requires inside { start + length piece.old ≤ part.hi - part.lo }
+    ensures { piece.new ≡ scan_from inclusive (B.operations (B.meaning body.now)) (fold_of (B.operations (B.meaning body.now)) (take start (elements_of part.entry))) (slice_range (elements_of part.entry) start (start + length piece.old)) }
 {
     let before = befores[start / size];
-    scan_into(
-        body,
-        inclusive,
-        before,
-        &xs[start..start + piece.len()],
-        piece,
-    );
+    let lo = part.lo + start as u32;
+    match part.row {
+        Row::Cells(cells) => scan_cells(body, inclusive, before, cells, lo, piece),
+        Row::Slice(xs) => {
+            let from = lo as usize;
+            scan_into(
+                body,
+                inclusive,
+                before,
+                &xs[from..from + piece.len()],
+                0,
+                piece,
+            );
+        }
+    }
 }
 
-// Puts the scan of some elements, from what stands before them, where its values belong.
-fn scan_into<B: Body>(body: &B, inclusive: bool, before: B::S, xs: &[i64], values: &mut [B::S])
+// Puts the scan of a range of a vector where its values belong, by runs of elements that lie side by side. What stands before it is the
+// fold from an earlier index on.
+fn scan_cells<B: Body>(
+    body: &B,
+    inclusive: bool,
+    before: B::S,
+    cells: &Edits,
+    lo: u32,
+    values: &mut [B::S],
+)
+    requires can { CanFold (list_of cells.now.journal) }
+    requires before { (first : ℕ) × (first ≤ lo) × (before ≡ fold_of (B.operations (B.meaning body.now)) (slice_of cells.now.journal first lo)) }
+    requires inside { lo + length values.old ≤ length (list_of cells.now.journal) }
+    ensures { values.new ≡ scan_from inclusive (B.operations (B.meaning body.now)) before (slice_of cells.now.journal lo (lo + length values.old)) }
+{
+    let hi = lo + values.len() as u32;
+    let mut sum = before;
+    let mut at = lo;
+    while at < hi {
+        let from = (at - lo) as usize;
+        let run = cells.stretch(at, hi);
+        if run.is_empty() {
+            let cell = [cells.read(at)];
+            sum = scan_into(body, inclusive, sum, &cell, from, values);
+            at += 1;
+        } else {
+            sum = scan_into(body, inclusive, sum, run, from, values);
+            at += run.len() as u32;
+        }
+    }
+}
+
+// Puts the scan of some elements, from what stands before them, where its values belong: from an index on. Gives what they lead to.
+fn scan_into<B: Body>(
+    body: &B,
+    inclusive: bool,
+    before: B::S,
+    xs: &[i64],
+    from: usize,
+    values: &mut [B::S],
+) -> B::S
     requires can { CanGoOn (B.is_within (B.meaning body.now)) before (length xs.now) }
-    requires len { length values.old ≡ length xs.now }
-    ensures { values.new ≡ scan_from inclusive (B.operations (B.meaning body.now)) before xs.now }
+    requires room { from + length xs.now ≤ length values.old }
+    ensures values { take (from + length xs.now) values.new ≡ take from values.old ++ scan_from inclusive (B.operations (B.meaning body.now)) before xs.now }
+    ensures len { length values.new ≡ length values.old }
+    ensures sum { result ≡ reached (B.operations (B.meaning body.now)) before xs.now }
 {
     let mut sum = before;
     for k in 0..xs.len() {
         let sum_before = sum;
         sum = fold_more(body, sum_before, xs[k]);
-        values[k] = if inclusive { sum } else { sum_before };
+        values[from + k] = if inclusive { sum } else { sum_before };
     }
+    sum
 }

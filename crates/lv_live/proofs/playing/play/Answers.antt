@@ -12,7 +12,7 @@ loop-event-preserved g c =
       rw c.push_reserved.ensures.items
           (plays_more _ _ _ _ _ _ _ _ _ _ _ _ _ inv.0 step world (take_at_read c.args.events.now c.loop-event.event-index _ c.loop-event-test.true).1),
       record { body = played.setting.body ∙ inv.1.body; limits = played.setting.limits ∙ inv.1.limits },
-      omega (arith, inv.2, played.len, played.capacity, c.loop-event-test.true),
+      omega (arith, inv.2, played.room, c.loop-event-test.true),
       omega (arith, inv.3, c.push_reserved.ensures.len, c.push_reserved.ensures.capacity, c.loop-event-test.true),
       refl,
     )

@@ -6,8 +6,8 @@ use Rattle.lv_live.proofs.playing.play.Given as goal
 abbrev pub invariant-loop-event : goal.invariant-loop-event
 invariant-loop-event g l =
     let o = g.B.Body.operations (g.B.Body.meaning l.initial.live.body) in
-    Plays o l.initial.live.history.limits (with_issued l.initial.live l.initial.jobs.items) (take l.event-index l.events) l.initial.replies.items l.replies.items l.live l.jobs.items
+    Plays o l.initial.live.history.limits (with_issued l.initial.live l.initial.issued.jobs) (take l.event-index l.events) l.initial.replies.items l.replies.items l.live l.issued.jobs
     × SameSetting l.initial.live l.live
-    × (vec_len l.jobs + (length l.events - l.event-index) ≤ vec_capacity l.jobs)
+    × (length l.events - l.event-index ≤ l.issued.room)
     × (vec_len l.replies + (length l.events - l.event-index) ≤ vec_capacity l.replies)
     × (l.events ≡ l.initial.events)

@@ -1,13 +1,12 @@
-use Rattle.std.proofs.Common.{◌≡◌, ◌+◌, Some, length, arith}
+use Rattle.std.proofs.Common.{Some}
 use Rattle.lv_live.proofs.WorldLaws.{step_claim, world_claim}
 use Rattle.lv_live.proofs.playing.play_claim.Goals as goal
 
 pub returns-clause-step : goal.returns-clause-step
 returns-clause-step g c =
-    let count : c.len.result ≡ length c.args.jobs.now.items + 1 = omega (arith, c.len.ensures, c.push_reserved.ensures.len) in
-    rw count (rw c.node-node.ensures (rw c.version-version.ensures (rw c.push_reserved.ensures.items
-    (step_claim (g.B.Body.operations (g.B.Body.meaning c.args.live.now.body)) c.args.live.now c.claim.new.self (Some c.in-Some.job) c.args.jobs.now.items c.in-Some.ensures.next c.in-Some.ensures.claimed))))
+    rw c.keep.ensures.number (rw c.node-node.ensures (rw c.version-version.ensures (rw c.keep.ensures.jobs
+    (step_claim (g.B.Body.operations (g.B.Body.meaning c.args.live.now.body)) c.args.live.now c.claim.new.self (Some c.in-Some.job) c.args.issued.now.jobs c.in-Some.ensures.next c.in-Some.ensures.claimed))))
 
 pub returns-clause-world : goal.returns-clause-world
 returns-clause-world g c = λ world.
-    rw c.push_reserved.ensures.items (world_claim (g.B.Body.operations (g.B.Body.meaning c.args.live.now.body)) c.args.live.now c.claim.new.self (Some c.in-Some.job) c.args.jobs.now.items c.in-Some.ensures.claimed c.in-Some.ensures.body c.in-Some.ensures.honest world)
+    rw c.keep.ensures.jobs (world_claim (g.B.Body.operations (g.B.Body.meaning c.args.live.now.body)) c.args.live.now c.claim.new.self (Some c.in-Some.job) c.args.issued.now.jobs c.in-Some.ensures.claimed c.in-Some.ensures.body c.in-Some.ensures.honest world)

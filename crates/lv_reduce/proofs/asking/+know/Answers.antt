@@ -19,13 +19,13 @@ loop-k-init g t c =
     let can = can_fold c.args.cells.now c.size-size.ensures.limits in
     (can, gathers_none (g.B.Body.operations meaning) (g.B.Body.is_within meaning) (g.B.Body.laws c.args.body.now) c.args.cells.now.journal can c.args.table.now c.args.node c.identity-summary.result c.requires.agrees c.identity-summary.ensures)
 
-pub overflow_mul-child : goal.overflow_mul-child
-overflow_mul-child g t c =
+pub child-requires-clause-above : goal.child-requires-clause-above
+child-requires-clause-above g t c =
     let levels = level_of_node c.args.node (node_of_whole c.args.table.now c.args.node c.requires.whole) in
-    omega (arith, child_number c.args.table.now c.args.node 0 c.args.table.now.size (omega (arith, levels.0, c.if-node-eq1.false)) (omega arith) c.requires.whole refl, c.requires.agrees.size, c.loop-k.invariant.0.few)
+    omega (arith, levels.0, c.if-node-eq1.false)
 
-pub overflow_add-child : goal.overflow_add-child
-overflow_add-child g t c =
+pub child-requires-clause-fits : goal.child-requires-clause-fits
+child-requires-clause-fits g t c =
     let levels = level_of_node c.args.node (node_of_whole c.args.table.now c.args.node c.requires.whole) in
     omega (arith, child_number c.args.table.now c.args.node c.loop-k.k c.args.table.now.size (omega (arith, levels.0, c.if-node-eq1.false)) c.loop-k-test.true c.requires.whole refl, c.requires.agrees.size, c.loop-k.invariant.0.few)
 
@@ -35,7 +35,8 @@ know-known-requires-clause-agrees g t c κs within = c.loop-k.invariant.1.agrees
 pub know-known-requires-clause-whole : goal.know-known-requires-clause-whole
 know-known-requires-clause-whole g t c κs within =
     let levels = level_of_node c.args.node (node_of_whole c.args.table.now c.args.node c.requires.whole) in
-    child_whole c.loop-k.table c.args.node c.loop-k.k (omega (arith, levels.0, c.if-node-eq1.false)) c.loop-k-test.true
+    ap (whole_in c.loop-k.table) c.child.ensures
+    ∙ child_whole c.loop-k.table c.args.node c.loop-k.k (omega (arith, levels.0, c.if-node-eq1.false)) c.loop-k-test.true
     (whole_in-size c.args.table.now c.loop-k.table c.loop-k.invariant.1.learns.size c.args.node ∙ c.requires.whole)
 
 pub join-summary-requires-after_bounds : goal.join-summary-requires-after_bounds
@@ -44,7 +45,7 @@ join-summary-requires-after_bounds g t c κs within =
     let levels = level_of_node c.args.node (node_of_whole c.args.table.now c.args.node c.requires.whole) in
     next_can_join (g.B.Body.operations meaning) (g.B.Body.is_within meaning) (g.B.Body.laws c.args.body.now) c.args.cells.now.journal c.loop-k.invariant.0
     c.args.table.now c.loop-k.table c.know-known.new.table c.args.node c.loop-k.k c.loop-k.summary c.loop-k.cells_read c.loop-k.summaries_read c.know-known.result
-    (omega (arith, levels.0, c.if-node-eq1.false)) c.loop-k-test.true c.requires.whole c.loop-k.invariant.1 c.know-known.ensures
+    (omega (arith, levels.0, c.if-node-eq1.false)) c.loop-k-test.true c.requires.whole c.loop-k.invariant.1 (rw c.child.ensures at c.know-known.ensures)
 
 pub overflow_add-cells_read : goal.overflow_add-cells_read
 overflow_add-cells_read g t c =
@@ -52,7 +53,7 @@ overflow_add-cells_read g t c =
     let levels = level_of_node c.args.node (node_of_whole c.args.table.now c.args.node c.requires.whole) in
     let inside = next_inside (g.B.Body.operations meaning) (g.B.Body.is_within meaning) (g.B.Body.laws c.args.body.now) c.args.cells.now.journal c.loop-k.invariant.0
     c.args.table.now c.args.node c.loop-k.k c.requires.agrees (omega (arith, levels.0, c.if-node-eq1.false)) c.loop-k-test.true c.requires.whole in
-    omega (arith, inside, c.loop-k.invariant.1.few, c.know-known.ensures.few, c.loop-k.invariant.0.few)
+    omega (arith, inside, c.loop-k.invariant.1.few, (rw c.child.ensures at c.know-known.ensures).few, c.loop-k.invariant.0.few)
 
 pub overflow_add-summaries_read : goal.overflow_add-summaries_read
 overflow_add-summaries_read g t c =
@@ -60,7 +61,7 @@ overflow_add-summaries_read g t c =
     let levels = level_of_node c.args.node (node_of_whole c.args.table.now c.args.node c.requires.whole) in
     let inside = next_inside (g.B.Body.operations meaning) (g.B.Body.is_within meaning) (g.B.Body.laws c.args.body.now) c.args.cells.now.journal c.loop-k.invariant.0
     c.args.table.now c.args.node c.loop-k.k c.requires.agrees (omega (arith, levels.0, c.if-node-eq1.false)) c.loop-k-test.true c.requires.whole in
-    omega (arith, inside, c.loop-k.invariant.1.few, c.know-known.ensures.few, c.loop-k.invariant.0.few)
+    omega (arith, inside, c.loop-k.invariant.1.few, (rw c.child.ensures at c.know-known.ensures).few, c.loop-k.invariant.0.few)
 
 pub loop-k-preserved : goal.loop-k-preserved
 loop-k-preserved g t c =
@@ -69,7 +70,7 @@ loop-k-preserved g t c =
       c.loop-k.invariant.0,
       gathers_more (g.B.Body.operations meaning) (g.B.Body.is_within meaning) (g.B.Body.laws c.args.body.now) c.args.cells.now.journal c.loop-k.invariant.0
           c.args.table.now c.loop-k.table c.know-known.new.table c.args.node c.loop-k.k c.loop-k.summary c.join-summary.result c.loop-k.cells_read c.loop-k.summaries_read c.know-known.result
-          (omega (arith, levels.0, c.if-node-eq1.false)) c.loop-k-test.true c.requires.whole c.loop-k.invariant.1 c.know-known.ensures c.join-summary.ensures.value,
+          (omega (arith, levels.0, c.if-node-eq1.false)) c.loop-k-test.true c.requires.whole c.loop-k.invariant.1 (rw c.child.ensures at c.know-known.ensures) c.join-summary.ensures.value,
     )
 
 pub learn-requires : goal.learn-requires

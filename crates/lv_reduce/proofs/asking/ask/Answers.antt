@@ -7,9 +7,8 @@ use Rattle.lv_edits.specs.History.{list_of}
 use Rattle.lv_summary.specs.Table.{whole_in}
 use Rattle.lv_summary.proofs.FoldableLaws.{can_fold}
 use Rattle.lv_reduce.specs.Asked.{Knows}
-use Rattle.lv_reduce.proofs.AskLaws.{asks_can_grow, asks_cell, asks_few, asks_known, asks_node, asks_none, node_by_shift, node_can_join, node_whole}
+use Rattle.lv_reduce.proofs.AskLaws.{asks_can_grow, asks_cell, asks_few, asks_known, asks_node, asks_none, node_can_join, node_whole}
 use Rattle.lv_reduce.proofs.ScanLaws.{fold_of-slice-more}
-use Rattle.lv_reduce.proofs.Zeros.{width_in_twos}
 use Rattle.lv_reduce.proofs.asking.ask.Goals as goal
 
 pub loop-at-init : goal.loop-at-init
@@ -43,7 +42,7 @@ pub know-known-requires-clause-whole : goal.know-known-requires-clause-whole
 know-known-requires-clause-whole g c = λ _ _.
     let level = c.greatest_level-level.result in
     let some : 1 ≤ level = omega (arith, c.if-level-eq0.false) in
-    ap (whole_in c.loop-at.table) (node_by_shift c.loop-at.at level)
+    ap (whole_in c.loop-at.table) c.over.ensures
     ∙ node_whole c.loop-at.table c.loop-at.at c.args.hi level some c.greatest_level-level.ensures.bound c.greatest_level-level.ensures.fits
     (omega (arith, c.loop-at.invariant.agrees.size, c.in_default.ensures.inside))
 
@@ -53,7 +52,7 @@ join-value-requires-after_bounds g c = λ _ _.
     let o = g.B.Body.operations meaning in
     let edits = c.args.cells.now.journal in
     let level = c.greatest_level-level.result in
-    let knows : Knows o edits c.loop-at.table c.know-known.new.table (over level c.loop-at.at) c.know-known.result = rw (node_by_shift c.loop-at.at level) at c.know-known.ensures in
+    let knows : Knows o edits c.loop-at.table c.know-known.new.table (over level c.loop-at.at) c.know-known.result = rw c.over.ensures at c.know-known.ensures in
     node_can_join o (g.B.Body.is_within meaning) (g.B.Body.laws c.args.body.now) edits (can_fold c.args.cells.now c.refusal_of.ensures.limits)
     c.args.table.now c.loop-at.table c.know-known.new.table c.args.lo c.args.hi c.loop-at.at level c.loop-at.value c.loop-at.cells_read c.loop-at.summaries_read c.know-known.result
     c.loop-at.invariant c.greatest_level-level.ensures.fits c.in_default.ensures.inside knows
@@ -68,7 +67,7 @@ loop-at-preserved g c =
     let edits = c.args.cells.now.journal in
     let level = c.greatest_level-level.result in
     let some : 1 ≤ level = omega (arith, c.if-level-eq0.false) in
-    let knows : Knows o edits c.loop-at.table c.know-known.new.table (over level c.loop-at.at) c.know-known.result = rw (node_by_shift c.loop-at.at level) at c.know-known.ensures in
+    let knows : Knows o edits c.loop-at.table c.know-known.new.table (over level c.loop-at.at) c.know-known.result = rw c.over.ensures at c.know-known.ensures in
     rw c.width-at.ensures (
     asks_node o (g.B.Body.is_within meaning) (g.B.Body.laws c.args.body.now) edits (can_fold c.args.cells.now c.refusal_of.ensures.limits)
     c.args.table.now c.loop-at.table c.know-known.new.table c.args.lo c.args.hi c.loop-at.at level c.loop-at.value c.join-value.result c.loop-at.cells_read c.loop-at.summaries_read c.know-known.result

@@ -1,6 +1,7 @@
-use Rattle.std.proofs.Common.{◌-◌, ◌∙◌, arith}
+use Rattle.std.proofs.Common.{◌-◌, ap, sym, ◌∙◌, arith}
 use Rattle.lv_geometry.specs.Nodes.{over}
-use Rattle.lv_reduce.proofs.GreatestLaws.{entry_by_shift, none_at_next, stale_of_none}
+use Rattle.lv_summary.specs.Table.{entry_in}
+use Rattle.lv_reduce.proofs.GreatestLaws.{none_at_next, stale_of_none}
 use Rattle.lv_reduce.proofs.NodeLaws.{lesser_fits}
 use Rattle.lv_reduce.proofs.reductions.greatest_fresh.Goals as goal
 
@@ -16,13 +17,13 @@ returns-in-Some-clause-some g c = record {
   low = omega arith;
   high = omega arith;
   fits = c.loop-level.invariant.fits;
-  entry = entry_by_shift c.args.table.now c.args.at c.loop-level.level c.entry.result c.entry.ensures ∙ c.in-Some.is;
+  entry = sym (ap (entry_in c.args.table.now) c.over.ensures) ∙ sym c.entry.ensures ∙ c.in-Some.is;
   greatest = c.loop-level.invariant.none;
 }
 
 pub loop-level-preserved : goal.loop-level-preserved
 loop-level-preserved g c =
-    let entry = entry_by_shift c.args.table.now c.args.at c.loop-level.level c.entry.result c.entry.ensures ∙ c.in_default.is in
+    let entry = sym (ap (entry_in c.args.table.now) c.over.ensures) ∙ sym c.entry.ensures ∙ c.in_default.is in
     let stale = stale_of_none c.args.table.now (over c.loop-level.level c.args.at) entry in
     record {
       none = none_at_next c.args.table.now c.args.at c.args.hi c.loop-level.level c.loop-level.invariant.none (omega arith) stale;

@@ -10,28 +10,28 @@ pub loop-k-init : goal.loop-k-init
 loop-k-init g c =
     joins_none (g.B.Body.operations (g.B.Body.meaning c.args.body.now)) c.args.cells.now.journal c.args.node c.identity-sum.result c.identity-sum.ensures
 
-pub child_of-requires-clause-fits : goal.child_of-requires-clause-fits
-child_of-requires-clause-fits g c =
+pub child-requires-clause-fits : goal.child-requires-clause-fits
+child-requires-clause-fits g c =
     omega (arith, children_fit c.args.node c.args.table.now.size (and_parts _ _ c.requires.whole).1 c.requires.above, c.requires.agrees.size, c.size-size.ensures.limits.few)
 
 pub unreachable-requires : goal.unreachable-requires
 unreachable-requires g c =
     child_has_entry (g.B.Body.operations (g.B.Body.meaning c.args.body.now)) c.args.cells.now.journal c.args.table.now c.requires.agrees c.args.node c.loop-k.k c.requires.above c.requires.ready c.loop-k-test.true
-    (sym (ap (entry_in c.args.table.now) c.child_of.ensures) ∙ sym c.entry.ensures ∙ c.in_default.is)
+    (sym (ap (entry_in c.args.table.now) c.child.ensures) ∙ sym c.entry.ensures ∙ c.in_default.is)
 
 pub combine-sum-requires : goal.combine-sum-requires
 combine-sum-requires g c =
     joins_can (g.B.Body.operations (g.B.Body.meaning c.args.body.now)) c.args.cells.now.journal c.args.table.now c.requires.agrees
     (g.B.Body.is_within (g.B.Body.meaning c.args.body.now)) (g.B.Body.laws c.args.body.now) (can_fold c.args.cells.now c.size-size.ensures.limits)
     c.args.node c.loop-k.k c.loop-k.sum c.in-Some.summary c.requires.above c.loop-k.invariant
-    (sym (ap (entry_in c.args.table.now) c.child_of.ensures) ∙ sym c.entry.ensures ∙ c.in-Some.is)
+    (sym (ap (entry_in c.args.table.now) c.child.ensures) ∙ sym c.entry.ensures ∙ c.in-Some.is)
 
 pub loop-k-preserved : goal.loop-k-preserved
 loop-k-preserved g c =
     joins_more (g.B.Body.operations (g.B.Body.meaning c.args.body.now)) c.args.cells.now.journal c.args.table.now c.requires.agrees
     (g.B.Body.is_within (g.B.Body.meaning c.args.body.now)) (g.B.Body.laws c.args.body.now) (can_fold c.args.cells.now c.size-size.ensures.limits)
     c.args.node c.loop-k.k c.loop-k.sum c.in-Some.summary c.combine-sum.result c.requires.above c.loop-k.invariant
-    (sym (ap (entry_in c.args.table.now) c.child_of.ensures) ∙ sym c.entry.ensures ∙ c.in-Some.is) c.combine-sum.ensures
+    (sym (ap (entry_in c.args.table.now) c.child.ensures) ∙ sym c.entry.ensures ∙ c.in-Some.is) c.combine-sum.ensures
 
 pub returns : goal.returns
 returns g c =

@@ -1,16 +1,22 @@
-use Rattle.std.proofs.Common.{◌≡◌, ◌+◌, ◌*◌, ◌/◌, ◌%◌, ◌<◌, ◌++◌, ◌∷◌, [], min, length, map, take, drop, slice_index_or, sym, ap, ◌∙◌, arith}
+use Rattle.std.proofs.Common.{◌≡◌, ◌*◌, ◌-◌, ◌<◌, ◌++◌, ◌∷◌, [], length, map, take, drop, vec_len, slice_index_or, sym, ap, ◌∙◌, arith}
 use Rattle.std.specs.List.{range_with_len}
 use Rattle.std.proofs.lemmas.List.FromFn.{map-range_with_len_more}
-use Rattle.lv_bodies.specs.Body.{fold_of}
+use Rattle.lv_bodies.specs.Body.{CanFold, fold_of}
+use Rattle.lv_summary.proofs.FoldableLaws.{part_can_fold}
+use Rattle.lv_reduce.specs.declared.parallel.rows.Part.{Part}
+use Rattle.lv_reduce.specs.Rows.{IsPart, elements_in, elements_of}
 use Rattle.lv_reduce.proofs.PieceSums.{before_all, before_next, can_join_piece}
-use Rattle.lv_reduce.proofs.RunLaws.{pieces_cover}
 use Rattle.lv_reduce.proofs.parallel.slices.befores_of.Goals as goal
+
+-- the elements of the part may be folded
+can : {part : Part} → IsPart part → CanFold (elements_of part)
+can {part} is = part_can_fold (part.hi - part.lo) part.lo (elements_in part.row) is.can
 
 pub join-before-requires-after_bounds : goal.join-before-requires-after_bounds
 join-before-requires-after_bounds g c κs within =
     let meaning = g.B.Body.meaning c.args.body.now in
     let o = g.B.Body.operations meaning in
-    let xs = c.args.xs.now in
+    let xs = elements_of c.args.part in
     let size = c.args.size in
     let k = c.loop-fold.fold-index in
     let same = c.as_slice-fold-items.ensures.value in
@@ -18,13 +24,13 @@ join-before-requires-after_bounds g c κs within =
     let piece = c.fold-item.result in
     let fold : piece ≡ fold_of o (take size (drop (k * size) xs)) =
     c.fold-item.is ∙ ap (λ l. slice_index_or l k piece) same ∙ c.in_ok-folds.ensures.folds k piece inside in
-    can_join_piece o (g.B.Body.is_within meaning) (g.B.Body.laws c.args.body.now) xs c.in_ok-folds.ensures.can size k c.loop-fold.before piece c.loop-fold.invariant.before fold
+    can_join_piece o (g.B.Body.is_within meaning) (g.B.Body.laws c.args.body.now) xs (can c.requires.part) size k c.loop-fold.before piece c.loop-fold.invariant.before fold
 
 pub loop-fold-preserved : goal.loop-fold-preserved
 loop-fold-preserved g c =
     let meaning = g.B.Body.meaning c.args.body.now in
     let o = g.B.Body.operations meaning in
-    let xs = c.args.xs.now in
+    let xs = elements_of c.args.part in
     let size = c.args.size in
     let k = c.loop-fold.fold-index in
     let same = c.as_slice-fold-items.ensures.value in
@@ -34,7 +40,7 @@ loop-fold-preserved g c =
     c.fold-item.is ∙ ap (λ l. slice_index_or l k piece) same ∙ c.in_ok-folds.ensures.folds k piece inside in
     let kept = c.loop-fold.invariant in
     record {
-      before = before_next o (g.B.Body.is_within meaning) (g.B.Body.laws c.args.body.now) xs c.in_ok-folds.ensures.can size k c.loop-fold.before piece c.join-before.result kept.before fold c.join-before.ensures.value;
+      before = before_next o (g.B.Body.is_within meaning) (g.B.Body.laws c.args.body.now) xs (can c.requires.part) size k c.loop-fold.before piece c.join-before.result kept.before fold c.join-before.ensures.value;
       befores =
           c.push_reserved.ensures.items
           ∙ ap (λ l. l ++ c.loop-fold.before ∷ []) kept.befores
@@ -44,11 +50,10 @@ loop-fold-preserved g c =
       room = omega (arith, c.push_reserved.ensures.capacity, kept.room);
     }
 
-pub returns-clause-befores : goal.returns-clause-befores
-returns-clause-befores g c =
+pub returns : goal.returns
+returns g c =
     let o = g.B.Body.operations (g.B.Body.meaning c.args.body.now) in
-    let xs = c.args.xs.now in
-    let size = c.args.size in
+    let xs = elements_of c.args.part in
     let k = c.loop-fold.fold-index in
-    let all : k ≡ length xs / size + min 1 (length xs % size) = omega (arith, c.in_ok-folds.ensures.count, c.as_slice-fold-items.ensures.len, c.loop-fold-test.false) in
-    before_all o xs size k c.loop-fold.befores.items c.loop-fold.invariant.befores (pieces_cover (length xs) size k c.requires.size all)
+    let all : vec_len c.in_ok-folds.folds ≡ k = omega (arith, c.as_slice-fold-items.ensures.len, c.loop-fold-test.false) in
+    before_all o xs c.args.size k c.loop-fold.befores.items c.loop-fold.invariant.befores (rw all at c.in_ok-folds.ensures.count)

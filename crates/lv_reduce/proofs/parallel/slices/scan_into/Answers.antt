@@ -1,8 +1,9 @@
-use Rattle.std.proofs.Common.{◌≡◌, ◌+◌, ◌<◌, pos, length, slice_index_or, slice_set, take, if◌then◌else◌, rules, refl, subst, sym, ap, ◌∙◌, arith}
+use Rattle.std.proofs.Common.{◌≡◌, ◌+◌, ◌<◌, ◌++◌, ◌∷◌, [], append-nil, append_assoc, pos, length, slice_index_or, slice_set, take, if◌then◌else◌, rules, refl, subst, sym, ap, ◌∙◌, arith}
 use Rattle.std.specs.Int.{w64}
 use Rattle.std.proofs.lemmas.Int.{to_z-of_z}
 use Rattle.std.proofs.lemmas.List.{length-set, take_more_set}
 use Rattle.lv_geometry.specs.Elements.{IsElement}
+use Rattle.lv_reduce.specs.Running.{scan_from}
 use Rattle.lv_reduce.proofs.RunLaws.{scan_from-more}
 use Rattle.lv_reduce.proofs.parallel.slices.scan_into.Goals as goal
 use Rattle.lv_reduce.proofs.parallel.slices.scan_into.Goals.{then-inclusive, else-inclusive}
@@ -28,11 +29,32 @@ loop-k-preserved g c =
     ] in
     let can = c.loop-k.invariant.can in
     let place : can.0 + k + 1 ≡ can.0 + (k + 1) = omega arith in
-    let here : k < length values = omega (arith, c.loop-k.invariant.len) in
-    let gone = scan_from-more o c.args.inclusive c.args.before xs k x (pos 0) small refl sum next value (take k values) (take (k + 1) (slice_set values k value)) c.loop-k.invariant.sum joined chosen c.loop-k.invariant.values (take_more_set values k value here) in
+    let at = c.args.from + k in
+    let next_place : c.args.from + (k + 1) ≡ at + 1 = omega arith in
+    let here : at < length values = omega (arith, c.loop-k.invariant.len, c.requires.room) in
+    let old = take c.args.from c.args.values.now in
+    let front = scan_from c.args.inclusive o c.args.before (take k xs) in
+    let gone = scan_from-more o c.args.inclusive c.args.before xs k x (pos 0) small refl sum next value front (front ++ value ∷ []) c.loop-k.invariant.sum joined chosen refl refl in
     record {
       sum = gone.0;
-      values = gone.1;
+      values =
+          ap (λ n. take n (slice_set values at value)) next_place
+          ∙ take_more_set values at value here
+          ∙ ap (λ ys. ys ++ value ∷ []) c.loop-k.invariant.values
+          ∙ append_assoc old front (value ∷ [])
+          ∙ ap (λ ys. old ++ ys) gone.1;
       can = (can.0, subst (g.B.Body.is_within meaning next) place (c.fold_more-sum.ensures.within (can.0 + k) can.1 (omega (arith, can.2))), can.2);
-      len = length-set values k value ∙ c.loop-k.invariant.len;
+      len = length-set values at value ∙ c.loop-k.invariant.len;
+    }
+
+pub loop-k-init : goal.loop-k-init
+loop-k-init g c =
+    let within = g.B.Body.is_within (g.B.Body.meaning c.args.body.now) in
+    let none : c.requires.can.count ≡ c.requires.can.count + 0 = omega arith in
+    let place : c.args.from + 0 ≡ c.args.from = omega arith in
+    record {
+      sum = refl;
+      values = ap (λ n. take n c.args.values.now) place ∙ sym (append-nil (take c.args.from c.args.values.now));
+      can = (c.requires.can.count, subst (within c.args.before) none c.requires.can.count_within, c.requires.can.few);
+      len = refl;
     }

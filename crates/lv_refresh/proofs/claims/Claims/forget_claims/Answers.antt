@@ -8,7 +8,7 @@ invariant_of-self c = AreClaims-forgot _ _ (at_each_level _ c.forget.ensures c.f
 
 pub returns-clause-claimed : goal.returns-clause-claimed
 returns-clause-claimed c =
-    let old = claims_of c.self.inside.level_1.rows c.self.inside.level_2.rows c.self.inside.level_3.rows c.self.inside.level_4.rows c.self.inside.level_5.rows c.self.inside.level_6.rows in
+    let old = claims_of c.self.inside.levels in
     claimed_in-forgot old _ (at_each_level _ c.forget.ensures c.forget-2.ensures c.forget-3.ensures c.forget-4.ensures c.forget-5.ensures c.forget-6.ensures)
 
 pub returns-clause-hints : goal.returns-clause-hints

@@ -1,50 +1,34 @@
-use Rattle.std.proofs.Common.{arith, refl}
-use Rattle.lv_geometry.proofs.NodeLaws.{at_each_level}
-use Rattle.lv_refresh.proofs.HintLaws.{AreClaims-hinted, HintsNode-by_rows, level_hinted, level_stays}
+use Rattle.std.proofs.Common.{◌≡◌, ◌+◌, ◌≤◌, ap, arith, length, sym}
+use Rattle.lv_geometry.proofs.NodeLaws.{level_of_node}
+use Rattle.lv_refresh.proofs.HintLaws.{AreClaims-hinted, HintsLevel-one, HintsNode-by_rows, rows_at-thing}
 use Rattle.lv_refresh.proofs.RowLaws.{hint_of_parent}
 use Rattle.lv_refresh.proofs.claims.Claims.hint_above.Goals as goal
 
+pub at_mut-requires-clause-low : goal.at_mut-requires-clause-low
+at_mut-requires-clause-low c = omega (arith, ap (λ n. n.level) c.parent-above.ensures)
+
 pub hint-requires : goal.hint-requires
-hint-requires c = hint_of_parent _ c.args.node 2 c.self.invariant (rw (← c.self.view_is) at c.requires.inside) c.in-1.is (omega arith) (omega arith)
+hint-requires c =
+    let k = c.parent-above.result.level in
+    let next : k ≡ c.args.node.level + 1 = ap (λ n. n.level) c.parent-above.ensures in
+    let some : 1 ≤ c.args.node.level = (level_of_node c.args.node c.requires.member).0 in
+    let room = hint_of_parent _ c.args.node k c.self.invariant (rw (← c.self.view_is) at c.requires.inside) (omega arith) (omega arith) c.if-above-le6.true in
+    let rows = ap (λ rows. length rows.hints) (rows_at-thing c.self.inside.levels k (omega arith) c.if-above-le6.true) in
+    omega (arith, room, rows, ap (λ shelf. length shelf.rows.hints) c.at_mut.ensures.thing, ap (λ n. n.number) c.parent-above.ensures)
 
 pub invariant_of-self : goal.invariant_of-self
-invariant_of-self c = AreClaims-hinted _ _ 2 _ (at_each_level _ (level_stays (omega arith) refl) (level_hinted c.hint.ensures) (level_stays (omega arith) refl) (level_stays (omega arith) refl) (level_stays (omega arith) refl) (level_stays (omega arith) refl)) c.self.invariant
+invariant_of-self c =
+    let k = c.parent-above.result.level in
+    let low : 1 ≤ k = omega (arith, ap (λ n. n.level) c.parent-above.ensures) in
+    AreClaims-hinted _ _ k c.parent-above.result.number
+    (HintsLevel-one c.self.inside.levels k c.parent-above.result.number c.hint.new.self low c.if-above-le6.true (rw c.at_mut.ensures.thing at c.hint.ensures))
+    c.self.invariant
 
-pub returns-in-1 : goal.returns-in-1
-returns-in-1 c = rw (← c.self.view_is) (HintsNode-by_rows _ _ 2 _ (at_each_level _ (level_stays (omega arith) refl) (level_hinted c.hint.ensures) (level_stays (omega arith) refl) (level_stays (omega arith) refl) (level_stays (omega arith) refl) (level_stays (omega arith) refl)) _ (omega arith) refl)
-
-pub hint-requires-in-2 : goal.hint-requires-in-2
-hint-requires-in-2 c = hint_of_parent _ c.args.node 3 c.self.invariant (rw (← c.self.view_is) at c.requires.inside) c.in-2.is (omega arith) (omega arith)
-
-pub invariant_of-self-in-2 : goal.invariant_of-self-in-2
-invariant_of-self-in-2 c = AreClaims-hinted _ _ 3 _ (at_each_level _ (level_stays (omega arith) refl) (level_stays (omega arith) refl) (level_hinted c.hint-in-2.ensures) (level_stays (omega arith) refl) (level_stays (omega arith) refl) (level_stays (omega arith) refl)) c.self.invariant
-
-pub returns-in-2 : goal.returns-in-2
-returns-in-2 c = rw (← c.self.view_is) (HintsNode-by_rows _ _ 3 _ (at_each_level _ (level_stays (omega arith) refl) (level_stays (omega arith) refl) (level_hinted c.hint-in-2.ensures) (level_stays (omega arith) refl) (level_stays (omega arith) refl) (level_stays (omega arith) refl)) _ (omega arith) refl)
-
-pub hint-requires-in-3 : goal.hint-requires-in-3
-hint-requires-in-3 c = hint_of_parent _ c.args.node 4 c.self.invariant (rw (← c.self.view_is) at c.requires.inside) c.in-3.is (omega arith) (omega arith)
-
-pub invariant_of-self-in-3 : goal.invariant_of-self-in-3
-invariant_of-self-in-3 c = AreClaims-hinted _ _ 4 _ (at_each_level _ (level_stays (omega arith) refl) (level_stays (omega arith) refl) (level_stays (omega arith) refl) (level_hinted c.hint-in-3.ensures) (level_stays (omega arith) refl) (level_stays (omega arith) refl)) c.self.invariant
-
-pub returns-in-3 : goal.returns-in-3
-returns-in-3 c = rw (← c.self.view_is) (HintsNode-by_rows _ _ 4 _ (at_each_level _ (level_stays (omega arith) refl) (level_stays (omega arith) refl) (level_stays (omega arith) refl) (level_hinted c.hint-in-3.ensures) (level_stays (omega arith) refl) (level_stays (omega arith) refl)) _ (omega arith) refl)
-
-pub hint-requires-in-4 : goal.hint-requires-in-4
-hint-requires-in-4 c = hint_of_parent _ c.args.node 5 c.self.invariant (rw (← c.self.view_is) at c.requires.inside) c.in-4.is (omega arith) (omega arith)
-
-pub invariant_of-self-in-4 : goal.invariant_of-self-in-4
-invariant_of-self-in-4 c = AreClaims-hinted _ _ 5 _ (at_each_level _ (level_stays (omega arith) refl) (level_stays (omega arith) refl) (level_stays (omega arith) refl) (level_stays (omega arith) refl) (level_hinted c.hint-in-4.ensures) (level_stays (omega arith) refl)) c.self.invariant
-
-pub returns-in-4 : goal.returns-in-4
-returns-in-4 c = rw (← c.self.view_is) (HintsNode-by_rows _ _ 5 _ (at_each_level _ (level_stays (omega arith) refl) (level_stays (omega arith) refl) (level_stays (omega arith) refl) (level_stays (omega arith) refl) (level_hinted c.hint-in-4.ensures) (level_stays (omega arith) refl)) _ (omega arith) refl)
-
-pub hint-requires-in-5 : goal.hint-requires-in-5
-hint-requires-in-5 c = hint_of_parent _ c.args.node 6 c.self.invariant (rw (← c.self.view_is) at c.requires.inside) c.in-5.is (omega arith) (omega arith)
-
-pub invariant_of-self-in-5 : goal.invariant_of-self-in-5
-invariant_of-self-in-5 c = AreClaims-hinted _ _ 6 _ (at_each_level _ (level_stays (omega arith) refl) (level_stays (omega arith) refl) (level_stays (omega arith) refl) (level_stays (omega arith) refl) (level_stays (omega arith) refl) (level_hinted c.hint-in-5.ensures)) c.self.invariant
-
-pub returns-in-5 : goal.returns-in-5
-returns-in-5 c = rw (← c.self.view_is) (HintsNode-by_rows _ _ 6 _ (at_each_level _ (level_stays (omega arith) refl) (level_stays (omega arith) refl) (level_stays (omega arith) refl) (level_stays (omega arith) refl) (level_stays (omega arith) refl) (level_hinted c.hint-in-5.ensures)) _ (omega arith) refl)
+pub returns-then-above-le6 : goal.returns-then-above-le6
+returns-then-above-le6 c =
+    let k = c.parent-above.result.level in
+    let low : 1 ≤ k = omega (arith, ap (λ n. n.level) c.parent-above.ensures) in
+    rw (← c.self.view_is) (
+    HintsNode-by_rows _ _ k c.parent-above.result.number
+    (HintsLevel-one c.self.inside.levels k c.parent-above.result.number c.hint.new.self low c.if-above-le6.true (rw c.at_mut.ensures.thing at c.hint.ensures))
+    _ (sym (ap (λ n. n.level) c.parent-above.ensures)) (sym (ap (λ n. n.number) c.parent-above.ensures)))

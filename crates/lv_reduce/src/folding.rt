@@ -1,0 +1,26 @@
+ghost use Rattle.std.specs.Prelude.{◌≡◌, Some, IfOk, IfErr};
+ghost use Rattle.lv_reduce.specs.Answer.{IsTotal, range_refusal};
+
+use crate::parallel::{Row, fold_range};
+use crate::views::refusal_of;
+use lv_bodies::Body;
+use lv_edits::Edits;
+use lv_geometry::Refusal;
+
+/// The fold of the elements from index `lo` up to `hi` by any body, with the number of the last edit. It folds the elements where
+/// they lie, one after the other, and reads no summary: for a range so short that its summaries would cost more. Refused with
+/// `BadRange`, then `OutOfRange`. Takes no memory.
+pub fn fold_elements<B: Body>(
+    cells: &Edits,
+    body: &B,
+    lo: u32,
+    hi: u32,
+) -> Result<(u32, B::S), Refusal>
+    ensures ok { IfOk result (λ answer. IsTotal (B.operations (B.meaning body.now)) cells.now.journal lo hi answer) }
+    ensures err { IfErr result (λ refusal. range_refusal cells.now.journal lo hi ≡ Some refusal) }
+{
+    if let Some(refusal) = refusal_of(cells, lo, hi) {
+        return Err(refusal);
+    }
+    Ok((cells.edit(), fold_range(Row::Cells(cells), body, lo, hi)))
+}

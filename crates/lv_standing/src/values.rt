@@ -1,0 +1,45 @@
+//! The value of one kind over a range.
+ghost use Rattle.std.specs.Prelude.{◌≡◌, Some, IfOk, IfErr};
+ghost use Rattle.lv_edits.specs.Kept.{InLimits};
+ghost use Rattle.lv_reduce.specs.Answer.{range_refusal};
+ghost use Rattle.lv_standing.specs.Queries.{IsShown, IsValue};
+
+use crate::notes::Answered;
+use lv_bodies::{Affine, Automaton, Best, Greatest, Kind, Least, Single, Six, Sum};
+use lv_geometry::Refusal;
+use lv_live::Live;
+
+/// A range of at most so many elements is folded by the one kind, where they lie. That takes no longer than to look its summaries
+/// up, and far less than to compute them for all six.
+pub const SHORT: u32 = 64;
+
+/// The value of a kind over a range, folded where the elements lie.
+pub fn folded(live: &Live<Six>, kind: Kind, lo: u32, hi: u32) -> Result<Answered, Refusal>
+    requires { InLimits live.now.history }
+    ensures ok { IfOk result (λ answered. IsValue live.now.history.journal kind lo hi answered) }
+    ensures err { IfErr result (λ refusal. range_refusal live.now.history.journal lo hi ≡ Some refusal) }
+{
+    match kind {
+        Kind::Sum => folded_by(live, &Sum, lo, hi),
+        Kind::Least => folded_by(live, &Least, lo, hi),
+        Kind::Greatest => folded_by(live, &Greatest, lo, hi),
+        Kind::Best => folded_by(live, &Best, lo, hi),
+        Kind::Affine => folded_by(live, &Affine, lo, hi),
+        Kind::Automaton => folded_by(live, &Automaton::program(), lo, hi),
+    }
+}
+
+// What the body of a kind shows of the fold.
+fn folded_by<K: Single>(live: &Live<Six>, body: &K, lo: u32, hi: u32) -> Result<Answered, Refusal>
+    requires { InLimits live.now.history }
+    ensures ok { IfOk result (λ answered. IsShown (K.plain body.now) live.now.history.journal lo hi answered) }
+    ensures err { IfErr result (λ refusal. range_refusal live.now.history.journal lo hi ≡ Some refusal) }
+{
+    match live.fold_by(body, lo, hi) {
+        Ok((edit, fold)) => Ok(Answered {
+            edit,
+            value: body.shown(fold),
+        }),
+        Err(refusal) => Err(refusal),
+    }
+}
