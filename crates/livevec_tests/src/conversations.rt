@@ -1,13 +1,14 @@
 //! Tests of the loop of lines over readers and writers that fail, that give or take little, and that give too much.
-ghost use Rattle.std.specs.Prelude.{◌≡◌, ℕ, ◌+◌, ◌≤◌, [], ◌∷◌, ◌++◌, length, vec_len, vec_capacity};
+ghost use Rattle.std.specs.Prelude.{◌≡◌, ℕ, [], ◌∷◌, ◌++◌, length};
 ghost use Rattle.std.specs.Fmt.{decimal};
+ghost use Rattle.lv_script.specs.Output.{HasRoom, KeepsRoom};
 
 use lv_bodies::{Kind, Six, fold_slice};
 use lv_geometry::Limits;
 use lv_script::devices::{FailingReader, FailingWriter, Failure};
 use lv_script::{
-    Fault, HELD, Line, Responder, converse, make_room, print_command, put, put_element, put_number,
-    put_scan, put_wide, read_line, run_script, send,
+    Fault, HELD, Line, Outbox, Responder, converse, print_command, put, put_element, put_number,
+    put_scan, put_wide, read_line, run_script,
 };
 use std::alloc::{AllocError, Global};
 use std::io;
@@ -32,14 +33,13 @@ impl Responder for Echo {
         &mut self,
         number: u32,
         line: &[u8],
-        writer: &mut W,
-        held: &mut Vec<u8>,
+        outbox: &mut Outbox<'_, W>,
     ) -> Result<(), Fault> {
-        make_room(writer, held, 64)?;
-        put_number(held, u64::from(number));
-        put(held, b" ");
-        put_number(held, line.len() as u64);
-        put(held, b"\n");
+        outbox.make_room(64)?;
+        put_number(outbox.held, u64::from(number));
+        put(outbox.held, b" ");
+        put_number(outbox.held, line.len() as u64);
+        put(outbox.held, b"\n");
         self.last = number;
         Ok(())
     }
@@ -183,8 +183,8 @@ fn replies_are_flushed(rt: HostRuntime) {
 
 // Puts the longest numbers and the shortest, with one space between.
 fn put_numbers(held: &mut Vec<u8>)
-    requires { vec_len held.old + 200 ≤ vec_capacity held.old }
-    ensures { vec_capacity held.old ≤ vec_capacity held.new }
+    requires { HasRoom held.old 200 }
+    ensures { KeepsRoom held.old held.new }
 {
     put_number(held, u64::MAX);
     put(held, b" ");
@@ -197,13 +197,17 @@ fn put_numbers(held: &mut Vec<u8>)
 
 #[test]
 fn numbers_in_decimal(rt: HostRuntime) -> Result<(), Fail> {
-    let mut held = Vec::with_capacity(rt.alloc(), 200)?;
-    put_numbers(&mut held);
+    let mut held = Vec::with_capacity(rt.alloc(), HELD)?;
     let mut writer = Vec::new(rt.alloc());
-    assert_eq!(rt; make_room(&mut writer, &mut held, 10), Ok(()));
-    assert!(rt; writer.is_empty());
-    assert_eq!(rt; send(&mut writer, &mut held), Ok(()));
-    assert!(rt; held.is_empty());
+    let mut outbox = Outbox {
+        writer: &mut writer,
+        held: &mut held,
+    };
+    put_numbers(outbox.held);
+    assert_eq!(rt; outbox.make_room(10), Ok(()));
+    assert!(rt; outbox.writer.is_empty());
+    assert_eq!(rt; outbox.send(), Ok(()));
+    assert!(rt; outbox.held.is_empty());
     let text =
         b"18446744073709551615 -9223372036854775808 -170141183460469231731687303715884105728 0";
     assert_eq!(rt; writer.as_slice(), text.as_slice());
@@ -286,7 +290,11 @@ fn scans_that_are_not_written(rt: HostRuntime) -> Result<(), Fail> {
             left: 60,
             failure,
         };
-        let result = put_scan(&mut writer, &mut held, 9, true, Kind::Automaton, &values);
+        let mut outbox = Outbox {
+            writer: &mut writer,
+            held: &mut held,
+        };
+        let result = put_scan(&mut outbox, 9, true, Kind::Automaton, &values);
         assert_eq!(rt; result, Err(Fault::WriteFault));
         let text = b"at 9 inc automaton 5000\n= 0 1 2 3 4 5 6 7\n= 0 1 2 3 4 5 6 7\n";
         assert_eq!(rt; writer.taken.as_slice(), text.as_slice());

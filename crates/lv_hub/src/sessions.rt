@@ -9,10 +9,10 @@ ghost use Rattle.lv_hub.specs.Session.{KeepTies, SessionState, SessionStep, sess
 
 use crate::hubs::Hub;
 use crate::naming::Means;
-use crate::replying::answer_line;
+use crate::replying::{Place, answer_line};
 use crate::shares::Share;
 use lv_bodies::Six;
-use lv_script::{Claimed, Fault, LINE, Responder, converse, make_room, read_line};
+use lv_script::{Claimed, Fault, LINE, Outbox, Responder, converse, read_line};
 use std::alloc::{AllocError, Global};
 use std::io::{Read, Write};
 use std::marker::{Brand, Model, PhantomData};
@@ -97,11 +97,9 @@ fn hold<K: Lent, N: Means<Six>, T: Wait, R: Read, W: Write>(
     ensures more { share.count ≤ result.0.count }
 {
     let mut session: Session<'_, N, T, K> = Session {
-        rt,
-        hub,
+        place: Place { rt, hub, alloc },
         share,
         claims: Vec::new(alloc),
-        alloc,
         of: PhantomData,
     };
     let ended = converse(alloc, &mut session, reader, writer);
@@ -112,11 +110,9 @@ fn hold<K: Lent, N: Means<Six>, T: Wait, R: Read, W: Write>(
 // What answers the lines of a session.
 #[derive(Drop)]
 struct Session<'a, N: Means<Six>, T: Wait, K: Lent> {
-    rt: &'a T,
-    hub: &'a Hub<Six, N>,
+    place: Place<'a, N, T>,
     share: Share<N>,
     claims: Vec<Claimed>,
-    alloc: Global,
     of: PhantomData<K>,
 }
 
@@ -142,20 +138,16 @@ impl<'a, N: Means<Six>, T: Wait, K: Lent> Responder for Session<'a, N, T, K> {
         &mut self,
         number: u32,
         line: &[u8],
-        writer: &mut W,
-        held: &mut Vec<u8>,
+        outbox: &mut Outbox<'_, W>,
     ) -> Result<(), Fault> {
-        make_room(writer, held, LINE)?;
+        outbox.make_room(LINE)?;
         answer_line(
-            self.rt,
-            self.alloc,
-            self.hub,
+            &self.place,
             &mut self.share,
             &mut self.claims,
             number,
             read_line(line),
-            writer,
-            held,
+            outbox,
         )
     }
 }

@@ -16,7 +16,7 @@ use Rattle.lv_script.specs.declared.fault.Fault.TheVariants as fault
 use Rattle.lv_script.specs.Input.{lines_of}
 use Rattle.lv_script.specs.Output.{Writes, WritesFront}
 use Rattle.lv_script.specs.Replies.{Answered, AnswersAll, AnswersFront, Conversed}
-use Rattle.lv_script.specs.Transcript.{claim_line, edit_line, first_line, end_line, transcript_lines, verdict_text, Audited, HasFormAt, IsEdit, IsRight, IsSoundTranscript, NamesRight}
+use Rattle.lv_script.specs.Transcript.{claim_line, edit_line, first_line, end_line, transcript_lines, verdict_text, Audited, IsEdit, IsRight, IsSoundTranscript, NamesRight}
 use Rattle.lv_script.specs.Auditing.{AuditState, AuditStep, IsVerdictAt, start_state}
 use Rattle.lv_script.proofs.OutputLemmas.{Writes-put, WritesFront-after, Writes-trans}
 use Rattle.lv_script.proofs.PrintedWords.{IsPrintable}

@@ -161,12 +161,12 @@ scan_put_front (Err fault) s inclusive kind lo hi written granted put = (put.0, 
 
 module _ {S : Type 0} (step : S → ℕ → List ℕ → List ℕ → S → Type 0) where
   -- a line that was answered once there was room is answered with what was held before
-  pub replies_after : {T E : Type 0} {a b : Option (List ℕ)} {h k : List ℕ} (c : Option (List ℕ)) (l : List ℕ) (result : Result T E) (old new : S) (n : ℕ) (line : List ℕ) → Writes a h b k [] → OnOk result ((reply : List ℕ) × step old n line reply new × Writes b k c l reply) → OnOk result (Replies step old n line new a h c l)
+  pub replies_after : {T E : Type 0} {a b : Option (List ℕ)} {h k : List ℕ} (c : Option (List ℕ)) (l : List ℕ) (result : Result T E) (old new : S) (n : ℕ) (line : List ℕ) → Writes a h b k [] → OnOk result ((reply : List ℕ) × step old n line reply new × Writes b k c l reply) → OnOk result (Replies step old n line new (Writes a h c l))
   replies_after c l (Ok done) old new n line room (reply, answered, written) = record { reply = reply; answered = answered; written = Writes-trans room written }
   replies_after c l (Err fault) old new n line room answered = answered
 
   -- a reply of which a front was written, so
   pub fails_after : {T : Type 0} {a b : Option (List ℕ)} {h k : List ℕ} (c : Option (List ℕ)) (result : Result T Fault) (old new : S) (n : ℕ) (line : List ℕ) → Writes a h b k [] → IfErr result (λ fault. (fault ≡ WriteFault) × (reply : List ℕ) × step old n line reply new × WritesFront b k c reply)
-      → IfErr result (λ fault. (fault ≡ WriteFault) × FailsToReply step old n line new a h c)
+      → IfErr result (λ fault. (fault ≡ WriteFault) × FailsToReply step old n line new (WritesFront a h c))
   fails_after c (Ok done) old new n line room answered = answered
   fails_after c (Err fault) old new n line room (is, reply, answered, front) = (is, inr record { reply = reply; answered = answered; written = WritesFront-after room front })

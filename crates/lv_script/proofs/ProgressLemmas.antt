@@ -4,7 +4,7 @@ use Rattle.std.specs.Io.KnownBytes.{Appends}
 use Rattle.std.proofs.lemmas.List.{map-append, length-append, length-map, take-take, take_all, nil_from_length}
 use Rattle.std.proofs.lemmas.Bool.{eqb-true}
 use Rattle.lv_script.specs.Input.{whole_lines_of, has_end, unended_of}
-use Rattle.lv_script.specs.Output.{WritesFront}
+use Rattle.lv_script.specs.Output.{Writes, WritesFront}
 use Rattle.lv_script.specs.Replies.{Replies, FailsToReply}
 use Rattle.lv_script.specs.Progress.{Point, Feeds, FeedsFront, Finishes, FinishesFront}
 use Rattle.lv_script.proofs.InputLemmas.{whole_lines_of-append, unended_of-append, whole_lines_of-begun, unended_of-begun, whole_lines_of-ended, unended_of-ended, whole_lines_of-front, unended_of-front, has_end-unended_of, has_end-take, has_end-append_none, length-whole_lines_of-begun, last_line-some}
@@ -83,7 +83,7 @@ module _ {S : Type 0} (step : S → ℕ → List ℕ → List ℕ → S → Type
 
   -- bytes that end one line, which is answered
   pub Feeds-line : (old new : Point S) (piece : List ℕ) → has_end old.kept ≡ false → has_end piece ≡ false
-      → Replies step old.state old.number (take 121 (old.kept ++ piece)) new.state old.contents old.held new.contents new.held
+      → Replies step old.state old.number (take 121 (old.kept ++ piece)) new.state (Writes old.contents old.held new.contents new.held)
       → new.number ≡ old.number + 1 → new.kept ≡ [] → Feeds step old new (piece ++ 10 ∷ [])
   Feeds-line old new piece begun none replies number kept = record {
     text = replies.reply;
@@ -95,7 +95,7 @@ module _ {S : Type 0} (step : S → ℕ → List ℕ → List ℕ → S → Type
 
   -- or not
   pub FeedsFront-line : (old new : Point S) (piece : List ℕ) → has_end old.kept ≡ false → has_end piece ≡ false
-      → FailsToReply step old.state old.number (take 121 (old.kept ++ piece)) new.state old.contents old.held new.contents
+      → FailsToReply step old.state old.number (take 121 (old.kept ++ piece)) new.state (WritesFront old.contents old.held new.contents)
       → FeedsFront step old new (piece ++ 10 ∷ [])
   FeedsFront-line old new piece begun none fails =
       let line = take 121 (old.kept ++ piece) in
@@ -203,7 +203,7 @@ module _ {S : Type 0} (step : S → ℕ → List ℕ → List ℕ → S → Type
 
   -- one was, and is not answered, or in part
   pub FinishesFront-line : (old new : Point S) → (length old.kept == 0) ≡ false
-      → FailsToReply step old.state old.number old.kept new.state old.contents old.held new.contents → FinishesFront step old new
+      → FailsToReply step old.state old.number old.kept new.state (WritesFront old.contents old.held new.contents) → FinishesFront step old new
   FinishesFront-line old new some fails =
       let line = last_line-some old.kept some in
       elim fails [

@@ -1,9 +1,9 @@
 -- How far a conversation has come, between two lines or two reads.
-use Rattle.std.specs.Prelude.{◌≡◌, ℕ, ◌+◌, ◌<◌, ◌≤◌, false, List, [], ◌++◌, length, take, map, Option, Result, Ok, Err, vec_capacity}
+use Rattle.std.specs.Prelude.{◌≡◌, ℕ, ◌+◌, ◌<◌, ◌≤◌, false, List, [], ◌++◌, length, take, map, Option, Result, Ok, Err}
 use Rattle.std.specs.Io.KnownBytes.{Consumes, IsAtEnd}
 use Rattle.lv_script.specs.declared.fault.Fault.{Fault}
 use Rattle.lv_script.specs.declared.fault.Fault.TheVariants.{NoMemory, ReadFault, TooLong, WriteFault}
-use Rattle.lv_script.specs.declared.sender.TheConstants.{HELD}
+use Rattle.lv_script.specs.declared.outbox.Outbox.{Outbox}
 use Rattle.lv_script.specs.declared.progress.Progress.{Progress}
 use Rattle.lv_script.specs.Input.{whole_lines_of, has_end, unended_of, last_line}
 use Rattle.lv_script.specs.Output.{Writes, WritesFront}
@@ -17,16 +17,20 @@ pub record Point (S : Type 0) : Type 0 where
   pub contents : Option (List ℕ)
   pub held : List ℕ
 
--- a point of a conversation whose progress this is
-abbrev pub point_of : {S : Type 0} → S → Progress → Option (List ℕ) → Point S
-point_of state progress contents =
-    record { state = state; number = progress.number; kept = progress.kept.items; contents = contents; held = progress.held.items }
+-- a point of a conversation whose progress and whose outbox these are
+abbrev pub point_of : {S W : Type 0} → S → Progress → (W → Option (List ℕ)) → Outbox W → Point S
+point_of state progress contents outbox = record {
+  state = state;
+  number = progress.number;
+  kept = progress.kept.items;
+  contents = contents outbox.writer.now;
+  held = outbox.held.now.items;
+}
 
--- what is kept is the beginning of a line, and the buffer of replies has its room
+-- what is kept is the beginning of a line
 pub record IsReady (progress : Progress) : Type 0 where
   pub begun : has_end progress.kept.items ≡ false
   pub short : length progress.kept.items ≤ 121
-  pub room : HELD ≤ vec_capacity progress.held
 
 module _ {S : Type 0} (step : S → ℕ → List ℕ → List ℕ → S → Type 0) where
   -- the lines that the bytes end were answered in turn, and their replies written; what they leave of a line is kept

@@ -4,7 +4,7 @@ use Rattle.std.specs.Io.KnownBytes.{Appends, Consumes, IsAtEnd}
 use Rattle.lv_script.specs.declared.fault.Fault.{Fault}
 use Rattle.lv_script.specs.declared.fault.Fault.TheVariants.{NoMemory, ReadFault, TooLong, WriteFault}
 use Rattle.lv_script.specs.Input.{lines_of, whole_lines_of}
-use Rattle.lv_script.specs.Output.{Writes, WritesFront}
+use Rattle.lv_script.specs.Output.{WritesFront}
 
 -- of an input no more bytes were seen than it may have
 abbrev pub IsNotTooLong : List ℕ → Type 0
@@ -30,22 +30,15 @@ module _ {S : Type 0} (step : S → ℕ → List ℕ → List ℕ → S → Type
     pub second : Answered mid (n + length xs) ys rest new
     pub joined : text ≡ front ++ rest
 
-  -- from state old line n was answered, to state new, and its reply put after what was held: sent, or held still
-  pub record Replies (old : S) (n : ℕ) (line : List ℕ) (new : S) (old_contents : Option (List ℕ)) (old_held : List ℕ) (new_contents : Option (List ℕ)) (new_held : List ℕ) : Type 0 where
+  -- from state old line n was answered, to state new, with a reply that was written so
+  pub record Replies (old : S) (n : ℕ) (line : List ℕ) (new : S) (written_so : List ℕ → Type 0) : Type 0 where
     pub reply : List ℕ
     pub answered : step old n line reply new
-    pub written : Writes old_contents old_held new_contents new_held reply
+    pub written : written_so reply
 
-  -- from state old line n was answered, to state new, with a reply of which, after what was held, no more than a front was written
-  pub record RepliesInPart (old : S) (n : ℕ) (line : List ℕ) (new : S) (old_contents : Option (List ℕ)) (old_held : List ℕ) (new_contents : Option (List ℕ)) : Type 0 where
-    pub reply : List ℕ
-    pub answered : step old n line reply new
-    pub written : WritesFront old_contents old_held new_contents reply
-
-  -- nothing was answered, and no more than a front of what was held was written; or line n was, to state new, and no more than a front of that and its reply
-  abbrev pub FailsToReply : S → ℕ → List ℕ → S → Option (List ℕ) → List ℕ → Option (List ℕ) → Type 0
-  FailsToReply old n line new old_contents old_held new_contents =
-      ((new ≡ old) × WritesFront old_contents old_held new_contents []) ⊎ RepliesInPart old n line new old_contents old_held new_contents
+  -- nothing was answered, and of what was held no more than a front written; or line n was, to state new, with a reply that was written in part
+  abbrev pub FailsToReply : S → ℕ → List ℕ → S → (List ℕ → Type 0) → Type 0
+  FailsToReply old n line new written_in_part = ((new ≡ old) × written_in_part []) ⊎ Replies old n line new written_in_part
 
   -- the lines, of each its first 121 bytes, were answered in turn from number 1, and all replies written
   pub record AnswersAll (old : S) (lines : List (List ℕ)) (new : S) (old_contents new_contents : Option (List ℕ)) : Type 0 where

@@ -1,31 +1,35 @@
-ghost use Rattle.std.specs.Prelude.{◌≡◌, ◌⊎◌, ◌+◌, ◌*◌, ◌<◌, ◌≤◌, ◌++◌, List, ℕ, length, OnOk, IfErr, vec_len, vec_capacity};
+ghost use Rattle.std.specs.Prelude.{◌≡◌, ◌⊎◌, ◌*◌, ◌<◌, ◌++◌, List, ℕ, length, OnOk, IfErr, vec_len, vec_capacity};
 ghost use Rattle.lv_bodies.specs.Six.{SixSummary, six_operations};
 ghost use Rattle.lv_bodies.specs.declared.sixes.Six.{Six};
 ghost use Rattle.lv_edits.specs.Capacity.{capacity_after};
 ghost use Rattle.lv_edits.specs.History.{list_of};
+ghost use Rattle.lv_edits.specs.Kept.{InLimits};
 ghost use Rattle.lv_edits.specs.Verdict.{element_at};
 ghost use Rattle.lv_refresh.specs.Carried.{Carried};
 ghost use Rattle.lv_reduce.specs.Answer.{range_refusal};
-ghost use Rattle.lv_live.specs.State.{IsWorld, SameLive, job_at};
+ghost use Rattle.lv_live.specs.State.{IsWorld, SameLive, recorded};
+ghost use Rattle.lv_live.specs.Step.{Reduces};
 ghost use Rattle.lv_live.specs.declared.events.Event.TheVariants as event;
 ghost use Rattle.lv_standing.specs.Queries.{query_of};
-ghost use Rattle.lv_script.specs.Output.{Writes, WritesFront};
+ghost use Rattle.lv_script.specs.Output.{HasRoom, KeepsRoom, Puts, PutsFront, SamePlaces};
 ghost use Rattle.lv_script.specs.Script.{CommandAnswer, TellsEdit, TellsEvent, TellsUnwatch, TellsWatch, Tells, named_answer_text, notes_text, reduced_text};
 ghost use Rattle.lv_script.specs.Scripted.{state_of};
 ghost use Rattle.lv_script.specs.Texts.{capacity_text, element_text, size_text};
 
 use crate::command::Command;
 use crate::fault::Fault;
+use crate::outbox::Outbox;
 use crate::refresh_replies::{put_accepted, put_cost, put_forgotten, put_idle, put_job};
 use crate::replies::{
     LINE, put_answer, put_capacity, put_receipt, put_refusal, put_settled, put_size, put_value,
 };
-use crate::scans::{Asked, answer_scan, reduce};
+use crate::scans::{Asked, answer_scan};
 use crate::watch_replies::{put_named, put_note, put_unwatched, put_watching};
-use lv_bodies::{Body, Kind, Six, face};
+use lv_bodies::{Body, Kind, Six};
 use lv_edits::Edit;
 use lv_geometry::{Node, Refusal};
-use lv_live::Live;
+use lv_live::{Issued, Live};
+use lv_reduce::Answer;
 use lv_refresh::Job;
 use lv_standing::{Name, Note, Standing};
 use std::alloc::Global;
@@ -38,29 +42,28 @@ pub const ROOM: usize = 65 * LINE;
 pub fn answer<W: Write>(
     alloc: Global,
     standing: &mut Standing,
-    jobs: &mut Vec<Job<Six>>,
+    issued: &mut Issued<Six>,
     command: Command,
-    writer: &mut W,
-    held: &mut Vec<u8>,
+    outbox: &mut Outbox<'_, W>,
 ) -> Result<(), Fault>
-    requires world { IsWorld six_operations standing.old.live jobs.old.items }
-    requires room { vec_len held.old + ROOM ≤ vec_capacity held.old }
-    ensures ok { OnOk result ((reply : List ℕ) × CommandAnswer (state_of standing.old jobs.old.items) command reply (state_of standing.new jobs.new.items)
-        × Writes (W.contents writer.old) held.old.items (W.contents writer.new) held.new.items reply) }
+    requires world { IsWorld six_operations standing.old.live issued.old.jobs }
+    requires room { HasRoom outbox.old.held.now ROOM }
+    ensures places { SamePlaces outbox.old outbox.new }
+    ensures ok { OnOk result ((reply : List ℕ) × CommandAnswer (state_of standing.old issued.old.jobs) command reply (state_of standing.new issued.new.jobs)
+        × Puts W.contents outbox.old outbox.new reply) }
     ensures fault { IfErr result (λ fault. (fault ≡ Fault.WriteFault) × (reply : List ℕ)
-        × CommandAnswer (state_of standing.old jobs.old.items) command reply (state_of standing.new jobs.new.items)
-        × WritesFront (W.contents writer.old) held.old.items (W.contents writer.new) reply) }
-    ensures world { IsWorld six_operations standing.new.live jobs.new.items }
-    ensures room { vec_capacity held.old ≤ vec_capacity held.new }
+        × CommandAnswer (state_of standing.old issued.old.jobs) command reply (state_of standing.new issued.new.jobs)
+        × PutsFront W.contents outbox.old outbox.new reply) }
+    ensures world { IsWorld six_operations standing.new.live issued.new.jobs }
 {
     match command {
-        Command::Edit(edit) => put_edit(alloc, standing, edit, held),
-        Command::Settle => put_settle(standing, held),
-        Command::Get(i) => put_element_at(standing, i, held),
-        Command::Size => put_extent(standing, held),
-        Command::Capacity => put_room(standing, held),
-        Command::Reduce { kind, lo, hi } => put_reduced(standing, kind, lo, hi, held),
-        Command::Cost { lo, hi } => put_reads(standing, lo, hi, held),
+        Command::Edit(edit) => put_edit(alloc, standing, edit, outbox.held),
+        Command::Settle => put_settle(standing, outbox.held),
+        Command::Get(i) => put_element_at(standing, i, outbox.held),
+        Command::Size => put_extent(standing, outbox.held),
+        Command::Capacity => put_room(standing, outbox.held),
+        Command::Reduce { kind, lo, hi } => put_reduced(standing, kind, lo, hi, outbox.held),
+        Command::Cost { lo, hi } => put_reads(standing, lo, hi, outbox.held),
         Command::Scan {
             inclusive,
             kind,
@@ -69,8 +72,7 @@ pub fn answer<W: Write>(
         } => {
             return answer_scan(
                 standing,
-                writer,
-                held,
+                outbox,
                 &Asked {
                     inclusive,
                     kind,
@@ -79,23 +81,30 @@ pub fn answer<W: Write>(
                 },
             );
         }
-        Command::Claim => put_claim(standing, jobs, held),
-        Command::Deliver(k) => put_delivery(standing, jobs, k, held),
-        Command::Forget => put_forget(standing, held),
-        Command::Watch { name, kind, lo, hi } => put_watch(standing, name, kind, lo, hi, held),
-        Command::Unwatch(name) => put_unwatch(standing, name, held),
-        Command::Answer(name) => put_named_answer(standing, name, held),
+        Command::Claim => put_claim(standing, issued, outbox.held),
+        Command::Deliver(k) => put_delivery(standing, issued, k, outbox.held),
+        Command::Forget => put_forget(standing, outbox.held),
+        Command::Watch { name, kind, lo, hi } => put_watch(
+            standing,
+            name,
+            kind,
+            lo,
+            hi,
+            outbox.held,
+        ),
+        Command::Unwatch(name) => put_unwatch(standing, name, outbox.held),
+        Command::Answer(name) => put_named_answer(standing, name, outbox.held),
     }
     Ok(())
 }
 
 // Makes an edit: its receipt and its notes, or its refusal.
 fn put_edit(alloc: Global, standing: &mut Standing, edit: Edit, held: &mut Vec<u8>)
-    requires { vec_len held.old + ROOM ≤ vec_capacity held.old }
+    requires { HasRoom held.old ROOM }
     ensures answer { (reply : List ℕ) × ((jobs : List (Carried Six SixSummary)) → TellsEdit (state_of standing.old jobs) edit reply (state_of standing.new jobs))
         × (held.new.items ≡ held.old.items ++ reply) }
     ensures world { (jobs : List (Carried Six SixSummary)) → IsWorld six_operations standing.old.live jobs → IsWorld six_operations standing.new.live jobs }
-    ensures room { vec_capacity held.old ≤ vec_capacity held.new }
+    ensures room { KeepsRoom held.old held.new }
 {
     match standing.edit(alloc, edit) {
         Ok((receipt, notes)) => {
@@ -108,9 +117,9 @@ fn put_edit(alloc: Global, standing: &mut Standing, edit: Edit, held: &mut Vec<u
 
 // Each note on a line.
 fn put_notes(held: &mut Vec<u8>, notes: &[Note])
-    requires { vec_len held.old + LINE * length notes.now ≤ vec_capacity held.old }
+    requires { HasRoom held.old (LINE * length notes.now) }
     ensures text { held.new.items ≡ held.old.items ++ notes_text notes.now }
-    ensures room { vec_capacity held.old ≤ vec_capacity held.new }
+    ensures room { KeepsRoom held.old held.new }
 {
     for note in notes {
         put_note(held, note.name, note.value);
@@ -119,11 +128,11 @@ fn put_notes(held: &mut Vec<u8>, notes: &[Note])
 
 // Completes what is pending.
 fn put_settle(standing: &mut Standing, held: &mut Vec<u8>)
-    requires { vec_len held.old + ROOM ≤ vec_capacity held.old }
+    requires { HasRoom held.old ROOM }
     ensures answer { (reply : List ℕ) × ((jobs : List (Carried Six SixSummary)) → TellsEvent (state_of standing.old jobs) event.Settle reply (state_of standing.new jobs))
         × (held.new.items ≡ held.old.items ++ reply) }
     ensures world { (jobs : List (Carried Six SixSummary)) → IsWorld six_operations standing.old.live jobs → IsWorld six_operations standing.new.live jobs }
-    ensures room { vec_capacity held.old ≤ vec_capacity held.new }
+    ensures room { KeepsRoom held.old held.new }
 {
     standing.settle();
     put_settled(held);
@@ -131,18 +140,18 @@ fn put_settle(standing: &mut Standing, held: &mut Vec<u8>)
 
 // The element at an index, or that there is none.
 fn put_element_at(standing: &Standing, i: u32, held: &mut Vec<u8>)
-    requires { vec_len held.old + ROOM ≤ vec_capacity held.old }
+    requires { HasRoom held.old ROOM }
     ensures text { held.new.items ≡ held.old.items ++ element_text (element_at standing.now.live.history.journal i) }
-    ensures room { vec_capacity held.old ≤ vec_capacity held.new }
+    ensures room { KeepsRoom held.old held.new }
 {
     put_value(held, standing.live().get(i));
 }
 
 // How many elements there are, and the number of the last edit.
 fn put_extent(standing: &Standing, held: &mut Vec<u8>)
-    requires { vec_len held.old + ROOM ≤ vec_capacity held.old }
+    requires { HasRoom held.old ROOM }
     ensures text { let edits = standing.now.live.history.journal in held.new.items ≡ held.old.items ++ size_text (length (list_of edits)) (length edits) }
-    ensures room { vec_capacity held.old ≤ vec_capacity held.new }
+    ensures room { KeepsRoom held.old held.new }
 {
     let extent = extent_of(standing.live());
     put_size(held, extent.size, extent.edit);
@@ -150,9 +159,9 @@ fn put_extent(standing: &Standing, held: &mut Vec<u8>)
 
 // How many elements fit into the open buckets.
 fn put_room(standing: &Standing, held: &mut Vec<u8>)
-    requires { vec_len held.old + ROOM ≤ vec_capacity held.old }
+    requires { HasRoom held.old ROOM }
     ensures text { held.new.items ≡ held.old.items ++ capacity_text (capacity_after standing.now.live.history.journal) }
-    ensures room { vec_capacity held.old ≤ vec_capacity held.new }
+    ensures room { KeepsRoom held.old held.new }
 {
     put_capacity(held, standing.live().capacity());
 }
@@ -176,24 +185,24 @@ fn extent_of<B: Body>(live: &Live<B>) -> Extent
 
 // The value of a kind over a range, of which the vector keeps what it computes, or why the range is refused.
 fn put_reduced(standing: &mut Standing, kind: Kind, lo: u32, hi: u32, held: &mut Vec<u8>)
-    requires { vec_len held.old + ROOM ≤ vec_capacity held.old }
+    requires { HasRoom held.old ROOM }
     ensures text { let edits = standing.old.live.history.journal in held.new.items ≡ held.old.items ++ reduced_text edits kind lo hi (range_refusal edits lo hi) }
     ensures live { SameLive standing.old.live standing.new.live }
     ensures queries { standing.new.queries ≡ standing.old.queries }
-    ensures room { vec_capacity held.old ≤ vec_capacity held.new }
+    ensures room { KeepsRoom held.old held.new }
 {
-    match standing.ask(lo, hi) {
-        Ok(answer) => put_answer(held, answer.edit, kind, face(kind, answer.value)),
+    match standing.value(kind, lo, hi) {
+        Ok(answered) => put_answer(held, answered.edit, kind, answered.value),
         Err(refusal) => put_refusal(held, refusal),
     }
 }
 
 // How many reads a reduction makes, or why its range is refused.
 fn put_reads(standing: &Standing, lo: u32, hi: u32, held: &mut Vec<u8>)
-    requires { vec_len held.old + ROOM ≤ vec_capacity held.old }
+    requires { HasRoom held.old ROOM }
     ensures answer { (reply : List ℕ) × ((jobs : List (Carried Six SixSummary)) → TellsEvent (state_of standing.now jobs) (event.Reduce lo hi) reply (state_of standing.now jobs))
         × (held.new.items ≡ held.old.items ++ reply) }
-    ensures room { vec_capacity held.old ≤ vec_capacity held.new }
+    ensures room { KeepsRoom held.old held.new }
 {
     match reduce(standing, lo, hi) {
         Ok(answer) => put_cost(held, answer.cells_read, answer.summaries_read),
@@ -201,37 +210,44 @@ fn put_reads(standing: &Standing, lo: u32, hi: u32, held: &mut Vec<u8>)
     }
 }
 
-// Claims a job, once there is room to keep it.
-fn put_claim(standing: &mut Standing, jobs: &mut Vec<Job<Six>>, held: &mut Vec<u8>)
-    requires { vec_len held.old + ROOM ≤ vec_capacity held.old }
-    ensures answer { (reply : List ℕ) × CommandAnswer (state_of standing.old jobs.old.items) Command.Claim reply (state_of standing.new jobs.new.items)
-        × (held.new.items ≡ held.old.items ++ reply) }
-    ensures world { IsWorld six_operations standing.old.live jobs.old.items → IsWorld six_operations standing.new.live jobs.new.items }
-    ensures room { vec_capacity held.old ≤ vec_capacity held.new }
+// A reduction of all six bodies.
+fn reduce(standing: &Standing, lo: u32, hi: u32) -> Result<Answer<<Six as Body>::S>, Refusal>
+    ensures answer { Reduces six_operations (recorded standing.now.live) lo hi result }
+    ensures limits { InLimits standing.now.live.history }
 {
-    let Ok(()) = jobs.reserve(1) else {
+    standing.live().reduce(lo, hi)
+}
+
+// Claims a job, once there is room to keep it.
+fn put_claim(standing: &mut Standing, issued: &mut Issued<Six>, held: &mut Vec<u8>)
+    requires { HasRoom held.old ROOM }
+    ensures answer { (reply : List ℕ) × CommandAnswer (state_of standing.old issued.old.jobs) Command.Claim reply (state_of standing.new issued.new.jobs)
+        × (held.new.items ≡ held.old.items ++ reply) }
+    ensures world { IsWorld six_operations standing.old.live issued.old.jobs → IsWorld six_operations standing.new.live issued.new.jobs }
+    ensures room { KeepsRoom held.old held.new }
+{
+    let Ok(()) = issued.make_room(1) else {
         put_refusal(held, Refusal::NoMemory);
         return;
     };
-    put_next_job(standing, jobs, held);
+    put_next_job(standing, issued, held);
 }
 
 // Claims a job, and keeps it under its number.
-fn put_next_job(standing: &mut Standing, jobs: &mut Vec<Job<Six>>, held: &mut Vec<u8>)
-    requires held { vec_len held.old + ROOM ≤ vec_capacity held.old }
-    requires jobs { vec_len jobs.old < vec_capacity jobs.old }
-    ensures answer { (reply : List ℕ) × TellsEvent (state_of standing.old jobs.old.items) event.Claim reply (state_of standing.new jobs.new.items)
+fn put_next_job(standing: &mut Standing, issued: &mut Issued<Six>, held: &mut Vec<u8>)
+    requires held { HasRoom held.old ROOM }
+    requires issued { 0 < issued.old.room }
+    ensures answer { (reply : List ℕ) × TellsEvent (state_of standing.old issued.old.jobs) event.Claim reply (state_of standing.new issued.new.jobs)
         × (held.new.items ≡ held.old.items ++ reply) }
-    ensures world { IsWorld six_operations standing.old.live jobs.old.items → IsWorld six_operations standing.new.live jobs.new.items }
-    ensures room { vec_capacity held.old ≤ vec_capacity held.new }
+    ensures world { IsWorld six_operations standing.old.live issued.old.jobs → IsWorld six_operations standing.new.live issued.new.jobs }
+    ensures room { KeepsRoom held.old held.new }
 {
     let Some(job) = standing.claim() else {
         put_idle(held);
         return;
     };
     let (node, version) = node_and_version(&job);
-    jobs.push_reserved(job);
-    put_job(held, jobs.len() as u64, node, version);
+    put_job(held, issued.keep(job), node, version);
 }
 
 // The node that a job is for, and the version.
@@ -243,34 +259,27 @@ fn node_and_version<B: Body>(job: &Job<B>) -> (Node, u32)
 }
 
 // Delivers the outcome of a job, where there is one of that number.
-fn put_delivery(standing: &mut Standing, jobs: &[Job<Six>], k: u32, held: &mut Vec<u8>)
-    requires world { IsWorld six_operations standing.old.live jobs.now }
-    requires room { vec_len held.old + ROOM ≤ vec_capacity held.old }
-    ensures answer { (reply : List ℕ) × TellsEvent (state_of standing.old jobs.now) (event.Deliver k) reply (state_of standing.new jobs.now)
+fn put_delivery(standing: &mut Standing, issued: &Issued<Six>, k: u32, held: &mut Vec<u8>)
+    requires world { IsWorld six_operations standing.old.live issued.now.jobs }
+    requires room { HasRoom held.old ROOM }
+    ensures answer { (reply : List ℕ) × TellsEvent (state_of standing.old issued.now.jobs) (event.Deliver k) reply (state_of standing.new issued.now.jobs)
         × (held.new.items ≡ held.old.items ++ reply) }
-    ensures world { IsWorld six_operations standing.new.live jobs.now }
-    ensures room { vec_capacity held.old ≤ vec_capacity held.new }
+    ensures world { IsWorld six_operations standing.new.live issued.now.jobs }
+    ensures room { KeepsRoom held.old held.new }
 {
-    match job_of_number(jobs, k) {
-        Some(job) => put_accepted(held, standing.accept(job.run())),
+    match issued.outcome(k as u64) {
+        Some(outcome) => put_accepted(held, standing.accept(outcome)),
         None => put_refusal(held, Refusal::NoJob),
     }
 }
 
-// The job of a number, counted from 1, if there is one.
-fn job_of_number(jobs: &[Job<Six>], k: u32) -> Option<Job<Six>>
-    ensures { result ≡ job_at jobs.now k }
-{
-    jobs.get(k.checked_sub(1)? as usize).copied()
-}
-
 // Forgets all claims.
 fn put_forget(standing: &mut Standing, held: &mut Vec<u8>)
-    requires { vec_len held.old + ROOM ≤ vec_capacity held.old }
+    requires { HasRoom held.old ROOM }
     ensures answer { (reply : List ℕ) × ((jobs : List (Carried Six SixSummary)) → TellsEvent (state_of standing.old jobs) event.Forget reply (state_of standing.new jobs))
         × (held.new.items ≡ held.old.items ++ reply) }
     ensures world { (jobs : List (Carried Six SixSummary)) → IsWorld six_operations standing.old.live jobs → IsWorld six_operations standing.new.live jobs }
-    ensures room { vec_capacity held.old ≤ vec_capacity held.new }
+    ensures room { KeepsRoom held.old held.new }
 {
     standing.forget_claims();
     put_forgotten(held);
@@ -278,11 +287,11 @@ fn put_forget(standing: &mut Standing, held: &mut Vec<u8>)
 
 // Registers a query.
 fn put_watch(standing: &mut Standing, name: Name, kind: Kind, lo: u32, hi: u32, held: &mut Vec<u8>)
-    requires { vec_len held.old + ROOM ≤ vec_capacity held.old }
+    requires { HasRoom held.old ROOM }
     ensures answer { (reply : List ℕ) × ((jobs : List (Carried Six SixSummary)) → TellsWatch (state_of standing.old jobs) record { name = name; kind = kind; lo = lo; hi = hi } reply (state_of standing.new jobs))
         × (held.new.items ≡ held.old.items ++ reply) }
     ensures live { standing.new.live ≡ standing.old.live }
-    ensures room { vec_capacity held.old ≤ vec_capacity held.new }
+    ensures room { KeepsRoom held.old held.new }
 {
     match standing.watch(name, kind, lo, hi) {
         Ok(()) => put_watching(held, name),
@@ -292,11 +301,11 @@ fn put_watch(standing: &mut Standing, name: Name, kind: Kind, lo: u32, hi: u32, 
 
 // Forgets a query.
 fn put_unwatch(standing: &mut Standing, name: Name, held: &mut Vec<u8>)
-    requires { vec_len held.old + ROOM ≤ vec_capacity held.old }
+    requires { HasRoom held.old ROOM }
     ensures answer { (reply : List ℕ) × ((jobs : List (Carried Six SixSummary)) → TellsUnwatch (state_of standing.old jobs) name (query_of standing.old.queries name) reply (state_of standing.new jobs))
         × (held.new.items ≡ held.old.items ++ reply) }
     ensures live { standing.new.live ≡ standing.old.live }
-    ensures room { vec_capacity held.old ≤ vec_capacity held.new }
+    ensures room { KeepsRoom held.old held.new }
 {
     match standing.unwatch(name) {
         Ok(()) => put_unwatched(held, name),
@@ -306,9 +315,9 @@ fn put_unwatch(standing: &mut Standing, name: Name, held: &mut Vec<u8>)
 
 // What a query answers.
 fn put_named_answer(standing: &Standing, name: Name, held: &mut Vec<u8>)
-    requires { vec_len held.old + ROOM ≤ vec_capacity held.old }
+    requires { HasRoom held.old ROOM }
     ensures text { held.new.items ≡ held.old.items ++ named_answer_text standing.now.live.history.journal name (query_of standing.now.queries name) }
-    ensures room { vec_capacity held.old ≤ vec_capacity held.new }
+    ensures room { KeepsRoom held.old held.new }
 {
     match standing.answer(name) {
         Ok(answered) => put_named(held, answered.edit, name, answered.value),

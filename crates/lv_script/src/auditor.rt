@@ -1,4 +1,5 @@
-ghost use Rattle.std.specs.Prelude.{◌≡◌, ◌↔◌, ℕ, ◌+◌, ◌^◌, ◌≤◌, ◌++◌, ◌⊎◌, [], IfOk, MatchResult, IsTrue, length, take, vec_len, vec_capacity};
+ghost use Rattle.std.specs.Prelude.{◌≡◌, ◌↔◌, ℕ, ◌^◌, ◌≤◌, ◌++◌, ◌⊎◌, [], IfOk, MatchResult, IsTrue, length, take, vec_capacity};
+ghost use Rattle.lv_script.specs.Output.{HasRoom};
 ghost use Rattle.lv_edits.specs.History.{list_of};
 ghost use Rattle.lv_script.specs.Auditing.{AuditState, start_state, state_of, Audits, AuditStep, ClaimBecomes, EditBecomes, Becomes, FirstBecomes, IsAnswer, IsVerdictAt, MayEnd, Takes, TakesEdit, TakesLater};
 ghost use Rattle.lv_script.specs.Transcript.{greatest, verdict_text, Audited};
@@ -6,10 +7,11 @@ ghost use Rattle.lv_script.specs.declared.replies.TheConstants.{LINE};
 
 use crate::conversation::converse;
 use crate::fault::Fault;
+use crate::outbox::Outbox;
 use crate::plain_ranges::{Replay, plain_value_of};
 use crate::replies::{LINE, put_bad, put_shown};
 use crate::responder::Responder;
-use crate::sender::{put, put_number, send};
+use crate::sender::{put, put_number, write_whole};
 use crate::transcript_lines::{Question, read_claim, read_edit};
 use lv_edits::{Edit, Edits};
 use lv_geometry::Limits;
@@ -49,13 +51,13 @@ pub fn audit<R: Read, W: Write>(
     converse(alloc, &mut auditor, reader, writer)?;
     let verdict = auditor.verdict()?;
     put_verdict(&mut held, verdict);
-    send(writer, &mut held)?;
+    write_whole(writer, held.as_slice())?;
     Ok(verdict)
 }
 
 // Puts the line of a verdict behind what is held.
 fn put_verdict(held: &mut Vec<u8>, verdict: Verdict)
-    requires { vec_len held.old + LINE ≤ vec_capacity held.old }
+    requires { HasRoom held.old LINE }
     ensures { held.new.items ≡ held.old.items ++ verdict_text verdict }
 {
     match verdict {
@@ -117,8 +119,7 @@ impl Responder for Auditor {
         &mut self,
         number: u32,
         line: &[u8],
-        _writer: &mut W,
-        _held: &mut Vec<u8>,
+        _outbox: &mut Outbox<'_, W>,
     ) -> Result<(), Fault> {
         self.take_line(number, line);
         Ok(())

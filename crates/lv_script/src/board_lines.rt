@@ -5,8 +5,7 @@ ghost use Rattle.lv_script.specs.BoardLine.{board_call_in, board_line_of, own_ra
 use crate::grammar::{bounds, spells};
 use crate::lines::{is_comment, without_cr};
 use crate::plain_calls::plain_call;
-use crate::printing::kind_name;
-use crate::words::next_word;
+use crate::words::{kind_name, next_word};
 use lv_bodies::Kind;
 use lv_machine::Call;
 

@@ -1,12 +1,14 @@
-ghost use Rattle.std.specs.Prelude.{◌≡◌, ◌+◌, ◌^◌, ◌<◌, ◌≤◌, length, take, OnOk, IfOk, IfErr, vec_len};
+ghost use Rattle.std.specs.Prelude.{◌≡◌, ◌+◌, ◌^◌, ◌<◌, ◌≤◌, [], length, take, OnOk, IfOk, IfErr, vec_len, vec_capacity};
 ghost use Rattle.std.specs.Io.KnownBytes.{Keeps, Consumes, IsAtEnd};
+ghost use Rattle.lv_script.specs.Output.{SamePlaces};
 ghost use Rattle.lv_script.specs.Replies.{Conversed};
 ghost use Rattle.lv_script.specs.Progress.{IsReady, Hears, point_of};
 
 use crate::fault::Fault;
+use crate::outbox::Outbox;
 use crate::progress::Progress;
 use crate::responder::Responder;
-use crate::sender::{HELD, send};
+use crate::sender::HELD;
 use std::alloc::{AllocError, Global};
 use std::io::{Read, Write};
 
@@ -34,13 +36,47 @@ pub fn converse<A: Responder, R: Read, W: Write>(
     let Ok(mut chunk) = zeros(alloc, CHUNK) else {
         return Err(Fault::NoMemory);
     };
-    let Ok(held) = Vec::with_capacity(alloc, HELD) else {
+    let Ok(mut held) = Vec::with_capacity(alloc, HELD) else {
         return Err(Fault::NoMemory);
     };
-    let mut progress = Progress::new(held);
-    hear(&mut progress, &mut chunk, MOST, responder, reader, writer)?;
-    progress.finish(responder, writer)?;
-    send(writer, &mut progress.held)
+    converse_by(&mut chunk, &mut held, responder, reader, writer)
+}
+
+// Has a conversation by buffers that were made for it: one for what is read, and one for what is held.
+fn converse_by<A: Responder, R: Read, W: Write>(
+    chunk: &mut [u8],
+    held: &mut Vec<u8>,
+    responder: &mut A,
+    reader: &mut R,
+    writer: &mut W,
+) -> Result<(), Fault>
+    requires chunk { 0 < length chunk.old }
+    requires held { held.old.items ≡ [] }
+    requires room { HELD ≤ vec_capacity held.old }
+    ensures { Conversed A.step (A.state responder.old) (A.state responder.new) (R.remaining reader.old) (R.remaining reader.new)
+        (W.contents writer.old) (W.contents writer.new) result }
+{
+    let mut outbox = Outbox { writer, held };
+    talk(chunk, responder, reader, &mut outbox)
+}
+
+// Has a conversation whose replies go into an empty outbox.
+fn talk<A: Responder, R: Read, W: Write>(
+    chunk: &mut [u8],
+    responder: &mut A,
+    reader: &mut R,
+    outbox: &mut Outbox<'_, W>,
+) -> Result<(), Fault>
+    requires chunk { 0 < length chunk.old }
+    requires held { outbox.old.held.now.items ≡ [] }
+    ensures places { SamePlaces outbox.old outbox.new }
+    ensures conversed { Conversed A.step (A.state responder.old) (A.state responder.new) (R.remaining reader.old) (R.remaining reader.new)
+        (W.contents outbox.old.writer.now) (W.contents outbox.new.writer.now) result }
+{
+    let mut progress = Progress::new();
+    hear(&mut progress, chunk, MOST, responder, reader, outbox)?;
+    progress.finish(responder, outbox)?;
+    outbox.send()
 }
 
 fn zeros(alloc: Global, len: usize) -> Result<Vec<u8>, AllocError>
@@ -56,27 +92,28 @@ pub(crate) fn hear<A: Responder, R: Read, W: Write>(
     most: usize,
     responder: &mut A,
     reader: &mut R,
-    writer: &mut W,
+    outbox: &mut Outbox<'_, W>,
 ) -> Result<(), Fault>
     requires ready { IsReady progress.old }
     requires number { progress.old.number + most < 2 ^ 32 }
     requires chunk { 0 < length chunk.old }
-    ensures hears { Hears A.step (point_of (A.state responder.old) progress.old (W.contents writer.old))
-        (point_of (A.state responder.new) progress.new (W.contents writer.new)) (R.remaining reader.old) (R.remaining reader.new) most result }
+    ensures places { SamePlaces outbox.old outbox.new }
+    ensures hears { Hears A.step (point_of (A.state responder.old) progress.old W.contents outbox.old)
+        (point_of (A.state responder.new) progress.new W.contents outbox.new) (R.remaining reader.old) (R.remaining reader.new) most result }
     ensures number { OnOk result (progress.new.number ≤ progress.old.number + most) }
     ensures ready { OnOk result (IsReady progress.new) }
 {
     let mut left = most;
     while left > 0 {
-        send(writer, &mut progress.held)?;
+        outbox.send()?;
         let count = read_front(reader, chunk, left)?;
         if count == 0 {
             return Ok(());
         }
-        progress.feed(responder, &chunk[..count], writer)?;
+        progress.feed(responder, &chunk[..count], outbox)?;
         left -= count;
     }
-    send(writer, &mut progress.held)?;
+    outbox.send()?;
     Err(Fault::TooLong)
 }
 

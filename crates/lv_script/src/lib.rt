@@ -23,6 +23,7 @@ mod grammar;
 mod laws;
 mod lines;
 mod numbers;
+mod outbox;
 mod plain_calls;
 mod plain_ranges;
 mod printing;
@@ -52,12 +53,14 @@ pub use laws::{
     a_front_of_the_lines_gives_a_front_of_the_text, a_script_has_one_text,
 };
 pub use lines::read_line;
+pub use outbox::Outbox;
 pub use printing::print_command;
 pub use replies::{LINE, put_answer, put_bad, put_receipt, put_refusal};
 pub use responder::Responder;
 pub use scan_replies::put_scan;
+pub use scans::Asked;
 pub use schedule_replies::{put_said, said_shown};
 pub use schedules::run_schedule;
 pub use scripts::run_script;
-pub use sender::{HELD, make_room, put, put_element, put_number, put_wide, send};
+pub use sender::{HELD, put, put_element, put_number, put_wide};
 pub use transcripts::{Claimed, write_transcript};

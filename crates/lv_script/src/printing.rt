@@ -1,13 +1,14 @@
-ghost use Rattle.std.specs.Prelude.{◌≡◌, ◌+◌, ◌≤◌, ◌∷◌, [], ◌++◌, decimal, length, IfOk, vec_len, vec_capacity};
+ghost use Rattle.std.specs.Prelude.{◌≡◌, ◌+◌, ◌≤◌, ◌∷◌, [], ◌++◌, decimal, length, IfOk, vec_len};
+ghost use Rattle.lv_script.specs.Output.{HasRoom, KeepsRoom};
 ghost use Rattle.std.specs.Fmt.{signed_decimal};
 ghost use Rattle.lv_standing.specs.Names.{IsName};
 ghost use Rattle.lv_script.specs.Words.{behind_spaces};
-ghost use Rattle.lv_script.specs.Grammar.{kind_name, line_of};
+ghost use Rattle.lv_script.specs.Grammar.{line_of};
 ghost use Rattle.lv_script.specs.Printed.{verb_of, arguments_of, range_words, printed, IsCommand};
-ghost use Rattle.lv_script.specs.Texts.{scan_name};
 
 use crate::command::{Command, Line};
 use crate::sender::{put, put_element, put_number};
+use crate::words::{kind_name, scan_name};
 use lv_bodies::Kind;
 use lv_edits::Edit;
 use lv_standing::Name;
@@ -30,10 +31,10 @@ pub fn print_command(alloc: Global, command: &Command) -> Result<Vec<u8>, AllocE
 
 /// Puts the text of a command behind what is held.
 pub(crate) fn put_command(held: &mut Vec<u8>, command: &Command)
-    requires { vec_len held.old + COMMAND ≤ vec_capacity held.old }
+    requires { HasRoom held.old COMMAND }
     ensures text { held.new.items ≡ held.old.items ++ printed command.now }
     ensures len { vec_len held.new ≤ vec_len held.old + COMMAND }
-    ensures room { vec_capacity held.old ≤ vec_capacity held.new }
+    ensures room { KeepsRoom held.old held.new }
     ensures fits { IsCommand command.now }
 {
     put(held, verb(command).as_bytes());
@@ -68,63 +69,42 @@ fn verb(command: &Command) -> &'static str
     }
 }
 
-/// The word that a kind goes by.
-pub(crate) fn kind_name(kind: Kind) -> &'static str
-    ensures { result.now ≡ kind_name kind }
-{
-    match kind {
-        Kind::Sum => "sum",
-        Kind::Least => "least",
-        Kind::Greatest => "greatest",
-        Kind::Best => "best",
-        Kind::Affine => "affine",
-        Kind::Automaton => "automaton",
-    }
-}
-
-/// The word of a scan.
-pub(crate) fn scan_name(inclusive: bool) -> &'static str
-    ensures { result.now ≡ scan_name inclusive }
-{
-    if inclusive { "inc" } else { "exc" }
-}
-
 // Puts a word behind a space.
 fn put_word(held: &mut Vec<u8>, word: &[u8])
-    requires { vec_len held.old + 1 + length word.now ≤ vec_capacity held.old }
+    requires { HasRoom held.old (1 + length word.now) }
     ensures text { held.new.items ≡ held.old.items ++ (32 ∷ word.now) }
     ensures len { vec_len held.new ≡ vec_len held.old + 1 + length word.now }
-    ensures room { vec_capacity held.old ≤ vec_capacity held.new }
+    ensures room { KeepsRoom held.old held.new }
 {
     put(held, b" ");
     put(held, word);
 }
 
 fn put_name_word(held: &mut Vec<u8>, name: Name)
-    requires { vec_len held.old + 17 ≤ vec_capacity held.old }
+    requires { HasRoom held.old 17 }
     ensures text { held.new.items ≡ held.old.items ++ (32 ∷ name) }
     ensures named { IsName name }
     ensures len { vec_len held.new ≤ vec_len held.old + 17 }
-    ensures room { vec_capacity held.old ≤ vec_capacity held.new }
+    ensures room { KeepsRoom held.old held.new }
 {
     put_word(held, name.as_bytes());
 }
 
 fn put_number_word(held: &mut Vec<u8>, n: u32)
-    requires { vec_len held.old + 21 ≤ vec_capacity held.old }
+    requires { HasRoom held.old 21 }
     ensures text { held.new.items ≡ held.old.items ++ (32 ∷ decimal n) }
     ensures len { vec_len held.new ≤ vec_len held.old + 21 }
-    ensures room { vec_capacity held.old ≤ vec_capacity held.new }
+    ensures room { KeepsRoom held.old held.new }
 {
     put(held, b" ");
     put_number(held, n.into());
 }
 
 fn put_element_word(held: &mut Vec<u8>, value: i64)
-    requires { vec_len held.old + 21 ≤ vec_capacity held.old }
+    requires { HasRoom held.old 21 }
     ensures text { held.new.items ≡ held.old.items ++ (32 ∷ signed_decimal value) }
     ensures len { vec_len held.new ≤ vec_len held.old + 21 }
-    ensures room { vec_capacity held.old ≤ vec_capacity held.new }
+    ensures room { KeepsRoom held.old held.new }
 {
     put(held, b" ");
     put_element(held, value);
@@ -132,20 +112,20 @@ fn put_element_word(held: &mut Vec<u8>, value: i64)
 
 // Two numbers, each behind a space.
 fn put_numbers(held: &mut Vec<u8>, first: u32, second: u32)
-    requires { vec_len held.old + 42 ≤ vec_capacity held.old }
+    requires { HasRoom held.old 42 }
     ensures text { held.new.items ≡ held.old.items ++ behind_spaces (decimal first ∷ decimal second ∷ []) }
     ensures len { vec_len held.new ≤ vec_len held.old + 42 }
-    ensures room { vec_capacity held.old ≤ vec_capacity held.new }
+    ensures room { KeepsRoom held.old held.new }
 {
     put_number_word(held, first);
     put_number_word(held, second);
 }
 
 fn put_range(held: &mut Vec<u8>, kind: Kind, lo: u32, hi: u32)
-    requires { vec_len held.old + 52 ≤ vec_capacity held.old }
+    requires { HasRoom held.old 52 }
     ensures text { held.new.items ≡ held.old.items ++ behind_spaces (range_words kind lo hi) }
     ensures len { vec_len held.new ≤ vec_len held.old + 52 }
-    ensures room { vec_capacity held.old ≤ vec_capacity held.new }
+    ensures room { KeepsRoom held.old held.new }
 {
     put_word(held, kind_name(kind).as_bytes());
     put_numbers(held, lo, hi);
@@ -153,10 +133,10 @@ fn put_range(held: &mut Vec<u8>, kind: Kind, lo: u32, hi: u32)
 
 // The words of a command after its first, each behind a space.
 fn put_arguments(held: &mut Vec<u8>, command: &Command)
-    requires { vec_len held.old + 69 ≤ vec_capacity held.old }
+    requires { HasRoom held.old 69 }
     ensures words { held.new.items ≡ held.old.items ++ behind_spaces (arguments_of command.now) }
     ensures len { vec_len held.new ≤ vec_len held.old + 69 }
-    ensures room { vec_capacity held.old ≤ vec_capacity held.new }
+    ensures room { KeepsRoom held.old held.new }
     ensures fits { IsCommand command.now }
 {
     match *command {

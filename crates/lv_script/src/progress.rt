@@ -1,11 +1,12 @@
-// What a conversation has in hand between two lines: the number of the next line, the first bytes of a
-// line that was begun, and the replies that were not sent.
-ghost use Rattle.std.specs.Prelude.{◌≡◌, ◌+◌, ◌^◌, ◌<◌, ◌≤◌, ◌==◌, [], ◌++◌, length, take, position, OnOk, IfErr, vec_capacity};
+// What a conversation has in hand between two lines: the number of the next line, and the first bytes of a
+// line that was begun.
+ghost use Rattle.std.specs.Prelude.{◌≡◌, ◌+◌, ◌^◌, ◌<◌, ◌≤◌, ◌==◌, [], ◌++◌, length, take, position, OnOk, IfErr};
+ghost use Rattle.lv_script.specs.Output.{Puts, PutsFront, SamePlaces};
 ghost use Rattle.lv_script.specs.Replies.{Replies, FailsToReply};
 
 use crate::fault::Fault;
+use crate::outbox::Outbox;
 use crate::responder::Responder;
-use crate::sender::HELD;
 use arrayvec::ArrayVec;
 use std::io::Write;
 
@@ -18,24 +19,20 @@ const LONGEST: usize = 121;
 pub(crate) struct Progress {
     pub(crate) number: u32,
     pub(crate) kept: ArrayVec<u8, LONGEST>,
-    pub(crate) held: Vec<u8>,
 }
 
 impl Progress {
     ghost use Rattle.lv_script.specs.Progress.{IsReady, Feeds, FeedsFront, Finishes, FinishesFront, point_of};
 
-    /// Before the first line. The buffer of replies is empty.
-    pub(crate) fn new(held: Vec<u8>) -> Progress
-        requires { HELD ≤ vec_capacity held }
+    /// Before the first line.
+    pub(crate) fn new() -> Progress
         ensures ready { IsReady result }
         ensures number { result.number ≡ 1 }
         ensures kept { result.kept.items ≡ [] }
-        ensures held { result.held.items ≡ held.items }
     {
         Progress {
             number: 1,
             kept: ArrayVec::new(),
-            held,
         }
     }
 
@@ -44,21 +41,22 @@ impl Progress {
         &mut self,
         responder: &mut A,
         bytes: &[u8],
-        writer: &mut W,
+        outbox: &mut Outbox<'_, W>,
     ) -> Result<(), Fault>
         requires ready { IsReady self.old }
         requires number { self.old.number + length bytes.now < 2 ^ 32 }
-        ensures ok { OnOk result (Feeds A.step (point_of (A.state responder.old) self.old (W.contents writer.old))
-            (point_of (A.state responder.new) self.new (W.contents writer.new)) bytes.now) }
+        ensures places { SamePlaces outbox.old outbox.new }
+        ensures ok { OnOk result (Feeds A.step (point_of (A.state responder.old) self.old W.contents outbox.old)
+            (point_of (A.state responder.new) self.new W.contents outbox.new) bytes.now) }
         ensures fault { IfErr result (λ fault. (fault ≡ Fault.WriteFault)
-            × FeedsFront A.step (point_of (A.state responder.old) self.old (W.contents writer.old))
-            (point_of (A.state responder.new) self.new (W.contents writer.new)) bytes.now) }
+            × FeedsFront A.step (point_of (A.state responder.old) self.old W.contents outbox.old)
+            (point_of (A.state responder.new) self.new W.contents outbox.new) bytes.now) }
         ensures ready { OnOk result (IsReady self.new) }
     {
         let mut rest = bytes;
         while let Some(end) = end_of_line(rest) {
             let (piece, ended) = rest.split_at(end);
-            self.end_line(responder, piece, writer)?;
+            self.end_line(responder, piece, outbox)?;
             (_, rest) = ended.split_at(1);
         }
         keep(&mut self.kept, rest);
@@ -70,24 +68,22 @@ impl Progress {
         &mut self,
         responder: &mut A,
         piece: &[u8],
-        writer: &mut W,
+        outbox: &mut Outbox<'_, W>,
     ) -> Result<(), Fault>
         requires ready { IsReady self.old }
         requires number { self.old.number + 1 < 2 ^ 32 }
-        ensures ok { OnOk result (Replies A.step (A.state responder.old) self.old.number (take 121 (self.old.kept.items ++ piece.now)) (A.state responder.new)
-            (W.contents writer.old) self.old.held.items (W.contents writer.new) self.new.held.items) }
+        ensures places { SamePlaces outbox.old outbox.new }
+        ensures ok { OnOk result (Replies A.step (A.state responder.old) self.old.number (take 121 (self.old.kept.items ++ piece.now)) (A.state responder.new) (Puts W.contents outbox.old outbox.new)) }
         ensures number { OnOk result (self.new.number ≡ self.old.number + 1) }
         ensures kept { OnOk result (self.new.kept.items ≡ []) }
-        ensures room { OnOk result (HELD ≤ vec_capacity self.new.held) }
         ensures fault { IfErr result (λ fault. (fault ≡ Fault.WriteFault)
-            × FailsToReply A.step (A.state responder.old) self.old.number (take 121 (self.old.kept.items ++ piece.now)) (A.state responder.new)
-            (W.contents writer.old) self.old.held.items (W.contents writer.new)) }
+            × FailsToReply A.step (A.state responder.old) self.old.number (take 121 (self.old.kept.items ++ piece.now)) (A.state responder.new) (PutsFront W.contents outbox.old outbox.new)) }
     {
         if self.kept.is_empty() {
-            return self.answer(responder, front(piece, LONGEST), writer);
+            return self.answer(responder, front(piece, LONGEST), outbox);
         }
         keep(&mut self.kept, piece);
-        self.answer_kept(responder, writer)
+        self.answer_kept(responder, outbox)
     }
 
     // Has a line answered of which nothing is kept.
@@ -95,21 +91,18 @@ impl Progress {
         &mut self,
         responder: &mut A,
         line: &[u8],
-        writer: &mut W,
+        outbox: &mut Outbox<'_, W>,
     ) -> Result<(), Fault>
         requires number { self.old.number + 1 < 2 ^ 32 }
         requires short { length line.now ≤ 121 }
-        requires room { HELD ≤ vec_capacity self.old.held }
-        ensures ok { OnOk result (Replies A.step (A.state responder.old) self.old.number line.now (A.state responder.new)
-            (W.contents writer.old) self.old.held.items (W.contents writer.new) self.new.held.items) }
+        ensures places { SamePlaces outbox.old outbox.new }
+        ensures ok { OnOk result (Replies A.step (A.state responder.old) self.old.number line.now (A.state responder.new) (Puts W.contents outbox.old outbox.new)) }
         ensures number { OnOk result (self.new.number ≡ self.old.number + 1) }
         ensures kept { self.new.kept ≡ self.old.kept }
-        ensures room { OnOk result (HELD ≤ vec_capacity self.new.held) }
         ensures fault { IfErr result (λ fault. (fault ≡ Fault.WriteFault)
-            × FailsToReply A.step (A.state responder.old) self.old.number line.now (A.state responder.new)
-            (W.contents writer.old) self.old.held.items (W.contents writer.new)) }
+            × FailsToReply A.step (A.state responder.old) self.old.number line.now (A.state responder.new) (PutsFront W.contents outbox.old outbox.new)) }
     {
-        responder.respond(self.number, line, writer, &mut self.held)?;
+        responder.respond(self.number, line, outbox)?;
         self.number += 1;
         Ok(())
     }
@@ -118,20 +111,17 @@ impl Progress {
     fn answer_kept<A: Responder, W: Write>(
         &mut self,
         responder: &mut A,
-        writer: &mut W,
+        outbox: &mut Outbox<'_, W>,
     ) -> Result<(), Fault>
         requires number { self.old.number + 1 < 2 ^ 32 }
-        requires room { HELD ≤ vec_capacity self.old.held }
-        ensures ok { OnOk result (Replies A.step (A.state responder.old) self.old.number self.old.kept.items (A.state responder.new)
-            (W.contents writer.old) self.old.held.items (W.contents writer.new) self.new.held.items) }
+        ensures places { SamePlaces outbox.old outbox.new }
+        ensures ok { OnOk result (Replies A.step (A.state responder.old) self.old.number self.old.kept.items (A.state responder.new) (Puts W.contents outbox.old outbox.new)) }
         ensures number { OnOk result (self.new.number ≡ self.old.number + 1) }
         ensures kept { OnOk result (self.new.kept.items ≡ []) }
-        ensures room { OnOk result (HELD ≤ vec_capacity self.new.held) }
         ensures fault { IfErr result (λ fault. (fault ≡ Fault.WriteFault)
-            × FailsToReply A.step (A.state responder.old) self.old.number self.old.kept.items (A.state responder.new)
-            (W.contents writer.old) self.old.held.items (W.contents writer.new)) }
+            × FailsToReply A.step (A.state responder.old) self.old.number self.old.kept.items (A.state responder.new) (PutsFront W.contents outbox.old outbox.new)) }
     {
-        responder.respond(self.number, self.kept.as_slice(), writer, &mut self.held)?;
+        responder.respond(self.number, self.kept.as_slice(), outbox)?;
         self.kept.clear();
         self.number += 1;
         Ok(())
@@ -141,20 +131,20 @@ impl Progress {
     pub(crate) fn finish<A: Responder, W: Write>(
         &mut self,
         responder: &mut A,
-        writer: &mut W,
+        outbox: &mut Outbox<'_, W>,
     ) -> Result<(), Fault>
         requires number { self.old.number + 1 < 2 ^ 32 }
-        requires room { HELD ≤ vec_capacity self.old.held }
-        ensures ok { OnOk result (Finishes A.step (point_of (A.state responder.old) self.old (W.contents writer.old))
-            (point_of (A.state responder.new) self.new (W.contents writer.new))) }
+        ensures places { SamePlaces outbox.old outbox.new }
+        ensures ok { OnOk result (Finishes A.step (point_of (A.state responder.old) self.old W.contents outbox.old)
+            (point_of (A.state responder.new) self.new W.contents outbox.new)) }
         ensures fault { IfErr result (λ fault. (fault ≡ Fault.WriteFault)
-            × FinishesFront A.step (point_of (A.state responder.old) self.old (W.contents writer.old))
-            (point_of (A.state responder.new) self.new (W.contents writer.new))) }
+            × FinishesFront A.step (point_of (A.state responder.old) self.old W.contents outbox.old)
+            (point_of (A.state responder.new) self.new W.contents outbox.new)) }
     {
         if self.kept.is_empty() {
             return Ok(());
         }
-        self.answer_kept(responder, writer)
+        self.answer_kept(responder, outbox)
     }
 }
 

@@ -1,4 +1,5 @@
-ghost use Rattle.std.specs.Prelude.{◌≡◌, ◌+◌, ◌≤◌, ◌++◌, vec_len, vec_capacity};
+ghost use Rattle.std.specs.Prelude.{◌≡◌, ◌++◌};
+ghost use Rattle.lv_script.specs.Output.{HasRoom, KeepsRoom};
 ghost use Rattle.lv_script.specs.Texts.{accepted_text, cost_text, forgotten_text, fresh_text, idle_text, job_text};
 
 use crate::replies::LINE;
@@ -8,9 +9,9 @@ use lv_summary::Accepted;
 
 /// How many cells and summaries a reduction reads.
 pub fn put_cost(held: &mut Vec<u8>, cells: u32, summaries: u32)
-    requires { vec_len held.old + LINE ≤ vec_capacity held.old }
+    requires { HasRoom held.old LINE }
     ensures text { held.new.items ≡ held.old.items ++ cost_text cells summaries }
-    ensures room { vec_capacity held.old ≤ vec_capacity held.new }
+    ensures room { KeepsRoom held.old held.new }
 {
     put(held, b"cells ");
     put_number(held, cells.into());
@@ -21,9 +22,9 @@ pub fn put_cost(held: &mut Vec<u8>, cells: u32, summaries: u32)
 
 /// A job that is handed out: its number, and the node and the version that it is for.
 pub fn put_job(held: &mut Vec<u8>, number: u64, node: Node, version: u32)
-    requires { vec_len held.old + LINE ≤ vec_capacity held.old }
+    requires { HasRoom held.old LINE }
     ensures text { held.new.items ≡ held.old.items ++ job_text number node version }
-    ensures room { vec_capacity held.old ≤ vec_capacity held.new }
+    ensures room { KeepsRoom held.old held.new }
 {
     put(held, b"job ");
     put_number(held, number);
@@ -38,18 +39,18 @@ pub fn put_job(held: &mut Vec<u8>, number: u64, node: Node, version: u32)
 
 /// That no node wants a job.
 pub fn put_idle(held: &mut Vec<u8>)
-    requires { vec_len held.old + LINE ≤ vec_capacity held.old }
+    requires { HasRoom held.old LINE }
     ensures text { held.new.items ≡ held.old.items ++ idle_text }
-    ensures room { vec_capacity held.old ≤ vec_capacity held.new }
+    ensures room { KeepsRoom held.old held.new }
 {
     put(held, b"idle\n");
 }
 
 /// What became of a result that was delivered.
 pub fn put_accepted(held: &mut Vec<u8>, accepted: Accepted)
-    requires { vec_len held.old + LINE ≤ vec_capacity held.old }
+    requires { HasRoom held.old LINE }
     ensures text { held.new.items ≡ held.old.items ++ accepted_text accepted }
-    ensures room { vec_capacity held.old ≤ vec_capacity held.new }
+    ensures room { KeepsRoom held.old held.new }
 {
     match accepted {
         Accepted::Installed => put(held, b"installed\n"),
@@ -64,9 +65,9 @@ pub fn put_accepted(held: &mut Vec<u8>, accepted: Accepted)
 
 /// That the parts of a block's summary were made, at a version.
 pub fn put_fresh(held: &mut Vec<u8>, block: u32, version: u32)
-    requires { vec_len held.old + LINE ≤ vec_capacity held.old }
+    requires { HasRoom held.old LINE }
     ensures text { held.new.items ≡ held.old.items ++ fresh_text block version }
-    ensures room { vec_capacity held.old ≤ vec_capacity held.new }
+    ensures room { KeepsRoom held.old held.new }
 {
     put(held, b"fresh ");
     put_number(held, block.into());
@@ -77,9 +78,9 @@ pub fn put_fresh(held: &mut Vec<u8>, block: u32, version: u32)
 
 /// That every claim is void.
 pub fn put_forgotten(held: &mut Vec<u8>)
-    requires { vec_len held.old + LINE ≤ vec_capacity held.old }
+    requires { HasRoom held.old LINE }
     ensures text { held.new.items ≡ held.old.items ++ forgotten_text }
-    ensures room { vec_capacity held.old ≤ vec_capacity held.new }
+    ensures room { KeepsRoom held.old held.new }
 {
     put(held, b"forgotten\n");
 }

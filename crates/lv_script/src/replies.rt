@@ -1,9 +1,10 @@
-ghost use Rattle.std.specs.Prelude.{◌≡◌, ◌+◌, ◌≤◌, ◌++◌, codes, length, map, decimal, vec_len, vec_capacity};
+ghost use Rattle.std.specs.Prelude.{◌≡◌, ◌+◌, ◌≤◌, ◌++◌, codes, length, map, decimal, vec_len};
+ghost use Rattle.lv_script.specs.Output.{HasRoom, KeepsRoom};
 ghost use Rattle.lv_script.specs.Words.{spaced};
 ghost use Rattle.lv_script.specs.Texts.{answer_text, bad_text, capacity_text, receipt_text, refused_text, settled_text, size_text, shown_text, element_text, value_text};
 
-use crate::printing::kind_name;
 use crate::sender::{put, put_element, put_number, put_wide};
+use crate::words::kind_name;
 use lv_bodies::{Kind, Shown};
 use lv_edits::Receipt;
 use lv_geometry::Refusal;
@@ -13,10 +14,10 @@ pub const LINE: usize = 256;
 
 /// What an accepted edit answers.
 pub fn put_receipt(held: &mut Vec<u8>, receipt: Receipt)
-    requires { vec_len held.old + LINE ≤ vec_capacity held.old }
+    requires { HasRoom held.old LINE }
     ensures text { held.new.items ≡ held.old.items ++ receipt_text receipt }
     ensures len { vec_len held.new ≤ vec_len held.old + LINE }
-    ensures room { vec_capacity held.old ≤ vec_capacity held.new }
+    ensures room { KeepsRoom held.old held.new }
 {
     match receipt {
         Receipt::Pushed { edit, index } => {
@@ -60,10 +61,10 @@ pub fn put_receipt(held: &mut Vec<u8>, receipt: Receipt)
 
 // The number of an edit, and the word that comes behind it.
 fn put_edit(held: &mut Vec<u8>, edit: u32, word: &[u8])
-    requires { vec_len held.old + 25 + length word.now ≤ vec_capacity held.old }
+    requires { HasRoom held.old (25 + length word.now) }
     ensures text { held.new.items ≡ held.old.items ++ (codes "edit " ++ decimal edit ++ word.now) }
     ensures len { vec_len held.new ≤ vec_len held.old + 25 + length word.now }
-    ensures room { vec_capacity held.old ≤ vec_capacity held.new }
+    ensures room { KeepsRoom held.old held.new }
 {
     put(held, b"edit ");
     put_number(held, edit.into());
@@ -72,9 +73,9 @@ fn put_edit(held: &mut Vec<u8>, edit: u32, word: &[u8])
 
 /// A refusal, by its number.
 pub fn put_refusal(held: &mut Vec<u8>, refusal: Refusal)
-    requires { vec_len held.old + LINE ≤ vec_capacity held.old }
+    requires { HasRoom held.old LINE }
     ensures text { held.new.items ≡ held.old.items ++ refused_text refusal }
-    ensures room { vec_capacity held.old ≤ vec_capacity held.new }
+    ensures room { KeepsRoom held.old held.new }
 {
     put(held, b"refused ");
     put_number(held, refusal.number().into());
@@ -83,9 +84,9 @@ pub fn put_refusal(held: &mut Vec<u8>, refusal: Refusal)
 
 /// That line `number` says nothing known.
 pub fn put_bad(held: &mut Vec<u8>, number: u32)
-    requires { vec_len held.old + LINE ≤ vec_capacity held.old }
+    requires { HasRoom held.old LINE }
     ensures text { held.new.items ≡ held.old.items ++ bad_text number }
-    ensures room { vec_capacity held.old ≤ vec_capacity held.new }
+    ensures room { KeepsRoom held.old held.new }
 {
     put(held, b"bad ");
     put_number(held, number.into());
@@ -94,18 +95,18 @@ pub fn put_bad(held: &mut Vec<u8>, number: u32)
 
 /// That a pending write is complete.
 pub fn put_settled(held: &mut Vec<u8>)
-    requires { vec_len held.old + LINE ≤ vec_capacity held.old }
+    requires { HasRoom held.old LINE }
     ensures text { held.new.items ≡ held.old.items ++ settled_text }
-    ensures room { vec_capacity held.old ≤ vec_capacity held.new }
+    ensures room { KeepsRoom held.old held.new }
 {
     put(held, b"settled\n");
 }
 
 /// An element, or why there is none.
 pub fn put_value(held: &mut Vec<u8>, value: Result<i64, Refusal>)
-    requires { vec_len held.old + LINE ≤ vec_capacity held.old }
+    requires { HasRoom held.old LINE }
     ensures text { held.new.items ≡ held.old.items ++ element_text value }
-    ensures room { vec_capacity held.old ≤ vec_capacity held.new }
+    ensures room { KeepsRoom held.old held.new }
 {
     match value {
         Ok(x) => {
@@ -119,9 +120,9 @@ pub fn put_value(held: &mut Vec<u8>, value: Result<i64, Refusal>)
 
 /// The size, and the number of the last edit.
 pub fn put_size(held: &mut Vec<u8>, size: u32, edit: u32)
-    requires { vec_len held.old + LINE ≤ vec_capacity held.old }
+    requires { HasRoom held.old LINE }
     ensures text { held.new.items ≡ held.old.items ++ size_text size edit }
-    ensures room { vec_capacity held.old ≤ vec_capacity held.new }
+    ensures room { KeepsRoom held.old held.new }
 {
     put(held, b"size ");
     put_number(held, size.into());
@@ -132,9 +133,9 @@ pub fn put_size(held: &mut Vec<u8>, size: u32, edit: u32)
 
 /// How many elements the open buckets hold.
 pub fn put_capacity(held: &mut Vec<u8>, cells: u32)
-    requires { vec_len held.old + LINE ≤ vec_capacity held.old }
+    requires { HasRoom held.old LINE }
     ensures text { held.new.items ≡ held.old.items ++ capacity_text cells }
-    ensures room { vec_capacity held.old ≤ vec_capacity held.new }
+    ensures room { KeepsRoom held.old held.new }
 {
     put(held, b"capacity ");
     put_number(held, cells.into());
@@ -143,9 +144,9 @@ pub fn put_capacity(held: &mut Vec<u8>, cells: u32)
 
 /// The value of a kind at an edit.
 pub fn put_answer(held: &mut Vec<u8>, edit: u32, kind: Kind, value: Shown)
-    requires { vec_len held.old + LINE ≤ vec_capacity held.old }
+    requires { HasRoom held.old LINE }
     ensures text { held.new.items ≡ held.old.items ++ answer_text edit kind value }
-    ensures room { vec_capacity held.old ≤ vec_capacity held.new }
+    ensures room { KeepsRoom held.old held.new }
 {
     put(held, b"at ");
     put_number(held, edit.into());
@@ -158,10 +159,10 @@ pub fn put_answer(held: &mut Vec<u8>, edit: u32, kind: Kind, value: Shown)
 
 /// The value of a kind, as it is shown.
 pub fn put_shown(held: &mut Vec<u8>, value: Shown)
-    requires { vec_len held.old + 168 ≤ vec_capacity held.old }
+    requires { HasRoom held.old 168 }
     ensures text { held.new.items ≡ held.old.items ++ shown_text value }
     ensures len { vec_len held.new ≤ vec_len held.old + 168 }
-    ensures room { vec_capacity held.old ≤ vec_capacity held.new }
+    ensures room { KeepsRoom held.old held.new }
 {
     match value {
         Shown::Sum(n) => put_number(held, n),
@@ -179,10 +180,10 @@ pub fn put_shown(held: &mut Vec<u8>, value: Shown)
 
 // The states of an automaton, with one space between.
 fn put_states(held: &mut Vec<u8>, states: [u8; 8])
-    requires { vec_len held.old + 168 ≤ vec_capacity held.old }
+    requires { HasRoom held.old 168 }
     ensures text { held.new.items ≡ held.old.items ++ spaced (map decimal states) }
     ensures len { vec_len held.new ≤ vec_len held.old + 168 }
-    ensures room { vec_capacity held.old ≤ vec_capacity held.new }
+    ensures room { KeepsRoom held.old held.new }
 {
     put_number(held, states[0].into());
     for state in &states[1..] {

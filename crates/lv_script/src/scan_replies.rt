@@ -1,66 +1,65 @@
-ghost use Rattle.std.specs.Prelude.{◌≡◌, ◌+◌, ◌*◌, ◌≤◌, [], ◌++◌, length, map, IsOk, OnOk, IfErr, vec_len, vec_capacity};
+ghost use Rattle.std.specs.Prelude.{◌≡◌, ◌+◌, ◌*◌, ◌≤◌, [], ◌++◌, length, map, IsOk, OnOk, IfErr, vec_len};
 ghost use Rattle.lv_bodies.specs.Six.{face_of};
-ghost use Rattle.lv_script.specs.Output.{Writes, WritesFront};
+ghost use Rattle.lv_script.specs.Output.{HasRoom, KeepsRoom, Puts, PutsFront, SamePlaces};
 ghost use Rattle.lv_script.specs.Texts.{scan_head, scan_text, scanned_text, values_text};
 
 use crate::fault::Fault;
-use crate::printing::{kind_name, scan_name};
+use crate::outbox::Outbox;
 use crate::replies::{LINE, put_shown};
-use crate::sender::{make_room, put, put_number};
+use crate::sender::{put, put_number};
+use crate::words::{kind_name, scan_name};
 use lv_bodies::{Body, Kind, Shown, Six, face};
 use std::io::Write;
 
 /// The scan of a kind at an edit, whose values are those summaries. It may be longer than what is held: what is held is
 /// sent wherever a line finds no room, so the buffer keeps its size.
 pub fn put_scan<W: Write>(
-    writer: &mut W,
-    held: &mut Vec<u8>,
+    outbox: &mut Outbox<'_, W>,
     edit: u32,
     inclusive: bool,
     kind: Kind,
     values: &[<Six as Body>::S],
 ) -> Result<(), Fault>
-    requires { LINE ≤ vec_capacity held.old }
-    ensures ok { OnOk result (Writes (W.contents writer.old) held.old.items (W.contents writer.new) held.new.items
+    ensures places { SamePlaces outbox.old outbox.new }
+    ensures ok { OnOk result (Puts W.contents outbox.old outbox.new
         (scan_text edit inclusive kind (map (face_of kind) values.now))) }
     ensures fault { IfErr result (λ fault. (fault ≡ Fault.WriteFault)
-        × WritesFront (W.contents writer.old) held.old.items (W.contents writer.new) (scan_text edit inclusive kind (map (face_of kind) values.now))) }
+        × PutsFront W.contents outbox.old outbox.new (scan_text edit inclusive kind (map (face_of kind) values.now))) }
     // Where there is room for all of it, nothing is sent.
-    ensures idle { vec_len held.old + LINE * (1 + length values.now) ≤ vec_capacity held.old → IsOk result × (writer.new ≡ writer.old) }
-    ensures room { vec_capacity held.old ≤ vec_capacity held.new }
+    ensures idle { HasRoom outbox.old.held.now (LINE * (1 + length values.now)) → IsOk result × (outbox.new.writer.now ≡ outbox.old.writer.now) }
+    ensures room { KeepsRoom outbox.old.held.now outbox.new.held.now }
 {
-    put_head(writer, held, edit, inclusive, kind, values.len() as u64)?;
-    put_values(writer, held, kind, values)
+    put_head(outbox, edit, inclusive, kind, values.len() as u64)?;
+    put_values(outbox, kind, values)
 }
 
 /// How many values a scan has, on a line for which it makes room.
 pub fn put_head<W: Write>(
-    writer: &mut W,
-    held: &mut Vec<u8>,
+    outbox: &mut Outbox<'_, W>,
     edit: u32,
     inclusive: bool,
     kind: Kind,
     count: u64,
 ) -> Result<(), Fault>
-    requires { LINE ≤ vec_capacity held.old }
-    ensures ok { OnOk result (Writes (W.contents writer.old) held.old.items (W.contents writer.new) held.new.items (scan_head edit inclusive kind count)) }
+    ensures places { SamePlaces outbox.old outbox.new }
+    ensures ok { OnOk result (Puts W.contents outbox.old outbox.new (scan_head edit inclusive kind count)) }
     ensures fault { IfErr result (λ fault. (fault ≡ Fault.WriteFault)
-        × WritesFront (W.contents writer.old) held.old.items (W.contents writer.new) []) }
-    ensures idle { vec_len held.old + LINE ≤ vec_capacity held.old
-        → IsOk result × (writer.new ≡ writer.old) × (vec_len held.new ≤ vec_len held.old + LINE) }
-    ensures room { vec_capacity held.old ≤ vec_capacity held.new }
+        × PutsFront W.contents outbox.old outbox.new []) }
+    ensures idle { HasRoom outbox.old.held.now LINE
+        → IsOk result × (outbox.new.writer.now ≡ outbox.old.writer.now) × (vec_len outbox.new.held.now ≤ vec_len outbox.old.held.now + LINE) }
+    ensures room { KeepsRoom outbox.old.held.now outbox.new.held.now }
 {
-    make_room(writer, held, LINE)?;
-    put_head_line(held, edit, inclusive, kind, count);
+    outbox.make_room(LINE)?;
+    put_head_line(outbox.held, edit, inclusive, kind, count);
     Ok(())
 }
 
 // How many values a scan has.
 fn put_head_line(held: &mut Vec<u8>, edit: u32, inclusive: bool, kind: Kind, count: u64)
-    requires { vec_len held.old + LINE ≤ vec_capacity held.old }
+    requires { HasRoom held.old LINE }
     ensures text { held.new.items ≡ held.old.items ++ scan_head edit inclusive kind count }
     ensures len { vec_len held.new ≤ vec_len held.old + LINE }
-    ensures room { vec_capacity held.old ≤ vec_capacity held.new }
+    ensures room { KeepsRoom held.old held.new }
 {
     put(held, b"at ");
     put_number(held, edit.into());
@@ -75,39 +74,38 @@ fn put_head_line(held: &mut Vec<u8>, edit: u32, inclusive: bool, kind: Kind, cou
 
 /// The values of a scan, each on a line of its own for which room is made as the line comes.
 pub fn put_values<W: Write>(
-    writer: &mut W,
-    held: &mut Vec<u8>,
+    outbox: &mut Outbox<'_, W>,
     kind: Kind,
     values: &[<Six as Body>::S],
 ) -> Result<(), Fault>
-    requires { LINE ≤ vec_capacity held.old }
-    ensures ok { OnOk result (Writes (W.contents writer.old) held.old.items (W.contents writer.new) held.new.items
+    ensures places { SamePlaces outbox.old outbox.new }
+    ensures ok { OnOk result (Puts W.contents outbox.old outbox.new
         (values_text (map (face_of kind) values.now))) }
     ensures fault { IfErr result (λ fault. (fault ≡ Fault.WriteFault)
-        × WritesFront (W.contents writer.old) held.old.items (W.contents writer.new) (values_text (map (face_of kind) values.now))) }
+        × PutsFront W.contents outbox.old outbox.new (values_text (map (face_of kind) values.now))) }
     // Where there is room for all of them, nothing is sent.
-    ensures idle { vec_len held.old + LINE * length values.now ≤ vec_capacity held.old → IsOk result × (writer.new ≡ writer.old) }
-    ensures room { vec_capacity held.old ≤ vec_capacity held.new }
+    ensures idle { HasRoom outbox.old.held.now (LINE * length values.now) → IsOk result × (outbox.new.writer.now ≡ outbox.old.writer.now) }
+    ensures room { KeepsRoom outbox.old.held.now outbox.new.held.now }
 {
     for value in values {
-        put_scanned(writer, held, face(kind, *value))?;
+        put_scanned(outbox, face(kind, *value))?;
     }
     Ok(())
 }
 
 /// One value of a scan, on a line for which it makes room.
-pub fn put_scanned<W: Write>(writer: &mut W, held: &mut Vec<u8>, value: Shown) -> Result<(), Fault>
-    requires { LINE ≤ vec_capacity held.old }
-    ensures ok { OnOk result (Writes (W.contents writer.old) held.old.items (W.contents writer.new) held.new.items (scanned_text value)) }
+pub fn put_scanned<W: Write>(outbox: &mut Outbox<'_, W>, value: Shown) -> Result<(), Fault>
+    ensures places { SamePlaces outbox.old outbox.new }
+    ensures ok { OnOk result (Puts W.contents outbox.old outbox.new (scanned_text value)) }
     ensures fault { IfErr result (λ fault. (fault ≡ Fault.WriteFault)
-        × WritesFront (W.contents writer.old) held.old.items (W.contents writer.new) []) }
-    ensures idle { vec_len held.old + LINE ≤ vec_capacity held.old
-        → IsOk result × (writer.new ≡ writer.old) × (vec_len held.new ≤ vec_len held.old + LINE) }
-    ensures room { vec_capacity held.old ≤ vec_capacity held.new }
+        × PutsFront W.contents outbox.old outbox.new []) }
+    ensures idle { HasRoom outbox.old.held.now LINE
+        → IsOk result × (outbox.new.writer.now ≡ outbox.old.writer.now) × (vec_len outbox.new.held.now ≤ vec_len outbox.old.held.now + LINE) }
+    ensures room { KeepsRoom outbox.old.held.now outbox.new.held.now }
 {
-    make_room(writer, held, LINE)?;
-    put(held, b"= ");
-    put_shown(held, value);
-    put(held, b"\n");
+    outbox.make_room(LINE)?;
+    put(outbox.held, b"= ");
+    put_shown(outbox.held, value);
+    put(outbox.held, b"\n");
     Ok(())
 }

@@ -1,28 +1,26 @@
-ghost use Rattle.std.specs.Prelude.{◌≡◌, ◌+◌, ◌<◌, ◌≤◌, List, ℕ, ℤ, length, IfNone, OnOk, IfErr, vec_len, vec_capacity};
+ghost use Rattle.std.specs.Prelude.{◌≡◌, ◌+◌, ◌<◌, ◌≤◌, List, ℕ, ℤ, length, IfNone, OnOk, IfErr};
 ghost use Rattle.std.specs.List.{slice_index_or};
 ghost use Rattle.lv_edits.specs.History.{list_of};
 ghost use Rattle.lv_edits.specs.Kept.{InLimits};
 ghost use Rattle.lv_refresh.specs.Carried.{Carried};
 ghost use Rattle.lv_bodies.specs.Body.{CanFold, fold_of};
-ghost use Rattle.lv_bodies.specs.Six.{SixSummary, six_operations};
+ghost use Rattle.lv_bodies.specs.Six.{SixSummary};
 ghost use Rattle.lv_bodies.specs.declared.sixes.Six.{Six};
 ghost use Rattle.lv_reduce.specs.Answer.{range_refusal, slice_of};
-ghost use Rattle.lv_script.specs.Output.{Writes, WritesFront};
-ghost use Rattle.lv_live.specs.State.{recorded};
-ghost use Rattle.lv_live.specs.Step.{Reduces};
+ghost use Rattle.lv_script.specs.Output.{HasRoom, Puts, PutsFront, SamePlaces};
 ghost use Rattle.lv_script.specs.Script.{TellsScan, plain_scan, scan_by};
 ghost use Rattle.lv_script.specs.Scripted.{state_of};
 ghost use Rattle.lv_script.specs.Texts.{scan_text, values_text};
 
 use crate::fault::Fault;
+use crate::outbox::Outbox;
 use crate::replies::{LINE, put_refusal};
 use crate::scan_replies::{put_head, put_scanned};
 use lv_bodies::{
-    Affine, Automaton, Best, Body, Greatest, Kind, Least, Shown, Single, Six, Sum, fold_more,
+    Affine, Automaton, Best, Greatest, Kind, Least, Shown, Single, Six, Sum, fold_more,
 };
 use lv_geometry::Refusal;
 use lv_live::Live;
-use lv_reduce::Answer;
 use lv_standing::Standing;
 use std::io::Write;
 
@@ -38,23 +36,22 @@ pub struct Asked {
 /// Answers a scan. Its reply may be longer than what is held: each value is put as it is computed, so no memory is taken.
 pub fn answer_scan<W: Write>(
     standing: &Standing,
-    writer: &mut W,
-    held: &mut Vec<u8>,
+    outbox: &mut Outbox<'_, W>,
     asked: &Asked,
 ) -> Result<(), Fault>
-    requires { vec_len held.old + LINE ≤ vec_capacity held.old }
+    requires { HasRoom outbox.old.held.now LINE }
+    ensures places { SamePlaces outbox.old outbox.new }
     ensures ok { OnOk result ((reply : List ℕ) × ((jobs : List (Carried Six SixSummary)) → TellsScan (state_of standing.now jobs) asked.now.inclusive asked.now.kind asked.now.lo asked.now.hi reply (state_of standing.now jobs))
-        × Writes (W.contents writer.old) held.old.items (W.contents writer.new) held.new.items reply) }
+        × Puts W.contents outbox.old outbox.new reply) }
     ensures fault { IfErr result (λ fault. (fault ≡ Fault.WriteFault) × (reply : List ℕ)
         × ((jobs : List (Carried Six SixSummary)) → TellsScan (state_of standing.now jobs) asked.now.inclusive asked.now.kind asked.now.lo asked.now.hi reply (state_of standing.now jobs))
-        × WritesFront (W.contents writer.old) held.old.items (W.contents writer.new) reply) }
-    ensures room { vec_capacity held.old ≤ vec_capacity held.new }
+        × PutsFront W.contents outbox.old outbox.new reply) }
 {
     let live = standing.live();
     match refusal_of(live, asked.lo, asked.hi) {
-        None => put_range_scan(writer, held, live, asked),
+        None => put_range_scan(outbox, live, asked),
         Some(refusal) => {
-            put_refusal(held, refusal);
+            put_refusal(outbox.held, refusal);
             Ok(())
         }
     }
@@ -78,89 +75,76 @@ fn refusal_of(live: &Live<Six>, lo: u32, hi: u32) -> Option<Refusal>
 
 // The scan of a range that lies in the vector.
 fn put_range_scan<W: Write>(
-    writer: &mut W,
-    held: &mut Vec<u8>,
+    outbox: &mut Outbox<'_, W>,
     live: &Live<Six>,
     asked: &Asked,
 ) -> Result<(), Fault>
-    requires room { LINE ≤ vec_capacity held.old }
     requires order { asked.now.lo ≤ asked.now.hi }
     requires inside { asked.now.hi ≤ length (list_of live.now.history.journal) }
     requires limits { InLimits live.now.history }
-    ensures ok { OnOk result (Writes (W.contents writer.old) held.old.items (W.contents writer.new) held.new.items
+    ensures places { SamePlaces outbox.old outbox.new }
+    ensures ok { OnOk result (Puts W.contents outbox.old outbox.new
         (scan_text (length live.now.history.journal) asked.now.inclusive asked.now.kind
         (plain_scan asked.now.inclusive asked.now.kind (slice_of live.now.history.journal asked.now.lo asked.now.hi)))) }
     ensures fault { IfErr result (λ fault. (fault ≡ Fault.WriteFault)
-        × WritesFront (W.contents writer.old) held.old.items (W.contents writer.new)
+        × PutsFront W.contents outbox.old outbox.new
         (scan_text (length live.now.history.journal) asked.now.inclusive asked.now.kind
         (plain_scan asked.now.inclusive asked.now.kind (slice_of live.now.history.journal asked.now.lo asked.now.hi)))) }
-    ensures room { vec_capacity held.old ≤ vec_capacity held.new }
 {
     let count = u64::from(asked.hi - asked.lo);
-    put_head(
-        writer,
-        held,
-        live.edit(),
-        asked.inclusive,
-        asked.kind,
-        count,
-    )?;
-    put_plain_values(writer, held, live, asked)
+    put_head(outbox, live.edit(), asked.inclusive, asked.kind, count)?;
+    put_plain_values(outbox, live, asked)
 }
 
 // Its values, by the body of its kind alone.
 fn put_plain_values<W: Write>(
-    writer: &mut W,
-    held: &mut Vec<u8>,
+    outbox: &mut Outbox<'_, W>,
     live: &Live<Six>,
     asked: &Asked,
 ) -> Result<(), Fault>
-    requires room { LINE ≤ vec_capacity held.old }
     requires order { asked.now.lo ≤ asked.now.hi }
     requires inside { asked.now.hi ≤ length (list_of live.now.history.journal) }
     requires limits { InLimits live.now.history }
-    ensures ok { OnOk result (Writes (W.contents writer.old) held.old.items (W.contents writer.new) held.new.items
+    ensures places { SamePlaces outbox.old outbox.new }
+    ensures ok { OnOk result (Puts W.contents outbox.old outbox.new
         (values_text (plain_scan asked.now.inclusive asked.now.kind (slice_of live.now.history.journal asked.now.lo asked.now.hi)))) }
     ensures fault { IfErr result (λ fault. (fault ≡ Fault.WriteFault)
-        × WritesFront (W.contents writer.old) held.old.items (W.contents writer.new)
+        × PutsFront W.contents outbox.old outbox.new
         (values_text (plain_scan asked.now.inclusive asked.now.kind (slice_of live.now.history.journal asked.now.lo asked.now.hi)))) }
-    ensures room { vec_capacity held.old ≤ vec_capacity held.new }
 {
     match asked.kind {
-        Kind::Sum => put_running_values(writer, held, live, &Sum, asked),
-        Kind::Least => put_running_values(writer, held, live, &Least, asked),
-        Kind::Greatest => put_running_values(writer, held, live, &Greatest, asked),
-        Kind::Best => put_running_values(writer, held, live, &Best, asked),
-        Kind::Affine => put_running_values(writer, held, live, &Affine, asked),
-        Kind::Automaton => put_running_values(writer, held, live, &Automaton::program(), asked),
+        Kind::Sum => put_running_values(outbox, live, &Sum, asked),
+        Kind::Least => put_running_values(outbox, live, &Least, asked),
+        Kind::Greatest => put_running_values(outbox, live, &Greatest, asked),
+        Kind::Best => put_running_values(outbox, live, &Best, asked),
+        Kind::Affine => put_running_values(outbox, live, &Affine, asked),
+        Kind::Automaton => put_running_values(outbox, live, &Automaton::program(), asked),
     }
 }
 
 // What a body shows of the running fold at each element of a range, each on a line of its own.
 fn put_running_values<B: Single, W: Write>(
-    writer: &mut W,
-    held: &mut Vec<u8>,
+    outbox: &mut Outbox<'_, W>,
     live: &Live<Six>,
     body: &B,
     asked: &Asked,
 ) -> Result<(), Fault>
-    requires room { LINE ≤ vec_capacity held.old }
     requires order { asked.now.lo ≤ asked.now.hi }
     requires inside { asked.now.hi ≤ length (list_of live.now.history.journal) }
     requires limits { InLimits live.now.history }
-    ensures ok { OnOk result (Writes (W.contents writer.old) held.old.items (W.contents writer.new) held.new.items
+    ensures places { SamePlaces outbox.old outbox.new }
+    ensures ok { OnOk result (Puts W.contents outbox.old outbox.new
         (values_text (scan_by (B.plain body.now) asked.now.inclusive (slice_of live.now.history.journal asked.now.lo asked.now.hi)))) }
     ensures fault { IfErr result (λ fault. (fault ≡ Fault.WriteFault)
-        × WritesFront (W.contents writer.old) held.old.items (W.contents writer.new)
+        × PutsFront W.contents outbox.old outbox.new
         (values_text (scan_by (B.plain body.now) asked.now.inclusive (slice_of live.now.history.journal asked.now.lo asked.now.hi)))) }
-    ensures room { vec_capacity held.old ≤ vec_capacity held.new }
 {
     let mut sum = body.identity();
     for i in asked.lo..asked.hi {
         let before = sum;
         sum = fold_more(body, before, element_at(live, i));
         let value = if asked.inclusive { sum } else { before };
-        put_scanned(writer, held, show_fold(body, value))?;
+        put_scanned(outbox, show_fold(body, value))?;
     }
     Ok(())
 }
@@ -182,12 +166,4 @@ fn element_at(live: &Live<Six>, i: u32) -> i64
         unreachable!();
     };
     x
-}
-
-/// A reduction of all six bodies.
-pub fn reduce(standing: &Standing, lo: u32, hi: u32) -> Result<Answer<<Six as Body>::S>, Refusal>
-    ensures answer { Reduces six_operations (recorded standing.now.live) lo hi result }
-    ensures limits { InLimits standing.now.live.history }
-{
-    standing.live().reduce(lo, hi)
 }

@@ -1,4 +1,5 @@
-ghost use Rattle.std.specs.Prelude.{◌≡◌, ◌+◌, ◌*◌, ◌≤◌, ◌++◌, vec_len, vec_capacity};
+ghost use Rattle.std.specs.Prelude.{◌≡◌, ◌*◌, ◌++◌};
+ghost use Rattle.lv_script.specs.Output.{HasRoom, KeepsRoom};
 ghost use Rattle.lv_script.specs.Schedule.{outcome_text, said_shown, said_text};
 
 use crate::refresh_replies::put_fresh;
@@ -13,9 +14,9 @@ pub const EVENT: usize = 2 * LINE;
 
 /// What an event of an actor comes to. A refresh that ends with it is one of the block.
 pub fn put_outcome(held: &mut Vec<u8>, actor: u32, block: u32, outcome: Outcome<u64>)
-    requires { vec_len held.old + EVENT ≤ vec_capacity held.old }
+    requires { HasRoom held.old EVENT }
     ensures text { held.new.items ≡ held.old.items ++ outcome_text actor block outcome }
-    ensures room { vec_capacity held.old ≤ vec_capacity held.new }
+    ensures room { KeepsRoom held.old held.new }
 {
     match outcome {
         Outcome::Started => {
@@ -59,9 +60,9 @@ pub fn said_shown<B: Single>(body: &B, said: Said<B::S>) -> Said<Shown>
 
 /// What a call ends with: a fold is one of the kind, and a refresh one of the block.
 pub fn put_said(held: &mut Vec<u8>, kind: Kind, block: u32, said: Said<Shown>)
-    requires { vec_len held.old + LINE ≤ vec_capacity held.old }
+    requires { HasRoom held.old LINE }
     ensures text { held.new.items ≡ held.old.items ++ said_text kind block said }
-    ensures room { vec_capacity held.old ≤ vec_capacity held.new }
+    ensures room { KeepsRoom held.old held.new }
 {
     match said {
         Said::Did(receipt) => put_receipt(held, receipt),

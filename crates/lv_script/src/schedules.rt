@@ -1,14 +1,15 @@
-ghost use Rattle.std.specs.Prelude.{◌≡◌, ◌+◌, ◌≤◌, ◌++◌, vec_len, vec_capacity};
+ghost use Rattle.std.specs.Prelude.{◌≡◌, ◌++◌};
+ghost use Rattle.lv_script.specs.Output.{HasRoom, KeepsRoom};
 ghost use Rattle.lv_script.specs.Replies.{Conversed};
 ghost use Rattle.lv_script.specs.Schedule.{ScheduleStep, SumMachine, actor_of, event_text, line_text, machine_after, sum_step};
 
 use crate::conversation::converse;
 use crate::fault::Fault;
+use crate::outbox::Outbox;
 use crate::replies::put_bad;
 use crate::responder::Responder;
 use crate::schedule_lines::{ScheduleLine, read_schedule_line};
 use crate::schedule_replies::{EVENT, put_outcome};
-use crate::sender::make_room;
 use lv_bodies::Sum;
 use lv_machine::{Event, Machine};
 use std::alloc::Global;
@@ -41,21 +42,20 @@ impl Responder for Machine<Sum> {
         &mut self,
         number: u32,
         line: &[u8],
-        writer: &mut W,
-        held: &mut Vec<u8>,
+        outbox: &mut Outbox<'_, W>,
     ) -> Result<(), Fault> {
-        make_room(writer, held, EVENT)?;
-        answer_line(self, number, read_schedule_line(line), held);
+        outbox.make_room(EVENT)?;
+        answer_line(self, number, read_schedule_line(line), outbox.held);
         Ok(())
     }
 }
 
 // Answers a line.
 fn answer_line(machine: &mut Machine<Sum>, number: u32, line: ScheduleLine, held: &mut Vec<u8>)
-    requires { vec_len held.old + EVENT ≤ vec_capacity held.old }
+    requires { HasRoom held.old EVENT }
     ensures machine { machine.new ≡ machine_after machine.old line }
     ensures text { held.new.items ≡ held.old.items ++ line_text machine.old number line }
-    ensures room { vec_capacity held.old ≤ vec_capacity held.new }
+    ensures room { KeepsRoom held.old held.new }
 {
     match line {
         ScheduleLine::Nothing => {}
@@ -66,10 +66,10 @@ fn answer_line(machine: &mut Machine<Sum>, number: u32, line: ScheduleLine, held
 
 // Does an event, and puts what it comes to. The block is that of the actor's call before the event.
 fn answer_event(machine: &mut Machine<Sum>, event: Event, held: &mut Vec<u8>)
-    requires { vec_len held.old + EVENT ≤ vec_capacity held.old }
+    requires { HasRoom held.old EVENT }
     ensures machine { machine.new ≡ (sum_step machine.old event).0 }
     ensures text { held.new.items ≡ held.old.items ++ event_text machine.old event }
-    ensures room { vec_capacity held.old ≤ vec_capacity held.new }
+    ensures room { KeepsRoom held.old held.new }
 {
     let actor = actor_of(event);
     let block = machine.refreshing(actor).unwrap_or(0);

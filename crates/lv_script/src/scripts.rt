@@ -1,7 +1,7 @@
-ghost use Rattle.std.specs.Prelude.{◌≡◌, ◌+◌, ◌≤◌, ◌++◌, [], List, ℕ, length, OnOk, IfErr, vec_len, vec_capacity};
+ghost use Rattle.std.specs.Prelude.{◌≡◌, ◌≤◌, [], List, ℕ, length, OnOk, IfErr};
 ghost use Rattle.lv_bodies.specs.Six.{six_operations};
 ghost use Rattle.lv_live.specs.State.{IsWorld};
-ghost use Rattle.lv_script.specs.Output.{Writes, WritesFront};
+ghost use Rattle.lv_script.specs.Output.{HasRoom, Puts, PutsFront, SamePlaces};
 ghost use Rattle.lv_script.specs.Replies.{Conversed, FailsToReply, Replies};
 ghost use Rattle.lv_script.specs.Script.{LineAnswer, ScriptState, ScriptStep};
 ghost use Rattle.lv_script.specs.Scripted.{Begins, state_of};
@@ -11,12 +11,12 @@ use crate::command::Line;
 use crate::conversation::converse;
 use crate::fault::Fault;
 use crate::lines::read_line;
+use crate::outbox::Outbox;
 use crate::replies::put_bad;
 use crate::responder::Responder;
-use crate::sender::{HELD, make_room};
 use lv_bodies::Six;
 use lv_geometry::Limits;
-use lv_refresh::Job;
+use lv_live::Issued;
 use lv_standing::Standing;
 use std::alloc::Global;
 use std::io::{Read, Write};
@@ -38,7 +38,7 @@ pub fn run_script<R: Read, W: Write>(
 {
     let mut script = Script {
         standing: Standing::new(alloc, limits),
-        jobs: Vec::new(alloc),
+        issued: Issued::new(alloc),
         alloc,
     };
     converse(alloc, &mut script, reader, writer)
@@ -48,7 +48,7 @@ pub fn run_script<R: Read, W: Write>(
 #[derive(Drop)]
 struct Script {
     standing: Standing,
-    jobs: Vec<Job<Six>>,
+    issued: Issued<Six>,
     alloc: Global,
 }
 
@@ -59,9 +59,9 @@ impl Model for Script {
 
     ghost Value = { Scripted };
 
-    ghost view = { λ a. record { standing = a.standing; jobs = a.jobs.items } };
+    ghost view = { λ a. record { standing = a.standing; jobs = a.issued.jobs } };
 
-    ghost invariant = { λ a. IsWorld six_operations a.standing.live a.jobs.items };
+    ghost invariant = { λ a. IsWorld six_operations a.standing.live a.issued.jobs };
 }
 
 impl Responder for Script {
@@ -75,18 +75,16 @@ impl Responder for Script {
         &mut self,
         number: u32,
         line: &[u8],
-        writer: &mut W,
-        held: &mut Vec<u8>,
+        outbox: &mut Outbox<'_, W>,
     ) -> Result<(), Fault> {
-        make_room(writer, held, ROOM)?;
+        outbox.make_room(ROOM)?;
         answer_line(
             self.alloc,
             &mut self.standing,
-            &mut self.jobs,
+            &mut self.issued,
             number,
             read_line(line),
-            writer,
-            held,
+            outbox,
         )
     }
 }
@@ -95,26 +93,25 @@ impl Responder for Script {
 fn answer_line<W: Write>(
     alloc: Global,
     standing: &mut Standing,
-    jobs: &mut Vec<Job<Six>>,
+    issued: &mut Issued<Six>,
     number: u32,
     line: Line,
-    writer: &mut W,
-    held: &mut Vec<u8>,
+    outbox: &mut Outbox<'_, W>,
 ) -> Result<(), Fault>
-    requires world { IsWorld six_operations standing.old.live jobs.old.items }
-    requires room { vec_len held.old + ROOM ≤ vec_capacity held.old }
-    ensures ok { OnOk result ((reply : List ℕ) × LineAnswer (state_of standing.old jobs.old.items) number line reply (state_of standing.new jobs.new.items)
-        × Writes (W.contents writer.old) held.old.items (W.contents writer.new) held.new.items reply) }
+    requires world { IsWorld six_operations standing.old.live issued.old.jobs }
+    requires room { HasRoom outbox.old.held.now ROOM }
+    ensures places { SamePlaces outbox.old outbox.new }
+    ensures ok { OnOk result ((reply : List ℕ) × LineAnswer (state_of standing.old issued.old.jobs) number line reply (state_of standing.new issued.new.jobs)
+        × Puts W.contents outbox.old outbox.new reply) }
     ensures fault { IfErr result (λ fault. (fault ≡ Fault.WriteFault) × (reply : List ℕ)
-        × LineAnswer (state_of standing.old jobs.old.items) number line reply (state_of standing.new jobs.new.items)
-        × WritesFront (W.contents writer.old) held.old.items (W.contents writer.new) reply) }
-    ensures world { IsWorld six_operations standing.new.live jobs.new.items }
-    ensures room { vec_capacity held.old ≤ vec_capacity held.new }
+        × LineAnswer (state_of standing.old issued.old.jobs) number line reply (state_of standing.new issued.new.jobs)
+        × PutsFront W.contents outbox.old outbox.new reply) }
+    ensures world { IsWorld six_operations standing.new.live issued.new.jobs }
 {
     match line {
         Line::Nothing => {}
-        Line::Bad => put_bad(held, number),
-        Line::Do(command) => return answer(alloc, standing, jobs, command, writer, held),
+        Line::Bad => put_bad(outbox.held, number),
+        Line::Do(command) => return answer(alloc, standing, issued, command, outbox),
     }
     Ok(())
 }

@@ -1,5 +1,6 @@
 // The lines of a transcript: how each is put, and how one is read.
 ghost use Rattle.std.specs.Prelude.{◌≡◌, ◌≢◌, ◌+◌, ◌≤◌, ◌++◌, Some, List, ℕ, MatchOption, vec_len, vec_capacity};
+ghost use Rattle.lv_script.specs.Output.{HasRoom, KeepsRoom};
 ghost use Rattle.lv_edits.specs.declared.edit.Edit.{Edit};
 ghost use Rattle.lv_script.specs.Auditing.{bounds_before, question_before, question_in, range_before, text_of, IsQuestion};
 ghost use Rattle.lv_script.specs.Transcript.{edit_line, question_text, IsEdit};
@@ -9,9 +10,9 @@ use crate::command::{Command, Line};
 use crate::grammar::kind;
 use crate::lines::read_line;
 use crate::numbers::number;
-use crate::printing::{kind_name, put_command};
+use crate::printing::put_command;
 use crate::sender::{put, put_number};
-use crate::words::next_word;
+use crate::words::{kind_name, next_word};
 use lv_bodies::Kind;
 use lv_edits::Edit;
 
@@ -29,10 +30,10 @@ pub(crate) struct Question {
 
 /// Puts the line of an edit, without its LF, after what is held.
 pub(crate) fn put_edit_line(held: &mut Vec<u8>, edit: Edit)
-    requires { vec_len held.old + HEAD ≤ vec_capacity held.old }
+    requires { HasRoom held.old HEAD }
     ensures text { held.new.items ≡ held.old.items ++ edit_line edit }
     ensures len { vec_len held.new ≤ vec_len held.old + HEAD }
-    ensures room { vec_capacity held.old ≤ vec_capacity held.new }
+    ensures room { KeepsRoom held.old held.new }
     ensures fits { IsEdit edit }
 {
     put(held, b"j ");
@@ -41,10 +42,10 @@ pub(crate) fn put_edit_line(held: &mut Vec<u8>, edit: Edit)
 
 /// Puts what the line of a claim begins with, up to its value, after what is held.
 pub(crate) fn put_question(held: &mut Vec<u8>, edit: u32, kind: Kind, lo: u32, hi: u32)
-    requires { vec_len held.old + HEAD ≤ vec_capacity held.old }
+    requires { HasRoom held.old HEAD }
     ensures text { held.new.items ≡ held.old.items ++ question_text edit kind lo hi }
     ensures len { vec_len held.new ≤ vec_len held.old + HEAD }
-    ensures room { vec_capacity held.old ≤ vec_capacity held.new }
+    ensures room { KeepsRoom held.old held.new }
 {
     put(held, b"a ");
     put_number(held, edit.into());
@@ -62,7 +63,7 @@ pub(crate) fn read_edit(line: &[u8], text: &mut Vec<u8>) -> Option<Edit>
     requires { HEAD ≤ vec_capacity text.old }
     ensures edit { MatchOption result ((edit : Edit) → IsEdit edit → line.now ≢ edit_line edit)
         (λ edit. IsEdit edit × (line.now ≡ edit_line edit)) }
-    ensures room { vec_capacity text.old ≤ vec_capacity text.new }
+    ensures room { KeepsRoom text.old text.new }
 {
     let edit = likely_edit(line)?;
     text.clear();
@@ -99,7 +100,7 @@ pub(crate) fn read_claim<'a>(line: &'a [u8], text: &mut Vec<u8>) -> Option<(Ques
     requires { HEAD ≤ vec_capacity text.old }
     ensures claim { MatchOption result ((question : Question) (value : List ℕ) → IsQuestion question → line.now ≢ text_of question ++ value)
         (λ read. IsQuestion read.0 × (line.now ≡ text_of read.0 ++ read.1.now)) }
-    ensures room { vec_capacity text.old ≤ vec_capacity text.new }
+    ensures room { KeepsRoom text.old text.new }
 {
     let question = likely_question(line)?;
     text.clear();

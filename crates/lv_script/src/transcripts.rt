@@ -1,11 +1,12 @@
-ghost use Rattle.std.specs.Prelude.{◌≡◌, ◌+◌, ◌≤◌, [], ◌∷◌, ◌++◌, All, OnOk, IfErr, vec_len, vec_capacity};
+ghost use Rattle.std.specs.Prelude.{◌≡◌, ◌≤◌, [], ◌∷◌, ◌++◌, All, OnOk, IfErr, vec_capacity};
 ghost use Rattle.std.specs.List.{flat_map};
-ghost use Rattle.lv_script.specs.Output.{Writes, WritesFront};
+ghost use Rattle.lv_script.specs.Output.{Puts, PutsFront, SamePlaces};
 ghost use Rattle.lv_script.specs.Transcript.{edit_line, claim_line, transcript_text, greatest, AreAccepted, AreInOrder, IsEdit, IsTrueClaim, IsSoundTranscript, Transcribes};
 
 use crate::fault::Fault;
+use crate::outbox::Outbox;
 use crate::replies::{LINE, put_shown};
-use crate::sender::{HELD, make_room, put, send};
+use crate::sender::{HELD, put};
 use crate::transcript_lines::{put_edit_line, put_question};
 use lv_bodies::{Kind, Shown};
 use lv_edits::Edit;
@@ -47,73 +48,95 @@ pub fn write_transcript<W: Write>(
     let Ok(mut held) = Vec::with_capacity(alloc, HELD) else {
         return Err(Fault::NoMemory);
     };
-    put(&mut held, b"livevec 1\n");
-    write_edits(edits, writer, &mut held)?;
-    write_claims(claims, writer, &mut held)?;
-    make_room(writer, &mut held, LINE)?;
-    put(&mut held, b"end\n");
-    send(writer, &mut held)
+    write_by(edits, claims, &mut held, writer)
+}
+
+// Writes a transcript by a buffer that was made for it.
+fn write_by<W: Write>(
+    edits: &[Edit],
+    claims: &[Claimed],
+    held: &mut Vec<u8>,
+    writer: &mut W,
+) -> Result<(), Fault>
+    requires held { held.old.items ≡ [] }
+    requires room { HELD ≤ vec_capacity held.old }
+    ensures text { Transcribes (W.contents writer.old) (W.contents writer.new) (transcript_text edits.now claims.now) result }
+    ensures fits { OnOk result (All IsEdit edits.now) }
+{
+    let mut outbox = Outbox { writer, held };
+    write_lines(edits, claims, &mut outbox)
+}
+
+// Writes the lines of a transcript by an empty outbox.
+fn write_lines<W: Write>(
+    edits: &[Edit],
+    claims: &[Claimed],
+    outbox: &mut Outbox<'_, W>,
+) -> Result<(), Fault>
+    requires held { outbox.old.held.now.items ≡ [] }
+    ensures places { SamePlaces outbox.old outbox.new }
+    ensures text { Transcribes (W.contents outbox.old.writer.now) (W.contents outbox.new.writer.now) (transcript_text edits.now claims.now) result }
+    ensures fits { OnOk result (All IsEdit edits.now) }
+{
+    put(outbox.held, b"livevec 1\n");
+    write_edits(edits, outbox)?;
+    write_claims(claims, outbox)?;
+    outbox.make_room(LINE)?;
+    put(outbox.held, b"end\n");
+    outbox.send()
 }
 
 // Writes the lines of the edits behind what is held.
-fn write_edits<W: Write>(edits: &[Edit], writer: &mut W, held: &mut Vec<u8>) -> Result<(), Fault>
-    requires { HELD ≤ vec_capacity held.old }
-    ensures ok { OnOk result (Writes (W.contents writer.old) held.old.items (W.contents writer.new) held.new.items
+fn write_edits<W: Write>(edits: &[Edit], outbox: &mut Outbox<'_, W>) -> Result<(), Fault>
+    ensures places { SamePlaces outbox.old outbox.new }
+    ensures ok { OnOk result (Puts W.contents outbox.old outbox.new
         (flat_map (λ edit. edit_line edit ++ 10 ∷ []) edits.now)) }
     ensures fault { IfErr result (λ fault. (fault ≡ Fault.WriteFault)
-        × WritesFront (W.contents writer.old) held.old.items (W.contents writer.new) (flat_map (λ edit. edit_line edit ++ 10 ∷ []) edits.now)) }
+        × PutsFront W.contents outbox.old outbox.new (flat_map (λ edit. edit_line edit ++ 10 ∷ []) edits.now)) }
     ensures fits { OnOk result (All IsEdit edits.now) }
-    ensures room { OnOk result (HELD ≤ vec_capacity held.new) }
 {
     for edit in edits {
-        write_edit(*edit, writer, held)?;
+        write_edit(*edit, outbox)?;
     }
     Ok(())
 }
 
-fn write_edit<W: Write>(edit: Edit, writer: &mut W, held: &mut Vec<u8>) -> Result<(), Fault>
-    requires { HELD ≤ vec_capacity held.old }
-    ensures ok { OnOk result (Writes (W.contents writer.old) held.old.items (W.contents writer.new) held.new.items (edit_line edit ++ 10 ∷ [])) }
+fn write_edit<W: Write>(edit: Edit, outbox: &mut Outbox<'_, W>) -> Result<(), Fault>
+    ensures places { SamePlaces outbox.old outbox.new }
+    ensures ok { OnOk result (Puts W.contents outbox.old outbox.new (edit_line edit ++ 10 ∷ [])) }
     ensures fault { IfErr result (λ fault. (fault ≡ Fault.WriteFault)
-        × WritesFront (W.contents writer.old) held.old.items (W.contents writer.new) []) }
+        × PutsFront W.contents outbox.old outbox.new []) }
     ensures fits { OnOk result (IsEdit edit) }
-    ensures room { OnOk result (HELD ≤ vec_capacity held.new) }
 {
-    make_room(writer, held, LINE)?;
-    put_edit_line(held, edit);
-    put(held, b"\n");
+    outbox.make_room(LINE)?;
+    put_edit_line(outbox.held, edit);
+    put(outbox.held, b"\n");
     Ok(())
 }
 
 // Writes the lines of the claims behind what is held.
-fn write_claims<W: Write>(
-    claims: &[Claimed],
-    writer: &mut W,
-    held: &mut Vec<u8>,
-) -> Result<(), Fault>
-    requires { HELD ≤ vec_capacity held.old }
-    ensures ok { OnOk result (Writes (W.contents writer.old) held.old.items (W.contents writer.new) held.new.items
+fn write_claims<W: Write>(claims: &[Claimed], outbox: &mut Outbox<'_, W>) -> Result<(), Fault>
+    ensures places { SamePlaces outbox.old outbox.new }
+    ensures ok { OnOk result (Puts W.contents outbox.old outbox.new
         (flat_map (λ claim. claim_line claim ++ 10 ∷ []) claims.now)) }
     ensures fault { IfErr result (λ fault. (fault ≡ Fault.WriteFault)
-        × WritesFront (W.contents writer.old) held.old.items (W.contents writer.new) (flat_map (λ claim. claim_line claim ++ 10 ∷ []) claims.now)) }
-    ensures room { OnOk result (HELD ≤ vec_capacity held.new) }
+        × PutsFront W.contents outbox.old outbox.new (flat_map (λ claim. claim_line claim ++ 10 ∷ []) claims.now)) }
 {
     for claim in claims {
-        write_claim(*claim, writer, held)?;
+        write_claim(*claim, outbox)?;
     }
     Ok(())
 }
 
-fn write_claim<W: Write>(claim: Claimed, writer: &mut W, held: &mut Vec<u8>) -> Result<(), Fault>
-    requires { HELD ≤ vec_capacity held.old }
-    ensures ok { OnOk result (Writes (W.contents writer.old) held.old.items (W.contents writer.new) held.new.items (claim_line claim ++ 10 ∷ [])) }
+fn write_claim<W: Write>(claim: Claimed, outbox: &mut Outbox<'_, W>) -> Result<(), Fault>
+    ensures places { SamePlaces outbox.old outbox.new }
+    ensures ok { OnOk result (Puts W.contents outbox.old outbox.new (claim_line claim ++ 10 ∷ [])) }
     ensures fault { IfErr result (λ fault. (fault ≡ Fault.WriteFault)
-        × WritesFront (W.contents writer.old) held.old.items (W.contents writer.new) []) }
-    ensures room { OnOk result (HELD ≤ vec_capacity held.new) }
+        × PutsFront W.contents outbox.old outbox.new []) }
 {
-    make_room(writer, held, LINE)?;
-    put_question(held, claim.edit, claim.kind, claim.lo, claim.hi);
-    put_shown(held, claim.value);
-    put(held, b"\n");
+    outbox.make_room(LINE)?;
+    put_question(outbox.held, claim.edit, claim.kind, claim.lo, claim.hi);
+    put_shown(outbox.held, claim.value);
+    put(outbox.held, b"\n");
     Ok(())
 }

@@ -1,4 +1,5 @@
-ghost use Rattle.std.specs.Prelude.{◌≡◌, ◌+◌, ◌≤◌, ◌++◌, vec_len, vec_capacity};
+ghost use Rattle.std.specs.Prelude.{◌≡◌, ◌+◌, ◌≤◌, ◌++◌, vec_len};
+ghost use Rattle.lv_script.specs.Output.{HasRoom, KeepsRoom};
 ghost use Rattle.lv_script.specs.Texts.{named_text, note_text, unwatched_text, watching_text};
 
 use crate::replies::{LINE, put_shown};
@@ -8,9 +9,9 @@ use lv_standing::Name;
 
 /// That a query stands under the name from now on.
 pub fn put_watching(held: &mut Vec<u8>, name: Name)
-    requires { vec_len held.old + LINE ≤ vec_capacity held.old }
+    requires { HasRoom held.old LINE }
     ensures text { held.new.items ≡ held.old.items ++ watching_text name }
-    ensures room { vec_capacity held.old ≤ vec_capacity held.new }
+    ensures room { KeepsRoom held.old held.new }
 {
     put(held, b"watching ");
     put_name(held, name);
@@ -19,9 +20,9 @@ pub fn put_watching(held: &mut Vec<u8>, name: Name)
 
 /// That no query stands under the name any more.
 pub fn put_unwatched(held: &mut Vec<u8>, name: Name)
-    requires { vec_len held.old + LINE ≤ vec_capacity held.old }
+    requires { HasRoom held.old LINE }
     ensures text { held.new.items ≡ held.old.items ++ unwatched_text name }
-    ensures room { vec_capacity held.old ≤ vec_capacity held.new }
+    ensures room { KeepsRoom held.old held.new }
 {
     put(held, b"unwatched ");
     put_name(held, name);
@@ -30,9 +31,9 @@ pub fn put_unwatched(held: &mut Vec<u8>, name: Name)
 
 /// The answer of the query under the name, at an edit.
 pub fn put_named(held: &mut Vec<u8>, edit: u32, name: Name, value: Shown)
-    requires { vec_len held.old + LINE ≤ vec_capacity held.old }
+    requires { HasRoom held.old LINE }
     ensures text { held.new.items ≡ held.old.items ++ named_text edit name value }
-    ensures room { vec_capacity held.old ≤ vec_capacity held.new }
+    ensures room { KeepsRoom held.old held.new }
 {
     put(held, b"at ");
     put_number(held, edit.into());
@@ -45,10 +46,10 @@ pub fn put_named(held: &mut Vec<u8>, edit: u32, name: Name, value: Shown)
 
 /// That an edit changed the answer of the query under the name, to this value.
 pub fn put_note(held: &mut Vec<u8>, name: Name, value: Shown)
-    requires { vec_len held.old + LINE ≤ vec_capacity held.old }
+    requires { HasRoom held.old LINE }
     ensures text { held.new.items ≡ held.old.items ++ note_text name value }
     ensures len { vec_len held.new ≤ vec_len held.old + LINE }
-    ensures room { vec_capacity held.old ≤ vec_capacity held.new }
+    ensures room { KeepsRoom held.old held.new }
 {
     put(held, b"note ");
     put_name(held, name);
@@ -59,10 +60,10 @@ pub fn put_note(held: &mut Vec<u8>, name: Name, value: Shown)
 
 // The bytes of a name, of which there are at most 16.
 fn put_name(held: &mut Vec<u8>, name: Name)
-    requires { vec_len held.old + 16 ≤ vec_capacity held.old }
+    requires { HasRoom held.old 16 }
     ensures text { held.new.items ≡ held.old.items ++ name }
     ensures len { vec_len held.new ≤ vec_len held.old + 16 }
-    ensures room { vec_capacity held.old ≤ vec_capacity held.new }
+    ensures room { KeepsRoom held.old held.new }
 {
     put(held, name.as_bytes());
 }

@@ -1,5 +1,9 @@
 ghost use Rattle.std.specs.Prelude.{◌≡◌, [], ◌∷◌, MatchOption, option_copied};
+ghost use Rattle.lv_script.specs.Grammar.{kind_name};
+ghost use Rattle.lv_script.specs.Texts.{scan_name};
 ghost use Rattle.lv_script.specs.Words.{words_of, only_word};
+
+use lv_bodies::Kind;
 
 /// The first word and the bytes after it, or nothing where there are no words.
 pub(crate) fn next_word(bytes: &[u8]) -> Option<(&[u8], &[u8])>
@@ -21,4 +25,25 @@ pub(crate) fn only_word(bytes: &[u8]) -> Option<&[u8]>
         return None;
     }
     Some(word)
+}
+
+/// The word that a kind goes by.
+pub(crate) fn kind_name(kind: Kind) -> &'static str
+    ensures { result.now ≡ kind_name kind }
+{
+    match kind {
+        Kind::Sum => "sum",
+        Kind::Least => "least",
+        Kind::Greatest => "greatest",
+        Kind::Best => "best",
+        Kind::Affine => "affine",
+        Kind::Automaton => "automaton",
+    }
+}
+
+/// The word of a scan.
+pub(crate) fn scan_name(inclusive: bool) -> &'static str
+    ensures { result.now ≡ scan_name inclusive }
+{
+    if inclusive { "inc" } else { "exc" }
 }

@@ -8,20 +8,19 @@ use Rattle.lv_script.proofs.answers.put_delivery.Goals as goal
 pub accept-requires : goal.accept-requires
 accept-requires c =
     let meaning : Six → Unit {0} = λ _. tt in
-    rw c.run.ensures (vouched_job six_operations meaning c.args.standing.now.live c.args.jobs.now c.args.k c.in-Some.job c.requires.world (sym c.job_of_number.ensures ∙ c.in-Some.is))
+    vouched_job six_operations meaning c.args.standing.now.live c.args.issued.now.jobs c.args.k c.in-Some.outcome c.requires.world (sym c.outcome.ensures ∙ c.in-Some.is)
 
 pub returns-in-Some-clause-answer : goal.returns-in-Some-clause-answer
-returns-in-Some-clause-answer c =
-    let named = rw c.run.ensures at c.accept.ensures.delivered in
-    let answered = rw c.run.ensures at c.accept.ensures.accepted in
-    (_, tells_delivery c.args.standing.now c.accept.new.self c.args.k c.in-Some.job c.args.jobs.now (sym c.job_of_number.ensures ∙ c.in-Some.is) (rw answered at named) c.accept.ensures.queries, rw answered at c.put_accepted.ensures.text)
+returns-in-Some-clause-answer c = (
+  _,
+  tells_delivery c.args.standing.now c.accept.new.self c.args.k c.in-Some.outcome c.args.issued.now.jobs (sym c.outcome.ensures ∙ c.in-Some.is) (rw c.accept.ensures.accepted at c.accept.ensures.delivered) c.accept.ensures.queries,
+  rw c.accept.ensures.accepted at c.put_accepted.ensures.text,
+)
 
 pub returns-in-Some-clause-world : goal.returns-in-Some-clause-world
 returns-in-Some-clause-world c =
-    let named = rw c.run.ensures at c.accept.ensures.delivered in
-    let answered = rw c.run.ensures at c.accept.ensures.accepted in
-    world_delivery six_operations c.args.standing.now.live c.accept.new.self.live c.in-Some.job.node c.in-Some.job.version c.args.jobs.now (rw answered at named) c.requires.world
+    world_delivery six_operations c.args.standing.now.live c.accept.new.self.live c.in-Some.outcome.node c.in-Some.outcome.version c.args.issued.now.jobs (rw c.accept.ensures.accepted at c.accept.ensures.delivered) c.requires.world
 
 pub returns-in-None-clause-answer : goal.returns-in-None-clause-answer
 returns-in-None-clause-answer c =
-    (_, tells_no_job c.args.standing.now c.args.k c.args.jobs.now (sym c.job_of_number.ensures ∙ c.in-None.is), c.put_refusal.ensures.text)
+    (_, tells_no_job c.args.standing.now c.args.k c.args.issued.now.jobs (sym c.outcome.ensures ∙ c.in-None.is), c.put_refusal.ensures.text)

@@ -21,14 +21,14 @@ returns-in_err-verdict g c =
     rw (p.1, p.2, c.in_err-verdict.ensures)
     (Audited-starved (state_of old.stage old.edits old.replay.edit) (state_of new.stage new.edits new.replay.edit) _ _ c.in_ok-converse.ensures)
 
-pub returns-in_err-send : goal.returns-in_err-send
-returns-in_err-send g c =
-    let p = err_from_is_err_and c.from_residual-in_err-send.result c.from_residual-in_err-send.ensures.1 in
+pub returns-in_err-write_whole : goal.returns-in_err-write_whole
+returns-in_err-write_whole g c =
+    let p = err_from_is_err_and c.from_residual-in_err-write_whole.result c.from_residual-in_err-write_whole.ensures.1 in
     let old = c.in-Ok.auditor in
     let new = c.converse.new.responder in
     let verdict = c.in_ok-verdict.verdict in
     let put = c.put_verdict.ensures ∙ ap (λ (xs : List ℕ). xs ++ verdict_text verdict) c.in-Ok-with_capacity.ensures.items in
-    let fails = c.in_err-send.ensures.fault in
+    let fails = rw c.as_slice.ensures.value at c.in_err-write_whole.ensures.fault in
     rw (p.1, p.2, fails.0)
     (Audited-unsent (state_of old.stage old.edits old.replay.edit) (state_of new.stage new.edits new.replay.edit) _ _ verdict _ _ c.in-Ok.ensures c.in_ok-converse.ensures c.in_ok-verdict.ensures put fails.1)
 
@@ -38,4 +38,4 @@ returns g c =
     let new = c.converse.new.responder in
     let verdict = c.in_ok-verdict.verdict in
     let put = c.put_verdict.ensures ∙ ap (λ (xs : List ℕ). xs ++ verdict_text verdict) c.in-Ok-with_capacity.ensures.items in
-    Audited-sent (state_of old.stage old.edits old.replay.edit) (state_of new.stage new.edits new.replay.edit) _ _ verdict _ _ c.in-Ok.ensures c.in_ok-converse.ensures c.in_ok-verdict.ensures put c.in_ok-send.ensures.ok.1
+    Audited-sent (state_of old.stage old.edits old.replay.edit) (state_of new.stage new.edits new.replay.edit) _ _ verdict _ _ c.in-Ok.ensures c.in_ok-converse.ensures c.in_ok-verdict.ensures put (rw c.as_slice.ensures.value at c.in_ok-write_whole.ensures.ok)

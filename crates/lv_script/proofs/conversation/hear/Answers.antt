@@ -1,4 +1,4 @@
-use Rattle.std.proofs.Common.{◌≡◌, [], ◌++◌, take, refl, arith, append-nil}
+use Rattle.std.proofs.Common.{◌≡◌, [], ◌++◌, ◌∙◌, take, refl, arith, append-nil}
 use Rattle.std.proofs.KnownBytes.{Consumes-nil, Consumes-trans, Consumes-kept}
 use Rattle.std.proofs.lemmas.List.{length-append, length-take-le}
 use Rattle.std.proofs.lemmas.Result.{err_from_is_err_and}
@@ -9,30 +9,31 @@ use Rattle.lv_script.proofs.conversation.hear.Goals as goal
 
 pub loop-left-init : goal.loop-left-init
 loop-left-init g c =
-    let start = point_of (g.A.Responder.state c.args.responder.now) c.args.progress.now (g.W.Write.contents c.args.writer.now) in
+    let start = point_of (g.A.Responder.state c.args.responder.now) c.args.progress.now g.W.Write.contents c.args.outbox.now in
     record {
       seen = [];
       read = Consumes-nil (g.R.Read.remaining c.args.reader.now);
       count = omega arith;
       fed = Feeds-nil g.A.Responder.step start c.requires.ready.begun c.requires.ready.short;
       ready = c.requires.ready;
+      places = (refl, refl);
     }
 
 pub returns-in_err-send-clause-hears : goal.returns-in_err-send-clause-hears
 returns-in_err-send-clause-hears g c =
     let p = err_from_is_err_and c.from_residual.result c.from_residual.ensures.1 in
-    let start = point_of (g.A.Responder.state c.args.responder.now) c.args.progress.now (g.W.Write.contents c.args.writer.now) in
-    let here = point_of (g.A.Responder.state c.loop-left.responder) c.loop-left.progress (g.W.Write.contents c.loop-left.writer) in
+    let start = point_of (g.A.Responder.state c.args.responder.now) c.args.progress.now g.W.Write.contents c.args.outbox.now in
+    let here = point_of (g.A.Responder.state c.loop-left.responder) c.loop-left.progress g.W.Write.contents c.loop-left.outbox in
     let loop = c.loop-left.invariant in
     let unsent = c.in_err-send.ensures.fault in
     rw (p.1, p.2, unsent.0)
-    (Hears-unsent g.A.Responder.step start here loop.seen loop.fed _ _ c.args.most loop.read _ c.send.new.held.items (omega (arith, loop.count)) unsent.1)
+    (Hears-unsent g.A.Responder.step start here loop.seen loop.fed _ _ c.args.most loop.read _ c.send.new.self.held.now.items (omega (arith, loop.count)) unsent.1)
 
 pub returns-in_err-count-clause-hears : goal.returns-in_err-count-clause-hears
 returns-in_err-count-clause-hears g c =
     let p = err_from_is_err_and c.from_residual-in_err-count.result c.from_residual-in_err-count.ensures.1 in
-    let start = point_of (g.A.Responder.state c.args.responder.now) c.args.progress.now (g.W.Write.contents c.args.writer.now) in
-    let here = point_of (g.A.Responder.state c.loop-left.responder) c.loop-left.progress (g.W.Write.contents c.loop-left.writer) in
+    let start = point_of (g.A.Responder.state c.args.responder.now) c.args.progress.now g.W.Write.contents c.args.outbox.now in
+    let here = point_of (g.A.Responder.state c.loop-left.responder) c.loop-left.progress g.W.Write.contents c.loop-left.outbox in
     let loop = c.loop-left.invariant in
     let failed = c.in_err-count.ensures.fault in
     let read = Consumes-kept _ _ _ loop.seen loop.read failed.1 in
@@ -41,8 +42,8 @@ returns-in_err-count-clause-hears g c =
 
 pub returns-then-count-eq0-clause-hears : goal.returns-then-count-eq0-clause-hears
 returns-then-count-eq0-clause-hears g c =
-    let start = point_of (g.A.Responder.state c.args.responder.now) c.args.progress.now (g.W.Write.contents c.args.writer.now) in
-    let here = point_of (g.A.Responder.state c.loop-left.responder) c.loop-left.progress (g.W.Write.contents c.loop-left.writer) in
+    let start = point_of (g.A.Responder.state c.args.responder.now) c.args.progress.now g.W.Write.contents c.args.outbox.now in
+    let here = point_of (g.A.Responder.state c.loop-left.responder) c.loop-left.progress g.W.Write.contents c.loop-left.outbox in
     let loop = c.loop-left.invariant in
     let none : take c.in_ok-count.count c.read_front.new.chunk ≡ [] = rw c.if-count-eq0.true refl in
     let read = rw append-nil at (Consumes-trans _ _ _ loop.seen [] loop.read (rw none at c.in_ok-count.ensures.read)) in
@@ -51,15 +52,15 @@ returns-then-count-eq0-clause-hears g c =
 
 pub returns-then-count-eq0-clause-number : goal.returns-then-count-eq0-clause-number
 returns-then-count-eq0-clause-number g c =
-    let start = point_of (g.A.Responder.state c.args.responder.now) c.args.progress.now (g.W.Write.contents c.args.writer.now) in
-    let here = point_of (g.A.Responder.state c.loop-left.responder) c.loop-left.progress (g.W.Write.contents c.loop-left.writer) in
+    let start = point_of (g.A.Responder.state c.args.responder.now) c.args.progress.now g.W.Write.contents c.args.outbox.now in
+    let here = point_of (g.A.Responder.state c.loop-left.responder) c.loop-left.progress g.W.Write.contents c.loop-left.outbox in
     let loop = c.loop-left.invariant in
     omega (arith, loop.count, number-Feeds g.A.Responder.step start here loop.seen loop.fed c.requires.ready.begun)
 
 pub feed-requires-clause-number : goal.feed-requires-clause-number
 feed-requires-clause-number g c =
-    let start = point_of (g.A.Responder.state c.args.responder.now) c.args.progress.now (g.W.Write.contents c.args.writer.now) in
-    let here = point_of (g.A.Responder.state c.loop-left.responder) c.loop-left.progress (g.W.Write.contents c.loop-left.writer) in
+    let start = point_of (g.A.Responder.state c.args.responder.now) c.args.progress.now g.W.Write.contents c.args.outbox.now in
+    let here = point_of (g.A.Responder.state c.loop-left.responder) c.loop-left.progress g.W.Write.contents c.loop-left.outbox in
     let loop = c.loop-left.invariant in
     let fit = length-take-le c.in_ok-count.count c.read_front.new.chunk c.in_ok-count.ensures.within in
     omega (arith, loop.count, fit, c.requires.number, c.in_ok-count.ensures.few, number-Feeds g.A.Responder.step start here loop.seen loop.fed c.requires.ready.begun)
@@ -68,11 +69,11 @@ pub returns-in_err-feed-clause-hears : goal.returns-in_err-feed-clause-hears
 returns-in_err-feed-clause-hears g c =
     let p = err_from_is_err_and c.from_residual-in_err-feed.result c.from_residual-in_err-feed.ensures.1 in
     let step = g.A.Responder.step in
-    let start = point_of (g.A.Responder.state c.args.responder.now) c.args.progress.now (g.W.Write.contents c.args.writer.now) in
-    let here = point_of (g.A.Responder.state c.loop-left.responder) c.loop-left.progress (g.W.Write.contents c.loop-left.writer) in
-    let stop = point_of (g.A.Responder.state c.feed.new.responder) c.feed.new.self (g.W.Write.contents c.feed.new.writer) in
-    let contents = g.W.Write.contents c.send.new.writer in
-    let held = c.send.new.held.items in
+    let start = point_of (g.A.Responder.state c.args.responder.now) c.args.progress.now g.W.Write.contents c.args.outbox.now in
+    let here = point_of (g.A.Responder.state c.loop-left.responder) c.loop-left.progress g.W.Write.contents c.loop-left.outbox in
+    let stop = point_of (g.A.Responder.state c.feed.new.responder) c.feed.new.self g.W.Write.contents c.feed.new.outbox in
+    let contents = g.W.Write.contents c.send.new.self.writer.now in
+    let held = c.send.new.self.held.now.items in
     let loop = c.loop-left.invariant in
     let bytes = take c.in_ok-count.count c.read_front.new.chunk in
     let fit = length-take-le c.in_ok-count.count c.read_front.new.chunk c.in_ok-count.ensures.within in
@@ -87,12 +88,14 @@ returns-in_err-feed-clause-hears g c =
 
 pub loop-left-preserved : goal.loop-left-preserved
 loop-left-preserved g c =
+    let fed = c.feed.ensures.places in
+    let out = c.send.ensures.places in
     let step = g.A.Responder.step in
-    let start = point_of (g.A.Responder.state c.args.responder.now) c.args.progress.now (g.W.Write.contents c.args.writer.now) in
-    let here = point_of (g.A.Responder.state c.loop-left.responder) c.loop-left.progress (g.W.Write.contents c.loop-left.writer) in
-    let next = point_of (g.A.Responder.state c.feed.new.responder) c.feed.new.self (g.W.Write.contents c.feed.new.writer) in
-    let contents = g.W.Write.contents c.send.new.writer in
-    let held = c.send.new.held.items in
+    let start = point_of (g.A.Responder.state c.args.responder.now) c.args.progress.now g.W.Write.contents c.args.outbox.now in
+    let here = point_of (g.A.Responder.state c.loop-left.responder) c.loop-left.progress g.W.Write.contents c.loop-left.outbox in
+    let next = point_of (g.A.Responder.state c.feed.new.responder) c.feed.new.self g.W.Write.contents c.feed.new.outbox in
+    let contents = g.W.Write.contents c.send.new.self.writer.now in
+    let held = c.send.new.self.held.now.items in
     let loop = c.loop-left.invariant in
     let bytes = take c.in_ok-count.count c.read_front.new.chunk in
     let fit = length-take-le c.in_ok-count.count c.read_front.new.chunk c.in_ok-count.ensures.within in
@@ -103,21 +106,22 @@ loop-left-preserved g c =
       count = omega (arith, loop.count, length-append loop.seen bytes, fit, c.in_ok-count.ensures.few);
       fed = Feeds-trans step start record here { contents = contents; held = held } next loop.seen bytes sent c.in_ok-feed.ensures.ok;
       ready = c.in_ok-feed.ensures.ready;
+      places = (fed.0 ∙ out.0 ∙ loop.places.0, fed.1 ∙ out.1 ∙ loop.places.1);
     }
 
 pub returns-in_err-send-2-clause-hears : goal.returns-in_err-send-2-clause-hears
 returns-in_err-send-2-clause-hears g c =
     let p = err_from_is_err_and c.from_residual-in_err-send-2.result c.from_residual-in_err-send-2.ensures.1 in
-    let start = point_of (g.A.Responder.state c.args.responder.now) c.args.progress.now (g.W.Write.contents c.args.writer.now) in
-    let here = point_of (g.A.Responder.state c.loop-left.responder) c.loop-left.progress (g.W.Write.contents c.loop-left.writer) in
+    let start = point_of (g.A.Responder.state c.args.responder.now) c.args.progress.now g.W.Write.contents c.args.outbox.now in
+    let here = point_of (g.A.Responder.state c.loop-left.responder) c.loop-left.progress g.W.Write.contents c.loop-left.outbox in
     let loop = c.loop-left.invariant in
     let unsent = c.in_err-send-2.ensures.fault in
     rw (p.1, p.2, unsent.0)
-    (Hears-unsent g.A.Responder.step start here loop.seen loop.fed _ _ c.args.most loop.read _ c.send-2.new.held.items (omega (arith, loop.count)) unsent.1)
+    (Hears-unsent g.A.Responder.step start here loop.seen loop.fed _ _ c.args.most loop.read _ c.send-2.new.self.held.now.items (omega (arith, loop.count)) unsent.1)
 
 pub returns-clause-hears : goal.returns-clause-hears
 returns-clause-hears g c =
-    let start = point_of (g.A.Responder.state c.args.responder.now) c.args.progress.now (g.W.Write.contents c.args.writer.now) in
-    let here = point_of (g.A.Responder.state c.loop-left.responder) c.loop-left.progress (g.W.Write.contents c.loop-left.writer) in
+    let start = point_of (g.A.Responder.state c.args.responder.now) c.args.progress.now g.W.Write.contents c.args.outbox.now in
+    let here = point_of (g.A.Responder.state c.loop-left.responder) c.loop-left.progress g.W.Write.contents c.loop-left.outbox in
     let loop = c.loop-left.invariant in
     Hears-most g.A.Responder.step start here loop.seen loop.fed _ _ c.args.most loop.read _ _ (omega (arith, loop.count)) c.in_ok-send-2.ensures.ok

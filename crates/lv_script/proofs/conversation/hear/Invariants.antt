@@ -1,5 +1,6 @@
 use Rattle.std.proofs.Common.{◌≡◌, ◌+◌, ℕ, List, length}
 use Rattle.std.specs.Io.KnownBytes.{Consumes}
+use Rattle.lv_script.specs.Output.{SamePlaces}
 use Rattle.lv_script.specs.Progress.{IsReady, Feeds, point_of}
 use Rattle.lv_script.proofs.conversation.hear.Given as goal
 
@@ -10,9 +11,10 @@ invariant-loop-left g l =
       seen : List ℕ;
       read : Consumes (g.R.Read.remaining l.fn.reader) (g.R.Read.remaining l.reader) seen;
       count : length seen + l.left ≡ l.fn.most;
-      fed : Feeds g.A.Responder.step (point_of (g.A.Responder.state l.fn.responder) l.fn.progress (g.W.Write.contents l.fn.writer))
-          (point_of (g.A.Responder.state l.responder) l.progress (g.W.Write.contents l.writer)) seen;
+      fed : Feeds g.A.Responder.step (point_of (g.A.Responder.state l.fn.responder) l.fn.progress g.W.Write.contents l.fn.outbox)
+          (point_of (g.A.Responder.state l.responder) l.progress g.W.Write.contents l.outbox) seen;
       ready : IsReady l.progress;
+      places : SamePlaces l.fn.outbox l.outbox;
     }
 
 abbrev pub decreases-loop-left : goal.decreases-loop-left

@@ -20,4 +20,7 @@ loop-value-preserved g c = record {
       let kept = c.put_scanned.ensures.idle (omega (arith, room, so_far.1, c.loop-value-test.true, c.loop-value.invariant.room)) in
       (kept.1 ∙ so_far.0, omega (arith, so_far.1, kept.2));
   room = omega arith;
+  places =
+      let places = c.put_scanned.ensures.places in
+      (places.0 ∙ c.loop-value.invariant.places.0, places.1 ∙ c.loop-value.invariant.places.1);
 }

@@ -1,6 +1,6 @@
-use Rattle.std.proofs.Common.{◌≡◌, ◌+◌, ◌*◌, ◌≤◌, length, map, take, vec_len, vec_capacity}
+use Rattle.std.proofs.Common.{◌≡◌, ◌+◌, ◌*◌, ◌≤◌, length, map, take, vec_len}
 use Rattle.lv_bodies.specs.Six.{face_of}
-use Rattle.lv_script.specs.Output.{Writes}
+use Rattle.lv_script.specs.Output.{HasRoom, KeepsRoom, Puts, SamePlaces}
 use Rattle.lv_script.specs.Texts.{values_text}
 use Rattle.lv_script.proofs.scan_replies.put_values.Given as goal
 
@@ -8,9 +8,10 @@ use Rattle.lv_script.proofs.scan_replies.put_values.Given as goal
 abbrev pub invariant-loop-value : goal.invariant-loop-value
 invariant-loop-value g l =
     record {
-      written : Writes (g.W.Write.contents l.fn.writer) l.initial.held.items (g.W.Write.contents l.writer) l.held.items
+      written : Puts g.W.Write.contents l.initial.outbox l.outbox
           (values_text (map (face_of l.kind) (take l.value-index l.values)));
-      idle : vec_len l.initial.held + 256 * length l.values ≤ vec_capacity l.initial.held
-          → (l.writer ≡ l.fn.writer) × (vec_len l.held ≤ vec_len l.initial.held + 256 * l.value-index);
-      room : vec_capacity l.initial.held ≤ vec_capacity l.held;
+      idle : HasRoom l.initial.outbox.held.now (256 * length l.values)
+          → (l.outbox.writer.now ≡ l.initial.outbox.writer.now) × (vec_len l.outbox.held.now ≤ vec_len l.initial.outbox.held.now + 256 * l.value-index);
+      room : KeepsRoom l.initial.outbox.held.now l.outbox.held.now;
+      places : SamePlaces l.initial.outbox l.outbox;
     }

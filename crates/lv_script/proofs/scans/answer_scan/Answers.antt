@@ -1,5 +1,5 @@
 use Rattle.std.proofs.Common.{◌∙◌, sym}
-use Rattle.lv_script.specs.Output.{Writes, WritesFront}
+use Rattle.lv_script.specs.Output.{Puts, PutsFront}
 use Rattle.lv_script.proofs.EventLaws.{scan_put, scan_put_front}
 use Rattle.lv_script.proofs.scans.answer_scan.Goals as goal
 
@@ -8,7 +8,7 @@ returns-in-None-clause-ok g c =
     let granted = rw c.live-live.ensures.value at (sym c.refusal_of.ensures.value ∙ c.in-None.is) in
     let put = rw c.live-live.ensures.value at c.put_range_scan.ensures.ok in
     scan_put c.put_range_scan.result c.args.standing.now c.args.asked.now.inclusive c.args.asked.now.kind c.args.asked.now.lo c.args.asked.now.hi
-    (Writes (g.W.Write.contents c.args.writer.now) c.args.held.now.items (g.W.Write.contents c.put_range_scan.new.writer) c.put_range_scan.new.held.items)
+    (Puts g.W.Write.contents c.args.outbox.now c.put_range_scan.new.outbox)
     granted put
 
 pub returns-in-None-clause-fault : goal.returns-in-None-clause-fault
@@ -16,5 +16,5 @@ returns-in-None-clause-fault g c =
     let granted = rw c.live-live.ensures.value at (sym c.refusal_of.ensures.value ∙ c.in-None.is) in
     let put = rw c.live-live.ensures.value at c.put_range_scan.ensures.fault in
     scan_put_front c.put_range_scan.result c.args.standing.now c.args.asked.now.inclusive c.args.asked.now.kind c.args.asked.now.lo c.args.asked.now.hi
-    (WritesFront (g.W.Write.contents c.args.writer.now) c.args.held.now.items (g.W.Write.contents c.put_range_scan.new.writer))
+    (PutsFront g.W.Write.contents c.args.outbox.now c.put_range_scan.new.outbox)
     granted put

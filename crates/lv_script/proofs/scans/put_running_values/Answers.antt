@@ -1,4 +1,4 @@
-use Rattle.std.proofs.Common.{◌≡◌, ◌-◌, ◌+◌, ◌<◌, ◌≤◌, ◌⊎◌, true, false, FitsSigned, length, rules, slice_range, subst, inl, inr, arith}
+use Rattle.std.proofs.Common.{◌≡◌, ◌-◌, ◌+◌, ◌<◌, ◌≤◌, ◌⊎◌, true, false, FitsSigned, length, refl, ◌∙◌, rules, slice_range, subst, inl, inr, arith}
 use Rattle.std.specs.Int.{w64}
 use Rattle.std.proofs.lemmas.Int.{to_z-of_z}
 use Rattle.std.proofs.lemmas.Result.{err_from_is_err_and}
@@ -19,7 +19,7 @@ loop-i-init g c =
       fold = rw none c.identity-sum.ensures;
       within = search rules;
       written = rw none (Writes-nil _ _);
-      room = omega arith;
+      places = (refl, refl);
     }
 
 pub returns-in_err-put_scanned-clause-fault : goal.returns-in_err-put_scanned-clause-fault
@@ -36,6 +36,7 @@ returns-in_err-put_scanned-clause-fault g c =
 
 pub loop-i-preserved : goal.loop-i-preserved
 loop-i-preserved g c =
+    let places = c.put_scanned.ensures.places in
     let meaning = g.B.Body.meaning c.args.body.now in
     let o = g.B.Body.operations meaning in
     let history = c.args.live.now.history in
@@ -64,7 +65,7 @@ loop-i-preserved g c =
       fold = fold;
       within = subst (λ n. g.B.Body.is_within meaning c.fold_more-sum.result n) place (c.fold_more-sum.ensures.within (i - lo) c.loop-i.invariant.within (omega (arith, c.requires.limits.few)));
       written = Writes-next (value_at plain c.args.asked.now.inclusive xs) lo hi (length xs) long i c.show_fold.result low c.loop-i-test.true c.loop-i.invariant.written shown c.in_ok-put_scanned.ensures.ok;
-      room = omega arith;
+      places = (places.0 ∙ c.loop-i.invariant.places.0, places.1 ∙ c.loop-i.invariant.places.1);
     }
 
 pub returns-clause-ok : goal.returns-clause-ok

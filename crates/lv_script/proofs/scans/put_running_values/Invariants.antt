@@ -1,7 +1,7 @@
-use Rattle.std.proofs.Common.{◌≡◌, ◌-◌, ◌≤◌, length, vec_capacity}
+use Rattle.std.proofs.Common.{◌≡◌, ◌-◌, length}
 use Rattle.lv_bodies.specs.Body.{fold_of}
 use Rattle.lv_reduce.specs.Answer.{slice_of}
-use Rattle.lv_script.specs.Output.{Writes}
+use Rattle.lv_script.specs.Output.{Puts, SamePlaces}
 use Rattle.lv_script.proofs.ScanLemmas.{value_at, values_up_to}
 use Rattle.lv_script.proofs.scans.put_running_values.Given as goal
 
@@ -14,7 +14,7 @@ invariant-loop-i g l =
     record {
       fold : l.sum ≡ fold_of (g.B.Body.operations meaning) (slice_of edits l.asked.lo l.i);
       within : g.B.Body.is_within meaning l.sum (l.i - l.asked.lo);
-      written : Writes (g.W.Write.contents l.fn.writer) l.initial.held.items (g.W.Write.contents l.writer) l.held.items
+      written : Puts g.W.Write.contents l.initial.outbox l.outbox
           (values_up_to (value_at (g.B.Single.plain l.body) l.asked.inclusive xs) (length xs) (l.i - l.asked.lo));
-      room : vec_capacity l.initial.held ≤ vec_capacity l.held;
+      places : SamePlaces l.initial.outbox l.outbox;
     }

@@ -6,4 +6,4 @@ use Rattle.lv_script.proofs.scripts.answer_line.Goals as goal
 
 pub returns-in-Nothing-clause-ok : goal.returns-in-Nothing-clause-ok
 returns-in-Nothing-clause-ok g c =
-    ([], rw c.in-Nothing.is (refl, unchanged c.args.standing.now c.args.jobs.now.items), Writes-put _ _ _ _ (sym (append-nil _)))
+    ([], rw c.in-Nothing.is (refl, unchanged c.args.standing.now c.args.issued.now.jobs), Writes-put _ _ _ _ (sym (append-nil _)))

@@ -6,7 +6,7 @@ use Rattle.lv_script.proofs.transcripts.write_claim.Goals as goal
 
 pub returns-clause-ok : goal.returns-clause-ok
 returns-clause-ok g c =
-    let held = c.make_room.new.held.items in
+    let held = c.make_room.new.self.held.now.items in
     let claim = c.args.claim in
     let question = question_text claim.edit claim.kind claim.lo claim.hi in
     let value = shown_text claim.value in

@@ -1,4 +1,4 @@
-use Rattle.std.proofs.Common.{List, ℕ, [], ◌∷◌, ◌++◌, arith}
+use Rattle.std.proofs.Common.{List, ℕ, [], ◌∷◌, ◌++◌, ◌∙◌, arith}
 use Rattle.std.proofs.lemmas.Result.{err_from_is_err_and}
 use Rattle.lv_bodies.specs.declared.kinds.Kind.TheVariants.{Sum}
 use Rattle.lv_bodies.specs.declared.kinds.Shown.TheVariants as shown
@@ -24,7 +24,8 @@ returns-in_err-write_claim-clause-fault g c =
 pub loop-claim-preserved : goal.loop-claim-preserved
 loop-claim-preserved g c =
     let wrote = c.in_ok-write_claim.ensures in
+    let places = c.write_claim.ensures.places in
     record {
       written = Writes-piece piece c.args.claims.now c.loop-claim.claim-index first (omega arith) c.loop-claim.invariant.written wrote.ok;
-      room = wrote.room;
+      places = (places.0 ∙ c.loop-claim.invariant.places.0, places.1 ∙ c.loop-claim.invariant.places.1);
     }

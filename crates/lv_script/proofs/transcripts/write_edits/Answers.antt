@@ -1,4 +1,4 @@
-use Rattle.std.proofs.Common.{List, ℕ, [], ◌∷◌, ◌++◌, pos, arith}
+use Rattle.std.proofs.Common.{List, ℕ, [], ◌∷◌, ◌++◌, ◌∙◌, pos, arith}
 use Rattle.std.proofs.lemmas.List.{take_more}
 use Rattle.std.proofs.lemmas.List.Elements.{All-push}
 use Rattle.std.proofs.lemmas.Result.{err_from_is_err_and}
@@ -28,8 +28,9 @@ loop-edit-preserved g c =
     let i = c.loop-edit.edit-index in
     let loop = c.loop-edit.invariant in
     let wrote = c.in_ok-write_edit.ensures in
+    let places = c.write_edit.ensures.places in
     record {
       written = Writes-piece piece edits i first (omega arith) loop.written wrote.ok;
       fits = rw (take_more edits i first (omega arith)) (All-push IsEdit _ _ loop.fits wrote.fits);
-      room = wrote.room;
+      places = (places.0 ∙ loop.places.0, places.1 ∙ loop.places.1);
     }

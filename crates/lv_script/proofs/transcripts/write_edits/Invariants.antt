@@ -1,7 +1,6 @@
-use Rattle.std.proofs.Common.{◌≤◌, [], ◌∷◌, ◌++◌, All, take, vec_capacity}
+use Rattle.std.proofs.Common.{[], ◌∷◌, ◌++◌, All, take}
 use Rattle.std.specs.List.{flat_map}
-use Rattle.lv_script.specs.declared.sender.TheConstants.{HELD}
-use Rattle.lv_script.specs.Output.{Writes}
+use Rattle.lv_script.specs.Output.{Puts, SamePlaces}
 use Rattle.lv_script.specs.Transcript.{edit_line, IsEdit}
 use Rattle.lv_script.proofs.transcripts.write_edits.Given as goal
 
@@ -9,8 +8,8 @@ use Rattle.lv_script.proofs.transcripts.write_edits.Given as goal
 abbrev pub invariant-loop-edit : goal.invariant-loop-edit
 invariant-loop-edit g l =
     record {
-      written : Writes (g.W.Write.contents l.fn.writer) l.fn.held.items (g.W.Write.contents l.writer) l.held.items
+      written : Puts g.W.Write.contents l.initial.outbox l.outbox
           (flat_map (λ edit. edit_line edit ++ 10 ∷ []) (take l.edit-index l.edits));
       fits : All IsEdit (take l.edit-index l.edits);
-      room : HELD ≤ vec_capacity l.held;
+      places : SamePlaces l.initial.outbox l.outbox;
     }

@@ -13,6 +13,7 @@ loop-end-init g c = record {
   cut = refl;
   fed = Feeds-nil g.A.Responder.step _ c.requires.ready.begun c.requires.ready.short;
   ready = c.requires.ready;
+  places = (refl, refl);
   number = c.requires.number;
 }
 
@@ -23,9 +24,9 @@ returns-in_err-end_line-clause-fault g c =
     let loop = c.loop-end.invariant in
     let rest = c.loop-end.rest.now in
     let piece = c.split_at.result.0.now in
-    let start = point_of (g.A.Responder.state c.args.responder.now) c.args.self.now (g.W.Write.contents c.args.writer.now) in
-    let here = point_of (g.A.Responder.state c.loop-end.responder) c.loop-end.self (g.W.Write.contents c.loop-end.writer) in
-    let stop = point_of (g.A.Responder.state c.end_line.new.responder) c.end_line.new.self (g.W.Write.contents c.end_line.new.writer) in
+    let start = point_of (g.A.Responder.state c.args.responder.now) c.args.self.now g.W.Write.contents c.args.outbox.now in
+    let here = point_of (g.A.Responder.state c.loop-end.responder) c.loop-end.self g.W.Write.contents c.loop-end.outbox in
+    let stop = point_of (g.A.Responder.state c.end_line.new.responder) c.end_line.new.self g.W.Write.contents c.end_line.new.outbox in
     let ends = EndsAt-from_position rest c.in-Some.end c.in-Some.ensures in
     let none : has_end piece ≡ false = rw c.split_at.ensures.front ends.before in
     let fails = FeedsFront-line step here stop piece loop.ready.begun none c.in_err-end_line.ensures.fault.1 in
@@ -46,14 +47,16 @@ loop-end-preserved g c =
     let later : after ≡ drop (end + 1) rest = rw c.split_at.ensures.back at c.split_at-in-Some.ensures.back ∙ drop-drop 1 end rest in
     let cut : rest ≡ (piece ++ 10 ∷ []) ++ after = rw (c.split_at.ensures.front, later) ends.cut in
     let answered = c.in_ok-end_line.ensures in
-    let start = point_of (g.A.Responder.state c.args.responder.now) c.args.self.now (g.W.Write.contents c.args.writer.now) in
-    let here = point_of (g.A.Responder.state c.loop-end.responder) c.loop-end.self (g.W.Write.contents c.loop-end.writer) in
-    let next = point_of (g.A.Responder.state c.end_line.new.responder) c.end_line.new.self (g.W.Write.contents c.end_line.new.writer) in
+    let places = c.end_line.ensures.places in
+    let start = point_of (g.A.Responder.state c.args.responder.now) c.args.self.now g.W.Write.contents c.args.outbox.now in
+    let here = point_of (g.A.Responder.state c.loop-end.responder) c.loop-end.self g.W.Write.contents c.loop-end.outbox in
+    let next = point_of (g.A.Responder.state c.end_line.new.responder) c.end_line.new.self g.W.Write.contents c.end_line.new.outbox in
     record {
       done = loop.done ++ (piece ++ 10 ∷ []);
       cut = loop.cut ∙ ap (λ (xs : List ℕ). loop.done ++ xs) cut ∙ sym (append_assoc loop.done (piece ++ 10 ∷ []) after);
       fed = Feeds-trans step start here next loop.done (piece ++ 10 ∷ []) loop.fed (Feeds-line step here next piece loop.ready.begun none answered.ok answered.number answered.kept);
-      ready = record { begun = rw answered.kept refl; short = rw answered.kept (omega arith); room = answered.room };
+      ready = record { begun = rw answered.kept refl; short = rw answered.kept (omega arith) };
+      places = (places.0 ∙ loop.places.0, places.1 ∙ loop.places.1);
       number = omega (arith, answered.number, loop.number, ends.inside, ap length later, length-drop (end + 1) rest);
     }
 
@@ -63,8 +66,8 @@ returns-clause-ok g c =
     let rest = c.loop-end.rest.now in
     let none = has_end-from_position rest c.end_of_line.result c.end_of_line.ensures c.in_default.not-Some in
     let step = g.A.Responder.step in
-    let start = point_of (g.A.Responder.state c.args.responder.now) c.args.self.now (g.W.Write.contents c.args.writer.now) in
-    let here = point_of (g.A.Responder.state c.loop-end.responder) c.loop-end.self (g.W.Write.contents c.loop-end.writer) in
+    let start = point_of (g.A.Responder.state c.args.responder.now) c.args.self.now g.W.Write.contents c.args.outbox.now in
+    let here = point_of (g.A.Responder.state c.loop-end.responder) c.loop-end.self g.W.Write.contents c.loop-end.outbox in
     let kept = c.keep.new.kept.items in
     rw loop.cut (Feeds-trans step start here record here { kept = kept } loop.done rest loop.fed (Feeds-piece step here kept rest loop.ready.begun none c.keep.ensures))
 
@@ -77,5 +80,4 @@ returns-clause-ready g c =
     record {
       begun = rw c.keep.ensures (has_end-take 121 (kept ++ rest) (has_end-append_none kept rest loop.ready.begun ∙ none));
       short = rw c.keep.ensures (simp length-take (omega arith));
-      room = loop.ready.room;
     }

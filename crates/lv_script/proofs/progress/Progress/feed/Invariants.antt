@@ -1,4 +1,5 @@
 use Rattle.std.proofs.Common.{◌≡◌, ◌+◌, ◌^◌, ◌<◌, ℕ, List, ◌++◌, length}
+use Rattle.lv_script.specs.Output.{SamePlaces}
 use Rattle.lv_script.specs.Progress.{IsReady, Feeds, point_of}
 use Rattle.lv_script.proofs.progress.Progress.feed.Given as goal
 
@@ -8,9 +9,10 @@ invariant-loop-end g l =
     record {
       done : List ℕ;
       cut : l.bytes ≡ done ++ l.rest;
-      fed : Feeds g.A.Responder.step (point_of (g.A.Responder.state l.fn.responder) l.fn.self (g.W.Write.contents l.fn.writer))
-          (point_of (g.A.Responder.state l.responder) l.self (g.W.Write.contents l.writer)) done;
+      fed : Feeds g.A.Responder.step (point_of (g.A.Responder.state l.fn.responder) l.fn.self g.W.Write.contents l.fn.outbox)
+          (point_of (g.A.Responder.state l.responder) l.self g.W.Write.contents l.outbox) done;
       ready : IsReady l.self;
+      places : SamePlaces l.fn.outbox l.outbox;
       number : l.self.number + length l.rest < 2 ^ 32;
     }
 

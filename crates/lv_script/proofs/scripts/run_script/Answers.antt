@@ -1,0 +1,21 @@
+use Rattle.std.proofs.Common.{ap, map}
+use Rattle.lv_live.specs.State.{node_and_version}
+use Rattle.lv_script.specs.Script.{ScriptState}
+use Rattle.lv_script.specs.Scripted.{state_of}
+use Rattle.lv_script.proofs.scripts.run_script.Goals as goal
+
+pub returns : goal.returns
+returns g c =
+    let first : ScriptState = state_of c.new.result c.new-2.result.jobs in (
+      first,
+      _,
+      record {
+        limits_are = ap (λ h. h.limits) c.new.ensures.history;
+        edits = ap (λ h. h.journal) c.new.ensures.history;
+        issued = ap (map node_and_version) c.new-2.ensures;
+        claimed = c.new.ensures.unclaimed;
+        kept = c.new.ensures.nothing_kept;
+        queries = c.new.ensures.queries;
+      },
+      c.converse.ensures,
+    )
