@@ -13,7 +13,7 @@ use Rattle.lv_reduce.specs.declared.reductions.Answer.{Answer}
 use Rattle.lv_reduce.specs.Answer.{IsAnswer, slice_of}
 use Rattle.lv_summary.proofs.FoldableLaws.{can_fold, part_can_fold}
 use Rattle.livevec_c.specs.declared.objects.Object.{Object}
-use Rattle.livevec_c.specs.declared.objects.Object.TheVariants.{Vector, Job, Outcome}
+use Rattle.livevec_c.specs.declared.objects.Object.TheVariants.{Vector, Job, Outcome, Board, Seat, Closed}
 use Rattle.livevec_c.specs.declared.results.Reduced.{Reduced}
 use Rattle.livevec_c.specs.Answers.{reduced_by, spread}
 use Rattle.livevec_c.specs.Behind.{AsksObject, ReducesObject, State}
@@ -61,10 +61,16 @@ plain_ok state lo hi (Err refusal) answer is fine within zero = elim (refused re
 pub reduces_plain : (lo hi : ℕ) (answer : Reduced) (object : Object) → ReducesObject lo hi answer object → IsPlainObject lo hi answer object
 reduces_plain lo hi answer (Vector state) (Ok a, is, within, fine) = plain_ok state lo hi (Ok a) answer is fine.0 within
 reduces_plain lo hi answer (Vector state) (Err refusal, is, within, why) = plain_ok state lo hi (Err refusal) answer is tt within
-reduces_plain lo hi answer (Job job) reduces = tt
-reduces_plain lo hi answer (Outcome outcome) reduces = tt
+reduces_plain lo hi answer (Job other) reduces = tt
+reduces_plain lo hi answer (Outcome other) reduces = tt
+reduces_plain lo hi answer (Board other) reduces = tt
+reduces_plain lo hi answer (Seat other) reduces = tt
+reduces_plain lo hi answer (Closed other) reduces = tt
 
 pub asks_plain : (lo hi : ℕ) (answer : Reduced) (old new : Object) → AsksObject lo hi answer old new → IsPlainObject lo hi answer old
 asks_plain lo hi answer (Vector state) new (after, same, asks) = plain_ok state lo hi asks.r answer asks.answer_is asks.ok asks.within
-asks_plain lo hi answer (Job job) new asks = tt
-asks_plain lo hi answer (Outcome outcome) new asks = tt
+asks_plain lo hi answer (Job other) new asks = tt
+asks_plain lo hi answer (Outcome other) new asks = tt
+asks_plain lo hi answer (Board other) new asks = tt
+asks_plain lo hi answer (Seat other) new asks = tt
+asks_plain lo hi answer (Closed other) new asks = tt

@@ -1,10 +1,10 @@
 -- What the answers of the library are for C.
-use Rattle.std.specs.Prelude.{ℕ, ℤ, pos, true, false, ◌^◌, Option, Some, None, Result, Ok, Err, replicate, unwrap_or, is_some, option_map}
+use Rattle.std.specs.Prelude.{ℕ, ℤ, pos, true, false, ◌^◌, Option, Some, None, Result, Ok, Err, ok_or, List, length, slice_get, replicate, unwrap_or, is_some, option_map}
 use Rattle.std.specs.Int.{int_rem_euclid, int_div_euclid}
 use Rattle.std.specs.Int.RustNames.{unsigned_abs}
 use Rattle.lv_geometry.specs.Numbers.{number_of}
 use Rattle.lv_geometry.specs.declared.refusals.Refusal.{Refusal}
-use Rattle.lv_geometry.specs.declared.refusals.Refusal.TheVariants.{OutOfRange, TooLarge}
+use Rattle.lv_geometry.specs.declared.refusals.Refusal.TheVariants.{Contended, OutOfRange, Overtaken, TooLarge}
 use Rattle.lv_bodies.specs.Six.{SixSummary}
 use Rattle.lv_edits.specs.declared.receipt.Receipt.{Receipt}
 use Rattle.lv_edits.specs.declared.receipt.Receipt.TheVariants.{Pushed, Popped, Written, Reserved, Swapped, Truncated}
@@ -21,10 +21,12 @@ use Rattle.livevec_c.specs.declared.results.PlainValues.{PlainValues}
 use Rattle.livevec_c.specs.declared.results.Reduced.{Reduced}
 use Rattle.livevec_c.specs.declared.verdicts.Verdict.{Verdict}
 
--- what a refusal tells beside its number: the size, or the limit
+-- what a refusal tells beside its number: the size, the limit, or the edit that came first
 abbrev pub detail_of : Refusal → ℕ
 detail_of (OutOfRange size) = size
 detail_of (TooLarge limit) = limit
+detail_of (Contended edit) = edit
+detail_of (Overtaken edit) = edit
 detail_of _ = 0
 
 -- an edit's receipt: its number, and a place or an element
@@ -58,6 +60,10 @@ unjudged = record { refusal = 101; detail = 0 }
 abbrev pub element_by : Result ℤ Refusal → Element
 element_by (Ok value) = record { refusal = 0; detail = 0; value = value }
 element_by (Err refusal) = record { refusal = number_of refusal; detail = detail_of refusal; value = pos 0 }
+
+-- the element of a list at an index, or the refusal that tells the size
+abbrev pub element_in : List ℤ → ℕ → Result ℤ Refusal
+element_in xs i = ok_or (slice_get xs i) (OutOfRange (length xs))
 
 -- the same where a slot was empty
 abbrev pub no_element : Element

@@ -15,7 +15,7 @@ use Rattle.lv_live.specs.Step.{Reduces as ReducesAt}
 use Rattle.lv_edits.specs.Kept.{InLimits}
 use Rattle.lv_live.specs.State.{LiveState, recorded, SameLive, SameRefresh}
 use Rattle.livevec_c.specs.declared.objects.Object.{Object}
-use Rattle.livevec_c.specs.declared.objects.Object.TheVariants.{Vector, Job, Outcome}
+use Rattle.livevec_c.specs.declared.objects.Object.TheVariants.{Vector}
 use Rattle.livevec_c.specs.declared.results.Edited.{Edited}
 use Rattle.livevec_c.specs.declared.results.Element.{Element}
 use Rattle.livevec_c.specs.declared.verdicts.Verdict.{Verdict}
@@ -38,8 +38,7 @@ EditsVector edit answer old new =
 -- an edit of an object: of a vector only
 abbrev pub EditsObject : Edit → Edited → Object → Object → Type 0
 EditsObject edit answer (Vector old) new = (state : State) × (new ≡ Vector state) × EditsVector edit answer old state
-EditsObject edit answer (Job job) new = (answer ≡ unedited) × (new ≡ Job job)
-EditsObject edit answer (Outcome outcome) new = (answer ≡ unedited) × (new ≡ Outcome outcome)
+EditsObject edit answer other new = (answer ≡ unedited) × (new ≡ other)
 
 -- an edit of what lies behind a slot
 abbrev pub Edits : Edit → Edited → Option Object → Option Object → Type 0
@@ -49,8 +48,7 @@ Edits edit answer (Some old) new = (object : Object) × (new ≡ Some object) ×
 -- why an edit of an object would be refused, as the library judges it
 abbrev pub JudgesObject : Edit → Verdict → Object → Type 0
 JudgesObject edit answer (Vector state) = answer ≡ judged_by (verdict_of state.history.limits state.history.journal edit)
-JudgesObject edit answer (Job job) = answer ≡ unjudged
-JudgesObject edit answer (Outcome outcome) = answer ≡ unjudged
+JudgesObject edit answer other = answer ≡ unjudged
 
 abbrev pub Judges : Edit → Verdict → Option Object → Type 0
 Judges edit answer None = answer ≡ unjudged
@@ -59,8 +57,7 @@ Judges edit answer (Some object) = JudgesObject edit answer object
 -- the element of an object at an index, as the library answers it
 abbrev pub GetsObject : ℕ → Element → Object → Type 0
 GetsObject index answer (Vector state) = answer ≡ element_by (element_at state.history.journal index)
-GetsObject index answer (Job job) = answer ≡ no_element
-GetsObject index answer (Outcome outcome) = answer ≡ no_element
+GetsObject index answer other = answer ≡ no_element
 
 abbrev pub Gets : ℕ → Element → Option Object → Type 0
 Gets index answer None = answer ≡ no_element
@@ -78,8 +75,7 @@ no_count = record { refusal = 101; value = 0 }
 
 abbrev pub CountsObject : Counted → Count → Object → Type 0
 CountsObject what answer (Vector state) = answer ≡ record { refusal = 0; value = count what state }
-CountsObject what answer (Job job) = answer ≡ no_count
-CountsObject what answer (Outcome outcome) = answer ≡ no_count
+CountsObject what answer other = answer ≡ no_count
 
 abbrev pub Counts : Counted → Count → Option Object → Type 0
 Counts what answer None = answer ≡ no_count
@@ -89,8 +85,7 @@ Counts what answer (Some object) = CountsObject what answer object
 abbrev pub ReducesObject : ℕ → ℕ → Reduced → Object → Type 0
 ReducesObject lo hi answer (Vector state) =
     (r : Result (Answer SixSummary) Refusal) × (answer ≡ reduced_by r) × InLimits state.history × ReducesAt (six_operations_by (table_of state.body.automaton)) (recorded state) lo hi r
-ReducesObject lo hi answer (Job job) = answer ≡ unreduced 101 0
-ReducesObject lo hi answer (Outcome outcome) = answer ≡ unreduced 101 0
+ReducesObject lo hi answer other = answer ≡ unreduced 101 0
 
 abbrev pub Reduces : ℕ → ℕ → Reduced → Option Object → Type 0
 Reduces lo hi answer None = answer ≡ unreduced 101 0
@@ -107,8 +102,7 @@ pub record AsksVector (lo hi : ℕ) (answer : Reduced) (old new : State) : Type 
 
 abbrev pub AsksObject : ℕ → ℕ → Reduced → Object → Object → Type 0
 AsksObject lo hi answer (Vector old) new = (state : State) × (new ≡ Vector state) × AsksVector lo hi answer old state
-AsksObject lo hi answer (Job job) new = (answer ≡ unreduced 101 0) × (new ≡ Job job)
-AsksObject lo hi answer (Outcome outcome) new = (answer ≡ unreduced 101 0) × (new ≡ Outcome outcome)
+AsksObject lo hi answer other new = (answer ≡ unreduced 101 0) × (new ≡ other)
 
 abbrev pub Asks : ℕ → ℕ → Reduced → Option Object → Option Object → Type 0
 Asks lo hi answer None new = (answer ≡ unreduced 101 0) × (new ≡ None)

@@ -4,3 +4,5 @@ pub mod Behind
 pub mod Lives
 pub mod Working
 pub mod Plainly
+pub mod Kinds
+pub mod Seats

@@ -1,13 +1,26 @@
--- How a vector behind a slot begins.
-use Rattle.std.specs.Prelude.{◌≡◌, ◌⊎◌, ◌<◌, ◌≤◌, ℕ, Option, Some, None, List, [], All, Any}
+-- How vectors and boards behind slots begin, and how a board ends.
+use Rattle.std.specs.Prelude.{◌≡◌, ◌⊎◌, ◌<◌, ◌≤◌, ℕ, Option, Some, None, List, [], length, All, Any}
 use Rattle.lv_geometry.specs.Bounds.{AreAllowed, Bounds}
 use Rattle.lv_geometry.specs.declared.nodes.Node.{Node}
+use Rattle.lv_bodies.specs.declared.kinds.Kind.{Kind}
 use Rattle.lv_bodies.specs.Automata.{table_of}
+use Rattle.lv_bodies.specs.Plain.{plain_value}
 use Rattle.lv_edits.specs.Kept.{InLimits}
 use Rattle.lv_live.specs.State.{recorded}
+use Rattle.lv_board.specs.Opening.{MayOpen}
+use Rattle.lv_board.specs.declared.sharing.Unseated.{Unseated}
+use Rattle.lv_board.specs.declared.sharing.Unseated.TheVariants.{NoMemory, NoSeat}
+use Rattle.lv_board.specs.Sharing.{IsClosedShared, IsNewlyShared, Sits}
+use Rattle.livevec_c.specs.declared.ended.Ended.{Ended}
+use Rattle.livevec_c.specs.declared.kind_boards.KindBoard.{KindBoard}
+use Rattle.livevec_c.specs.declared.kind_seats.KindSeat.{KindSeat}
 use Rattle.livevec_c.specs.declared.objects.Object.{Object}
-use Rattle.livevec_c.specs.declared.objects.Object.TheVariants.{Vector}
-use Rattle.livevec_c.specs.Behind.{State}
+use Rattle.livevec_c.specs.declared.objects.Object.TheVariants.{Board, Closed, Seat, Vector}
+use Rattle.livevec_c.specs.declared.results.Count.{Count}
+use Rattle.livevec_c.specs.declared.results.Element.{Element}
+use Rattle.livevec_c.specs.Answers.{element_by, element_in, no_element}
+use Rattle.livevec_c.specs.Behind.{no_count, State}
+use Rattle.livevec_c.specs.Kinds.{folding_of, kind_at, sat_at, shared_at}
 
 -- a vector of these limits and of an automaton of this table, with no edits, no claims and nothing kept
 pub record IsNew (limits : Bounds) (table : List (List ℕ)) (state : State) : Type 0 where
@@ -39,3 +52,80 @@ OpensWith table buckets edits number None new =
     ((number ≡ 8) × (¬ AreAllowed buckets edits) × (new ≡ None))
     ⊎ ((number ≡ 9) × AreAllowed buckets edits × Any (Any (λ q. 7 < q)) table × (new ≡ None))
     ⊎ (AreAllowed buckets edits × All (All (λ q. q ≤ 7)) table × OpensAt (record { buckets = buckets; edits = edits }) table number new)
+
+-- ---- boards
+
+-- a slot that was empty holds a new board of a kind, or it is empty, for want of memory or for what was asked
+abbrev pub OpensBoardAt : Kind → Bounds → ℕ → ℕ → Option Object → Type 0
+OpensBoardAt kind limits seats number new =
+    ((number ≡ 8) × (¬ MayOpen limits seats) × (new ≡ None))
+    ⊎ ((number ≡ 6) × MayOpen limits seats × (new ≡ None))
+    ⊎ ((number ≡ 0) × ((board : KindBoard) × (new ≡ Some (Board board)) × IsNewlyShared limits seats (folding_of kind) kind (plain_value kind) (shared_at board)))
+
+-- the same, where what is asked for the kind may be none
+abbrev pub OpensBoardOf : Option Kind → ℕ → ℕ → ℕ → ℕ → Option Object → Type 0
+OpensBoardOf None buckets edits seats number new = (number ≡ 8) × (new ≡ None)
+OpensBoardOf (Some kind) buckets edits seats number new =
+    ((number ≡ 8) × (¬ AreAllowed buckets edits) × (new ≡ None))
+    ⊎ (AreAllowed buckets edits × OpensBoardAt kind (record { buckets = buckets; edits = edits }) seats number new)
+
+-- a new board for a slot
+abbrev pub OpensBoard : ℕ → ℕ → ℕ → ℕ → ℕ → Option Object → Option Object → Type 0
+OpensBoard kind buckets edits seats number (Some object) new = (number ≡ 104) × (new ≡ Some object)
+OpensBoard kind buckets edits seats number None new = OpensBoardOf (kind_at kind) buckets edits seats number new
+
+-- the number for why nobody sits down
+abbrev pub seatless : Unseated → ℕ
+seatless NoSeat = 105
+seatless NoMemory = 6
+
+-- the first of the seats that were there lies behind a slot, or none does: for want of memory, or because all were taken
+abbrev pub SitsBoard : ℕ → KindBoard → KindBoard → Option Object → Type 0
+SitsBoard number old new slot =
+    ((number ≡ 6) × (shared_at new ≡ shared_at old) × (slot ≡ None))
+    ⊎ ((number ≡ 105) × ((shared_at old).left ≡ []) × (shared_at new ≡ shared_at old) × (slot ≡ None))
+    ⊎ ((number ≡ 0) × ((seat : KindSeat) × (slot ≡ Some (Seat seat)) × Sits (shared_at old) (sat_at seat) (shared_at new)))
+
+abbrev pub SitsObject : ℕ → Object → Object → Option Object → Type 0
+SitsObject number (Board old) new slot = (board : KindBoard) × (new ≡ Board board) × SitsBoard number old board slot
+SitsObject number other new slot = (number ≡ 101) × (new ≡ other) × (slot ≡ None)
+
+-- the same for an empty slot of the seat
+abbrev pub SitsInto : ℕ → Option Object → Option Object → Option Object → Type 0
+SitsInto number None new slot = (number ≡ 101) × (new ≡ None) × (slot ≡ None)
+SitsInto number (Some old) new slot = (object : Object) × (new ≡ Some object) × SitsObject number old object slot
+
+abbrev pub SitsDown : ℕ → Option Object → Option Object → Option Object → Option Object → Type 0
+SitsDown number old (Some object) new slot = (number ≡ 104) × (new ≡ old) × (slot ≡ Some object)
+SitsDown number old None new slot = SitsInto number old new slot
+
+-- a board was closed, and its slot holds what the vector was; or it is as it was, for want of memory or because a seat is out
+abbrev pub ClosesBoard : Count → KindBoard → Object → Type 0
+ClosesBoard answer old new =
+    ((ended : Ended) × (new ≡ Closed ended) × (answer ≡ record { refusal = 0; value = ended.closed.edit }) × IsClosedShared (shared_at old) ended.closed)
+    ⊎ ((same : KindBoard) × (new ≡ Board same) × (shared_at same ≡ shared_at old) × ((answer ≡ record { refusal = 6; value = 0 }) ⊎ (answer ≡ record { refusal = 106; value = 0 })))
+
+abbrev pub ClosesObject : Count → Object → Object → Type 0
+ClosesObject answer (Board old) new = ClosesBoard answer old new
+ClosesObject answer other new = (answer ≡ no_count) × (new ≡ other)
+
+abbrev pub Closes : Count → Option Object → Option Object → Type 0
+Closes answer None new = (answer ≡ no_count) × (new ≡ None)
+Closes answer (Some old) new = (object : Object) × (new ≡ Some object) × ClosesObject answer old object
+
+-- an element of a closed board, and how many there are
+abbrev pub GetsClosedObject : ℕ → Element → Object → Type 0
+GetsClosedObject index answer (Closed ended) = answer ≡ element_by (element_in ended.closed.elements index)
+GetsClosedObject index answer other = answer ≡ no_element
+
+abbrev pub GetsClosed : ℕ → Element → Option Object → Type 0
+GetsClosed index answer None = answer ≡ no_element
+GetsClosed index answer (Some object) = GetsClosedObject index answer object
+
+abbrev pub SizesClosedObject : Count → Object → Type 0
+SizesClosedObject answer (Closed ended) = answer ≡ record { refusal = 0; value = length ended.closed.elements }
+SizesClosedObject answer other = answer ≡ no_count
+
+abbrev pub SizesClosed : Count → Option Object → Type 0
+SizesClosed answer None = answer ≡ no_count
+SizesClosed answer (Some object) = SizesClosedObject answer object

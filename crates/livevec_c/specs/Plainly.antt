@@ -4,7 +4,7 @@ use Rattle.lv_bodies.specs.Plain.{plain_affine, plain_automaton, plain_best, pla
 use Rattle.lv_bodies.specs.Automata.{table_of}
 use Rattle.lv_reduce.specs.Answer.{slice_of}
 use Rattle.livevec_c.specs.declared.objects.Object.{Object}
-use Rattle.livevec_c.specs.declared.objects.Object.TheVariants.{Vector, Job, Outcome}
+use Rattle.livevec_c.specs.declared.objects.Object.TheVariants.{Vector}
 use Rattle.livevec_c.specs.declared.results.PlainValues.{PlainValues}
 use Rattle.livevec_c.specs.declared.results.Reduced.{Reduced}
 use Rattle.livevec_c.specs.Answers.{high_half, low_half}
@@ -29,8 +29,7 @@ IsPlainOf lo hi answer state =
 
 abbrev pub IsPlainObject : ℕ → ℕ → Reduced → Object → Type 0
 IsPlainObject lo hi answer (Vector state) = IsPlainOf lo hi answer state
-IsPlainObject lo hi answer (Job job) = Unit {0}
-IsPlainObject lo hi answer (Outcome outcome) = Unit {0}
+IsPlainObject lo hi answer other = Unit {0}
 
 abbrev pub IsPlain : ℕ → ℕ → Reduced → Option Object → Type 0
 IsPlain lo hi answer None = Unit {0}

@@ -27,8 +27,7 @@ pub record RefreshesVector (jobs : ℕ) (answer : Count) (old new : State) : Typ
 
 abbrev pub RefreshesObject : ℕ → Count → Object → Object → Type 0
 RefreshesObject jobs answer (Vector old) new = (state : State) × (new ≡ Vector state) × RefreshesVector jobs answer old state
-RefreshesObject jobs answer (Job job) new = (answer ≡ no_count) × (new ≡ Job job)
-RefreshesObject jobs answer (Outcome outcome) new = (answer ≡ no_count) × (new ≡ Outcome outcome)
+RefreshesObject jobs answer other new = (answer ≡ no_count) × (new ≡ other)
 
 abbrev pub Refreshes : ℕ → Count → Option Object → Option Object → Type 0
 Refreshes jobs answer None new = (answer ≡ no_count) × (new ≡ None)
@@ -37,8 +36,7 @@ Refreshes jobs answer (Some old) new = (object : Object) × (new ≡ Some object
 -- no claim is left
 abbrev pub ForgetsObject : ℕ → Object → Object → Type 0
 ForgetsObject answer (Vector old) new = (state : State) × (new ≡ Vector state) × (answer ≡ 0) × HasNoClaims old state
-ForgetsObject answer (Job job) new = (answer ≡ 101) × (new ≡ Job job)
-ForgetsObject answer (Outcome outcome) new = (answer ≡ 101) × (new ≡ Outcome outcome)
+ForgetsObject answer other new = (answer ≡ 101) × (new ≡ other)
 
 abbrev pub Forgets : ℕ → Option Object → Option Object → Type 0
 Forgets answer None new = (answer ≡ 101) × (new ≡ None)
@@ -65,8 +63,7 @@ ClaimsVector answer old new slot = ((answer ≡ unclaimed 6) × (new ≡ old) ×
 
 abbrev pub ClaimsObject : Claimed → Object → Object → Option Object → Type 0
 ClaimsObject answer (Vector old) new slot = (state : State) × (new ≡ Vector state) × ClaimsVector answer old state slot
-ClaimsObject answer (Job job) new slot = (answer ≡ unclaimed 101) × (new ≡ Job job) × (slot ≡ None)
-ClaimsObject answer (Outcome outcome) new slot = (answer ≡ unclaimed 101) × (new ≡ Outcome outcome) × (slot ≡ None)
+ClaimsObject answer other new slot = (answer ≡ unclaimed 101) × (new ≡ other) × (slot ≡ None)
 
 -- the same for an empty slot of the job
 abbrev pub ClaimsInto : Claimed → Option Object → Option Object → Option Object → Type 0
@@ -79,16 +76,14 @@ Claims answer old None new slot = ClaimsInto answer old new slot
 
 -- a job became its outcome: of the same node, version, contents and body
 abbrev pub RunsObject : Bool → Object → Object → Type 0
-RunsObject done (Vector state) new = (done ≡ false) × (new ≡ Vector state)
 RunsObject done (Job job) new = (done ≡ true) × (new ≡ Outcome job)
-RunsObject done (Outcome outcome) new = (done ≡ false) × (new ≡ Outcome outcome)
+RunsObject done other new = (done ≡ false) × (new ≡ other)
 
 -- the same behind slots, where that of the outcome is empty
 abbrev pub RunsInto : ℕ → Option Object → Option Object → Option Object → Type 0
 RunsInto number None job outcome = (number ≡ 101) × (job ≡ None) × (outcome ≡ None)
-RunsInto number (Some (Vector state)) job outcome = (number ≡ 101) × (job ≡ Some (Vector state)) × (outcome ≡ None)
 RunsInto number (Some (Job carried)) job outcome = (number ≡ 0) × (job ≡ None) × (outcome ≡ Some (Outcome carried))
-RunsInto number (Some (Outcome carried)) job outcome = (number ≡ 101) × (job ≡ Some (Outcome carried)) × (outcome ≡ None)
+RunsInto number (Some other) job outcome = (number ≡ 101) × (job ≡ Some other) × (outcome ≡ None)
 
 abbrev pub Runs : ℕ → Option Object → Option Object → Option Object → Option Object → Type 0
 Runs number old (Some object) job outcome = (number ≡ 104) × (job ≡ old) × (outcome ≡ Some object)
@@ -100,14 +95,12 @@ Vouched state outcome =
     VouchedFor (six_operations_by (table_of state.body.automaton)) (recorded state) (table_of state.body.automaton ≡ table_of outcome.body.automaton) outcome.node outcome.version outcome.contents
 
 abbrev pub VetsVector : Vetted → State → Object → Type 0
-VetsVector answer state (Vector other) = answer ≡ unvetted
-VetsVector answer state (Job job) = answer ≡ unvetted
 VetsVector answer state (Outcome outcome) = (answer.refusal ≡ 0) × (IsTrue answer.yes ↔ Vouched state outcome)
+VetsVector answer state other = answer ≡ unvetted
 
 abbrev pub VetsObject : Vetted → Object → Object → Type 0
 VetsObject answer (Vector state) brought = VetsVector answer state brought
-VetsObject answer (Job job) brought = answer ≡ unvetted
-VetsObject answer (Outcome outcome) brought = answer ≡ unvetted
+VetsObject answer other brought = answer ≡ unvetted
 
 abbrev pub VetsWith : Vetted → Object → Option Object → Type 0
 VetsWith answer object None = answer ≡ unvetted
@@ -128,14 +121,12 @@ abbrev pub AcceptsVector : Delivered → State → State → Carried SixByTable 
 AcceptsVector answer old new outcome = ((answer ≡ unaccepted 15) × (¬ Vouched old outcome) × (new ≡ old)) ⊎ Takes answer old new outcome
 
 abbrev pub AcceptsLive : Delivered → State → State → Object → Type 0
-AcceptsLive answer old new (Vector other) = (answer ≡ unaccepted 101) × (new ≡ old)
-AcceptsLive answer old new (Job job) = (answer ≡ unaccepted 101) × (new ≡ old)
 AcceptsLive answer old new (Outcome outcome) = AcceptsVector answer old new outcome
+AcceptsLive answer old new other = (answer ≡ unaccepted 101) × (new ≡ old)
 
 abbrev pub AcceptsObject : Delivered → Object → Object → Object → Type 0
 AcceptsObject answer (Vector old) new brought = (state : State) × (new ≡ Vector state) × AcceptsLive answer old state brought
-AcceptsObject answer (Job job) new brought = (answer ≡ unaccepted 101) × (new ≡ Job job)
-AcceptsObject answer (Outcome outcome) new brought = (answer ≡ unaccepted 101) × (new ≡ Outcome outcome)
+AcceptsObject answer other new brought = (answer ≡ unaccepted 101) × (new ≡ other)
 
 abbrev pub AcceptsWith : Delivered → Object → Object → Option Object → Type 0
 AcceptsWith answer old new None = (answer ≡ unaccepted 101) × (new ≡ old)

@@ -1,13 +1,20 @@
 //! The vector for C: each export restates the contract of the library's own call, on what lies behind a slot.
 #![tactic(auto)]
 
+mod boards;
+mod closed;
+mod ended;
 mod jobs;
+mod kind_boards;
+mod kind_seats;
 mod laws;
 mod lifetimes;
 mod objects;
 mod raw;
 mod reads;
 mod results;
+mod said;
+mod seats;
 mod slots;
 mod vectors;
 mod verdicts;

@@ -1,4 +1,7 @@
 //! What lies behind a slot.
+use crate::ended::Ended;
+use crate::kind_boards::KindBoard;
+use crate::kind_seats::KindSeat;
 use lv_bodies::SixByTable;
 use lv_live::Live;
 use lv_refresh::{Job, Outcome};
@@ -9,4 +12,7 @@ pub enum Object {
     Vector(Live<SixByTable>),
     Job(Job<SixByTable>),
     Outcome(Outcome<SixByTable>),
+    Board(KindBoard),
+    Seat(KindSeat),
+    Closed(Ended),
 }

@@ -12,8 +12,8 @@ use crate::results::{
 use crate::slots::{Slot, put, take};
 use std::alloc::Global;
 
-// The element where a slot holds no vector.
-fn missing() -> Element
+/// The element where a slot holds no vector.
+pub fn missing() -> Element
     ensures { result ≡ no_element }
 {
     Element {
@@ -49,15 +49,15 @@ pub extern "C" fn livevec_proved_get(alloc: Global, slot: &mut Slot, index: u32)
     }
 }
 
-// A count.
-fn count_answer(value: u32) -> Count
+/// A count.
+pub fn count_answer(value: u32) -> Count
     ensures { result ≡ record { refusal = 0; value = value } }
 {
     Count { refusal: 0, value }
 }
 
-// The count where a slot holds no vector.
-fn uncounted() -> Count
+/// The count where a slot holds no vector.
+pub fn uncounted() -> Count
     ensures { result ≡ record { refusal = 101; value = 0 } }
 {
     Count {

@@ -10,11 +10,20 @@ use lv_reduce::Answer;
 /// The number for want of memory, as the library has it.
 pub const NO_MEMORY: u32 = 6;
 
+/// The number for limits outside their ranges, as the library has it.
+pub const BAD_LIMITS: u32 = 8;
+
 /// The number for a slot that should be full and is empty.
 pub const NO_HANDLE: u32 = 101;
 
 /// The number for a slot that should be empty and is full.
 pub const IN_USE: u32 = 104;
+
+/// The number for a board of which all seats were taken.
+pub const NO_SEAT: u32 = 105;
+
+/// The number for a board that is closed while somebody has a seat.
+pub const SEATS_OUT: u32 = 106;
 
 /// What an edit answers.
 #[repr(C)]
@@ -71,19 +80,30 @@ pub struct Reduced {
     pub values: PlainValues,
 }
 
-/// What a refusal tells beside its number: the size, or the limit.
+/// What a refresh of a block answers: after which edit it looked, and the last edit that touched the block.
+#[repr(C)]
+#[derive(Clone, Copy)]
+pub struct Renewed {
+    pub refusal: u32,
+    pub detail: u32,
+    pub edit: u32,
+    pub version: u32,
+}
+
+/// What a refusal tells beside its number: the size, the limit, or the edit that came first.
 pub fn detail(refusal: Refusal) -> u32
     ensures { result ≡ detail_of refusal }
 {
     match refusal {
         Refusal::OutOfRange { size } => size,
         Refusal::TooLarge { limit } => limit,
+        Refusal::Contended { edit } | Refusal::Overtaken { edit } => edit,
         _ => 0,
     }
 }
 
 /// What an edit that was not accepted answers.
-fn not_edited(refusal: u32, detail: u32) -> Edited
+pub fn not_edited(refusal: u32, detail: u32) -> Edited
     ensures { result ≡ record { refusal = refusal; detail = detail; edit = 0; place = 0; value = pos 0 } }
 {
     Edited {
@@ -135,8 +155,8 @@ pub fn element_answer(answer: Result<i64, Refusal>) -> Element
     }
 }
 
-// The high and the low 64 bits of a number of 128 bits.
-fn halves(x: i128) -> (u64, i64)
+/// The low and the high 64 bits of a number of 128 bits.
+pub fn halves(x: i128) -> (u64, i64)
     ensures low { result.0 ≡ low_half x }
     ensures high { result.1 ≡ high_half x }
 {
@@ -177,8 +197,8 @@ pub fn plain_values(summary: <SixByTable as Body>::S) -> PlainValues
     }
 }
 
-// The values where there are none.
-fn no_values() -> PlainValues
+/// The values where there are none.
+pub fn no_values() -> PlainValues
     ensures { result ≡ valueless }
 {
     PlainValues {

@@ -19,7 +19,7 @@ use Rattle.lv_machine.specs.Layout.{cell_place, count_of}
 use Rattle.lv_machine.specs.Shows.{Fits, ShowsHistory}
 use Rattle.lv_machine.specs.Terms.{AreTerms, Folding, Terms}
 use Rattle.lv_machine.specs.Words.{edit_of, HasPending, index_of, signed, size_of, value_of}
-use Rattle.lv_machine.proofs.HistoryLaws.{decoded, few_cells, legal_within}
+use Rattle.lv_machine.proofs.HistoryLaws.{decoded, few_cells, legal_within, size_below}
 use Rattle.lv_machine.proofs.ReadLaws.{cell_element}
 use Rattle.lv_machine.proofs.ShowsLaws.{current_cell, pending, place_within}
 use Rattle.lv_machine.proofs.WordLaws.{value_of-cell, value_of-short}
@@ -28,7 +28,7 @@ use Rattle.lv_board.specs.declared.actors.Basis.{Basis}
 use Rattle.lv_board.specs.declared.actors.View.{View}
 use Rattle.lv_board.specs.declared.closing.Closed.{Closed}
 use Rattle.lv_board.specs.declared.seats.Seat.{Seat}
-use Rattle.lv_board.specs.Closing.{AreAll, IsClosed, IsKept, IsSettled, made_by, shown_at}
+use Rattle.lv_board.specs.Closing.{AreAll, IsClosed, IsEnded, IsKept, IsSettled, made_by, shown_at}
 use Rattle.lv_board.specs.Rule.{ActorFits, gathered, Holds, spent, terms_of}
 use Rattle.lv_board.specs.Tells.{actor_of}
 use Rattle.lv_board.proofs.Advancing.{own-nil, own-other, own-same}
@@ -187,18 +187,28 @@ pub gathers_at_key : (S : Type 0) {B : Type 0} (f : B → Folding) (z key : Basi
 gathers_at_key S f z key id v other w is_key sits = subst (λ k. Joins {S = S} (Holds f k) id v other w (gathered v w) spent) (sym is_key) (gathers S f z id v other w sits)
 
 -- what a settled board was
-pub closed_of : {B : Type 0} (t : Terms) (seats : List (Seat B)) (words : List ℕ) (closed : Closed) → IsSettled t (map actor_of seats) words → AreAll t.seats seats → closed.edit ≡ edit_of (slice_index words 0) → closed.elements ≡ map (shown_at words) (range_with_len 0 (size_of (slice_index words 0))) → IsClosed t seats closed
-closed_of t seats words closed settled all edit elements =
+pub ended_of : {B : Type 0} (t : Terms) (seats : List (Seat B)) (words : List ℕ) (closed : Closed) → IsSettled t (map actor_of seats) words → closed.edit ≡ edit_of (slice_index words 0) → closed.elements ≡ map (shown_at words) (range_with_len 0 (size_of (slice_index words 0))) → IsEnded t seats closed
+ended_of t seats words closed settled edit elements =
     let show = settled.shown in
-    let long : closed.edit ≡ length settled.history = edit ∙ ap edit_of show.first ∙ (decoded t settled.history settled.terms show.legal).edit in
-    let kept = All-unmap (IsKept settled.history) actor_of seats settled.kept in
+    let are = elements ∙ elements_shown t words settled.history settled.looks settled.terms show in
     record {
       history = settled.history;
       legal = show.legal;
-      edit = long;
-      elements = elements ∙ elements_shown t words settled.history settled.looks settled.terms show;
-      known = kept;
-      total = long ∙ own_total t settled.history show.legal
-          ∙ sym (sum_by-IsPermutation (λ n. length (own n settled.history)) (range_with_len 0 t.seats) (map (λ s. (actor_of s).number) seats) all)
-          ∙ sym (known_total settled.history seats kept);
+      edit = edit ∙ ap edit_of show.first ∙ (decoded t settled.history settled.terms show.legal).edit;
+      elements = are;
+      few = omega (arith, ap length are, size_below t settled.history settled.terms show.legal);
+      known = All-unmap (IsKept settled.history) actor_of seats settled.kept;
     }
+
+-- and where all seats were handed in
+pub closed_of : {B : Type 0} (t : Terms) (seats : List (Seat B)) (closed : Closed) → AreAll t.seats seats → IsEnded t seats closed → IsClosed t seats closed
+closed_of t seats closed all ended = record {
+  history = ended.history;
+  legal = ended.legal;
+  edit = ended.edit;
+  elements = ended.elements;
+  known = ended.known;
+  total = ended.edit ∙ own_total t ended.history ended.legal
+      ∙ sym (sum_by-IsPermutation (λ n. length (own n ended.history)) (range_with_len 0 t.seats) (map (λ s. (actor_of s).number) seats) all)
+      ∙ sym (known_total ended.history seats ended.known);
+}

@@ -11,3 +11,5 @@ pub mod Conversing
 pub mod Sittings
 pub mod Walking
 pub mod Ordered
+pub mod Valued
+pub mod Sharings

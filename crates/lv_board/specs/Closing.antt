@@ -1,5 +1,5 @@
 -- What the close of a board gives.
-use Rattle.std.specs.Prelude.{◌≡◌, ℕ, ℤ, List, length, map, nat_eq, slice_index, All, if◌then◌else◌}
+use Rattle.std.specs.Prelude.{◌≡◌, ◌≤◌, ℕ, ℤ, List, length, map, nat_eq, slice_index, All, if◌then◌else◌}
 use Rattle.std.specs.List.{range_with_len, sum_by}
 use Rattle.std.specs.List.Sorted.{IsPermutation}
 use Rattle.atomic_table.specs.Seated.{TableId}
@@ -51,6 +51,16 @@ module _ {B : Type 0} where
   -- how many entries of its own a seat knows
   abbrev pub made_by : Seat B → ℕ
   made_by s = length (own (actor_of s).number (actor_of s).known)
+
+  -- what was closed by some of the seats had one legal history. The number is that of its last edit, and the elements are those after it;
+  -- and each of those seats knows an earlier one, with all entries of its own
+  pub record IsEnded (t : Terms) (seats : List (Seat B)) (closed : Closed) : Type 0 where
+    pub history : List Entry
+    pub legal : IsLegal t history
+    pub edit : closed.edit ≡ length history
+    pub elements : closed.elements ≡ elements_of history
+    pub few : length closed.elements ≤ 4088
+    pub known : All (λ s. IsKept history (actor_of s)) seats
 
   -- what was closed had one legal history. The number is that of its last edit, and the elements are those after it; each seat knows
   -- an earlier one, with all entries of its own; and the entries of all seats are all that there are

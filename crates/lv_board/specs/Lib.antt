@@ -10,3 +10,4 @@ pub mod Sitting
 pub mod Stands
 pub mod Tells
 pub mod Walks
+pub mod Sharing

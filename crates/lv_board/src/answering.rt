@@ -1,5 +1,6 @@
 //! What a line of a session is answered.
-ghost use Rattle.std.specs.Prelude.{◌≡◌, ◌+◌, ◌≤◌, ◌++◌, ℕ, List, vec_len, vec_capacity};
+ghost use Rattle.std.specs.Prelude.{◌≡◌, ◌++◌, ℕ, List};
+ghost use Rattle.lv_script.specs.Output.{HasRoom, KeepsRoom};
 ghost use Rattle.lv_board.specs.declared.board.Board.{Board};
 ghost use Rattle.lv_board.specs.declared.seats.Seat.{Seat};
 ghost use Rattle.lv_board.specs.Rule.{folds, terms_of};
@@ -25,12 +26,12 @@ pub trait Answering<T, S>: Parted {
     /// Answers a line by a seat of the board, and puts the reply after what is held.
     fn answer(board: &T, seat: &mut S, number: u32, line: BoardLine, held: &mut Vec<u8>)
         requires here { IsAt (board_of board.now).table.shared.table_id (board_of board.now).terms (seat_of seat.old) }
-        requires room { vec_len held.old + LINE ≤ vec_capacity held.old }
+        requires room { HasRoom held.old LINE }
         ensures stays { Stays (seat_of seat.old) (seat_of seat.new) }
         ensures answer { (text : List ℕ)
             × BoardAnswer (terms_of (folds Self.PARTS Self.parts_of (λ b. Self.operations (Self.meaning b))) (board_of board.now).terms) (Self.operations (Self.meaning (board_of board.now).terms.body)) Self.the_kind (Self.shown_as (board_of board.now).terms.body) (actor_of (seat_of seat.old)) number line text (actor_of (seat_of seat.new))
             × (held.new.items ≡ held.old.items ++ text) }
-        ensures room { vec_capacity held.old ≤ vec_capacity held.new };
+        ensures room { KeepsRoom held.old held.new };
 }
 
 impl Answering<Board<Sum>, Seat<Sum>> for Sum {
@@ -138,12 +139,12 @@ fn answer_line<B: Parted>(
     held: &mut Vec<u8>,
 )
     requires here { IsAt board.now.table.shared.table_id board.now.terms seat.old }
-    requires room { vec_len held.old + LINE ≤ vec_capacity held.old }
+    requires room { HasRoom held.old LINE }
     ensures stays { Stays seat.old seat.new }
     ensures answer { (text : List ℕ)
         × BoardAnswer (terms_of (folds B.PARTS B.parts_of (λ b. B.operations (B.meaning b))) board.now.terms) (B.operations (B.meaning board.now.terms.body)) B.the_kind (B.shown_as board.now.terms.body) (actor_of seat.old) number line text (actor_of seat.new)
         × (held.new.items ≡ held.old.items ++ text) }
-    ensures room { vec_capacity held.old ≤ vec_capacity held.new }
+    ensures room { KeepsRoom held.old held.new }
 {
     match line {
         BoardLine::Nothing => {}

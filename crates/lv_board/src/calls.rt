@@ -1,18 +1,59 @@
 //! Calls of a board as values, as a session asks for them.
-ghost use Rattle.std.specs.Prelude.{◌≡◌};
+ghost use Rattle.std.specs.Prelude.{◌≡◌, ◌<◌, ◌≤◌, Err};
+ghost use Rattle.lv_geometry.specs.declared.refusals.Refusal.{Refusal};
+ghost use Rattle.lv_board.specs.Calls.{HasLooked};
+ghost use Rattle.lv_board.specs.Closing.{IsStill};
+ghost use Rattle.lv_board.specs.Sharing.{EndsWithin, PlainAnswers};
 ghost use Rattle.lv_board.specs.Rule.{folds, terms_of};
 ghost use Rattle.lv_board.specs.Session.{CallEnds, block_of, said_read, said_reduced, said_refreshed, said_tried};
-ghost use Rattle.lv_board.specs.Tells.{actor_of, IsAt, Stays};
+ghost use Rattle.lv_board.specs.Tells.{actor_of, IsAt, IsSame, Stays};
 
 use crate::board::Board;
 use crate::seats::Seat;
-use lv_bodies::Parted;
+use lv_bodies::{Parted, Shown};
 use lv_edits::Receipt;
 use lv_geometry::Refusal;
 use lv_machine::{Call, Read, Refreshed, Said};
 use lv_reduce::Answer;
 
 impl<B: Parted> Board<B> {
+    // The plain value of a range.
+    fn reduce_plain(&self, seat: &mut Seat<B>, lo: u32, hi: u32) -> Result<Answer<Shown>, Refusal>
+        requires { IsAt self.now.table.shared.table_id self.now.terms seat.old }
+        ensures stays { Stays seat.old seat.new }
+        ensures looked { lo ≤ hi → HasLooked (terms_of (folds B.PARTS B.parts_of (λ b. B.operations (B.meaning b))) self.now.terms) (actor_of seat.old) (actor_of seat.new) }
+        ensures answer { lo ≤ hi → PlainAnswers (B.plain self.now.terms.body) lo hi (actor_of seat.new) result }
+        ensures backwards { hi < lo → (result ≡ Err Refusal.BadRange) × IsSame seat.old seat.new }
+    {
+        match self.reduce(seat, lo, hi) {
+            Err(refusal) => Err(refusal),
+            Ok(answer) => Ok(Answer {
+                edit: answer.edit,
+                value: self.terms.body.shown(answer.value),
+                cells_read: answer.cells_read,
+                summaries_read: answer.summaries_read,
+            }),
+        }
+    }
+
+    // Makes a call, an edit by so many tries at most, and gives what it ends with, a fold as its plain value.
+    pub(crate) fn make_within(&self, seat: &mut Seat<B>, call: Call, tries: u32) -> Said<Shown>
+        requires here { IsAt self.now.table.shared.table_id self.now.terms seat.old }
+        requires some { 1 ≤ tries }
+        ensures still { IsStill seat.old seat.new }
+        ensures ends { EndsWithin (terms_of (folds B.PARTS B.parts_of (λ b. B.operations (B.meaning b))) self.now.terms) (B.plain self.now.terms.body) tries call (actor_of seat.old) result (actor_of seat.new) }
+    {
+        match call {
+            Call::Push(x) => tried(self.push_within(seat, x, tries)),
+            Call::Pop => tried(self.pop_within(seat, tries)),
+            Call::Write { index, value } => tried(self.write_within(seat, index, value, tries)),
+            Call::Get(i) => read(self.get(seat, i)),
+            Call::Size => Said::Sized(self.size(seat)),
+            Call::Reduce { lo, hi } => reduced(self.reduce_plain(seat, lo, hi)),
+            Call::Refresh(block) => refreshed(self.refresh(seat, block)),
+        }
+    }
+
     // Makes a call, and gives what it ends with.
     pub(crate) fn make(&self, seat: &mut Seat<B>, call: Call) -> Said<B::S>
         requires { IsAt self.now.table.shared.table_id self.now.terms seat.old }

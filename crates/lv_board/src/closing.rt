@@ -5,7 +5,7 @@ ghost use Rattle.std.specs.Mem.Slots.{slots_items, slots_len, IsFull};
 ghost use Rattle.lv_geometry.specs.Cells.{capacity_of};
 ghost use Rattle.lv_machine.specs.Layout.{cell_place, count_of};
 ghost use Rattle.lv_machine.specs.Words.{edit_of, signed, size_of};
-ghost use Rattle.lv_board.specs.Closing.{AreAll, AreAt, IsClosed, IsSettled, shown_at};
+ghost use Rattle.lv_board.specs.Closing.{AreAll, AreAt, IsClosed, IsEnded, IsSettled, shown_at};
 ghost use Rattle.lv_board.specs.Rule.{folds, terms_of};
 ghost use Rattle.lv_board.specs.Stands.{limits_of};
 ghost use Rattle.lv_board.specs.Tells.{actor_of, IsAt};
@@ -120,19 +120,30 @@ impl<B: Parted> Board<B> {
         capacity(self.terms.buckets)
     }
 
-    /// The vector when its threads are done, in a vector that has room for its elements: this takes no memory. All seats are handed in.
-    pub fn close_into(self, seats: Vec<Seat<B>>, mut elements: Vec<i64>) -> Closed
+    /// The vector by such seats as are left, in a vector that has room for its elements: this takes no memory. The others are gone, and
+    /// what they did stays. The seats are this board's.
+    pub fn close_by(self, seats: Vec<Seat<B>>, mut elements: Vec<i64>) -> Closed
         requires at { AreAt self.table.shared.table_id self.terms seats.items }
-        requires all { AreAll self.terms.seats seats.items }
         requires none { elements.items ≡ [] }
         requires room { capacity_of self.terms.buckets ≤ vec_capacity elements }
-        ensures { IsClosed (terms_of (folds B.PARTS B.parts_of (λ b. B.operations (B.meaning b))) self.terms) seats.items result }
+        ensures { IsEnded (terms_of (folds B.PARTS B.parts_of (λ b. B.operations (B.meaning b))) self.terms) seats.items result }
     {
         let words = self.settle(seats);
         let look = words.word(0);
         collect(&words, look, &mut elements);
         words.free();
         closed_at(look, elements)
+    }
+
+    /// The vector when its threads are done, in a vector that has room for its elements: this takes no memory. All seats are handed in.
+    pub fn close_into(self, seats: Vec<Seat<B>>, elements: Vec<i64>) -> Closed
+        requires at { AreAt self.table.shared.table_id self.terms seats.items }
+        requires all { AreAll self.terms.seats seats.items }
+        requires none { elements.items ≡ [] }
+        requires room { capacity_of self.terms.buckets ≤ vec_capacity elements }
+        ensures { IsClosed (terms_of (folds B.PARTS B.parts_of (λ b. B.operations (B.meaning b))) self.terms) seats.items result }
+    {
+        self.close_by(seats, elements)
     }
 
     /// The vector when its threads are done: the number of its last edit, and its elements. All seats are handed in. For want of

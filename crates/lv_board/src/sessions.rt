@@ -12,7 +12,7 @@ use crate::answering::Answering;
 use crate::board::Board;
 use crate::seats::Seat;
 use lv_bodies::Kind;
-use lv_script::{Fault, LINE, Responder, converse, make_room, read_board_line};
+use lv_script::{Fault, LINE, Outbox, Responder, converse, read_board_line};
 use std::alloc::Global;
 use std::io::{Read, Write};
 use std::marker::PhantomData;
@@ -85,12 +85,11 @@ impl<'a, 's, T, S, B: Answering<T, S>> Responder for Session<'a, 's, T, S, B> {
         &mut self,
         number: u32,
         line: &[u8],
-        writer: &mut W,
-        held: &mut Vec<u8>,
+        outbox: &mut Outbox<'_, W>,
     ) -> Result<(), Fault> {
-        make_room(writer, held, LINE)?;
+        outbox.make_room(LINE)?;
         let line = read_board_line(self.kind, line);
-        B::answer(self.board, self.seat, number, line, held);
+        B::answer(self.board, self.seat, number, line, outbox.held);
         Ok(())
     }
 }

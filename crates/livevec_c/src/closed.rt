@@ -1,0 +1,178 @@
+//! The close of a board, and what it leaves: the vector's elements.
+ghost use Rattle.std.specs.Prelude.{◌≡◌, ◌⊎◌, ◌≤◌, length, IfOk, IfErr};
+ghost use Rattle.lv_board.specs.Sharing.{IsClosedShared};
+ghost use Rattle.livevec_c.specs.declared.objects.Object.TheVariants as behind;
+ghost use Rattle.livevec_c.specs.declared.ended.Ended.{Ended};
+ghost use Rattle.livevec_c.specs.Kinds.{shared_at};
+ghost use Rattle.livevec_c.specs.Lives.{Closes, ClosesBoard, ClosesObject, GetsClosed, GetsClosedObject, SizesClosed, SizesClosedObject};
+
+use crate::ended::Ended;
+use crate::kind_boards::KindBoard;
+use crate::objects::Object;
+use crate::reads::{count_answer, missing, uncounted};
+use crate::results::{Count, Element, NO_MEMORY, SEATS_OUT, element_answer};
+use crate::slots::{Slot, put, take};
+use lv_board::{Closed, Elements, Unclosed};
+use std::alloc::Global;
+use std::mem;
+
+// The vector of a board that nobody has a seat of, or the board again.
+fn close_kind(alloc: Global, board: KindBoard) -> Result<Closed, (KindBoard, Unclosed)>
+    ensures ok { IfOk result (λ closed. IsClosedShared (shared_at board) closed) }
+    ensures err { IfErr result (λ r. shared_at r.0 ≡ shared_at board) }
+{
+    match board {
+        KindBoard::Sum(board) => match board.close(alloc) {
+            Ok(closed) => Ok(closed),
+            Err((same, why)) => Err((KindBoard::Sum(same), why)),
+        },
+        KindBoard::Least(board) => match board.close(alloc) {
+            Ok(closed) => Ok(closed),
+            Err((same, why)) => Err((KindBoard::Least(same), why)),
+        },
+        KindBoard::Greatest(board) => match board.close(alloc) {
+            Ok(closed) => Ok(closed),
+            Err((same, why)) => Err((KindBoard::Greatest(same), why)),
+        },
+        KindBoard::Best(board) => match board.close(alloc) {
+            Ok(closed) => Ok(closed),
+            Err((same, why)) => Err((KindBoard::Best(same), why)),
+        },
+        KindBoard::Affine(board) => match board.close(alloc) {
+            Ok(closed) => Ok(closed),
+            Err((same, why)) => Err((KindBoard::Affine(same), why)),
+        },
+        KindBoard::Automaton(board) => match board.close(alloc) {
+            Ok(closed) => Ok(closed),
+            Err((same, why)) => Err((KindBoard::Automaton(same), why)),
+        },
+    }
+}
+
+// What a closed board is, behind a slot.
+fn ended(closed: Closed) -> Ended
+    requires { length closed.elements ≤ 4088 }
+    ensures { result.closed ≡ closed }
+{
+    let size = closed.elements.len() as u32;
+    Ended { closed, size }
+}
+
+// What a close that was refused answers.
+fn unclosed(why: Unclosed) -> Count
+    ensures { ((result ≡ record { refusal = 6; value = 0 }) ⊎ (result ≡ record { refusal = 106; value = 0 })) }
+{
+    let refusal = match why {
+        Unclosed::NoMemory => NO_MEMORY,
+        Unclosed::SeatsOut => SEATS_OUT,
+    };
+    Count { refusal, value: 0 }
+}
+
+// What lies behind the slot of a board after its close, and what that answers.
+fn close_board(alloc: Global, board: KindBoard) -> (Object, Count)
+    ensures { ClosesBoard result.1 board result.0 }
+{
+    match close_kind(alloc, board) {
+        Err((same, why)) => (Object::Board(same), unclosed(why)),
+        Ok(closed) => {
+            let answer = count_answer(closed.edit);
+            (Object::Closed(ended(closed)), answer)
+        }
+    }
+}
+
+// An object without memory.
+fn nothing(alloc: Global) -> Object {
+    Object::Closed(Ended {
+        closed: Closed {
+            edit: 0,
+            elements: Elements::from_vec(Vec::new(alloc)),
+        },
+        size: 0,
+    })
+}
+
+// Closes an object that is a board.
+fn close_of(alloc: Global, object: &mut Object) -> Count
+    ensures { ClosesObject result object.old object.new }
+{
+    match mem::replace(object, nothing(alloc)) {
+        Object::Board(board) => {
+            let (left, answer) = close_board(alloc, board);
+            *object = left;
+            answer
+        }
+        other => {
+            *object = other;
+            uncounted()
+        }
+    }
+}
+
+/// Closes a board that nobody has a seat of any more. Its slot holds what the vector was then.
+#[unsafe(no_mangle)]
+pub extern "C" fn livevec_proved_board_close(alloc: Global, slot: &mut Slot) -> Count
+    ensures { Closes result slot.old.raw.inner slot.new.raw.inner }
+{
+    match take(alloc, slot) {
+        None => uncounted(),
+        Some(mut held) => {
+            let answer = close_of(alloc, &mut held);
+            put(slot, held);
+            answer
+        }
+    }
+}
+
+// An element of an object that is a closed board.
+fn closed_element(object: &Object, index: u32) -> Element
+    ensures { GetsClosedObject index result object.now }
+{
+    match object {
+        Object::Closed(ended) => element_answer(ended.get(index)),
+        _ => missing(),
+    }
+}
+
+/// The element of a closed board at an index.
+#[unsafe(no_mangle)]
+pub extern "C" fn livevec_proved_closed_get(alloc: Global, slot: &mut Slot, index: u32) -> Element
+    ensures answer { GetsClosed index result slot.old.raw.inner }
+    ensures same { slot.new.raw.inner ≡ slot.old.raw.inner }
+{
+    match take(alloc, slot) {
+        None => missing(),
+        Some(held) => {
+            let answer = closed_element(&held, index);
+            put(slot, held);
+            answer
+        }
+    }
+}
+
+// How many elements an object that is a closed board has.
+fn closed_count(object: &Object) -> Count
+    ensures { SizesClosedObject result object.now }
+{
+    match object {
+        Object::Closed(ended) => count_answer(ended.size),
+        _ => uncounted(),
+    }
+}
+
+/// How many elements a closed board has.
+#[unsafe(no_mangle)]
+pub extern "C" fn livevec_proved_closed_size(alloc: Global, slot: &mut Slot) -> Count
+    ensures answer { SizesClosed result slot.old.raw.inner }
+    ensures same { slot.new.raw.inner ≡ slot.old.raw.inner }
+{
+    match take(alloc, slot) {
+        None => uncounted(),
+        Some(held) => {
+            let answer = closed_count(&held);
+            put(slot, held);
+            answer
+        }
+    }
+}

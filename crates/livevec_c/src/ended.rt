@@ -1,0 +1,25 @@
+ghost use Rattle.std.specs.Prelude.{◌≡◌, length};
+ghost use Rattle.livevec_c.specs.Answers.{element_in};
+
+use lv_board::Closed;
+use lv_geometry::Refusal;
+
+/// A closed board: what the vector was, and how many elements it has.
+#[derive(Drop)]
+pub struct Ended {
+    pub(crate) closed: Closed,
+    pub(crate) size: u32,
+    ghost agrees: { size ≡ length closed.elements },
+}
+
+impl Ended {
+    /// The element at an index.
+    pub fn get(&self, index: u32) -> Result<i64, Refusal>
+        ensures { result ≡ element_in self.now.closed.elements index }
+    {
+        match self.closed.elements.as_slice().get(index as usize) {
+            Some(x) => Ok(*x),
+            None => Err(Refusal::OutOfRange { size: self.size }),
+        }
+    }
+}

@@ -1,0 +1,125 @@
+//! The calls of a seat. None of them waits, so each thread may have a seat of its own in a slot of its own.
+ghost use Rattle.std.specs.Prelude.{◌≡◌, nat_lt};
+ghost use Rattle.lv_machine.specs.declared.events.Call.TheVariants as asked;
+ghost use Rattle.lv_board.specs.Sharing.{Makes};
+ghost use Rattle.livevec_c.specs.Kinds.{sat_at};
+ghost use Rattle.livevec_c.specs.Seats.{Answers, Calls, CallsObject, count_for, edited_for, element_for, reduced_for, renewed_for};
+
+use crate::kind_seats::KindSeat;
+use crate::objects::Object;
+use crate::results::{Count, Edited, Element, Reduced, Renewed};
+use crate::said::{edit_said, element_said, reduction_said, refresh_said, size_said};
+use crate::slots::{Slot, put, take};
+use lv_bodies::Shown;
+use lv_machine::{Call, Said};
+use std::alloc::Global;
+
+// A call of a seat.
+fn call_seat(seat: &mut KindSeat, call: Call, tries: u32) -> Said<Shown>
+    ensures { Makes tries call (sat_at seat.old) result (sat_at seat.new) }
+{
+    match seat {
+        KindSeat::Sum(seat) => seat.make(call, tries),
+        KindSeat::Least(seat) => seat.make(call, tries),
+        KindSeat::Greatest(seat) => seat.make(call, tries),
+        KindSeat::Best(seat) => seat.make(call, tries),
+        KindSeat::Affine(seat) => seat.make(call, tries),
+        KindSeat::Automaton(seat) => seat.make(call, tries),
+    }
+}
+
+// A call of an object.
+fn call_of(object: &mut Object, call: Call, tries: u32) -> Option<Said<Shown>>
+    ensures { CallsObject tries call result object.old object.new }
+{
+    match object {
+        Object::Seat(seat) => Some(call_seat(seat, call, tries)),
+        _ => None,
+    }
+}
+
+// A call of what lies behind a slot.
+fn call_held(alloc: Global, slot: &mut Slot, call: Call, tries: u32) -> Option<Said<Shown>>
+    ensures { Calls tries call result slot.old.raw.inner slot.new.raw.inner }
+{
+    match take(alloc, slot) {
+        None => None,
+        Some(mut held) => {
+            let said = call_of(&mut held, call, tries);
+            put(slot, held);
+            said
+        }
+    }
+}
+
+/// Puts an element at the end, by so many tries at most.
+#[unsafe(no_mangle)]
+pub extern "C" fn livevec_proved_seat_push(
+    alloc: Global,
+    slot: &mut Slot,
+    value: i64,
+    tries: u32,
+) -> Edited
+    ensures { Answers edited_for tries (asked.Push value) result slot.old.raw.inner slot.new.raw.inner }
+{
+    edit_said(call_held(alloc, slot, Call::Push(value), tries))
+}
+
+/// Drops the last element, by so many tries at most.
+#[unsafe(no_mangle)]
+pub extern "C" fn livevec_proved_seat_pop(alloc: Global, slot: &mut Slot, tries: u32) -> Edited
+    ensures { Answers edited_for tries asked.Pop result slot.old.raw.inner slot.new.raw.inner }
+{
+    edit_said(call_held(alloc, slot, Call::Pop, tries))
+}
+
+/// Overwrites the element at an index, by so many tries at most.
+#[unsafe(no_mangle)]
+pub extern "C" fn livevec_proved_seat_write(
+    alloc: Global,
+    slot: &mut Slot,
+    index: u32,
+    value: i64,
+    tries: u32,
+) -> Edited
+    ensures { Answers edited_for tries (asked.Write index value) result slot.old.raw.inner slot.new.raw.inner }
+{
+    edit_said(call_held(alloc, slot, Call::Write { index, value }, tries))
+}
+
+/// The element at an index, where the seat looks.
+#[unsafe(no_mangle)]
+pub extern "C" fn livevec_proved_seat_get(alloc: Global, slot: &mut Slot, index: u32) -> Element
+    ensures { Answers element_for 1 (asked.Get index) result slot.old.raw.inner slot.new.raw.inner }
+{
+    element_said(call_held(alloc, slot, Call::Get(index), 1))
+}
+
+/// How many elements there are, where the seat looks.
+#[unsafe(no_mangle)]
+pub extern "C" fn livevec_proved_seat_size(alloc: Global, slot: &mut Slot) -> Count
+    ensures { Answers count_for 1 asked.Size result slot.old.raw.inner slot.new.raw.inner }
+{
+    size_said(call_held(alloc, slot, Call::Size, 1))
+}
+
+/// The plain value of a range by the board's kind, where the seat looks.
+#[unsafe(no_mangle)]
+pub extern "C" fn livevec_proved_seat_reduce(
+    alloc: Global,
+    slot: &mut Slot,
+    lo: u32,
+    hi: u32,
+) -> Reduced
+    ensures { Answers (reduced_for (nat_lt lo hi)) 1 (asked.Reduce lo hi) result slot.old.raw.inner slot.new.raw.inner }
+{
+    reduction_said(lo < hi, call_held(alloc, slot, Call::Reduce { lo, hi }, 1))
+}
+
+/// Makes the parts of a block's summary, where the seat looks.
+#[unsafe(no_mangle)]
+pub extern "C" fn livevec_proved_seat_refresh(alloc: Global, slot: &mut Slot, block: u32) -> Renewed
+    ensures { Answers renewed_for 1 (asked.Refresh block) result slot.old.raw.inner slot.new.raw.inner }
+{
+    refresh_said(call_held(alloc, slot, Call::Refresh(block), 1))
+}

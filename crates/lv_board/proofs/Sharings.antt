@@ -1,0 +1,61 @@
+-- A board that is shared: as it is opened, and as it is closed.
+use Rattle.std.proofs.Common.{◌≡◌, ℕ, ℤ, ◌<◌, List, [], ◌∷◌, length, map, IfOk, IfSome, Result, Ok, Err, get_or, refl, sym, ap, ◌∙◌, subst}
+use Rattle.std.specs.Arc.{arc_value}
+use Rattle.std.specs.List.{All, range_with_len}
+use Rattle.std.proofs.lemmas.List.{get_or-map, length-map}
+use Rattle.std.proofs.lemmas.List.Elements.{All-map}
+use Rattle.std.proofs.lemmas.List.FromFn.{fill_by_all}
+use Rattle.std.proofs.lemmas.Option.{slice_get-get_or}
+use Rattle.atomic_table.specs.Seated.{TableId}
+use Rattle.lv_geometry.specs.Bounds.{Bounds}
+use Rattle.lv_geometry.specs.declared.refusals.Refusal.{Refusal}
+use Rattle.lv_bodies.specs.declared.kinds.Kind.{Kind}
+use Rattle.lv_bodies.specs.declared.kinds.Shown.{Shown}
+use Rattle.lv_bodies.specs.Body.{Operations}
+use Rattle.lv_machine.specs.Terms.{Terms}
+use Rattle.lv_board.specs.declared.actors.Basis.{Basis}
+use Rattle.lv_board.specs.declared.board.Board.{Board}
+use Rattle.lv_board.specs.declared.closing.Closed.{Closed}
+use Rattle.lv_board.specs.declared.opened.Opened.{Opened}
+use Rattle.lv_board.specs.declared.seats.Seat.{Seat}
+use Rattle.lv_board.specs.Closing.{IsEnded, IsKept}
+use Rattle.lv_board.specs.Opening.{AreDealt, IsBasisOf, MayOpen}
+use Rattle.lv_board.specs.Rule.{folds, newcomer, terms_of}
+use Rattle.lv_board.specs.Sharing.{IsClosedShared, IsNewlyShared, Shared, shared_of}
+use Rattle.lv_board.specs.Tells.{actor_of, IsAt}
+
+-- what is closed by the seats that were there
+pub closed_shared : {B : Type 0} (old : Shared) (t : Terms) (seats : List (Seat B)) (closed : Closed) → t ≡ old.terms → map actor_of seats ≡ old.left → IsEnded t seats closed → IsClosedShared old closed
+closed_shared old t seats closed same left ended =
+    let e = subst (λ u. IsEnded u seats closed) same ended in
+    record {
+      history = e.history;
+      legal = e.legal;
+      edit = e.edit;
+      elements = e.elements;
+      few = e.few;
+      known = subst (λ l. All (IsKept e.history) l) left (All-map (IsKept e.history) actor_of seats e.known);
+    }
+
+module _ {B : Type 0} (table : TableId) (z : Basis B) where
+  -- what the seats of a new board know
+  dealt_from : (seats : List (Seat B)) (s : Seat B) → AreDealt table z seats → map actor_of seats ≡ map newcomer (range_with_len 0 (length seats))
+  dealt_from seats s dealt = fill_by_all newcomer (map actor_of seats) (length seats) (newcomer 0) (length-map seats actor_of)
+      (λ k within. get_or-map actor_of seats k s (newcomer 0) within ∙ (subst (λ o. IfSome o (λ u. IsAt table z u × (actor_of u ≡ newcomer k))) (slice_get-get_or seats k s within) (dealt k within)).1)
+
+  pub dealt_new : (seats : List (Seat B)) → AreDealt table z seats → map actor_of seats ≡ map newcomer (range_with_len 0 (length seats))
+  dealt_new [] dealt = refl
+  dealt_new (s ∷ rest) dealt = dealt_from (s ∷ rest) s dealt
+
+module _ {B S : Type 0} (count : ℕ) (parts_of : S → List ℕ) (operations : B → Operations S) (kind : Kind) (plain : B → List ℤ → Shown) where
+  -- what is shared of a new board
+  pub newly_shared : (limits : Bounds) (number : ℕ) (body : B) (board : Board B S) (seats : List (Seat B)) (result : Result (Opened B S) Refusal) → MayOpen limits number → IsBasisOf limits number body board.terms → length seats ≡ number → AreDealt board.table.shared.table_id board.terms seats
+      → IfOk result (λ o. (arc_value o.board ≡ board) × (o.seats.items ≡ seats)) → IfOk result (λ o. IsNewlyShared limits number (folds count parts_of operations body) kind (plain body) (shared_of count parts_of operations kind plain o))
+  newly_shared limits number body board seats (Err refusal) may basis long dealt shared = tt
+  newly_shared limits number body board seats (Ok o) may basis long dealt (same, left) = record {
+    allowed = may;
+    terms = ap (λ (b : Board B S). terms_of (folds count parts_of operations) b.terms) same ∙ ap (terms_of (folds count parts_of operations)) basis;
+    kind_is = refl;
+    plain_is = ap (λ (b : Board B S). plain b.terms.body) same ∙ ap (λ (z : Basis B). plain z.body) basis;
+    left = ap (map actor_of) left ∙ dealt_new board.table.shared.table_id board.terms seats dealt ∙ ap (λ n. map newcomer (range_with_len 0 n)) long;
+  }

@@ -1,0 +1,11 @@
+use Rattle.std.proofs.Common.{refl}
+use Rattle.lv_board.proofs.sitters.Sitter.make.Goals as goal
+
+pub returns : goal.returns
+returns g c =
+    let at_board = rw c.deref.ensures at c.make_within.ensures.ends in
+    record {
+      same = refl;
+      number = c.make_within.ensures.still.number;
+      ends = rw c.max.ensures at at_board;
+    }
