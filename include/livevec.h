@@ -1,6 +1,7 @@
-/* livevec: a growable vector of 64-bit numbers whose ranges are reduced at once. For C11 and C++17.
+/* livevec: a growable vector of 64-bit numbers whose ranges are reduced at once, and a board of 16-bit numbers that threads
+ * edit and reduce together without a lock. For C11 and C++17.
  *
- * Slots. A vector, a job and an outcome each lie behind a slot. Who calls owes three things, which nobody checks:
+ * Slots. A vector, a job, an outcome, a board and a seat each lie behind a slot. Who calls owes three things, which nobody checks:
  *   - a slot starts as zeros (`livevec_vector v = {0};`), which is 'empty';
  *   - a slot is never copied, and nothing but these functions writes it;
  *   - a slot serves one call at a time. Between calls it may go to another thread, as by a lock, a join or a queue.
@@ -37,21 +38,23 @@ typedef enum livevec_refusal {
     LIVEVEC_BAD_RANGE = 7,     /* a range whose start is past its end */
     LIVEVEC_BAD_LIMITS = 8,    /* limits outside their ranges */
     LIVEVEC_BAD_TABLE = 9,     /* an automaton's table with an entry above 7 */
-    LIVEVEC_NAME_TAKEN = 10,   /* 10 to 14, 16 to 20: answered by no function of this header */
+    LIVEVEC_NAME_TAKEN = 10,   /* 10 to 14, 19 and 20: answered by no function of this header */
     LIVEVEC_NO_SUCH_NAME = 11,
     LIVEVEC_TOO_MANY = 12,
     LIVEVEC_READ_FAULT = 13,
     LIVEVEC_WRITE_FAULT = 14,
     LIVEVEC_STRANGER = 15,     /* an outcome that this vector can't vouch for: another vector's, as a rule */
-    LIVEVEC_TOO_WIDE = 16,
-    LIVEVEC_CONTENDED = 17,
-    LIVEVEC_OVERTAKEN = 18,
+    LIVEVEC_TOO_WIDE = 16,     /* an element of a board outside -32768 to 32767 */
+    LIVEVEC_CONTENDED = 17,    /* another seat's edit came first; `detail` is its number. Nothing has happened: try again */
+    LIVEVEC_OVERTAKEN = 18,    /* a later edit wrote where the call read; `detail` is its number. Nothing has happened: try again */
     LIVEVEC_NO_JOB = 19,
     LIVEVEC_NOT_NOW = 20,
     LIVEVEC_NO_HANDLE = 101,   /* a slot that should be full is empty: never filled, or freed, or moved from */
     LIVEVEC_NULL = 102,        /* a null pointer */
     LIVEVEC_SHORT_BUFFER = 103, /* a buffer shorter than what it should take; `detail` is the wanted length */
-    LIVEVEC_IN_USE = 104       /* a slot that should be empty is full */
+    LIVEVEC_IN_USE = 104,      /* a slot that should be empty is full */
+    LIVEVEC_NO_SEAT = 105,     /* as many seats were taken as the board was made for */
+    LIVEVEC_SEATS_OUT = 106    /* a seat of the board is not freed yet */
 } livevec_refusal;
 
 /* Slots. All zeros is 'empty'. The fields are the library's own. */
@@ -70,6 +73,17 @@ typedef struct livevec_outcome {
     void *at_;
 } livevec_outcome;
 
+/* Its slot has the board, and once that is closed, what it came to. */
+typedef struct livevec_board {
+    bool full_;
+    void *at_;
+} livevec_board;
+
+typedef struct livevec_seat {
+    bool full_;
+    void *at_;
+} livevec_seat;
+
 /* An automaton of eight states: from state q, an element x leads to next[q][x mod 4], the remainder never negative. */
 typedef struct livevec_table {
     uint8_t next[8][4];
@@ -78,7 +92,8 @@ typedef struct livevec_table {
 /* What an edit answers. Where it was refused, all but `refusal` and `detail` is 0. */
 typedef struct livevec_edited {
     uint32_t refusal;
-    uint32_t detail; /* of LIVEVEC_OUT_OF_RANGE the size, of LIVEVEC_TOO_LARGE the limit, else 0 */
+    uint32_t detail; /* of LIVEVEC_OUT_OF_RANGE the size, of LIVEVEC_TOO_LARGE the limit, of LIVEVEC_CONTENDED and
+                      * LIVEVEC_OVERTAKEN the other edit's number, else 0 */
     uint32_t edit;   /* the edit's number */
     uint32_t place;  /* of a push the index where the element lies; of a reserve how many elements now fit; of a truncate how
                       * many were dropped; else 0 */
@@ -95,7 +110,7 @@ typedef struct livevec_count {
 /* An element, 0 where it was refused. */
 typedef struct livevec_element {
     uint32_t refusal;
-    uint32_t detail; /* of LIVEVEC_OUT_OF_RANGE the size, else 0 */
+    uint32_t detail; /* of LIVEVEC_OUT_OF_RANGE the size, of LIVEVEC_OVERTAKEN the later edit's number, else 0 */
     int64_t value;
 } livevec_element;
 
@@ -115,7 +130,7 @@ typedef struct livevec_values {
 /* What a reduction answers. Where it was refused, all but `refusal` and `detail` is 0. */
 typedef struct livevec_reduced {
     uint32_t refusal;
-    uint32_t detail;    /* of LIVEVEC_OUT_OF_RANGE the size, else 0 */
+    uint32_t detail;    /* of LIVEVEC_OUT_OF_RANGE the size, of LIVEVEC_OVERTAKEN the later edit's number, else 0 */
     uint32_t edit;      /* after which edit the values are those of the range */
     uint32_t cells;     /* how many elements were read for it */
     uint32_t summaries; /* how many summaries were read for it */
@@ -171,6 +186,24 @@ typedef struct livevec_verdict {
     uint32_t refusal;
     uint32_t detail; /* of LIVEVEC_OUT_OF_RANGE the size, of LIVEVEC_TOO_LARGE the limit, else 0 */
 } livevec_verdict;
+
+/* What a board reduces by. */
+typedef enum livevec_kind {
+    LIVEVEC_SUM = 0,
+    LIVEVEC_LEAST = 1,
+    LIVEVEC_GREATEST = 2,
+    LIVEVEC_BEST = 3,
+    LIVEVEC_AFFINE = 4,
+    LIVEVEC_AUTOMATON = 5
+} livevec_kind;
+
+/* What a refresh at a seat answers. Where it was refused, the edit and the version are 0. */
+typedef struct livevec_renewed {
+    uint32_t refusal;
+    uint32_t detail;  /* of LIVEVEC_OUT_OF_RANGE the size, of LIVEVEC_OVERTAKEN the later edit's number, else 0 */
+    uint32_t edit;    /* after which edit the block was read */
+    uint32_t version; /* the edit that touched the block last */
+} livevec_renewed;
 
 /* --- A vector --- */
 
@@ -273,6 +306,74 @@ uint32_t livevec_forget(livevec_vector *slot);
 /* Frees a job that is not run; frees an outcome. The slot is then empty. Refusals: NULL, NO_HANDLE. */
 uint32_t livevec_free_job(livevec_job *job);
 uint32_t livevec_free_outcome(livevec_outcome *outcome);
+
+/* --- A board: one vector for up to eight threads at once, without a lock. No call waits for another thread. ---
+ *
+ * One thread makes the board and a seat for each thread. Each thread then calls at its own seat, beside all others. When the
+ * seats are freed the board can be closed, and its elements read. The caller owes no more than for any slot: a board's slot
+ * and each seat's serve one call at a time. So two threads don't share a seat, but calls at two seats need no lock.
+ *
+ * All seats' accepted edits are one list, numbered 1, 2, 3 and so on. Elements have 16 bits, from -32768 to 32767.
+ *
+ * Trying again. CONTENDED and OVERTAKEN mean that another thread was faster, and that nothing has happened. An edit tries
+ * again by itself: at most `tries` times in all, where 0 counts as 1. The pauses between are of microseconds at most. An edit
+ * that is still refused with 17 or 18 may be called again, now or after other work. For example, two threads push at once
+ * after edit 7, each with `tries` 1. One push is accepted as edit 8. The other is refused with CONTENDED, `detail` 8; called
+ * again in peace it is edit 9. A get, a reduce or a refresh makes one try, and a loop around it is the caller's. No call
+ * promises that a try is ever accepted. */
+
+/* Puts a new board into an empty slot: of a livevec_kind, 1 to 9 buckets (k hold 8 * (2^k - 1) elements, 9 hold 4,088), 1 to
+ * 16,777,215 edits and 1 to 8 seats. It takes all its memory now. An automaton leads from q by x to (2 * q + x mod 4) mod 8.
+ * Refusals: NULL, IN_USE, BAD_LIMITS (of the kind too), NO_MEMORY. Who calls owes a livevec_free_board. */
+uint32_t livevec_board_new(livevec_board *slot, uint32_t kind, uint32_t buckets, uint32_t edits, uint32_t seats);
+
+/* Puts the board's next seat into an empty slot. A seat that is freed is not dealt again.
+ * Refusals: NULL, IN_USE (of the seat's slot), NO_HANDLE (of the board's), NO_MEMORY, NO_SEAT. Who calls owes a livevec_free_seat. */
+uint32_t livevec_board_sit(livevec_board *board, livevec_seat *seat);
+
+/* Puts an element at the end. `place` is its index. Refusals: NULL, NO_HANDLE, TOO_WIDE, WORN, FULL, CONTENDED. */
+livevec_edited livevec_seat_push(livevec_seat *seat, int64_t value, uint32_t tries);
+
+/* Drops the last element. `value` is that element. Refusals: NULL, NO_HANDLE, WORN, EMPTY, CONTENDED, OVERTAKEN. */
+livevec_edited livevec_seat_pop(livevec_seat *seat, uint32_t tries);
+
+/* Overwrites the element at an index. `value` is the element before.
+ * Refusals: NULL, NO_HANDLE, TOO_WIDE, WORN, OUT_OF_RANGE, CONTENDED, OVERTAKEN. */
+livevec_edited livevec_seat_write(livevec_seat *seat, uint32_t index, int64_t value, uint32_t tries);
+
+/* The element at an index. Refusals: NULL, NO_HANDLE, OUT_OF_RANGE, OVERTAKEN. */
+livevec_element livevec_seat_get(livevec_seat *seat, uint32_t index);
+
+/* How many elements there are. Refusals: NULL, NO_HANDLE. */
+livevec_count livevec_seat_size(livevec_seat *seat);
+
+/* The plain value of the elements of a range, all as they were after one edit. Of `values` only those of the board's kind are
+ * told, and `any`; the others are 0. Refusals: NULL, NO_HANDLE, BAD_RANGE, OUT_OF_RANGE, OVERTAKEN. */
+livevec_reduced livevec_seat_reduce(livevec_seat *seat, uint32_t lo, uint32_t hi);
+
+/* Computes the summary of a block, the eight elements from index 8 * block on, so that reductions read less. No answer changes.
+ * Refusals: NULL, NO_HANDLE, OUT_OF_RANGE (not all eight are there), OVERTAKEN. */
+livevec_renewed livevec_seat_refresh(livevec_seat *seat, uint32_t block);
+
+/* Closes a board whose seats are all freed; a seat that was never taken doesn't count. Its slot then holds the elements, and is
+ * good for the three calls below and for livevec_free_board. `value` is how many edits were accepted at all seats together.
+ * Refusals: NULL, NO_HANDLE (also where it is closed), NO_MEMORY, SEATS_OUT; the board is then as it was. */
+livevec_count livevec_board_close(livevec_board *board);
+
+/* Of a closed board: how many elements there are, and the element at an index.
+ * Refusals: NULL, NO_HANDLE (also where it is not closed), and OUT_OF_RANGE of an index. */
+livevec_count livevec_closed_size(livevec_board *board);
+livevec_element livevec_closed_get(livevec_board *board, uint32_t index);
+
+/* All elements of a closed board, into a buffer that takes `room` of them. `*count` is how many there are, also where the
+ * buffer is too short; it and the buffer are as they were where the call is refused otherwise.
+ * Refusals: NULL (of any of the three), NO_HANDLE, SHORT_BUFFER. */
+uint32_t livevec_closed_read(livevec_board *board, int64_t *buffer, size_t room, uint32_t *count);
+
+/* Frees a board, closed or not; frees a seat. The slot is then empty. Board and seats may be freed in any order: a seat whose
+ * board was freed stays good. Refusals: NULL, NO_HANDLE. */
+uint32_t livevec_free_board(livevec_board *board);
+uint32_t livevec_free_seat(livevec_seat *seat);
 
 #ifdef __cplusplus
 }

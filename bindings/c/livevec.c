@@ -1,208 +1,94 @@
 /* The functions of livevec.h: each answers LIVEVEC_NULL where a pointer is null, and else calls the proved export of its name.
- * The last four walk over many elements, a proved call each. This file is C, so no proof covers it. */
+ * The last five walk over many elements, a proved call each. This file is C, so no proof covers it. */
 #include "livevec.h"
 
-/* The exports of crates/livevec_c. What they promise stands in their contracts there. */
-uint32_t livevec_proved_new(livevec_vector *slot, uint32_t buckets, uint32_t edits);
-uint32_t livevec_proved_new_with_table(livevec_vector *slot, uint32_t buckets, uint32_t edits, const livevec_table *table);
+/* `livevec_NAME` over `livevec_proved_NAME`, an export of crates/livevec_c: what that promises stands in its contract there.
+ * `there` says that no pointer is null; `none` is the answer where one is. */
+#define OVER_PROVED(answer, name, parameters, there, arguments, none) \
+    answer livevec_proved_##name parameters;                          \
+    answer livevec_##name parameters                                  \
+    {                                                                 \
+        return there ? livevec_proved_##name arguments : none;        \
+    }
+
+/* The same, of what answers by its refusal alone, and of what answers more. */
+#define TOLD(name, parameters, there, arguments) OVER_PROVED(uint32_t, name, parameters, there, arguments, LIVEVEC_NULL)
+#define ANSWERED(answer, name, parameters, there, arguments) \
+    OVER_PROVED(answer, name, parameters, there, arguments, (answer){.refusal = LIVEVEC_NULL})
+
+TOLD(new, (livevec_vector *slot, uint32_t buckets, uint32_t edits), slot, (slot, buckets, edits))
+TOLD(new_with_table, (livevec_vector *slot, uint32_t buckets, uint32_t edits, const livevec_table *table), (slot && table), (slot, buckets, edits, table))
+ANSWERED(livevec_edited, push, (livevec_vector *slot, int64_t value), slot, (slot, value))
+ANSWERED(livevec_edited, pop, (livevec_vector *slot), slot, (slot))
+ANSWERED(livevec_edited, write, (livevec_vector *slot, uint32_t index, int64_t value), slot, (slot, index, value))
+ANSWERED(livevec_edited, reserve, (livevec_vector *slot, uint32_t elements), slot, (slot, elements))
+ANSWERED(livevec_edited, swap, (livevec_vector *slot, uint32_t first, uint32_t second), slot, (slot, first, second))
+ANSWERED(livevec_edited, truncate, (livevec_vector *slot, uint32_t elements), slot, (slot, elements))
+ANSWERED(livevec_element, get, (livevec_vector *slot, uint32_t index), slot, (slot, index))
+ANSWERED(livevec_count, size, (livevec_vector *slot), slot, (slot))
+ANSWERED(livevec_count, capacity, (livevec_vector *slot), slot, (slot))
+ANSWERED(livevec_count, edits, (livevec_vector *slot), slot, (slot))
+ANSWERED(livevec_reduced, reduce, (livevec_vector *slot, uint32_t lo, uint32_t hi), slot, (slot, lo, hi))
+ANSWERED(livevec_reduced, ask, (livevec_vector *slot, uint32_t lo, uint32_t hi), slot, (slot, lo, hi))
+
+ANSWERED(livevec_verdict, verdict_push, (livevec_vector *slot, int64_t value), slot, (slot, value))
+ANSWERED(livevec_verdict, verdict_pop, (livevec_vector *slot), slot, (slot))
+ANSWERED(livevec_verdict, verdict_write, (livevec_vector *slot, uint32_t index, int64_t value), slot, (slot, index, value))
+ANSWERED(livevec_verdict, verdict_reserve, (livevec_vector *slot, uint32_t elements), slot, (slot, elements))
+ANSWERED(livevec_verdict, verdict_swap, (livevec_vector *slot, uint32_t first, uint32_t second), slot, (slot, first, second))
+ANSWERED(livevec_verdict, verdict_truncate, (livevec_vector *slot, uint32_t elements), slot, (slot, elements))
+
+ANSWERED(livevec_count, refresh, (livevec_vector *slot, uint32_t jobs), slot, (slot, jobs))
+ANSWERED(livevec_claimed, claim, (livevec_vector *slot, livevec_job *job), (slot && job), (slot, job))
+TOLD(run, (livevec_job *job, livevec_outcome *outcome), (job && outcome), (job, outcome))
+ANSWERED(livevec_vetted, vet, (livevec_vector *slot, livevec_outcome *outcome), (slot && outcome), (slot, outcome))
+ANSWERED(livevec_accepted, accept, (livevec_vector *slot, livevec_outcome *outcome), (slot && outcome), (slot, outcome))
+TOLD(forget, (livevec_vector *slot), slot, (slot))
+
+TOLD(board_new, (livevec_board *slot, uint32_t kind, uint32_t buckets, uint32_t edits, uint32_t seats), slot, (slot, kind, buckets, edits, seats))
+TOLD(board_sit, (livevec_board *board, livevec_seat *seat), (board && seat), (board, seat))
+ANSWERED(livevec_edited, seat_push, (livevec_seat *seat, int64_t value, uint32_t tries), seat, (seat, value, tries))
+ANSWERED(livevec_edited, seat_pop, (livevec_seat *seat, uint32_t tries), seat, (seat, tries))
+ANSWERED(livevec_edited, seat_write, (livevec_seat *seat, uint32_t index, int64_t value, uint32_t tries), seat, (seat, index, value, tries))
+ANSWERED(livevec_element, seat_get, (livevec_seat *seat, uint32_t index), seat, (seat, index))
+ANSWERED(livevec_count, seat_size, (livevec_seat *seat), seat, (seat))
+ANSWERED(livevec_reduced, seat_reduce, (livevec_seat *seat, uint32_t lo, uint32_t hi), seat, (seat, lo, hi))
+ANSWERED(livevec_renewed, seat_refresh, (livevec_seat *seat, uint32_t block), seat, (seat, block))
+ANSWERED(livevec_count, board_close, (livevec_board *board), board, (board))
+ANSWERED(livevec_count, closed_size, (livevec_board *board), board, (board))
+ANSWERED(livevec_element, closed_get, (livevec_board *board, uint32_t index), board, (board, index))
+
+/* One export frees whatever a slot holds. */
 uint32_t livevec_proved_free(void *slot);
-livevec_edited livevec_proved_push(livevec_vector *slot, int64_t value);
-livevec_edited livevec_proved_pop(livevec_vector *slot);
-livevec_edited livevec_proved_write(livevec_vector *slot, uint32_t index, int64_t value);
-livevec_edited livevec_proved_reserve(livevec_vector *slot, uint32_t elements);
-livevec_edited livevec_proved_swap(livevec_vector *slot, uint32_t first, uint32_t second);
-livevec_edited livevec_proved_truncate(livevec_vector *slot, uint32_t elements);
-livevec_element livevec_proved_get(livevec_vector *slot, uint32_t index);
-livevec_count livevec_proved_size(livevec_vector *slot);
-livevec_count livevec_proved_capacity(livevec_vector *slot);
-livevec_count livevec_proved_edits(livevec_vector *slot);
-livevec_reduced livevec_proved_reduce(livevec_vector *slot, uint32_t lo, uint32_t hi);
-livevec_reduced livevec_proved_ask(livevec_vector *slot, uint32_t lo, uint32_t hi);
-livevec_count livevec_proved_refresh(livevec_vector *slot, uint32_t jobs);
-livevec_claimed livevec_proved_claim(livevec_vector *slot, livevec_job *job);
-uint32_t livevec_proved_run(livevec_job *job, livevec_outcome *outcome);
-livevec_vetted livevec_proved_vet(livevec_vector *slot, livevec_outcome *outcome);
-livevec_accepted livevec_proved_accept(livevec_vector *slot, livevec_outcome *outcome);
-uint32_t livevec_proved_forget(livevec_vector *slot);
 
-livevec_verdict livevec_proved_verdict_push(livevec_vector *slot, int64_t value);
-livevec_verdict livevec_proved_verdict_pop(livevec_vector *slot);
-livevec_verdict livevec_proved_verdict_write(livevec_vector *slot, uint32_t index, int64_t value);
-livevec_verdict livevec_proved_verdict_reserve(livevec_vector *slot, uint32_t elements);
-livevec_verdict livevec_proved_verdict_swap(livevec_vector *slot, uint32_t first, uint32_t second);
-livevec_verdict livevec_proved_verdict_truncate(livevec_vector *slot, uint32_t elements);
-
-static livevec_edited not_edited(void)
-{
-    livevec_edited answer = {LIVEVEC_NULL, 0, 0, 0, 0};
-    return answer;
-}
-
-static livevec_count not_counted(void)
-{
-    livevec_count answer = {LIVEVEC_NULL, 0};
-    return answer;
-}
-
-static livevec_verdict not_judged(void)
-{
-    livevec_verdict answer = {LIVEVEC_NULL, 0};
-    return answer;
-}
-
-static livevec_reduced not_reduced(void)
-{
-    livevec_reduced answer = {LIVEVEC_NULL, 0, 0, 0, 0, {0, 0, 0, 0, 0, 0, 0, {0, 0, 0, 0, 0, 0, 0, 0}, false}};
-    return answer;
-}
-
-uint32_t livevec_new(livevec_vector *slot, uint32_t buckets, uint32_t edits)
-{
-    return slot ? livevec_proved_new(slot, buckets, edits) : LIVEVEC_NULL;
-}
-
-uint32_t livevec_new_with_table(livevec_vector *slot, uint32_t buckets, uint32_t edits, const livevec_table *table)
-{
-    return slot && table ? livevec_proved_new_with_table(slot, buckets, edits, table) : LIVEVEC_NULL;
-}
-
-uint32_t livevec_free(livevec_vector *slot)
+static uint32_t freed(void *slot)
 {
     return slot ? livevec_proved_free(slot) : LIVEVEC_NULL;
 }
 
-livevec_edited livevec_push(livevec_vector *slot, int64_t value)
+uint32_t livevec_free(livevec_vector *slot)
 {
-    return slot ? livevec_proved_push(slot, value) : not_edited();
-}
-
-livevec_edited livevec_pop(livevec_vector *slot)
-{
-    return slot ? livevec_proved_pop(slot) : not_edited();
-}
-
-livevec_edited livevec_write(livevec_vector *slot, uint32_t index, int64_t value)
-{
-    return slot ? livevec_proved_write(slot, index, value) : not_edited();
-}
-
-livevec_edited livevec_reserve(livevec_vector *slot, uint32_t elements)
-{
-    return slot ? livevec_proved_reserve(slot, elements) : not_edited();
-}
-
-livevec_edited livevec_swap(livevec_vector *slot, uint32_t first, uint32_t second)
-{
-    return slot ? livevec_proved_swap(slot, first, second) : not_edited();
-}
-
-livevec_edited livevec_truncate(livevec_vector *slot, uint32_t elements)
-{
-    return slot ? livevec_proved_truncate(slot, elements) : not_edited();
-}
-
-livevec_verdict livevec_verdict_push(livevec_vector *slot, int64_t value)
-{
-    return slot ? livevec_proved_verdict_push(slot, value) : not_judged();
-}
-
-livevec_verdict livevec_verdict_pop(livevec_vector *slot)
-{
-    return slot ? livevec_proved_verdict_pop(slot) : not_judged();
-}
-
-livevec_verdict livevec_verdict_write(livevec_vector *slot, uint32_t index, int64_t value)
-{
-    return slot ? livevec_proved_verdict_write(slot, index, value) : not_judged();
-}
-
-livevec_verdict livevec_verdict_reserve(livevec_vector *slot, uint32_t elements)
-{
-    return slot ? livevec_proved_verdict_reserve(slot, elements) : not_judged();
-}
-
-livevec_verdict livevec_verdict_swap(livevec_vector *slot, uint32_t first, uint32_t second)
-{
-    return slot ? livevec_proved_verdict_swap(slot, first, second) : not_judged();
-}
-
-livevec_verdict livevec_verdict_truncate(livevec_vector *slot, uint32_t elements)
-{
-    return slot ? livevec_proved_verdict_truncate(slot, elements) : not_judged();
-}
-
-livevec_element livevec_get(livevec_vector *slot, uint32_t index)
-{
-    livevec_element none = {LIVEVEC_NULL, 0, 0};
-    return slot ? livevec_proved_get(slot, index) : none;
-}
-
-livevec_count livevec_size(livevec_vector *slot)
-{
-    return slot ? livevec_proved_size(slot) : not_counted();
-}
-
-livevec_count livevec_capacity(livevec_vector *slot)
-{
-    return slot ? livevec_proved_capacity(slot) : not_counted();
-}
-
-livevec_count livevec_edits(livevec_vector *slot)
-{
-    return slot ? livevec_proved_edits(slot) : not_counted();
-}
-
-livevec_reduced livevec_reduce(livevec_vector *slot, uint32_t lo, uint32_t hi)
-{
-    return slot ? livevec_proved_reduce(slot, lo, hi) : not_reduced();
-}
-
-livevec_reduced livevec_ask(livevec_vector *slot, uint32_t lo, uint32_t hi)
-{
-    return slot ? livevec_proved_ask(slot, lo, hi) : not_reduced();
-}
-
-livevec_count livevec_refresh(livevec_vector *slot, uint32_t jobs)
-{
-    return slot ? livevec_proved_refresh(slot, jobs) : not_counted();
-}
-
-livevec_claimed livevec_claim(livevec_vector *slot, livevec_job *job)
-{
-    livevec_claimed none = {LIVEVEC_NULL, false, 0, 0, 0};
-    return slot && job ? livevec_proved_claim(slot, job) : none;
-}
-
-uint32_t livevec_run(livevec_job *job, livevec_outcome *outcome)
-{
-    return job && outcome ? livevec_proved_run(job, outcome) : LIVEVEC_NULL;
-}
-
-livevec_vetted livevec_vet(livevec_vector *slot, livevec_outcome *outcome)
-{
-    livevec_vetted none = {LIVEVEC_NULL, false};
-    return slot && outcome ? livevec_proved_vet(slot, outcome) : none;
-}
-
-livevec_accepted livevec_accept(livevec_vector *slot, livevec_outcome *outcome)
-{
-    livevec_accepted none = {LIVEVEC_NULL, 0, 0};
-    return slot && outcome ? livevec_proved_accept(slot, outcome) : none;
-}
-
-uint32_t livevec_forget(livevec_vector *slot)
-{
-    return slot ? livevec_proved_forget(slot) : LIVEVEC_NULL;
+    return freed(slot);
 }
 
 uint32_t livevec_free_job(livevec_job *job)
 {
-    return job ? livevec_proved_free(job) : LIVEVEC_NULL;
+    return freed(job);
 }
 
 uint32_t livevec_free_outcome(livevec_outcome *outcome)
 {
-    return outcome ? livevec_proved_free(outcome) : LIVEVEC_NULL;
+    return freed(outcome);
+}
+
+uint32_t livevec_free_board(livevec_board *board)
+{
+    return freed(board);
+}
+
+uint32_t livevec_free_seat(livevec_seat *seat)
+{
+    return freed(seat);
 }
 
 livevec_pushed livevec_push_many(livevec_vector *slot, const int64_t *values, size_t length)
@@ -272,4 +158,19 @@ livevec_scanned livevec_scan_exclusive(livevec_vector *slot, uint32_t lo, uint32
     for (uint32_t i = 0; i < answer.length; i++)
         buffer[i] = livevec_proved_ask(slot, lo, lo + i).values;
     return answer;
+}
+
+uint32_t livevec_closed_read(livevec_board *board, int64_t *buffer, size_t room, uint32_t *count)
+{
+    if (!board || !buffer || !count)
+        return LIVEVEC_NULL;
+    livevec_count size = livevec_proved_closed_size(board);
+    if (size.refusal)
+        return size.refusal;
+    *count = size.value;
+    if (room < size.value)
+        return LIVEVEC_SHORT_BUFFER;
+    for (uint32_t i = 0; i < size.value; i++)
+        buffer[i] = livevec_proved_closed_get(board, i).value;
+    return LIVEVEC_OK;
 }

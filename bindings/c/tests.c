@@ -1,5 +1,5 @@
 /* Good and bad use of livevec.h. Each expected value is worked out by hand. */
-#include "livevec.h"
+#include "tests.h"
 
 #include <stdio.h>
 #include <stdlib.h>
@@ -7,16 +7,14 @@
 
 static int checks, failures;
 
-static void is(const char *what, int line, long long got, long long wanted)
+void is(const char *file, int line, const char *what, long long got, long long wanted)
 {
     checks++;
     if (got != wanted) {
         failures++;
-        printf("tests.c:%d: %s is %lld and should be %lld\n", line, what, got, wanted);
+        printf("%s:%d: %s is %lld and should be %lld\n", file, line, what, got, wanted);
     }
 }
-
-#define IS(got, wanted) is(#got, __LINE__, (long long)(got), (long long)(wanted))
 
 static const livevec_vector empty_vector;
 static const livevec_job empty_job;
@@ -330,6 +328,7 @@ int main(void)
     births();
     jobs();
     misuse();
+    boards();
     printf("%d checks, %d failed\n", checks, failures);
     return failures ? EXIT_FAILURE : EXIT_SUCCESS;
 }

@@ -15,6 +15,7 @@ folders); in `lib` of the interpreter's prefix, which is that of a virtual envir
 
 Threads. A `Vector`'s calls into C keep the interpreter's lock, so it may be used by several threads, one call at a time. What takes more than
 one call (`vector[-1]`, a loop over the elements, `edits` after a push) needs a lock of your own if another thread edits meanwhile.
+A `Board` is for threads: each has a `Seat`, whose calls into C release the interpreter's lock and wait for no other thread.
 """
 from __future__ import annotations
 
@@ -25,19 +26,24 @@ import operator
 import os
 import struct
 import sys
+import threading
 from array import array
 from typing import Iterable, Iterator, NamedTuple, Optional, Sequence, Union, overload
 
 __all__ = [
     "Vector", "Job", "Outcome", "Scan", "Values", "Reduced", "Delivered", "Became", "Node",
+    "Board", "Seat", "Kind", "Told", "Refreshed", "Finished",
     "Refusal", "Worn", "Empty", "OutOfRange", "TooLarge", "Full", "NoMemory", "BadRange", "BadLimits", "BadTable", "Stranger", "Closed",
-    "ShortBuffer",
-    "MOST_BUCKETS", "MOST_EDITS",
+    "ShortBuffer", "TooWide", "Outrun", "Contended", "Overtaken", "NoSeat", "SeatsOut",
+    "MOST_BUCKETS", "MOST_EDITS", "MOST_BOARD_BUCKETS", "MOST_SEATS",
 ]
 
 MOST_BUCKETS = 17
 """So many buckets have room for 1,048,568 elements; k have room for 8 * (2**k - 1)."""
 MOST_EDITS = 16_777_215
+MOST_BOARD_BUCKETS = 9
+"""So many buckets of a board have room for 4,088 elements."""
+MOST_SEATS = 8
 
 _LEAST_I64, _MOST_I64, _MOST_U32 = -(1 << 63), (1 << 63) - 1, (1 << 32) - 1
 
@@ -51,8 +57,8 @@ if not getattr(sys, "_is_gil_enabled", lambda: True)():
 class Refusal(Exception):
     """Why the library refused a call. What is refused changes no element, no edit number and no later answer.
 
-    `number` is the number that the library's rules give it. `detail` is the size of an OutOfRange, the limit of a TooLarge and the wanted length
-    of a ShortBuffer, else 0.
+    `number` is the number that the library's rules give it. `detail` is the size of an OutOfRange, the limit of a TooLarge, the wanted length
+    of a ShortBuffer and the other edit of an Outrun, else 0.
     `pushed` is how many elements were taken by the `extend` that was refused; these stay.
     """
 
@@ -111,9 +117,9 @@ class BadRange(Refusal, ValueError):
 
 
 class BadLimits(Refusal, ValueError):
-    """Limits outside 1 to 17 buckets and 1 to 16,777,215 edits."""
+    """Limits outside 1 to 17 buckets, of a board 1 to 9, and 1 to 16,777,215 edits; seats outside 1 to 8."""
 
-    number, says = 8, "limits are 1 to 17 buckets and 1 to 16,777,215 edits"
+    number, says = 8, "limits are 1 to 17 buckets, of a board 1 to 9, 1 to 16,777,215 edits and 1 to 8 seats"
 
 
 class BadTable(Refusal, ValueError):
@@ -128,8 +134,30 @@ class Stranger(Refusal, ValueError):
     number, says = 15, "an outcome that is not of a job of this vector"
 
 
+class TooWide(Refusal, OverflowError):
+    """An element of a board outside -32768 to 32767."""
+
+    number, says = 16, "an element of a board is from -32768 to 32767"
+
+
+class Outrun(Refusal, RuntimeError):
+    """Another seat's edit was faster, and nothing has happened: the same call may go through if it is made again. `detail` is that edit."""
+
+
+class Contended(Outrun):
+    """Another seat's edit came first, in each of the tries. `detail` is the last one's number."""
+
+    number, says = 17, "contended: edit {detail} came first"
+
+
+class Overtaken(Outrun):
+    """A later edit wrote where the call read. `detail` is its number."""
+
+    number, says = 18, "overtaken: edit {detail} wrote there"
+
+
 class Closed(Refusal, ValueError):
-    """The vector was closed, or the job was run."""
+    """The vector, board or seat was closed, or the job was run."""
 
     number, says = 101, "it was closed, or it was run"
 
@@ -140,7 +168,20 @@ class ShortBuffer(Refusal, ValueError):
     number, says = 103, "the buffer is shorter than the {detail} elements"
 
 
-_REFUSALS = {it.number: it for it in (Worn, Empty, OutOfRange, TooLarge, Full, NoMemory, BadRange, BadLimits, BadTable, Stranger, Closed, ShortBuffer)}
+class NoSeat(Refusal, RuntimeError):
+    """As many seats were taken as the board was made for."""
+
+    number, says = 105, "no seat is left"
+
+
+class SeatsOut(Refusal, RuntimeError):
+    """A seat of the board is not closed yet."""
+
+    number, says = 106, "seats are out"
+
+
+_REFUSALS = {it.number: it for it in (Worn, Empty, OutOfRange, TooLarge, Full, NoMemory, BadRange, BadLimits, BadTable, Stranger, TooWide, Contended,
+                                      Overtaken, Closed, ShortBuffer, NoSeat, SeatsOut)}
 
 
 def _refuse(number: int, detail: int = 0, pushed: int = 0) -> Refusal:
@@ -167,6 +208,14 @@ class _JobSlot(_Slot):
 
 
 class _OutcomeSlot(_Slot):
+    pass
+
+
+class _BoardSlot(_Slot):
+    pass
+
+
+class _SeatSlot(_Slot):
     pass
 
 
@@ -219,6 +268,10 @@ class _Accepted(ctypes.Structure):
     _fields_ = [("refusal", ctypes.c_uint32), ("became", ctypes.c_uint32), ("now", ctypes.c_uint32)]
 
 
+class _Renewed(ctypes.Structure):
+    _fields_ = [("refusal", ctypes.c_uint32), ("detail", ctypes.c_uint32), ("edit", ctypes.c_uint32), ("version", ctypes.c_uint32)]
+
+
 class _Verdict(ctypes.Structure):
     _fields_ = [("refusal", ctypes.c_uint32), ("detail", ctypes.c_uint32)]
 
@@ -259,11 +312,13 @@ def _opened() -> ctypes.PyDLL:
 
 
 _lib = _opened()
+# Calls by CDLL release that lock. They are those of a seat, which keeps its calls apart by a lock of its own.
+_released = ctypes.CDLL(_lib._name)
 
 
-def _call(name: str, result: type, *arguments: type):  # type: ignore[no-untyped-def]
+def _call(name: str, result: type, *arguments: type, by: ctypes.CDLL = _lib):  # type: ignore[no-untyped-def]
     try:
-        function = getattr(_lib, name)
+        function = getattr(by, name)
     except AttributeError:
         raise ImportError(f"{_lib._name} has no {name}: it is older than this module") from None
     function.restype, function.argtypes = result, arguments
@@ -305,6 +360,20 @@ _verdict_write = _call("livevec_verdict_write", _Verdict, _slot, _u32, _i64)
 _verdict_reserve = _call("livevec_verdict_reserve", _Verdict, _slot, _u32)
 _verdict_swap = _call("livevec_verdict_swap", _Verdict, _slot, _u32, _u32)
 _verdict_truncate = _call("livevec_verdict_truncate", _Verdict, _slot, _u32)
+_board, _seat = ctypes.POINTER(_BoardSlot), ctypes.POINTER(_SeatSlot)
+_board_new = _call("livevec_board_new", _u32, _board, _u32, _u32, _u32, _u32)
+_board_sit = _call("livevec_board_sit", _u32, _board, _seat)
+_board_close = _call("livevec_board_close", _Count, _board)
+_closed_read = _call("livevec_closed_read", _u32, _board, _pointer, _size, ctypes.POINTER(_u32))
+_free_board = _call("livevec_free_board", _u32, _board)
+_free_seat = _call("livevec_free_seat", _u32, _seat)
+_seat_push = _call("livevec_seat_push", _Edited, _seat, _i64, _u32, by=_released)
+_seat_pop = _call("livevec_seat_pop", _Edited, _seat, _u32, by=_released)
+_seat_write = _call("livevec_seat_write", _Edited, _seat, _u32, _i64, _u32, by=_released)
+_seat_get = _call("livevec_seat_get", _Element, _seat, _u32, by=_released)
+_seat_size = _call("livevec_seat_size", _Count, _seat, by=_released)
+_seat_reduce = _call("livevec_seat_reduce", _Reduced, _seat, _u32, _u32, by=_released)
+_seat_refresh = _call("livevec_seat_refresh", _Renewed, _seat, _u32, by=_released)
 
 
 class _Handle:
@@ -868,14 +937,235 @@ class Vector(_Handle, collections.abc.Sequence):
         return Scan(did.edit, room, did.length)
 
 
-def _place(index: int, holder: Vector) -> int:
+# --- The board and its seats ---
+
+
+class Kind(enum.Enum):
+    """What a board reduces by. The kinds are those of `Values`."""
+
+    SUM = 0
+    LEAST = 1
+    GREATEST = 2
+    BEST = 3
+    AFFINE = 4
+    AUTOMATON = 5
+
+
+class Told(NamedTuple):
+    """The answer of a reduction at a seat: the value of the range by the board's kind after the edit, and how many reads it took."""
+
+    edit: int
+    cells: int
+    summaries: int
+    value: Union[int, None, tuple[int, ...]]
+
+
+class Refreshed(NamedTuple):
+    """The answer of a refresh at a seat: after which edit the block was read, and the edit that touched it last."""
+
+    edit: int
+    version: int
+
+
+class Finished(NamedTuple):
+    """What a board came to: how many edits were accepted at all seats together, and the elements."""
+
+    edits: int
+    elements: array
+
+
+class Board(_Handle):
+    """A growable vector of elements of 16 bits that up to eight threads edit and reduce at once, without a lock.
+
+    Each thread sits down at a `Seat`. All seats' accepted edits are one list, numbered 1, 2, 3 and so on. When the seats are closed, `finish`
+    gives the elements.
+
+        >>> from livevec import Board
+        >>> with Board("sum", seats=2) as board:
+        ...     with board.sit() as one, board.sit() as two:
+        ...         one.push(30), two.push(12), one.reduce().value
+        ...     board.finish()
+        (0, 1, 42)
+        Finished(edits=2, elements=array('q', [30, 12]))
+
+    `kind` is a `Kind`, or its name: 'sum', 'least', 'greatest', 'best', 'affine', 'automaton'. There are limits of buckets, of which k have room
+    for 8 * (2**k - 1) elements, and of edits.
+
+    Raises ValueError where there is no such kind, then BadLimits and NoMemory. All memory is taken at once. It is given back by `close`, at the
+    end of a `with`, or with the object.
+    """
+
+    __slots__ = ("kind",)
+    _made_of = _BoardSlot
+
+    def __init__(self, kind: Union[Kind, str] = Kind.SUM, *, seats: int = MOST_SEATS, most_buckets: int = MOST_BOARD_BUCKETS,
+                 most_edits: int = MOST_EDITS) -> None:
+        self.kind = _kind_of(kind)
+        """What it reduces by."""
+        refusal = _board_new(self._at, self.kind.value, _as_u32(most_buckets, "most_buckets"), _as_u32(most_edits, "most_edits"), _as_u32(seats, "seats"))
+        if refusal:
+            raise _refuse(refusal)
+
+    def sit(self) -> Seat:
+        """The next seat. A seat that was closed is not dealt again. Raises NoMemory, NoSeat."""
+        seat = Seat(self.kind)
+        refusal = _board_sit(self._at, seat._at)
+        if refusal:
+            raise _refuse(refusal)
+        return seat
+
+    def finish(self) -> Finished:
+        """Ends a board whose seats are all closed, and gives what it came to. Then it is closed itself.
+
+        Raises NoMemory, SeatsOut; the board is then as it was."""
+        # the memory that Python needs is there before anything is changed
+        elements = array("q", bytes(8 * _MOST_BOARD))
+        told = _board_close(self._at)
+        if told.refusal:
+            raise _refuse(told.refusal)
+        count = _u32()
+        refusal = _closed_read(self._at, ctypes.byref(_address(elements)), len(elements), ctypes.byref(count))
+        self.close()
+        if refusal:
+            raise _refuse(refusal, count.value)
+        del elements[count.value:]
+        return Finished(told.value, elements)
+
+    def close(self) -> None:
+        """Gives the memory back; its seats stay good until they are closed. Every later call raises Closed; to close again does nothing."""
+        _free_board(self._at)
+
+    def __enter__(self) -> Board:
+        return self
+
+    def __exit__(self, *_: object) -> None:
+        self.close()
+
+    def __del__(self, _free=_free_board) -> None:  # type: ignore[no-untyped-def]
+        _free(self._at)
+
+    def __repr__(self) -> str:
+        return f"<livevec.Board of kind {self.kind.name.lower()}{'' if self._slot.full_ else ', closed'}>"
+
+
+# A call of a seat's own asks for no more tries than this, which take some milliseconds at most.
+_TRIES = 1000
+_MOST_BOARD = 8 * (2**MOST_BOARD_BUCKETS - 1)
+
+
+class Seat(_Handle):
+    """A thread's place at a `Board`, made by `Board.sit`. It stays good where the board is closed first.
+
+    Its calls release the interpreter's lock while they are in C, and wait for no other thread. A seat serves one thread at a time: a call beside
+    another at the same seat raises RuntimeError.
+
+    An edit is tried at most `tries` times, and once at least; the other calls make one try. What raises Contended or Overtaken (both are Outrun)
+    has not happened: call again, now or after other work.
+    """
+
+    __slots__ = ("kind", "_one")
+    _made_of = _SeatSlot
+
+    def __init__(self, kind: Kind) -> None:
+        self.kind = kind
+        self._one = threading.Lock()
+
+    def push(self, value: int, *, tries: int = _TRIES) -> int:
+        """Puts an element at the end, and gives its index. Raises TooWide, Worn, Full, Contended."""
+        return self._told(_seat_push, _as_short(value), _as_u32(tries, "tries")).place
+
+    def pop(self, *, tries: int = _TRIES) -> int:
+        """Drops the last element, and gives it. Raises Worn, Empty, Contended, Overtaken."""
+        return self._told(_seat_pop, _as_u32(tries, "tries")).value
+
+    def write(self, index: int, value: int, *, tries: int = _TRIES) -> int:
+        """Overwrites an element, and gives the one before. Raises TooWide, Worn, OutOfRange, Contended, Overtaken."""
+        return self._told(_seat_write, _place(operator.index(index), self), _as_short(value), _as_u32(tries, "tries")).value
+
+    def __setitem__(self, index: int, value: int) -> None:
+        self.write(index, value)
+
+    def __getitem__(self, index: int) -> int:
+        """The element at an index; a negative one counts from the end, as that was just before. Raises OutOfRange, Overtaken."""
+        return self._told(_seat_get, _place(operator.index(index), self)).value
+
+    def __len__(self) -> int:
+        return self._told(_seat_size).value
+
+    def reduce(self, lo: int = 0, hi: Optional[int] = None) -> Told:
+        """The value of a range by the board's kind, of the elements as they were after one edit.
+
+        Without `hi` the range goes up to the size just before. Raises BadRange, OutOfRange, Overtaken."""
+        did = self._told(_seat_reduce, *_ends(operator.index(lo), None if hi is None else operator.index(hi), self))
+        return Told(did.edit, did.cells, did.summaries, getattr(_values_of(did.values), self.kind.name.lower()))
+
+    def refresh(self, block: int) -> Refreshed:
+        """Computes the summary of a block, the eight elements from index 8 * block on, so that reductions read less. No answer changes.
+
+        Raises OutOfRange where not all eight are there, and Overtaken."""
+        did = self._told(_seat_refresh, _as_u32(block, "block"))
+        return Refreshed(did.edit, did.version)
+
+    def close(self) -> None:
+        """Hands the seat in. Every later call raises Closed; to close again does nothing."""
+        self._alone(_free_seat)
+
+    def __enter__(self) -> Seat:
+        return self
+
+    def __exit__(self, *_: object) -> None:
+        self.close()
+
+    def __del__(self, _free=_free_seat) -> None:  # type: ignore[no-untyped-def]
+        _free(self._at)
+
+    def __repr__(self) -> str:
+        return f"<livevec.Seat of kind {self.kind.name.lower()}{'' if self._slot.full_ else ', closed'}>"
+
+    # Within.
+
+    def _alone(self, call, *arguments: int):  # type: ignore[no-untyped-def]
+        """A call while no other is at the slot."""
+        if not self._one.acquire(False):
+            raise RuntimeError("a seat serves one thread at a time")
+        try:
+            return call(self._at, *arguments)
+        finally:
+            self._one.release()
+
+    def _told(self, call, *arguments: int):  # type: ignore[no-untyped-def]
+        did = self._alone(call, *arguments)
+        if did.refusal:
+            raise _refuse(did.refusal, getattr(did, "detail", 0))
+        return did
+
+
+_KINDS = {it.name.lower(): it for it in Kind}
+
+
+def _kind_of(kind: Union[Kind, str]) -> Kind:
+    found = kind if isinstance(kind, Kind) else _KINDS.get(kind)
+    if found is None:
+        raise ValueError(f"{kind!r} is not a kind: these are {', '.join(_KINDS)}")
+    return found
+
+
+def _as_short(value: int) -> int:
+    """An element as C wants it. What C can't be given it is given as one that it refuses."""
+    return max(_LEAST_I64, min(operator.index(value), _MOST_I64))
+
+
+# --- Indices, ranges and buffers ---
+
+
+def _place(index: int, holder: Union[Vector, Seat]) -> int:
     """An index as C wants it, where a negative one counts from the end. What C can't be given it is given as one that it refuses."""
     if index < 0:
         index += len(holder)
     return index if 0 <= index < _MOST_U32 else _MOST_U32
 
 
-def _ends(lo: int, hi: Optional[int], holder: Vector) -> tuple[int, int]:
+def _ends(lo: int, hi: Optional[int], holder: Union[Vector, Seat]) -> tuple[int, int]:
     """A range as C wants it, where a negative end counts from the end."""
     if hi is not None and 0 <= lo <= _MOST_U32 and 0 <= hi <= _MOST_U32:
         return lo, hi

@@ -3,6 +3,8 @@
 //! The library is written and proved in Rattle. This crate binds its C form, `liblivevec.a`; `build.rs` says where it is looked for.
 //! The library's calls are proved, the crate over them is tested.
 //!
+//! A [`Vector`] is one thread's at a time. A [`Board`] is for several at once, without a lock, of elements of 16 bits.
+//!
 //! ```
 //! use livevec::Vector;
 //!
@@ -18,12 +20,14 @@
 #![warn(missing_docs, missing_debug_implementations)]
 #![deny(unsafe_code)]
 
+mod board;
 #[allow(unsafe_code)]
 mod raw;
 mod refusal;
 mod values;
 mod vector;
 
+pub use board::{Board, Closed, Kind, NotClosed, Refreshed, Seat, Told, Value};
 pub use refusal::Refusal;
 pub use values::{Accepted, Edit, Limits, Node, Popped, Pushed, Reduced, Reserved, Stopped, Swapped, Truncated, Values, Written};
 pub use vector::{Beginnings, Elements, Job, Outcome, Scan, Vector};

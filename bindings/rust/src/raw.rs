@@ -3,8 +3,8 @@
 //! What C asks of who calls, and how it is kept here:
 //! - A slot starts as zeros: [`Slot::empty`].
 //! - A slot is never copied or moved: it lies in a box of its own, which lives as long as the handle, and no one is given the slot itself.
-//! - A slot serves one call at a time: a handle of a vector or an outcome is not `Sync`, so that its `&self` calls stay on one thread,
-//!   and none of the C calls calls back. A job's slot is used by calls that own or borrow the job alone.
+//! - A slot serves one call at a time: a handle of a vector, an outcome, a board or a seat is not `Sync`, so that its `&self` calls stay
+//!   on one thread, and none of the C calls calls back. A job's slot is used by calls that own or borrow the job alone.
 
 use std::alloc::{Layout, alloc};
 use std::cell::UnsafeCell;
@@ -13,7 +13,7 @@ use std::ptr;
 
 use crate::{Edit, Refusal};
 
-/// A slot of C: `livevec_vector`, `livevec_job` and `livevec_outcome` are alike.
+/// A slot of C: `livevec_vector`, `livevec_job`, `livevec_outcome`, `livevec_board` and `livevec_seat` are alike.
 #[repr(C)]
 struct Slot {
     full: bool,
@@ -107,6 +107,14 @@ pub(crate) struct Became {
 }
 
 #[repr(C)]
+pub(crate) struct Renewed {
+    refusal: u32,
+    detail: u32,
+    pub(crate) edit: u32,
+    pub(crate) version: u32,
+}
+
+#[repr(C)]
 struct Vetted {
     refusal: u32,
     yes: bool,
@@ -152,6 +160,21 @@ unsafe extern "C" {
     fn livevec_verdict_reserve(slot: *mut Slot, elements: u32) -> Verdict;
     fn livevec_verdict_swap(slot: *mut Slot, first: u32, second: u32) -> Verdict;
     fn livevec_verdict_truncate(slot: *mut Slot, elements: u32) -> Verdict;
+    fn livevec_board_new(slot: *mut Slot, kind: u32, buckets: u32, edits: u32, seats: u32) -> u32;
+    fn livevec_board_sit(board: *mut Slot, seat: *mut Slot) -> u32;
+    fn livevec_board_close(board: *mut Slot) -> Count;
+    fn livevec_closed_size(board: *mut Slot) -> Count;
+    fn livevec_closed_get(board: *mut Slot, index: u32) -> Element;
+    fn livevec_closed_read(board: *mut Slot, buffer: *mut i64, room: usize, count: *mut u32) -> u32;
+    fn livevec_seat_push(seat: *mut Slot, value: i64, tries: u32) -> Edited;
+    fn livevec_seat_pop(seat: *mut Slot, tries: u32) -> Edited;
+    fn livevec_seat_write(seat: *mut Slot, index: u32, value: i64, tries: u32) -> Edited;
+    fn livevec_seat_get(seat: *mut Slot, index: u32) -> Element;
+    fn livevec_seat_size(seat: *mut Slot) -> Count;
+    fn livevec_seat_reduce(seat: *mut Slot, lo: u32, hi: u32) -> Reduced;
+    fn livevec_seat_refresh(seat: *mut Slot, block: u32) -> Renewed;
+    fn livevec_free_board(board: *mut Slot) -> u32;
+    fn livevec_free_seat(seat: *mut Slot) -> u32;
 }
 
 /// The answer where there is no refusal.
@@ -407,3 +430,127 @@ pub(crate) struct Outcome {
 // SAFETY: an outcome holds nothing of its vector, and between calls its slot may go to another thread. It is not `Sync`, by its cells:
 // two vectors on two threads could be handed the same outcome.
 unsafe impl Send for Outcome {}
+
+/// A board of C, open or closed. Its slot is full from `new` to the drop.
+pub(crate) struct Board {
+    slot: Box<UnsafeCell<Slot>>,
+}
+
+// SAFETY: between calls a slot may go to another thread, says the header. A `Board` that is sent is owned, so no call of it is under way;
+// what goes on at its seats meanwhile is at slots of their own. It is not `Sync`, by its cell.
+unsafe impl Send for Board {}
+
+impl Board {
+    pub(crate) fn new(kind: u32, buckets: u32, edits: u32, seats: u32) -> Result<Board, Refusal> {
+        let slot = boxed(Slot::empty())?;
+        // SAFETY: the slot is empty, and lies in its box until it is dropped.
+        answered(unsafe { livevec_board_new(slot.get(), kind, buckets, edits, seats) }, 0, ())?;
+        Ok(Board { slot })
+    }
+
+    // For each call below: the slot is full, since `self` was made, and no other call is at it, since `self` is not `Sync` and C never
+    // calls back. Which calls an open or a closed board answers C tells by refusal.
+
+    pub(crate) fn sit(&mut self) -> Result<Seat, Refusal> {
+        let slot = boxed(Slot::empty())?;
+        // SAFETY: see above; the seat's slot is empty, and lies in its box until it is dropped.
+        answered(unsafe { livevec_board_sit(self.slot.get(), slot.get()) }, 0, ())?;
+        Ok(Seat { slot })
+    }
+
+    /// Closes the board, and tells how many edits were accepted.
+    pub(crate) fn close(&mut self) -> Result<u32, Refusal> {
+        // SAFETY: see above.
+        let told = unsafe { livevec_board_close(self.slot.get()) };
+        answered(told.refusal, 0, told.value)
+    }
+
+    /// How many elements the closed board has.
+    pub(crate) fn closed_size(&self) -> u32 {
+        // SAFETY: see above.
+        unsafe { livevec_closed_size(self.slot.get()) }.value
+    }
+
+    pub(crate) fn closed_get(&self, index: u32) -> Result<i64, Refusal> {
+        // SAFETY: see above.
+        let found = unsafe { livevec_closed_get(self.slot.get(), index) };
+        answered(found.refusal, found.detail, found.value)
+    }
+
+    /// Fills the front of a buffer with the elements of the closed board, and tells how many they are.
+    pub(crate) fn closed_read(&self, buffer: &mut [i64]) -> Result<usize, Refusal> {
+        let mut count = 0;
+        // SAFETY: see above; at most so many elements are written as the buffer has, and the count is written to during the call.
+        let refusal = unsafe { livevec_closed_read(self.slot.get(), buffer.as_mut_ptr(), buffer.len(), &mut count) };
+        answered(refusal, count, count as usize)
+    }
+}
+
+impl Drop for Board {
+    fn drop(&mut self) {
+        // SAFETY: the slot is full, and nothing calls it any more. Seats that are out stay good, says the header.
+        unsafe { livevec_free_board(self.slot.get()) };
+    }
+}
+
+/// A seat of C. Its slot is full from `sit` to the drop.
+pub(crate) struct Seat {
+    slot: Box<UnsafeCell<Slot>>,
+}
+
+// SAFETY: each seat has a slot of its own, and calls at several seats of a board may run at once on several threads, says the header.
+// A `Seat` that is sent is owned, so no call of it is under way. It is not `Sync`, by its cell.
+unsafe impl Send for Seat {}
+
+impl Seat {
+    // For each call below: the slot is full, since `self` was made, and no other call is at it, since `self` is not `Sync` and C never
+    // calls back.
+
+    pub(crate) fn push(&mut self, value: i64, tries: u32) -> Result<Edited, Refusal> {
+        // SAFETY: see above.
+        let did = unsafe { livevec_seat_push(self.slot.get(), value, tries) };
+        answered(did.refusal, did.detail, did)
+    }
+
+    pub(crate) fn pop(&mut self, tries: u32) -> Result<Edited, Refusal> {
+        // SAFETY: see above.
+        let did = unsafe { livevec_seat_pop(self.slot.get(), tries) };
+        answered(did.refusal, did.detail, did)
+    }
+
+    pub(crate) fn write(&mut self, index: u32, value: i64, tries: u32) -> Result<Edited, Refusal> {
+        // SAFETY: see above.
+        let did = unsafe { livevec_seat_write(self.slot.get(), index, value, tries) };
+        answered(did.refusal, did.detail, did)
+    }
+
+    pub(crate) fn get(&self, index: u32) -> Result<i64, Refusal> {
+        // SAFETY: see above.
+        let found = unsafe { livevec_seat_get(self.slot.get(), index) };
+        answered(found.refusal, found.detail, found.value)
+    }
+
+    pub(crate) fn size(&self) -> u32 {
+        // SAFETY: see above.
+        unsafe { livevec_seat_size(self.slot.get()) }.value
+    }
+
+    pub(crate) fn reduce(&self, lo: u32, hi: u32) -> Result<Reduced, Refusal> {
+        // SAFETY: see above.
+        let did = unsafe { livevec_seat_reduce(self.slot.get(), lo, hi) };
+        answered(did.refusal, did.detail, did)
+    }
+
+    pub(crate) fn refresh(&self, block: u32) -> Result<Renewed, Refusal> {
+        // SAFETY: see above.
+        let did = unsafe { livevec_seat_refresh(self.slot.get(), block) };
+        answered(did.refusal, did.detail, did)
+    }
+}
+
+impl Drop for Seat {
+    fn drop(&mut self) {
+        // SAFETY: the slot is full, and nothing calls it any more.
+        unsafe { livevec_free_seat(self.slot.get()) };
+    }
+}

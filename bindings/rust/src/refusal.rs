@@ -45,11 +45,27 @@ pub enum Refusal {
     BadTable,
     /// 15: an outcome that is not of a job of this vector.
     Stranger,
+    /// 16: an element of a board outside `-32768..=32767`.
+    TooWide,
+    /// 17: another seat's edit came first. Nothing has happened, and the call may be made again: see [`Refusal::is_outrun`].
+    Contended {
+        /// The number of that edit.
+        edit: u32,
+    },
+    /// 18: a later edit wrote where the call read. Nothing has happened, and the call may be made again: see [`Refusal::is_outrun`].
+    Overtaken {
+        /// The number of that edit.
+        edit: u32,
+    },
     /// 103: a buffer shorter than what it should take.
     ShortBuffer {
         /// How many values it should take.
         wanted: u32,
     },
+    /// 105: as many seats were taken as the board was made for.
+    NoSeat,
+    /// 106: a seat of the board is not dropped yet.
+    SeatsOut,
     /// Any other number. No call of this crate gives it today.
     Other {
         /// The number.
@@ -58,7 +74,7 @@ pub enum Refusal {
 }
 
 impl Refusal {
-    /// The refusal of a number and its detail (a size, a limit or a length), as C gives them.
+    /// The refusal of a number and its detail (a size, a limit, an edit or a length), as C gives them.
     pub(crate) fn of(number: u32, detail: u32) -> Refusal {
         match number {
             1 => Refusal::Worn,
@@ -71,7 +87,12 @@ impl Refusal {
             8 => Refusal::BadLimits,
             9 => Refusal::BadTable,
             15 => Refusal::Stranger,
+            16 => Refusal::TooWide,
+            17 => Refusal::Contended { edit: detail },
+            18 => Refusal::Overtaken { edit: detail },
             103 => Refusal::ShortBuffer { wanted: detail },
+            105 => Refusal::NoSeat,
+            106 => Refusal::SeatsOut,
             number => Refusal::Other { number },
         }
     }
@@ -89,9 +110,33 @@ impl Refusal {
             Refusal::BadLimits => 8,
             Refusal::BadTable => 9,
             Refusal::Stranger => 15,
+            Refusal::TooWide => 16,
+            Refusal::Contended { .. } => 17,
+            Refusal::Overtaken { .. } => 18,
             Refusal::ShortBuffer { .. } => 103,
+            Refusal::NoSeat => 105,
+            Refusal::SeatsOut => 106,
             Refusal::Other { number } => number,
         }
+    }
+
+    /// Whether another seat's edit alone stood in the way (`Contended`, `Overtaken`), so that the same call may go through if it is made
+    /// again.
+    ///
+    /// ```
+    /// use livevec::{Pushed, Refusal, Seat};
+    ///
+    /// fn insist(seat: &mut Seat, value: i64) -> Result<Pushed, Refusal> {
+    ///     loop {
+    ///         match seat.push(value, 100) {
+    ///             Err(refusal) if refusal.is_outrun() => std::thread::yield_now(),
+    ///             answer => return answer,
+    ///         }
+    ///     }
+    /// }
+    /// ```
+    pub fn is_outrun(self) -> bool {
+        matches!(self, Refusal::Contended { .. } | Refusal::Overtaken { .. })
     }
 }
 
@@ -108,6 +153,11 @@ impl fmt::Display for Refusal {
             Refusal::BadLimits => f.write_str("limits outside their ranges"),
             Refusal::BadTable => f.write_str("a table with an entry above 7"),
             Refusal::Stranger => f.write_str("an outcome that is not of a job of this vector"),
+            Refusal::TooWide => f.write_str("an element of a board outside -32768 to 32767"),
+            Refusal::Contended { edit } => write!(f, "contended: edit {edit} came first"),
+            Refusal::Overtaken { edit } => write!(f, "overtaken: edit {edit} wrote there"),
+            Refusal::NoSeat => f.write_str("no seat is left"),
+            Refusal::SeatsOut => f.write_str("seats are out"),
             Refusal::ShortBuffer { wanted } => write!(f, "a buffer shorter than the {wanted} values"),
             Refusal::Other { number } => write!(f, "refused {number}"),
         }

@@ -4,7 +4,7 @@ use std::ops::{Bound, RangeBounds};
 use crate::Refusal;
 use crate::raw::SixValues;
 
-/// How many buckets and edits a vector may come to have.
+/// How many buckets and edits a vector or a board may come to have.
 ///
 /// `k` buckets have room for `8 * (2^k - 1)` elements.
 ///
@@ -25,6 +25,9 @@ pub struct Limits {
 impl Limits {
     /// The greatest limits of a vector: 17 buckets and 16,777,215 edits.
     pub const GREATEST: Limits = Limits { buckets: 17, edits: 16_777_215 };
+
+    /// The greatest limits of a board: 9 buckets and 16,777,215 edits.
+    pub const GREATEST_BOARD: Limits = Limits { buckets: 9, edits: 16_777_215 };
 
     /// Refused [`BadLimits`](Refusal::BadLimits) unless `buckets` is in `1..=17` and `edits` in `1..=16_777_215`.
     pub const fn new(buckets: u32, edits: u32) -> Result<Limits, Refusal> {

@@ -1,0 +1,15 @@
+/* What the tests of livevec.h share. */
+#ifndef TESTS_H
+#define TESTS_H
+
+#include "livevec.h"
+
+/* Counts a check, and says where it fails. Of one thread at a time. */
+void is(const char *file, int line, const char *what, long long got, long long wanted);
+
+#define IS(got, wanted) is(__FILE__, __LINE__, #got, (long long)(got), (long long)(wanted))
+
+/* The tests of boards and seats. */
+void boards(void);
+
+#endif

@@ -1,0 +1,535 @@
+/* Good and bad use of boards and their seats. Each expected value is worked out by hand, or follows from the rules. */
+#include "tests.h"
+
+#include <pthread.h>
+#include <stdlib.h>
+
+static const livevec_board empty_board;
+static const livevec_seat empty_seat;
+
+/* Where one thread alone edits, one try is enough. */
+enum { ONCE = 1 };
+
+/* A board with one seat. */
+static void open_with_seat(livevec_board *board, livevec_seat *seat, livevec_kind kind, uint32_t buckets, uint32_t edits)
+{
+    IS(livevec_board_new(board, kind, buckets, edits, 1), LIVEVEC_OK);
+    IS(livevec_board_sit(board, seat), LIVEVEC_OK);
+}
+
+static void free_both(livevec_board *board, livevec_seat *seat)
+{
+    IS(livevec_free_seat(seat), LIVEVEC_OK);
+    IS(livevec_free_board(board), LIVEVEC_OK);
+}
+
+/* Limits, kinds and numbers of seats. */
+static void births(void)
+{
+    livevec_board b = empty_board;
+    IS(livevec_board_new(&b, LIVEVEC_AUTOMATON + 1, 9, 10, 1), LIVEVEC_BAD_LIMITS);
+    IS(livevec_board_new(&b, UINT32_MAX, 9, 10, 1), LIVEVEC_BAD_LIMITS);
+    IS(livevec_board_new(&b, LIVEVEC_SUM, 0, 10, 1), LIVEVEC_BAD_LIMITS);
+    IS(livevec_board_new(&b, LIVEVEC_SUM, 10, 10, 1), LIVEVEC_BAD_LIMITS);
+    IS(livevec_board_new(&b, LIVEVEC_SUM, 9, 0, 1), LIVEVEC_BAD_LIMITS);
+    IS(livevec_board_new(&b, LIVEVEC_SUM, 9, 16777216, 1), LIVEVEC_BAD_LIMITS);
+    IS(livevec_board_new(&b, LIVEVEC_SUM, 9, 10, 0), LIVEVEC_BAD_LIMITS);
+    IS(livevec_board_new(&b, LIVEVEC_SUM, 9, 10, 9), LIVEVEC_BAD_LIMITS);
+    IS(livevec_free_board(&b), LIVEVEC_NO_HANDLE);
+    IS(livevec_board_new(&b, LIVEVEC_SUM, 9, 16777215, 8), LIVEVEC_OK);
+    IS(livevec_board_new(&b, LIVEVEC_SUM, 9, 10, 8), LIVEVEC_IN_USE);
+    IS(livevec_free_board(&b), LIVEVEC_OK);
+}
+
+/* Two seats of two, and no third, not even where one is freed. */
+static void sitting(void)
+{
+    livevec_board b = empty_board;
+    livevec_seat one = empty_seat, two = empty_seat, three = empty_seat;
+    IS(livevec_board_new(&b, LIVEVEC_SUM, 1, 10, 2), LIVEVEC_OK);
+    IS(livevec_board_sit(&b, &one), LIVEVEC_OK);
+    IS(livevec_board_sit(&b, &one), LIVEVEC_IN_USE);
+    IS(livevec_board_sit(&b, &two), LIVEVEC_OK);
+    IS(livevec_board_sit(&b, &three), LIVEVEC_NO_SEAT);
+    IS(livevec_seat_push(&three, 1, ONCE).refusal, LIVEVEC_NO_HANDLE);
+    IS(livevec_free_seat(&one), LIVEVEC_OK);
+    IS(livevec_board_sit(&b, &three), LIVEVEC_NO_SEAT);
+    /* a seat outlives its board */
+    IS(livevec_free_board(&b), LIVEVEC_OK);
+    IS(livevec_seat_push(&two, 7, ONCE).edit, 1);
+    IS(livevec_seat_get(&two, 0).value, 7);
+    IS(livevec_free_seat(&two), LIVEVEC_OK);
+}
+
+/* Edits at two seats are one list; each refusal of an edit, in order. */
+static void edits(void)
+{
+    livevec_board b = empty_board;
+    livevec_seat one = empty_seat, two = empty_seat;
+    IS(livevec_board_new(&b, LIVEVEC_SUM, 1, 13, 2), LIVEVEC_OK);
+    IS(livevec_board_sit(&b, &one), LIVEVEC_OK);
+    IS(livevec_board_sit(&b, &two), LIVEVEC_OK);
+    IS(livevec_seat_size(&one).value, 0);
+    IS(livevec_seat_pop(&one, ONCE).refusal, LIVEVEC_EMPTY);
+    livevec_edited e = livevec_seat_push(&one, -32768, ONCE);
+    IS(e.refusal, LIVEVEC_OK);
+    IS(e.edit, 1);
+    IS(e.place, 0);
+    e = livevec_seat_push(&two, 32767, 0); /* no tries are one try */
+    IS(e.edit, 2);
+    IS(e.place, 1);
+    IS(livevec_seat_push(&one, -32769, ONCE).refusal, LIVEVEC_TOO_WIDE);
+    IS(livevec_seat_push(&one, 32768, ONCE).refusal, LIVEVEC_TOO_WIDE);
+    IS(livevec_seat_write(&one, 9, INT64_MIN, ONCE).refusal, LIVEVEC_TOO_WIDE);
+    e = livevec_seat_write(&two, 0, 5, UINT32_MAX);
+    IS(e.edit, 3);
+    IS(e.value, -32768);
+    e = livevec_seat_write(&two, 2, 5, ONCE);
+    IS(e.refusal, LIVEVEC_OUT_OF_RANGE);
+    IS(e.detail, 2);
+    IS(e.edit, 0);
+    IS(livevec_seat_get(&one, 0).value, 5);
+    IS(livevec_seat_get(&one, 1).value, 32767);
+    livevec_element none = livevec_seat_get(&one, 2);
+    IS(none.refusal, LIVEVEC_OUT_OF_RANGE);
+    IS(none.detail, 2);
+    e = livevec_seat_pop(&one, ONCE);
+    IS(e.edit, 4);
+    IS(e.value, 32767);
+    for (int64_t i = 1; i < 8; i++)
+        IS(livevec_seat_push(&two, i, ONCE).place, i);
+    IS(livevec_seat_push(&one, 8, ONCE).refusal, LIVEVEC_FULL);
+    IS(livevec_seat_pop(&one, ONCE).edit, 12);
+    IS(livevec_seat_push(&one, 8, ONCE).edit, 13);
+    IS(livevec_seat_pop(&two, ONCE).refusal, LIVEVEC_WORN);
+    IS(livevec_seat_push(&two, 32768, ONCE).refusal, LIVEVEC_TOO_WIDE);
+    IS(livevec_seat_size(&two).value, 8);
+    IS(livevec_free_seat(&one), LIVEVEC_OK);
+    free_both(&b, &two);
+}
+
+/* The values of 4, -6, 1027, 1025 by one kind; the first seven fields of `wanted` are looked at, and the automaton's state from 0. */
+static void reduces_by(livevec_kind kind, livevec_values wanted)
+{
+    static const int64_t elements[] = {4, -6, 1027, 1025};
+    livevec_board b = empty_board;
+    livevec_seat s = empty_seat;
+    open_with_seat(&b, &s, kind, 9, 100);
+    for (int i = 0; i < 4; i++)
+        IS(livevec_seat_push(&s, elements[i], ONCE).edit, i + 1);
+    livevec_reduced r = livevec_seat_reduce(&s, 0, 4);
+    IS(r.refusal, LIVEVEC_OK);
+    IS(r.edit, 4);
+    IS(r.cells, 4);
+    IS(r.summaries, 0);
+    IS(r.values.any, true);
+    IS(r.values.sum, wanted.sum);
+    IS(r.values.least, wanted.least);
+    IS(r.values.greatest, wanted.greatest);
+    IS(r.values.best_low, wanted.best_low);
+    IS(r.values.best_high, wanted.best_high);
+    IS(r.values.affine_a, wanted.affine_a);
+    IS(r.values.affine_b, wanted.affine_b);
+    IS(r.values.automaton[0], wanted.automaton[0]);
+    IS(livevec_seat_reduce(&s, 2, 2).refusal, LIVEVEC_OK);
+    IS(livevec_seat_reduce(&s, 2, 2).values.any, false);
+    IS(livevec_seat_reduce(&s, 5, 4).refusal, LIVEVEC_BAD_RANGE);
+    r = livevec_seat_reduce(&s, 0, 5);
+    IS(r.refusal, LIVEVEC_OUT_OF_RANGE);
+    IS(r.detail, 4);
+    IS(r.edit, 0);
+    free_both(&b, &s);
+}
+
+/* As in tests.c, where each is worked out; the other kinds' values are 0. */
+static void reductions(void)
+{
+    reduces_by(LIVEVEC_SUM, (livevec_values){.sum = 2050});
+    reduces_by(LIVEVEC_LEAST, (livevec_values){.least = -6});
+    reduces_by(LIVEVEC_GREATEST, (livevec_values){.greatest = 1027});
+    reduces_by(LIVEVEC_BEST, (livevec_values){.best_low = 2052});
+    reduces_by(LIVEVEC_AFFINE, (livevec_values){.affine_b = 3949});
+    reduces_by(LIVEVEC_AUTOMATON, (livevec_values){.automaton = {7}});
+}
+
+/* A block's summary is read in place of its eight cells, until an edit touches it. */
+static void refreshes(void)
+{
+    livevec_board b = empty_board;
+    livevec_seat s = empty_seat;
+    open_with_seat(&b, &s, LIVEVEC_SUM, 2, 100);
+    for (int64_t i = 0; i < 7; i++)
+        IS(livevec_seat_push(&s, i, ONCE).refusal, LIVEVEC_OK);
+    livevec_renewed r = livevec_seat_refresh(&s, 0);
+    IS(r.refusal, LIVEVEC_OUT_OF_RANGE);
+    IS(r.detail, 7);
+    IS(livevec_seat_push(&s, 7, ONCE).edit, 8);
+    IS(livevec_seat_push(&s, 100, ONCE).edit, 9);
+    r = livevec_seat_refresh(&s, 0);
+    IS(r.refusal, LIVEVEC_OK);
+    IS(r.edit, 9);
+    IS(r.version, 8);
+    livevec_reduced told = livevec_seat_reduce(&s, 0, 9);
+    IS(told.values.sum, 128);
+    IS(told.cells, 1);
+    IS(told.summaries, 1);
+    IS(livevec_seat_write(&s, 3, -3, ONCE).edit, 10);
+    told = livevec_seat_reduce(&s, 0, 9);
+    IS(told.values.sum, 122);
+    IS(told.cells, 9);
+    IS(told.summaries, 0);
+    IS(livevec_seat_refresh(&s, UINT32_MAX).refusal, LIVEVEC_OUT_OF_RANGE);
+    free_both(&b, &s);
+}
+
+/* A board closes once its seats are freed, one of them never taken. */
+static void closes(void)
+{
+    livevec_board b = empty_board;
+    livevec_seat s = empty_seat;
+    int64_t read[3] = {-1, -1, -1};
+    uint32_t count = 77;
+    IS(livevec_board_new(&b, LIVEVEC_LEAST, 9, 100, 2), LIVEVEC_OK);
+    IS(livevec_board_sit(&b, &s), LIVEVEC_OK);
+    IS(livevec_seat_push(&s, 11, ONCE).edit, 1);
+    IS(livevec_closed_size(&b).refusal, LIVEVEC_NO_HANDLE);
+    IS(livevec_closed_read(&b, read, 3, &count), LIVEVEC_NO_HANDLE);
+    IS(count, 77);
+    IS(livevec_board_close(&b).refusal, LIVEVEC_SEATS_OUT);
+    IS(livevec_board_close(&b).value, 0);
+    /* nothing has changed by that */
+    IS(livevec_seat_push(&s, -12, ONCE).edit, 2);
+    IS(livevec_seat_push(&s, 13, ONCE).edit, 3);
+    IS(livevec_seat_write(&s, 0, 14, ONCE).edit, 4);
+    IS(livevec_free_seat(&s), LIVEVEC_OK);
+    livevec_count closed = livevec_board_close(&b);
+    IS(closed.refusal, LIVEVEC_OK);
+    IS(closed.value, 4);
+    IS(livevec_board_close(&b).refusal, LIVEVEC_NO_HANDLE);
+    IS(livevec_board_sit(&b, &s), LIVEVEC_NO_HANDLE);
+    IS(livevec_closed_size(&b).value, 3);
+    IS(livevec_closed_get(&b, 1).value, -12);
+    livevec_element none = livevec_closed_get(&b, 3);
+    IS(none.refusal, LIVEVEC_OUT_OF_RANGE);
+    IS(none.detail, 3);
+    IS(livevec_closed_read(&b, read, 2, &count), LIVEVEC_SHORT_BUFFER);
+    IS(count, 3);
+    IS(read[0], -1);
+    IS(livevec_closed_read(&b, read, 3, &count), LIVEVEC_OK);
+    IS(count, 3);
+    IS(read[0], 14);
+    IS(read[1], -12);
+    IS(read[2], 13);
+    IS(livevec_free_board(&b), LIVEVEC_OK);
+    IS(livevec_closed_size(&b).refusal, LIVEVEC_NO_HANDLE);
+    IS(livevec_free_board(&b), LIVEVEC_NO_HANDLE);
+    /* a board that nobody sat at */
+    IS(livevec_board_new(&b, LIVEVEC_LEAST, 1, 1, 8), LIVEVEC_OK);
+    IS(livevec_board_close(&b).value, 0);
+    IS(livevec_closed_read(&b, read, 0, &count), LIVEVEC_OK);
+    IS(count, 0);
+    IS(livevec_free_board(&b), LIVEVEC_OK);
+}
+
+/* --- Want of memory. The linker has the archive call these three in place of the C library's (--wrap). --- */
+
+void *__real_malloc(size_t size);
+void *__real_calloc(size_t count, size_t size);
+void *__real_realloc(void *old, size_t size);
+void *__wrap_malloc(size_t size);
+void *__wrap_calloc(size_t count, size_t size);
+void *__wrap_realloc(void *old, size_t size);
+
+/* How many requests from here the one is that fails; 0 where none does, as always while there are several threads. */
+static int until_failure;
+
+static bool fails(void)
+{
+    return until_failure > 0 && --until_failure == 0;
+}
+
+void *__wrap_malloc(size_t size)
+{
+    return fails() ? NULL : __real_malloc(size);
+}
+
+void *__wrap_calloc(size_t count, size_t size)
+{
+    return fails() ? NULL : __real_calloc(count, size);
+}
+
+void *__wrap_realloc(void *old, size_t size)
+{
+    return fails() ? NULL : __real_realloc(old, size);
+}
+
+/* Lets each request for memory of a call fail, one at a time, until the call is through. Tells how many were refused, -1 for any other answer. */
+static int starved(uint32_t (*call)(void))
+{
+    for (int refused = 0;; refused++) {
+        until_failure = refused + 1;
+        uint32_t refusal = call();
+        until_failure = 0;
+        if (refusal != LIVEVEC_NO_MEMORY)
+            return refusal == LIVEVEC_OK ? refused : -1;
+    }
+}
+
+static livevec_board short_board;
+static livevec_seat short_seat;
+
+static uint32_t makes(void)
+{
+    return livevec_board_new(&short_board, LIVEVEC_AFFINE, 9, 100, 8);
+}
+
+static uint32_t sits(void)
+{
+    return livevec_board_sit(&short_board, &short_seat);
+}
+
+static uint32_t ends(void)
+{
+    return livevec_board_close(&short_board).refusal;
+}
+
+/* A call that wants memory is refused where there is none, and goes through unharmed later. */
+static void want_of_memory(void)
+{
+    IS(starved(makes) > 0, true);
+    IS(starved(sits) > 0, true);
+    IS(livevec_seat_push(&short_seat, 42, ONCE).edit, 1);
+    IS(livevec_free_seat(&short_seat), LIVEVEC_OK);
+    IS(starved(ends) > 0, true);
+    IS(livevec_closed_get(&short_board, 0).value, 42);
+    IS(livevec_free_board(&short_board), LIVEVEC_OK);
+    /* no other call wants any */
+    IS(livevec_board_new(&short_board, LIVEVEC_SUM, 9, 100, 1), LIVEVEC_OK);
+    IS(livevec_board_sit(&short_board, &short_seat), LIVEVEC_OK);
+    until_failure = 1;
+    for (int64_t i = 0; i < 9; i++)
+        IS(livevec_seat_push(&short_seat, i, ONCE).refusal, LIVEVEC_OK);
+    IS(livevec_seat_write(&short_seat, 0, 1, ONCE).refusal, LIVEVEC_OK);
+    IS(livevec_seat_refresh(&short_seat, 0).refusal, LIVEVEC_OK);
+    IS(livevec_seat_reduce(&short_seat, 0, 9).values.sum, 37);
+    IS(livevec_seat_pop(&short_seat, ONCE).refusal, LIVEVEC_OK);
+    IS(livevec_free_seat(&short_seat), LIVEVEC_OK);
+    IS(livevec_free_board(&short_board), LIVEVEC_OK);
+    until_failure = 0;
+}
+
+/* Every call at a seat's slot that holds no seat. */
+static void no_seat_is_at(livevec_seat *slot)
+{
+    IS(livevec_seat_push(slot, 1, ONCE).refusal, LIVEVEC_NO_HANDLE);
+    IS(livevec_seat_pop(slot, ONCE).refusal, LIVEVEC_NO_HANDLE);
+    IS(livevec_seat_write(slot, 0, 1, ONCE).refusal, LIVEVEC_NO_HANDLE);
+    IS(livevec_seat_get(slot, 0).refusal, LIVEVEC_NO_HANDLE);
+    IS(livevec_seat_size(slot).refusal, LIVEVEC_NO_HANDLE);
+    IS(livevec_seat_reduce(slot, 0, 0).refusal, LIVEVEC_NO_HANDLE);
+    IS(livevec_seat_refresh(slot, 0).refusal, LIVEVEC_NO_HANDLE);
+}
+
+/* Every call at a board's slot that holds neither an open nor a closed board. */
+static void no_board_is_at(livevec_board *slot)
+{
+    livevec_seat s = empty_seat;
+    int64_t buffer[1];
+    uint32_t count;
+    IS(livevec_board_sit(slot, &s), LIVEVEC_NO_HANDLE);
+    IS(livevec_board_close(slot).refusal, LIVEVEC_NO_HANDLE);
+    IS(livevec_closed_size(slot).refusal, LIVEVEC_NO_HANDLE);
+    IS(livevec_closed_get(slot, 0).refusal, LIVEVEC_NO_HANDLE);
+    IS(livevec_closed_read(slot, buffer, 1, &count), LIVEVEC_NO_HANDLE);
+}
+
+/* Slots that are empty, freed, or hold something else. */
+static void misuse(void)
+{
+    livevec_vector v = {0};
+    livevec_board b = empty_board;
+    livevec_seat s = empty_seat;
+    no_board_is_at(&b);
+    no_seat_is_at(&s);
+    IS(livevec_free_seat(&s), LIVEVEC_NO_HANDLE);
+    IS(livevec_new(&v, 1, 9), LIVEVEC_OK);
+    no_board_is_at((livevec_board *)(void *)&v);
+    no_seat_is_at((livevec_seat *)(void *)&v);
+    IS(livevec_size(&v).value, 0);
+    open_with_seat(&b, &s, LIVEVEC_SUM, 1, 9);
+    no_board_is_at((livevec_board *)(void *)&s);
+    no_seat_is_at((livevec_seat *)(void *)&b);
+    IS(livevec_push((livevec_vector *)(void *)&b, 1).refusal, LIVEVEC_NO_HANDLE);
+    IS(livevec_push((livevec_vector *)(void *)&s, 1).refusal, LIVEVEC_NO_HANDLE);
+    IS(livevec_size((livevec_vector *)(void *)&s).refusal, LIVEVEC_NO_HANDLE);
+    IS(livevec_seat_push(&s, 1, ONCE).edit, 1);
+    IS(livevec_free_seat(&s), LIVEVEC_OK);
+    no_seat_is_at(&s);
+    IS(livevec_free_seat(&s), LIVEVEC_NO_HANDLE);
+    IS(livevec_board_close(&b).value, 1);
+    no_seat_is_at((livevec_seat *)(void *)&b);
+    IS(livevec_free_board(&b), LIVEVEC_OK);
+    no_board_is_at(&b);
+    IS(livevec_free_board(&b), LIVEVEC_NO_HANDLE);
+    IS(livevec_free(&v), LIVEVEC_OK);
+}
+
+static void null(void)
+{
+    livevec_board b = empty_board;
+    livevec_seat s = empty_seat;
+    int64_t buffer[1];
+    uint32_t count;
+    IS(livevec_board_new(NULL, LIVEVEC_SUM, 1, 1, 1), LIVEVEC_NULL);
+    IS(livevec_board_sit(NULL, &s), LIVEVEC_NULL);
+    IS(livevec_board_sit(&b, NULL), LIVEVEC_NULL);
+    IS(livevec_board_close(NULL).refusal, LIVEVEC_NULL);
+    IS(livevec_closed_size(NULL).refusal, LIVEVEC_NULL);
+    IS(livevec_closed_get(NULL, 0).refusal, LIVEVEC_NULL);
+    IS(livevec_closed_read(NULL, buffer, 1, &count), LIVEVEC_NULL);
+    IS(livevec_closed_read(&b, NULL, 0, &count), LIVEVEC_NULL);
+    IS(livevec_closed_read(&b, buffer, 1, NULL), LIVEVEC_NULL);
+    IS(livevec_seat_push(NULL, 1, ONCE).refusal, LIVEVEC_NULL);
+    IS(livevec_seat_pop(NULL, ONCE).refusal, LIVEVEC_NULL);
+    IS(livevec_seat_write(NULL, 0, 1, ONCE).refusal, LIVEVEC_NULL);
+    IS(livevec_seat_get(NULL, 0).refusal, LIVEVEC_NULL);
+    IS(livevec_seat_size(NULL).refusal, LIVEVEC_NULL);
+    IS(livevec_seat_reduce(NULL, 0, 0).refusal, LIVEVEC_NULL);
+    IS(livevec_seat_refresh(NULL, 0).refusal, LIVEVEC_NULL);
+    IS(livevec_free_board(NULL), LIVEVEC_NULL);
+    IS(livevec_free_seat(NULL), LIVEVEC_NULL);
+}
+
+/* --- Eight threads at one board --- */
+
+/* Of each pushed element the second half of its rounds writes over it, and adds WRITTEN: so its value tells who has it. */
+enum { THREADS = 8, ROUNDS = 200, TRIES = 3, WRITTEN = 100, EDITS = THREADS * ROUNDS * 2 };
+
+typedef struct worker {
+    livevec_seat seat;
+    int64_t number;            /* 1 to 8, and what it pushes */
+    uint32_t edits[ROUNDS * 2]; /* the numbers of its edits, in its order */
+    uint32_t places[ROUNDS];
+    int wrong;                 /* answers that no order of the edits gives */
+} worker;
+
+static bool again(uint32_t refusal)
+{
+    return refusal == LIVEVEC_CONTENDED || refusal == LIVEVEC_OVERTAKEN;
+}
+
+/* A sum of all that are there: each element is one number from 1 to 8, or that and WRITTEN, and this seat's own are among them. */
+static void sums(worker *w, uint32_t own, uint32_t last)
+{
+    uint32_t size = livevec_seat_size(&w->seat).value;
+    livevec_reduced r = livevec_seat_reduce(&w->seat, 0, size);
+    if (again(r.refusal)) {
+        w->wrong += r.detail <= last; /* what overtook it is no edit that it knew */
+        return;
+    }
+    w->wrong += r.refusal != 0 || size < own || r.edit < last || r.edit > EDITS;
+    w->wrong += r.values.sum < size || r.values.sum > (uint64_t)size * (THREADS + WRITTEN);
+}
+
+static livevec_edited push_until(worker *w)
+{
+    livevec_edited e;
+    do
+        e = livevec_seat_push(&w->seat, w->number, TRIES);
+    while (again(e.refusal));
+    return e;
+}
+
+static livevec_edited write_until(worker *w, uint32_t place)
+{
+    livevec_edited e;
+    do
+        e = livevec_seat_write(&w->seat, place, w->number + WRITTEN, TRIES);
+    while (again(e.refusal));
+    return e;
+}
+
+static void *work(void *given)
+{
+    worker *w = given;
+    uint32_t last = 0;
+    for (uint32_t i = 0; i < ROUNDS; i++) {
+        livevec_edited e = push_until(w);
+        w->wrong += e.refusal != 0 || e.edit <= last;
+        w->edits[i] = last = e.edit;
+        w->places[i] = e.place;
+        sums(w, i + 1, last);
+    }
+    for (uint32_t i = 0; i < ROUNDS; i++) {
+        livevec_edited e = write_until(w, w->places[i]);
+        w->wrong += e.refusal != 0 || e.edit <= last || e.value != w->number;
+        w->edits[ROUNDS + i] = last = e.edit;
+        if (i % 8 == 0)
+            livevec_seat_refresh(&w->seat, i / 8);
+        sums(w, ROUNDS, last);
+    }
+    return NULL;
+}
+
+/* Each edit's number and each place was given once, and each element is as its thread wrote it last. */
+static void agree(const worker *workers, const int64_t *elements)
+{
+    static unsigned char edit_seen[EDITS + 1], place_seen[THREADS * ROUNDS];
+    int twice = 0, other = 0;
+    for (int t = 0; t < THREADS; t++) {
+        for (int i = 0; i < ROUNDS * 2; i++)
+            twice += workers[t].edits[i] > EDITS || edit_seen[workers[t].edits[i]]++;
+        for (int i = 0; i < ROUNDS; i++) {
+            uint32_t place = workers[t].places[i];
+            twice += place >= THREADS * ROUNDS || place_seen[place]++;
+            other += elements[place] != workers[t].number + WRITTEN;
+        }
+        IS(workers[t].wrong, 0);
+    }
+    IS(twice, 0);
+    IS(other, 0);
+}
+
+static void eight_threads(void)
+{
+    static worker workers[THREADS];
+    static int64_t elements[THREADS * ROUNDS];
+    pthread_t threads[THREADS];
+    livevec_board b = empty_board;
+    uint32_t count = 0;
+    IS(livevec_board_new(&b, LIVEVEC_SUM, 9, EDITS, THREADS), LIVEVEC_OK);
+    for (int t = 0; t < THREADS; t++) {
+        workers[t].number = t + 1;
+        IS(livevec_board_sit(&b, &workers[t].seat), LIVEVEC_OK);
+    }
+    for (int t = 0; t < THREADS; t++)
+        IS(pthread_create(&threads[t], NULL, work, &workers[t]), 0);
+    for (int t = 0; t < THREADS; t++)
+        IS(pthread_join(threads[t], NULL), 0);
+    /* 200 elements of each of 101 to 108 */
+    IS(livevec_seat_reduce(&workers[0].seat, 0, THREADS * ROUNDS).values.sum, 200 * (8 * 100 + 36));
+    IS(livevec_seat_push(&workers[7].seat, 0, TRIES).refusal, LIVEVEC_WORN);
+    for (int t = 0; t < THREADS; t++) {
+        IS(livevec_board_close(&b).refusal, LIVEVEC_SEATS_OUT);
+        IS(livevec_free_seat(&workers[t].seat), LIVEVEC_OK);
+    }
+    IS(livevec_board_close(&b).value, EDITS);
+    IS(livevec_closed_read(&b, elements, THREADS * ROUNDS, &count), LIVEVEC_OK);
+    IS(count, THREADS * ROUNDS);
+    agree(workers, elements);
+    IS(livevec_free_board(&b), LIVEVEC_OK);
+}
+
+void boards(void)
+{
+    births();
+    sitting();
+    edits();
+    reductions();
+    refreshes();
+    closes();
+    misuse();
+    null();
+    want_of_memory();
+    eight_threads();
+}
