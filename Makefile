@@ -1,5 +1,5 @@
 # try: builds without proofs, at once, and runs `livevec $(DO)` where $(FILES) lie.  build: proves, then builds.  run: runs what build made.
-# test: the gate, the rows and the examples.  wrong, plant: wrong bodies outside the gate, of $(CRATE) or of all crates, into docs/.
+# test: the gate, the rows and the examples, and whether the bench's programs still fit. wrong, plant: wrong bodies outside the gate, of $(CRATE) or of all crates, into docs/.
 # lib: the archive for C, build/liblivevec.a.  test-c: its tests, also under sanitizers and valgrind.  so: liblivevec.so of the archive in $(LIB).
 # install, uninstall: the program, header, archive, shared object and pkg-config file, below $(PREFIX).  install-lib: all of these but the program.
 # What was built before is installed as it is, and nothing is proved again.
@@ -88,6 +88,7 @@ test-bindings:
 test:
 	tools/gate
 	examples/check
+	bench/check
 
 wrong:
 	tools/tried wrong $(CRATE)
