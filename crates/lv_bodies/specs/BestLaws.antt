@@ -7,8 +7,8 @@ use Rattle.std.proofs.lemmas.List.{append-nil, take-append-le, drop-append-le, d
 use Rattle.std.proofs.lemmas.Bool.{cases_lt}
 use Rattle.std.proofs.lemmas.List.Sums.{fold_push}
 use Rattle.lv_bodies.specs.Body.{fold_of}
-use Rattle.lv_bodies.specs.Plain.{total, plain_best, IsPlainBest}
-use Rattle.lv_bodies.specs.PlainLaws.{HasTotal, plain_best-is, same_best}
+use Rattle.lv_bodies.specs.Plain.{HasTotal, total, plain_best, IsPlainBest}
+use Rattle.lv_bodies.specs.PlainLaws.{plain_best-is, same_best}
 use Rattle.lv_bodies.specs.Optional.{join_of_both}
 use Rattle.lv_bodies.specs.RunTotals.{totals_of, join_totals, best_operations}
 use Rattle.lv_bodies.specs.declared.best.RunTotals.{RunTotals}

@@ -1,5 +1,5 @@
 -- What a body is: an identity, what an element lifts to, and a join; the fold by them; and their laws.
-use Rattle.std.specs.Prelude.{◌≡◌, ℕ, ℤ, ◌+◌, ◌^◌, ◌≤◌, List, ◌++◌, length, fold, All}
+use Rattle.std.specs.Prelude.{◌≡◌, ◌↔◌, Bool, IsTrue, ℕ, ℤ, ◌+◌, ◌^◌, ◌≤◌, List, ◌++◌, length, fold, All}
 use Rattle.lv_geometry.specs.Elements.{IsElement}
 
 -- the operations of a body on summaries of type S
@@ -48,3 +48,7 @@ pub record CanFold (xs : List ℤ) : Type 0 where
 -- the fold of two lists joined end to end is the join of their folds
 abbrev pub JoinsEndToEnd : {S : Type 0} → Operations S → Type 0
 JoinsEndToEnd o = (xs ys : List ℤ) → CanFold (xs ++ ys) → fold_of o (xs ++ ys) ≡ o.join (fold_of o xs) (fold_of o ys)
+
+-- a test of two summaries is exact: true where they are equal, and only there
+abbrev pub IsExact : {T : Type 0} → (T → T → Bool) → Type 0
+IsExact {T} E = (x y : T) → IsTrue (E x y) ↔ (x ≡ y)

@@ -5,10 +5,7 @@ use Rattle.std.specs.Cmp.Lexicographic.{pointwise}
 use Rattle.std.proofs.lemmas.Bool.Decides.{Decides-eqb}
 use Rattle.std.proofs.lemmas.Slice.Eq.{slice_eq-Decides}
 use Rattle.std.proofs.Common.{ap, ◌∙◌}
-
--- the test is true exactly of equal values
-abbrev pub IsExact : {T : Type 0} → (T → T → Bool) → Type 0
-IsExact {T} E = (x y : T) → IsTrue (E x y) ↔ (x ≡ y)
+use Rattle.lv_bodies.specs.Body.{IsExact}
 
 -- two tests are true together where each is
 pub all_true : (a b : Bool) → IsTrue a → IsTrue b → IsTrue (a && b)

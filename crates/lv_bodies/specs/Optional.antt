@@ -1,5 +1,6 @@
 -- Summaries that are missing where there are no elements.
-use Rattle.std.specs.Prelude.{ℕ, ℤ, Option, Some, None, IfSome}
+use Rattle.std.specs.Prelude.{◌≡◌, ℕ, ℤ, ◌+◌, ◌^◌, ◌≤◌, Option, Some, None, IfSome}
+use Rattle.lv_geometry.specs.Elements.{IsElement}
 use Rattle.lv_bodies.specs.Body.{Operations}
 
 -- what is there of two, joined where both are
@@ -19,3 +20,10 @@ optional_operations lift join = record {
 -- what is there keeps the bound for n elements
 abbrev pub IsWithinIfSome : {T : Type 0} → (T → ℕ → Type 0) → Option T → ℕ → Type 0
 IsWithinIfSome within s n = IfSome s (λ t. within t n)
+
+-- what summaries that are there have to meet
+pub record JoinLaws {T : Type 0} (lift : ℤ → T) (join : T → T → T) (within : T → ℕ → Type 0) : Type 0 where
+  pub lift_within : (x : ℤ) → IsElement x → within (lift x) 1
+  pub join_within : (s t : T) (n m : ℕ) → within s n → within t m → n + m ≤ 2 ^ 20 → within (join s t) (n + m)
+  pub more_within : (s : T) (n m : ℕ) → n ≤ m → within s n → within s m
+  pub associative : (s t u : T) → join (join s t) u ≡ join s (join t u)

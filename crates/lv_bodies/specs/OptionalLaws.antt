@@ -1,16 +1,8 @@
 -- The laws of summaries that are missing where there are no elements.
 use Rattle.std.specs.Prelude.{◌≡◌, ℕ, ℤ, ◌+◌, ◌^◌, ◌≤◌, Option, Some, None, refl}
 use Rattle.std.proofs.Common.{arith, ap}
-use Rattle.lv_geometry.specs.Elements.{IsElement}
 use Rattle.lv_bodies.specs.Body.{BodyLaws}
-use Rattle.lv_bodies.specs.Optional.{join_of_both, optional_operations, IsWithinIfSome}
-
--- what summaries that are there have to meet
-pub record JoinLaws {T : Type 0} (lift : ℤ → T) (join : T → T → T) (within : T → ℕ → Type 0) : Type 0 where
-  pub lift_within : (x : ℤ) → IsElement x → within (lift x) 1
-  pub join_within : (s t : T) (n m : ℕ) → within s n → within t m → n + m ≤ 2 ^ 20 → within (join s t) (n + m)
-  pub more_within : (s : T) (n m : ℕ) → n ≤ m → within s n → within s m
-  pub associative : (s t u : T) → join (join s t) u ≡ join s (join t u)
+use Rattle.lv_bodies.specs.Optional.{IsWithinIfSome, JoinLaws, join_of_both, optional_operations}
 
 module _ {T : Type 0} (lift : ℤ → T) (join : T → T → T) (within : T → ℕ → Type 0) (laws : JoinLaws lift join within) where
   -- what is joined is within the number of both

@@ -1,8 +1,8 @@
 -- The laws of two bodies side by side, and that their fold is the pair of folds.
 use Rattle.std.specs.Prelude.{Bool, ◌≡◌, ◌&&◌, ℕ}
 use Rattle.std.proofs.Common.{ap, ◌∙◌}
-use Rattle.lv_bodies.specs.Body.{Operations, BodyLaws}
-use Rattle.lv_bodies.specs.EqualLaws.{IsExact, both_true, all_true}
+use Rattle.lv_bodies.specs.Body.{IsExact, Operations, BodyLaws}
+use Rattle.lv_bodies.specs.EqualLaws.{both_true, all_true}
 use Rattle.lv_bodies.specs.Pairs.{pair_operations, IsPairWithin}
 
 -- equal sides make equal pairs

@@ -39,9 +39,25 @@ pub record IsPlainGreatest (xs : List ℤ) (r : Option ℤ) : Type 0 where
   pub reached : IfSome r (Contains xs)
   pub bound : IfSome r (λ greatest. All (λ x. x ≤ℤ greatest) xs)
 
+-- the runs of a list that begin at a place: so many elements side by side, from there on
+abbrev pub runs_at : List ℤ → ℕ → List (List ℤ)
+runs_at xs i = map (λ n. take (n + 1) (drop i xs)) (range_with_len 0 (length (drop i xs)))
+
 -- the runs of a list: one or more elements that stand side by side
 abbrev pub runs_of : List ℤ → List (List ℤ)
-runs_of xs = flat_map (λ i. map (λ n. take (n + 1) (drop i xs)) (range_with_len 0 (length (drop i xs)))) (range_with_len 0 (length xs))
+runs_of xs = flat_map (runs_at xs) (range_with_len 0 (length xs))
+
+-- a run is what stands from some place up to a later one
+pub record IsRunIn (xs run : List ℤ) : Type 0 where
+  pub from : ℕ
+  pub to : ℕ
+  pub before : from < to
+  pub within : to ≤ length xs
+  pub is : run ≡ slice_range xs from to
+
+-- some run has this total
+abbrev pub HasTotal : List ℤ → ℤ → Type 0
+HasTotal xs best = (i : ℕ) × (j : ℕ) × (i < j) × (j ≤ length xs) × (total (slice_range xs i j) ≡ best)
 
 -- best: the greatest total of a run, or none
 abbrev pub plain_best : List ℤ → Option ℤ
@@ -50,7 +66,7 @@ plain_best xs = plain_greatest (map total (runs_of xs))
 -- what the best total of a list is: none exactly where the list is empty, else the greatest total from some place up to a later one
 pub record IsPlainBest (xs : List ℤ) (r : Option ℤ) : Type 0 where
   pub none : IsNone r ↔ (xs ≡ [])
-  pub reached : IfSome r (λ best. (i : ℕ) × (j : ℕ) × (i < j) × (j ≤ length xs) × (total (slice_range xs i j) ≡ best))
+  pub reached : IfSome r (HasTotal xs)
   pub bound : IfSome r (λ best. (i j : ℕ) → i < j → j ≤ length xs → total (slice_range xs i j) ≤ℤ best)
 
 -- x / 256, rounded down

@@ -8,7 +8,7 @@ use Rattle.std.proofs.lemmas.List.{length-drop}
 use Rattle.std.proofs.lemmas.List.Elements.{All-cons, All-map, All-weaker, All-contains}
 use Rattle.std.proofs.lemmas.Option.{IfSome_then}
 use Rattle.lv_bodies.specs.ElementLaws.{Contains-map, Contains-range, Contains-first, Contains-flat_map, All-range, All-flat_map}
-use Rattle.lv_bodies.specs.Plain.{total, runs_of, plain_least, plain_greatest, plain_best, IsPlainLeast, IsPlainGreatest, IsPlainBest}
+use Rattle.lv_bodies.specs.Plain.{HasTotal, IsPlainBest, IsPlainGreatest, IsPlainLeast, IsRunIn, plain_best, plain_greatest, plain_least, runs_at, runs_of, total}
 
 -- the least of a list is a bound that is reached
 pub plain_least-is : (xs : List ℤ) → IsPlainLeast xs (plain_least xs)
@@ -32,18 +32,6 @@ plain_greatest-is (x ∷ xs) =
       bound = All-cons (λ y. y ≤ℤ fold int_max x xs) x xs bounds.0 bounds.1;
     }
 
--- a run is what stands from some place up to a later one
-record IsRunIn (xs run : List ℤ) : Type 0 where
-  from : ℕ
-  to : ℕ
-  before : from < to
-  within : to ≤ length xs
-  is : run ≡ slice_range xs from to
-
--- the runs that begin at a place
-abbrev runs_at : List ℤ → ℕ → List (List ℤ)
-runs_at xs i = map (λ n. take (n + 1) (drop i xs)) (range_with_len 0 (length (drop i xs)))
-
 -- the runs of a list are in it
 runs_are_in : (xs : List ℤ) → All (IsRunIn xs) (runs_of xs)
 runs_are_in xs =
@@ -66,10 +54,6 @@ each_run xs i j p q =
     Contains-map (λ n. take (n + 1) (drop i xs)) (range_with_len 0 (length (drop i xs))) (j - i - 1) (Contains-range (j - i - 1) (length (drop i xs)) few) in
     let run : Contains (runs_at xs i) (slice_range xs i j) = subst (λ k. Contains (runs_at xs i) (take k (drop i xs))) (omega arith) at in
     Contains-flat_map (runs_at xs) (range_with_len 0 (length xs)) i (slice_range xs i j) (Contains-range i (length xs) (omega arith)) run
-
--- some run has this total
-abbrev pub HasTotal : List ℤ → ℤ → Type 0
-HasTotal xs best = (i : ℕ) × (j : ℕ) × (i < j) × (j ≤ length xs) × (total (slice_range xs i j) ≡ best)
 
 -- the totals of the runs are had
 totals_are_had : (xs : List ℤ) → All (HasTotal xs) (map total (runs_of xs))

@@ -5,8 +5,8 @@ use Rattle.std.specs.Option.{option_eq}
 use Rattle.std.specs.Ordering.{int_eq}
 use Rattle.std.proofs.lemmas.Bool.Decides.{Decides-eqb, Decides-int_eq}
 use Rattle.lv_bodies.specs.AffineLaws.{affine_laws, exact_maps}
-use Rattle.lv_bodies.specs.Body.{BodyLaws}
-use Rattle.lv_bodies.specs.EqualLaws.{IsExact, exact_numbers, exact_option}
+use Rattle.lv_bodies.specs.Body.{IsExact, BodyLaws}
+use Rattle.lv_bodies.specs.EqualLaws.{exact_numbers, exact_option}
 use Rattle.lv_bodies.specs.ExtremeLaws.{greatest_laws, least_laws}
 use Rattle.lv_bodies.specs.PairLaws.{exact_pair, pair_laws}
 use Rattle.lv_bodies.specs.Plain.{program_table}
