@@ -48,9 +48,9 @@ struct Done<N: Means<Six>> {
 impl<N: Means<Six>> Model for Done<N> {
     ghost use Rattle.std.specs.Prelude.{◌≡◌, All, IfOk};
     ghost use Rattle.lv_script.specs.Transcript.{IsTrueClaim};
-    ghost use Rattle.lv_hub.specs.Counting.{Holding};
+    ghost use Rattle.lv_hub.specs.Counting.{ShareState};
 
-    ghost Value = { Holding };
+    ghost Value = { ShareState };
 
     ghost view = { λ d. d.share };
 

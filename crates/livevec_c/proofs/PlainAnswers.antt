@@ -8,10 +8,10 @@ use Rattle.lv_bodies.specs.Body.{CanFold}
 use Rattle.lv_bodies.specs.Automata.{table_of}
 use Rattle.lv_bodies.specs.Six.{SixSummary, six_operations_by}
 use Rattle.lv_edits.specs.History.{list_of}
-use Rattle.lv_edits.specs.Kept.{InLimits}
+use Rattle.lv_edits.specs.Kept.{IsLegalInLimits}
 use Rattle.lv_reduce.specs.declared.reductions.Answer.{Answer}
 use Rattle.lv_reduce.specs.Answer.{IsAnswer, slice_of}
-use Rattle.lv_summary.proofs.FoldableLaws.{can_fold, part_can_fold}
+use Rattle.lv_known.proofs.FoldableLaws.{can_fold, part_can_fold}
 use Rattle.livevec_c.specs.declared.objects.Object.{Object}
 use Rattle.livevec_c.specs.declared.objects.Object.TheVariants.{Vector, Job, Outcome, Board, Seat, Closed}
 use Rattle.livevec_c.specs.declared.results.Reduced.{Reduced}
@@ -47,11 +47,11 @@ refused : (r : Refusal) → number_of r ≡ 0 → ⊥
 refused r zero = omega (arith, positive r, zero)
 
 -- the elements of a range may be folded
-may_fold : (state : State) (lo hi : ℕ) → InLimits state.history → CanFold (slice_of state.history.journal lo hi)
+may_fold : (state : State) (lo hi : ℕ) → IsLegalInLimits state.history → CanFold (slice_of state.history.journal lo hi)
 may_fold state lo hi within = part_can_fold (hi - lo) lo (list_of state.history.journal) (can_fold state.history within)
 
 -- an answer that is the fold of its range
-pub plain_ok : (state : State) (lo hi : ℕ) (r : Result (Answer SixSummary) Refusal) (answer : Reduced) → answer ≡ reduced_by r → IfOk r (λ a. IsAnswer (six_operations_by (table_of state.body.automaton)) state.history.journal lo hi a) → InLimits state.history → IsPlainOf lo hi answer state
+pub plain_ok : (state : State) (lo hi : ℕ) (r : Result (Answer SixSummary) Refusal) (answer : Reduced) → answer ≡ reduced_by r → IfOk r (λ a. IsAnswer (six_operations_by (table_of state.body.automaton)) state.history.journal lo hi a) → IsLegalInLimits state.history → IsPlainOf lo hi answer state
 plain_ok state lo hi (Ok a) answer is fine within zero =
     let xs = slice_of state.history.journal lo hi in
     let m = table_of state.body.automaton in

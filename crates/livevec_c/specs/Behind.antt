@@ -12,7 +12,7 @@ use Rattle.lv_edits.specs.Verdict.{Answers, element_at, verdict_of}
 use Rattle.lv_reduce.specs.declared.reductions.Answer.{Answer}
 use Rattle.lv_reduce.specs.Answer.{IsAnswer, range_refusal}
 use Rattle.lv_live.specs.Step.{Reduces as ReducesAt}
-use Rattle.lv_edits.specs.Kept.{InLimits}
+use Rattle.lv_edits.specs.Kept.{IsLegalInLimits}
 use Rattle.lv_live.specs.State.{LiveState, recorded, SameLive, SameRefresh}
 use Rattle.livevec_c.specs.declared.objects.Object.{Object}
 use Rattle.livevec_c.specs.declared.objects.Object.TheVariants.{Vector}
@@ -32,7 +32,7 @@ State = LiveState SixByTable SixSummary
 -- an edit of a vector: it is answered as the library answers it, and the summaries and claims stay
 abbrev pub EditsVector : Edit → Edited → State → State → Type 0
 EditsVector edit answer old new =
-    InLimits new.history × SameRefresh old new
+    IsLegalInLimits new.history × SameRefresh old new
     × ((r : Result Receipt Refusal) × (answer ≡ edited_by r) × Answers old.history edit r new.history)
 
 -- an edit of an object: of a vector only
@@ -84,7 +84,7 @@ Counts what answer (Some object) = CountsObject what answer object
 -- a reduction of an object, as the library answers it
 abbrev pub ReducesObject : ℕ → ℕ → Reduced → Object → Type 0
 ReducesObject lo hi answer (Vector state) =
-    (r : Result (Answer SixSummary) Refusal) × (answer ≡ reduced_by r) × InLimits state.history × ReducesAt (six_operations_by (table_of state.body.automaton)) (recorded state) lo hi r
+    (r : Result (Answer SixSummary) Refusal) × (answer ≡ reduced_by r) × IsLegalInLimits state.history × ReducesAt (six_operations_by (table_of state.body.automaton)) (recorded state) lo hi r
 ReducesObject lo hi answer other = answer ≡ unreduced 101 0
 
 abbrev pub Reduces : ℕ → ℕ → Reduced → Option Object → Type 0
@@ -97,7 +97,7 @@ pub record AsksVector (lo hi : ℕ) (answer : Reduced) (old new : State) : Type 
   pub answer_is : answer ≡ reduced_by r
   pub ok : IfOk r (λ a. IsAnswer (six_operations_by (table_of old.body.automaton)) old.history.journal lo hi a)
   pub err : IfErr r (λ refusal. range_refusal old.history.journal lo hi ≡ Some refusal)
-  pub within : InLimits old.history
+  pub within : IsLegalInLimits old.history
   pub same : SameLive old new
 
 abbrev pub AsksObject : ℕ → ℕ → Reduced → Object → Object → Type 0

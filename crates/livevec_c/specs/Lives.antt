@@ -5,7 +5,7 @@ use Rattle.lv_geometry.specs.declared.nodes.Node.{Node}
 use Rattle.lv_bodies.specs.declared.kinds.Kind.{Kind}
 use Rattle.lv_bodies.specs.Automata.{table_of}
 use Rattle.lv_bodies.specs.Plain.{plain_value}
-use Rattle.lv_edits.specs.Kept.{InLimits}
+use Rattle.lv_edits.specs.Kept.{IsLegalInLimits}
 use Rattle.lv_live.specs.State.{recorded}
 use Rattle.lv_board.specs.Opening.{MayOpen}
 use Rattle.lv_board.specs.declared.sharing.Unseated.{Unseated}
@@ -26,7 +26,7 @@ use Rattle.livevec_c.specs.Kinds.{folding_of, kind_at, sat_at, shared_at}
 pub record IsNew (limits : Bounds) (table : List (List ℕ)) (state : State) : Type 0 where
   pub table_is : table_of state.body.automaton ≡ table
   pub history : state.history ≡ record { limits = limits; journal = [] }
-  pub within : InLimits state.history
+  pub within : IsLegalInLimits state.history
   pub unclaimed : (n : Node) → (recorded state).claimed n ≡ None
   pub nothing_kept : (n : Node) → (recorded state).kept n ≡ None
 

@@ -11,7 +11,7 @@ use Rattle.lv_edits.specs.History.{list_of}
 use Rattle.lv_edits.specs.declared.receipt.Receipt.{Receipt}
 use Rattle.lv_edits.specs.Verdict.{element_at, receipt_of, verdict_of}
 use Rattle.lv_machine.specs.declared.entries.Entry.{Entry}
-use Rattle.lv_machine.specs.History.{descriptor_of, edits_of, elements_of, Ends, IsLegal, IsShortEdit, own}
+use Rattle.lv_machine.specs.History.{descriptor_of, edits_of, elements_of, Ends, IsLegalHistory, IsShortEdit, own}
 use Rattle.lv_machine.specs.Layout.{cell_place, mark_place}
 use Rattle.lv_machine.specs.Shows.{IsCellRead, IsMarkRead}
 use Rattle.lv_machine.specs.Terms.{AreTerms, Folding, Terms}
@@ -63,7 +63,7 @@ pub looked_then : (t : Terms) (x y z : Actor) → HasLooked t x y → IsQuiet y 
 looked_then t x y z looked quiet same = record {
   quiet = quiet_then x y z looked.quiet quiet;
   fresh = subst (Ends x.known) (sym same) looked.fresh;
-  legal = subst (IsLegal t) (sym same) looked.legal;
+  legal = subst (IsLegalHistory t) (sym same) looked.legal;
 }
 
 -- what a ready seat reads of a cell
@@ -71,7 +71,7 @@ pub cell_found : (t : Terms) (x y : Actor) (look at found i : ℕ) → IsRead t 
 cell_found t x y look at found i read is ready within place = read.cell i within place (λ has. ready.helped (subst HasPending (sym is) has))
 
 -- the version of such a cell is that of an edit
-pub version_few : (t : Terms) (i : ℕ) (k h : List Entry) (found : ℕ) → AreTerms t → IsLegal t h → IsCellRead i k h found → cell_version found ≤ 16777215
+pub version_few : (t : Terms) (i : ℕ) (k h : List Entry) (found : ℕ) → AreTerms t → IsLegalHistory t h → IsCellRead i k h found → cell_version found ≤ 16777215
 version_few t i k h found terms legal read = let few = terms.allowed.few_edits in omega (arith, read.late, length_below t h terms legal)
 
 -- the element at an index that there is, and at one that there is not
@@ -107,7 +107,7 @@ added_of t x y e receipt told free is = record {
   known = told.known ∙ sym told.seen;
   knew = subst (λ k. Ends k x.seen) (sym told.current) (Ends-whole x.seen);
   own_is = ap (own x.number) told.known ∙ own-same x.number record { actor = x.number; edit = e } x.seen refl ∙ ap (λ k. record { actor = x.number; edit = e } ∷ own x.number k) (sym told.current);
-  legal = subst (IsLegal t) (sym told.seen) told.legal;
+  legal = subst (IsLegalHistory t) (sym told.seen) told.legal;
   verdict = free;
   receipt_is = is;
 }
@@ -136,7 +136,7 @@ accepted_before t x u y e number seen known made told = record {
   current = sym known ∙ told.current ∙ seen;
   seen = told.seen ∙ ap (λ (n : ℕ). record { actor = n; edit = e } ∷ u.seen) number ∙ ap (λ h. record { actor = x.number; edit = e } ∷ h) seen;
   known = told.known ∙ ap (λ (n : ℕ). record { actor = n; edit = e } ∷ u.seen) number ∙ ap (λ h. record { actor = x.number; edit = e } ∷ h) seen;
-  legal = subst (λ h. IsLegal t (record { actor = x.number; edit = e } ∷ h)) seen (subst (λ (n : ℕ). IsLegal t (record { actor = n; edit = e } ∷ u.seen)) number told.legal);
+  legal = subst (λ h. IsLegalHistory t (record { actor = x.number; edit = e } ∷ h)) seen (subst (λ (n : ℕ). IsLegalHistory t (record { actor = n; edit = e } ∷ u.seen)) number told.legal);
 }
 
 -- a try that another edit came before has looked
@@ -183,5 +183,5 @@ try_of_taken t x m y e i taken receipt looked free (u, quiet, same, told, number
 pub mark_found : (t : Terms) (x y : Actor) (look at found b : ℕ) → IsRead t x y at found → look ≡ descriptor_of x.seen → IsReady x look → 8 * b < capacity_of t.limits.buckets → at ≡ mark_place b → IsMarkRead b x.seen y.known found
 mark_found t x y look at found b read is ready within place = read.mark b (omega arith) place (λ has. ready.marked (subst HasPending (sym is) has))
 
-pub mark_few : (t : Terms) (b : ℕ) (k h : List Entry) (found : ℕ) → AreTerms t → IsLegal t h → IsMarkRead b k h found → found ≤ 16777215
+pub mark_few : (t : Terms) (b : ℕ) (k h : List Entry) (found : ℕ) → AreTerms t → IsLegalHistory t h → IsMarkRead b k h found → found ≤ 16777215
 mark_few t b k h found terms legal read = let few = terms.allowed.few_edits in omega (arith, read.late, length_below t h terms legal)

@@ -14,7 +14,7 @@ use lib.ListN.{get_elem?}
 use Rattle.atomic_table.specs.Table.{Final, Joins, Seen}
 use Rattle.lv_geometry.specs.Cells.{capacity_of}
 use Rattle.lv_machine.specs.declared.entries.Entry.{Entry}
-use Rattle.lv_machine.specs.History.{cell_of, descriptor_of, elements_of, IsLegal, own}
+use Rattle.lv_machine.specs.History.{cell_of, descriptor_of, elements_of, IsLegalHistory, own}
 use Rattle.lv_machine.specs.Layout.{cell_place, count_of}
 use Rattle.lv_machine.specs.Shows.{Fits, ShowsHistory}
 use Rattle.lv_machine.specs.Terms.{AreTerms, Folding, Terms}
@@ -96,7 +96,7 @@ made_among e h from (suc count) least most = elim (cases_lt from e.actor) [
 ]
 
 -- the entries of all actors are all that there are
-pub own_total : (t : Terms) (h : List Entry) → IsLegal t h → length h ≡ made_in h 0 t.seats
+pub own_total : (t : Terms) (h : List Entry) → IsLegalHistory t h → length h ≡ made_in h 0 t.seats
 own_total t [] legal = sym (none_made 0 t.seats)
 own_total t (e ∷ h) (legal, next) = let actor = next.actor in omega (arith, own_total t h legal, made_among e h 0 t.seats (omega arith) (omega arith))
 

@@ -10,7 +10,7 @@ use prog.Atomic.{either}
 use Rattle.atomic_table.specs.Table.{State, Me, step, Act, keeps, stepped, Allows, Valid, carried_after}
 use Rattle.lv_edits.specs.declared.edit.Edit.{Edit}
 use Rattle.lv_machine.specs.declared.entries.Entry.{Entry}
-use Rattle.lv_machine.specs.History.{descriptor_of, Ends, IsLegal, IsShortEdit, MayFollow, own}
+use Rattle.lv_machine.specs.History.{descriptor_of, Ends, IsLegalHistory, IsShortEdit, MayFollow, own}
 use Rattle.lv_machine.specs.Moves.{accepted, IsComplete, looked, MayExchange, moved, Exchange, verdict_at}
 use Rattle.lv_machine.specs.Terms.{AreTerms, Folding, Terms}
 use Rattle.lv_machine.specs.Words.{descriptor_after, edit_between, edit_of, HasPending}
@@ -40,7 +40,7 @@ later_by k h ends other = elim (cases_lt (length k) (length h)) [
 ]
 
 -- what a state knows of an actor that has seen its whole history
-whole_seen : (t : Terms) (x : Actor) (h : List Entry) → AreTerms t → IsLegal t h → Ends x.seen x.known → Ends x.known h → descriptor_of x.seen ≡ descriptor_of h → (x.seen ≡ h) × (x.known ≡ h)
+whole_seen : (t : Terms) (x : Actor) (h : List Entry) → AreTerms t → IsLegalHistory t h → Ends x.seen x.known → Ends x.known h → descriptor_of x.seen ≡ descriptor_of h → (x.seen ≡ h) × (x.known ≡ h)
 whole_seen t x h terms legal seen known same =
     let ends = Ends-trans x.seen x.known h seen known in
     let first = (decoded t x.seen terms (legal_earlier t x.seen h ends legal)).edit in
@@ -89,8 +89,8 @@ module _ {S B : Type 0} (f : B → Folding) (z : Basis B) (slots id look new : �
       let may = may_exchange s rule rule.owner x in
       let here : slice_index (state_of f z s rule).words 0 ≡ (state_of f z s rule).looks me.0.actor.number = first ∙ sym own_look in
       let is_moved : moved (state_of f z s rule) (Exchange me.0.actor.number edit) ≡ accepted (state_of f z s rule) me.0.actor.number edit = cond-true _ _ _ (eq-eqb _ _ here) in
-      let legal : IsLegal (terms_of f z) (entry ∷ (state_of f z s rule).history) = (accepted_shows (terms_of f z) (state_of f z s rule) me.0.actor.number edit rule.terms show may here).legal in
-      let legal' : IsLegal (terms_of f z) (entry ∷ me.0.actor.seen) = subst (λ h. IsLegal (terms_of f z) (entry ∷ h)) (sym all.0) legal in
+      let legal : IsLegalHistory (terms_of f z) (entry ∷ (state_of f z s rule).history) = (accepted_shows (terms_of f z) (state_of f z s rule) me.0.actor.number edit rule.terms show may here).legal in
+      let legal' : IsLegalHistory (terms_of f z) (entry ∷ me.0.actor.seen) = subst (λ h. IsLegalHistory (terms_of f z) (entry ∷ h)) (sym all.0) legal in
       let word : new ≡ descriptor_of (entry ∷ me.0.actor.seen) = after ∙ ap (λ w. descriptor_after w edit) is ∙ next_descriptor (terms_of f z) me.0.actor.seen entry rule.terms legal'.0 legal'.1 in
       let told : edit ≡ edit_between look new = sym (between (terms_of f z) me.0.actor.seen entry rule.terms legal') ∙ ap (λ w. edit_between w (descriptor_of (entry ∷ me.0.actor.seen))) (sym is) ∙ ap (edit_between look) (sym word) in (
         record (me.0) { actor = next },
@@ -120,7 +120,7 @@ module _ {S B : Type 0} (f : B → Folding) (z : Basis B) (slots id look new : �
           seen = ap (λ (e : Edit). record { actor = me.0.actor.number; edit = e } ∷ me.0.actor.seen) told;
           known = ap (λ (e : Edit). record { actor = me.0.actor.number; edit = e } ∷ me.0.actor.seen) told;
           made = ap (λ (e : Edit). record { actor = me.0.actor.number; edit = e } ∷ me.0.actor.own) told;
-          legal = subst (λ (e : Edit). IsLegal (terms_of f z) (record { actor = me.0.actor.number; edit = e } ∷ me.0.actor.seen)) told legal';
+          legal = subst (λ (e : Edit). IsLegalHistory (terms_of f z) (record { actor = me.0.actor.number; edit = e } ∷ me.0.actor.seen)) told legal';
         },
       )
 

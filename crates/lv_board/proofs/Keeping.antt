@@ -9,7 +9,7 @@ use lib.Seq.{set-get_or}
 use Rattle.atomic_table.specs.Table.{State, Me, step, keeps, stepped, Allows}
 use Rattle.atomic_table.proofs.Lists.{at_set}
 use Rattle.lv_geometry.specs.Cells.{capacity_of}
-use Rattle.lv_edits.specs.Touch.{cells_of, is_whole}
+use Rattle.lv_edits.specs.Touch.{elements_under, is_whole}
 use Rattle.lv_machine.specs.History.{cell_of, descriptor_of, edits_of}
 use Rattle.lv_machine.specs.Layout.{cell_place, mark_place, part_place}
 use Rattle.lv_machine.specs.Moves.{completing, Config, looked, MayMove, Move, moved, Look, HelpCell, HelpMark, Install, Read, raised, reached, Shows}
@@ -251,7 +251,7 @@ module _ {S B : Type 0} (f : B → Folding) (z : Basis B) where
       )
 
   -- installing a part of a block that is whole where the seat looked
-  pub installs_allowed : (slots id b p n : ℕ) (me : Me S (View B)) → IsSeat me.0 → b < blocks_of (terms_of f z).limits → p < (f z.body).parts → is_whole (edits_of me.0.actor.seen) (block b) ≡ true → n ≡ part_word (mark_of b me.0.actor.seen) ((f z.body).part p (cells_of (edits_of me.0.actor.seen) (block b))) → Allows (Holds f z) slots id me (part_place b p) (λ w. max w n) (Installs (step slots (part_place b p) n 0 none) me)
+  pub installs_allowed : (slots id b p n : ℕ) (me : Me S (View B)) → IsSeat me.0 → b < blocks_of (terms_of f z).limits → p < (f z.body).parts → is_whole (edits_of me.0.actor.seen) (block b) ≡ true → n ≡ part_word (mark_of b me.0.actor.seen) ((f z.body).part p (elements_under (edits_of me.0.actor.seen) (block b))) → Allows (Holds f z) slots id me (part_place b p) (λ w. max w n) (Installs (step slots (part_place b p) n 0 none) me)
   installs_allowed slots id b p n me seat near few whole is s rule homes at below =
       let fits = rule.views id me.0 at in
       let based = fits.based seat.sits in
@@ -309,7 +309,7 @@ module _ {S B : Type 0} (f : B → Folding) (z key : Basis B) (is_key : key ≡ 
       (subst (λ v. Allows (Holds f z) slots id me (mark_place (index_of look / 8)) (λ w. max w v) (HelpsMark (step slots (mark_place (index_of look / 8)) v 0 none) me)) (sym word)
       (helps_mark_allowed f z slots id look me seat is has)))
 
-  pub installs_at_key : (b p i n : ℕ) → b < blocks_of (terms_of f z).limits → p < (f z.body).parts → is_whole (edits_of me.0.actor.seen) (block b) ≡ true → n ≡ part_word (mark_of b me.0.actor.seen) ((f z.body).part p (cells_of (edits_of me.0.actor.seen) (block b))) → i ≡ part_place b p → Allows (Holds f key) slots id me i (λ w. max w n) (Installs (step slots i n 0 none) me)
+  pub installs_at_key : (b p i n : ℕ) → b < blocks_of (terms_of f z).limits → p < (f z.body).parts → is_whole (edits_of me.0.actor.seen) (block b) ≡ true → n ≡ part_word (mark_of b me.0.actor.seen) ((f z.body).part p (elements_under (edits_of me.0.actor.seen) (block b))) → i ≡ part_place b p → Allows (Holds f key) slots id me i (λ w. max w n) (Installs (step slots i n 0 none) me)
   installs_at_key b p i n near few whole word at =
       subst (λ k. Allows (Holds f k) slots id me i (λ w. max w n) (Installs (step slots i n 0 none) me)) (sym is_key)
       (subst (λ q. Allows (Holds f z) slots id me q (λ w. max w n) (Installs (step slots q n 0 none) me)) (sym at)

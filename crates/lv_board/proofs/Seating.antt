@@ -2,7 +2,7 @@
 use Rattle.std.proofs.Common.{◌≡◌, ℕ, ◌*◌, ◌/◌, ◌%◌, ◌<◌, List, [], ◌∷◌, refl, sym, ap, ◌∙◌, subst, arith}
 use Rattle.lv_geometry.specs.Cells.{capacity_of}
 use Rattle.lv_machine.specs.declared.entries.Entry.{Entry}
-use Rattle.lv_machine.specs.History.{descriptor_of, IsLegal, own}
+use Rattle.lv_machine.specs.History.{descriptor_of, IsLegalHistory, own}
 use Rattle.lv_machine.specs.Terms.{AreTerms, Folding, Terms}
 use Rattle.lv_machine.proofs.HistoryLaws.{decoded, legal_within, length_below}
 use Rattle.lv_machine.specs.Layout.{cell_place, count_of, place}
@@ -26,7 +26,7 @@ pub based_after : {B : Type 0} (v w : View B) (z : Basis B) (x : Actor) → w �
 based_after v w z x same based = ap (λ u. u.bases) same ∙ based
 
 -- the descriptor of a legal history is a look
-pub legal_look : (t : Terms) (h : List Entry) → AreTerms t → IsLegal t h → IsLook t.limits.buckets t.limits.edits (descriptor_of h) h
+pub legal_look : (t : Terms) (h : List Entry) → AreTerms t → IsLegalHistory t h → IsLook t.limits.buckets t.limits.edits (descriptor_of h) h
 legal_look t h terms legal =
     let d = decoded t h terms legal in
     let within = legal_within t h terms legal in

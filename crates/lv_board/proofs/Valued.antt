@@ -6,7 +6,7 @@ use Rattle.lv_geometry.specs.Elements.{IsElement}
 use Rattle.lv_bodies.specs.declared.kinds.Shown.{Shown}
 use Rattle.lv_bodies.specs.Body.{CanFold, fold_of, Operations}
 use Rattle.lv_machine.specs.declared.entries.Entry.{Entry}
-use Rattle.lv_machine.specs.History.{edits_of, elements_of, IsLegal}
+use Rattle.lv_machine.specs.History.{edits_of, elements_of, IsLegalHistory}
 use Rattle.lv_machine.specs.Terms.{AreTerms, Terms}
 use Rattle.lv_machine.proofs.HistoryLaws.{legal_within}
 use Rattle.lv_reduce.specs.Answer.{slice_of}
@@ -15,7 +15,7 @@ use Rattle.lv_board.specs.Calls.{IsSummed}
 use Rattle.lv_board.specs.Sharing.{IsPlainValue}
 
 -- a range may be folded
-folds_range : (t : Terms) (h : List Entry) (lo hi : ℕ) → AreTerms t → IsLegal t h → CanFold (slice_of (edits_of h) lo hi)
+folds_range : (t : Terms) (h : List Entry) (lo hi : ℕ) → AreTerms t → IsLegalHistory t h → CanFold (slice_of (edits_of h) lo hi)
 folds_range t h lo hi terms legal =
     let xs = elements_of h in
     let within = legal_within t h terms legal in
@@ -24,7 +24,7 @@ folds_range t h lo hi terms legal =
       elements = All-take IsElement (hi - lo) (drop lo xs) (All-drop IsElement lo xs within.elements);
     }
 
-pub valued : {S : Type 0} (o : Operations S) (shown : S → Shown) (plain : List ℤ → Shown) (t : Terms) (h : List Entry) (lo hi : ℕ) (answer : Answer S) (value : Shown) → ((xs : List ℤ) → CanFold xs → shown (fold_of o xs) ≡ plain xs) → AreTerms t → IsLegal t h → IsSummed o (edits_of h) lo hi answer → value ≡ shown answer.value → IsPlainValue plain (edits_of h) lo hi record { edit = answer.edit; value = value; cells_read = answer.cells_read; summaries_read = answer.summaries_read }
+pub valued : {S : Type 0} (o : Operations S) (shown : S → Shown) (plain : List ℤ → Shown) (t : Terms) (h : List Entry) (lo hi : ℕ) (answer : Answer S) (value : Shown) → ((xs : List ℤ) → CanFold xs → shown (fold_of o xs) ≡ plain xs) → AreTerms t → IsLegalHistory t h → IsSummed o (edits_of h) lo hi answer → value ≡ shown answer.value → IsPlainValue plain (edits_of h) lo hi record { edit = answer.edit; value = value; cells_read = answer.cells_read; summaries_read = answer.summaries_read }
 valued o shown plain t h lo hi answer value shows terms legal summed is = record {
   granted = summed.fold.granted;
   edit = summed.fold.edit;

@@ -13,13 +13,13 @@ use Rattle.lv_bodies.specs.Body.{Operations, BodyLaws, CanFold, CanGrow, CanJoin
 use Rattle.lv_bodies.specs.Parts.{AreParts, HasParts, IsShort}
 use Rattle.lv_edits.specs.declared.edit.Edit.{Edit}
 use Rattle.lv_edits.specs.History.{list_of}
-use Rattle.lv_edits.specs.Touch.{cells_of, is_whole}
-use Rattle.lv_edits.proofs.TouchLaws.{cells_of-length}
+use Rattle.lv_edits.specs.Touch.{elements_under, is_whole}
+use Rattle.lv_edits.proofs.TouchLaws.{elements_under-length}
 use Rattle.lv_reduce.specs.Answer.{range_refusal}
 use Rattle.lv_reduce.proofs.PieceLaws.{slice-joined, slice-within, slices_can_join}
 use Rattle.lv_reduce.proofs.ScanLaws.{fold_of-slice-more}
 use Rattle.lv_machine.specs.declared.entries.Entry.{Entry}
-use Rattle.lv_machine.specs.History.{cell_of, edits_of, elements_of, IsLegal}
+use Rattle.lv_machine.specs.History.{cell_of, edits_of, elements_of, IsLegalHistory}
 use Rattle.lv_machine.specs.Layout.{part_place}
 use Rattle.lv_machine.specs.Shows.{block, mark_of}
 use Rattle.lv_machine.specs.Terms.{AreTerms, Folding, Terms}
@@ -68,7 +68,7 @@ at_still table z s u is read = record { at = read.stays.table ∙ is.at; terms =
 pub may_still : {B : Type 0} (t : Terms) (s u : Seat B) → MayRead t s → HasRead s u → MayRead t u
 may_still t s u may read = record {
   terms = may.terms;
-  legal = subst (IsLegal t) (sym (seen_still s u read)) may.legal;
+  legal = subst (IsLegalHistory t) (sym (seen_still s u read)) may.legal;
   ready = record {
     helped = λ has. ap (λ (a : Actor). a.helped) read.rest ∙ may.ready.helped (subst HasPending read.look has);
     marked = λ has. ap (λ (a : Actor). a.marked) read.rest ∙ may.ready.marked (subst HasPending read.look has);
@@ -87,7 +87,7 @@ pub mark_is_read : {B : Type 0} (t : Terms) (b : ℕ) (result : Result ℕ Refus
 mark_is_read t b result s u taken = record { stays = taken.stays; look = taken.look; quiet = taken.quiet; rest = taken.rest }
 
 -- a part of the mark's version is that of the whole block's fold
-pub part_read : (t : Terms) (x y : Actor) (at found b p : ℕ) → IsRead t x y at found → 8 * b < capacity_of t.limits.buckets → p < t.folding.parts → at ≡ part_place b p → is_whole (edits_of x.seen) (block b) ≡ true → part_version found ≡ mark_of b x.seen → part_value found ≡ t.folding.part p (cells_of (edits_of x.seen) (block b))
+pub part_read : (t : Terms) (x y : Actor) (at found b p : ℕ) → IsRead t x y at found → 8 * b < capacity_of t.limits.buckets → p < t.folding.parts → at ≡ part_place b p → is_whole (edits_of x.seen) (block b) ≡ true → part_version found ≡ mark_of b x.seen → part_value found ≡ t.folding.part p (elements_under (edits_of x.seen) (block b))
 part_read t x y at found b p read within few place whole version = part_is t b p found x.seen y.known read.terms read.legal read.seen (read.part b p (omega arith) few place) whole version
 
 -- of four zeros each is 0
@@ -120,7 +120,7 @@ module _ {S : Type 0} (parts_of : S → List ℕ) (s : S) where
         | inr past ↦ were.others p past ∙ sym (are.unused s p (omega arith))
       ])
 
-module _ {S : Type 0} (o : Operations S) (within : S → ℕ → Type 0) (laws : BodyLaws o within) (t : Terms) (k : List Entry) (terms : AreTerms t) (legal : IsLegal t k) where
+module _ {S : Type 0} (o : Operations S) (within : S → ℕ → Type 0) (laws : BodyLaws o within) (t : Terms) (k : List Entry) (terms : AreTerms t) (legal : IsLegalHistory t k) where
   can : CanFold (elements_of k)
   can = let inside = legal_within t k terms legal in record { few = omega (arith, inside.few); elements = inside.elements }
 
@@ -151,10 +151,10 @@ module _ {S : Type 0} (o : Operations S) (within : S → ℕ → Type 0) (laws :
     whole_is parts is =
         let first : walk.at / 8 * 8 ≡ walk.at = omega arith in
         let wide : 8 ≡ walk.at + 8 - walk.at = omega arith in
-        let eight = cells_of-length (edits_of k) (block (walk.at / 8)) (block_whole t k terms legal (walk.at / 8) (omega arith)) in
-        let short : All IsShort (cells_of (edits_of k) (block (walk.at / 8))) = All-take IsShort 8 (drop (walk.at / 8 * 8) (elements_of k)) (All-drop IsShort (walk.at / 8 * 8) (elements_of k) (all_short t k terms legal)) in
+        let eight = elements_under-length (edits_of k) (block (walk.at / 8)) (block_whole t k terms legal (walk.at / 8) (omega arith)) in
+        let short : All IsShort (elements_under (edits_of k) (block (walk.at / 8))) = All-take IsShort 8 (drop (walk.at / 8 * 8) (elements_of k)) (All-drop IsShort (walk.at / 8 * 8) (elements_of k) (all_short t k terms legal)) in
         ap whole_of is
-        ∙ has (cells_of (edits_of k) (block (walk.at / 8))) eight short
+        ∙ has (elements_under (edits_of k) (block (walk.at / 8))) eight short
         ∙ ap (λ n. fold_of o (take 8 (drop n (elements_of k)))) first
         ∙ ap (λ n. fold_of o (take n (drop walk.at (elements_of k)))) wide
 
@@ -192,7 +192,7 @@ come_then o lo at (Err refusal) s m u first next = record {
 pub may_after : {B : Type 0} (f : B → Folding) (y z : Basis B) (m u : Seat B) (found : ℕ) → y ≡ z → SeesAll (terms_of f y) (actor_of m) found → IsHelped m u → MayRead (terms_of f z) u
 may_after f y z m u found same sees helped = subst (λ w. MayRead (terms_of f w) u) same record {
   terms = sees.terms;
-  legal = subst (IsLegal (terms_of f y)) (sym helped.seen) sees.legal;
+  legal = subst (IsLegalHistory (terms_of f y)) (sym helped.seen) sees.legal;
   ready = helped.ready;
 }
 

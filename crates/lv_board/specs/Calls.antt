@@ -14,7 +14,7 @@ use Rattle.lv_machine.specs.declared.outcomes.Refreshed.{Refreshed}
 use Rattle.lv_machine.specs.Shows.{block, mark_of}
 use Rattle.lv_reduce.specs.Answer.{IsAnswer, range_refusal}
 use Rattle.lv_reduce.specs.declared.reductions.Answer.{Answer}
-use Rattle.lv_machine.specs.History.{edits_of, elements_of, Ends, IsLegal, own}
+use Rattle.lv_machine.specs.History.{edits_of, elements_of, Ends, IsLegalHistory, own}
 use Rattle.lv_machine.specs.Terms.{Terms}
 use Rattle.lv_board.specs.declared.actors.Actor.{Actor}
 use Rattle.lv_board.specs.declared.actors.Installed.{Installed}
@@ -26,7 +26,7 @@ use Rattle.lv_board.specs.Walks.{block_installed}
 pub record HasLooked (t : Terms) (x y : Actor) : Type 0 where
   pub quiet : IsQuiet x y
   pub fresh : Ends x.known y.seen
-  pub legal : IsLegal t y.seen
+  pub legal : IsLegalHistory t y.seen
 
 -- an edit was accepted, right after a history: it is the last entry of what the actor sees, and the last of its own
 pub record HasAdded (t : Terms) (x y : Actor) (edit : Edit) (h : List Entry) (receipt : Receipt) : Type 0 where
@@ -35,7 +35,7 @@ pub record HasAdded (t : Terms) (x y : Actor) (edit : Edit) (h : List Entry) (re
   pub known : y.known ≡ y.seen
   pub knew : Ends x.known h
   pub own_is : own x.number y.known ≡ record { actor = x.number; edit = edit } ∷ own x.number x.known
-  pub legal : IsLegal t y.seen
+  pub legal : IsLegalHistory t y.seen
   pub verdict : verdict_of t.limits (edits_of h) edit ≡ None
   pub receipt_is : receipt ≡ receipt_of (edits_of h) edit
 
@@ -73,7 +73,7 @@ TakeAnswers t x y edit i (Ok taken) =
     × (taken.1 ≡ slice_index_or (elements_of x.seen) i (pos 0))
 TakeAnswers t x y edit i (Err refusal) =
     (IsQuiet x y × (y.seen ≡ x.seen) × IsOvertaken y refusal)
-    ⊎ ((m : Actor) × IsQuiet x m × (m.seen ≡ x.seen) × IsQuiet m y × Ends m.known y.seen × IsLegal t y.seen × (length x.seen < length y.seen) × (refusal ≡ Contended (length y.seen)))
+    ⊎ ((m : Actor) × IsQuiet x m × (m.seen ≡ x.seen) × IsQuiet m y × Ends m.known y.seen × IsLegalHistory t y.seen × (length x.seen < length y.seen) × (refusal ≡ Contended (length y.seen)))
 
 -- what a read of an element answers
 abbrev pub GetAnswers : ℕ → Actor → Result Read Refusal → Type 0

@@ -4,7 +4,7 @@ use Rattle.std.specs.List.{range_with_len, sum_by}
 use Rattle.std.specs.List.Sorted.{IsPermutation}
 use Rattle.atomic_table.specs.Seated.{TableId}
 use Rattle.lv_machine.specs.declared.entries.Entry.{Entry}
-use Rattle.lv_machine.specs.History.{elements_of, Ends, IsLegal, own}
+use Rattle.lv_machine.specs.History.{elements_of, Ends, IsLegalHistory, own}
 use Rattle.lv_machine.specs.Layout.{cell_place}
 use Rattle.lv_machine.specs.Shows.{ShowsHistory}
 use Rattle.lv_machine.specs.Terms.{AreTerms, Terms}
@@ -56,7 +56,7 @@ module _ {B : Type 0} where
   -- and each of those seats knows an earlier one, with all entries of its own
   pub record IsEnded (t : Terms) (seats : List (Seat B)) (closed : Closed) : Type 0 where
     pub history : List Entry
-    pub legal : IsLegal t history
+    pub legal : IsLegalHistory t history
     pub edit : closed.edit ≡ length history
     pub elements : closed.elements ≡ elements_of history
     pub few : length closed.elements ≤ 4088
@@ -66,7 +66,7 @@ module _ {B : Type 0} where
   -- an earlier one, with all entries of its own; and the entries of all seats are all that there are
   pub record IsClosed (t : Terms) (seats : List (Seat B)) (closed : Closed) : Type 0 where
     pub history : List Entry
-    pub legal : IsLegal t history
+    pub legal : IsLegalHistory t history
     pub edit : closed.edit ≡ length history
     pub elements : closed.elements ≡ elements_of history
     pub known : All (λ s. IsKept history (actor_of s)) seats

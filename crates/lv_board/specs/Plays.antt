@@ -3,7 +3,7 @@ use Rattle.std.specs.Prelude.{◌≡◌, ℕ, ◌<◌, true, [], ◌∷◌, leng
 use Rattle.atomic_table.specs.Table.{Me, Step}
 use Rattle.lv_geometry.specs.Cells.{capacity_of}
 use Rattle.lv_machine.specs.declared.entries.Entry.{Entry}
-use Rattle.lv_machine.specs.History.{descriptor_of, Ends, IsLegal, own}
+use Rattle.lv_machine.specs.History.{descriptor_of, Ends, IsLegalHistory, own}
 use Rattle.lv_machine.specs.Layout.{cell_place, mark_place, part_place}
 use Rattle.lv_machine.specs.Shows.{FitsPart, IsCellRead, IsMarkRead}
 use Rattle.lv_machine.specs.Terms.{AreTerms, blocks_of, Folding, Terms}
@@ -25,7 +25,7 @@ pub record SeesAll (t : Terms) (y : Actor) (found : ℕ) : Type 0 where
   pub terms : AreTerms t
   pub all : y.seen ≡ y.known
   pub found_is : found ≡ descriptor_of y.seen
-  pub legal : IsLegal t y.seen
+  pub legal : IsLegalHistory t y.seen
   pub made : own y.number y.known ≡ y.own
 
 -- what a load of the word at a place tells
@@ -34,7 +34,7 @@ pub record IsRead (t : Terms) (x y : Actor) (at found : ℕ) : Type 0 where
   pub quiet : IsQuiet x y
   pub rest : y ≡ record x { known = y.known }
   pub seen : Ends x.seen y.known
-  pub legal : IsLegal t y.known
+  pub legal : IsLegalHistory t y.known
   pub cell : (i : ℕ) → i < capacity_of t.limits.buckets → at ≡ cell_place i → (HasPending (descriptor_of x.seen) → x.helped ≡ true) → IsCellRead i x.seen y.known found
   pub mark : (b : ℕ) → b < blocks_of t.limits → at ≡ mark_place b → (HasPending (descriptor_of x.seen) → x.marked ≡ true) → IsMarkRead b x.seen y.known found
   pub part : (b p : ℕ) → b < blocks_of t.limits → p < t.folding.parts → at ≡ part_place b p → FitsPart t.folding y.known b p found
@@ -47,7 +47,7 @@ pub record IsAccepted (t : Terms) (x y : Actor) (entry : Entry) : Type 0 where
   pub seen : y.seen ≡ entry ∷ x.seen
   pub known : y.known ≡ entry ∷ x.seen
   pub made : y.own ≡ entry ∷ x.own
-  pub legal : IsLegal t (entry ∷ x.seen)
+  pub legal : IsLegalHistory t (entry ∷ x.seen)
 
 -- another descriptor was found, of a longer history, which the actor sees now
 pub record IsContended (t : Terms) (x y : Actor) (found : ℕ) : Type 0 where

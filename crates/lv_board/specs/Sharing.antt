@@ -22,7 +22,7 @@ use Rattle.lv_machine.specs.declared.outcomes.Refreshed.{Refreshed}
 use Rattle.lv_machine.specs.declared.outcomes.Said.{Said}
 use Rattle.lv_machine.specs.declared.outcomes.Said.TheVariants as said
 use Rattle.lv_machine.specs.declared.entries.Entry.{Entry}
-use Rattle.lv_machine.specs.History.{edits_of, elements_of, IsLegal}
+use Rattle.lv_machine.specs.History.{edits_of, elements_of, IsLegalHistory}
 use Rattle.lv_machine.specs.Terms.{Folding, Terms}
 use Rattle.lv_board.specs.declared.actors.Actor.{Actor}
 use Rattle.lv_board.specs.declared.closing.Closed.{Closed}
@@ -79,7 +79,7 @@ IsUnseated old NoMemory = 0 < length old.left
 -- had taken knows an earlier one, with all entries of its own
 pub record IsClosedShared (old : Shared) (closed : Closed) : Type 0 where
   pub history : List Entry
-  pub legal : IsLegal old.terms history
+  pub legal : IsLegalHistory old.terms history
   pub edit : closed.edit ≡ length history
   pub elements : closed.elements ≡ elements_of history
   pub few : length closed.elements ≤ 4088

@@ -1,7 +1,7 @@
 -- What the calls of a board tell of a seat, before and after.
 use Rattle.std.specs.Prelude.{◌≡◌, ℕ, ◌<◌, ◌≤◌, Bool, true, List, ◌∷◌, length, ℤ, Result, IfOk, IfErr, MatchBool}
 use Rattle.lv_machine.specs.declared.entries.Entry.{Entry}
-use Rattle.lv_machine.specs.History.{cell_of, IsLegal}
+use Rattle.lv_machine.specs.History.{cell_of, IsLegalHistory}
 use Rattle.lv_machine.specs.Words.{signed, value_of}
 use Rattle.lv_machine.specs.Shows.{mark_of}
 use Rattle.lv_machine.specs.Terms.{AreTerms, Folding, Terms}
@@ -109,7 +109,7 @@ module _ {B : Type 0} where
     pub quiet : IsQuiet (actor_of s) (actor_of u)
     pub rest : actor_of u ≡ record (actor_of s) { known = (actor_of u).known }
     pub terms : AreTerms t
-    pub legal : IsLegal t (actor_of s).seen
+    pub legal : IsLegalHistory t (actor_of s).seen
     pub taken : IfOk result (λ x. x ≡ signed (value_of (cell_of i (actor_of s).seen)))
     pub overtaken : IfErr result (λ refusal. IsOvertaken (actor_of u) refusal)
 
@@ -120,6 +120,6 @@ module _ {B : Type 0} where
     pub quiet : IsQuiet (actor_of s) (actor_of u)
     pub rest : actor_of u ≡ record (actor_of s) { known = (actor_of u).known }
     pub terms : AreTerms t
-    pub legal : IsLegal t (actor_of s).seen
+    pub legal : IsLegalHistory t (actor_of s).seen
     pub taken : IfOk result (λ mark. mark ≡ mark_of b (actor_of s).seen)
     pub overtaken : IfErr result (λ refusal. IsOvertaken (actor_of u) refusal)

@@ -2,9 +2,9 @@
 use Rattle.std.specs.Prelude.{◌≡◌, ℕ, zero, suc, ◌+◌, ◌*◌, ◌<◌, ◌≤◌, List, ◌∷◌, length, Result, IfOk, IfErr, slice_index, slice_range}
 use Rattle.lv_geometry.specs.declared.refusals.Refusal.{Refusal}
 use Rattle.lv_bodies.specs.Body.{fold_of, Operations}
-use Rattle.lv_edits.specs.Touch.{cells_of}
+use Rattle.lv_edits.specs.Touch.{elements_under}
 use Rattle.lv_machine.specs.declared.entries.Entry.{Entry}
-use Rattle.lv_machine.specs.History.{edits_of, elements_of, IsLegal}
+use Rattle.lv_machine.specs.History.{edits_of, elements_of, IsLegalHistory}
 use Rattle.lv_machine.specs.Layout.{part_place}
 use Rattle.lv_machine.specs.Shows.{block, mark_of}
 use Rattle.lv_machine.specs.Terms.{AreTerms, Terms}
@@ -18,12 +18,12 @@ use Rattle.lv_board.specs.Tells.{actor_of, IsOvertaken, Stays}
 
 -- the fold of a block's elements
 abbrev pub block_fold : {S : Type 0} → Operations S → ℕ → List Entry → S
-block_fold o b k = fold_of o (cells_of (edits_of k) (block b))
+block_fold o b k = fold_of o (elements_under (edits_of k) (block b))
 
 -- the words of the first so many parts of a block, as a history shows it, ahead of others: the last first
 abbrev pub block_installed : Terms → ℕ → List Entry → ℕ → List Installed → List Installed
 block_installed t b h zero xs = xs
-block_installed t b h (suc p) xs = record { place = part_place b p; word = part_word (mark_of b h) (t.folding.part p (cells_of (edits_of h) (block b))) } ∷ block_installed t b h p xs
+block_installed t b h (suc p) xs = record { place = part_place b p; word = part_word (mark_of b h) (t.folding.part p (elements_under (edits_of h) (block b))) } ∷ block_installed t b h p xs
 
 -- a walk has the fold of the elements before where it stands, of which it counted each once
 pub record Sums {S : Type 0} (o : Operations S) (k : List Entry) (walk : Walk S) : Type 0 where
@@ -55,7 +55,7 @@ module _ {B : Type 0} where
   -- a seat may load what shows the history that it saw: that is legal, and its pending write is complete
   pub record MayRead (t : Terms) (s : Seat B) : Type 0 where
     pub terms : AreTerms t
-    pub legal : IsLegal t (actor_of s).seen
+    pub legal : IsLegalHistory t (actor_of s).seen
     pub ready : IsReady (actor_of s) s.look
 
   -- a seat has loaded words, and sees what it saw before

@@ -1,6 +1,6 @@
 //! The steps on marks and parts: loads of both, and the fetch-max that installs a part.
 ghost use Rattle.std.specs.Prelude.{◌≡◌, ◌<◌, ◌*◌, true, IfOk, IfErr, IfSome};
-ghost use Rattle.lv_edits.specs.Touch.{cells_of, is_whole};
+ghost use Rattle.lv_edits.specs.Touch.{elements_under, is_whole};
 ghost use Rattle.lv_geometry.specs.Cells.{capacity_of};
 ghost use Rattle.lv_machine.specs.History.{edits_of};
 ghost use Rattle.lv_machine.specs.Layout.{part_place};
@@ -38,7 +38,7 @@ impl<B: Parted> Board<B> {
         requires within { 8 * b < capacity_of self.now.terms.buckets }
         requires part { part < B.PARTS }
         requires whole { is_whole (edits_of (actor_of seat.old).seen) (block b) ≡ true }
-        requires word { word ≡ part_word (mark_of b (actor_of seat.old).seen) ((terms_of (folds B.PARTS B.parts_of (λ b. B.operations (B.meaning b))) self.now.terms).folding.part part (cells_of (edits_of (actor_of seat.old).seen) (block b))) }
+        requires word { word ≡ part_word (mark_of b (actor_of seat.old).seen) ((terms_of (folds B.PARTS B.parts_of (λ b. B.operations (B.meaning b))) self.now.terms).folding.part part (elements_under (edits_of (actor_of seat.old).seen) (block b))) }
         ensures { IsInstalled (part_place b part) word seat.old seat.new }
     {
         self.table

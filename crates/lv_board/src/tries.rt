@@ -14,7 +14,7 @@ ghost use Rattle.lv_board.specs.Tells.{actor_of, entry_of, IsAt, IsSame, Stays};
 use crate::board::Board;
 use crate::seats::Seat;
 use crate::verdicts::verdict;
-use crate::words::{after_edit, edit_in, fits_short, size_in};
+use crate::words::{edit_in, fits_short, look_after, size_in};
 use lv_bodies::Parted;
 use lv_edits::{Edit, Receipt};
 use lv_geometry::Refusal;
@@ -33,7 +33,7 @@ impl<B: Parted> Board<B> {
         ensures refusal { IfErr result (λ e. e ≡ Refusal.Contended (length (actor_of seat.new).seen)) }
         ensures contended { IfErr result (λ e. IsContended (terms_of (folds B.PARTS B.parts_of (λ b. B.operations (B.meaning b))) seat.old.terms) (actor_of seat.old) (actor_of seat.new) seat.new.look) }
     {
-        let new = after_edit(seat.look, edit);
+        let new = look_after(seat.look, edit);
         if self.exchange(seat, edit, new) {
             Ok(edit_in(seat.look))
         } else {

@@ -3,7 +3,7 @@ ghost use Rattle.std.specs.Prelude.{◌≡◌, []};
 ghost use Rattle.lv_machine.specs.History.{descriptor_of};
 
 pub(crate) use lv_machine::{
-    after_edit, cell_place_of, edit_in, element, fits_short, index_in, mark_place_of, pack_cell,
+    cell_place_of, edit_in, element, fits_short, index_in, look_after, mark_place_of, pack_cell,
     pack_part, part_place_of, part_value_in, part_version_in, size_in, value_in, version_in,
 };
 

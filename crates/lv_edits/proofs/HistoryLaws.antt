@@ -14,7 +14,7 @@ use Rattle.lv_geometry.specs.declared.refusals.Refusal.TheVariants.{Empty, Full,
 use Rattle.lv_edits.specs.declared.edit.Edit.{Edit}
 use Rattle.lv_edits.specs.declared.edit.Edit.TheVariants.{Push, Pop, Write, Reserve, Swap, Truncate}
 use Rattle.lv_edits.specs.History.{applied, History, IsLegal, list_of, replayed, with_edit}
-use Rattle.lv_edits.specs.Kept.{CarriesElement, InLimits}
+use Rattle.lv_edits.specs.Kept.{CarriesElement, IsLegalInLimits}
 use Rattle.lv_geometry.proofs.Capacities.{capacity_of_most}
 use Rattle.lv_edits.specs.Verdict.{refused_on, verdict_of}
 
@@ -215,8 +215,8 @@ length_after limits xs ys (Truncate n) free made fits =
     omega (arith, ap length (cond_some _ _ _ made).1, length-take n xs)
 
 -- a history is within its limits where its edits make a list that is
-pub InLimits-by : (limits : Bounds) (es : List Edit) (xs : List ℤ) → AreAllowed limits.buckets limits.edits → replayed es ≡ Some xs → length es ≤ limits.edits → length xs ≤ capacity_of limits.buckets → All IsElement xs → InLimits record { limits = limits; journal = es }
-InLimits-by limits es xs allowed made edits size elements =
+pub IsLegalInLimits-by : (limits : Bounds) (es : List Edit) (xs : List ℤ) → AreAllowed limits.buckets limits.edits → replayed es ≡ Some xs → length es ≤ limits.edits → length xs ≤ capacity_of limits.buckets → All IsElement xs → IsLegalInLimits record { limits = limits; journal = es }
+IsLegalInLimits-by limits es xs allowed made edits size elements =
     let same : list_of es ≡ xs = list_of_replayed es xs made in
     let long : length (list_of es) ≡ length xs = ap length same in
     record {
@@ -229,18 +229,18 @@ InLimits-by limits es xs allowed made edits size elements =
     }
 
 -- the empty history is within its limits
-pub InLimits-empty : (limits : Bounds) → AreAllowed limits.buckets limits.edits → InLimits record { limits = limits; journal = [] }
-InLimits-empty limits allowed =
-    InLimits-by limits [] [] allowed replayed-nil (omega arith) (omega arith) (All-nil IsElement)
+pub IsLegalInLimits-empty : (limits : Bounds) → AreAllowed limits.buckets limits.edits → IsLegalInLimits record { limits = limits; journal = [] }
+IsLegalInLimits-empty limits allowed =
+    IsLegalInLimits-by limits [] [] allowed replayed-nil (omega arith) (omega arith) (All-nil IsElement)
 
 -- a history within its limits stays so with one more edit that is accepted and carries an element
-pub InLimits-snoc : (h : History) (e : Edit) → InLimits h → verdict_of h.limits h.journal e ≡ None → CarriesElement e → InLimits (with_edit h e)
-InLimits-snoc h e within free carried =
+pub IsLegalInLimits-snoc : (h : History) (e : Edit) → IsLegalInLimits h → verdict_of h.limits h.journal e ≡ None → CarriesElement e → IsLegalInLimits (with_edit h e)
+IsLegalInLimits-snoc h e within free carried =
     let limits = h.limits in
     let left = not_refused limits h.journal e free in
     let next = accepted_is_possible limits h.journal e free in
     let made = list_of-snoc h.journal e next.0 within.legal next.1 in
-    InLimits-by limits (h.journal ++ e ∷ []) next.0 within.allowed made.0
+    IsLegalInLimits-by limits (h.journal ++ e ∷ []) next.0 within.allowed made.0
     (omega (arith, left.0, length_push h.journal e, within.edits))
     (length_after limits (list_of h.journal) next.0 e left.1 next.1 within.size)
     (elements_after (list_of h.journal) next.0 e next.1 carried within.elements)

@@ -1,5 +1,5 @@
 -- A store that holds what a journal leaves: what it tells of the history, and that it goes on to hold it through each kind of edit.
-use Rattle.std.proofs.Common.{◌≡◌, ℕ, ℤ, pos, ◌+◌, ◌-◌, ◌<◌, ◌≤◌, max, Some, None, Option, List, [], ◌∷◌, ◌++◌, length, take, slice_set, get_or, inl, inr, Bool, true, false, nat_eq, if◌then◌else◌, refl, sym, ap, subst, ◌∙◌, arith}
+use Rattle.std.proofs.Common.{◌≡◌, ℕ, ℤ, pos, ◌+◌, ◌-◌, ◌<◌, ◌≤◌, max, All, Some, None, Option, List, [], ◌∷◌, ◌++◌, length, take, slice_set, get_or, inl, inr, Bool, true, false, nat_eq, if◌then◌else◌, refl, sym, ap, subst, ◌∙◌, arith}
 use Rattle.std.specs.Prelude.{◌≢◌, IfSome, IsSomeAnd}
 use Rattle.std.specs.List.{swap}
 use Rattle.std.proofs.lemmas.Bool.{cases_Bool, cond-false, cond-true, eqb-false, eqb-true}
@@ -15,39 +15,39 @@ use Rattle.lv_store.proofs.ElementsLaws.{elements-popped, elements-pushed, eleme
 use Rattle.lv_geometry.proofs.Capacities.{capacity_of_mono}
 use Rattle.lv_edits.specs.declared.edit.Edit.{Edit}
 use Rattle.lv_edits.specs.declared.edit.Edit.TheVariants.{Push, Pop, Write, Reserve, Swap, Truncate}
-use Rattle.lv_edits.specs.Capacity.{reserved_by}
+use Rattle.lv_edits.specs.Capacity.{capacity_after, reserved_by}
 use Rattle.lv_edits.specs.History.{applied, list_of}
-use Rattle.lv_edits.specs.Inner.{HoldsReplay, write_at_second}
-use Rattle.lv_edits.specs.Kept.{CarriesElement, InLimits}
-use Rattle.lv_edits.specs.Verdict.{verdict_of}
-use Rattle.lv_edits.proofs.CapacityLaws.{AreNeeded-empty}
-use Rattle.lv_edits.proofs.HistoryLaws.{applied_pop, applied_swap, applied_truncate, applied_write, unrefused_pop, unrefused_push, unrefused_reserve, unrefused_swap, unrefused_truncate, unrefused_write}
-use Rattle.lv_edits.proofs.InnerLaws.{InLimits-replay, IsReplay-empty, IsReplay-snoc, items_are_list, needed_after, unrefused_on_items}
-
--- the history is within the limits
-pub InLimits-held : (s : StoreState) (journal : List Edit) → HoldsReplay s journal → InLimits record { limits = s.limits; journal = journal }
-InLimits-held s journal held = InLimits-replay (elements_of s) journal s.limits s.buckets held.replay
+use Rattle.lv_edits.specs.Inner.{AreNeeded, HoldsReplay, write_at_second}
+use Rattle.lv_edits.specs.Kept.{CarriesElement, IsLegalInLimits}
+use Rattle.lv_edits.specs.Verdict.{refused_on, verdict_of}
+use Rattle.lv_edits.proofs.CapacityLaws.{AreNeeded-empty, AreNeeded-snoc, capacity_after_needed, fewest_within}
+use Rattle.lv_edits.proofs.HistoryLaws.{IsLegalInLimits-empty, IsLegalInLimits-snoc, applied_pop, applied_swap, applied_truncate, applied_write, list_of-snoc, list_of_replayed, not_refused, replayed-nil, unrefused_pop, unrefused_push, unrefused_reserve, unrefused_swap, unrefused_truncate, unrefused_write}
 
 -- the list has as many elements as the store
 pub size_held : (s : StoreState) (journal : List Edit) → HoldsReplay s journal → s.descriptor.size ≡ length (list_of journal)
-size_held s journal held =
-    sym (ap length (items_are_list (elements_of s) journal s.limits s.buckets held.replay) ∙ length-elements s)
+size_held s journal held = sym (ap length (sym held.items) ∙ length-elements s)
+
+-- the open cells are as many as the history ever needed
+pub capacity_held : (s : StoreState) (journal : List Edit) → HoldsReplay s journal → capacity_of s.buckets ≡ capacity_after journal
+capacity_held s journal held =
+    sym (capacity_after_needed journal s.buckets held.needed (omega (arith, held.sound.few, held.kept.allowed.few_buckets)))
 
 -- what the store reads at an index of the list is the list's element
 pub read_held : (s : StoreState) (journal : List Edit) (i : ℕ) (d : ℤ) → HoldsReplay s journal → i < s.descriptor.size → value_in s i ≡ get_or (list_of journal) i d
 read_held s journal i d held inside =
-    sym (ap (λ xs. get_or xs i d) (items_are_list (elements_of s) journal s.limits s.buckets held.replay) ∙ get_or-elements s i d inside)
+    sym (ap (λ xs. get_or xs i d) (sym held.items) ∙ get_or-elements s i d inside)
 
 -- and a number of 64 bits
 pub fits_held : (s : StoreState) (journal : List Edit) (i : ℕ) → HoldsReplay s journal → i < s.descriptor.size → IsElement (value_in s i)
 fits_held s journal i held inside =
-    subst IsElement (get_or-elements s i (pos 0) inside) (All-get_or IsElement (elements_of s) i (pos 0) (omega (arith, length-elements s)) held.replay.elements)
+    subst IsElement (get_or-elements s i (pos 0) inside) (All-get_or IsElement (elements_of s) i (pos 0) (omega (arith, length-elements s)) (subst (All IsElement) (sym held.items) held.kept.elements))
 
 -- no edits are held by an empty store
 pub HoldsReplay-empty : (limits : Bounds) → IsStore (empty_store limits) → HoldsReplay (empty_store limits) []
 HoldsReplay-empty limits sound = record {
   sound = sound;
-  replay = IsReplay-empty limits sound.allowed;
+  kept = IsLegalInLimits-empty limits sound.allowed;
+  items = sym (list_of_replayed [] [] replayed-nil);
   needed = AreNeeded-empty;
   edit = refl;
 }
@@ -56,14 +56,23 @@ HoldsReplay-empty limits sound = record {
 pub HoldsReplay-alike : (s t : StoreState) (journal : List Edit) → HoldsReplay s journal → AreAlike s t → t.buckets ≡ s.buckets → IsStore t → HoldsReplay t journal
 HoldsReplay-alike s t journal held alike buckets sound = record {
   sound = sound;
-  replay = rw (elements_alike s t alike, alike.limits, buckets) held.replay;
+  kept = rw alike.limits held.kept;
+  items = elements_alike s t alike ∙ held.items;
   needed = rw buckets held.needed;
   edit = alike.edit ∙ held.edit;
 }
 
 -- and tells the same of the history
-pub InLimits-alike : (s t : StoreState) (journal : List Edit) → HoldsReplay s journal → AreAlike s t → InLimits record { limits = t.limits; journal = journal }
-InLimits-alike s t journal held alike = rw alike.limits (InLimits-held s journal held)
+pub IsLegalInLimits-alike : (s t : StoreState) (journal : List Edit) → HoldsReplay s journal → AreAlike s t → IsLegalInLimits record { limits = t.limits; journal = journal }
+IsLegalInLimits-alike s t journal held alike = rw alike.limits held.kept
+
+-- nothing refuses an accepted edit on the elements
+unrefused_held : (s : StoreState) (journal : List Edit) (e : Edit) → HoldsReplay s journal → verdict_of s.limits journal e ≡ None → refused_on s.limits (elements_of s) e ≡ None
+unrefused_held s journal e held free = subst (λ xs. refused_on s.limits xs e ≡ None) (sym held.items) (not_refused s.limits journal e free).1
+
+-- what an accepted edit makes of the elements is the list after it
+list_held : (s : StoreState) (journal : List Edit) (e : Edit) (ys : List ℤ) → HoldsReplay s journal → applied (elements_of s) e ≡ Some ys → list_of (journal ++ e ∷ []) ≡ ys
+list_held s journal e ys held made = (list_of-snoc journal e ys held.kept.legal (ap (λ xs. applied xs e) (sym held.items) ∙ made)).1
 
 -- what an accepted edit asks of the cells: n of them are enough for it beyond the open ones, it needs no more, and the limits allow them
 record Asks (s : StoreState) (e : Edit) (ys : List ℤ) (n : ℕ) : Type 0 where
@@ -71,22 +80,28 @@ record Asks (s : StoreState) (e : Edit) (ys : List ℤ) (n : ℕ) : Type 0 where
   no_less : max (length ys) (reserved_by e) ≤ max n (capacity_of s.buckets)
   within : n ≤ capacity_of s.limits.buckets
 
+-- the buckets that are needed after it are those for n cells, where these are more
+needed_held : (s : StoreState) (journal : List Edit) (e : Edit) (ys : List ℤ) (n more : ℕ) → HoldsReplay s journal → applied (elements_of s) e ≡ Some ys → Asks s e ys n → ((k : ℕ) → AreFewest n k → more ≡ max s.buckets k) → AreNeeded (journal ++ e ∷ []) more
+needed_held s journal e ys n more held made asks opens =
+    let long : length (list_of (journal ++ e ∷ [])) ≡ length ys = ap length (list_held s journal e ys held made) in
+    let fewest = fewest_within n s.limits.buckets asks.within in
+    subst (AreNeeded (journal ++ e ∷ [])) (sym (opens fewest.0 fewest.2)) (AreNeeded-snoc journal e s.buckets fewest.0 n held.needed fewest.2 (omega (arith, asks.no_more)) (omega (arith, asks.no_less)))
+
 -- an edit that is announced to a store that reads alike, with the cells open that it asks for, is held
 HoldsReplay-announced : (s m : StoreState) (journal : List Edit) (e : Edit) (ys : List ℤ) (n : ℕ) (first second : Option (ℕ × ℤ)) (size : ℕ) → HoldsReplay s journal → verdict_of s.limits journal e ≡ None → applied (elements_of s) e ≡ Some ys → CarriesElement e → Asks s e ys n → AreAlike s m → ((k : ℕ) → AreFewest n k → m.buckets ≡ max s.buckets k) → IsStore (announced m first second size) → elements_of (announced m first second size) ≡ ys → HoldsReplay (announced m first second size) (journal ++ e ∷ [])
 HoldsReplay-announced s m journal e ys n first second size held free made carried asks alike opens sound elements =
-    let needed = needed_after (elements_of s) ys journal s.limits s.buckets m.buckets n e held.replay held.needed made asks.no_more asks.no_less asks.within opens in
-    let few : m.buckets ≤ s.limits.buckets = omega (arith, sound.few, ap (λ l. l.buckets) alike.limits) in
     record {
       sound = sound;
-      replay = rw (elements, alike.limits) (IsReplay-snoc (elements_of s) ys journal s.limits s.buckets m.buckets e held.replay free made carried needed few);
-      needed = needed;
+      kept = rw alike.limits (IsLegalInLimits-snoc record { limits = s.limits; journal = journal } e held.kept free carried);
+      items = elements ∙ sym (list_held s journal e ys held made);
+      needed = needed_held s journal e ys n m.buckets held made asks opens;
       edit = omega (arith, alike.edit, held.edit, length_push journal e);
     }
 
 -- an accepted push has room within the limits
 pub push_fits : (s : StoreState) (journal : List Edit) (x : ℤ) → HoldsReplay s journal → verdict_of s.limits journal (Push x) ≡ None → s.descriptor.size + 1 ≤ capacity_of s.limits.buckets
 push_fits s journal x held free =
-    let not_full = unrefused_push s.limits (elements_of s) x (unrefused_on_items _ _ _ _ (Push x) held.replay free) in
+    let not_full = unrefused_push s.limits (elements_of s) x (unrefused_held s journal (Push x) held free) in
     omega (arith, not_full, length-elements s, held.sound.size, capacity_of_mono s.buckets s.limits.buckets held.sound.few)
 
 -- and is held once it is announced
@@ -104,7 +119,7 @@ push_held s m journal x i at held free fits alike settled opens sound =
 -- there is an element where a pop is accepted
 pub pop_fits : (s : StoreState) (journal : List Edit) → HoldsReplay s journal → verdict_of s.limits journal Pop ≡ None → 1 ≤ s.descriptor.size
 pop_fits s journal held free =
-    omega (arith, unrefused_pop s.limits (elements_of s) (unrefused_on_items _ _ _ _ Pop held.replay free), length-elements s)
+    omega (arith, unrefused_pop s.limits (elements_of s) (unrefused_held s journal Pop held free), length-elements s)
 
 -- and it is held once one element fewer is announced
 pub pop_held : (s m : StoreState) (journal : List Edit) (last : ℕ) → last ≡ s.descriptor.size - 1 → HoldsReplay s journal → verdict_of s.limits journal Pop ≡ None → AreAlike s m → m.descriptor.pending ≡ None → ((k : ℕ) → AreFewest 0 k → m.buckets ≡ max s.buckets k) → IsStore (announced m None None last) → HoldsReplay (announced m None None last) (journal ++ Pop ∷ [])
@@ -121,7 +136,7 @@ pop_held s m journal last at held free alike settled opens sound =
 -- the index of an accepted write is that of an element
 pub write_fits : (s : StoreState) (journal : List Edit) (i : ℕ) (x : ℤ) → HoldsReplay s journal → verdict_of s.limits journal (Write i x) ≡ None → i < s.descriptor.size
 write_fits s journal i x held free =
-    omega (arith, unrefused_write s.limits (elements_of s) i x (unrefused_on_items _ _ _ _ (Write i x) held.replay free), length-elements s)
+    omega (arith, unrefused_write s.limits (elements_of s) i x (unrefused_held s journal (Write i x) held free), length-elements s)
 
 -- and it is held once it is announced
 pub write_held : (s m : StoreState) (journal : List Edit) (i : ℕ) (x : ℤ) (size : ℕ) → size ≡ m.descriptor.size → HoldsReplay s journal → verdict_of s.limits journal (Write i x) ≡ None → IsElement x → AreAlike s m → m.descriptor.pending ≡ None → ((k : ℕ) → AreFewest 0 k → m.buckets ≡ max s.buckets k) → IsStore (announced m (Some (i, x)) None size) → HoldsReplay (announced m (Some (i, x)) None size) (journal ++ Write i x ∷ [])
@@ -137,7 +152,7 @@ write_held s m journal i x size at held free fits alike settled opens sound =
 -- what an accepted reserve asks for is within the limits
 pub reserve_fits : (s : StoreState) (journal : List Edit) (n : ℕ) → HoldsReplay s journal → verdict_of s.limits journal (Reserve n) ≡ None → n ≤ capacity_of s.limits.buckets
 reserve_fits s journal n held free =
-    unrefused_reserve s.limits (elements_of s) n (unrefused_on_items _ _ _ _ (Reserve n) held.replay free)
+    unrefused_reserve s.limits (elements_of s) n (unrefused_held s journal (Reserve n) held free)
 
 -- and it is held once its number is announced
 pub reserve_held : (s m : StoreState) (journal : List Edit) (n size : ℕ) → size ≡ m.descriptor.size → HoldsReplay s journal → verdict_of s.limits journal (Reserve n) ≡ None → AreAlike s m → m.descriptor.pending ≡ None → ((k : ℕ) → AreFewest n k → m.buckets ≡ max s.buckets k) → IsStore (announced m None None size) → HoldsReplay (announced m None None size) (journal ++ Reserve n ∷ [])
@@ -152,7 +167,7 @@ reserve_held s m journal n size at held free alike settled opens sound =
 -- the indices of an accepted swap are those of elements
 pub swap_fits : (s : StoreState) (journal : List Edit) (i j : ℕ) → HoldsReplay s journal → verdict_of s.limits journal (Swap i j) ≡ None → (i < s.descriptor.size) × (j < s.descriptor.size)
 swap_fits s journal i j held free =
-    let both = unrefused_swap s.limits (elements_of s) i j (unrefused_on_items _ _ _ _ (Swap i j) held.replay free) in
+    let both = unrefused_swap s.limits (elements_of s) i j (unrefused_held s journal (Swap i j) held free) in
     (omega (arith, both.0, length-elements s), omega (arith, both.1, length-elements s))
 
 -- the second of its writes, where it has two, is at another index than the first
@@ -207,7 +222,7 @@ swap_held s m journal i j x y size at before after held free alike settled opens
 -- an accepted truncate keeps no more elements than there are
 pub truncate_fits : (s : StoreState) (journal : List Edit) (n : ℕ) → HoldsReplay s journal → verdict_of s.limits journal (Truncate n) ≡ None → n ≤ s.descriptor.size
 truncate_fits s journal n held free =
-    omega (arith, unrefused_truncate s.limits (elements_of s) n (unrefused_on_items _ _ _ _ (Truncate n) held.replay free), length-elements s)
+    omega (arith, unrefused_truncate s.limits (elements_of s) n (unrefused_held s journal (Truncate n) held free), length-elements s)
 
 -- and it is held once that size is announced
 pub truncate_held : (s m : StoreState) (journal : List Edit) (n : ℕ) → HoldsReplay s journal → verdict_of s.limits journal (Truncate n) ≡ None → AreAlike s m → m.descriptor.pending ≡ None → ((k : ℕ) → AreFewest 0 k → m.buckets ≡ max s.buckets k) → IsStore (announced m None None n) → HoldsReplay (announced m None None n) (journal ++ Truncate n ∷ [])

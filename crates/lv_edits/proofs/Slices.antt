@@ -1,7 +1,6 @@
 -- Slices and parts of a list: which grow by one element, and which stay when the list changes elsewhere.
-use Rattle.std.proofs.Common.{◌≡◌, ℕ, ◌+◌, ◌-◌, ◌⊎◌, ◌<◌, ◌≤◌, Some, List, [], ◌∷◌, ◌++◌, length, take, drop, slice_get, slice_set, slice_range, slice_index_or, arith, sym, ap, ◌∙◌, inl, inr, length-drop}
+use Rattle.std.proofs.Common.{◌≡◌, ℕ, ◌+◌, ◌-◌, ◌⊎◌, ◌<◌, ◌≤◌, List, [], ◌∷◌, ◌++◌, length, take, drop, slice_set, slice_range, slice_index_or, arith, sym, ap, ◌∙◌, inl, inr, length-drop}
 use Rattle.std.proofs.lemmas.List.{drop-append-le, drop-set-add, drop-set-lt, drop-take, get_or-drop, length-take-le, take_more, take-append-le, take-set-le, take-take}
-use Rattle.std.proofs.lemmas.Option.{slice_get_cases}
 
 -- a slice that ends one place later has the element there at its end
 pub slice_range-more : {A : Type 0} (xs : List A) (lo i : ℕ) (x : A) → lo ≤ i → i < length xs → x ≡ slice_index_or xs i x → slice_range xs lo (i + 1) ≡ slice_range xs lo i ++ x ∷ []
@@ -16,11 +15,6 @@ slice_range-more xs lo i x low small at =
 -- a slice inside a list is as long as its bounds are apart
 pub length-slice_range : {A : Type 0} (xs : List A) (lo hi : ℕ) → lo ≤ hi → hi ≤ length xs → length (slice_range xs lo hi) ≡ hi - lo
 length-slice_range xs lo hi low high = length-take-le (hi - lo) (drop lo xs) (omega (arith, length-drop lo xs))
-
--- there is an element at each index
-pub there_is : {A : Type 0} (xs : List A) (i : ℕ) → i < length xs → (x : A) × (slice_get xs i ≡ Some x)
-there_is xs i inside =
-    elim ((slice_get_cases xs i).1) [ inl (x, _, is, _) ↦ (x, is) | inr (past, _) ↦ absurd (omega arith) ]
 
 -- the elements of a part of a list stay where one more is put at its end
 pub part_of_push : {A : Type 0} (xs : List A) (x : A) (from size : ℕ) → from + size ≤ length xs → take size (drop from (xs ++ x ∷ [])) ≡ take size (drop from xs)

@@ -17,7 +17,7 @@ use Rattle.lv_edits.specs.History.{applied, list_of, replayed}
 use Rattle.lv_geometry.proofs.Ranges.{last_pass, last_pass-more, last_pass-none, last_pass_le, last_pass_mono, last_pass_same}
 use Rattle.lv_edits.proofs.Slices.{part_of_push, part_of_set, part_of_take}
 use Rattle.lv_edits.proofs.HistoryLaws.{by_last_edit, list_of_replayed, list_of-snoc, replayed-nil, swapped}
-use Rattle.lv_edits.specs.Touch.{cells_of, indices_written, is_whole, touched_by, touches, touches_at}
+use Rattle.lv_edits.specs.Touch.{elements_under, indices_written, is_whole, touched_by, touches, touches_at}
 
 -- an edit that writes nowhere touches no node
 pub touches_nowhere : (xs : List ℤ) (e : Edit) (n : Node) → indices_written xs e ≡ [] → touches xs e n ≡ false
@@ -131,7 +131,7 @@ pub whole_from : (es : List Edit) (n : Node) → is_node n ≡ true → (n.numbe
 whole_from es n node below = and_from _ _ node (le-leb _ _ below)
 
 -- an edit that does not touch a node that is whole after it left it whole, with the same elements
-pub untouched_keeps : (es : List Edit) (e : Edit) (ys : List ℤ) (n : Node) → replayed es ≡ Some (list_of es) → applied (list_of es) e ≡ Some ys → touches (list_of es) e n ≡ false → is_whole (es ++ e ∷ []) n ≡ true → (is_whole es n ≡ true) × (cells_of (es ++ e ∷ []) n ≡ cells_of es n)
+pub untouched_keeps : (es : List Edit) (e : Edit) (ys : List ℤ) (n : Node) → replayed es ≡ Some (list_of es) → applied (list_of es) e ≡ Some ys → touches (list_of es) e n ≡ false → is_whole (es ++ e ∷ []) n ≡ true → (is_whole es n ≡ true) × (elements_under (es ++ e ∷ []) n ≡ elements_under es n)
 untouched_keeps es e ys n legal possible untouched whole =
     let same : list_of (es ++ e ∷ []) ≡ ys = (list_of-snoc es e ys legal possible).1 in
     let below : (n.number + 1) * 8 ^ n.level ≤ length ys = omega (arith, ap length same, whole_below (es ++ e ∷ []) n whole) in
@@ -139,8 +139,8 @@ untouched_keeps es e ys n legal possible untouched whole =
     (whole_from es n (and_parts _ _ whole).0 kept.0, ap (λ xs. take (8 ^ n.level) (drop (n.number * 8 ^ n.level) xs)) same ∙ kept.1)
 
 -- a whole node has as many elements as indices
-pub cells_of-length : (es : List Edit) (n : Node) → is_whole es n ≡ true → length (cells_of es n) ≡ 8 ^ n.level
-cells_of-length es n whole =
+pub elements_under-length : (es : List Edit) (n : Node) → is_whole es n ≡ true → length (elements_under es n) ≡ 8 ^ n.level
+elements_under-length es n whole =
     omega (arith, whole_below es n whole, length-take (8 ^ n.level) (drop (n.number * 8 ^ n.level) (list_of es)), length-drop (n.number * 8 ^ n.level) (list_of es))
 
 -- a whole node was touched
@@ -165,19 +165,19 @@ touched_by_grows es e n =
 -- a node is as it was after the first v edits: whole then, with the same elements, and touched by the same edit
 abbrev IsAsAfter : ℕ → Node → List Edit → Type 0
 IsAsAfter v n es =
-    (is_whole (take v es) n ≡ true) × (cells_of es n ≡ cells_of (take v es) n) × (touched_by es n ≡ touched_by (take v es) n)
+    (is_whole (take v es) n ≡ true) × (elements_under es n ≡ elements_under (take v es) n) × (touched_by es n ≡ touched_by (take v es) n)
 
 -- a node is as it was after all edits
 as_after_all : (es : List Edit) (v : ℕ) (n : Node) → length es ≤ v → is_whole es n ≡ true → IsAsAfter v n es
 as_after_all es v n all whole = rw (take_all v es all) (whole, refl, refl)
 
 -- a node stays as it was under an edit that does not touch it
-as_before : (es : List Edit) (e : Edit) (v : ℕ) (n : Node) → v ≤ length es → cells_of (es ++ e ∷ []) n ≡ cells_of es n → touched_by (es ++ e ∷ []) n ≡ touched_by es n → IsAsAfter v n es → IsAsAfter v n (es ++ e ∷ [])
+as_before : (es : List Edit) (e : Edit) (v : ℕ) (n : Node) → v ≤ length es → elements_under (es ++ e ∷ []) n ≡ elements_under es n → touched_by (es ++ e ∷ []) n ≡ touched_by es n → IsAsAfter v n es → IsAsAfter v n (es ++ e ∷ [])
 as_before es e v n early cells touched before =
     rw (take-append-le v es (e ∷ []) early) (before.0, cells ∙ before.1, touched ∙ before.2)
 
 -- a whole node that no edit after the first v touched is as it was after them
-pub untouched_since : (es : List Edit) (v : ℕ) (n : Node) → replayed es ≡ Some (list_of es) → is_whole es n ≡ true → touched_by es n ≤ v → (is_whole (take v es) n ≡ true) × (cells_of es n ≡ cells_of (take v es) n) × (touched_by es n ≡ touched_by (take v es) n)
+pub untouched_since : (es : List Edit) (v : ℕ) (n : Node) → replayed es ≡ Some (list_of es) → is_whole es n ≡ true → touched_by es n ≤ v → (is_whole (take v es) n ≡ true) × (elements_under es n ≡ elements_under (take v es) n) × (touched_by es n ≡ touched_by (take v es) n)
 untouched_since es v n legal =
     by_last_edit (λ es. is_whole es n ≡ true → touched_by es n ≤ v → IsAsAfter v n es)
     (λ whole early. as_after_all [] v n (omega arith) whole)

@@ -9,7 +9,7 @@ use Rattle.lv_edits.specs.History.{History, list_of, replayed}
 
 -- the limits are allowed; the journal is legal and keeps them; so does the list, which has at most the 1048568 elements of
 -- 17 buckets, each a number of 64 bits
-pub record InLimits (h : History) : Type 0 where
+pub record IsLegalInLimits (h : History) : Type 0 where
   pub allowed : AreAllowed h.limits.buckets h.limits.edits
   pub legal : replayed h.journal ≡ Some (list_of h.journal)
   pub edits : length h.journal ≤ h.limits.edits

@@ -35,5 +35,5 @@ abbrev pub is_whole : List Edit → Node → Bool
 is_whole edits n = is_node n && is_below n (length (list_of edits))
 
 -- the elements of a node, where it is whole
-abbrev pub cells_of : List Edit → Node → List ℤ
-cells_of edits n = take (8 ^ n.level) (drop (n.number * 8 ^ n.level) (list_of edits))
+abbrev pub elements_under : List Edit → Node → List ℤ
+elements_under edits n = take (8 ^ n.level) (drop (n.number * 8 ^ n.level) (list_of edits))

@@ -5,7 +5,7 @@ ghost use Rattle.lv_store.specs.Inner.{IsStore};
 ghost use Rattle.lv_store.specs.State.{AreAlike};
 ghost use Rattle.lv_edits.specs.Capacity.{capacity_after, IsCapacityAfter};
 ghost use Rattle.lv_edits.specs.History.{History, list_of};
-ghost use Rattle.lv_edits.specs.Kept.{InLimits};
+ghost use Rattle.lv_edits.specs.Kept.{IsLegalInLimits};
 ghost use Rattle.lv_edits.specs.Inner.{write_at_second};
 ghost use Rattle.lv_edits.specs.Verdict.{Answers, element_at, verdict_of};
 
@@ -39,7 +39,7 @@ impl Edits {
     /// An empty vector, with no bucket open. Takes no memory.
     pub fn new(alloc: Global, limits: Limits) -> Edits
         ensures history { result ≡ record { limits = limits; journal = [] } }
-        ensures limits { InLimits result }
+        ensures limits { IsLegalInLimits result }
     {
         Edits {
             store: Store::new(alloc, limits),
@@ -50,7 +50,7 @@ impl Edits {
     /// Puts `x` at the end. Refused with `Worn`, `Full`, then `NoMemory`.
     pub fn push(&mut self, x: i64) -> Result<Receipt, Refusal>
         ensures answer { Answers self.old (Edit.Push x) result self.new }
-        ensures limits { InLimits self.new }
+        ensures limits { IsLegalInLimits self.new }
     {
         self.apply(Edit::Push(x))
     }
@@ -58,7 +58,7 @@ impl Edits {
     /// Drops the last element. Refused with `Worn`, `Empty`, then `NoMemory`. No bucket is closed.
     pub fn pop(&mut self) -> Result<Receipt, Refusal>
         ensures answer { Answers self.old Edit.Pop result self.new }
-        ensures limits { InLimits self.new }
+        ensures limits { IsLegalInLimits self.new }
     {
         self.apply(Edit::Pop)
     }
@@ -66,7 +66,7 @@ impl Edits {
     /// Overwrites the element at `index`. Refused with `Worn`, `OutOfRange`, then `NoMemory`.
     pub fn write(&mut self, index: u32, value: i64) -> Result<Receipt, Refusal>
         ensures answer { Answers self.old (Edit.Write index value) result self.new }
-        ensures limits { InLimits self.new }
+        ensures limits { IsLegalInLimits self.new }
     {
         self.apply(Edit::Write { index, value })
     }
@@ -75,7 +75,7 @@ impl Edits {
     /// capacity it opens none, and is an edit like any other.
     pub fn reserve(&mut self, cells: u32) -> Result<Receipt, Refusal>
         ensures answer { Answers self.old (Edit.Reserve cells) result self.new }
-        ensures limits { InLimits self.new }
+        ensures limits { IsLegalInLimits self.new }
     {
         self.apply(Edit::Reserve(cells))
     }
@@ -84,7 +84,7 @@ impl Edits {
     /// changes nothing, and is an edit like any other.
     pub fn swap(&mut self, first: u32, second: u32) -> Result<Receipt, Refusal>
         ensures answer { Answers self.old (Edit.Swap first second) result self.new }
-        ensures limits { InLimits self.new }
+        ensures limits { IsLegalInLimits self.new }
     {
         self.apply(Edit::Swap { first, second })
     }
@@ -93,7 +93,7 @@ impl Edits {
     /// closed, and no element is read.
     pub fn truncate(&mut self, count: u32) -> Result<Receipt, Refusal>
         ensures answer { Answers self.old (Edit.Truncate count) result self.new }
-        ensures limits { InLimits self.new }
+        ensures limits { IsLegalInLimits self.new }
     {
         self.apply(Edit::Truncate(count))
     }
@@ -101,7 +101,7 @@ impl Edits {
     /// Makes any edit, where nothing refuses it: it is judged once.
     pub fn apply(&mut self, edit: Edit) -> Result<Receipt, Refusal>
         ensures answer { Answers self.old edit result self.new }
-        ensures limits { InLimits self.new }
+        ensures limits { IsLegalInLimits self.new }
     {
         // What is refused leaves a list within its limits.
         let _ = &self.store;
@@ -116,7 +116,7 @@ impl Edits {
     pub fn make(&mut self, edit: Edit) -> Result<Receipt, Refusal>
         requires { verdict_of self.old.limits self.old.journal edit ≡ None }
         ensures answer { Answers self.old edit result self.new }
-        ensures limits { InLimits self.new }
+        ensures limits { IsLegalInLimits self.new }
     {
         match edit {
             Edit::Push(x) => self.make_push(x),
@@ -173,7 +173,7 @@ impl Edits {
     pub fn read(&self, i: u32) -> i64
         requires { i < length (list_of self.now.journal) }
         ensures value { result ≡ slice_index_or (list_of self.now.journal) i result }
-        ensures limits { InLimits self.now }
+        ensures limits { IsLegalInLimits self.now }
     {
         self.store.read(i)
     }
@@ -183,7 +183,7 @@ impl Edits {
     pub fn block(&self, block: u32) -> [i64; 8]
         requires { (block + 1) * 8 ≤ length (list_of self.now.journal) }
         ensures value { result ≡ take 8 (drop (block * 8) (list_of self.now.journal)) }
-        ensures limits { InLimits self.now }
+        ensures limits { IsLegalInLimits self.now }
     {
         self.store.cells(block)
     }
@@ -195,7 +195,7 @@ impl Edits {
         requires inside { to ≤ length (list_of self.now.journal) }
         ensures elements { result.now ≡ slice_range (list_of self.now.journal) from (from + length result.now) }
         ensures few { from + length result.now ≤ to }
-        ensures limits { InLimits self.now }
+        ensures limits { IsLegalInLimits self.now }
     {
         self.store.stretch(from, to)
     }
@@ -204,7 +204,7 @@ impl Edits {
     #[inline(always)]
     pub fn size(&self) -> u32
         ensures value { result ≡ length (list_of self.now.journal) }
-        ensures limits { InLimits self.now }
+        ensures limits { IsLegalInLimits self.now }
     {
         self.store.size()
     }
@@ -213,7 +213,7 @@ impl Edits {
     pub fn capacity(&self) -> u32
         ensures value { result ≡ capacity_after self.now.journal }
         ensures least { IsCapacityAfter self.now.journal result }
-        ensures limits { InLimits self.now }
+        ensures limits { IsLegalInLimits self.now }
     {
         capacity(self.store.buckets())
     }
@@ -222,7 +222,7 @@ impl Edits {
     #[inline(always)]
     pub fn edit(&self) -> u32
         ensures value { result ≡ length self.now.journal }
-        ensures limits { InLimits self.now }
+        ensures limits { IsLegalInLimits self.now }
     {
         self.store.edit()
     }
@@ -230,7 +230,7 @@ impl Edits {
     /// All edits that were accepted, the first of them first.
     pub fn journal(&self) -> &[Edit]
         ensures value { result.now ≡ self.now.journal }
-        ensures limits { InLimits self.now }
+        ensures limits { IsLegalInLimits self.now }
     {
         self.journal.as_slice()
     }
@@ -248,7 +248,7 @@ impl Edits {
     fn make_push(&mut self, x: i64) -> Result<Receipt, Refusal>
         requires { verdict_of self.old.limits self.old.journal (Edit.Push x) ≡ None }
         ensures answer { Answers self.old (Edit.Push x) result self.new }
-        ensures limits { InLimits self.new }
+        ensures limits { IsLegalInLimits self.new }
     {
         let index = self.store.size();
         make_room(&mut self.store, &mut self.journal, index + 1)?;
@@ -264,7 +264,7 @@ impl Edits {
     fn make_pop(&mut self) -> Result<Receipt, Refusal>
         requires { verdict_of self.old.limits self.old.journal Edit.Pop ≡ None }
         ensures answer { Answers self.old Edit.Pop result self.new }
-        ensures limits { InLimits self.new }
+        ensures limits { IsLegalInLimits self.new }
     {
         let last = self.store.size() - 1;
         let value = self.store.read(last);
@@ -281,7 +281,7 @@ impl Edits {
     fn make_write(&mut self, index: u32, value: i64) -> Result<Receipt, Refusal>
         requires { verdict_of self.old.limits self.old.journal (Edit.Write index value) ≡ None }
         ensures answer { Answers self.old (Edit.Write index value) result self.new }
-        ensures limits { InLimits self.new }
+        ensures limits { IsLegalInLimits self.new }
     {
         let before = self.store.read(index);
         make_room(&mut self.store, &mut self.journal, 0)?;
@@ -298,7 +298,7 @@ impl Edits {
     fn make_reserve(&mut self, cells: u32) -> Result<Receipt, Refusal>
         requires { verdict_of self.old.limits self.old.journal (Edit.Reserve cells) ≡ None }
         ensures answer { Answers self.old (Edit.Reserve cells) result self.new }
-        ensures limits { InLimits self.new }
+        ensures limits { IsLegalInLimits self.new }
     {
         make_room(&mut self.store, &mut self.journal, cells)?;
         let size = self.store.size();
@@ -314,7 +314,7 @@ impl Edits {
     fn make_swap(&mut self, first: u32, second: u32) -> Result<Receipt, Refusal>
         requires { verdict_of self.old.limits self.old.journal (Edit.Swap first second) ≡ None }
         ensures answer { Answers self.old (Edit.Swap first second) result self.new }
-        ensures limits { InLimits self.new }
+        ensures limits { IsLegalInLimits self.new }
     {
         let before = self.store.read(first);
         let after = self.store.read(second);
@@ -334,7 +334,7 @@ impl Edits {
     fn make_truncate(&mut self, count: u32) -> Result<Receipt, Refusal>
         requires { verdict_of self.old.limits self.old.journal (Edit.Truncate count) ≡ None }
         ensures answer { Answers self.old (Edit.Truncate count) result self.new }
-        ensures limits { InLimits self.new }
+        ensures limits { IsLegalInLimits self.new }
     {
         let size = self.store.size();
         make_room(&mut self.store, &mut self.journal, 0)?;

@@ -1,10 +1,16 @@
--- Numbers in a row: one more of them, the greatest value at any of them, and the first and the last that pass a test.
-use Rattle.std.proofs.Common.{◌≡◌, ℕ, zero, suc, ◌+◌, ◌<◌, ◌≤◌, max, Bool, true, false, cond, if◌then◌else◌, Some, [], ◌∷◌, ◌++◌, map, fold, refl, sym, ap, ◌∙◌, add-one, inl, inr, arith}
+-- The element at an index. Numbers in a row: one more of them, the greatest value at any of them, and the first and the last that pass a test.
+use Rattle.std.proofs.Common.{◌≡◌, ℕ, zero, suc, ◌+◌, ◌<◌, ◌≤◌, max, Bool, true, false, cond, if◌then◌else◌, Some, [], ◌∷◌, ◌++◌, length, map, fold, slice_get, List, refl, sym, ap, ◌∙◌, add-one, inl, inr, arith}
 use Rattle.std.specs.List.{find, range_with_len}
 use Rattle.std.proofs.lemmas.Bool.{cases_Bool, cases_lt, cond-false, cond-true}
 use Rattle.std.proofs.lemmas.List.{map-id}
+use Rattle.std.proofs.lemmas.Option.{slice_get_cases}
 use Rattle.std.proofs.lemmas.List.FromFn.{map-range_with_len_more}
 use Rattle.std.proofs.lemmas.List.Sums.{fold_push}
+
+-- there is an element at each index
+pub there_is : {A : Type 0} (xs : List A) (i : ℕ) → i < length xs → (x : A) × (slice_get xs i ≡ Some x)
+there_is xs i inside =
+    elim ((slice_get_cases xs i).1) [ inl (x, _, is, _) ↦ (x, is) | inr (past, _) ↦ absurd (omega arith) ]
 
 -- one number more
 pub range_more : (a n : ℕ) → range_with_len a (n + 1) ≡ range_with_len a n ++ (a + n) ∷ []

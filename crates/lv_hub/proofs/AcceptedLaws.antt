@@ -10,7 +10,7 @@ use Rattle.lv_edits.specs.declared.edit.Edit.{Edit}
 use Rattle.lv_edits.specs.declared.edit.Edit.TheVariants.{Push, Pop, Write, Reserve, Swap, Truncate}
 use Rattle.lv_edits.specs.declared.receipt.Receipt.{Receipt}
 use Rattle.lv_edits.specs.History.{History, list_of}
-use Rattle.lv_edits.specs.Kept.{InLimits}
+use Rattle.lv_edits.specs.Kept.{IsLegalInLimits}
 use Rattle.lv_edits.specs.Verdict.{Answers, refused_on, verdict_of}
 use Rattle.lv_edits.proofs.HistoryLaws.{not_refused, unrefused_push, unrefused_reserve}
 use Rattle.lv_script.specs.Transcript.{AreAccepted, AreAcceptedAfter, greatest}
@@ -28,7 +28,7 @@ refused_by_greatest limits xs (Swap i j) few fits free = free
 refused_by_greatest limits xs (Truncate n) few fits free = free
 
 -- an edit that a vector accepts is accepted within the greatest limits
-verdict_by_greatest : (h : History) (e : Edit) → InLimits h → verdict_of h.limits h.journal e ≡ None → verdict_of greatest h.journal e ≡ None
+verdict_by_greatest : (h : History) (e : Edit) → IsLegalInLimits h → verdict_of h.limits h.journal e ≡ None → verdict_of greatest h.journal e ≡ None
 verdict_by_greatest h e within free =
     let parts = not_refused h.limits h.journal e free in
     cond-false _ _ _ (ne_eqb (length h.journal) 16777215 (omega (arith, within.edits, within.allowed.few_edits, parts.0)))

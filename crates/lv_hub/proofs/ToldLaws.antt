@@ -8,7 +8,7 @@ use Rattle.lv_bodies.specs.Body.{Operations}
 use Rattle.lv_edits.specs.declared.edit.Edit.{Edit}
 use Rattle.lv_edits.specs.declared.receipt.Receipt.{Receipt}
 use Rattle.lv_edits.specs.History.{History}
-use Rattle.lv_edits.specs.Kept.{InLimits}
+use Rattle.lv_edits.specs.Kept.{IsLegalInLimits}
 use Rattle.lv_edits.specs.Verdict.{Answers}
 use Rattle.lv_summary.specs.declared.accepted.Accepted.{Accepted}
 use Rattle.lv_refresh.specs.Carried.{Carried}
@@ -17,7 +17,8 @@ use Rattle.lv_refresh.specs.Honesty.{IsHonest}
 use Rattle.lv_reduce.specs.declared.reductions.Answer.{Answer}
 use Rattle.lv_reduce.specs.Answer.{IsAnswer, IsScanRefusal, range_refusal}
 use Rattle.lv_reduce.specs.Stretch.{IsStretch, StretchState}
-use Rattle.lv_live.specs.State.{HasClaim, HasDelivery, IsLive, LiveState, node_and_version, recorded}
+use Rattle.lv_live.specs.Kept.{IsLive}
+use Rattle.lv_live.specs.State.{HasClaim, HasDelivery, LiveState, node_and_version, recorded}
 use Rattle.lv_live.specs.Step.{Reduces}
 use Rattle.lv_hub.specs.Told.{AskTold, ClaimTold, EditTold, Gives, GiveTold, IsStanding, IsVector, ReductionTold, StretchTold, VouchedBy, history_of}
 
@@ -31,9 +32,9 @@ limits_kept old new e (Ok receipt) answers = ap (λ h. h.limits) answers.journal
 limits_kept old new e (Err refusal) answers = ap (λ h. h.limits) answers.same
 
 -- what was seen of a vector is within its limits
-within_said : (limits : Bounds) (h : History) (new : List Edit) → IsVector limits h → new ≡ h.journal → InLimits (history_of limits new)
+within_said : (limits : Bounds) (h : History) (new : List Edit) → IsVector limits h → new ≡ h.journal → IsLegalInLimits (history_of limits new)
 within_said limits h new vector is =
-    subst InLimits (limits_said limits h vector.limits_are ∙ ap (history_of limits) (sym is)) vector.within
+    subst IsLegalInLimits (limits_said limits h vector.limits_are ∙ ap (history_of limits) (sym is)) vector.within
 
 -- an edit
 pub edit_told : (limits : Bounds) (s t : History) (old new : List Edit) (e : Edit) (result : Result Receipt Refusal) → IsVector limits s → IsPrefix old s.journal → new ≡ t.journal → Answers s e result t → EditTold limits old new e result

@@ -18,7 +18,7 @@ use Rattle.lv_bodies.proofs.SixFolds.{face_of-fold}
 use Rattle.lv_edits.specs.declared.edit.Edit.{Edit}
 use Rattle.lv_edits.specs.declared.receipt.Receipt.{Receipt}
 use Rattle.lv_edits.specs.History.{list_of}
-use Rattle.lv_edits.specs.Kept.{InLimits}
+use Rattle.lv_edits.specs.Kept.{IsLegalInLimits}
 use Rattle.lv_reduce.specs.declared.reductions.Answer.{Answer}
 use Rattle.lv_reduce.specs.Answer.{IsAnswer, range_refusal, slice_of}
 use Rattle.lv_script.specs.declared.command.Command.{Command}
@@ -31,7 +31,7 @@ use Rattle.lv_script.specs.declared.transcripts.Claimed.{Claimed}
 use Rattle.lv_script.specs.Grammar.{line_of}
 use Rattle.lv_script.specs.Replies.{Answered, Conversed}
 use Rattle.lv_script.specs.Transcript.{IsTrueClaim}
-use Rattle.lv_hub.specs.Session.{CommandAnswer, LineAnswer, SessionState, SessionStep, Lists, after_edit, claim_of, up_to}
+use Rattle.lv_hub.specs.Session.{SessionCommandAnswer, SessionLineAnswer, SessionState, SessionStep, Lists, having_counted, claim_of, up_to}
 use Rattle.lv_hub.specs.Told.{EditTold, ReductionTold, history_of}
 use Rattle.lv_hub.proofs.PrefixLaws.{prefix_length, prefix_self, prefix_trans}
 
@@ -73,7 +73,7 @@ in_range edits lo hi granted =
     ]
 
 -- a slice of a list within the limits may be folded
-slice_folds : (limits : Bounds) (edits : List Edit) (lo hi : ℕ) → InLimits (history_of limits edits) → CanFold (slice_range (list_of edits) lo hi)
+slice_folds : (limits : Bounds) (edits : List Edit) (lo hi : ℕ) → IsLegalInLimits (history_of limits edits) → CanFold (slice_range (list_of edits) lo hi)
 slice_folds limits edits lo hi within =
     let xs = list_of edits in
     record {
@@ -87,13 +87,13 @@ pub record Keeps (old new : SessionState) : Type 0 where
   pub all_true : All (IsTrueClaim old.seen) old.claims → All (IsTrueClaim new.seen) new.claims
 
 -- an edit lists nothing
-edit_lists_nothing : (s : SessionState) (result : Result Receipt Refusal) → (after_edit s result).claims ≡ s.claims
+edit_lists_nothing : (s : SessionState) (result : Result Receipt Refusal) → (having_counted s result).claims ≡ s.claims
 edit_lists_nothing s (Ok receipt) = refl
 edit_lists_nothing s (Err refusal) = refl
 
 module _ (limits : Bounds) where
   -- an answer is true, by its edits
-  answer_true : (edits : List Edit) (kind : Kind) (lo hi : ℕ) (answer : Answer SixSummary) → InLimits (history_of limits edits) → IsAnswer six_operations edits lo hi answer → IsTrueClaim edits (claim_of kind lo hi answer)
+  answer_true : (edits : List Edit) (kind : Kind) (lo hi : ℕ) (answer : Answer SixSummary) → IsLegalInLimits (history_of limits edits) → IsAnswer six_operations edits lo hi answer → IsTrueClaim edits (claim_of kind lo hi answer)
   answer_true edits kind lo hi answer within is =
       let all : take answer.edit edits ≡ edits = take_all answer.edit edits (omega (arith, is.edit)) in
       let range = in_range edits lo hi is.granted in
@@ -134,7 +134,7 @@ module _ (limits : Bounds) where
   reduction_keeps old new kind lo hi text (Err refusal) told lists = keeps_by_more old new told.seen (ap (λ s. s.claims) lists.1)
 
   -- a command
-  command_keeps : (old new : SessionState) (n : ℕ) (command : Command) (text : List ℕ) → CommandAnswer limits old n command text new → Keeps old new
+  command_keeps : (old new : SessionState) (n : ℕ) (command : Command) (text : List ℕ) → SessionCommandAnswer limits old n command text new → Keeps old new
   command_keeps old new n (commands.Edit e) text a =
       keeps_by_more old new (edit_grows limits old.seen new.seen e a.result a.told) (ap (λ s. s.claims) a.state ∙ edit_lists_nothing (up_to old new.seen) a.result)
   command_keeps old new n (commands.Reduce kind lo hi) text a = reduction_keeps old new kind lo hi text a.result a.told a.lists
@@ -142,7 +142,7 @@ module _ (limits : Bounds) where
   command_keeps old new n _ text a = keeps_same old new a.1
 
   -- a line
-  line_keeps : (old new : SessionState) (n : ℕ) (line : Line) (text : List ℕ) → LineAnswer limits old n line text new → Keeps old new
+  line_keeps : (old new : SessionState) (n : ℕ) (line : Line) (text : List ℕ) → SessionLineAnswer limits old n line text new → Keeps old new
   line_keeps old new n Nothing text a = keeps_same old new a.1
   line_keeps old new n Bad text a = keeps_same old new a.1
   line_keeps old new n (Do command) text a = command_keeps old new n command text a

@@ -18,7 +18,7 @@ use Rattle.lv_script.specs.declared.transcripts.Claimed.{Claimed}
 use Rattle.lv_script.specs.Grammar.{line_of}
 use Rattle.lv_script.specs.Script.{edit_text}
 use Rattle.lv_script.specs.Texts.{answer_text, bad_text, refused_text, scan_text}
-use Rattle.lv_hub.specs.Counting.{Holding}
+use Rattle.lv_hub.specs.Counting.{ShareState}
 use Rattle.lv_hub.specs.Told.{EditTold, ReductionTold, ScanTold}
 
 -- how many edits the session's share counts, the beginning of the hub's edits that it has seen, and the reductions that were
@@ -29,7 +29,7 @@ pub record SessionState : Type 0 where
   pub claims : List Claimed
 
 -- the state of a session with this share, where these reductions were answered
-abbrev pub session_at : Holding → List Claimed → SessionState
+abbrev pub session_at : ShareState → List Claimed → SessionState
 session_at share claims = record { count = share.count; seen = share.seen; claims = claims }
 
 -- the state once the hub's edits were seen up to these
@@ -37,9 +37,9 @@ abbrev pub up_to : SessionState → List Edit → SessionState
 up_to s edits = record s { seen = edits }
 
 -- the state after an edit: it is counted where it was accepted
-abbrev pub after_edit : SessionState → Result Receipt Refusal → SessionState
-after_edit s (Ok receipt) = record s { count = s.count + 1 }
-after_edit s (Err refusal) = s
+abbrev pub having_counted : SessionState → Result Receipt Refusal → SessionState
+having_counted s (Ok receipt) = record s { count = s.count + 1 }
+having_counted s (Err refusal) = s
 
 -- the reductions at each edit stand in the order that they had
 abbrev pub KeepTies : List Claimed → List Claimed → Type 0
@@ -71,7 +71,7 @@ module _ (limits : Bounds) where
     pub result : Result Receipt Refusal
     pub told : EditTold limits old.seen new.seen e result
     pub text_is : text ≡ edit_text result
-    pub state : new ≡ after_edit (up_to old new.seen) result
+    pub state : new ≡ having_counted (up_to old new.seen) result
 
   -- a reduction is answered by its value, and listed; or by its refusal
   pub record TellsReduction (old : SessionState) (kind : Kind) (lo hi : ℕ) (text : List ℕ) (new : SessionState) : Type 0 where
@@ -87,18 +87,18 @@ module _ (limits : Bounds) where
     pub state : new ≡ up_to old new.seen
 
   -- what a command is answered: sessions know edits, reductions and scans, and any other is bad, by the line's number
-  abbrev pub CommandAnswer : SessionState → ℕ → Command → List ℕ → SessionState → Type 0
-  CommandAnswer old n (commands.Edit e) text new = TellsEdit old e text new
-  CommandAnswer old n (commands.Reduce kind lo hi) text new = TellsReduction old kind lo hi text new
-  CommandAnswer old n (commands.Scan inclusive kind lo hi) text new = TellsScan old inclusive kind lo hi text new
-  CommandAnswer old n _ text new = (text ≡ bad_text n) × (new ≡ old)
+  abbrev pub SessionCommandAnswer : SessionState → ℕ → Command → List ℕ → SessionState → Type 0
+  SessionCommandAnswer old n (commands.Edit e) text new = TellsEdit old e text new
+  SessionCommandAnswer old n (commands.Reduce kind lo hi) text new = TellsReduction old kind lo hi text new
+  SessionCommandAnswer old n (commands.Scan inclusive kind lo hi) text new = TellsScan old inclusive kind lo hi text new
+  SessionCommandAnswer old n _ text new = (text ≡ bad_text n) × (new ≡ old)
 
   -- what a line is answered
-  abbrev pub LineAnswer : SessionState → ℕ → Line → List ℕ → SessionState → Type 0
-  LineAnswer old n Nothing text new = (text ≡ []) × (new ≡ old)
-  LineAnswer old n Bad text new = (text ≡ bad_text n) × (new ≡ old)
-  LineAnswer old n (Do command) text new = CommandAnswer old n command text new
+  abbrev pub SessionLineAnswer : SessionState → ℕ → Line → List ℕ → SessionState → Type 0
+  SessionLineAnswer old n Nothing text new = (text ≡ []) × (new ≡ old)
+  SessionLineAnswer old n Bad text new = (text ≡ bad_text n) × (new ≡ old)
+  SessionLineAnswer old n (Do command) text new = SessionCommandAnswer old n command text new
 
   -- one line of a session, by its bytes and its number: its reply, and what it leaves
   unfoldable pub SessionStep : SessionState → ℕ → List ℕ → List ℕ → SessionState → Type 0
-  SessionStep old n line text new = LineAnswer old n (line_of line) text new
+  SessionStep old n line text new = SessionLineAnswer old n (line_of line) text new

@@ -8,7 +8,7 @@ use Rattle.lv_bodies.specs.Body.{Operations}
 use Rattle.lv_edits.specs.declared.edit.Edit.{Edit}
 use Rattle.lv_edits.specs.declared.receipt.Receipt.{Receipt}
 use Rattle.lv_edits.specs.History.{History}
-use Rattle.lv_edits.specs.Kept.{InLimits}
+use Rattle.lv_edits.specs.Kept.{IsLegalInLimits}
 use Rattle.lv_edits.specs.Verdict.{Answers}
 use Rattle.lv_summary.specs.declared.accepted.Accepted.{Accepted}
 use Rattle.lv_refresh.specs.Carried.{Carried}
@@ -20,13 +20,14 @@ use Rattle.lv_reduce.specs.declared.reductions.Answer.{Answer}
 use Rattle.lv_reduce.specs.declared.scans.Scan.{Scan}
 use Rattle.lv_reduce.specs.Answer.{IsAnswer, IsScan, IsScanRefusal, range_refusal, scan_of, slice_of}
 use Rattle.lv_reduce.specs.Stretch.{IsStretch, StretchState}
-use Rattle.lv_live.specs.State.{HasClaim, IsLive, LiveState, node_and_version, recorded}
+use Rattle.lv_live.specs.Kept.{IsLive}
+use Rattle.lv_live.specs.State.{HasClaim, LiveState, node_and_version, recorded}
 use Rattle.lv_live.specs.Step.{Reduces}
 
 -- a vector whose edits are legal, within these limits
 pub record IsVector (limits : Bounds) (h : History) : Type 0 where
   pub limits_are : h.limits ≡ limits
-  pub within : InLimits h
+  pub within : IsLegalInLimits h
 
 -- the history of a vector of these limits that has accepted these edits
 abbrev pub history_of : Bounds → List Edit → History
@@ -42,13 +43,13 @@ pub record IsStanding {B S : Type 0} (o : Operations S) (limits : Bounds) (edits
 pub record EditTold (limits : Bounds) (old new : List Edit) (edit : Edit) (result : Result Receipt Refusal) : Type 0 where
   pub before : List Edit
   pub seen : IsPrefix old before
-  pub within : InLimits (history_of limits before)
+  pub within : IsLegalInLimits (history_of limits before)
   pub answers : Answers (history_of limits before) edit result (history_of limits new)
 
 -- of a hub whose edits were seen up to old: it came to new, and there a live vector answered a reduction
 pub record ReductionTold (B : Type 0) {S : Type 0} (o : Operations S) (limits : Bounds) (old new : List Edit) (lo hi : ℕ) (result : Result (Answer S) Refusal) : Type 0 where
   pub seen : IsPrefix old new
-  pub within : InLimits (history_of limits new)
+  pub within : IsLegalInLimits (history_of limits new)
   pub standing : LiveState B S
   pub live : IsStanding o limits new standing
   pub reduces : Reduces o (recorded standing) lo hi result
@@ -56,7 +57,7 @@ pub record ReductionTold (B : Type 0) {S : Type 0} (o : Operations S) (limits : 
 -- of a hub whose edits were seen up to old: it came to new, and there a live vector was asked for a range, and answered the fold of it
 pub record AskTold (B : Type 0) {S : Type 0} (o : Operations S) (limits : Bounds) (old new : List Edit) (lo hi : ℕ) (result : Result (Answer S) Refusal) : Type 0 where
   pub seen : IsPrefix old new
-  pub within : InLimits (history_of limits new)
+  pub within : IsLegalInLimits (history_of limits new)
   pub standing : LiveState B S
   pub live : IsStanding o limits new standing
   pub answered : IfOk result (λ answer. IsAnswer o new lo hi answer)
@@ -65,14 +66,14 @@ pub record AskTold (B : Type 0) {S : Type 0} (o : Operations S) (limits : Bounds
 -- of a hub whose edits were seen up to old: it came to new, and a scan was answered as there
 pub record ScanTold {S : Type 0} (o : Operations S) (limits : Bounds) (old new : List Edit) (lo hi : ℕ) (inclusive : Bool) (result : Result (Scan S) Refusal) : Type 0 where
   pub seen : IsPrefix old new
-  pub within : InLimits (history_of limits new)
+  pub within : IsLegalInLimits (history_of limits new)
   pub scanned : IfOk result (λ scan. IsScan new lo hi (scan_of inclusive o (slice_of new lo hi)) scan)
   pub refused : IfErr result (λ refusal. IsScanRefusal new lo hi refusal)
 
 -- of a hub whose edits were seen up to old: it came to new, and there a range was copied, with the hub's body
 pub record StretchTold {B : Type 0} (body : B) (limits : Bounds) (old new : List Edit) (lo hi : ℕ) (result : Result (StretchState B) Refusal) : Type 0 where
   pub seen : IsPrefix old new
-  pub within : InLimits (history_of limits new)
+  pub within : IsLegalInLimits (history_of limits new)
   pub range : IfOk result (λ stretch. IsStretch new lo hi stretch)
   pub of : IfOk result (λ stretch. stretch.body ≡ body)
   pub refused : IfErr result (λ refusal. IsScanRefusal new lo hi refusal)

@@ -4,7 +4,8 @@ ghost use Rattle.lv_edits.specs.Verdict.{Answers};
 ghost use Rattle.lv_reduce.specs.Answer.{IsAnswer, range_refusal};
 ghost use Rattle.lv_refresh.specs.Claim.{IsNextJob};
 ghost use Rattle.lv_refresh.specs.Honesty.{IsHonest};
-ghost use Rattle.lv_live.specs.State.{HasClaim, HasDelivery, IsLive, SameLive, SameRefresh, node_and_version, recorded};
+ghost use Rattle.lv_live.specs.Kept.{IsLive};
+ghost use Rattle.lv_live.specs.State.{HasClaim, HasDelivery, SameLive, SameRefresh, node_and_version, recorded};
 ghost use Rattle.lv_hub.specs.Counting.{Counts};
 ghost use Rattle.lv_hub.specs.Told.{Gives, IsVector, VouchedBy};
 

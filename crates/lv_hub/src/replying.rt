@@ -2,7 +2,7 @@ ghost use Rattle.std.specs.Prelude.{◌≡◌, ◌≤◌, ◌++◌, ℕ, List, O
 ghost use Rattle.lv_script.specs.declared.transcripts.Claimed.{Claimed};
 ghost use Rattle.lv_script.specs.Output.{HasRoom, KeepsRoom, Puts, PutsFront, SamePlaces};
 ghost use Rattle.lv_hub.specs.Counting.{having_seen};
-ghost use Rattle.lv_hub.specs.Session.{CommandAnswer, LineAnswer, TellsEdit, TellsReduction, TellsScan, session_at};
+ghost use Rattle.lv_hub.specs.Session.{SessionCommandAnswer, SessionLineAnswer, TellsEdit, TellsReduction, TellsScan, session_at};
 
 use crate::hubs::Hub;
 use crate::naming::Means;
@@ -38,10 +38,10 @@ pub fn answer_line<N: Means<Six>, T: Wait, W: Write>(
     requires { HasRoom outbox.old.held.now LINE }
     ensures places { SamePlaces outbox.old outbox.new }
     ensures ok { OnOk result ((reply : List ℕ)
-        × LineAnswer N.limits (session_at share.old claims.old.items) number line reply (session_at share.new claims.new.items)
+        × SessionLineAnswer N.limits (session_at share.old claims.old.items) number line reply (session_at share.new claims.new.items)
         × Puts W.contents outbox.old outbox.new reply) }
     ensures fault { IfErr result (λ fault. (fault ≡ Fault.WriteFault) × (reply : List ℕ)
-        × LineAnswer N.limits (session_at share.old claims.old.items) number line reply (session_at share.new claims.new.items)
+        × SessionLineAnswer N.limits (session_at share.old claims.old.items) number line reply (session_at share.new claims.new.items)
         × PutsFront W.contents outbox.old outbox.new reply) }
     ensures parts { share.new.parts ≡ share.old.parts }
     ensures more { share.old.count ≤ share.new.count }
@@ -69,10 +69,10 @@ fn answer<N: Means<Six>, T: Wait, W: Write>(
     requires { HasRoom outbox.old.held.now LINE }
     ensures places { SamePlaces outbox.old outbox.new }
     ensures ok { OnOk result ((reply : List ℕ)
-        × CommandAnswer N.limits (session_at share.old claims.old.items) number command reply (session_at share.new claims.new.items)
+        × SessionCommandAnswer N.limits (session_at share.old claims.old.items) number command reply (session_at share.new claims.new.items)
         × Puts W.contents outbox.old outbox.new reply) }
     ensures fault { IfErr result (λ fault. (fault ≡ Fault.WriteFault) × (reply : List ℕ)
-        × CommandAnswer N.limits (session_at share.old claims.old.items) number command reply (session_at share.new claims.new.items)
+        × SessionCommandAnswer N.limits (session_at share.old claims.old.items) number command reply (session_at share.new claims.new.items)
         × PutsFront W.contents outbox.old outbox.new reply) }
     ensures parts { share.new.parts ≡ share.old.parts }
     ensures more { share.old.count ≤ share.new.count }

@@ -4,7 +4,7 @@ ghost use Rattle.lv_script.specs.declared.transcripts.Claimed.{Claimed};
 ghost use Rattle.lv_script.specs.Replies.{Conversed};
 ghost use Rattle.lv_script.specs.Transcript.{AreInOrder, IsTrueClaim};
 ghost use Rattle.std.specs.List.Sorted.{IsPermutation};
-ghost use Rattle.lv_hub.specs.Counting.{Holding};
+ghost use Rattle.lv_hub.specs.Counting.{ShareState};
 ghost use Rattle.lv_hub.specs.Session.{KeepTies, SessionState, SessionStep, session_at};
 
 use crate::hubs::Hub;
@@ -74,7 +74,7 @@ fn listed(claims: Vec<Claimed>, ended: Result<(), Fault>) -> Result<Vec<Claimed>
 
 /// What a share holds when it is lent to a session.
 pub trait Lent {
-    ghost holding: { Holding };
+    ghost holding: { ShareState };
 }
 
 impl Lent for Brand {

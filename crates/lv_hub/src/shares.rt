@@ -1,6 +1,6 @@
 ghost use Rattle.std.specs.Prelude.{◌≡◌, ◌+◌, ◌%◌, ◌^◌, ◌<◌, ◌≤◌};
 ghost use mathlib.Core.List.{IsPrefix};
-ghost use Rattle.lv_hub.specs.Counting.{AreTogether, Holding, having_seen};
+ghost use Rattle.lv_hub.specs.Counting.{AreTogether, ShareState, having_seen};
 
 use crate::histories::Front;
 use crate::naming::Naming;
@@ -19,7 +19,7 @@ pub struct Share<N: Naming> {
 }
 
 impl<N: Naming> Model for Share<N> {
-    ghost Value = { Holding };
+    ghost Value = { ShareState };
 
     ghost view = { λ s. record { parts = s.token.parts; count = s.token.amount; seen = s.front } };
 

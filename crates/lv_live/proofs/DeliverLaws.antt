@@ -4,12 +4,13 @@ use Rattle.std.proofs.lemmas.Bool.{and_from, and_parts, le-leb, leb-true, or_lef
 use Rattle.lv_geometry.specs.declared.nodes.Node.{Node}
 use Rattle.lv_geometry.specs.Nodes.{is_below, is_node, parent, same_node}
 use Rattle.lv_bodies.specs.Body.{BodyLaws, Operations, fold_of}
-use Rattle.lv_edits.specs.Touch.{cells_of, is_whole, touched_by}
+use Rattle.lv_edits.specs.Touch.{elements_under, is_whole, touched_by}
 use Rattle.lv_summary.specs.declared.accepted.Accepted.{Accepted}
 use Rattle.lv_summary.specs.declared.accepted.Accepted.TheVariants.{Held, Installed, Stale}
-use Rattle.lv_summary.specs.Table.{AfterDelivery, Keeps, Table, delivery_in, kept_in, touched_in, whole_in}
-use Rattle.lv_summary.proofs.AgreesLaws.{whole_agrees}
-use Rattle.lv_summary.proofs.FoldableLaws.{can_fold}
+use Rattle.lv_summary.specs.Changes.{AfterDelivery, Keeps}
+use Rattle.lv_summary.specs.Table.{Table, delivery_in, kept_in, touched_in, whole_in}
+use Rattle.lv_known.proofs.AgreesLaws.{whole_agrees}
+use Rattle.lv_known.proofs.FoldableLaws.{can_fold}
 use Rattle.lv_summary.proofs.TableLaws.{current_of_installed, same_node-self, version_kept}
 use Rattle.lv_refresh.specs.declared.contents.Contents.{Contents}
 use Rattle.lv_refresh.specs.Carried.{Carried}
@@ -18,7 +19,8 @@ use Rattle.lv_refresh.specs.Claimed.{ClaimTable, claim_blocks, claimed_in, is_hi
 use Rattle.lv_refresh.specs.Contents.{fold_of_contents}
 use Rattle.lv_refresh.specs.Honesty.{IsHonest, Stands, Vouched}
 use Rattle.lv_refresh.proofs.HonestyLaws.{fold_of_standing, honest_at_claim, honest_same}
-use Rattle.lv_live.specs.State.{HasClaim, HasDelivery, IsLive, LiveState, node_and_version, recorded}
+use Rattle.lv_live.specs.Kept.{IsLive}
+use Rattle.lv_live.specs.State.{HasClaim, HasDelivery, LiveState, node_and_version, recorded}
 use Rattle.lv_live.proofs.LiveLaws.{live_after_install}
 
 -- the parent of a node was hinted, and nothing else has changed
@@ -30,7 +32,7 @@ pub record HintsParent (old new : ClaimTable) (node : Node) : Type 0 where
 module _ {B S : Type 0} (o : Operations S) (within : S → ℕ → Type 0) (laws : BodyLaws o within) (s : LiveState B S) (live : IsLive o s) where
   -- what is vouched for, and is installed, is the fold of its node's elements, by the vector's body
   pub installed_fold : (n : Node) (v : ℕ) (contents : Contents S) (same : Type 0) → Vouched o (recorded s) same n v contents → delivery_in s.table n v ≡ Installed
-      → same × (fold_of_contents o contents ≡ fold_of o (cells_of s.history.journal n)) × (whole_in s.table n ≡ true) × (touched_in s.table n ≡ v)
+      → same × (fold_of_contents o contents ≡ fold_of o (elements_under s.history.journal n)) × (whole_in s.table n ≡ true) × (touched_in s.table n ≡ v)
   installed_fold n v contents same vouched installed =
       let current = current_of_installed s.table n v installed in
       let node = (and_parts _ _ current.0).0 in

@@ -3,20 +3,21 @@ use Rattle.std.proofs.Common.{◌≡◌, ℕ, ◌*◌, ◌≤◌, List, None, op
 use Rattle.lv_edits.specs.declared.edit.Edit.{Edit}
 use Rattle.lv_edits.specs.declared.edit.Edit.TheVariants.{Push, Pop, Write, Reserve, Swap, Truncate}
 use Rattle.lv_edits.specs.History.{History, list_of, with_edit}
-use Rattle.lv_edits.specs.Kept.{InLimits}
+use Rattle.lv_edits.specs.Kept.{IsLegalInLimits}
 use Rattle.lv_edits.specs.Touch.{indices_written}
 use Rattle.lv_edits.specs.Verdict.{refused_on, verdict_of}
 use Rattle.lv_geometry.proofs.Capacities.{capacity_of_most}
 use Rattle.lv_geometry.specs.Cells.{capacity_of}
 use Rattle.lv_edits.proofs.HistoryLaws.{accepted_is_possible, list_of-snoc, not_refused, unrefused_push, unrefused_swap, unrefused_write}
-use Rattle.lv_summary.specs.Table.{AnswersAlike, Table}
+use Rattle.lv_summary.specs.Changes.{AnswersAlike}
+use Rattle.lv_summary.specs.Table.{Table}
 use Rattle.lv_refresh.specs.Claimed.{ClaimTable}
 use Rattle.lv_live.specs.Follows.{ClaimsAlike, ClaimsFollow, HaveBlocks, HaveRows, TableFollows}
 use Rattle.lv_live.specs.State.{LiveState, SameRefresh}
 use Rattle.lv_live.proofs.LiveLaws.{kept_followed, room_after}
 
 -- an accepted edit writes only at indices that a vector can have
-pub written_inside : (h : History) (e : Edit) (indices : List ℕ) → InLimits h → verdict_of h.limits h.journal e ≡ None → indices_written (list_of h.journal) e ≡ indices → HaveBlocks indices
+pub written_inside : (h : History) (e : Edit) (indices : List ℕ) → IsLegalInLimits h → verdict_of h.limits h.journal e ≡ None → indices_written (list_of h.journal) e ≡ indices → HaveBlocks indices
 written_inside h e indices limits free written = subst HaveBlocks written (inside e (not_refused h.limits h.journal e free).1)
   where
     most : capacity_of h.limits.buckets ≤ 1048568
@@ -33,7 +34,7 @@ written_inside h e indices limits free written = subst HaveBlocks written (insid
     inside (Truncate k) free = tt
 
 -- the list after an accepted edit has its room where the indices that it wrote at have
-pub room_accepted : (h next : History) (e : Edit) (indices : List ℕ) (blocks : ℕ) → InLimits h → verdict_of h.limits h.journal e ≡ None → next ≡ with_edit h e → indices_written (list_of h.journal) e ≡ indices → length (list_of h.journal) ≤ 8 * blocks → HaveRows blocks indices → length (list_of next.journal) ≤ 8 * blocks
+pub room_accepted : (h next : History) (e : Edit) (indices : List ℕ) (blocks : ℕ) → IsLegalInLimits h → verdict_of h.limits h.journal e ≡ None → next ≡ with_edit h e → indices_written (list_of h.journal) e ≡ indices → length (list_of h.journal) ≤ 8 * blocks → HaveRows blocks indices → length (list_of next.journal) ≤ 8 * blocks
 room_accepted h next e indices blocks limits free is written room rows =
     let able = accepted_is_possible h.limits h.journal e free in
     let now = (list_of-snoc h.journal e able.0 limits.legal able.1).1 in

@@ -12,15 +12,16 @@ use Rattle.lv_bodies.specs.Body.{Operations, fold_of}
 use Rattle.lv_edits.specs.declared.edit.Edit.{Edit}
 use Rattle.lv_edits.specs.declared.edit.Edit.TheVariants.{Push, Pop, Write, Reserve, Swap, Truncate}
 use Rattle.lv_edits.specs.History.{History, applied, list_of, replayed, with_edit}
-use Rattle.lv_edits.specs.Kept.{InLimits}
-use Rattle.lv_edits.specs.Touch.{cells_of, indices_written, is_whole, touched_by, touches}
+use Rattle.lv_edits.specs.Kept.{IsLegalInLimits}
+use Rattle.lv_edits.specs.Touch.{elements_under, indices_written, is_whole, touched_by, touches}
 use Rattle.lv_edits.specs.Verdict.{verdict_of}
 use Rattle.lv_edits.proofs.HistoryLaws.{accepted_is_possible, list_of-snoc}
 use Rattle.lv_edits.proofs.TouchLaws.{none_whole}
 use Rattle.lv_summary.specs.declared.accepted.Accepted.TheVariants.{Held, Installed, Stale}
-use Rattle.lv_summary.specs.Agrees.{Agrees}
-use Rattle.lv_summary.specs.Table.{AnswersAlike, Keeps, OnlyLearns, Table, TouchesEach, computed_in, delivery_in, has_version, kept_in, touched_in, whole_in}
-use Rattle.lv_summary.proofs.AgreesLaws.{agrees_after_touches, agrees_alike, agrees_empty, agrees_installed, whole_agrees}
+use Rattle.lv_known.specs.Agrees.{Agrees}
+use Rattle.lv_summary.specs.Changes.{AnswersAlike, Keeps, OnlyLearns, TouchesEach}
+use Rattle.lv_summary.specs.Table.{Table, computed_in, delivery_in, has_version, kept_in, touched_in, whole_in}
+use Rattle.lv_known.proofs.AgreesLaws.{agrees_after_touches, agrees_alike, agrees_empty, agrees_installed, whole_agrees}
 use Rattle.lv_summary.proofs.TableLaws.{same_node-eq, version_kept}
 use Rattle.lv_refresh.specs.Claimed.{AreHints, ClaimTable, claim_blocks, claimed_in, is_hinted, record_of}
 use Rattle.lv_refresh.specs.Delivery.{delivery_of}
@@ -29,7 +30,8 @@ use Rattle.lv_refresh.proofs.HonestyLaws.{whole_of_wanted}
 use Rattle.lv_refresh.proofs.RecordLaws.{same_version}
 use Rattle.lv_refresh.proofs.WantLaws.{wants_before_edit, wants_before_install, wants_job-same}
 use Rattle.lv_live.specs.Follows.{ClaimsAlike, ClaimsFollow, HaveRows, TableFollows}
-use Rattle.lv_live.specs.State.{IsLive, LiveState, recorded}
+use Rattle.lv_live.specs.Kept.{IsLive}
+use Rattle.lv_live.specs.State.{LiveState, recorded}
 
 -- the list after an edit has its room where the indices that it wrote at have
 pub room_after : (xs ys : List ℤ) (e : Edit) (indices : List ℕ) (blocks : ℕ) → applied xs e ≡ Some ys → indices_written xs e ≡ indices → length xs ≤ 8 * blocks → HaveRows blocks indices → length ys ≤ 8 * blocks
@@ -97,7 +99,7 @@ module _ {S : Type 0} (o : Operations S) where
       ]
 
   -- an accepted edit, followed by table and claims, keeps all
-  pub live_after_edit : {B : Type 0} (s : LiveState B S) (e : Edit) (h : History) (t : Table S) (c : ClaimTable) (indices : List ℕ) → IsLive o s → verdict_of s.history.limits s.history.journal e ≡ None → h ≡ with_edit s.history e → InLimits h
+  pub live_after_edit : {B : Type 0} (s : LiveState B S) (e : Edit) (h : History) (t : Table S) (c : ClaimTable) (indices : List ℕ) → IsLive o s → verdict_of s.history.limits s.history.journal e ≡ None → h ≡ with_edit s.history e → IsLegalInLimits h
       → indices_written (list_of s.history.journal) e ≡ indices → HaveRows (claim_blocks s.claims) indices → TableFollows s.table t indices (length h.journal) (length (list_of h.journal)) → ClaimsFollow s.claims c indices → IsLive o (record s { history = h; table = t; claims = c })
   live_after_edit s e h t c indices live free is limits written rows follows claims =
       let es = s.history.journal in
@@ -124,7 +126,7 @@ module _ {S : Type 0} (o : Operations S) where
 
   -- a summary that was installed is the fold of its node's elements, and the node's parent is hinted: all is kept
   pub live_after_install : {B : Type 0} (s : LiveState B S) (t : Table S) (c : ClaimTable) (n : Node) (v : ℕ) (summary : S) → IsLive o s → Keeps s.table t n v summary → whole_in s.table n ≡ true → touched_in s.table n ≡ v
-      → summary ≡ fold_of o (cells_of s.history.journal n) → ClaimsAlike s.claims c → (is_node (parent n) ≡ true → is_hinted c (parent n) ≡ true) → IsLive o (record s { table = t; claims = c })
+      → summary ≡ fold_of o (elements_under s.history.journal n) → ClaimsAlike s.claims c → (is_node (parent n) ≡ true → is_hinted c (parent n) ≡ true) → IsLive o (record s { table = t; claims = c })
   live_after_install s t c n v summary live keeps whole touched is claims above =
       let es = s.history.journal in
       let node = (and_parts _ _ whole).0 in
@@ -158,7 +160,7 @@ module _ {S : Type 0} (o : Operations S) where
       }
 
   -- an empty vector, for which nothing is claimed and nothing kept
-  pub live_empty : {B : Type 0} (s : LiveState B S) → s.history.journal ≡ [] → InLimits s.history → s.table.size ≡ 0 → ((n : Node) → touched_in s.table n ≡ 0) → ((n : Node) → kept_in s.table n ≡ None) → ((n : Node) → computed_in s.table n ≡ None) → IsLive o s
+  pub live_empty : {B : Type 0} (s : LiveState B S) → s.history.journal ≡ [] → IsLegalInLimits s.history → s.table.size ≡ 0 → ((n : Node) → touched_in s.table n ≡ 0) → ((n : Node) → kept_in s.table n ≡ None) → ((n : Node) → computed_in s.table n ≡ None) → IsLive o s
   live_empty s journal limits size touched kept computed =
       record {
         limits = limits;

@@ -7,7 +7,8 @@ use Rattle.lv_refresh.specs.Carried.{Carried}
 use Rattle.lv_refresh.specs.Record.{Record}
 use Rattle.lv_live.specs.declared.events.Event.{Event}
 use Rattle.lv_live.specs.declared.replies.Reply.{Reply}
-use Rattle.lv_live.specs.State.{IsWorld, LiveState, with_issued}
+use Rattle.lv_live.specs.Kept.{IsWorld}
+use Rattle.lv_live.specs.State.{LiveState, with_issued}
 use Rattle.lv_live.specs.Step.{Run, Step}
 use Rattle.lv_live.proofs.WorldLaws.{run_goes_on}
 

@@ -6,7 +6,7 @@ use Rattle.lv_geometry.specs.declared.nodes.Node.{Node}
 use Rattle.lv_geometry.specs.Nodes.{child}
 use Rattle.lv_bodies.specs.Body.{Operations, fold_of}
 use Rattle.lv_edits.specs.declared.edit.Edit.{Edit}
-use Rattle.lv_edits.specs.Touch.{cells_of, is_whole, touched_by}
+use Rattle.lv_edits.specs.Touch.{elements_under, is_whole, touched_by}
 use Rattle.lv_summary.specs.declared.accepted.Accepted.TheVariants.{Held, Installed, Stale}
 use Rattle.lv_refresh.specs.Carried.{Carried}
 use Rattle.lv_refresh.specs.declared.contents.Contents.{Contents}
@@ -75,12 +75,12 @@ module _ {S : Type 0} (o : Operations S) where
   -- the folds of a node's eight children
   abbrev child_folds : List Edit → Node → Eight S
   child_folds es n =
-      let part = λ (k : ℕ). fold_of o (cells_of es (child n k)) in
+      let part = λ (k : ℕ). fold_of o (elements_under es (child n k)) in
       record { a = part 0; b = part 1; c = part 2; d = part 3; e = part 4; f = part 5; g = part 6; h = part 7 }
 
   -- what a job of a node carries
   abbrev contents_of : List Edit → Node → Contents S
-  contents_of es n = cond (nat_eq n.level 1) (Elements (cells_of es n)) (Children (child_folds es n))
+  contents_of es n = cond (nat_eq n.level 1) (Elements (elements_under es n)) (Children (child_folds es n))
 
 module _ {B S : Type 0} (o : Operations S) where
   -- no turn was taken

@@ -4,15 +4,17 @@ use Rattle.std.proofs.lemmas.Bool.{and_from, and_parts, or_left, or_right}
 use Rattle.lv_geometry.specs.declared.nodes.Node.{Node}
 use Rattle.lv_geometry.specs.Nodes.{is_below, is_node, parent, same_node}
 use Rattle.lv_bodies.specs.Body.{BodyLaws, Operations, fold_of}
-use Rattle.lv_edits.specs.Touch.{cells_of}
+use Rattle.lv_edits.specs.Touch.{elements_under}
 use Rattle.lv_summary.specs.declared.accepted.Accepted.{Accepted}
 use Rattle.lv_summary.specs.declared.accepted.Accepted.TheVariants.{Installed}
-use Rattle.lv_summary.specs.Table.{AfterDelivery, Keeps, Table, delivery_in}
+use Rattle.lv_summary.specs.Changes.{AfterDelivery, Keeps}
+use Rattle.lv_summary.specs.Table.{Table, delivery_in}
 use Rattle.lv_summary.proofs.TableLaws.{current_of_installed, same_node-self}
 use Rattle.lv_refresh.specs.Claim.{IsNextJob}
 use Rattle.lv_refresh.specs.Claimed.{AreHints, ClaimTable, claim_blocks, claimed_in, record_of}
 use Rattle.lv_refresh.proofs.HonestyLaws.{whole_of_wanted}
-use Rattle.lv_live.specs.State.{HasClaim, IsLive, LiveState, recorded}
+use Rattle.lv_live.specs.Kept.{IsLive}
+use Rattle.lv_live.specs.State.{HasClaim, LiveState, recorded}
 use Rattle.lv_live.specs.Turns.{TakesTurn}
 use Rattle.lv_live.proofs.DeliverLaws.{HintsParent, delivered, installed_inside}
 use Rattle.lv_live.proofs.LiveLaws.{delivery_agrees, live_after_install}
@@ -58,7 +60,7 @@ module _ {B S : Type 0} (o : Operations S) (within : S → ℕ → Type 0) (laws
     taken_keeps = rw (is ∙ installs) at after
 
     -- all is kept, where the summary is the fold of the node's elements
-    pub live_taken : summary ≡ fold_of o (cells_of s.history.journal n) → IsLive o (record s { table = t; claims = d })
+    pub live_taken : summary ≡ fold_of o (elements_under s.history.journal n) → IsLive o (record s { table = t; claims = d })
     live_taken fold =
         let current = current_of_installed s.table n v installs in
         live_after_install o claimed_state t d n v summary live_claimed taken_keeps current.0 current.1 fold

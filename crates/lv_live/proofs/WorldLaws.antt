@@ -13,7 +13,7 @@ use Rattle.lv_bodies.specs.Body.{Operations}
 use Rattle.lv_edits.specs.declared.edit.Edit.{Edit}
 use Rattle.lv_edits.specs.History.{list_of, replayed}
 use Rattle.lv_edits.specs.declared.receipt.Receipt.{Receipt}
-use Rattle.lv_edits.specs.Kept.{InLimits}
+use Rattle.lv_edits.specs.Kept.{IsLegalInLimits}
 use Rattle.lv_edits.specs.Touch.{is_whole, touched_by}
 use Rattle.lv_edits.specs.Verdict.{Answers}
 use Rattle.lv_geometry.specs.Nodes.{same_node}
@@ -31,7 +31,8 @@ use Rattle.lv_live.specs.declared.events.Event.{Event}
 use Rattle.lv_live.specs.declared.replies.Reply.{Reply}
 use Rattle.lv_live.specs.declared.events.Event.TheVariants as event
 use Rattle.lv_live.specs.declared.replies.Reply.TheVariants as reply
-use Rattle.lv_live.specs.State.{AllOwn, HasClaim, HasDelivery, HasNoClaims, IsOwn, IsWorld, LiveState, SameLive, SameRefresh, SameSetting, job_at, jobs_with, node_and_version, recorded, with_issued}
+use Rattle.lv_live.specs.Kept.{AllOwn, IsOwn, IsWorld}
+use Rattle.lv_live.specs.State.{HasClaim, HasDelivery, HasNoClaims, LiveState, SameLive, SameRefresh, SameSetting, job_at, jobs_with, node_and_version, recorded, with_issued}
 use Rattle.lv_live.specs.Step.{Reduces, Run, Scans, Step, after_accepted, after_delivery, after_edit, claim_reply, delivery_reply, edit_reply, job_of, reduction_reply, scan_reply}
 
 -- what holds of each element holds of each in another way
@@ -177,7 +178,7 @@ module _ {B S : Type 0} (o : Operations S) where
   world_same old new jobs more history world own = record { limits = rw history world.limits; own = own }
 
   -- and under an edit
-  pub world_edit : (old new : LiveState B S) (e : Edit) (answer : Result Receipt Refusal) (jobs : List (Carried B S)) → SameRefresh old new → Answers old.history e answer new.history → InLimits new.history → IsWorld o old jobs → IsWorld o new jobs
+  pub world_edit : (old new : LiveState B S) (e : Edit) (answer : Result Receipt Refusal) (jobs : List (Carried B S)) → SameRefresh old new → Answers old.history e answer new.history → IsLegalInLimits new.history → IsWorld o old jobs → IsWorld o new jobs
   world_edit old new e answer jobs same answers limits world = record { limits = limits; own = own_edit old new e answer jobs same answers world.own }
 
   -- under a claim

@@ -3,7 +3,8 @@ use Rattle.std.specs.Prelude.{◌≡◌, ◌/◌, ◌<◌, ◌≤◌, ℕ, true,
 use Rattle.std.specs.List.{AllByRecursion, list_any}
 use Rattle.lv_geometry.specs.declared.nodes.Node.{Node}
 use Rattle.lv_geometry.specs.Nodes.{covers, is_node}
-use Rattle.lv_summary.specs.Table.{HasSize, Table, TouchesEach}
+use Rattle.lv_summary.specs.Changes.{HasSize, TouchesEach}
+use Rattle.lv_summary.specs.Table.{Table}
 use Rattle.lv_refresh.specs.Claimed.{ClaimTable, claim_blocks, claimed_in, is_hinted}
 use Rattle.lv_live.specs.declared.following.Touched.{Touched}
 use Rattle.lv_live.specs.declared.following.Touched.TheVariants.{Nothing, One, Two}

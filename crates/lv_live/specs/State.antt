@@ -1,15 +1,11 @@
 -- What a live vector holds, and the record of it.
-use Rattle.std.specs.Prelude.{◌≡◌, ◌*◌, ◌≤◌, ℕ, Option, Some, None, List, [], ◌∷◌, ◌++◌, map, All, nat_eq, slice_get, ◌-◌, if◌then◌else◌}
+use Rattle.std.specs.Prelude.{◌≡◌, ℕ, Option, Some, None, List, [], ◌∷◌, ◌++◌, map, nat_eq, slice_get, ◌-◌, if◌then◌else◌}
 use Rattle.lv_geometry.specs.declared.nodes.Node.{Node}
-use Rattle.lv_bodies.specs.Body.{Operations}
 use Rattle.lv_edits.specs.History.{History}
-use Rattle.lv_edits.specs.Kept.{InLimits}
 use Rattle.lv_summary.specs.declared.accepted.Accepted.{Accepted}
-use Rattle.lv_summary.specs.Agrees.{Agrees}
 use Rattle.lv_summary.specs.Table.{Table}
 use Rattle.lv_refresh.specs.Carried.{Carried}
-use Rattle.lv_refresh.specs.Claimed.{AreHints, ClaimTable, claim_blocks, record_of}
-use Rattle.lv_refresh.specs.Honesty.{IsHonest}
+use Rattle.lv_refresh.specs.Claimed.{ClaimTable, record_of}
 use Rattle.lv_refresh.specs.Record.{Record}
 use Rattle.lv_live.specs.Step.{after_accepted, with_version}
 
@@ -23,14 +19,6 @@ pub record LiveState (B S : Type 0) : Type 0 where
 -- a vector's record: its edits, what is claimed and what is kept; its list of issued jobs is empty, and who keeps them puts them in
 abbrev pub recorded : {B S : Type 0} → LiveState B S → Record
 recorded s = record_of s.history.journal s.table s.claims
-
--- the vector is within its limits, the summaries agree with the journal, every node that wants a job is hinted at, and each index
--- has its room for claims
-pub record IsLive {B S : Type 0} (o : Operations S) (s : LiveState B S) : Type 0 where
-  pub limits : InLimits s.history
-  pub agrees : Agrees o s.history.journal s.table
-  pub hints : AreHints (recorded s) s.claims
-  pub grown : s.table.size ≤ 8 * claim_blocks s.claims
 
 -- two states have the same body, limits, edits, claims and kept versions
 pub record SameLive {B S : Type 0} (old new : LiveState B S) : Type 0 where
@@ -92,19 +80,6 @@ with_issued live jobs = record (recorded live) { issued = map node_and_version j
 -- the record of a world
 abbrev pub world_record : {B S : Type 0} → WorldState B S → Record
 world_record w = with_issued w.live w.jobs
-
--- a job has the vector's body, and its contents were taken from this vector
-abbrev pub IsOwn : {B S : Type 0} → Operations S → LiveState B S → Carried B S → Type 0
-IsOwn o live job = (job.body ≡ live.body) × IsHonest o (recorded live) job.node job.version job.contents
-
--- every job is the vector's own
-abbrev pub AllOwn : {B S : Type 0} → Operations S → LiveState B S → List (Carried B S) → Type 0
-AllOwn o live jobs = All (IsOwn o live) jobs
-
--- a vector is within its limits, and every job is its own
-pub record IsWorld {B S : Type 0} (o : Operations S) (live : LiveState B S) (jobs : List (Carried B S)) : Type 0 where
-  pub limits : InLimits live.history
-  pub own : AllOwn o live jobs
 
 -- two states have the same body and limits
 pub record SameSetting {B S : Type 0} (old new : LiveState B S) : Type 0 where

@@ -2,19 +2,21 @@ ghost use Rattle.std.specs.Prelude.{◌≡◌, ◌↔◌, ◌+◌, ◌*◌, ◌/
 ghost use Rattle.lv_geometry.specs.declared.nodes.Node.{Node};
 ghost use Rattle.lv_edits.specs.Capacity.{capacity_after};
 ghost use Rattle.lv_edits.specs.History.{list_of};
-ghost use Rattle.lv_edits.specs.Kept.{InLimits};
+ghost use Rattle.lv_edits.specs.Kept.{IsLegalInLimits};
 ghost use Rattle.lv_edits.specs.Verdict.{Answers, element_at, verdict_of};
 ghost use Rattle.lv_refresh.specs.Claim.{IsNextJob};
 ghost use Rattle.lv_refresh.specs.Delivery.{delivery_of};
 ghost use Rattle.lv_refresh.specs.Honesty.{IsHonest, Vouched};
 ghost use Rattle.lv_refresh.specs.Record.{is_fresh};
-ghost use Rattle.lv_summary.specs.Agrees.{Agrees};
-ghost use Rattle.lv_summary.specs.Table.{OnlyLearns, known_in};
-ghost use Rattle.lv_reduce.specs.Answer.{IsAnswer, IsScanRefusal, IsTotal, range_refusal};
+ghost use Rattle.lv_known.specs.Agrees.{Agrees};
+ghost use Rattle.lv_summary.specs.Changes.{OnlyLearns};
+ghost use Rattle.lv_summary.specs.Table.{known_in};
+ghost use Rattle.lv_reduce.specs.Answer.{IsAnswer, IsScanRefusal, IsAnswerPair, range_refusal};
 ghost use Rattle.lv_reduce.specs.Asked.{AreTopsKnown, IsFewAsked};
 ghost use Rattle.lv_reduce.specs.Cost.{IsFew};
 ghost use Rattle.lv_reduce.specs.Stretch.{IsStretch};
-ghost use Rattle.lv_live.specs.State.{HasClaim, HasDelivery, HasNoClaims, IsLive, SameLive, SameRefresh, node_and_version, recorded};
+ghost use Rattle.lv_live.specs.Kept.{IsLive};
+ghost use Rattle.lv_live.specs.State.{HasClaim, HasDelivery, HasNoClaims, SameLive, SameRefresh, node_and_version, recorded};
 ghost use Rattle.lv_live.specs.Step.{Reduces, Scans};
 ghost use Rattle.lv_live.specs.Turns.{TakesTurn, TakesTurns};
 
@@ -39,7 +41,8 @@ pub struct Live<B: Body> {
 }
 
 impl<B: Body> Model for Live<B> {
-    ghost use Rattle.lv_live.specs.State.{IsLive, LiveState};
+    ghost use Rattle.lv_live.specs.Kept.{IsLive};
+    ghost use Rattle.lv_live.specs.State.{LiveState};
 
     ghost Value = { LiveState B B.S };
 
@@ -53,7 +56,7 @@ impl<B: Body> Live<B> {
     pub fn new(alloc: Global, limits: Limits, body: B) -> Live<B>
         ensures body { result.body ≡ body }
         ensures history { result.history ≡ record { limits = limits; journal = [] } }
-        ensures limits { InLimits result.history }
+        ensures limits { IsLegalInLimits result.history }
         ensures unclaimed { (n : Node) → (recorded result).claimed n ≡ None }
         ensures nothing_kept { (n : Node) → (recorded result).kept n ≡ None }
     {
@@ -69,7 +72,7 @@ impl<B: Body> Live<B> {
     /// Makes an edit. Refused as `verdict` says, else with `NoMemory`, and nothing has changed then.
     pub fn apply(&mut self, edit: Edit) -> Result<Receipt, Refusal>
         ensures answer { Answers self.old.history edit result self.new.history }
-        ensures limits { InLimits self.new.history }
+        ensures limits { IsLegalInLimits self.new.history }
         ensures refresh { SameRefresh self.old self.new }
     {
         match self.cells.verdict(&edit) {
@@ -83,7 +86,7 @@ impl<B: Body> Live<B> {
     pub fn make(&mut self, edit: Edit) -> Result<Receipt, Refusal>
         requires { verdict_of self.old.history.limits self.old.history.journal edit ≡ None }
         ensures answer { Answers self.old.history edit result self.new.history }
-        ensures limits { InLimits self.new.history }
+        ensures limits { IsLegalInLimits self.new.history }
         ensures refresh { SameRefresh self.old self.new }
     {
         let touched = touched_indices(&edit, self.table.size());
@@ -178,7 +181,7 @@ impl<B: Body> Live<B> {
     /// they lie and reads no summary, so it is meant for ranges that are so short that their summaries would cost more. Refused with
     /// `BadRange`, then `OutOfRange`. Takes no memory.
     pub fn fold_by<K: Body>(&self, body: &K, lo: u32, hi: u32) -> Result<(u32, K::S), Refusal>
-        ensures ok { IfOk result (λ answer. IsTotal (K.operations (K.meaning body.now)) self.now.history.journal lo hi answer) }
+        ensures ok { IfOk result (λ answer. IsAnswerPair (K.operations (K.meaning body.now)) self.now.history.journal lo hi answer) }
         ensures err { IfErr result (λ refusal. range_refusal self.now.history.journal lo hi ≡ Some refusal) }
     {
         lv_reduce::fold_elements(&self.cells, body, lo, hi)

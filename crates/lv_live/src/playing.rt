@@ -1,6 +1,7 @@
 ghost use Rattle.std.specs.Prelude.{◌≡◌, ◌+◌, ◌≤◌, ◌<◌, [], ◌∷◌, ◌++◌, List, length, vec_capacity, vec_len};
 ghost use Rattle.lv_refresh.specs.Carried.{Carried};
-ghost use Rattle.lv_live.specs.State.{IsWorld, SameSetting, recorded, with_issued};
+ghost use Rattle.lv_live.specs.Kept.{IsWorld};
+ghost use Rattle.lv_live.specs.State.{SameSetting, recorded, with_issued};
 ghost use Rattle.lv_live.specs.Step.{Run, Scans, Step};
 ghost use Rattle.lv_live.specs.declared.events.Event.TheVariants as event;
 

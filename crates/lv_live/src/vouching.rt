@@ -1,8 +1,8 @@
 ghost use Rattle.std.specs.Prelude.{◌≡◌, ◌↔◌, ◌<◌, IsTrue, true, length};
 ghost use Rattle.lv_geometry.specs.Nodes.{is_below};
 ghost use Rattle.lv_edits.specs.History.{list_of};
-ghost use Rattle.lv_edits.specs.Touch.{cells_of};
-ghost use Rattle.lv_summary.specs.Agrees.{Agrees};
+ghost use Rattle.lv_edits.specs.Touch.{elements_under};
+ghost use Rattle.lv_known.specs.Agrees.{Agrees};
 ghost use Rattle.lv_summary.specs.Table.{whole_in};
 ghost use Rattle.lv_refresh.specs.Claimed.{ClaimTable, record_of};
 ghost use Rattle.lv_refresh.specs.Honesty.{Stands};
@@ -39,7 +39,7 @@ pub fn stands_here<B: Body>(
 fn have_elements(cells: &Edits, block: Node, elements: &[i64; 8]) -> bool
     requires level { block.level ≡ 1 }
     requires whole { is_below block (length (list_of cells.now.journal)) ≡ true }
-    ensures { IsTrue result ↔ (elements.now ≡ cells_of cells.now.journal block) }
+    ensures { IsTrue result ↔ (elements.now ≡ elements_under cells.now.journal block) }
 {
     *elements == cells.block(block.number)
 }

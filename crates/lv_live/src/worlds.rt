@@ -21,7 +21,8 @@ pub struct World<B: Body> {
 }
 
 impl<B: Body> Model for World<B> {
-    ghost use Rattle.lv_live.specs.State.{IsWorld, WorldState};
+    ghost use Rattle.lv_live.specs.Kept.{IsWorld};
+    ghost use Rattle.lv_live.specs.State.{WorldState};
 
     ghost Value = { WorldState B B.S };
 

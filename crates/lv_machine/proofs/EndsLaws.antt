@@ -1,7 +1,7 @@
 -- Earlier histories of a history.
 use Rattle.std.proofs.Common.{◌≡◌, ◌⊎◌, ℕ, ◌≤◌, List, [], ◌∷◌, ◌++◌, length, refl, sym, ap, ◌∙◌, subst, inl, inr, append_assoc, length-append, arith}
 use Rattle.lv_machine.specs.declared.entries.Entry.{Entry}
-use Rattle.lv_machine.specs.History.{Ends, IsLegal}
+use Rattle.lv_machine.specs.History.{Ends, IsLegalHistory}
 use Rattle.lv_machine.specs.Terms.{Terms}
 
 -- a history is an earlier one of itself
@@ -54,18 +54,18 @@ Ends-shorter k j (e ∷ h) one two long = elim (Ends-cases j h e two) [
   ]
 ]
 
-legal_behind : (t : Terms) (later k : List Entry) → IsLegal t (later ++ k) → IsLegal t k
+legal_behind : (t : Terms) (later k : List Entry) → IsLegalHistory t (later ++ k) → IsLegalHistory t k
 legal_behind t [] k legal = legal
 legal_behind t (x ∷ later) k legal = legal_behind t later k legal.0
 
 -- an earlier one of a legal history is legal
-pub legal_earlier : (t : Terms) (k h : List Entry) → Ends k h → IsLegal t h → IsLegal t k
-legal_earlier t k h ends legal = legal_behind t ends.later k (subst (IsLegal t) ends.whole_is legal)
+pub legal_earlier : (t : Terms) (k h : List Entry) → Ends k h → IsLegalHistory t h → IsLegalHistory t k
+legal_earlier t k h ends legal = legal_behind t ends.later k (subst (IsLegalHistory t) ends.whole_is legal)
 
 -- what a history grows by it never loses
-grown_behind : (t : Terms) (f : List Entry → ℕ) → ((h : List Entry) (e : Entry) → IsLegal t (e ∷ h) → f h ≤ f (e ∷ h)) → (later k : List Entry) → IsLegal t (later ++ k) → f k ≤ f (later ++ k)
+grown_behind : (t : Terms) (f : List Entry → ℕ) → ((h : List Entry) (e : Entry) → IsLegalHistory t (e ∷ h) → f h ≤ f (e ∷ h)) → (later k : List Entry) → IsLegalHistory t (later ++ k) → f k ≤ f (later ++ k)
 grown_behind t f grows [] k legal = omega arith
 grown_behind t f grows (x ∷ later) k legal = omega (arith, grows (later ++ k) x legal, grown_behind t f grows later k legal.0)
 
-pub grown : (t : Terms) (f : List Entry → ℕ) → ((h : List Entry) (e : Entry) → IsLegal t (e ∷ h) → f h ≤ f (e ∷ h)) → (k h : List Entry) → Ends k h → IsLegal t h → f k ≤ f h
-grown t f grows k h ends legal = subst (λ l. f k ≤ f l) (sym ends.whole_is) (grown_behind t f grows ends.later k (subst (IsLegal t) ends.whole_is legal))
+pub grown : (t : Terms) (f : List Entry → ℕ) → ((h : List Entry) (e : Entry) → IsLegalHistory t (e ∷ h) → f h ≤ f (e ∷ h)) → (k h : List Entry) → Ends k h → IsLegalHistory t h → f k ≤ f h
+grown t f grows k h ends legal = subst (λ l. f k ≤ f l) (sym ends.whole_is) (grown_behind t f grows ends.later k (subst (IsLegalHistory t) ends.whole_is legal))

@@ -8,13 +8,13 @@ use Rattle.lv_geometry.proofs.Capacities.{capacity_of_mono}
 use Rattle.lv_edits.specs.declared.edit.Edit.{Edit}
 use Rattle.lv_edits.specs.declared.edit.Edit.TheVariants.{Push, Pop, Write, Reserve, Swap, Truncate}
 use Rattle.lv_edits.specs.History.{History, list_of}
-use Rattle.lv_edits.specs.Kept.{CarriesElement, InLimits}
+use Rattle.lv_edits.specs.Kept.{CarriesElement, IsLegalInLimits}
 use Rattle.lv_edits.specs.Touch.{indices_written}
 use Rattle.lv_edits.specs.Verdict.{refused_on}
-use Rattle.lv_edits.proofs.HistoryLaws.{InLimits-empty, InLimits-snoc, list_of_replayed, not_refused, replayed-nil, unrefused_push, unrefused_swap, unrefused_write}
+use Rattle.lv_edits.proofs.HistoryLaws.{IsLegalInLimits-empty, IsLegalInLimits-snoc, list_of_replayed, not_refused, replayed-nil, unrefused_push, unrefused_swap, unrefused_write}
 use Rattle.lv_edits.proofs.TouchLaws.{touched_by_grows}
 use Rattle.lv_machine.specs.declared.entries.Entry.{Entry}
-use Rattle.lv_machine.specs.History.{cell_of, descriptor_of, edits_of, elements_of, index_written_by, IsLegal, IsShortEdit}
+use Rattle.lv_machine.specs.History.{cell_of, descriptor_of, edits_of, elements_of, index_written_by, IsLegalHistory, IsShortEdit}
 use Rattle.lv_machine.specs.Shows.{block, mark_of}
 use Rattle.lv_machine.specs.Terms.{AreTerms, Terms}
 use Rattle.lv_machine.specs.Words.{bits_written, cell_word, edit_of, index_of, size_of, value_of}
@@ -55,11 +55,11 @@ journal : Terms → List Entry → History
 journal t h = record { limits = t.limits; journal = edits_of h }
 
 -- a legal history keeps the limits
-pub legal_within : (t : Terms) (h : List Entry) → AreTerms t → IsLegal t h → InLimits record { limits = t.limits; journal = edits_of h }
-legal_within t [] terms legal = subst (λ es. InLimits record { limits = t.limits; journal = es }) (sym edits_of-nil) (InLimits-empty t.limits terms.allowed)
+pub legal_within : (t : Terms) (h : List Entry) → AreTerms t → IsLegalHistory t h → IsLegalInLimits record { limits = t.limits; journal = edits_of h }
+legal_within t [] terms legal = subst (λ es. IsLegalInLimits record { limits = t.limits; journal = es }) (sym edits_of-nil) (IsLegalInLimits-empty t.limits terms.allowed)
 legal_within t (e ∷ h) terms (legal, next) =
-    subst (λ es. InLimits record { limits = t.limits; journal = es }) (sym (edits_of-cons e h))
-    (InLimits-snoc record { limits = t.limits; journal = edits_of h } e.edit (legal_within t h terms legal) next.verdict (carries e.edit next.short))
+    subst (λ es. IsLegalInLimits record { limits = t.limits; journal = es }) (sym (edits_of-cons e h))
+    (IsLegalInLimits-snoc record { limits = t.limits; journal = edits_of h } e.edit (legal_within t h terms legal) next.verdict (carries e.edit next.short))
 
 -- there are at most 4088 cells
 pub few_cells : (t : Terms) → AreTerms t → capacity_of t.limits.buckets ≤ 4088
@@ -74,12 +74,12 @@ written_on limits xs (Reserve n) free few = inl refl
 written_on limits xs (Swap i j) free few = let below = unrefused_swap limits xs i j free in inr (omega (arith, below.0))
 written_on limits xs (Truncate n) free few = inl refl
 
-pub written_within : (t : Terms) (h : List Entry) (e : Entry) → AreTerms t → IsLegal t (e ∷ h) → (index_written_by h e ≡ 4095) ⊎ (index_written_by h e < capacity_of t.limits.buckets)
+pub written_within : (t : Terms) (h : List Entry) (e : Entry) → AreTerms t → IsLegalHistory t (e ∷ h) → (index_written_by h e ≡ 4095) ⊎ (index_written_by h e < capacity_of t.limits.buckets)
 unfolding index_written_by
 written_within t h e terms (legal, next) =
     written_on t.limits (elements_of h) e.edit (not_refused t.limits (edits_of h) e.edit next.verdict).1 (legal_within t h terms legal).size
 
-index_below : (t : Terms) (h : List Entry) (e : Entry) → AreTerms t → IsLegal t (e ∷ h) → index_written_by h e < 4096
+index_below : (t : Terms) (h : List Entry) (e : Entry) → AreTerms t → IsLegalHistory t (e ∷ h) → index_written_by h e < 4096
 index_below t h e terms legal = elim (written_within t h e terms legal) [
   | inl none ↦ omega arith
   | inr some ↦ omega (arith, few_cells t terms)
@@ -93,13 +93,13 @@ pub record IsDecoded (h : List Entry) : Type 0 where
 pub no_elements : length (elements_of []) ≡ 0
 no_elements = ap length (ap list_of edits_of-nil ∙ list_of_replayed [] [] replayed-nil)
 
-pub size_below : (t : Terms) (h : List Entry) → AreTerms t → IsLegal t h → length (elements_of h) ≤ 4088
+pub size_below : (t : Terms) (h : List Entry) → AreTerms t → IsLegalHistory t h → length (elements_of h) ≤ 4088
 size_below t h terms legal = omega (arith, (legal_within t h terms legal).size, few_cells t terms)
 
-pub length_below : (t : Terms) (h : List Entry) → AreTerms t → IsLegal t h → length h ≤ t.limits.edits
+pub length_below : (t : Terms) (h : List Entry) → AreTerms t → IsLegalHistory t h → length h ≤ t.limits.edits
 length_below t h terms legal = omega (arith, (legal_within t h terms legal).edits, length-edits_of h)
 
-pub decoded : (t : Terms) (h : List Entry) → AreTerms t → IsLegal t h → IsDecoded h
+pub decoded : (t : Terms) (h : List Entry) → AreTerms t → IsLegalHistory t h → IsDecoded h
 unfolding descriptor_of
 decoded t [] terms legal = record {
   edit = edit_of-descriptor 0 0 4095 0 (omega arith) (omega arith) (omega arith);
@@ -118,11 +118,11 @@ pub index_of-nil : index_of (descriptor_of []) ≡ 4095
 unfolding descriptor_of
 index_of-nil = index_of-descriptor 0 0 4095 0 (omega arith) (omega arith) (omega arith)
 
-pub index_of-cons : (t : Terms) (h : List Entry) (e : Entry) → AreTerms t → IsLegal t (e ∷ h) → index_of (descriptor_of (e ∷ h)) ≡ index_written_by h e
+pub index_of-cons : (t : Terms) (h : List Entry) (e : Entry) → AreTerms t → IsLegalHistory t (e ∷ h) → index_of (descriptor_of (e ∷ h)) ≡ index_written_by h e
 unfolding descriptor_of
 index_of-cons t h e terms legal = let few = size_below t (e ∷ h) terms legal in index_of-descriptor _ _ _ _ (omega arith) (index_below t h e terms legal) (bits_written-short e.edit legal.1.short)
 
-pub value_of-cons : (t : Terms) (h : List Entry) (e : Entry) → AreTerms t → IsLegal t (e ∷ h) → value_of (descriptor_of (e ∷ h)) ≡ bits_written e.edit
+pub value_of-cons : (t : Terms) (h : List Entry) (e : Entry) → AreTerms t → IsLegalHistory t (e ∷ h) → value_of (descriptor_of (e ∷ h)) ≡ bits_written e.edit
 unfolding descriptor_of
 value_of-cons t h e terms legal = let few = size_below t (e ∷ h) terms legal in value_of-descriptor _ _ _ _ (omega arith) (index_below t h e terms legal) (bits_written-short e.edit legal.1.short)
 
@@ -140,7 +140,7 @@ unfolding cell_of
 cell_of-nil i = refl
 
 -- no cell is of a version above the history's length
-pub cell_of-below : (t : Terms) (i : ℕ) (h : List Entry) → IsLegal t h → cell_of i h < (length h + 1) * 65536
+pub cell_of-below : (t : Terms) (i : ℕ) (h : List Entry) → IsLegalHistory t h → cell_of i h < (length h + 1) * 65536
 cell_of-below t i [] legal = omega (arith, cell_of-nil i)
 cell_of-below t i (e ∷ h) (legal, next) = elim (cases_Bool (nat_eq (index_written_by h e) i)) [
   | inl there ↦ omega (arith, cell_of-there i e h (eqb-true _ _ there), cell_word-below (length h + 1) (bits_written e.edit) (length h + 2) (bits_written-short e.edit next.short) (omega arith))
@@ -148,11 +148,11 @@ cell_of-below t i (e ∷ h) (legal, next) = elim (cases_Bool (nat_eq (index_writ
 ]
 
 -- an entry lowers no cell and no mark
-pub cell_of-grows : (t : Terms) (i : ℕ) (h : List Entry) (e : Entry) → IsLegal t (e ∷ h) → cell_of i h ≤ cell_of i (e ∷ h)
+pub cell_of-grows : (t : Terms) (i : ℕ) (h : List Entry) (e : Entry) → IsLegalHistory t (e ∷ h) → cell_of i h ≤ cell_of i (e ∷ h)
 cell_of-grows t i h e (legal, next) = elim (cases_Bool (nat_eq (index_written_by h e) i)) [
   | inl there ↦ omega (arith, cell_of-there i e h (eqb-true _ _ there), cell_word-above (length h + 1) (bits_written e.edit), cell_of-below t i h legal)
   | inr elsewhere ↦ omega (arith, cell_of-elsewhere i e h elsewhere)
 ]
 
-pub mark_of-grows : (t : Terms) (b : ℕ) (h : List Entry) (e : Entry) → IsLegal t (e ∷ h) → mark_of b h ≤ mark_of b (e ∷ h)
+pub mark_of-grows : (t : Terms) (b : ℕ) (h : List Entry) (e : Entry) → IsLegalHistory t (e ∷ h) → mark_of b h ≤ mark_of b (e ∷ h)
 mark_of-grows t b h e legal = rw (edits_of-cons e h) (touched_by_grows (edits_of h) e.edit (block b))

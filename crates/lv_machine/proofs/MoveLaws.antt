@@ -15,7 +15,7 @@ use Rattle.lv_edits.specs.Verdict.{refused_on, verdict_of}
 use Rattle.lv_edits.proofs.HistoryLaws.{accepted_is_possible, applied_pop, applied_write, list_of-snoc, not_refused, unrefused_pop, unrefused_truncate, unrefused_write}
 use Rattle.lv_edits.proofs.TouchLaws.{touched_by-none}
 use Rattle.lv_machine.specs.declared.entries.Entry.{Entry}
-use Rattle.lv_machine.specs.History.{cell_of, descriptor_of, edits_of, elements_of, Ends, index_written_by, IsLegal, MayFollow}
+use Rattle.lv_machine.specs.History.{cell_of, descriptor_of, edits_of, elements_of, Ends, index_written_by, IsLegalHistory, MayFollow}
 use Rattle.lv_machine.specs.Layout.{cell_place, mark_place, part_place, place}
 use Rattle.lv_machine.specs.Moves.{accepted, AreAllowed, completing, Config, IsComplete, looked, MayExchange, MayInstall, MayMove, Move, moved, Look, Exchange, HelpCell, HelpMark, Install, Read, raised, reached, ReachableShows, refused_at, Shows, start, verdict_at}
 use Rattle.lv_machine.specs.Shows.{block, Fits, FitsPart, FitsPlace, mark_of}
@@ -127,7 +127,7 @@ same_refusal limits xs (Reserve n) = refl
 same_refusal limits xs (Swap i j) = refl
 same_refusal limits xs (Truncate n) = refl
 
-pub verdict_at_descriptor : (t : Terms) (h : List Entry) (e : Edit) → AreTerms t → IsLegal t h → verdict_at t.limits (descriptor_of h) e ≡ verdict_of t.limits (edits_of h) e
+pub verdict_at_descriptor : (t : Terms) (h : List Entry) (e : Edit) → AreTerms t → IsLegalHistory t h → verdict_at t.limits (descriptor_of h) e ≡ verdict_of t.limits (edits_of h) e
 verdict_at_descriptor t h e terms legal =
     let d = decoded t h terms legal in
     rw (d.edit, d.size, same_refusal, length-edits_of)
@@ -149,7 +149,7 @@ one_more limits xs ys (Reserve n) free made = ap length (sym (same_Some _ _ made
 one_more limits xs ys (Swap i j) free made = ap length (sym (cond_some _ _ _ made).1) ∙ length-swap xs i j
 one_more limits xs ys (Truncate n) free made = omega (arith, ap length (cond_some _ _ _ made).1, length-take n xs, unrefused_truncate limits xs n free)
 
-pub size_next : (t : Terms) (h : List Entry) (e : Entry) → AreTerms t → IsLegal t h → MayFollow t h e → length (elements_of (e ∷ h)) ≡ size_after (length (elements_of h)) e.edit
+pub size_next : (t : Terms) (h : List Entry) (e : Entry) → AreTerms t → IsLegalHistory t h → MayFollow t h e → length (elements_of (e ∷ h)) ≡ size_after (length (elements_of h)) e.edit
 size_next t h e terms legal next =
     let es = edits_of h in
     let within = legal_within t h terms legal in
@@ -157,7 +157,7 @@ size_next t h e terms legal next =
     let made = list_of-snoc es e.edit possible.0 within.legal possible.1 in
     ap (λ l. length (list_of l)) (edits_of-cons e h) ∙ ap length made.1 ∙ one_more t.limits (elements_of h) possible.0 e.edit (not_refused t.limits es e.edit next.verdict).1 possible.1
 
-next_by : (t : Terms) (h : List Entry) (a : ℕ) (e : Edit) → AreTerms t → IsLegal t h → MayFollow t h record { actor = a; edit = e } → descriptor_after (descriptor_of h) e ≡ descriptor_of (record { actor = a; edit = e } ∷ h)
+next_by : (t : Terms) (h : List Entry) (a : ℕ) (e : Edit) → AreTerms t → IsLegalHistory t h → MayFollow t h record { actor = a; edit = e } → descriptor_after (descriptor_of h) e ≡ descriptor_of (record { actor = a; edit = e } ∷ h)
 unfolding descriptor_of index_written_by
 next_by t h a (Push x) terms legal next =
     let d = decoded t h terms legal in
@@ -176,7 +176,7 @@ next_by t h a (Swap i j) terms legal next = absurd next.short
 next_by t h a (Truncate n) terms legal next = absurd next.short
 
 -- the descriptor that an edit makes is that of the history with it
-pub next_descriptor : (t : Terms) (h : List Entry) (e : Entry) → AreTerms t → IsLegal t h → MayFollow t h e → descriptor_after (descriptor_of h) e.edit ≡ descriptor_of (e ∷ h)
+pub next_descriptor : (t : Terms) (h : List Entry) (e : Entry) → AreTerms t → IsLegalHistory t h → MayFollow t h e → descriptor_after (descriptor_of h) e.edit ≡ descriptor_of (e ∷ h)
 next_descriptor t h e terms legal next = next_by t h e.actor e.edit terms legal next
 
 -- an accepted edit's words show the history with it

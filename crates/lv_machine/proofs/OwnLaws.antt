@@ -18,7 +18,7 @@ use Rattle.lv_machine.specs.declared.tasks.Keep.{Keep}
 use Rattle.lv_machine.specs.declared.tasks.Task.{Task}
 use Rattle.lv_machine.specs.declared.tasks.Task.TheVariants as task
 use Rattle.lv_machine.specs.declared.tasks.Walk.{Walk}
-use Rattle.lv_machine.specs.History.{descriptor_of, edits_of, elements_of, Ends, IsLegal}
+use Rattle.lv_machine.specs.History.{descriptor_of, edits_of, elements_of, Ends, IsLegalHistory}
 use Rattle.lv_machine.specs.Layout.{cell_place, mark_place}
 use Rattle.lv_machine.specs.Machine.{advanced, move_of, place_of, refusal_at, sees_next}
 use Rattle.lv_machine.specs.Moves.{completing, Config, IsComplete, moved, Shows}
@@ -40,7 +40,7 @@ any_default : {X : Type 0} (xs : List X) (i : ℕ) (d e : X) → i < length xs �
 any_default xs i d e within = grind (arith, common_steps)
 
 module _ {S : Type 0} (o : Operations S) (within : S → ℕ → Type 0) (laws : BodyLaws o within) (count : ℕ) (some : 1 ≤ count) (parts_of : S → List ℕ) (whole_of : List ℕ → S) (are : AreParts count parts_of) (has : HasParts parts_of whole_of o) (limits : Bounds) (seats a : ℕ) (c : Config) (k : List Entry) (terms : AreTerms (terms_of o count parts_of limits seats)) (shows : Shows (terms_of o count parts_of limits seats) c) (ends : Ends k c.history) (look : c.looks a ≡ descriptor_of k) where
-  legal : IsLegal (terms_of o count parts_of limits seats) k
+  legal : IsLegalHistory (terms_of o count parts_of limits seats) k
   legal = legal_seen (terms_of o count parts_of limits seats) c k terms shows ends
 
   -- after its step an actor's look shows an earlier history still, and what the step came to is right there

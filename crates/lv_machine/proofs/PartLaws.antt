@@ -7,14 +7,14 @@ use Rattle.std.proofs.lemmas.List.Elements.{All-drop, All-take}
 use Rattle.lv_geometry.specs.Bounds.{Bounds}
 use Rattle.lv_bodies.specs.Body.{Operations, BodyLaws, CanFold, fold_of}
 use Rattle.lv_bodies.specs.Parts.{AreParts, HasParts, IsShort}
-use Rattle.lv_edits.specs.Touch.{cells_of}
-use Rattle.lv_edits.proofs.TouchLaws.{cells_of-length}
+use Rattle.lv_edits.specs.Touch.{elements_under}
+use Rattle.lv_edits.proofs.TouchLaws.{elements_under-length}
 use Rattle.lv_reduce.proofs.PieceLaws.{slice-joined}
 use Rattle.lv_machine.specs.declared.entries.Entry.{Entry}
 use Rattle.lv_machine.specs.declared.tasks.Goal.TheVariants as goal
 use Rattle.lv_machine.specs.declared.tasks.Parts.{Parts}
 use Rattle.lv_machine.specs.declared.tasks.Walk.{Walk}
-use Rattle.lv_machine.specs.History.{descriptor_of, edits_of, elements_of, Ends, IsLegal}
+use Rattle.lv_machine.specs.History.{descriptor_of, edits_of, elements_of, Ends, IsLegalHistory}
 use Rattle.lv_machine.specs.Layout.{part_place}
 use Rattle.lv_machine.specs.Machine.{part_loaded, with_block, with_part}
 use Rattle.lv_machine.specs.Moves.{Config, Shows}
@@ -29,7 +29,7 @@ use Rattle.lv_machine.proofs.RightLaws.{same_list, walked_right}
 use Rattle.lv_machine.proofs.StepLaws.{legal_seen, part_at}
 
 module _ {S : Type 0} (o : Operations S) (count : ℕ) (parts_of : S → List ℕ) (whole_of : List ℕ → S) (limits : Bounds) (seats a : ℕ) (c : Config) (k : List Entry) (terms : AreTerms (terms_of o count parts_of limits seats)) (shows : Shows (terms_of o count parts_of limits seats) c) (ends : Ends k c.history) where
-  legal : IsLegal (terms_of o count parts_of limits seats) k
+  legal : IsLegalHistory (terms_of o count parts_of limits seats) k
   legal = legal_seen (terms_of o count parts_of limits seats) c k terms shows ends
 
   -- the elements of a vector can be folded
@@ -39,7 +39,7 @@ module _ {S : Type 0} (o : Operations S) (count : ℕ) (parts_of : S → List �
       record { few = omega (arith, within.few); elements = within.elements }
 
   -- the eight elements of a block that begins where a walk stands
-  pub block_slice : (b at : ℕ) → b * 8 ≡ at → cells_of (edits_of k) (block b) ≡ slice_range (elements_of k) at (at + 8)
+  pub block_slice : (b at : ℕ) → b * 8 ≡ at → elements_under (edits_of k) (block b) ≡ slice_range (elements_of k) at (at + 8)
   block_slice b at begins =
       let wide : 8 ≡ at + 8 - at = omega arith in
       ap (λ n. take 8 (drop n (elements_of k))) begins ∙ ap (λ n. take n (drop at (elements_of k))) wide
@@ -103,10 +103,10 @@ module _ {S : Type 0} (o : Operations S) (count : ℕ) (parts_of : S → List �
       let T = terms_of o count parts_of limits seats in
       let inside = block_inside walk w in
       let begins : walk.at / 8 * 8 ≡ walk.at = omega (arith, w.begins) in
-      let eight = cells_of-length (edits_of k) (block (walk.at / 8)) (block_whole T k terms legal (walk.at / 8) inside) in
-      let short : All IsShort (cells_of (edits_of k) (block (walk.at / 8))) = All-take IsShort 8 (drop (walk.at / 8 * 8) (elements_of k)) (All-drop IsShort (walk.at / 8 * 8) (elements_of k) (all_short T k terms legal)) in
+      let eight = elements_under-length (edits_of k) (block (walk.at / 8)) (block_whole T k terms legal (walk.at / 8) inside) in
+      let short : All IsShort (elements_under (edits_of k) (block (walk.at / 8))) = All-take IsShort 8 (drop (walk.at / 8 * 8) (elements_of k)) (All-drop IsShort (walk.at / 8 * 8) (elements_of k) (all_short T k terms legal)) in
       ap whole_of (all_taken parts (walk.at / 8) found taken value are over)
-      ∙ has (cells_of (edits_of k) (block (walk.at / 8))) eight short
+      ∙ has (elements_under (edits_of k) (block (walk.at / 8))) eight short
       ∙ ap (fold_of o) (block_slice (walk.at / 8) walk.at begins)
 
   -- a reduction that loaded a part

@@ -10,11 +10,11 @@ use Rattle.lv_bodies.specs.Parts.{IsShort}
 use Rattle.lv_edits.specs.declared.edit.Edit.{Edit}
 use Rattle.lv_edits.specs.declared.edit.Edit.TheVariants.{Push, Pop, Write, Reserve, Swap, Truncate}
 use Rattle.lv_edits.specs.History.{applied, list_of}
-use Rattle.lv_edits.specs.Touch.{cells_of, is_whole, touched_by, touches}
+use Rattle.lv_edits.specs.Touch.{elements_under, is_whole, touched_by, touches}
 use Rattle.lv_edits.proofs.HistoryLaws.{applied_pop, applied_write, list_of-snoc, list_of_replayed, not_refused, replayed-nil, unrefused_pop, unrefused_write}
 use Rattle.lv_edits.proofs.TouchLaws.{untouched_since, whole_was_touched}
 use Rattle.lv_machine.specs.declared.entries.Entry.{Entry}
-use Rattle.lv_machine.specs.History.{cell_of, descriptor_of, edits_of, elements_of, Ends, index_written_by, IsLegal, MayFollow}
+use Rattle.lv_machine.specs.History.{cell_of, descriptor_of, edits_of, elements_of, Ends, index_written_by, IsLegalHistory, MayFollow}
 use Rattle.lv_machine.specs.Shows.{block, Fits, FitsPart, IsCellRead, IsMarkRead, mark_of}
 use Rattle.lv_machine.specs.Terms.{AreTerms, blocks_of, Terms}
 use Rattle.lv_machine.specs.Words.{bits_of, bits_written, cell_version, edit_between, HasPending, index_of, part_value, part_version, part_word, signed, value_of}
@@ -45,7 +45,7 @@ pub same_beginning : (k h : List Entry) (v : ℕ) → Ends k h → v ≤ length 
 same_beginning k h v ends few = ap (λ l. take v (edits_of l)) ends.whole_is ∙ take_behind ends.later k v few
 
 -- a cell of no later version than an earlier history is that of it
-pub cell_settled : (t : Terms) (i : ℕ) (k h : List Entry) → IsLegal t h → Ends k h → cell_version (cell_of i h) ≤ length k → cell_of i h ≡ cell_of i k
+pub cell_settled : (t : Terms) (i : ℕ) (k h : List Entry) → IsLegalHistory t h → Ends k h → cell_version (cell_of i h) ≤ length k → cell_of i h ≡ cell_of i k
 cell_settled t i k [] legal ends early = ap (cell_of i) (sym (Ends-nil k ends))
 cell_settled t i k (e ∷ h) legal ends early = elim (Ends-cases k h e ends) [
   | inl whole ↦ ap (cell_of i) (sym whole)
@@ -59,7 +59,7 @@ cell_settled t i k (e ∷ h) legal ends early = elim (Ends-cases k h e ends) [
 ]
 
 -- and so is a mark
-pub mark_settled : (t : Terms) (b : ℕ) (k h : List Entry) → IsLegal t h → Ends k h → mark_of b h ≤ length k → mark_of b h ≡ mark_of b k
+pub mark_settled : (t : Terms) (b : ℕ) (k h : List Entry) → IsLegalHistory t h → Ends k h → mark_of b h ≤ length k → mark_of b h ≡ mark_of b k
 mark_settled t b k [] legal ends early = ap (mark_of b) (sym (Ends-nil k ends))
 mark_settled t b k (e ∷ h) legal ends early = elim (Ends-cases k h e ends) [
   | inl whole ↦ ap (mark_of b) (sym whole)
@@ -71,7 +71,7 @@ mark_settled t b k (e ∷ h) legal ends early = elim (Ends-cases k h e ends) [
   ]
 ]
 
-cell_late : (t : Terms) (i : ℕ) (h : List Entry) (word : ℕ) → IsLegal t h → Fits (cell_of i) h word → cell_version word ≤ length h
+cell_late : (t : Terms) (i : ℕ) (h : List Entry) (word : ℕ) → IsLegalHistory t h → Fits (cell_of i) h word → cell_version word ≤ length h
 cell_late t i [] word legal fits = elim fits.shown [
   | inl is ↦ cell_version-most 0 word (omega (arith, cell_of-nil i))
   | inr is ↦ cell_version-most 0 word (omega (arith, cell_of-nil i))
@@ -81,20 +81,20 @@ cell_late t i (e ∷ h) word legal fits = elim fits.shown [
   | inr is ↦ cell_version-most (length (e ∷ h)) word (omega (arith, cell_of-below t i h legal.0))
 ]
 
-cell_is : (t : Terms) (i : ℕ) (k h : List Entry) (word : ℕ) → AreTerms t → IsLegal t h → Ends k h → Fits (cell_of i) h word → (index_of (descriptor_of k) ≡ i → length k ≤ cell_version word) → cell_version word ≤ length k → word ≡ cell_of i k
+cell_is : (t : Terms) (i : ℕ) (k h : List Entry) (word : ℕ) → AreTerms t → IsLegalHistory t h → Ends k h → Fits (cell_of i) h word → (index_of (descriptor_of k) ≡ i → length k ≤ cell_version word) → cell_version word ≤ length k → word ≡ cell_of i k
 cell_is t i k [] word terms legal ends fits complete early = elim fits.shown [
   | inl is ↦ is ∙ ap (cell_of i) (sym (Ends-nil k ends))
   | inr is ↦ is ∙ ap (cell_of i) (sym (Ends-nil k ends))
 ]
 cell_is t i k (e ∷ h) word terms legal ends fits complete early = elim (Ends-cases k h e ends) [
-  | inl whole ↦ current_cell t i k word terms (subst (IsLegal t) (sym whole) legal) (subst (λ l. Fits (cell_of i) l word) (sym whole) fits) complete
+  | inl whole ↦ current_cell t i k word terms (subst (IsLegalHistory t) (sym whole) legal) (subst (λ l. Fits (cell_of i) l word) (sym whole) fits) complete
   | inr before ↦ elim fits.shown [
     | inl is ↦ is ∙ cell_settled t i k (e ∷ h) legal ends (omega (arith, ap cell_version is))
     | inr is ↦ is ∙ cell_settled t i k h legal.0 before (omega (arith, ap cell_version is))
   ]
 ]
 
-pub cell_read : (t : Terms) (i : ℕ) (k h : List Entry) (word : ℕ) → AreTerms t → IsLegal t h → Ends k h → Fits (cell_of i) h word → (index_of (descriptor_of k) ≡ i → length k ≤ cell_version word) → IsCellRead i k h word
+pub cell_read : (t : Terms) (i : ℕ) (k h : List Entry) (word : ℕ) → AreTerms t → IsLegalHistory t h → Ends k h → Fits (cell_of i) h word → (index_of (descriptor_of k) ≡ i → length k ≤ cell_version word) → IsCellRead i k h word
 cell_read t i k h word terms legal ends fits complete = record {
   late = cell_late t i h word legal fits;
   settled = cell_is t i k h word terms legal ends fits complete;
@@ -110,27 +110,27 @@ mark_late b (e ∷ h) word fits = elim fits.shown [
   | inr is ↦ omega (arith, mark_of-le b h)
 ]
 
-mark_is : (t : Terms) (b : ℕ) (k h : List Entry) (word : ℕ) → AreTerms t → b < blocks_of t.limits → IsLegal t h → Ends k h → Fits (mark_of b) h word → (HasPending (descriptor_of k) → index_of (descriptor_of k) / 8 ≡ b → length k ≤ word) → word ≤ length k → word ≡ mark_of b k
+mark_is : (t : Terms) (b : ℕ) (k h : List Entry) (word : ℕ) → AreTerms t → b < blocks_of t.limits → IsLegalHistory t h → Ends k h → Fits (mark_of b) h word → (HasPending (descriptor_of k) → index_of (descriptor_of k) / 8 ≡ b → length k ≤ word) → word ≤ length k → word ≡ mark_of b k
 mark_is t b k [] word terms near legal ends fits complete early = elim fits.shown [
   | inl is ↦ is ∙ ap (mark_of b) (sym (Ends-nil k ends))
   | inr is ↦ is ∙ ap (mark_of b) (sym (Ends-nil k ends))
 ]
 mark_is t b k (e ∷ h) word terms near legal ends fits complete early = elim (Ends-cases k h e ends) [
-  | inl whole ↦ current_mark t b k word terms near (subst (IsLegal t) (sym whole) legal) (subst (λ l. Fits (mark_of b) l word) (sym whole) fits) complete
+  | inl whole ↦ current_mark t b k word terms near (subst (IsLegalHistory t) (sym whole) legal) (subst (λ l. Fits (mark_of b) l word) (sym whole) fits) complete
   | inr before ↦ elim fits.shown [
     | inl is ↦ is ∙ mark_settled t b k (e ∷ h) legal ends (omega arith)
     | inr is ↦ is ∙ mark_settled t b k h legal.0 before (omega arith)
   ]
 ]
 
-pub mark_read : (t : Terms) (b : ℕ) (k h : List Entry) (word : ℕ) → AreTerms t → b < blocks_of t.limits → IsLegal t h → Ends k h → Fits (mark_of b) h word → (HasPending (descriptor_of k) → index_of (descriptor_of k) / 8 ≡ b → length k ≤ word) → IsMarkRead b k h word
+pub mark_read : (t : Terms) (b : ℕ) (k h : List Entry) (word : ℕ) → AreTerms t → b < blocks_of t.limits → IsLegalHistory t h → Ends k h → Fits (mark_of b) h word → (HasPending (descriptor_of k) → index_of (descriptor_of k) / 8 ≡ b → length k ≤ word) → IsMarkRead b k h word
 mark_read t b k h word terms near legal ends fits complete = record {
   late = mark_late b h word fits;
   settled = mark_is t b k h word terms near legal ends fits complete;
 }
 
 -- a part of the version at which a whole block was touched last is that of the block's fold
-pub part_is : (t : Terms) (b p word : ℕ) (k h : List Entry) → AreTerms t → IsLegal t h → Ends k h → FitsPart t.folding h b p word → is_whole (edits_of k) (block b) ≡ true → part_version word ≡ mark_of b k → part_value word ≡ t.folding.part p (cells_of (edits_of k) (block b))
+pub part_is : (t : Terms) (b p word : ℕ) (k h : List Entry) → AreTerms t → IsLegalHistory t h → Ends k h → FitsPart t.folding h b p word → is_whole (edits_of k) (block b) ≡ true → part_version word ≡ mark_of b k → part_value word ≡ t.folding.part p (elements_under (edits_of k) (block b))
 part_is t b p word k h terms legal ends fits whole version =
     let legal' = (legal_within t k terms (legal_earlier t k h ends legal)).legal in
     elim fits.shown [
@@ -142,11 +142,11 @@ part_is t b p word k h terms legal ends fits whole version =
           let early : v ≤ length k = omega (arith, mark_of-le b k) in
           let begins = same_beginning k h v ends early in
           let kept = untouched_since (edits_of k) v (block b) legal' whole (omega arith) in
-          ap part_value is ∙ part_value-word v _ (terms.short_parts p _) ∙ ap (λ es. t.folding.part p (cells_of es (block b))) begins ∙ ap (t.folding.part p) (sym kept.1)
+          ap part_value is ∙ part_value-word v _ (terms.short_parts p _) ∙ ap (λ es. t.folding.part p (elements_under es (block b))) begins ∙ ap (t.folding.part p) (sym kept.1)
     ]
 
 -- the part of a whole block's fold may be installed with its mark as version
-pub part_fits : (t : Terms) (b p : ℕ) (k h : List Entry) → AreTerms t → IsLegal t h → Ends k h → is_whole (edits_of k) (block b) ≡ true → FitsPart t.folding h b p (part_word (mark_of b k) (t.folding.part p (cells_of (edits_of k) (block b))))
+pub part_fits : (t : Terms) (b p : ℕ) (k h : List Entry) → AreTerms t → IsLegalHistory t h → Ends k h → is_whole (edits_of k) (block b) ≡ true → FitsPart t.folding h b p (part_word (mark_of b k) (t.folding.part p (elements_under (edits_of k) (block b))))
 part_fits t b p k h terms legal ends whole =
     let legal' = (legal_within t k terms (legal_earlier t k h ends legal)).legal in
     let v = mark_of b k in
@@ -161,12 +161,12 @@ part_fits t b p k h terms legal ends whole =
           within = omega (arith, length-edits_of h, Ends-length k h ends);
           whole = ap (λ es. is_whole es (block b)) begins ∙ kept.0;
           touched = ap (λ es. touched_by es (block b)) begins ∙ sym kept.2;
-          word_is = ap (λ xs. part_word (mark_of b k) (t.folding.part p xs)) (kept.1 ∙ ap (λ es. cells_of es (block b)) (sym begins));
+          word_is = ap (λ xs. part_word (mark_of b k) (t.folding.part p xs)) (kept.1 ∙ ap (λ es. elements_under es (block b)) (sym begins));
         },
       );
     }
 
-between_by : (t : Terms) (h : List Entry) (a : ℕ) (e : Edit) → AreTerms t → IsLegal t h → MayFollow t h record { actor = a; edit = e } → edit_between (descriptor_of h) (descriptor_of (record { actor = a; edit = e } ∷ h)) ≡ e
+between_by : (t : Terms) (h : List Entry) (a : ℕ) (e : Edit) → AreTerms t → IsLegalHistory t h → MayFollow t h record { actor = a; edit = e } → edit_between (descriptor_of h) (descriptor_of (record { actor = a; edit = e } ∷ h)) ≡ e
 unfolding index_written_by
 between_by t h a (Push x) terms legal next =
     let d = decoded t h terms legal in
@@ -197,11 +197,11 @@ between_by t h a (Swap i j) terms legal next = absurd next.short
 between_by t h a (Truncate n) terms legal next = absurd next.short
 
 -- two descriptors alone tell the edit between them
-pub between : (t : Terms) (h : List Entry) (e : Entry) → AreTerms t → IsLegal t (e ∷ h) → edit_between (descriptor_of h) (descriptor_of (e ∷ h)) ≡ e.edit
+pub between : (t : Terms) (h : List Entry) (e : Entry) → AreTerms t → IsLegalHistory t (e ∷ h) → edit_between (descriptor_of h) (descriptor_of (e ∷ h)) ≡ e.edit
 between t h e terms legal = between_by t h e.actor e.edit terms legal.0 legal.1
 
 -- the list after one more entry
-elements_next : (t : Terms) (h : List Entry) (e : Entry) (ys : List ℤ) → AreTerms t → IsLegal t h → applied (elements_of h) e.edit ≡ Some ys → elements_of (e ∷ h) ≡ ys
+elements_next : (t : Terms) (h : List Entry) (e : Entry) (ys : List ℤ) → AreTerms t → IsLegalHistory t h → applied (elements_of h) e.edit ≡ Some ys → elements_of (e ∷ h) ≡ ys
 elements_next t h e ys terms legal made =
     ap list_of (edits_of-cons e h) ∙ (list_of-snoc (edits_of h) e.edit ys (legal_within t h terms legal).legal made).1
 
@@ -215,7 +215,7 @@ signed_there i a e h x short bits at =
 ne-nat_eq : (m n : ℕ) → m ≢ n → nat_eq m n ≡ false
 ne-nat_eq m n apart = grind (arith, nat_tests)
 
-element_by : (t : Terms) (i : ℕ) (h : List Entry) (a : ℕ) (e : Edit) → AreTerms t → IsLegal t (record { actor = a; edit = e } ∷ h) → i < length (elements_of (record { actor = a; edit = e } ∷ h)) → (i < length (elements_of h) → signed (value_of (cell_of i h)) ≡ slice_index_or (elements_of h) i (pos 0)) → signed (value_of (cell_of i (record { actor = a; edit = e } ∷ h))) ≡ slice_index_or (elements_of (record { actor = a; edit = e } ∷ h)) i (pos 0)
+element_by : (t : Terms) (i : ℕ) (h : List Entry) (a : ℕ) (e : Edit) → AreTerms t → IsLegalHistory t (record { actor = a; edit = e } ∷ h) → i < length (elements_of (record { actor = a; edit = e } ∷ h)) → (i < length (elements_of h) → signed (value_of (cell_of i h)) ≡ slice_index_or (elements_of h) i (pos 0)) → signed (value_of (cell_of i (record { actor = a; edit = e } ∷ h))) ≡ slice_index_or (elements_of (record { actor = a; edit = e } ∷ h)) i (pos 0)
 unfolding index_written_by
 element_by t i h a (Push x) terms (legal, next) within before =
     let xs = elements_of h in
@@ -249,11 +249,11 @@ element_by t i h a (Swap j k) terms (legal, next) within before = absurd next.sh
 element_by t i h a (Truncate n) terms (legal, next) within before = absurd next.short
 
 -- the cell of an index shows the element there
-pub cell_element : (t : Terms) (i : ℕ) (k : List Entry) → AreTerms t → IsLegal t k → i < length (elements_of k) → signed (value_of (cell_of i k)) ≡ slice_index_or (elements_of k) i (pos 0)
+pub cell_element : (t : Terms) (i : ℕ) (k : List Entry) → AreTerms t → IsLegalHistory t k → i < length (elements_of k) → signed (value_of (cell_of i k)) ≡ slice_index_or (elements_of k) i (pos 0)
 cell_element t i [] terms legal within = absurd (omega (arith, no_elements))
 cell_element t i (e ∷ h) terms legal within = element_by t i h e.actor e.edit terms legal within (λ less. cell_element t i h terms legal.0 less)
 
-short_by : (t : Terms) (h : List Entry) (a : ℕ) (e : Edit) → AreTerms t → IsLegal t (record { actor = a; edit = e } ∷ h) → All IsShort (elements_of h) → All IsShort (elements_of (record { actor = a; edit = e } ∷ h))
+short_by : (t : Terms) (h : List Entry) (a : ℕ) (e : Edit) → AreTerms t → IsLegalHistory t (record { actor = a; edit = e } ∷ h) → All IsShort (elements_of h) → All IsShort (elements_of (record { actor = a; edit = e } ∷ h))
 short_by t h a (Push x) terms legal before = All-same IsShort _ _ (elements_next t h record { actor = a; edit = Push x } (elements_of h ++ x ∷ []) terms legal.0 refl) (All-push IsShort (elements_of h) x before legal.1.short)
 short_by t h a Pop terms (legal, next) before =
     let some = unrefused_pop t.limits (elements_of h) (not_refused t.limits (edits_of h) Pop next.verdict).1 in
@@ -266,6 +266,6 @@ short_by t h a (Swap i j) terms (legal, next) before = absurd next.short
 short_by t h a (Truncate n) terms (legal, next) before = absurd next.short
 
 -- each element of a legal history is short
-pub all_short : (t : Terms) (h : List Entry) → AreTerms t → IsLegal t h → All IsShort (elements_of h)
+pub all_short : (t : Terms) (h : List Entry) → AreTerms t → IsLegalHistory t h → All IsShort (elements_of h)
 all_short t [] terms legal = All-same IsShort (elements_of []) [] (ap list_of edits_of-nil ∙ list_of_replayed [] [] replayed-nil) (All-nil IsShort)
 all_short t (e ∷ h) terms legal = short_by t h e.actor e.edit terms legal (all_short t h terms legal.0)

@@ -12,7 +12,7 @@ use Rattle.lv_edits.proofs.HistoryLaws.{not_refused, unrefused_pop, unrefused_pu
 use Rattle.lv_edits.proofs.TouchLaws.{whole_from}
 use Rattle.lv_machine.specs.declared.entries.Entry.{Entry}
 use Rattle.lv_machine.specs.declared.tasks.Goal.TheVariants as goal
-use Rattle.lv_machine.specs.History.{descriptor_of, edits_of, elements_of, IsLegal}
+use Rattle.lv_machine.specs.History.{descriptor_of, edits_of, elements_of, IsLegalHistory}
 use Rattle.lv_machine.specs.declared.tasks.Task.TheVariants as task
 use Rattle.lv_machine.specs.Machine.{edit_begun}
 use Rattle.lv_machine.specs.Progress.{IsGranted}
@@ -31,7 +31,7 @@ pub not_held : (found : Bool) (refusal : Refusal) → (if found then Some refusa
 not_held true refusal none = absurd (cc)
 not_held false refusal none = refl
 
-module _ (t : Terms) (k : List Entry) (terms : AreTerms t) (legal : IsLegal t k) where
+module _ (t : Terms) (k : List Entry) (terms : AreTerms t) (legal : IsLegalHistory t k) where
   -- the sizes that a look tells
   pub look_size : size_of (descriptor_of k) ≡ length (elements_of k)
   look_size = (decoded t k terms legal).size

@@ -22,7 +22,7 @@ use Rattle.lv_machine.specs.declared.tasks.Keep.{Keep}
 use Rattle.lv_machine.specs.declared.tasks.Parts.{Parts}
 use Rattle.lv_machine.specs.declared.tasks.Task.TheVariants as task
 use Rattle.lv_machine.specs.declared.tasks.Walk.{Walk}
-use Rattle.lv_machine.specs.History.{descriptor_of, edits_of, elements_of, IsLegal}
+use Rattle.lv_machine.specs.History.{descriptor_of, edits_of, elements_of, IsLegalHistory}
 use Rattle.lv_machine.specs.Machine.{begun, cell_kept, edit_begun, looked_at, needs_help, part_kept, refusal_at, unless_later, walked, with_cell, with_kept}
 use Rattle.lv_machine.specs.Moves.{IsComplete}
 use Rattle.lv_machine.specs.Progress.{IsGoal, IsGranted, IsRight, KeepsCells, KeepsParts, MayEdit, refusal_after, terms_of, Walks}
@@ -42,7 +42,7 @@ same_list (x ∷ xs) (y ∷ ys) long same =
     let rest : xs ≡ ys = same_list xs ys (omega (arith, long)) (λ p. same (suc p)) in
     cc
 
-module _ {S : Type 0} (o : Operations S) (count : ℕ) (parts_of : S → List ℕ) (whole_of : List ℕ → S) (limits : Bounds) (seats a : ℕ) (words : List ℕ) (h old k : List Entry) (terms : AreTerms (terms_of o count parts_of limits seats)) (legal : IsLegal (terms_of o count parts_of limits seats) k) where
+module _ {S : Type 0} (o : Operations S) (count : ℕ) (parts_of : S → List ℕ) (whole_of : List ℕ → S) (limits : Bounds) (seats a : ℕ) (words : List ℕ) (h old k : List Entry) (terms : AreTerms (terms_of o count parts_of limits seats)) (legal : IsLegalHistory (terms_of o count parts_of limits seats) k) where
   T : Terms
   T = terms_of o count parts_of limits seats
 

@@ -12,7 +12,7 @@ use Rattle.lv_machine.specs.declared.entries.Entry.{Entry}
 use Rattle.lv_machine.specs.declared.tasks.Task.{Task}
 use Rattle.lv_machine.specs.declared.tasks.Task.TheVariants as task
 use Rattle.lv_machine.specs.declared.tasks.Walk.{Walk}
-use Rattle.lv_machine.specs.History.{descriptor_of, edits_of, elements_of, Ends, IsLegal}
+use Rattle.lv_machine.specs.History.{descriptor_of, edits_of, elements_of, Ends, IsLegalHistory}
 use Rattle.lv_machine.specs.Layout.{cell_place, mark_place, part_place, place}
 use Rattle.lv_machine.specs.Machine.{place_of}
 use Rattle.lv_machine.specs.Moves.{Config, IsComplete, Shows}
@@ -27,7 +27,7 @@ use Rattle.lv_machine.proofs.ShowsLaws.{few_blocks, pending, place_within}
 use Rattle.lv_machine.proofs.StepLaws.{cell_at, legal_seen, mark_at}
 
 module _ {S : Type 0} (o : Operations S) (within : S → ℕ → Type 0) (laws : BodyLaws o within) (count : ℕ) (parts_of : S → List ℕ) (whole_of : List ℕ → S) (are : AreParts count parts_of) (has : HasParts parts_of whole_of o) (limits : Bounds) (seats : ℕ) (c : Config) (k : List Entry) (terms : AreTerms (terms_of o count parts_of limits seats)) (shows : Shows (terms_of o count parts_of limits seats) c) (ends : Ends k c.history) where
-  legal : IsLegal (terms_of o count parts_of limits seats) k
+  legal : IsLegalHistory (terms_of o count parts_of limits seats) k
   legal = legal_seen (terms_of o count parts_of limits seats) c k terms shows ends
 
   blocks : length (elements_of k) ≤ 8 * blocks_of limits

@@ -13,7 +13,7 @@ use Rattle.lv_edits.specs.declared.edit.Edit.{Edit}
 use Rattle.lv_edits.specs.declared.edit.Edit.TheVariants.{Push, Pop, Write, Reserve, Swap, Truncate}
 use Rattle.lv_edits.proofs.TouchLaws.{touched_by-le, touched_by-snoc}
 use Rattle.lv_machine.specs.declared.entries.Entry.{Entry}
-use Rattle.lv_machine.specs.History.{cell_of, descriptor_of, edits_of, elements_of, Ends, index_written_by, IsLegal, IsShortEdit}
+use Rattle.lv_machine.specs.History.{cell_of, descriptor_of, edits_of, elements_of, Ends, index_written_by, IsLegalHistory, IsShortEdit}
 use Rattle.lv_machine.specs.Layout.{count_of, place}
 use Rattle.lv_machine.specs.Moves.{completing}
 use Rattle.lv_machine.specs.Shows.{block, Fits, FitsPart, mark_of}
@@ -47,7 +47,7 @@ max_either a b = elim (cases_lt a b) [
 ]
 
 -- what shows f, raised to what shows f of an earlier history, shows f
-pub fits_raised : (t : Terms) (f : List Entry → ℕ) → ((h : List Entry) (e : Entry) → IsLegal t (e ∷ h) → f h ≤ f (e ∷ h)) → (k h : List Entry) (word : ℕ) → Ends k h → IsLegal t h → Fits f h word → Fits f h (max word (f k))
+pub fits_raised : (t : Terms) (f : List Entry → ℕ) → ((h : List Entry) (e : Entry) → IsLegalHistory t (e ∷ h) → f h ≤ f (e ∷ h)) → (k h : List Entry) (word : ℕ) → Ends k h → IsLegalHistory t h → Fits f h word → Fits f h (max word (f k))
 fits_raised t f grows k [] word ends legal fits =
     let less = grown t f grows k [] ends legal in
     elim fits.shown [
@@ -101,7 +101,7 @@ pub mark_of-le : (b : ℕ) (h : List Entry) → mark_of b h ≤ length h
 mark_of-le b h = omega (arith, touched_by-le (edits_of h) (block b), length-edits_of h)
 
 -- a cell that the last entry did not write, or whose version says that it was written since, is that of the history
-pub current_cell : (t : Terms) (i : ℕ) (h : List Entry) (word : ℕ) → AreTerms t → IsLegal t h → Fits (cell_of i) h word → (index_of (descriptor_of h) ≡ i → length h ≤ cell_version word) → word ≡ cell_of i h
+pub current_cell : (t : Terms) (i : ℕ) (h : List Entry) (word : ℕ) → AreTerms t → IsLegalHistory t h → Fits (cell_of i) h word → (index_of (descriptor_of h) ≡ i → length h ≤ cell_version word) → word ≡ cell_of i h
 current_cell t i [] word terms legal fits complete = elim fits.shown [
   | inl is ↦ is
   | inr is ↦ is
@@ -117,7 +117,7 @@ current_cell t i (e ∷ h) word terms legal fits complete = elim fits.shown [
 ]
 
 -- and so is such a mark
-pub current_mark : (t : Terms) (b : ℕ) (h : List Entry) (word : ℕ) → AreTerms t → b < blocks_of t.limits → IsLegal t h → Fits (mark_of b) h word → (HasPending (descriptor_of h) → index_of (descriptor_of h) / 8 ≡ b → length h ≤ word) → word ≡ mark_of b h
+pub current_mark : (t : Terms) (b : ℕ) (h : List Entry) (word : ℕ) → AreTerms t → b < blocks_of t.limits → IsLegalHistory t h → Fits (mark_of b) h word → (HasPending (descriptor_of h) → index_of (descriptor_of h) / 8 ≡ b → length h ≤ word) → word ≡ mark_of b h
 current_mark t b [] word terms near legal fits complete = elim fits.shown [
   | inl is ↦ is
   | inr is ↦ is
@@ -144,7 +144,7 @@ pub record IsPending (t : Terms) (k : List Entry) : Type 0 where
   pub cell : completing (descriptor_of k) ≡ cell_of (index_of (descriptor_of k)) k
   pub mark : edit_of (descriptor_of k) ≡ mark_of (index_of (descriptor_of k) / 8) k
 
-pub pending : (t : Terms) (k : List Entry) → AreTerms t → IsLegal t k → HasPending (descriptor_of k) → IsPending t k
+pub pending : (t : Terms) (k : List Entry) → AreTerms t → IsLegalHistory t k → HasPending (descriptor_of k) → IsPending t k
 pending t [] terms legal has = absurd (omega (arith, index_of-nil))
 pending t (e ∷ k) terms legal has =
     let index = index_of-cons t k e terms legal in

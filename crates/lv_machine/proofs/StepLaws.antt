@@ -7,7 +7,7 @@ use Rattle.lv_bodies.specs.Body.{Operations}
 use Rattle.lv_machine.specs.declared.entries.Entry.{Entry}
 use Rattle.lv_machine.specs.declared.tasks.Task.{Task}
 use Rattle.lv_machine.specs.declared.tasks.Task.TheVariants as task
-use Rattle.lv_machine.specs.History.{cell_of, descriptor_of, elements_of, Ends, IsLegal}
+use Rattle.lv_machine.specs.History.{cell_of, descriptor_of, elements_of, Ends, IsLegalHistory}
 use Rattle.lv_machine.specs.Layout.{cell_place, mark_place, part_place}
 use Rattle.lv_machine.specs.Machine.{move_of}
 use Rattle.lv_machine.specs.Moves.{Config, IsComplete, MayMove, Shows}
@@ -22,7 +22,7 @@ use Rattle.lv_machine.proofs.ShowsLaws.{few_blocks}
 
 -- what a load tells that a call makes, whose look shows an earlier history
 module _ (t : Terms) (c : Config) (k : List Entry) (terms : AreTerms t) (shows : Shows t c) (ends : Ends k c.history) where
-  pub legal_seen : IsLegal t k
+  pub legal_seen : IsLegalHistory t k
   legal_seen = legal_earlier t k c.history ends shows.legal
 
   cell_fits : (i : ℕ) → i < 8 * blocks_of t.limits → Fits (cell_of i) c.history (slice_index c.words (cell_place i))
@@ -53,7 +53,7 @@ module _ (t : Terms) (c : Config) (k : List Entry) (terms : AreTerms t) (shows :
       ap (λ w. signed (value_of w)) ((cell_at i near complete).settled early) ∙ cell_element t i k terms legal_seen within
 
 module _ {S : Type 0} (o : Operations S) (count : ℕ) (parts_of : S → List ℕ) (limits : Bounds) (seats a : ℕ) (c : Config) (k : List Entry) (terms : AreTerms (terms_of o count parts_of limits seats)) (shows : Shows (terms_of o count parts_of limits seats) c) (ends : Ends k c.history) where
-  legal : IsLegal (terms_of o count parts_of limits seats) k
+  legal : IsLegalHistory (terms_of o count parts_of limits seats) k
   legal = legal_seen (terms_of o count parts_of limits seats) c k terms shows ends
 
   -- the move of a call that knows what it should may be made

@@ -50,9 +50,9 @@ pub record MayFollow (t : Terms) (h : List Entry) (e : Entry) : Type 0 where
   pub verdict : verdict_of t.limits (edits_of h) e.edit ≡ None
 
 -- each entry may follow those before it
-abbrev pub IsLegal : Terms → List Entry → Type 0
-IsLegal t [] = Unit {0}
-IsLegal t (e ∷ h) = IsLegal t h × MayFollow t h e
+abbrev pub IsLegalHistory : Terms → List Entry → Type 0
+IsLegalHistory t [] = Unit {0}
+IsLegalHistory t (e ∷ h) = IsLegalHistory t h × MayFollow t h e
 
 -- the index at which an entry writes, or 4095 for none: an edit of the lock-free form has one at most
 unfoldable pub index_written_by : List Entry → Entry → ℕ

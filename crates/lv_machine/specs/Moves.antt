@@ -7,7 +7,7 @@ use Rattle.lv_geometry.specs.declared.refusals.Refusal.TheVariants.{Empty, Full,
 use Rattle.lv_edits.specs.declared.edit.Edit.{Edit}
 use Rattle.lv_edits.specs.declared.edit.Edit.TheVariants.{Push, Pop, Write, Reserve, Swap, Truncate}
 use Rattle.lv_machine.specs.declared.entries.Entry.{Entry}
-use Rattle.lv_machine.specs.History.{descriptor_of, IsLegal, IsShortEdit}
+use Rattle.lv_machine.specs.History.{descriptor_of, IsLegalHistory, IsShortEdit}
 use Rattle.lv_machine.specs.Layout.{cell_place, mark_place, part_place}
 use Rattle.lv_machine.specs.Shows.{FitsPart, ShowsHistory}
 use Rattle.lv_machine.specs.Terms.{AreTerms, blocks_of, Terms}
@@ -141,4 +141,4 @@ ReachableShows = (t : Terms) (c : Config) → AreTerms t → IsReachable t c →
 
 -- two descriptors that follow one another alone tell the edit between them
 abbrev pub DescriptorsTellEdits : Type 0
-DescriptorsTellEdits = (t : Terms) (h : List Entry) (e : Entry) → AreTerms t → IsLegal t (e ∷ h) → edit_between (descriptor_of h) (descriptor_of (e ∷ h)) ≡ e.edit
+DescriptorsTellEdits = (t : Terms) (h : List Entry) (e : Entry) → AreTerms t → IsLegalHistory t (e ∷ h) → edit_between (descriptor_of h) (descriptor_of (e ∷ h)) ≡ e.edit

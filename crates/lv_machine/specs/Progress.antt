@@ -7,7 +7,7 @@ use Rattle.lv_geometry.specs.declared.refusals.Refusal.TheVariants.{Contended, O
 use Rattle.lv_bodies.specs.Body.{Operations, fold_of}
 use Rattle.lv_edits.specs.declared.edit.Edit.{Edit}
 use Rattle.lv_edits.specs.declared.receipt.Receipt.{Receipt}
-use Rattle.lv_edits.specs.Touch.{cells_of, is_whole}
+use Rattle.lv_edits.specs.Touch.{elements_under, is_whole}
 use Rattle.lv_edits.specs.Verdict.{receipt_of, verdict_of}
 use Rattle.lv_reduce.specs.Answer.{IsAnswer}
 use Rattle.lv_machine.specs.declared.entries.Entry.{Entry}
@@ -55,7 +55,7 @@ folding_of o count parts_of = record { parts = count; part = λ p xs. slice_inde
 module _ {S : Type 0} (o : Operations S) (count : ℕ) (parts_of : S → List ℕ) (limits : Bounds) (words : List ℕ) (k : List Entry) where
   -- the fold of a block
   abbrev pub block_fold : ℕ → S
-  block_fold b = fold_of o (cells_of (edits_of k) (block b))
+  block_fold b = fold_of o (elements_under (edits_of k) (block b))
 
   -- a reduction that was granted has the fold of the elements before where it stands, of which it counted each once
   pub record Walks (walk : Walk S) : Type 0 where

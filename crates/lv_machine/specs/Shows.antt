@@ -2,9 +2,9 @@
 use Rattle.std.specs.Prelude.{◌≡◌, ◌⊎◌, ℕ, ◌+◌, ◌-◌, ◌*◌, ◌<◌, ◌≤◌, true, List, length, take, slice_index}
 use Rattle.lv_geometry.specs.declared.nodes.Node.{Node}
 use Rattle.lv_edits.specs.declared.edit.Edit.{Edit}
-use Rattle.lv_edits.specs.Touch.{cells_of, is_whole, touched_by}
+use Rattle.lv_edits.specs.Touch.{elements_under, is_whole, touched_by}
 use Rattle.lv_machine.specs.declared.entries.Entry.{Entry}
-use Rattle.lv_machine.specs.History.{before_last, cell_of, descriptor_of, edits_of, Ends, IsLegal}
+use Rattle.lv_machine.specs.History.{before_last, cell_of, descriptor_of, edits_of, Ends, IsLegalHistory}
 use Rattle.lv_machine.specs.Layout.{count_of, place}
 use Rattle.lv_machine.specs.Terms.{blocks_of, Folding, Terms}
 use Rattle.lv_machine.specs.Words.{cell_version, part_word}
@@ -27,7 +27,7 @@ pub record IsPartAt (f : Folding) (edits : List Edit) (b p word v : ℕ) : Type 
   pub within : v ≤ length edits
   pub whole : is_whole (take v edits) (block b) ≡ true
   pub touched : touched_by (take v edits) (block b) ≡ v
-  pub word_is : word ≡ part_word v (f.part p (cells_of (take v edits) (block b)))
+  pub word_is : word ≡ part_word v (f.part p (elements_under (take v edits) (block b)))
 
 -- a word is 0, or such a part of some version
 pub record FitsPart (f : Folding) (h : List Entry) (b p word : ℕ) : Type 0 where
@@ -41,7 +41,7 @@ pub record FitsPlace (f : Folding) (h : List Entry) (b r word : ℕ) : Type 0 wh
 
 -- the words show a history, which is legal; what each actor looked at showed an earlier one
 pub record ShowsHistory (t : Terms) (words : List ℕ) (h : List Entry) (looks : ℕ → ℕ) : Type 0 where
-  pub legal : IsLegal t h
+  pub legal : IsLegalHistory t h
   pub count : length words ≡ count_of t.limits
   pub first : slice_index words 0 ≡ descriptor_of h
   pub places : (b r : ℕ) → b < blocks_of t.limits → r < 16 → FitsPlace t.folding h b r (slice_index words (place b r))

@@ -23,7 +23,7 @@ pub use laws::{descriptors_tell_the_edit, earlier_edits_come_first, reachable_wo
 pub use machines::Machine;
 pub use outcomes::{Outcome, Read, Refreshed, Said, Sized};
 pub use packing::{
-    after_edit, cell_place_of, edit_in, element, fits_short, index_in, mark_place_of, pack,
+    cell_place_of, edit_in, element, fits_short, index_in, look_after, mark_place_of, pack,
     pack_cell, pack_part, part_place_of, part_value_in, part_version_in, size_in, value_in,
     version_in,
 };

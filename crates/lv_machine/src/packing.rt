@@ -164,7 +164,7 @@ fn bits_in(x: i64) -> u16
 
 /// The descriptor that an edit makes of one. The lock-free form has no reserve, no swap and no truncate.
 #[inline(always)]
-pub fn after_edit(look: u64, edit: Edit) -> u64
+pub fn look_after(look: u64, edit: Edit) -> u64
     requires { CanPack look edit }
     ensures { result ≡ descriptor_after look edit }
 {

@@ -6,7 +6,7 @@ ghost use Rattle.lv_machine.specs.Words.{edit_of, index_of, part_word};
 ghost use Rattle.lv_machine.specs.Ready.{CanMove, CanPack};
 
 use crate::packing::{
-    after_edit, cell_place_of, edit_in, index_in, mark_place_of, pack_cell, pack_part,
+    cell_place_of, edit_in, index_in, look_after, mark_place_of, pack_cell, pack_part,
     part_place_of, value_in,
 };
 use crate::tasks::{Parts, Task};
@@ -107,7 +107,7 @@ fn exchange(words: &mut [u64], look: &mut u64, edit: Edit) -> u64
 {
     let found = words[0];
     if found == *look {
-        let next = after_edit(*look, edit);
+        let next = look_after(*look, edit);
         words[0] = next;
         *look = next;
     } else {

@@ -9,9 +9,10 @@ use Rattle.lv_geometry.proofs.NodeLaws.{node_of_level, some_width}
 use Rattle.lv_bodies.specs.Body.{BodyLaws, CanFold, CanGrow, CanJoin, Operations, fold_of}
 use Rattle.lv_edits.specs.declared.edit.Edit.{Edit}
 use Rattle.lv_edits.specs.History.{list_of}
-use Rattle.lv_edits.specs.Touch.{cells_of}
-use Rattle.lv_summary.specs.Agrees.{Agrees}
-use Rattle.lv_summary.specs.Table.{OnlyLearns, Table, known_in, whole_in}
+use Rattle.lv_edits.specs.Touch.{elements_under}
+use Rattle.lv_known.specs.Agrees.{Agrees}
+use Rattle.lv_summary.specs.Changes.{OnlyLearns}
+use Rattle.lv_summary.specs.Table.{Table, known_in, whole_in}
 use Rattle.lv_summary.proofs.TableLaws.{OnlyLearns-along, OnlyLearns-self}
 use Rattle.lv_reduce.specs.declared.asking.Known.{Known}
 use Rattle.lv_reduce.specs.Asked.{AreTopsKnown, IsFewAsked, Knows, is_learnt, is_learnt_inside, learnt_blocks, learnt_from}
@@ -54,7 +55,7 @@ node_whole t at hi level low high fits inside =
     (le-leb _ _ (omega (arith, fits.ends)))
 
 -- the elements of such a node are those from the index on
-node_elements : (edits : List Edit) (at level : ℕ) → at % 8 ^ level ≡ 0 → cells_of edits (over level at) ≡ slice_range (list_of edits) at (at + 8 ^ level)
+node_elements : (edits : List Edit) (at level : ℕ) → at % 8 ^ level ≡ 0 → elements_under edits (over level at) ≡ slice_range (list_of edits) at (at + 8 ^ level)
 node_elements edits at level aligned =
     node_slice edits (over level at) ∙ ap (λ from. slice_range (list_of edits) from (from + 8 ^ level)) (first_of_aligned level at aligned)
 

@@ -11,10 +11,11 @@ use Rattle.lv_geometry.proofs.NodeLaws.{level_of_node, node_of_level, some_width
 use Rattle.lv_bodies.specs.Body.{BodyLaws, CanFold, CanJoin, Operations, fold_of}
 use Rattle.lv_edits.specs.declared.edit.Edit.{Edit}
 use Rattle.lv_edits.specs.History.{list_of}
-use Rattle.lv_edits.specs.Touch.{cells_of}
-use Rattle.lv_summary.specs.Agrees.{Agrees}
-use Rattle.lv_summary.specs.Table.{Learns, OnlyLearns, Table, known_entry_in, known_in, whole_in}
-use Rattle.lv_summary.proofs.AgreesLaws.{agreeing_learns_only, agrees_learnt}
+use Rattle.lv_edits.specs.Touch.{elements_under}
+use Rattle.lv_known.specs.Agrees.{Agrees}
+use Rattle.lv_summary.specs.Changes.{Learns, OnlyLearns}
+use Rattle.lv_summary.specs.Table.{Table, known_entry_in, known_in, whole_in}
+use Rattle.lv_known.proofs.AgreesLaws.{agreeing_learns_only, agrees_learnt}
 use Rattle.lv_summary.proofs.TableLaws.{OnlyLearns-along, OnlyLearns-self, known_entry_in-learnt, known_of_entry, node_of_whole, whole_in-size}
 use Rattle.lv_reduce.specs.declared.asking.Known.{Known}
 use Rattle.lv_reduce.specs.Asked.{Knows, is_learnt, learnt_from}
@@ -143,7 +144,7 @@ pub whole_inside : {S : Type 0} (t : Table S) (n : Node) → whole_in t n ≡ tr
 whole_inside t n whole = leb-true _ _ (and_parts (is_node n) _ whole).1
 
 -- the elements of a node are those of its stretch
-pub node_slice : (edits : List Edit) (n : Node) → cells_of edits n ≡ slice_range (list_of edits) (n.number * 8 ^ n.level) (n.number * 8 ^ n.level + 8 ^ n.level)
+pub node_slice : (edits : List Edit) (n : Node) → elements_under edits n ≡ slice_range (list_of edits) (n.number * 8 ^ n.level) (n.number * 8 ^ n.level + 8 ^ n.level)
 node_slice edits n =
     let wide : 8 ^ n.level ≡ n.number * 8 ^ n.level + 8 ^ n.level - n.number * 8 ^ n.level = omega arith in
     ap (λ size. take size (drop (n.number * 8 ^ n.level) (list_of edits))) wide
@@ -189,7 +190,7 @@ module _ {S : Type 0} (o : Operations S) (within : S → ℕ → Type 0) (laws :
       }
 
   -- a summary that is known is that of the next child's stretch
-  next_value : (n : Node) (k : ℕ) (s : S) → 1 < n.level → s ≡ fold_of o (cells_of edits (child n k)) → s ≡ fold_of o (slice_range (list_of edits) (n.number * 8 ^ n.level + k * 8 ^ (n.level - 1)) (n.number * 8 ^ n.level + (k + 1) * 8 ^ (n.level - 1)))
+  next_value : (n : Node) (k : ℕ) (s : S) → 1 < n.level → s ≡ fold_of o (elements_under edits (child n k)) → s ≡ fold_of o (slice_range (list_of edits) (n.number * 8 ^ n.level + k * 8 ^ (n.level - 1)) (n.number * 8 ^ n.level + (k + 1) * 8 ^ (n.level - 1)))
   next_value n k s above is =
       let first = child_first n k (omega arith) in
       let next : (child n k).number * 8 ^ (child n k).level + 8 ^ (n.level - 1) ≡ n.number * 8 ^ n.level + (k + 1) * 8 ^ (n.level - 1) = omega arith in
@@ -250,7 +251,7 @@ module _ {S : Type 0} (o : Operations S) (within : S → ℕ → Type 0) (laws :
       let below : w ≡ 8 * 8 ^ (n.level - 1 - 1) = eight_widths (n.level - 1) (omega arith) in
       let whole_now : whole_in t n ≡ true = whole_in-size old t gathers.learns.size n ∙ whole in
       let end : n.number * 8 ^ n.level + 8 * w ≡ n.number * 8 ^ n.level + 8 ^ n.level = omega arith in
-      let value : s ≡ fold_of o (cells_of edits n) = gathers.fold ∙ ap (λ end. fold_of o (slice_range (list_of edits) (n.number * 8 ^ n.level) end)) end ∙ sym (ap (fold_of o) (node_slice edits n)) in
+      let value : s ≡ fold_of o (elements_under edits n) = gathers.fold ∙ ap (λ end. fold_of o (slice_range (list_of edits) (n.number * 8 ^ n.level) end)) end ∙ sym (ap (fold_of o) (node_slice edits n)) in
       let only = agreeing_learns_only o edits t new n s gathers.agrees learns whole_now value in
       record {
         value = value;
@@ -271,7 +272,7 @@ module _ {S : Type 0} (o : Operations S) (within : S → ℕ → Type 0) (laws :
   pub knows_block : (t new : Table S) (n : Node) (s : S) → Agrees o edits t → whole_in t n ≡ true → n.level ≡ 1 → known_in t n ≡ false → s ≡ fold_of o (take 8 (drop (n.number * 8) (list_of edits))) → Learns t new n s
       → Knows o edits t new n record { summary = s; cells_read = 8; summaries_read = 0 }
   knows_block t new n s agrees whole lowest unknown is learns =
-      let value : s ≡ fold_of o (cells_of edits n) = is ∙ ap (λ level. fold_of o (take (8 ^ level) (drop (n.number * 8 ^ level) (list_of edits)))) (sym lowest) in
+      let value : s ≡ fold_of o (elements_under edits n) = is ∙ ap (λ level. fold_of o (take (8 ^ level) (drop (n.number * 8 ^ level) (list_of edits)))) (sym lowest) in
       let only = agreeing_learns_only o edits t new n s agrees learns whole value in
       let known = known_of_entry new n s (known_entry_in-learnt t new n s learns whole) in
       let block : n ≡ record { level = 1; number = n.number } = ap (λ level. record { level = level; number = n.number }) lowest in

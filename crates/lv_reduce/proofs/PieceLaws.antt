@@ -8,10 +8,10 @@ use Rattle.lv_bodies.specs.FoldLaws.{fold_of-append, fold_of-within}
 use Rattle.lv_edits.specs.declared.edit.Edit.{Edit}
 use Rattle.lv_edits.specs.History.{list_of}
 use Rattle.lv_edits.proofs.Slices.{length-slice_range, part_of_take}
-use Rattle.lv_summary.specs.Agrees.{Agrees}
+use Rattle.lv_known.specs.Agrees.{Agrees}
 use Rattle.lv_summary.specs.Table.{Table}
-use Rattle.lv_summary.proofs.AgreesLaws.{entry_folds}
-use Rattle.lv_summary.proofs.FoldableLaws.{part_can_fold}
+use Rattle.lv_known.proofs.AgreesLaws.{entry_folds}
+use Rattle.lv_known.proofs.FoldableLaws.{part_can_fold}
 use Rattle.lv_reduce.specs.Answer.{scan_of}
 use Rattle.lv_reduce.specs.Pieces.{IsGreatestFresh}
 use Rattle.lv_reduce.specs.Running.{CanGoOn, reached, scan_from}

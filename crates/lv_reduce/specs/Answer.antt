@@ -30,7 +30,7 @@ pub record IsAnswer {S : Type 0} (o : Operations S) (edits : List Edit) (lo hi :
   pub value : answer.value ≡ fold_of o (slice_of edits lo hi)
 
 -- the same, told as the number of the last edit and the fold
-pub record IsTotal {S : Type 0} (o : Operations S) (edits : List Edit) (lo hi : ℕ) (answer : ℕ × S) : Type 0 where
+pub record IsAnswerPair {S : Type 0} (o : Operations S) (edits : List Edit) (lo hi : ℕ) (answer : ℕ × S) : Type 0 where
   pub granted : range_refusal edits lo hi ≡ None
   pub edit : answer.0 ≡ length edits
   pub value : answer.1 ≡ fold_of o (slice_of edits lo hi)

@@ -5,9 +5,10 @@ use Rattle.lv_geometry.specs.declared.nodes.Node.{Node}
 use Rattle.lv_geometry.specs.Nodes.{over}
 use Rattle.lv_bodies.specs.Body.{Operations, fold_of}
 use Rattle.lv_edits.specs.declared.edit.Edit.{Edit}
-use Rattle.lv_edits.specs.Touch.{cells_of}
-use Rattle.lv_summary.specs.Agrees.{Agrees}
-use Rattle.lv_summary.specs.Table.{OnlyLearns, Table, known_in}
+use Rattle.lv_edits.specs.Touch.{elements_under}
+use Rattle.lv_known.specs.Agrees.{Agrees}
+use Rattle.lv_summary.specs.Changes.{OnlyLearns}
+use Rattle.lv_summary.specs.Table.{Table, known_in}
 use Rattle.lv_reduce.specs.declared.asking.Known.{Known}
 use Rattle.lv_reduce.specs.Cost.{is_top}
 
@@ -39,7 +40,7 @@ learnt_from old new from n = count_by (is_learnt old new) (range_with_len from n
 
 -- a whole node's summary was found, or else computed from the least that is known below it, and all that was computed is kept
 pub record Knows {S : Type 0} (o : Operations S) (edits : List Edit) (old new : Table S) (n : Node) (known : Known S) : Type 0 where
-  pub value : known.summary ≡ fold_of o (cells_of edits n)
+  pub value : known.summary ≡ fold_of o (elements_under edits n)
   pub agrees : Agrees o edits new
   pub learns : OnlyLearns old new
   pub known_now : known_in new n ≡ true

@@ -1,7 +1,8 @@
 ghost use Rattle.std.specs.Prelude.{◌≡◌, ◌+◌, ◌*◌, ◌≤◌, true, false, length, IfOk, IfErr, OnErr};
 ghost use Rattle.lv_edits.specs.History.{list_of};
-ghost use Rattle.lv_summary.specs.Agrees.{Agrees};
-ghost use Rattle.lv_summary.specs.Table.{OnlyLearns, known_in, whole_in};
+ghost use Rattle.lv_known.specs.Agrees.{Agrees};
+ghost use Rattle.lv_summary.specs.Changes.{OnlyLearns};
+ghost use Rattle.lv_summary.specs.Table.{known_in, whole_in};
 ghost use Rattle.lv_reduce.specs.Answer.{IsAnswer, range_refusal};
 ghost use Rattle.lv_reduce.specs.Asked.{AreTopsKnown, IsFewAsked, Knows};
 

@@ -1,5 +1,5 @@
 ghost use Rattle.std.specs.Prelude.{◌≡◌, Some, IfOk, IfErr};
-ghost use Rattle.lv_reduce.specs.Answer.{IsTotal, range_refusal};
+ghost use Rattle.lv_reduce.specs.Answer.{IsAnswerPair, range_refusal};
 
 use crate::parallel::{Row, fold_range};
 use crate::views::refusal_of;
@@ -16,7 +16,7 @@ pub fn fold_elements<B: Body>(
     lo: u32,
     hi: u32,
 ) -> Result<(u32, B::S), Refusal>
-    ensures ok { IfOk result (λ answer. IsTotal (B.operations (B.meaning body.now)) cells.now.journal lo hi answer) }
+    ensures ok { IfOk result (λ answer. IsAnswerPair (B.operations (B.meaning body.now)) cells.now.journal lo hi answer) }
     ensures err { IfErr result (λ refusal. range_refusal cells.now.journal lo hi ≡ Some refusal) }
 {
     if let Some(refusal) = refusal_of(cells, lo, hi) {

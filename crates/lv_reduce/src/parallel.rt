@@ -1,7 +1,7 @@
 ghost use Rattle.std.specs.Prelude.{◌≡◌, ◌^◌, ◌≤◌, length, IfOk, IfErr};
 ghost use Rattle.lv_bodies.specs.Scan.{exclusive_scan, inclusive_scan};
 ghost use Rattle.lv_edits.specs.History.{list_of};
-ghost use Rattle.lv_reduce.specs.Answer.{IsScan, IsScanRefusal, IsTotal, scan_of, slice_of};
+ghost use Rattle.lv_reduce.specs.Answer.{IsScan, IsScanRefusal, IsAnswerPair, scan_of, slice_of};
 
 mod halves;
 mod rows;
@@ -32,7 +32,7 @@ pub fn par_reduce<R: Threads + Sync, B: Body>(
     lo: u32,
     hi: u32,
 ) -> Result<(u32, B::S), Refusal>
-    ensures ok { IfOk result (λ answer. IsTotal (B.operations (B.meaning body.now)) view.entry.cells.now.journal lo hi answer) }
+    ensures ok { IfOk result (λ answer. IsAnswerPair (B.operations (B.meaning body.now)) view.entry.cells.now.journal lo hi answer) }
     ensures err { IfErr result (λ refusal. IsScanRefusal view.entry.cells.now.journal lo hi refusal) }
 {
     if let Some(refusal) = refusal_of(view.cells, lo, hi) {

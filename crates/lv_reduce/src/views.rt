@@ -1,6 +1,6 @@
 ghost use Rattle.std.specs.Prelude.{◌≡◌, ◌≤◌, length, IfNone};
 ghost use Rattle.lv_edits.specs.History.{list_of};
-ghost use Rattle.lv_edits.specs.Kept.{InLimits};
+ghost use Rattle.lv_edits.specs.Kept.{IsLegalInLimits};
 ghost use Rattle.lv_reduce.specs.Answer.{range_refusal};
 
 use lv_edits::Edits;
@@ -17,7 +17,7 @@ pub struct View<'a, S> {
 // Why a range is refused, or nothing.
 pub fn refusal_of(cells: &Edits, lo: u32, hi: u32) -> Option<Refusal>
     ensures value { result ≡ range_refusal cells.now.journal lo hi }
-    ensures limits { InLimits cells.now }
+    ensures limits { IsLegalInLimits cells.now }
     ensures order { IfNone result (lo ≤ hi) }
     ensures inside { IfNone result (hi ≤ length (list_of cells.now.journal)) }
 {

@@ -10,11 +10,11 @@ use Rattle.lv_bodies.specs.Body.{BodyLaws, CanFold, CanJoin, Operations, fold_of
 use Rattle.lv_bodies.specs.FoldLaws.{fold_of-append, fold_of-within}
 use Rattle.lv_edits.specs.declared.edit.Edit.{Edit}
 use Rattle.lv_edits.specs.History.{list_of}
-use Rattle.lv_edits.specs.Touch.{cells_of}
-use Rattle.lv_summary.specs.Agrees.{Agrees}
+use Rattle.lv_edits.specs.Touch.{elements_under}
+use Rattle.lv_known.specs.Agrees.{Agrees}
 use Rattle.lv_summary.specs.Table.{Table, entry_in, fresh_in, touched_in, whole_in}
-use Rattle.lv_summary.proofs.AgreesLaws.{entry_folds}
-use Rattle.lv_summary.proofs.FoldableLaws.{part_can_fold}
+use Rattle.lv_known.proofs.AgreesLaws.{entry_folds}
+use Rattle.lv_known.proofs.FoldableLaws.{part_can_fold}
 use Rattle.lv_summary.proofs.TableLaws.{entry_of_fresh}
 use Rattle.lv_refresh.specs.Claimed.{ClaimTable, claimed_in, record_of}
 use Rattle.lv_refresh.specs.Inner.{IsReady, ServesNode, children_fresh_in, wants_in}
@@ -35,7 +35,7 @@ abbrev pub front : List Edit → Node → ℕ → List ℤ
 front edits n k = take (k * 8 ^ (n.level - 1)) (drop (n.number * 8 ^ n.level) (list_of edits))
 
 -- those of one child more
-front_more : (edits : List Edit) (n : Node) (k : ℕ) → 1 < n.level → front edits n (k + 1) ≡ front edits n k ++ cells_of edits (child n k)
+front_more : (edits : List Edit) (n : Node) (k : ℕ) → 1 < n.level → front edits n (k + 1) ≡ front edits n k ++ elements_under edits (child n k)
 front_more edits n k above =
     let xs = list_of edits in
     let w = 8 ^ (n.level - 1) in
@@ -58,7 +58,7 @@ joins_none o edits n s is =
     is ∙ ap (λ m. fold_of o (take m (drop (n.number * 8 ^ n.level) (list_of edits)))) (sym none)
 
 -- eight are all
-pub joins_all : {S : Type 0} (o : Operations S) (edits : List Edit) (n : Node) (s : S) → 1 < n.level → Joins o edits n 8 s → s ≡ fold_of o (cells_of edits n)
+pub joins_all : {S : Type 0} (o : Operations S) (edits : List Edit) (n : Node) (s : S) → 1 < n.level → Joins o edits n 8 s → s ≡ fold_of o (elements_under edits n)
 joins_all o edits n s above joined =
     joined ∙ ap (λ m. fold_of o (take m (drop (n.number * 8 ^ n.level) (list_of edits)))) (sym (child_width n above))
 
@@ -84,16 +84,16 @@ module _ {S : Type 0} (o : Operations S) (edits : List Edit) (t : Table S) (agre
     pub joins_can : (n : Node) (k : ℕ) (sum s : S) → 1 < n.level → Joins o edits n k sum → entry_in t (child n k) ≡ Some s → CanJoin within sum s
     joins_can n k sum s above joined at =
         let more = front_more edits n k above in
-        let both : CanFold (front edits n k ++ cells_of edits (child n k)) = subst CanFold more (front_can_fold n (k + 1)) in
-        let parts = parts_of_all IsElement (front edits n k) (cells_of edits (child n k)) both.elements in
-        let size = length-append (front edits n k) (cells_of edits (child n k)) in
-        let here : CanFold (cells_of edits (child n k)) = record { few = omega (arith, both.few, size); elements = parts.1 } in
+        let both : CanFold (front edits n k ++ elements_under edits (child n k)) = subst CanFold more (front_can_fold n (k + 1)) in
+        let parts = parts_of_all IsElement (front edits n k) (elements_under edits (child n k)) both.elements in
+        let size = length-append (front edits n k) (elements_under edits (child n k)) in
+        let here : CanFold (elements_under edits (child n k)) = record { few = omega (arith, both.few, size); elements = parts.1 } in
         let is = entry_folds o edits t agrees (child n k) s at in
         record {
           left = length (front edits n k);
-          right = length (cells_of edits (child n k));
+          right = length (elements_under edits (child n k));
           left_within = subst (λ s. within s (length (front edits n k))) (sym joined) (fold_of-within o within laws (front edits n k) (front_can_fold n k));
-          right_within = subst (λ s. within s (length (cells_of edits (child n k)))) (sym is) (fold_of-within o within laws (cells_of edits (child n k)) here);
+          right_within = subst (λ s. within s (length (elements_under edits (child n k)))) (sym is) (fold_of-within o within laws (elements_under edits (child n k)) here);
           few = omega (arith, both.few, size);
         }
 
@@ -101,9 +101,9 @@ module _ {S : Type 0} (o : Operations S) (edits : List Edit) (t : Table S) (agre
     pub joins_more : (n : Node) (k : ℕ) (sum s next : S) → 1 < n.level → Joins o edits n k sum → entry_in t (child n k) ≡ Some s → next ≡ o.join sum s → Joins o edits n (k + 1) next
     joins_more n k sum s next above joined at is =
         let more = front_more edits n k above in
-        let both : CanFold (front edits n k ++ cells_of edits (child n k)) = subst CanFold more (front_can_fold n (k + 1)) in
+        let both : CanFold (front edits n k ++ elements_under edits (child n k)) = subst CanFold more (front_can_fold n (k + 1)) in
         is
         ∙ ap (λ s. o.join sum s) (entry_folds o edits t agrees (child n k) s at)
-        ∙ ap (λ sum. o.join sum (fold_of o (cells_of edits (child n k)))) joined
-        ∙ sym (fold_of-append o within laws (front edits n k) (cells_of edits (child n k)) both)
+        ∙ ap (λ sum. o.join sum (fold_of o (elements_under edits (child n k)))) joined
+        ∙ sym (fold_of-append o within laws (front edits n k) (elements_under edits (child n k)) both)
         ∙ ap (fold_of o) (sym more)

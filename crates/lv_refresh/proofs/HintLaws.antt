@@ -7,7 +7,7 @@ use Rattle.lv_geometry.specs.Levels.{thing_at, with_thing}
 use Rattle.lv_geometry.specs.Nodes.{covers, is_node, same_node}
 use Rattle.lv_geometry.proofs.NodeLaws.{at_each_level, level_of_node}
 use Rattle.lv_refresh.specs.Claimed.{ClaimTable, claim_blocks, claimed_in, is_hinted}
-use Rattle.lv_refresh.specs.Inner.{AreClaims, ClaimShelf, HintsAt, HintsNode, claims_of}
+use Rattle.lv_refresh.specs.Inner.{AreClaims, ClaimLevelState, HintsAt, HintsNode, claims_of}
 use Rattle.lv_refresh.specs.Marks.{is_marked}
 use Rattle.lv_refresh.proofs.RowLaws.{AreClaims-same, claim_blocks-same, claimed_in-same, is_hinted-inside, is_hinted-outside, rows_at}
 
@@ -66,9 +66,9 @@ pub level_stays : {old new : ClaimTable} {k number level : ℕ} → level ≢ k 
 level_stays {old} {new} {k} {number} {level} apart same = record { here = λ is. absurd (apart is); other = λ other. same }
 
 -- claims of six levels, of which one has a further hint
-pub HintsLevel-one : (of : Levels ClaimShelf) (k number : ℕ) (shelf : ClaimShelf) → 1 ≤ k → k ≤ 6 → HintsAt (thing_at of k).rows shelf.rows number → (level : ℕ) → 1 ≤ level → level ≤ 6 → HintsLevel (claims_of of) (claims_of (with_thing of k shelf)) k number level
-HintsLevel-one of k number shelf low high is =
-    at_each_level (λ k. HintsAt (thing_at of k).rows shelf.rows number → (level : ℕ) → 1 ≤ level → level ≤ 6 → HintsLevel (claims_of of) (claims_of (with_thing of k shelf)) k number level)
+pub HintsLevel-one : (of : Levels ClaimLevelState) (k number : ℕ) (changed : ClaimLevelState) → 1 ≤ k → k ≤ 6 → HintsAt (thing_at of k).rows changed.rows number → (level : ℕ) → 1 ≤ level → level ≤ 6 → HintsLevel (claims_of of) (claims_of (with_thing of k changed)) k number level
+HintsLevel-one of k number changed low high is =
+    at_each_level (λ k. HintsAt (thing_at of k).rows changed.rows number → (level : ℕ) → 1 ≤ level → level ≤ 6 → HintsLevel (claims_of of) (claims_of (with_thing of k changed)) k number level)
     (λ is. at_each_level _ (level_hinted is) (level_stays (omega arith) refl) (level_stays (omega arith) refl) (level_stays (omega arith) refl) (level_stays (omega arith) refl) (level_stays (omega arith) refl))
     (λ is. at_each_level _ (level_stays (omega arith) refl) (level_hinted is) (level_stays (omega arith) refl) (level_stays (omega arith) refl) (level_stays (omega arith) refl) (level_stays (omega arith) refl))
     (λ is. at_each_level _ (level_stays (omega arith) refl) (level_stays (omega arith) refl) (level_hinted is) (level_stays (omega arith) refl) (level_stays (omega arith) refl) (level_stays (omega arith) refl))
@@ -78,7 +78,7 @@ HintsLevel-one of k number shelf low high is =
     k low high is
 
 -- the rows of a level are those of its thing
-pub rows_at-thing : (of : Levels ClaimShelf) (k : ℕ) → 1 ≤ k → k ≤ 6 → rows_at (claims_of of) k ≡ (thing_at of k).rows
+pub rows_at-thing : (of : Levels ClaimLevelState) (k : ℕ) → 1 ≤ k → k ≤ 6 → rows_at (claims_of of) k ≡ (thing_at of k).rows
 rows_at-thing of k low high = at_each_level (λ k. rows_at (claims_of of) k ≡ (thing_at of k).rows) refl refl refl refl refl refl k low high
 
 module _ (old new : ClaimTable) (k number : ℕ) (hinted : (level : ℕ) → 1 ≤ level → level ≤ 6 → HintsLevel old new k number level) where

@@ -18,9 +18,9 @@ use Rattle.lv_bodies.specs.Body.{BodyLaws, CanFold, Operations, fold_of}
 use Rattle.lv_bodies.specs.FoldLaws.{fold_of-within, going_on-is_join}
 use Rattle.lv_edits.specs.declared.edit.Edit.{Edit}
 use Rattle.lv_edits.specs.History.{list_of, replayed}
-use Rattle.lv_edits.specs.Touch.{cells_of, is_whole, touched_by}
-use Rattle.lv_edits.proofs.TouchLaws.{cells_of-length, touched_by-le, touched_by_grows, touched_by_parent, untouched_since, whole_below, whole_from}
-use Rattle.lv_summary.proofs.FoldableLaws.{part_can_fold}
+use Rattle.lv_edits.specs.Touch.{elements_under, is_whole, touched_by}
+use Rattle.lv_edits.proofs.TouchLaws.{elements_under-length, touched_by-le, touched_by_grows, touched_by_parent, untouched_since, whole_below, whole_from}
+use Rattle.lv_known.proofs.FoldableLaws.{part_can_fold}
 use Rattle.lv_summary.proofs.TableLaws.{same_node-eq}
 use Rattle.lv_refresh.specs.declared.contents.Contents.{Contents}
 use Rattle.lv_refresh.specs.declared.contents.Contents.TheVariants.{Children, Elements}
@@ -76,7 +76,7 @@ parts_of_fresh r n fresh = and_parts (is_whole r.edits n) (is_version (touched_b
 
 -- a child that is fresh, and that no edit after the first v touched, had the same elements after them, and is kept at
 -- its touched number of then
-child_then : (r : Record) (n : Node) (v k : ℕ) → replayed r.edits ≡ Some (list_of r.edits) → is_fresh r (child n k) ≡ true → touched_by r.edits (child n k) ≤ v → (cells_of r.edits (child n k) ≡ cells_of (take v r.edits) (child n k)) × (is_version (touched_by (take v r.edits) (child n k)) (r.kept (child n k)) ≡ true)
+child_then : (r : Record) (n : Node) (v k : ℕ) → replayed r.edits ≡ Some (list_of r.edits) → is_fresh r (child n k) ≡ true → touched_by r.edits (child n k) ≤ v → (elements_under r.edits (child n k) ≡ elements_under (take v r.edits) (child n k)) × (is_version (touched_by (take v r.edits) (child n k)) (r.kept (child n k)) ≡ true)
 child_then r n v k legal fresh early =
     let parts = parts_of_fresh r (child n k) fresh in
     let same = untouched_since r.edits v (child n k) legal parts.0 early in
@@ -221,7 +221,7 @@ parts_in_turn xs w base from (suc count) =
     ∙ ap (λ rest. take w (drop ((base + from) * w) xs) ++ rest) (parts_in_turn xs w base (from + 1) count)
 
 -- the elements of a node above level 1 are those of its eight children, joined end to end
-pub cells_of_children : (es : List Edit) (n : Node) → 1 < n.level → cells_of es n ≡ flat_map (λ k. cells_of es (child n k)) (range_with_len 0 8)
+pub cells_of_children : (es : List Edit) (n : Node) → 1 < n.level → elements_under es n ≡ flat_map (λ k. elements_under es (child n k)) (range_with_len 0 8)
 cells_of_children es n above =
     let xs = list_of es in
     let w = 8 ^ (n.level - 1) in
@@ -251,19 +251,19 @@ module _ {S : Type 0} (o : Operations S) (within : S → ℕ → Type 0) (laws :
       ∙ sym (fold-append (λ t x. o.join t (o.lift x)) s xs rest)
 
   -- the elements of any node can be folded where those of the whole list can
-  pub cells_can_fold : (es : List Edit) (n : Node) → CanFold (list_of es) → CanFold (cells_of es n)
+  pub cells_can_fold : (es : List Edit) (n : Node) → CanFold (list_of es) → CanFold (elements_under es n)
   cells_can_fold es n can = part_can_fold (8 ^ n.level) (n.number * 8 ^ n.level) (list_of es) can
 
   -- summaries that are, one by one, the folds of the children's elements are the list of those folds
-  pub summaries_in_order : (es : List Edit) (n : Node) (summaries : Eight S) → ((k : ℕ) → k < 8 → slice_get (in_order summaries) k ≡ Some (fold_of o (cells_of es (child n k)))) → in_order summaries ≡ map (λ k. fold_of o (cells_of es (child n k))) (range_with_len 0 8)
+  pub summaries_in_order : (es : List Edit) (n : Node) (summaries : Eight S) → ((k : ℕ) → k < 8 → slice_get (in_order summaries) k ≡ Some (fold_of o (elements_under es (child n k)))) → in_order summaries ≡ map (λ k. fold_of o (elements_under es (child n k))) (range_with_len 0 8)
   summaries_in_order es n summaries each =
-      fill_by_all (λ k. fold_of o (cells_of es (child n k))) (in_order summaries) 8 o.identity refl (λ k inside. get_or_from_slice_get (in_order summaries) k (fold_of o (cells_of es (child n k))) o.identity (each k inside))
+      fill_by_all (λ k. fold_of o (elements_under es (child n k))) (in_order summaries) 8 o.identity refl (λ k inside. get_or_from_slice_get (in_order summaries) k (fold_of o (elements_under es (child n k))) o.identity (each k inside))
 
   -- the fold of contents that stand for a node is the fold of its elements
-  pub fold_of_standing : (r : Record) (n : Node) (c : Contents S) → CanFold (list_of r.edits) → Stands o r n c → fold_of_contents o c ≡ fold_of o (cells_of r.edits n)
+  pub fold_of_standing : (r : Record) (n : Node) (c : Contents S) → CanFold (list_of r.edits) → Stands o r n c → fold_of_contents o c ≡ fold_of o (elements_under r.edits n)
   fold_of_standing r n (Elements xs) can stands = ap (fold_of o) stands.1
   fold_of_standing r n (Children summaries) can stands =
-      let lists = λ (k : ℕ). cells_of r.edits (child n k) in
+      let lists = λ (k : ℕ). elements_under r.edits (child n k) in
       let all = cells_of_children r.edits n stands.0 in
       let folded : CanFold (flat_map lists (range_with_len 0 8)) = rw (← all) (cells_can_fold r.edits n can) in
       ap (fold o.join o.identity) (summaries_in_order r.edits n summaries stands.2)
@@ -274,14 +274,14 @@ module _ {S : Type 0} (o : Operations S) (within : S → ℕ → Type 0) (laws :
   pub can_fold_standing : (r : Record) (n : Node) (c : Contents S) → CanFold (list_of r.edits) → is_whole r.edits n ≡ true → Stands o r n c → CanFoldContents within c
   can_fold_standing r n (Elements xs) can whole stands =
       let size : 8 ^ n.level ≡ 8 = ap (λ l. 8 ^ l) stands.0 in (
-        ap length stands.1 ∙ cells_of-length r.edits n whole ∙ size,
+        ap length stands.1 ∙ elements_under-length r.edits n whole ∙ size,
         All-same IsElement xs _ stands.1 (cells_can_fold r.edits n can).elements,
       )
   can_fold_standing r n (Children summaries) can whole stands =
       let w = 8 ^ (n.level - 1) in
-      let each : (k : ℕ) → k < 8 → within (fold_of o (cells_of r.edits (child n k))) w = λ k inside.
-      subst (within (fold_of o (cells_of r.edits (child n k)))) (cells_of-length r.edits (child n k) (child_whole r.edits n k stands.0 inside whole)) (fold_of-within o within laws (cells_of r.edits (child n k)) (cells_can_fold r.edits (child n k) can)) in (
+      let each : (k : ℕ) → k < 8 → within (fold_of o (elements_under r.edits (child n k))) w = λ k inside.
+      subst (within (fold_of o (elements_under r.edits (child n k)))) (elements_under-length r.edits (child n k) (child_whole r.edits n k stands.0 inside whole)) (fold_of-within o within laws (elements_under r.edits (child n k)) (cells_can_fold r.edits (child n k) can)) in (
         w,
-        omega (arith, child_width n stands.0, cells_of-length r.edits n whole, (cells_can_fold r.edits n can).few),
-        λ k d inside. subst (λ s. within s w) (sym (get_or_from_slice_get (in_order summaries) k (fold_of o (cells_of r.edits (child n k))) d (stands.2 k inside))) (each k inside),
+        omega (arith, child_width n stands.0, elements_under-length r.edits n whole, (cells_can_fold r.edits n can).few),
+        λ k d inside. subst (λ s. within s w) (sym (get_or_from_slice_get (in_order summaries) k (fold_of o (elements_under r.edits (child n k))) d (stands.2 k inside))) (each k inside),
       )

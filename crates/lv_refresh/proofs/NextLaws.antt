@@ -8,12 +8,12 @@ use Rattle.lv_geometry.specs.Nodes.{child, is_below, is_node, same_node}
 use Rattle.lv_bodies.specs.Body.{BodyLaws, CanFold, Operations}
 use Rattle.lv_edits.specs.declared.edit.Edit.{Edit}
 use Rattle.lv_edits.specs.History.{History, list_of}
-use Rattle.lv_edits.specs.Kept.{InLimits}
+use Rattle.lv_edits.specs.Kept.{IsLegalInLimits}
 use Rattle.lv_edits.specs.Touch.{touched_by}
-use Rattle.lv_summary.specs.Agrees.{Agrees}
+use Rattle.lv_known.specs.Agrees.{Agrees}
 use Rattle.lv_summary.specs.Table.{Table, entry_in, fresh_in, touched_in, whole_in}
-use Rattle.lv_summary.proofs.AgreesLaws.{entry_folds, whole_agrees}
-use Rattle.lv_summary.proofs.FoldableLaws.{can_fold}
+use Rattle.lv_known.proofs.AgreesLaws.{entry_folds, whole_agrees}
+use Rattle.lv_known.proofs.FoldableLaws.{can_fold}
 use Rattle.lv_summary.proofs.TableLaws.{fresh_of_entry}
 use Rattle.lv_refresh.specs.declared.contents.Contents.{Contents}
 use Rattle.lv_refresh.specs.declared.contents.Contents.TheVariants.{Children, Elements}
@@ -59,7 +59,7 @@ module _ {S : Type 0} (o : Operations S) (edits : List Edit) (t : Table S) (agre
       )
 
   -- and can be folded
-  pub can_fold_gathered : (within : S → ℕ → Type 0) → BodyLaws o within → (h : History) → h.journal ≡ edits → InLimits h → (n : Node) (contents : Contents S) → whole_in t n ≡ true → AreContentsIn edits t n contents → CanFoldContents within contents
+  pub can_fold_gathered : (within : S → ℕ → Type 0) → BodyLaws o within → (h : History) → h.journal ≡ edits → IsLegalInLimits h → (n : Node) (contents : Contents S) → whole_in t n ≡ true → AreContentsIn edits t n contents → CanFoldContents within contents
   can_fold_gathered within laws h is limits n contents whole holds =
       let can : CanFold (list_of edits) = rw (← is) (can_fold h limits) in
       can_fold_standing o within laws (record_of edits t c) n contents can (whole_agrees o edits t agrees n ∙ whole) (Stands-from n contents holds)

@@ -4,7 +4,7 @@ use Rattle.lv_geometry.specs.declared.nodes.Node.{Node}
 use Rattle.lv_geometry.specs.Nodes.{child, is_node}
 use Rattle.lv_bodies.specs.Body.{Operations, fold_of}
 use Rattle.lv_edits.specs.declared.edit.Edit.{Edit}
-use Rattle.lv_edits.specs.Touch.{cells_of, is_whole, touched_by}
+use Rattle.lv_edits.specs.Touch.{elements_under, is_whole, touched_by}
 use Rattle.lv_refresh.specs.declared.contents.Contents.{Contents}
 use Rattle.lv_refresh.specs.declared.contents.Contents.TheVariants.{Elements, Children}
 use Rattle.lv_refresh.specs.Claim.{children_fresh}
@@ -13,8 +13,8 @@ use Rattle.lv_refresh.specs.Record.{Record, is_version}
 
 -- contents are those of a node after some edits: at level 1 its elements, above the folds of its eight children
 abbrev pub AreContents : {S : Type 0} → Operations S → List Edit → Node → Contents S → Type 0
-AreContents o edits n (Elements xs) = (n.level ≡ 1) × (xs ≡ cells_of edits n)
-AreContents o edits n (Children summaries) = (1 < n.level) × ((k : ℕ) → k < 8 → slice_get (in_order summaries) k ≡ Some (fold_of o (cells_of edits (child n k))))
+AreContents o edits n (Elements xs) = (n.level ≡ 1) × (xs ≡ elements_under edits n)
+AreContents o edits n (Children summaries) = (1 < n.level) × ((k : ℕ) → k < 8 → slice_get (in_order summaries) k ≡ Some (fold_of o (elements_under edits (child n k))))
 
 -- contents were taken honestly at version v: after the first v edits the node was whole and touched at v, and the contents
 -- were its own; and above level 1 each child is still kept at its touched number of then, or was touched later than v
@@ -30,9 +30,9 @@ pub record IsHonest {S : Type 0} (o : Operations S) (r : Record) (n : Node) (v :
 -- contents stand here now: at level 1 they are the node's elements; above, the children are all fresh, and the summaries
 -- carried are their folds
 abbrev pub Stands : {S : Type 0} → Operations S → Record → Node → Contents S → Type 0
-Stands o r n (Elements xs) = (n.level ≡ 1) × (xs ≡ cells_of r.edits n)
+Stands o r n (Elements xs) = (n.level ≡ 1) × (xs ≡ elements_under r.edits n)
 Stands o r n (Children summaries) =
-    (1 < n.level) × (children_fresh r n ≡ true) × ((k : ℕ) → k < 8 → slice_get (in_order summaries) k ≡ Some (fold_of o (cells_of r.edits (child n k))))
+    (1 < n.level) × (children_fresh r n ≡ true) × ((k : ℕ) → k < 8 → slice_get (in_order summaries) k ≡ Some (fold_of o (elements_under r.edits (child n k))))
 
 -- an outcome is vouched for where its node isn't whole, or was touched by another edit last, or what it carries stands
 -- here: its body is the vector's, and so are its contents

@@ -5,7 +5,7 @@ use Rattle.lv_geometry.specs.declared.levels.Levels.{Levels}
 use Rattle.lv_geometry.specs.declared.nodes.Node.{Node}
 use Rattle.lv_geometry.specs.Nodes.{child, is_node, same_node}
 use Rattle.lv_edits.specs.declared.edit.Edit.{Edit}
-use Rattle.lv_edits.specs.Touch.{cells_of}
+use Rattle.lv_edits.specs.Touch.{elements_under}
 use Rattle.lv_summary.specs.Table.{Table, entry_in, fresh_in, touched_in, whole_in}
 use Rattle.lv_refresh.specs.declared.contents.Contents.{Contents}
 use Rattle.lv_refresh.specs.declared.contents.Contents.TheVariants.{Elements, Children}
@@ -22,12 +22,12 @@ pub record AreMarks (words : List ℕ) (first : ℕ) : Type 0 where
   pub none : (k : ℕ) → k < first → slice_index words k ≡ 0
 
 -- one level of claims: its rows, and for how many of them it has memory
-pub record ClaimShelf : Type 0 where
+pub record ClaimLevelState : Type 0 where
   pub rows : ClaimRows
   pub capacity : ℕ
 
 -- claims of six levels
-abbrev pub claims_of : Levels ClaimShelf → ClaimTable
+abbrev pub claims_of : Levels ClaimLevelState → ClaimTable
 claims_of of = record { levels = of.level_1.rows ∷ of.level_2.rows ∷ of.level_3.rows ∷ of.level_4.rows ∷ of.level_5.rows ∷ of.level_6.rows ∷ [] }
 
 -- every index of the blocks has its row, and every row its hint
@@ -100,7 +100,7 @@ wants_at t level rows number = wants_in t (version_of (slice_index rows.claimed 
 
 -- contents are those of a node by edits and a table: its elements, or what is kept for its eight children
 abbrev pub AreContentsIn : {S : Type 0} → List Edit → Table S → Node → Contents S → Type 0
-AreContentsIn edits t n (Elements xs) = (n.level ≡ 1) × (xs ≡ cells_of edits n)
+AreContentsIn edits t n (Elements xs) = (n.level ≡ 1) × (xs ≡ elements_under edits n)
 AreContentsIn edits t n (Children summaries) = (1 < n.level) × ((k : ℕ) → k < 8 → slice_get (in_order summaries) k ≡ entry_in t (child n k))
 
 -- the nodes of a level can be served: those that want a job are hinted at, and there are rows for all that are whole

@@ -3,7 +3,7 @@ use Rattle.std.specs.Prelude.{ℕ, ◌/◌, ◌%◌, Bool, List, slice_index, na
 use Rattle.std.specs.Int.{bit_at}
 
 -- words of marks, and for how many numbers there is memory
-pub record MarkShelf : Type 0 where
+pub record MarksState : Type 0 where
   pub words : List ℕ
   pub capacity : ℕ
 

@@ -1,8 +1,8 @@
 ghost use Rattle.std.specs.Prelude.{◌≡◌, ℕ, ◌+◌, ◌*◌, ◌/◌, ◌^◌, ◌<◌, ◌≤◌, ◌&&◌, ◌||◌, Bool, true, false, None, Some, option_map, length, IfSome, IfNone, OnOk, OnErr, IfErr, if◌then◌else◌};
 ghost use Rattle.lv_geometry.specs.Nodes.{covers, is_below, is_node, parent, same_node};
 ghost use Rattle.lv_bodies.specs.Body.{fold_of};
-ghost use Rattle.lv_edits.specs.Touch.{cells_of};
-ghost use Rattle.lv_summary.specs.Agrees.{Agrees};
+ghost use Rattle.lv_edits.specs.Touch.{elements_under};
+ghost use Rattle.lv_known.specs.Agrees.{Agrees};
 ghost use Rattle.lv_summary.specs.Table.{whole_in};
 ghost use Rattle.lv_refresh.specs.Claim.{IsNextJob};
 ghost use Rattle.lv_refresh.specs.Claimed.{AreHints, claim_blocks, claimed_in, is_hinted, record_of};
@@ -191,7 +191,7 @@ impl Claims {
         ensures claimed { IfSome result (λ done. (n : Node) → claimed_in self.new n ≡ (if same_node n done.node then Some done.version else claimed_in self.old n)) }
         ensures idle { IfNone result ((n : Node) → claimed_in self.new n ≡ claimed_in self.old n) }
         ensures hints { AreHints (record_of cells.now.journal table.now self.new) self.new }
-        ensures summary { IfSome result (λ done. done.summary ≡ fold_of (B.operations (B.meaning body.now)) (cells_of cells.now.journal done.node)) }
+        ensures summary { IfSome result (λ done. done.summary ≡ fold_of (B.operations (B.meaning body.now)) (elements_under cells.now.journal done.node)) }
         ensures blocks { claim_blocks self.new ≡ claim_blocks self.old }
     {
         match self.next(table) {

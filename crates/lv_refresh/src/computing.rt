@@ -1,7 +1,7 @@
 ghost use Rattle.std.specs.Prelude.{◌≡◌, ◌+◌, ◌*◌, ◌<◌, true};
 ghost use Rattle.lv_bodies.specs.Body.{fold_of};
-ghost use Rattle.lv_edits.specs.Touch.{cells_of};
-ghost use Rattle.lv_summary.specs.Agrees.{Agrees};
+ghost use Rattle.lv_edits.specs.Touch.{elements_under};
+ghost use Rattle.lv_known.specs.Agrees.{Agrees};
 ghost use Rattle.lv_summary.specs.Table.{whole_in};
 ghost use Rattle.lv_refresh.specs.Inner.{IsReady};
 
@@ -25,7 +25,7 @@ pub fn summary_of<B: Body>(cells: &Edits, table: &Summaries<B::S>, body: &B, nod
     requires agrees { Agrees (B.operations (B.meaning body.now)) cells.now.journal table.now }
     requires whole { whole_in table.now node ≡ true }
     requires ready { IsReady table.now node }
-    ensures { result ≡ fold_of (B.operations (B.meaning body.now)) (cells_of cells.now.journal node) }
+    ensures { result ≡ fold_of (B.operations (B.meaning body.now)) (elements_under cells.now.journal node) }
 {
     if node.level == 1 {
         fold_block(cells, table, body, node)
@@ -39,7 +39,7 @@ fn fold_block<B: Body>(cells: &Edits, _table: &Summaries<B::S>, body: &B, block:
     requires agrees { Agrees (B.operations (B.meaning body.now)) cells.now.journal _table.now }
     requires whole { whole_in _table.now block ≡ true }
     requires level { block.level ≡ 1 }
-    ensures { result ≡ fold_of (B.operations (B.meaning body.now)) (cells_of cells.now.journal block) }
+    ensures { result ≡ fold_of (B.operations (B.meaning body.now)) (elements_under cells.now.journal block) }
 {
     let elements = cells.block(block.number);
     fold_slice(body, &elements)
@@ -51,7 +51,7 @@ fn join_children<B: Body>(cells: &Edits, table: &Summaries<B::S>, body: &B, node
     requires whole { whole_in table.now node ≡ true }
     requires above { 1 < node.level }
     requires ready { IsReady table.now node }
-    ensures { result ≡ fold_of (B.operations (B.meaning body.now)) (cells_of cells.now.journal node) }
+    ensures { result ≡ fold_of (B.operations (B.meaning body.now)) (elements_under cells.now.journal node) }
 {
     // The elements are few enough for a fold, and the children's numbers are of 32 bits.
     let _size = cells.size();

@@ -19,9 +19,9 @@ pub struct Level {
 
 impl Model for Level {
     ghost use Rattle.std.specs.Prelude.{min, vec_capacity};
-    ghost use Rattle.lv_refresh.specs.Inner.{ClaimShelf};
+    ghost use Rattle.lv_refresh.specs.Inner.{ClaimLevelState};
 
-    ghost Value = { ClaimShelf };
+    ghost Value = { ClaimLevelState };
 
     ghost view = { λ a. record { rows = record { claimed = a.claimed.items; hints = a.hints.words }; capacity = min (vec_capacity a.claimed) a.hints.capacity } };
 }

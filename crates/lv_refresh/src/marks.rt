@@ -16,9 +16,9 @@ pub struct Marks {
 impl Model for Marks {
     ghost use Rattle.std.specs.Prelude.{◌*◌, vec_capacity};
     ghost use Rattle.lv_refresh.specs.Inner.{AreMarks};
-    ghost use Rattle.lv_refresh.specs.Marks.{MarkShelf};
+    ghost use Rattle.lv_refresh.specs.Marks.{MarksState};
 
-    ghost Value = { MarkShelf };
+    ghost Value = { MarksState };
 
     ghost view = { λ a. record { words = a.words.items; capacity = 64 * vec_capacity a.words } };
 

@@ -13,7 +13,7 @@ use Rattle.lv_bodies.specs.Six.{SixSummary, six_operations}
 use Rattle.lv_edits.specs.declared.edit.Edit.{Edit}
 use Rattle.lv_edits.specs.declared.receipt.Receipt.{Receipt}
 use Rattle.lv_edits.specs.History.{History, list_of}
-use Rattle.lv_edits.specs.Kept.{InLimits}
+use Rattle.lv_edits.specs.Kept.{IsLegalInLimits}
 use Rattle.lv_geometry.specs.Elements.{IsElement}
 use Rattle.lv_edits.specs.Verdict.{Accepts, Refuses}
 use Rattle.lv_refresh.specs.Carried.{Carried}
@@ -129,7 +129,7 @@ reduced_ok edits kind lo hi edit shown granted at is =
     ap (λ edit. answer_text edit kind shown) at ∙ ap (answer_text (length edits) kind) is ∙ ap (reduced_text edits kind lo hi) (sym granted)
 
 -- the elements of a range can be folded
-pub can_fold_slice : (h : History) (lo hi : ℕ) → InLimits h → CanFold (slice_of h.journal lo hi)
+pub can_fold_slice : (h : History) (lo hi : ℕ) → IsLegalInLimits h → CanFold (slice_of h.journal lo hi)
 can_fold_slice h lo hi limits =
     record {
       few = omega (arith, limits.few, length-take (hi - lo) (drop lo (list_of h.journal)), length-drop lo (list_of h.journal));

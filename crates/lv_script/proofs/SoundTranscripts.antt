@@ -12,9 +12,9 @@ use Rattle.lv_bodies.specs.Body.{CanFold}
 use Rattle.lv_edits.specs.declared.edit.Edit.{Edit}
 use Rattle.lv_edits.specs.declared.edit.Edit.TheVariants.{Push, Pop, Write, Reserve, Swap, Truncate}
 use Rattle.lv_edits.specs.History.{list_of}
-use Rattle.lv_edits.specs.Kept.{CarriesElement, InLimits}
+use Rattle.lv_edits.specs.Kept.{CarriesElement, IsLegalInLimits}
 use Rattle.lv_edits.specs.Verdict.{verdict_of}
-use Rattle.lv_edits.proofs.HistoryLaws.{InLimits-empty, InLimits-snoc, not_refused, unrefused_reserve, unrefused_swap, unrefused_truncate, unrefused_write}
+use Rattle.lv_edits.proofs.HistoryLaws.{IsLegalInLimits-empty, IsLegalInLimits-snoc, not_refused, unrefused_reserve, unrefused_swap, unrefused_truncate, unrefused_write}
 use Rattle.lv_script.specs.declared.auditor.Stage.{Stage}
 use Rattle.lv_script.specs.declared.auditor.Stage.TheVariants.{Edits, Claims, End}
 use Rattle.lv_script.specs.declared.command.Command.TheVariants as commands
@@ -33,15 +33,15 @@ use Rattle.lv_script.proofs.ShownTexts.{IsShownText, shown_plain}
 
 -- a journal within the greatest limits
 abbrev pub IsWithin : List Edit → Type 0
-IsWithin journal = InLimits record { limits = greatest; journal = journal }
+IsWithin journal = IsLegalInLimits record { limits = greatest; journal = journal }
 
 -- no edits are
 within_none : IsWithin []
-within_none = InLimits-empty greatest record { some_buckets = lit≤ tt; few_buckets = lit≤ tt; some_edits = lit≤ tt; few_edits = lit≤ tt }
+within_none = IsLegalInLimits-empty greatest record { some_buckets = lit≤ tt; few_buckets = lit≤ tt; some_edits = lit≤ tt; few_edits = lit≤ tt }
 
 -- one more edit that is accepted
 within_more : (journal : List Edit) (e : Edit) → IsWithin journal → verdict_of greatest journal e ≡ None → CarriesElement e → IsWithin (journal ++ e ∷ [])
-within_more journal e within free carried = InLimits-snoc record { limits = greatest; journal = journal } e within free carried
+within_more journal e within free carried = IsLegalInLimits-snoc record { limits = greatest; journal = journal } e within free carried
 
 -- the numbers of an accepted edit have their bits
 accepted_fits : (journal : List Edit) (e : Edit) → IsWithin journal → verdict_of greatest journal e ≡ None → CarriesElement e → IsEdit e

@@ -3,11 +3,12 @@ ghost use Rattle.lv_bodies.specs.Six.{SixSummary, six_operations};
 ghost use Rattle.lv_bodies.specs.declared.sixes.Six.{Six};
 ghost use Rattle.lv_edits.specs.Capacity.{capacity_after};
 ghost use Rattle.lv_edits.specs.History.{list_of};
-ghost use Rattle.lv_edits.specs.Kept.{InLimits};
+ghost use Rattle.lv_edits.specs.Kept.{IsLegalInLimits};
 ghost use Rattle.lv_edits.specs.Verdict.{element_at};
 ghost use Rattle.lv_refresh.specs.Carried.{Carried};
 ghost use Rattle.lv_reduce.specs.Answer.{range_refusal};
-ghost use Rattle.lv_live.specs.State.{IsWorld, SameLive, recorded};
+ghost use Rattle.lv_live.specs.Kept.{IsWorld};
+ghost use Rattle.lv_live.specs.State.{SameLive, recorded};
 ghost use Rattle.lv_live.specs.Step.{Reduces};
 ghost use Rattle.lv_live.specs.declared.events.Event.TheVariants as event;
 ghost use Rattle.lv_standing.specs.Queries.{query_of};
@@ -213,7 +214,7 @@ fn put_reads(standing: &Standing, lo: u32, hi: u32, held: &mut Vec<u8>)
 // A reduction of all six bodies.
 fn reduce(standing: &Standing, lo: u32, hi: u32) -> Result<Answer<<Six as Body>::S>, Refusal>
     ensures answer { Reduces six_operations (recorded standing.now.live) lo hi result }
-    ensures limits { InLimits standing.now.live.history }
+    ensures limits { IsLegalInLimits standing.now.live.history }
 {
     standing.live().reduce(lo, hi)
 }

@@ -1,7 +1,7 @@
 ghost use Rattle.std.specs.Prelude.{◌≡◌, ◌+◌, ◌<◌, ◌≤◌, List, ℕ, ℤ, length, IfNone, OnOk, IfErr};
 ghost use Rattle.std.specs.List.{slice_index_or};
 ghost use Rattle.lv_edits.specs.History.{list_of};
-ghost use Rattle.lv_edits.specs.Kept.{InLimits};
+ghost use Rattle.lv_edits.specs.Kept.{IsLegalInLimits};
 ghost use Rattle.lv_refresh.specs.Carried.{Carried};
 ghost use Rattle.lv_bodies.specs.Body.{CanFold, fold_of};
 ghost use Rattle.lv_bodies.specs.Six.{SixSummary};
@@ -81,7 +81,7 @@ fn put_range_scan<W: Write>(
 ) -> Result<(), Fault>
     requires order { asked.now.lo ≤ asked.now.hi }
     requires inside { asked.now.hi ≤ length (list_of live.now.history.journal) }
-    requires limits { InLimits live.now.history }
+    requires limits { IsLegalInLimits live.now.history }
     ensures places { SamePlaces outbox.old outbox.new }
     ensures ok { OnOk result (Puts W.contents outbox.old outbox.new
         (scan_text (length live.now.history.journal) asked.now.inclusive asked.now.kind
@@ -104,7 +104,7 @@ fn put_plain_values<W: Write>(
 ) -> Result<(), Fault>
     requires order { asked.now.lo ≤ asked.now.hi }
     requires inside { asked.now.hi ≤ length (list_of live.now.history.journal) }
-    requires limits { InLimits live.now.history }
+    requires limits { IsLegalInLimits live.now.history }
     ensures places { SamePlaces outbox.old outbox.new }
     ensures ok { OnOk result (Puts W.contents outbox.old outbox.new
         (values_text (plain_scan asked.now.inclusive asked.now.kind (slice_of live.now.history.journal asked.now.lo asked.now.hi)))) }
@@ -131,7 +131,7 @@ fn put_running_values<B: Single, W: Write>(
 ) -> Result<(), Fault>
     requires order { asked.now.lo ≤ asked.now.hi }
     requires inside { asked.now.hi ≤ length (list_of live.now.history.journal) }
-    requires limits { InLimits live.now.history }
+    requires limits { IsLegalInLimits live.now.history }
     ensures places { SamePlaces outbox.old outbox.new }
     ensures ok { OnOk result (Puts W.contents outbox.old outbox.new
         (values_text (scan_by (B.plain body.now) asked.now.inclusive (slice_of live.now.history.journal asked.now.lo asked.now.hi)))) }

@@ -1,6 +1,6 @@
 ghost use Rattle.std.specs.Prelude.{◌≡◌, ◌≤◌, [], List, ℕ, length, OnOk, IfErr};
 ghost use Rattle.lv_bodies.specs.Six.{six_operations};
-ghost use Rattle.lv_live.specs.State.{IsWorld};
+ghost use Rattle.lv_live.specs.Kept.{IsWorld};
 ghost use Rattle.lv_script.specs.Output.{HasRoom, Puts, PutsFront, SamePlaces};
 ghost use Rattle.lv_script.specs.Replies.{Conversed, FailsToReply, Replies};
 ghost use Rattle.lv_script.specs.Script.{LineAnswer, ScriptState, ScriptStep};
@@ -54,7 +54,7 @@ struct Script {
 
 impl Model for Script {
     ghost use Rattle.lv_bodies.specs.Six.{six_operations};
-    ghost use Rattle.lv_live.specs.State.{IsWorld};
+    ghost use Rattle.lv_live.specs.Kept.{IsWorld};
     ghost use Rattle.lv_script.specs.Scripted.{Scripted};
 
     ghost Value = { Scripted };

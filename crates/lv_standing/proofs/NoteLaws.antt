@@ -14,7 +14,7 @@ use Rattle.lv_standing.specs.declared.kinds.KindSummary.{KindSummary}
 use Rattle.lv_standing.specs.Inner.{IsNoted, IsToldAt, SameElsewhere, asked, has_changed, refreshed}
 use Rattle.lv_standing.specs.Kinds.{kind_of, shown_of, summary_of}
 use Rattle.lv_standing.specs.Standings.{IsCurrent, queries_of, query_at, summary_at}
-use Rattle.lv_edits.proofs.Slices.{there_is}
+use Rattle.lv_geometry.proofs.Ranges.{there_is}
 use Rattle.lv_standing.proofs.KindLaws.{shown_is_plain}
 use Rattle.lv_standing.proofs.EntryLaws.{asked_more, at_seam, front_is, rest_is, set_at_seam, set_same}
 

@@ -8,11 +8,11 @@ use Rattle.lv_bodies.specs.Body.{CanFold}
 use Rattle.lv_edits.specs.declared.edit.Edit.{Edit}
 use Rattle.lv_edits.specs.declared.edit.Edit.TheVariants.{Push, Pop, Write, Reserve, Swap, Truncate}
 use Rattle.lv_edits.specs.History.{History, applied, list_of, replayed}
-use Rattle.lv_edits.specs.Kept.{InLimits}
+use Rattle.lv_edits.specs.Kept.{IsLegalInLimits}
 use Rattle.lv_edits.specs.Verdict.{verdict_of}
 use Rattle.lv_edits.proofs.HistoryLaws.{accepted_is_possible, list_of-snoc, swapped}
 use Rattle.lv_edits.proofs.Slices.{part_of_push, part_of_set, part_of_take}
-use Rattle.lv_summary.proofs.FoldableLaws.{can_fold, part_can_fold}
+use Rattle.lv_known.proofs.FoldableLaws.{can_fold, part_can_fold}
 use Rattle.lv_standing.specs.declared.changes.Changed.{Changed}
 use Rattle.lv_standing.specs.declared.changes.Changed.TheVariants.{Nothing, Two}
 use Rattle.lv_standing.specs.Inner.{IsPushed, changed_by, has_changed, has_index, pushed_by}
@@ -49,7 +49,7 @@ range_cut xs lo hi lo' hi' end start =
     ]
 
 -- a range of what a fold may go over is such
-pub range_can_fold : (h : History) (lo hi : ℕ) → InLimits h → CanFold (slice_range (list_of h.journal) lo hi)
+pub range_can_fold : (h : History) (lo hi : ℕ) → IsLegalInLimits h → CanFold (slice_range (list_of h.journal) lo hi)
 range_can_fold h lo hi limits = part_can_fold (hi - lo) lo (list_of h.journal) (can_fold h limits)
 
 -- a range without an index ends at or before it, or starts after it

@@ -5,7 +5,7 @@ use Rattle.lv_bodies.specs.declared.sixes.Six.{Six}
 use Rattle.lv_bodies.specs.Six.{SixSummary}
 use Rattle.lv_edits.specs.declared.edit.Edit.{Edit}
 use Rattle.lv_edits.specs.History.{list_of}
-use Rattle.lv_edits.specs.Kept.{InLimits}
+use Rattle.lv_edits.specs.Kept.{IsLegalInLimits}
 use Rattle.lv_live.specs.State.{LiveState}
 use Rattle.lv_standing.specs.declared.kinds.KindSummary.{KindSummary}
 use Rattle.lv_standing.specs.declared.watches.Watch.{Watch}
@@ -35,6 +35,6 @@ IsCurrent edits entry = entry.1.summary ≡ summary_at edits entry.1
 
 -- the vector is within its limits, there are at most 64 queries, and each watch keeps the summary of its range at the last edit
 pub record IsStanding (live : LiveState Six SixSummary) (entries : List (List ℕ × Watch)) : Type 0 where
-  pub limits : InLimits live.history
+  pub limits : IsLegalInLimits live.history
   pub few : length entries ≤ 64
   pub current : AllByRecursion (IsCurrent live.history.journal) entries

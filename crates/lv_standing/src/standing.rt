@@ -1,9 +1,10 @@
 ghost use Rattle.std.specs.Prelude.{◌≡◌, ◌↔◌, ◌⊎◌, ◌≤◌, None, Some, IsTrue, IsSome, IfSome, IfOk, IfErr, OnOk, OnErr, List, [], ◌∷◌, ◌++◌, length, option_map};
 ghost use Rattle.lv_geometry.specs.declared.nodes.Node.{Node};
 ghost use Rattle.lv_bodies.specs.Six.{six_operations};
-ghost use Rattle.lv_edits.specs.Kept.{InLimits};
+ghost use Rattle.lv_edits.specs.Kept.{IsLegalInLimits};
 ghost use Rattle.lv_edits.specs.Verdict.{Accepts, IsRefusal, Refuses};
-ghost use Rattle.lv_summary.specs.Table.{OnlyLearns, known_in};
+ghost use Rattle.lv_summary.specs.Changes.{OnlyLearns};
+ghost use Rattle.lv_summary.specs.Table.{known_in};
 ghost use Rattle.lv_reduce.specs.Answer.{IsAnswer, range_refusal};
 ghost use Rattle.lv_reduce.specs.Asked.{AreTopsKnown, IsFewAsked};
 ghost use Rattle.lv_refresh.specs.Claim.{IsNextJob};
@@ -50,7 +51,7 @@ impl Standing {
     /// An empty vector, and no queries. Takes no memory.
     pub fn new(alloc: Global, limits: Limits) -> Standing
         ensures history { result.live.history ≡ record { limits = limits; journal = [] } }
-        ensures limits { InLimits result.live.history }
+        ensures limits { IsLegalInLimits result.live.history }
         ensures queries { result.queries ≡ [] }
         ensures unclaimed { (n : Node) → (recorded result.live).claimed n ≡ None }
         ensures nothing_kept { (n : Node) → (recorded result.live).kept n ≡ None }
@@ -124,7 +125,7 @@ impl Standing {
         ensures err { IfErr result (λ refusal. Refuses self.old.live.history edit refusal self.new.live.history) }
         ensures notes { IfOk result (λ told. AreNotes self.old.live.history.journal self.new.live.history.journal self.old.queries told.1.items) }
         ensures few { IfOk result (λ told. length told.1.items ≤ 64) }
-        ensures limits { InLimits self.new.live.history }
+        ensures limits { IsLegalInLimits self.new.live.history }
         ensures refresh { SameRefresh self.old.live self.new.live }
         ensures queries { self.new.queries ≡ self.old.queries }
     {
@@ -156,7 +157,7 @@ impl Standing {
         ensures known { IfOk result (λ _. AreTopsKnown (known_in self.new.live.table) lo hi) }
         ensures few { IfOk result (λ answer. IsFewAsked (known_in self.old.live.table) (known_in self.new.live.table) lo hi answer.cells_read answer.summaries_read) }
         ensures queries { self.new.queries ≡ self.old.queries }
-        ensures limits { InLimits self.new.live.history }
+        ensures limits { IsLegalInLimits self.new.live.history }
     {
         self.live.ask(lo, hi)
     }
@@ -170,7 +171,7 @@ impl Standing {
         ensures live { SameLive self.old.live self.new.live }
         ensures learns { OnlyLearns self.old.live.table self.new.live.table }
         ensures queries { self.new.queries ≡ self.old.queries }
-        ensures limits { InLimits self.new.live.history }
+        ensures limits { IsLegalInLimits self.new.live.history }
     {
         if hi.saturating_sub(lo) <= SHORT {
             return folded(&self.live, kind, lo, hi);
@@ -185,7 +186,7 @@ impl Standing {
     /// The live vector.
     pub fn live(&self) -> &Live<Six>
         ensures value { result.now ≡ self.now.live }
-        ensures limits { InLimits self.now.live.history }
+        ensures limits { IsLegalInLimits self.now.live.history }
     {
         &self.live
     }

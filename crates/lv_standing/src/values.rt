@@ -1,6 +1,6 @@
 //! The value of one kind over a range.
 ghost use Rattle.std.specs.Prelude.{◌≡◌, Some, IfOk, IfErr};
-ghost use Rattle.lv_edits.specs.Kept.{InLimits};
+ghost use Rattle.lv_edits.specs.Kept.{IsLegalInLimits};
 ghost use Rattle.lv_reduce.specs.Answer.{range_refusal};
 ghost use Rattle.lv_standing.specs.Queries.{IsShown, IsValue};
 
@@ -15,7 +15,7 @@ pub const SHORT: u32 = 64;
 
 /// The value of a kind over a range, folded where the elements lie.
 pub fn folded(live: &Live<Six>, kind: Kind, lo: u32, hi: u32) -> Result<Answered, Refusal>
-    requires { InLimits live.now.history }
+    requires { IsLegalInLimits live.now.history }
     ensures ok { IfOk result (λ answered. IsValue live.now.history.journal kind lo hi answered) }
     ensures err { IfErr result (λ refusal. range_refusal live.now.history.journal lo hi ≡ Some refusal) }
 {
@@ -31,7 +31,7 @@ pub fn folded(live: &Live<Six>, kind: Kind, lo: u32, hi: u32) -> Result<Answered
 
 // What the body of a kind shows of the fold.
 fn folded_by<K: Single>(live: &Live<Six>, body: &K, lo: u32, hi: u32) -> Result<Answered, Refusal>
-    requires { InLimits live.now.history }
+    requires { IsLegalInLimits live.now.history }
     ensures ok { IfOk result (λ answered. IsShown (K.plain body.now) live.now.history.journal lo hi answered) }
     ensures err { IfErr result (λ refusal. range_refusal live.now.history.journal lo hi ≡ Some refusal) }
 {

@@ -4,7 +4,7 @@ ghost use Rattle.indexmap.specs.IndexMap.{index_map_len, set_value_at};
 ghost use Rattle.lv_bodies.specs.Body.{CanFold};
 ghost use Rattle.lv_edits.specs.declared.edit.Edit.{Edit as Change};
 ghost use Rattle.lv_edits.specs.History.{list_of};
-ghost use Rattle.lv_edits.specs.Kept.{InLimits};
+ghost use Rattle.lv_edits.specs.Kept.{IsLegalInLimits};
 ghost use Rattle.lv_live.specs.State.{SameLive};
 ghost use Rattle.lv_standing.specs.Queries.{AreNotes};
 ghost use Rattle.lv_standing.specs.Inner.{AtIndex, IsNoted, IsOfRange, IsPushed, IsToldAt, SameElsewhere, asked, has_changed, has_index, refreshed, six_of};
@@ -136,7 +136,7 @@ fn summary_after(
     last: &mut Option<OfRange>,
 ) -> KindSummary
     ghost before: { List ℤ }
-    requires limits { InLimits live.old.history }
+    requires limits { IsLegalInLimits live.old.history }
     requires current { watch.now.summary ≡ summary_of (kind_of watch.now.summary) before }
     requires pushed { IfSome pushed (λ x. slice_range (list_of live.old.history.journal) watch.now.lo watch.now.hi ≡ before ++ x ∷ []) }
     requires last { IfSome last.old (IsOfRange live.old.history.journal) }
@@ -183,7 +183,7 @@ fn tell_one(
     notes: &mut Vec<Note>,
 )
     ghost old: { List Change }
-    requires limits { InLimits live.old.history }
+    requires limits { IsLegalInLimits live.old.history }
     requires before { CanFold (list_of old) }
     requires elsewhere { SameElsewhere changed old live.old.history.journal }
     requires pushed { IfSome pushed (IsPushed changed old live.old.history.journal) }
@@ -215,7 +215,7 @@ pub fn tell(
     notes: &mut Vec<Note>,
 )
     ghost old: { List Change }
-    requires limits { InLimits live.old.history }
+    requires limits { IsLegalInLimits live.old.history }
     requires before { CanFold (list_of old) }
     requires elsewhere { SameElsewhere changed old live.old.history.journal }
     requires pushed { IfSome pushed (IsPushed changed old live.old.history.journal) }

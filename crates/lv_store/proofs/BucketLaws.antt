@@ -183,11 +183,11 @@ part_read f vs i n p b inside within at bucket h =
     ap (λ v. take n (drop p.cell (f v))) bucket ∙ sym (part_at f vs p i n b inside within at h)
 
 -- some buckets, and the cells of them
-abbrev pub cells_of : {T : Type 0} → ℕ → List T → Cells T
-cells_of k xs = record { buckets = k; cells = xs }
+abbrev pub elements_under : {T : Type 0} → ℕ → List T → Cells T
+elements_under k xs = record { buckets = k; cells = xs }
 
 -- with as many buckets and the same cells they are the same
-pub same_cells : {T : Type 0} (j k : ℕ) (xs ys : List T) → j ≡ k → xs ≡ ys → cells_of j xs ≡ cells_of k ys
+pub same_cells : {T : Type 0} (j k : ℕ) (xs ys : List T) → j ≡ k → xs ≡ ys → elements_under j xs ≡ elements_under k ys
 same_cells j k xs ys buckets cells = rw (buckets, cells) refl
 
 -- what is put at the place of an index is put at the index
@@ -208,7 +208,7 @@ with_bucket_more c d i blank from is =
     let few = capacity_of_mono c.buckets i from in
     let more : capacity_of i - capacity_of c.buckets + cells_in i ≡ capacity_of (i + 1) - capacity_of c.buckets = omega (arith, capacity_of_next i) in
     ap (λ e. with_bucket e blank) is
-    ∙ ap (λ n. cells_of (n + 1) (c.cells ++ replicate (capacity_of i - capacity_of c.buckets) blank ++ replicate (cells_in n) blank)) most
+    ∙ ap (λ n. elements_under (n + 1) (c.cells ++ replicate (capacity_of i - capacity_of c.buckets) blank ++ replicate (cells_in n) blank)) most
     ∙ same_cells _ _ _ _ next (append_assoc c.cells _ _ ∙ ap (λ xs. c.cells ++ xs) (replicate-append-replicate _ _ blank ∙ ap (λ n. replicate n blank) more))
 
 -- how many buckets there are then

@@ -7,8 +7,9 @@ use Rattle.lv_geometry.specs.declared.nodes.Node.{Node}
 use Rattle.lv_geometry.specs.Levels.{thing_at, with_thing}
 use Rattle.lv_geometry.specs.Nodes.{covers, is_node, same_node}
 use Rattle.lv_geometry.proofs.NodeLaws.{at_each_level, level_of_node}
-use Rattle.lv_summary.specs.Inner.{IsLevel, IsSound, Shelf, filled, table_of, with_kept, with_learnt, with_touch}
-use Rattle.lv_summary.specs.Table.{AnswersAlike, HasSize, Keeps, Learns, Rows, Table, Touches, beside, blocks_in, computed_in, kept_in, no_rows, rows_for, touched_in, whole_in}
+use Rattle.lv_summary.specs.Inner.{IsLevel, IsSound, LevelState, filled, table_of, with_kept, with_learnt, with_touch}
+use Rattle.lv_summary.specs.Changes.{AnswersAlike, HasSize, Keeps, Learns, Touches, beside}
+use Rattle.lv_summary.specs.Table.{Rows, Table, blocks_in, computed_in, kept_in, no_rows, rows_for, touched_in, whole_in}
 use Rattle.lv_summary.proofs.LevelLaws.{IsLevel-empty, IsLevel-filled, IsLevel-with_kept, IsLevel-with_learnt, IsLevel-with_touch, computed_at, computed_at-filled, computed_at-with_kept, computed_at-with_learnt, kept_at, kept_at-filled, kept_at-with_kept, kept_at-with_learnt, length-lengthened, touched_at, touched_at-filled, touched_at-with_touch}
 use Rattle.lv_summary.proofs.TableLaws.{node_of_whole}
 use Rattle.lv_summary.proofs.NodeRows.{IsRowOf-whole, blocks_in-rows, computed_in-inside, computed_in-outside, cond-and_false, cond-and_true, kept_in-inside, kept_in-outside, row_of_index, rows_at, touched_in-inside, touched_in-outside}
@@ -86,9 +87,9 @@ abbrev pub HasRowsLearnt : {S : Type 0} → Table S → Table S → Node → ℕ
 HasRowsLearnt old new n k s = HasRowsChanged old new k (λ rows. with_learnt rows n.number s)
 
 -- a table of six levels, of which one has other rows
-pub HasRowsChanged-one : {S : Type 0} (size : ℕ) (of : Levels (Shelf S)) (k : ℕ) (shelf : Shelf S) (change : Rows S → Rows S) → 1 ≤ k → k ≤ 6 → shelf.rows ≡ change (thing_at of k).rows → HasRowsChanged (table_of size of) (table_of size (with_thing of k shelf)) k change
-HasRowsChanged-one size of k shelf change low high is =
-    at_each_level (λ k. shelf.rows ≡ change (thing_at of k).rows → HasRowsChanged (table_of size of) (table_of size (with_thing of k shelf)) k change)
+pub HasRowsChanged-one : {S : Type 0} (size : ℕ) (of : Levels (LevelState S)) (k : ℕ) (changed : LevelState S) (change : Rows S → Rows S) → 1 ≤ k → k ≤ 6 → changed.rows ≡ change (thing_at of k).rows → HasRowsChanged (table_of size of) (table_of size (with_thing of k changed)) k change
+HasRowsChanged-one size of k changed change low high is =
+    at_each_level (λ k. changed.rows ≡ change (thing_at of k).rows → HasRowsChanged (table_of size of) (table_of size (with_thing of k changed)) k change)
     (λ is. at_each_level _ is refl refl refl refl refl)
     (λ is. at_each_level _ refl is refl refl refl refl)
     (λ is. at_each_level _ refl refl is refl refl refl)

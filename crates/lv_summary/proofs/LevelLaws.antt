@@ -5,9 +5,10 @@ use Rattle.std.proofs.lemmas.List.{get_or-append_right, get_or-replicate, get_or
 use Rattle.std.proofs.lemmas.List.Elements.{All-append, All-nil, All-replicate, All-set}
 use Rattle.std.proofs.lemmas.Option.{slice_get-get_or, slice_get_past}
 use Rattle.lv_geometry.proofs.NodeLaws.{covers_more}
-use Rattle.lv_edits.proofs.Slices.{there_is}
+use Rattle.lv_geometry.proofs.Ranges.{there_is}
 use Rattle.lv_summary.specs.Inner.{IsLevel, filled, lengthened, with_kept, with_learnt, with_touch}
-use Rattle.lv_summary.specs.Table.{Rows, beside, no_rows}
+use Rattle.lv_summary.specs.Changes.{beside}
+use Rattle.lv_summary.specs.Table.{Rows, no_rows}
 
 -- the edit that the row of a number says, 0 where there is no such row
 abbrev pub touched_at : {S : Type 0} → Rows S → ℕ → ℕ

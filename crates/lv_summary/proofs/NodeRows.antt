@@ -8,7 +8,7 @@ use Rattle.std.proofs.lemmas.Nat.{div_below}
 use Rattle.lv_geometry.specs.declared.nodes.Node.{Node}
 use Rattle.lv_geometry.specs.Nodes.{is_below, is_node}
 use Rattle.lv_geometry.proofs.NodeLaws.{level_of_node, number_below, some_width}
-use Rattle.lv_edits.proofs.Slices.{there_is}
+use Rattle.lv_geometry.proofs.Ranges.{there_is}
 use Rattle.lv_summary.specs.Inner.{IsLevelOf, IsRowOf, IsSound}
 use Rattle.lv_summary.specs.Table.{Rows, Table, blocks_in, computed_in, entry_in, fresh_in, has_version, is_computed_in, kept_in, known_entry_in, known_in, no_rows, rows_for, touched_in, whole_in}
 use Rattle.lv_summary.proofs.TableLaws.{known_entry_in-computed, known_entry_in-fresh, node_of_whole}

@@ -5,7 +5,8 @@ use Rattle.std.proofs.lemmas.Option.{none-some, same_Some}
 use Rattle.lv_geometry.specs.declared.nodes.Node.{Node}
 use Rattle.lv_geometry.specs.Nodes.{covers, is_below, is_node, same_node}
 use Rattle.lv_summary.specs.declared.accepted.Accepted.TheVariants.{Held, Installed, Stale}
-use Rattle.lv_summary.specs.Table.{AnswersAlike, HasSize, Keeps, Learns, OnlyLearns, Table, Touches, beside, computed_entry_in, computed_in, delivery_in, entry_in, fresh_in, has_version, is_computed_in, kept_in, known_entry_in, known_in, touched_in, whole_in}
+use Rattle.lv_summary.specs.Changes.{AnswersAlike, HasSize, Keeps, Learns, OnlyLearns, Touches, beside}
+use Rattle.lv_summary.specs.Table.{Table, computed_entry_in, computed_in, delivery_in, entry_in, fresh_in, has_version, is_computed_in, kept_in, known_entry_in, known_in, touched_in, whole_in}
 
 -- a node is itself
 pub same_node-self : (n : Node) → same_node n n ≡ true

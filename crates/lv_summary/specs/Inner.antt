@@ -7,7 +7,7 @@ use Rattle.lv_geometry.specs.Nodes.{is_node}
 use Rattle.lv_summary.specs.Table.{Rows, Table, blocks_in, no_rows, rows_for, whole_in}
 
 -- one level: its rows, and for how many of them it has memory
-pub record Shelf (S : Type 0) : Type 0 where
+pub record LevelState (S : Type 0) : Type 0 where
   pub rows : Rows S
   pub capacity : ℕ
 
@@ -40,7 +40,7 @@ with_learnt rows number s =
     record rows { computed = slice_set rows.computed number (slice_index rows.touched number + 1); kept = slice_set rows.kept number s }
 
 -- a table of six levels
-abbrev pub table_of : {S : Type 0} → ℕ → Levels (Shelf S) → Table S
+abbrev pub table_of : {S : Type 0} → ℕ → Levels (LevelState S) → Table S
 table_of size of =
     record {
       size = size;

@@ -1,3 +1,3 @@
-pub mod Agrees
+pub mod Changes
 pub mod Inner
 pub mod Table

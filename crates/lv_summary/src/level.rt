@@ -17,9 +17,9 @@ pub struct Level<S> {
 
 impl<S> Model for Level<S> {
     ghost use Rattle.std.specs.Prelude.{min, vec_capacity};
-    ghost use Rattle.lv_summary.specs.Inner.{Shelf};
+    ghost use Rattle.lv_summary.specs.Inner.{LevelState};
 
-    ghost Value = { Shelf S };
+    ghost Value = { LevelState S };
 
     ghost view = { λ a. record { rows = record { touched = a.touched.items; stamps = a.stamps.items; computed = a.computed.items; kept = a.kept.items }; capacity = min (min (vec_capacity a.touched) (vec_capacity a.stamps)) (min (vec_capacity a.computed) (vec_capacity a.kept)) } };
 }

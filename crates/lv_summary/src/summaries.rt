@@ -1,7 +1,8 @@
 ghost use Rattle.std.specs.Prelude.{◌≡◌, ◌/◌, ◌*◌, ◌<◌, ◌≤◌, true, false, option_map, None, IfSome, IfNone, OnOk, OnErr, IfErr};
 ghost use Rattle.lv_geometry.specs.Nodes.{is_node};
 ghost use Rattle.lv_summary.specs.Inner.{IsLevelOf, IsRowOf};
-ghost use Rattle.lv_summary.specs.Table.{AfterDelivery, AnswersAlike, HasSize, Keeps, Learns, Touches, blocks_in, computed_in, delivery_in, entry_in, fresh_in, kept_in, known_entry_in, touched_in, whole_in};
+ghost use Rattle.lv_summary.specs.Changes.{AfterDelivery, AnswersAlike, HasSize, Keeps, Learns, Touches};
+ghost use Rattle.lv_summary.specs.Table.{blocks_in, computed_in, delivery_in, entry_in, fresh_in, kept_in, known_entry_in, touched_in, whole_in};
 
 use crate::accepted::Accepted;
 use crate::level::Level;

@@ -6,13 +6,13 @@ use Rattle.lv_script.specs.declared.transcripts.Claimed.{Claimed}
 use Rattle.lv_refresh.specs.Record.{is_fresh}
 use Rattle.lv_live.specs.State.{recorded}
 use Rattle.lv_script.specs.Texts.{answer_text, refused_text}
-use Rattle.lv_hub.specs.Counting.{Holding}
+use Rattle.lv_hub.specs.Counting.{ShareState}
 use Rattle.lv_hub.specs.Session.{session_at, up_to}
 use Rattle.lv_hub.proofs.AskedLaws.{counted, refused_as_reduction, told_as_reduction}
 use Rattle.lv_hub.proofs.replying.put_reduction.Goals as goal
 
 -- a state whose share saw more, and whose list became this
-seen_and_listed : (old new : Holding) (claims listed : List Claimed) → new ≡ record old { seen = new.seen } → session_at new listed ≡ record (up_to (session_at old claims) new.seen) { claims = listed }
+seen_and_listed : (old new : ShareState) (claims listed : List Claimed) → new ≡ record old { seen = new.seen } → session_at new listed ≡ record (up_to (session_at old claims) new.seen) { claims = listed }
 seen_and_listed old new claims listed is = ap (λ h. session_at h listed) is
 
 pub returns-in-Ok-push-clause-answer : goal.returns-in-Ok-push-clause-answer

@@ -5,7 +5,7 @@ use Rattle.lv_geometry.proofs.NodeLaws.{some_width}
 use Rattle.lv_geometry.specs.Nodes.{over}
 use Rattle.lv_edits.specs.History.{list_of}
 use Rattle.lv_summary.specs.Table.{whole_in}
-use Rattle.lv_summary.proofs.FoldableLaws.{can_fold}
+use Rattle.lv_known.proofs.FoldableLaws.{can_fold}
 use Rattle.lv_reduce.specs.Asked.{Knows}
 use Rattle.lv_reduce.proofs.AskLaws.{asks_can_grow, asks_cell, asks_few, asks_known, asks_node, asks_none, node_can_join, node_whole}
 use Rattle.lv_reduce.proofs.ScanLaws.{fold_of-slice-more}

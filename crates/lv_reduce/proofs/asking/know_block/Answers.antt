@@ -1,6 +1,6 @@
 use Rattle.std.proofs.Common.{◌∙◌, ap}
 use Rattle.lv_bodies.specs.Body.{fold_of}
-use Rattle.lv_summary.proofs.FoldableLaws.{can_fold}
+use Rattle.lv_known.proofs.FoldableLaws.{can_fold}
 use Rattle.lv_reduce.proofs.KnowLaws.{knows_block}
 use Rattle.lv_reduce.proofs.asking.know_block.Goals as goal
 

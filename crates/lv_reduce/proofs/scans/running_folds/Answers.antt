@@ -3,7 +3,7 @@ use Rattle.std.specs.Int.{w64}
 use Rattle.std.proofs.lemmas.Int.{to_z-of_z}
 use Rattle.lv_edits.specs.History.{list_of}
 use Rattle.lv_edits.proofs.Slices.{slice_range-more}
-use Rattle.lv_summary.proofs.FoldableLaws.{can_fold}
+use Rattle.lv_known.proofs.FoldableLaws.{can_fold}
 use Rattle.lv_reduce.specs.Running.{reached, scan_from}
 use Rattle.lv_reduce.proofs.PieceLaws.{slice_can_go_on, slice_range-run, slice_scanned}
 use Rattle.lv_reduce.proofs.scans.running_folds.Goals as goal

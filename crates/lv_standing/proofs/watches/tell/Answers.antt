@@ -1,8 +1,8 @@
 use Rattle.std.proofs.Common.{◌≡◌, ◌∙◌, IfSome, ◌+◌, ap, sym, arith, length, drop, vec_capacity, ◌<◌}
-use Rattle.lv_edits.specs.Kept.{InLimits}
+use Rattle.lv_edits.specs.Kept.{IsLegalInLimits}
 use Rattle.lv_standing.specs.Inner.{IsOfRange, IsPushed, SameElsewhere, asked}
 use Rattle.lv_standing.specs.Standings.{IsCurrent}
-use Rattle.lv_edits.proofs.Slices.{there_is}
+use Rattle.lv_geometry.proofs.Ranges.{there_is}
 use Rattle.lv_standing.proofs.EntryLaws.{all_at, asked_more, rest_is}
 use Rattle.lv_standing.proofs.NoteLaws.{as_before, as_long, told_entries, told_notes, told_room}
 use Rattle.lv_standing.proofs.SameLaws.{same_live-along}
@@ -16,7 +16,7 @@ tell_one-requires g c =
     let same : length c.loop-i.watches.entries ≡ length all = as_long new all c.loop-i.watches.entries c.loop-i.i inside c.loop-i.invariant.entries in
     let kept = as_before new all c.loop-i.watches.entries c.loop-i.i inside c.loop-i.invariant.entries in
     let still = c.loop-i.invariant.live.history in
-    let limits : InLimits c.loop-i.live.history = rw still c.requires.0 in
+    let limits : IsLegalInLimits c.loop-i.live.history = rw still c.requires.0 in
     let elsewhere : SameElsewhere c.args.changed g.old c.loop-i.live.history.journal = rw still c.requires.1.1.0 in
     let pushed : IfSome c.args.pushed (IsPushed c.args.changed g.old c.loop-i.live.history.journal) = rw still c.requires.1.1.1.0 in
     let last : IfSome c.loop-i.last (IsOfRange c.loop-i.live.history.journal) = rw still c.loop-i.invariant.last in (

@@ -1,6 +1,6 @@
 use Rattle.std.proofs.Common.{◌≡◌, ◌∙◌, Some, false, true, rules, subst, sym}
 use Rattle.lv_edits.specs.History.{list_of}
-use Rattle.lv_summary.proofs.FoldableLaws.{part_can_fold}
+use Rattle.lv_known.proofs.FoldableLaws.{part_can_fold}
 use Rattle.lv_standing.specs.Inner.{IsToldAt, has_changed}
 use Rattle.lv_standing.proofs.NoteLaws.{told_change, told_nothing}
 use Rattle.lv_standing.proofs.RangeLaws.{pushed_inside, range_can_fold}

@@ -1,5 +1,4 @@
-use Rattle.lv_edits.proofs.HoldsLaws.{InLimits-held}
 use Rattle.lv_edits.proofs.edits.Edits.apply.Goals as goal
 
 pub returns-in-Some-clause-limits : goal.returns-in-Some-clause-limits
-returns-in-Some-clause-limits c = rw (← c.self.view_is) (InLimits-held _ _ c.self.invariant)
+returns-in-Some-clause-limits c = rw (← c.self.view_is) c.self.invariant.kept

@@ -1,10 +1,15 @@
+use Rattle.std.proofs.Common.{◌∙◌}
 use Rattle.lv_edits.proofs.CapacityLaws.{IsCapacityAfter-needed}
-use Rattle.lv_edits.proofs.HoldsLaws.{InLimits-held}
+use Rattle.lv_edits.proofs.HoldsLaws.{capacity_held}
 use Rattle.lv_edits.proofs.edits.Edits.capacity.Goals as goal
+
+pub returns-clause-value : goal.returns-clause-value
+returns-clause-value c =
+    rw (← c.self.view_is, c.capacity.ensures.value, c.buckets.ensures.value) (capacity_held _ _ c.self.invariant)
 
 pub returns-clause-least : goal.returns-clause-least
 returns-clause-least c =
     rw (← c.self.view_is, c.capacity.ensures.value, c.buckets.ensures.value) (IsCapacityAfter-needed c.self.inside.journal.items c.self.inside.store.buckets c.self.invariant.needed)
 
 pub returns-clause-limits : goal.returns-clause-limits
-returns-clause-limits c = rw (← c.self.view_is) (InLimits-held _ _ c.self.invariant)
+returns-clause-limits c = rw (← c.self.view_is) c.self.invariant.kept

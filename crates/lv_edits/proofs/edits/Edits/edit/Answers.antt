@@ -1,5 +1,4 @@
-use Rattle.lv_edits.proofs.HoldsLaws.{InLimits-held}
 use Rattle.lv_edits.proofs.edits.Edits.edit.Goals as goal
 
 pub returns-clause-limits : goal.returns-clause-limits
-returns-clause-limits c = rw (← c.self.view_is) (InLimits-held _ _ c.self.invariant)
+returns-clause-limits c = rw (← c.self.view_is) c.self.invariant.kept

@@ -4,7 +4,7 @@ use Rattle.std.proofs.lemmas.Int.{to_z-of_z}
 use Rattle.lv_edits.specs.declared.edit.Edit.TheVariants.{Pop}
 use Rattle.lv_edits.specs.History.{list_of}
 use Rattle.lv_edits.specs.Verdict.{verdict_of}
-use Rattle.lv_edits.proofs.HoldsLaws.{InLimits-alike, InLimits-held, fits_held, pop_fits, pop_held, read_held, size_held}
+use Rattle.lv_edits.proofs.HoldsLaws.{IsLegalInLimits-alike, fits_held, pop_fits, pop_held, read_held, size_held}
 use Rattle.lv_edits.proofs.edits.Edits.make_pop.Goals as goal
 use Rattle.lv_edits.proofs.edits.Edits.make_pop.Goals.{After-size-last}
 
@@ -27,7 +27,7 @@ read-value-requires c = omega (arith, (last (goal.at.read-value-requires c).Afte
 pub returns-in_err-make_room-clause-limits : goal.returns-in_err-make_room-clause-limits
 returns-in_err-make_room-clause-limits c =
     let e = c.in_err-make_room.ensures in
-    rw e.journal (InLimits-alike _ _ _ c.self.invariant e.alike)
+    rw e.journal (IsLegalInLimits-alike _ _ _ c.self.invariant e.alike)
 
 pub invariant_of-self-2 : goal.invariant_of-self-2
 invariant_of-self-2 c =
@@ -53,4 +53,4 @@ returns-clause-answer c =
     }
 
 pub returns-clause-limits : goal.returns-clause-limits
-returns-clause-limits c = InLimits-held _ _ (invariant_of-self-2 c)
+returns-clause-limits c = (invariant_of-self-2 c).kept

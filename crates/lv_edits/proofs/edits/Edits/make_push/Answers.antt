@@ -5,7 +5,7 @@ use Rattle.lv_geometry.specs.Cells.{capacity_of}
 use Rattle.lv_geometry.proofs.Capacities.{capacity_of_most}
 use Rattle.lv_edits.specs.declared.edit.Edit.TheVariants.{Push}
 use Rattle.lv_edits.specs.Verdict.{verdict_of}
-use Rattle.lv_edits.proofs.HoldsLaws.{InLimits-alike, InLimits-held, push_fits, push_held, size_held}
+use Rattle.lv_edits.proofs.HoldsLaws.{IsLegalInLimits-alike, push_fits, push_held, size_held}
 use Rattle.lv_edits.proofs.edits.Edits.make_push.Goals as goal
 use Rattle.lv_edits.proofs.edits.Edits.make_push.Goals.{After-size-index}
 
@@ -29,7 +29,7 @@ make_room-requires-clause-few c = (fits (goal.at.make_room-requires-clause-few c
 pub returns-in_err-make_room-clause-limits : goal.returns-in_err-make_room-clause-limits
 returns-in_err-make_room-clause-limits c =
     let e = c.in_err-make_room.ensures in
-    rw e.journal (InLimits-alike _ _ _ c.self.invariant e.alike)
+    rw e.journal (IsLegalInLimits-alike _ _ _ c.self.invariant e.alike)
 
 pub overflow_add-index-2 : goal.overflow_add-index-2
 overflow_add-index-2 c = omega (arith, (fits (goal.at.overflow_add-index-2 c).After-size-index).1)
@@ -62,4 +62,4 @@ returns-clause-answer c =
     }
 
 pub returns-clause-limits : goal.returns-clause-limits
-returns-clause-limits c = InLimits-held _ _ (invariant_of-self-2 c)
+returns-clause-limits c = (invariant_of-self-2 c).kept

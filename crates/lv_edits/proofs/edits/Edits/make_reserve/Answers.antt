@@ -2,7 +2,7 @@ use Rattle.std.proofs.Common.{◌≡◌, ◌+◌, None, ap, ◌∙◌}
 use Rattle.lv_edits.specs.declared.edit.Edit.TheVariants.{Reserve}
 use Rattle.lv_edits.specs.Capacity.{capacity_after}
 use Rattle.lv_edits.specs.Verdict.{verdict_of}
-use Rattle.lv_edits.proofs.HoldsLaws.{InLimits-alike, InLimits-held, reserve_fits, reserve_held}
+use Rattle.lv_edits.proofs.HoldsLaws.{capacity_held, IsLegalInLimits-alike, reserve_fits, reserve_held}
 use Rattle.lv_edits.proofs.edits.Edits.make_reserve.Goals as goal
 use Rattle.lv_edits.proofs.edits.Edits.make_reserve.Goals.{After-self}
 
@@ -16,7 +16,7 @@ make_room-requires-clause-few c = reserve_fits _ _ c.args.cells c.self.invariant
 pub returns-in_err-make_room-clause-limits : goal.returns-in_err-make_room-clause-limits
 returns-in_err-make_room-clause-limits c =
     let e = c.in_err-make_room.ensures in
-    rw e.journal (InLimits-alike _ _ _ c.self.invariant e.alike)
+    rw e.journal (IsLegalInLimits-alike _ _ _ c.self.invariant e.alike)
 
 pub invariant_of-self-2 : goal.invariant_of-self-2
 invariant_of-self-2 c =
@@ -30,7 +30,7 @@ returns-clause-answer c =
     let held = c.self.invariant in
     let edits = rw e.journal at c.append.ensures in
     let number = c.edit.ensures.value ∙ ap (λ s. s.descriptor.edit) c.announce.ensures.state ∙ ap (λ n. n + 1) (e.alike.edit ∙ held.edit) in
-    let cells = c.capacity.ensures.value ∙ rw c.buckets.ensures.value ((invariant_of-self-2 c).replay.opened) ∙ ap capacity_after edits in
+    let cells = c.capacity.ensures.value ∙ rw c.buckets.ensures.value (capacity_held _ _ (invariant_of-self-2 c)) ∙ ap capacity_after edits in
     rw (← c.self.view_is) record {
       verdict = free (goal.at.returns-clause-answer c).After-self;
       receipt_is = rw (number, cells);
@@ -38,4 +38,4 @@ returns-clause-answer c =
     }
 
 pub returns-clause-limits : goal.returns-clause-limits
-returns-clause-limits c = InLimits-held _ _ (invariant_of-self-2 c)
+returns-clause-limits c = (invariant_of-self-2 c).kept

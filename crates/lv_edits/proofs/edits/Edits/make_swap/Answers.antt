@@ -3,7 +3,7 @@ use Rattle.std.specs.Int.{w64}
 use Rattle.std.proofs.lemmas.Int.{to_z-of_z}
 use Rattle.lv_edits.specs.declared.edit.Edit.TheVariants.{Swap}
 use Rattle.lv_edits.specs.Verdict.{verdict_of}
-use Rattle.lv_edits.proofs.HoldsLaws.{InLimits-alike, InLimits-held, fits_held, read_held, second_apart, swap_fits, swap_held}
+use Rattle.lv_edits.proofs.HoldsLaws.{IsLegalInLimits-alike, fits_held, read_held, second_apart, swap_fits, swap_held}
 use Rattle.lv_edits.proofs.edits.Edits.make_swap.Goals as goal
 use Rattle.lv_edits.proofs.edits.Edits.make_swap.Goals.{After-self}
 
@@ -24,7 +24,7 @@ read-after-requires c = omega (arith, (inside (goal.at.read-after-requires c).Af
 pub returns-in_err-make_room-clause-limits : goal.returns-in_err-make_room-clause-limits
 returns-in_err-make_room-clause-limits c =
     let e = c.in_err-make_room.ensures in
-    rw e.journal (InLimits-alike _ _ _ c.self.invariant e.alike)
+    rw e.journal (IsLegalInLimits-alike _ _ _ c.self.invariant e.alike)
 
 pub announce-requires-clause-index : goal.announce-requires-clause-index
 announce-requires-clause-index c =
@@ -67,4 +67,4 @@ returns-clause-answer c =
     }
 
 pub returns-clause-limits : goal.returns-clause-limits
-returns-clause-limits c = InLimits-held _ _ (invariant_of-self-2 c)
+returns-clause-limits c = (invariant_of-self-2 c).kept

@@ -1,7 +1,7 @@
 use Rattle.std.proofs.Common.{◌≡◌, ◌+◌, ◌≤◌, None, ap, ◌∙◌, arith}
 use Rattle.lv_edits.specs.declared.edit.Edit.TheVariants.{Truncate}
 use Rattle.lv_edits.specs.Verdict.{verdict_of}
-use Rattle.lv_edits.proofs.HoldsLaws.{InLimits-alike, InLimits-held, size_held, truncate_fits, truncate_held}
+use Rattle.lv_edits.proofs.HoldsLaws.{IsLegalInLimits-alike, size_held, truncate_fits, truncate_held}
 use Rattle.lv_edits.proofs.edits.Edits.make_truncate.Goals as goal
 use Rattle.lv_edits.proofs.edits.Edits.make_truncate.Goals.{After-self}
 
@@ -16,7 +16,7 @@ inside c = truncate_fits _ _ c.args.count c.self.invariant (free c)
 pub returns-in_err-make_room-clause-limits : goal.returns-in_err-make_room-clause-limits
 returns-in_err-make_room-clause-limits c =
     let e = c.in_err-make_room.ensures in
-    rw e.journal (InLimits-alike _ _ _ c.self.invariant e.alike)
+    rw e.journal (IsLegalInLimits-alike _ _ _ c.self.invariant e.alike)
 
 pub announce-requires-clause-size : goal.announce-requires-clause-size
 announce-requires-clause-size c =
@@ -47,4 +47,4 @@ returns-clause-answer c =
     }
 
 pub returns-clause-limits : goal.returns-clause-limits
-returns-clause-limits c = InLimits-held _ _ (invariant_of-self-2 c)
+returns-clause-limits c = (invariant_of-self-2 c).kept

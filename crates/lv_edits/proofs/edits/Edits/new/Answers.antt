@@ -1,4 +1,4 @@
-use Rattle.lv_edits.proofs.HoldsLaws.{HoldsReplay-empty, InLimits-held}
+use Rattle.lv_edits.proofs.HoldsLaws.{HoldsReplay-empty}
 use Rattle.lv_edits.proofs.edits.Edits.new.Goals as goal
 
 pub invariant_of-result : goal.invariant_of-result
@@ -6,4 +6,4 @@ invariant_of-result c =
     rw (c.new.ensures.state, c.new-2.ensures.items) (HoldsReplay-empty c.args.limits (rw c.new.ensures.state at c.new.ensures.sound))
 
 pub returns-clause-limits : goal.returns-clause-limits
-returns-clause-limits c = InLimits-held _ _ (invariant_of-result c)
+returns-clause-limits c = (invariant_of-result c).kept

@@ -1,7 +1,7 @@
 use Rattle.std.proofs.Common.{◌<◌, arith, ◌∙◌}
 use Rattle.std.specs.Int.{w64}
 use Rattle.std.proofs.lemmas.Int.{to_z-of_z}
-use Rattle.lv_edits.proofs.HoldsLaws.{InLimits-held, fits_held, read_held, size_held}
+use Rattle.lv_edits.proofs.HoldsLaws.{fits_held, read_held, size_held}
 use Rattle.lv_edits.proofs.edits.Edits.read.Goals as goal
 use Rattle.lv_edits.proofs.edits.Edits.read.Goals.{After-read}
 
@@ -23,4 +23,4 @@ returns-clause-value c =
     (c.read.ensures ∙ read_held _ _ c.args.i c.read.result held (inside c))
 
 pub returns-clause-limits : goal.returns-clause-limits
-returns-clause-limits c = rw (← c.self.view_is) (InLimits-held _ _ c.self.invariant)
+returns-clause-limits c = rw (← c.self.view_is) c.self.invariant.kept

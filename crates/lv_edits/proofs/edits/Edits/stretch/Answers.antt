@@ -1,7 +1,6 @@
 use Rattle.std.proofs.Common.{arith, length, ◌∙◌}
 use Rattle.lv_store.proofs.ElementsLaws.{range_of_elements}
-use Rattle.lv_edits.proofs.HoldsLaws.{InLimits-held, size_held}
-use Rattle.lv_edits.proofs.InnerLaws.{items_are_list}
+use Rattle.lv_edits.proofs.HoldsLaws.{size_held}
 use Rattle.lv_edits.proofs.edits.Edits.stretch.Goals as goal
 
 pub stretch-requires-clause-inside : goal.stretch-requires-clause-inside
@@ -15,8 +14,8 @@ returns-clause-elements c =
     let inside = rw (← c.self.view_is) at c.requires.inside in
     let store = c.self.inside.store in
     let count = length c.stretch.result.now in
-    rw (← c.self.view_is, items_are_list _ _ _ _ held.replay)
+    rw (← c.self.view_is, ← held.items)
     (c.stretch.ensures.items ∙ range_of_elements store c.args.from count (omega (arith, inside, c.stretch.ensures.few, size_held _ _ held)))
 
 pub returns-clause-limits : goal.returns-clause-limits
-returns-clause-limits c = rw (← c.self.view_is) (InLimits-held _ _ c.self.invariant)
+returns-clause-limits c = rw (← c.self.view_is) c.self.invariant.kept

@@ -1,7 +1,7 @@
 use Rattle.std.proofs.Common.{◌≡◌, Some, ap, rules, subst, sym, ◌∙◌}
 use Rattle.std.proofs.lemmas.Option.{same_Some}
 use mathlib.Core.List.{IsPrefix}
-use Rattle.lv_live.specs.State.{IsLive}
+use Rattle.lv_live.specs.Kept.{IsLive}
 use Rattle.lv_hub.specs.Told.{IsVector}
 use Rattle.lv_hub.proofs.ToldLaws.{reduction_told}
 use Rattle.lv_hub.proofs.hubs.Hub.reduce.Goals as goal

@@ -14,7 +14,7 @@ hint-requires c =
     let some : 1 ≤ c.args.node.level = (level_of_node c.args.node c.requires.member).0 in
     let room = hint_of_parent _ c.args.node k c.self.invariant (rw (← c.self.view_is) at c.requires.inside) (omega arith) (omega arith) c.if-above-le6.true in
     let rows = ap (λ rows. length rows.hints) (rows_at-thing c.self.inside.levels k (omega arith) c.if-above-le6.true) in
-    omega (arith, room, rows, ap (λ shelf. length shelf.rows.hints) c.at_mut.ensures.thing, ap (λ n. n.number) c.parent-above.ensures)
+    omega (arith, room, rows, ap (λ changed. length changed.rows.hints) c.at_mut.ensures.thing, ap (λ n. n.number) c.parent-above.ensures)
 
 pub invariant_of-self : goal.invariant_of-self
 invariant_of-self c =

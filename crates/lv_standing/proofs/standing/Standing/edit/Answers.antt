@@ -4,7 +4,7 @@ use Rattle.std.proofs.lemmas.List.{length-map}
 use Rattle.lv_bodies.specs.Body.{CanFold}
 use Rattle.lv_edits.specs.declared.edit.Edit.{Edit}
 use Rattle.lv_edits.specs.History.{History, list_of}
-use Rattle.lv_summary.proofs.FoldableLaws.{can_fold}
+use Rattle.lv_known.proofs.FoldableLaws.{can_fold}
 use Rattle.lv_standing.specs.declared.changes.Changed.{Changed}
 use Rattle.lv_standing.specs.Inner.{IsPushed, changed_by, has_changed, pushed_by, refreshed}
 use Rattle.lv_standing.specs.Standings.{IsCurrent, queries_of, query_at}

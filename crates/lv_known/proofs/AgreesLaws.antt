@@ -10,11 +10,12 @@ use Rattle.lv_geometry.specs.Nodes.{covers, is_below, is_node, same_node}
 use Rattle.lv_bodies.specs.Body.{Operations, fold_of}
 use Rattle.lv_edits.specs.declared.edit.Edit.{Edit}
 use Rattle.lv_edits.specs.History.{applied, list_of, replayed}
-use Rattle.lv_edits.specs.Touch.{cells_of, indices_written, is_whole, touches}
+use Rattle.lv_edits.specs.Touch.{elements_under, indices_written, is_whole, touches}
 use Rattle.lv_edits.proofs.HistoryLaws.{list_of_replayed, list_of-snoc, replayed-nil}
 use Rattle.lv_edits.proofs.TouchLaws.{touched_by-le, touched_by-none, touched_by-snoc, untouched_keeps}
-use Rattle.lv_summary.specs.Agrees.{Agrees}
-use Rattle.lv_summary.specs.Table.{AnswersAlike, HasSize, Keeps, Learns, OnlyLearns, Table, Touches, TouchesEach, computed_in, entry_in, kept_in, known_entry_in, touched_in, whole_in}
+use Rattle.lv_known.specs.Agrees.{Agrees}
+use Rattle.lv_summary.specs.Changes.{AnswersAlike, HasSize, Keeps, Learns, OnlyLearns, Touches, TouchesEach}
+use Rattle.lv_summary.specs.Table.{Table, computed_in, entry_in, kept_in, known_entry_in, touched_in, whole_in}
 use Rattle.lv_summary.proofs.TableLaws.{entry_in-kept, entry_of_fresh, fresh_of_entry, known_entry_in-fresh, known_entry_in-learnt, known_entry_in-learnt_other, known_entry_in-same, known_parts, learns_only, node_of_whole, same_node-eq, version_before, whole_in-size}
 
 -- what an edit makes of a table: it has the size of the list, and the nodes that the edit touches have its number; what is
@@ -90,7 +91,7 @@ module _ {S : Type 0} (o : Operations S) where
       }
 
   -- a table agrees after the fold of a whole node's elements was put in place, at the number of the edit that touched it last
-  pub agrees_installed : (es : List Edit) (old new : Table S) (n : Node) (v : ℕ) (s : S) → Agrees o es old → Keeps old new n v s → whole_in old n ≡ true → touched_in old n ≡ v → s ≡ fold_of o (cells_of es n) → Agrees o es new
+  pub agrees_installed : (es : List Edit) (old new : Table S) (n : Node) (v : ℕ) (s : S) → Agrees o es old → Keeps old new n v s → whole_in old n ≡ true → touched_in old n ≡ v → s ≡ fold_of o (elements_under es n) → Agrees o es new
   agrees_installed es old new n v s agrees keeps whole touched folded =
       record {
         size = keeps.size ∙ agrees.size;
@@ -112,7 +113,7 @@ module _ {S : Type 0} (o : Operations S) where
               let one = same_node-eq m n same in
               let entry = entry_in-kept old new n v s keeps whole touched in
               let here : known_entry_in new n ≡ Some s' = ap (known_entry_in new) (sym one) ∙ is in
-              same_Some _ _ (sym here ∙ known_entry_in-fresh new n (fresh_of_entry new n s entry) ∙ entry) ∙ folded ∙ ap (λ m. fold_of o (cells_of es m)) (sym one)
+              same_Some _ _ (sym here ∙ known_entry_in-fresh new n (fresh_of_entry new n s entry) ∙ entry) ∙ folded ∙ ap (λ m. fold_of o (elements_under es m)) (sym one)
           | inr other ↦
               agrees.folds m s'
               (sym (known_entry_in-same old new m (whole_in-size old new keeps.size m) (keeps.touched m) (keeps.kept m ∙ cond-false _ _ _ other) (keeps.computed m ∙ cond-false _ _ _ other)).1 ∙ is)
@@ -120,11 +121,11 @@ module _ {S : Type 0} (o : Operations S) where
       }
 
   -- the summary of a fresh node is the fold of its elements
-  pub entry_folds : (es : List Edit) (t : Table S) → Agrees o es t → (n : Node) (s : S) → entry_in t n ≡ Some s → s ≡ fold_of o (cells_of es n)
+  pub entry_folds : (es : List Edit) (t : Table S) → Agrees o es t → (n : Node) (s : S) → entry_in t n ≡ Some s → s ≡ fold_of o (elements_under es n)
   entry_folds es t agrees n s is = agrees.folds n s (known_entry_in-fresh t n (fresh_of_entry t n s is) ∙ is)
 
   -- a table agrees after it learnt the fold of a whole node's elements
-  pub agrees_learnt : (es : List Edit) (old new : Table S) (n : Node) (s : S) → Agrees o es old → Learns old new n s → whole_in old n ≡ true → s ≡ fold_of o (cells_of es n) → Agrees o es new
+  pub agrees_learnt : (es : List Edit) (old new : Table S) (n : Node) (s : S) → Agrees o es old → Learns old new n s → whole_in old n ≡ true → s ≡ fold_of o (elements_under es n) → Agrees o es new
   agrees_learnt es old new n s agrees learns whole folded =
       record {
         size = learns.size ∙ agrees.size;
@@ -145,13 +146,13 @@ module _ {S : Type 0} (o : Operations S) where
           | inl same ↦
               let one = same_node-eq m n same in
               let here : known_entry_in new n ≡ Some s' = ap (known_entry_in new) (sym one) ∙ is in
-              same_Some _ _ (sym here ∙ known_entry_in-learnt old new n s learns whole) ∙ folded ∙ ap (λ m. fold_of o (cells_of es m)) (sym one)
+              same_Some _ _ (sym here ∙ known_entry_in-learnt old new n s learns whole) ∙ folded ∙ ap (λ m. fold_of o (elements_under es m)) (sym one)
           | inr other ↦ agrees.folds m s' (sym (known_entry_in-learnt_other old new n s learns m other).1 ∙ is)
         ];
       }
 
   -- and all that was delivered is as before
-  pub agreeing_learns_only : (es : List Edit) (old new : Table S) (n : Node) (s : S) → Agrees o es old → Learns old new n s → whole_in old n ≡ true → s ≡ fold_of o (cells_of es n) → OnlyLearns old new
+  pub agreeing_learns_only : (es : List Edit) (old new : Table S) (n : Node) (s : S) → Agrees o es old → Learns old new n s → whole_in old n ≡ true → s ≡ fold_of o (elements_under es n) → OnlyLearns old new
   agreeing_learns_only es old new n s agrees learns whole folded =
       learns_only old new n s learns whole (λ fresh.
       let entry = entry_of_fresh old n fresh in
@@ -166,7 +167,7 @@ module _ {S : Type 0} (o : Operations S) where
       ]
 
   -- a summary that a table knows after an edit it knew before, and it is still the fold of its node's elements
-  fold_after : (es : List Edit) (e : Edit) (ys : List ℤ) (old new : Table S) → replayed es ≡ Some (list_of es) → applied (list_of es) e ≡ Some ys → Agrees o es old → IsStep es e ys old new → (n : Node) (s : S) → known_entry_in new n ≡ Some s → s ≡ fold_of o (cells_of (es ++ e ∷ []) n)
+  fold_after : (es : List Edit) (e : Edit) (ys : List ℤ) (old new : Table S) → replayed es ≡ Some (list_of es) → applied (list_of es) e ≡ Some ys → Agrees o es old → IsStep es e ys old new → (n : Node) (s : S) → known_entry_in new n ≡ Some s → s ≡ fold_of o (elements_under (es ++ e ∷ []) n)
   fold_after es e ys old new legal possible agrees step n s is =
       let parts = known_parts new n s is in
       let node = node_of_whole new n parts.0 in

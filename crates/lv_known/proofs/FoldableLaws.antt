@@ -5,10 +5,10 @@ use Rattle.std.proofs.lemmas.List.Elements.{All-drop, All-take}
 use Rattle.lv_geometry.specs.Elements.{IsElement}
 use Rattle.lv_bodies.specs.Body.{CanFold}
 use Rattle.lv_edits.specs.History.{History, list_of}
-use Rattle.lv_edits.specs.Kept.{InLimits}
+use Rattle.lv_edits.specs.Kept.{IsLegalInLimits}
 
 -- the elements of a vector can be folded
-pub can_fold : (h : History) → InLimits h → CanFold (list_of h.journal)
+pub can_fold : (h : History) → IsLegalInLimits h → CanFold (list_of h.journal)
 can_fold h limits = record { few = omega (arith, limits.few); elements = limits.elements }
 
 -- a part of what can be folded can be folded

@@ -1,0 +1,2 @@
+pub mod AgreesLaws
+pub mod FoldableLaws
