@@ -18,18 +18,40 @@ const KINDS: [&str; 6] = ["sum", "least", "greatest", "best", "affine", "automat
 
 /// The command line of the program.
 pub fn command<'a>(alloc: Global) -> Result<Command<'a>, AllocError> {
-    Command::new(alloc, "livevec")
-        .bin_name("livevec")?
-        .version(help::VERSION)
-        .about(help::ABOUT)
-        .after_help(help::STATUSES)
-        .subcommand_required(true)
-        .arg_required_else_help(true)
-        .subcommand(run(alloc)?)?
-        .subcommand(serve(alloc)?)?
-        .subcommand(board(alloc)?)?
-        .subcommand(schedule(alloc)?)?
-        .subcommand(audit(alloc))
+    let command = with_command(heading(alloc), run(alloc));
+    let command = with_command(command, serve(alloc));
+    let command = with_command(command, board(alloc));
+    let command = with_command(command, schedule(alloc));
+    with_command(command, Ok(audit(alloc)))
+}
+
+// What stands above the commands.
+fn heading<'a>(alloc: Global) -> Result<Command<'a>, AllocError> {
+    Ok(
+        Command::new(alloc, "livevec")
+            .bin_name("livevec")?
+            .version(help::VERSION)
+            .about(help::ABOUT)
+            .after_help(help::STATUSES)
+            .subcommand_required(true)
+            .arg_required_else_help(true),
+    )
+}
+
+// A command with one more below it, where there was memory for both.
+fn with_command<'a>(
+    command: Result<Command<'a>, AllocError>,
+    below: Result<Command<'a>, AllocError>,
+) -> Result<Command<'a>, AllocError> {
+    command?.subcommand(below?)
+}
+
+// A command with one more argument, where there was memory for it.
+fn with_arg<'a>(
+    command: Result<Command<'a>, AllocError>,
+    arg: Arg<'a>,
+) -> Result<Command<'a>, AllocError> {
+    command?.arg(arg)
 }
 
 /// The limits that a command's options say, the greatest where they say nothing.
@@ -93,44 +115,44 @@ fn limits_of(buckets: u32, edits: u32) -> Limits
 
 // `livevec run`.
 fn run<'a>(alloc: Global) -> Result<Command<'a>, AllocError> {
-    Command::new(alloc, "run")
+    let command = Command::new(alloc, "run")
         .about(help::RUN)
-        .after_help(help::LINES)
-        .arg(buckets(alloc))?
-        .arg(edits(alloc))
+        .after_help(help::LINES);
+    let command = with_arg(Ok(command), buckets(alloc));
+    with_arg(command, edits(alloc))
 }
 
 // `livevec serve`.
 fn serve<'a>(alloc: Global) -> Result<Command<'a>, AllocError> {
-    Command::new(alloc, "serve")
+    let command = Command::new(alloc, "serve")
         .about(help::SERVE)
-        .after_help(help::SESSIONS)
-        .arg(workers(alloc))?
-        .arg(turns(alloc))?
-        .arg(buckets(alloc))?
-        .arg(edits(alloc))?
-        .arg(files(alloc).num_args(1..=16))
+        .after_help(help::SESSIONS);
+    let command = with_arg(Ok(command), workers(alloc));
+    let command = with_arg(command, turns(alloc));
+    let command = with_arg(command, buckets(alloc));
+    let command = with_arg(command, edits(alloc));
+    with_arg(command, files(alloc).num_args(1..=16))
 }
 
 // `livevec board`.
 fn board<'a>(alloc: Global) -> Result<Command<'a>, AllocError> {
-    Command::new(alloc, "board")
+    let command = Command::new(alloc, "board")
         .about(help::BOARD)
-        .after_help(help::TRIES)
-        .arg(body(alloc))?
-        .arg(few_buckets(alloc))?
-        .arg(edits(alloc))?
-        .arg(files(alloc).num_args(1..=8))
+        .after_help(help::TRIES);
+    let command = with_arg(Ok(command), body(alloc));
+    let command = with_arg(command, few_buckets(alloc));
+    let command = with_arg(command, edits(alloc));
+    with_arg(command, files(alloc).num_args(1..=8))
 }
 
 // `livevec schedule`.
 fn schedule<'a>(alloc: Global) -> Result<Command<'a>, AllocError> {
-    Command::new(alloc, "schedule")
+    let command = Command::new(alloc, "schedule")
         .about(help::SCHEDULE)
-        .after_help(help::EVENTS)
-        .arg(actor_count(alloc))?
-        .arg(few_buckets(alloc))?
-        .arg(edits(alloc))
+        .after_help(help::EVENTS);
+    let command = with_arg(Ok(command), actor_count(alloc));
+    let command = with_arg(command, few_buckets(alloc));
+    with_arg(command, edits(alloc))
 }
 
 // `livevec audit`.

@@ -93,21 +93,23 @@ fn nothing(alloc: Global) -> Object {
     })
 }
 
+// What is left of an object that is closed, if it is a board, and what that answers.
+fn close_object(alloc: Global, object: Object) -> (Object, Count)
+    ensures { ClosesObject result.1 object result.0 }
+{
+    match object {
+        Object::Board(board) => close_board(alloc, board),
+        other => (other, uncounted()),
+    }
+}
+
 // Closes an object that is a board.
 fn close_of(alloc: Global, object: &mut Object) -> Count
     ensures { ClosesObject result object.old object.new }
 {
-    match mem::replace(object, nothing(alloc)) {
-        Object::Board(board) => {
-            let (left, answer) = close_board(alloc, board);
-            *object = left;
-            answer
-        }
-        other => {
-            *object = other;
-            uncounted()
-        }
-    }
+    let (left, answer) = close_object(alloc, mem::replace(object, nothing(alloc)));
+    *object = left;
+    answer
 }
 
 /// Closes a board that nobody has a seat of any more. Its slot holds what the vector was then.

@@ -130,22 +130,38 @@ fn claim_answer(node: Node, version: u32) -> Claimed
     }
 }
 
+// A box with another object in it.
+fn refilled(room: Box<Object>, object: Object) -> Box<Object>
+    ensures { result.value ≡ object }
+{
+    let mut room = room;
+    *room = object;
+    room
+}
+
+// A claim of a vector, for an empty slot and a box.
+fn claim_into(live: &mut Live<SixByTable>, room: Box<Object>, job: &mut Slot) -> Claimed
+    requires { job.old.raw.inner ≡ None }
+    ensures { ClaimsVector result live.old live.new job.new.raw.inner }
+{
+    match live.claim() {
+        None => not_claimed(0),
+        Some(found) => {
+            let answer = claim_answer(found.node(), found.version());
+            put(job, refilled(room, Object::Job(found)));
+            answer
+        }
+    }
+}
+
 // A claim of a vector, for an empty slot. Room is made before anything changes.
 fn claim_live(alloc: Global, live: &mut Live<SixByTable>, job: &mut Slot) -> Claimed
     requires { job.old.raw.inner ≡ None }
     ensures { ClaimsVector result live.old live.new job.new.raw.inner }
 {
-    let Ok(mut room) = new_vector(alloc, Limits::greatest(), Automaton::program()) else {
-        return not_claimed(NO_MEMORY);
-    };
-    match live.claim() {
-        None => not_claimed(0),
-        Some(found) => {
-            let answer = claim_answer(found.node(), found.version());
-            *room = Object::Job(found);
-            put(job, room);
-            answer
-        }
+    match new_vector(alloc, Limits::greatest(), Automaton::program()) {
+        Err(_) => not_claimed(NO_MEMORY),
+        Ok(room) => claim_into(live, room, job),
     }
 }
 
