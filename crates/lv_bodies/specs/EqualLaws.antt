@@ -1,5 +1,5 @@
 -- When a test of equality holds exactly of equal values, at what is made of values.
-use Rattle.std.specs.Prelude.{Bool, true, false, ◌&&◌, ◌≡◌, ◌↔◌, IsTrue, nat_eq, Some, None, refl}
+use Rattle.std.specs.Prelude.{Bool, true, false, ◌&&◌, IsTrue, nat_eq, Some, None, refl}
 use Rattle.std.specs.Option.{option_eq}
 use Rattle.std.specs.Cmp.Lexicographic.{pointwise}
 use Rattle.std.proofs.lemmas.Bool.Decides.{Decides-eqb}

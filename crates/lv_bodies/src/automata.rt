@@ -1,4 +1,4 @@
-ghost use Rattle.std.specs.Prelude.{◌≡◌, ◌↔◌, ℕ, ◌<◌, ◌≤◌, IsTrue, IsOk, IfOk, IsErrOf, nat_lt, List, length, map, slice_index, All, Any};
+ghost use Rattle.std.specs.Prelude.{◌≡◌, ◌↔◌, ℕ, ◌+◌, ◌*◌, ◌%◌, ◌<◌, ◌≤◌, IsTrue, IsOk, IfOk, IsErrOf, nat_lt, List, length, map, slice_index, All, Any};
 ghost use Rattle.std.specs.List.{list_all};
 ghost use Rattle.lv_bodies.specs.Tables.{is_table, has_states, join_state_maps};
 ghost use Rattle.lv_bodies.specs.Parts.{packed_states, states_in};
@@ -11,7 +11,7 @@ use lv_geometry::Refusal;
 use std::alloc::AllocError;
 
 /// An automaton of eight states: from state `q`, an element `x` leads to `table[q][x mod 4]`.
-#[derive(Debug, PartialEq, Eq, Hash)]
+#[derive(Debug, PartialEq, Eq)]
 pub struct Automaton {
     table: [[u8; 4]; 8],
     ghost valid: { IsTrue (is_table table) },
@@ -174,8 +174,16 @@ impl Single for Automaton {
 fn pack(states: [u8; 8]) -> u32
     ensures { result ≡ packed_states states }
 {
-    let [a, b, c, d, e, f, g, h] = states.map(|state| u32::from(state % 8));
-    a + (b << 3) + (c << 6) + (d << 9) + (e << 12) + (f << 15) + (g << 18) + (h << 21)
+    let [a, b, c, d, e, f, g, h] = states;
+    pack_four(a, b, c, d) + (pack_four(e, f, g, h) << 12)
+}
+
+// Four states in three bits each, the first of them lowest.
+#[inline(always)]
+fn pack_four(a: u8, b: u8, c: u8, d: u8) -> u32
+    ensures { result ≡ a % 8 + b % 8 * 8 + c % 8 * 64 + d % 8 * 512 }
+{
+    u32::from(a % 8) + (u32::from(b % 8) << 3) + (u32::from(c % 8) << 6) + (u32::from(d % 8) << 9)
 }
 
 /// The eight states in these bits.

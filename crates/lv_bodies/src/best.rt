@@ -2,11 +2,11 @@ ghost use Rattle.std.specs.Prelude.{◌≡◌};
 
 use crate::bodies::Body;
 use crate::kinds::{Kind, Shown};
-use crate::parts::{Parted, low_bits};
+use crate::parts::{Parted, low_bits, with_sign};
 use crate::singles::Single;
 
 /// What is kept of some neighbours, of which there is at least one.
-#[derive(Clone, Copy, Debug, PartialEq, Eq, Hash)]
+#[derive(Clone, Copy, Debug, PartialEq, Eq)]
 pub struct RunTotals {
     /// All of them added up.
     pub total: i128,
@@ -52,7 +52,7 @@ impl RunTotals {
 }
 
 /// The greatest total of at least one neighbour, if there is one.
-#[derive(Clone, Copy, Debug, PartialEq, Eq, Hash)]
+#[derive(Clone, Copy, Debug, PartialEq, Eq)]
 pub struct Best;
 
 impl Body for Best {
@@ -153,12 +153,12 @@ impl Parted for Best {
     }
 
     fn of_parts(parts: [u32; 4]) -> Option<RunTotals> {
-        let [total, prefix, suffix, best] = parts.map(|part| i128::from(part.cast_signed()));
+        let [total, prefix, suffix, best] = parts;
         Some(RunTotals {
-            total,
-            prefix,
-            suffix,
-            best,
+            total: with_sign(total),
+            prefix: with_sign(prefix),
+            suffix: with_sign(suffix),
+            best: with_sign(best),
         })
     }
 

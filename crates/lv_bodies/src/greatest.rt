@@ -4,7 +4,7 @@ use crate::parts::{Parted, low_bits};
 use crate::singles::Single;
 
 /// The greatest element, if there is one.
-#[derive(Clone, Copy, Debug, PartialEq, Eq, Hash)]
+#[derive(Clone, Copy, Debug, PartialEq, Eq)]
 pub struct Greatest;
 
 impl Body for Greatest {

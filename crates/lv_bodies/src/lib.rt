@@ -34,5 +34,5 @@ pub use least::Least;
 pub use pairs::Pair;
 pub use parts::Parted;
 pub use singles::Single;
-pub use sixes::{Six, SixByTable, SixPairs, face};
+pub use sixes::{Six, SixByTable, SixPairs, SixSummary, face};
 pub use sums::Sum;

@@ -1,7 +1,7 @@
 use crate::bodies::Body;
 
 /// Two bodies side by side: both are computed of the same elements.
-#[derive(Clone, Copy, Debug, PartialEq, Eq, Hash)]
+#[derive(Clone, Copy, Debug, PartialEq, Eq)]
 pub struct Pair<A, B> {
     pub first: A,
     pub second: B,

@@ -1,5 +1,5 @@
 ghost use Rattle.std.specs.Prelude.{◌≡◌, ℕ, ◌≤◌, List};
-ghost use Rattle.lv_bodies.specs.Parts.{AreParts, HasParts, low_32};
+ghost use Rattle.lv_bodies.specs.Parts.{AreParts, HasParts, low_32, widened};
 
 use crate::singles::Single;
 
@@ -38,4 +38,12 @@ pub(crate) fn low_bits(x: i128) -> u32
     ensures { result ≡ low_32 x }
 {
     (x.cast_unsigned() % (1 << 32)) as u32
+}
+
+/// A part, widened with its sign.
+#[inline(always)]
+pub(crate) fn with_sign(part: u32) -> i128
+    ensures { result ≡ widened part }
+{
+    i128::from(part.cast_signed())
 }

@@ -1,7 +1,7 @@
 ghost use Rattle.std.specs.Prelude.{◌≡◌, ℕ, ℤ, List};
 ghost use Rattle.lv_bodies.specs.Automata.{table_of};
 ghost use Rattle.lv_bodies.specs.Body.{CanFold, fold_of};
-ghost use Rattle.lv_bodies.specs.Plain.{plain_value, plain_value_with};
+ghost use Rattle.lv_bodies.specs.Plain.{plain_value, plain_value_with, program_table};
 ghost use Rattle.lv_bodies.specs.Six.{six_operations, six_operations_by, face_of};
 
 use crate::affine::Affine;
@@ -14,16 +14,58 @@ use crate::least::Least;
 use crate::pairs::Pair;
 use crate::singles::Single;
 use crate::sums::Sum;
+use std::alloc::AllocError;
+use std::marker::Model;
 
 /// All six bodies side by side, in the order of the kinds.
 pub type SixPairs = Pair<Sum, Pair<Least, Pair<Greatest, Pair<Best, Pair<Affine, Automaton>>>>>;
 
+/// The summaries of all six, side by side. It has a type of its own, so that what is generic over its body stays small.
+#[derive(Debug, PartialEq, Eq)]
+pub struct SixSummary {
+    each: <SixPairs as Body>::S,
+}
+
+impl Model for SixSummary {
+    ghost use Rattle.lv_bodies.specs.Six.{SixSummary};
+
+    ghost Value = { SixSummary };
+
+    ghost view = { λ a. a.each };
+
+    ghost inverse = { λ six. record { each = six } };
+}
+
+impl Clone for SixSummary {
+    ghost use Rattle.std.specs.Prelude.{⊤};
+
+    ghost is_clone = { λ x y. y ≡ x };
+
+    ghost is_infallible = { λ _. ⊤ };
+
+    fn clone(&self) -> Result<SixSummary, AllocError> {
+        Ok(*self)
+    }
+}
+
+impl Copy for SixSummary {}
+
+impl SixSummary {
+    /// The summary by each: the sum, the least, the greatest, the best run, the map, the states.
+    #[inline(always)]
+    pub fn each(self) -> <SixPairs as Body>::S
+        ensures { result ≡ self }
+    {
+        self.each
+    }
+}
+
 /// All six as one body, with the program's automaton. It has a type of its own, so that what is generic over it stays small.
-#[derive(Clone, Copy, Debug, PartialEq, Eq, Hash)]
+#[derive(Clone, Copy, Debug, PartialEq, Eq)]
 pub struct Six;
 
 /// All six as one body, with an automaton by any table.
-#[derive(Clone, Copy, Debug, PartialEq, Eq, Hash)]
+#[derive(Clone, Copy, Debug, PartialEq, Eq)]
 pub struct SixByTable {
     pub automaton: Automaton,
 }
@@ -32,7 +74,7 @@ impl Body for Six {
     ghost use Rattle.lv_bodies.specs.Six.{six_operations, six_within};
     ghost use Rattle.lv_bodies.specs.SixLaws.{exact_six, six_laws};
 
-    type S = <SixPairs as Body>::S;
+    type S = SixSummary;
 
     ghost Meaning = { Unit {0} };
 
@@ -45,18 +87,18 @@ impl Body for Six {
     ghost laws = { λ _. six_laws };
 
     #[inline(always)]
-    fn identity(&self) -> <SixPairs as Body>::S {
-        program_pairs().identity()
+    fn identity(&self) -> SixSummary {
+        by_program().identity()
     }
 
     #[inline(always)]
-    fn lift(&self, x: i64) -> <SixPairs as Body>::S {
-        program_pairs().lift(x)
+    fn lift(&self, x: i64) -> SixSummary {
+        by_program().lift(x)
     }
 
     #[inline(always)]
-    fn combine(&self, a: <SixPairs as Body>::S, b: <SixPairs as Body>::S) -> <SixPairs as Body>::S {
-        program_pairs().combine(a, b)
+    fn combine(&self, a: SixSummary, b: SixSummary) -> SixSummary {
+        by_program().combine(a, b)
     }
 
     fn same(&self, _other: &Six) -> bool {
@@ -71,7 +113,7 @@ impl Body for SixByTable {
     ghost use Rattle.lv_bodies.specs.Six.{six_operations_by, six_within};
     ghost use Rattle.lv_bodies.specs.SixLaws.{exact_six, six_laws_by};
 
-    type S = <SixPairs as Body>::S;
+    type S = SixSummary;
 
     ghost Meaning = { List (List ℕ) };
 
@@ -83,19 +125,44 @@ impl Body for SixByTable {
 
     ghost laws = { λ b. six_laws_by b.automaton.table b.automaton.valid };
 
+    // Each of the six is called by its own name: a call of the pairs would be proved at the type of each pair anew.
     #[inline(always)]
-    fn identity(&self) -> <SixPairs as Body>::S {
-        pairs_with(self.automaton).identity()
+    fn identity(&self) -> SixSummary {
+        let last = (Affine.identity(), self.automaton.identity());
+        let later = (Greatest.identity(), (Best.identity(), last));
+        SixSummary {
+            each: (Sum.identity(), (Least.identity(), later)),
+        }
     }
 
     #[inline(always)]
-    fn lift(&self, x: i64) -> <SixPairs as Body>::S {
-        pairs_with(self.automaton).lift(x)
+    fn lift(&self, x: i64) -> SixSummary {
+        let last = (Affine.lift(x), self.automaton.lift(x));
+        let later = (Greatest.lift(x), (Best.lift(x), last));
+        SixSummary {
+            each: (Sum.lift(x), (Least.lift(x), later)),
+        }
     }
 
     #[inline(always)]
-    fn combine(&self, a: <SixPairs as Body>::S, b: <SixPairs as Body>::S) -> <SixPairs as Body>::S {
-        pairs_with(self.automaton).combine(a, b)
+    fn combine(&self, a: SixSummary, b: SixSummary) -> SixSummary {
+        let (sum, (least, (greatest, (best, (affine, states))))) = a.each;
+        let (next_sum, (next_least, (next_greatest, (next_best, (next_affine, next_states))))) =
+            b.each;
+        let last = (
+            Affine.combine(affine, next_affine),
+            self.automaton.combine(states, next_states),
+        );
+        let later = (
+            Greatest.combine(greatest, next_greatest),
+            (Best.combine(best, next_best), last),
+        );
+        SixSummary {
+            each: (
+                Sum.combine(sum, next_sum),
+                (Least.combine(least, next_least), later),
+            ),
+        }
     }
 
     fn same(&self, other: &SixByTable) -> bool {
@@ -105,41 +172,18 @@ impl Body for SixByTable {
     ghost equal = { exact_six };
 }
 
-/// The six side by side, with the program's automaton.
+/// The six by table, with the program's automaton.
 #[inline(always)]
-fn program_pairs() -> SixPairs
-    ensures { ⟦<SixPairs as Body>⟧.operations (⟦<SixPairs as Body>⟧.meaning result) ≡ six_operations }
+fn by_program() -> SixByTable
+    ensures { table_of result.automaton ≡ program_table }
 {
-    pairs_with(Automaton::program())
-}
-
-/// The six side by side, with an automaton.
-#[inline(always)]
-fn pairs_with(automaton: Automaton) -> SixPairs
-    ensures { ⟦<SixPairs as Body>⟧.operations (⟦<SixPairs as Body>⟧.meaning result) ≡ six_operations_by (table_of automaton) }
-{
-    let last = Pair {
-        first: Affine,
-        second: automaton,
-    };
-    let later = Pair {
-        first: Greatest,
-        second: Pair {
-            first: Best,
-            second: last,
-        },
-    };
-    Pair {
-        first: Sum,
-        second: Pair {
-            first: Least,
-            second: later,
-        },
+    SixByTable {
+        automaton: Automaton::program(),
     }
 }
 
 /// Shows the summary of one kind.
-pub fn face(kind: Kind, s: <Six as Body>::S) -> Shown
+pub fn face(kind: Kind, s: SixSummary) -> Shown
     ensures shown { result ≡ face_of kind s }
     // Of a fold, the plain value is shown.
     ensures plain { (xs : List ℤ) → CanFold xs → s ≡ fold_of six_operations xs → result ≡ plain_value kind xs }
@@ -150,10 +194,10 @@ pub fn face(kind: Kind, s: <Six as Body>::S) -> Shown
     part_shown(kind, s)
 }
 
-fn part_shown(kind: Kind, s: <Six as Body>::S) -> Shown
+fn part_shown(kind: Kind, s: SixSummary) -> Shown
     ensures { result ≡ face_of kind s }
 {
-    let (sum, (least, (greatest, (best, (affine, automaton))))) = s;
+    let (sum, (least, (greatest, (best, (affine, automaton))))) = s.each;
     match kind {
         Kind::Sum => Sum.shown(sum),
         Kind::Least => Least.shown(least),

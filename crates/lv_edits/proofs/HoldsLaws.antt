@@ -1,25 +1,29 @@
 -- A store that holds what a journal leaves: what it tells of the history, and that it goes on to hold it through each kind of edit.
-use Rattle.std.proofs.Common.{◌≡◌, ℕ, ℤ, pos, ◌+◌, ◌-◌, ◌<◌, ◌≤◌, max, All, Some, None, Option, List, [], ◌∷◌, ◌++◌, length, take, slice_set, get_or, inl, inr, Bool, true, false, nat_eq, if◌then◌else◌, refl, sym, ap, subst, ◌∙◌, arith}
-use Rattle.std.specs.Prelude.{◌≢◌, IfSome, IsSomeAnd}
+use Rattle.std.proofs.Common.{◌≡◌, ℕ, ℤ, pos, ◌+◌, ◌-◌, ◌<◌, ◌≤◌, max, All, Some, None, Option, Result, List, [], ◌∷◌, ◌++◌, length, take, slice_set, get_or, inl, inr, Bool, true, false, nat_eq, if◌then◌else◌, refl, sym, ap, subst, ◌∙◌, arith}
+use Rattle.std.specs.Prelude.{◌≢◌, IfSome, IsErrAnd, IsSomeAnd}
 use Rattle.std.specs.List.{swap}
 use Rattle.std.proofs.lemmas.Bool.{cases_Bool, cond-false, cond-true, eqb-false, eqb-true}
 use Rattle.std.proofs.lemmas.List.{length_push, length-set, length-take, set-set}
 use Rattle.std.proofs.lemmas.List.Edits.{length-swap, swap_is}
 use Rattle.std.proofs.lemmas.List.Elements.{All-get_or}
+use Rattle.std.proofs.lemmas.Result.{err_from_is_err_and}
 use Rattle.lv_geometry.specs.Bounds.{Bounds}
 use Rattle.lv_geometry.specs.Cells.{AreFewest, capacity_of}
 use Rattle.lv_geometry.specs.Elements.{IsElement}
+use Rattle.lv_geometry.specs.declared.refusals.Refusal.{Refusal}
+use Rattle.lv_geometry.specs.declared.refusals.Refusal.TheVariants.{NoMemory}
 use Rattle.lv_store.specs.Inner.{IsStore}
 use Rattle.lv_store.specs.State.{AreAlike, StoreState, announced, elements_of, empty_store, value_in}
 use Rattle.lv_store.proofs.ElementsLaws.{elements-popped, elements-pushed, elements-rewritten, elements-unwritten, elements-written, elements_alike, get_or-elements, length-elements}
 use Rattle.lv_geometry.proofs.Capacities.{capacity_of_mono}
 use Rattle.lv_edits.specs.declared.edit.Edit.{Edit}
 use Rattle.lv_edits.specs.declared.edit.Edit.TheVariants.{Push, Pop, Write, Reserve, Swap, Truncate}
+use Rattle.lv_edits.specs.declared.receipt.Receipt.{Receipt}
 use Rattle.lv_edits.specs.Capacity.{capacity_after, reserved_by}
 use Rattle.lv_edits.specs.History.{applied, list_of}
 use Rattle.lv_edits.specs.Inner.{AreNeeded, HoldsReplay, write_at_second}
 use Rattle.lv_edits.specs.Kept.{CarriesElement, IsLegalInLimits}
-use Rattle.lv_edits.specs.Verdict.{refused_on, verdict_of}
+use Rattle.lv_edits.specs.Verdict.{Answers, refused_on, verdict_of}
 use Rattle.lv_edits.proofs.CapacityLaws.{AreNeeded-empty, AreNeeded-snoc, capacity_after_needed, fewest_within}
 use Rattle.lv_edits.proofs.HistoryLaws.{IsLegalInLimits-empty, IsLegalInLimits-snoc, applied_pop, applied_swap, applied_truncate, applied_write, list_of-snoc, list_of_replayed, not_refused, replayed-nil, unrefused_pop, unrefused_push, unrefused_reserve, unrefused_swap, unrefused_truncate, unrefused_write}
 
@@ -69,6 +73,19 @@ IsLegalInLimits-alike s t journal held alike = rw alike.limits held.kept
 -- nothing refuses an accepted edit on the elements
 unrefused_held : (s : StoreState) (journal : List Edit) (e : Edit) → HoldsReplay s journal → verdict_of s.limits journal e ≡ None → refused_on s.limits (elements_of s) e ≡ None
 unrefused_held s journal e held free = subst (λ xs. refused_on s.limits xs e ≡ None) (sym held.items) (not_refused s.limits journal e free).1
+
+-- an accepted edit comes before the limit of edits, also of a store that reads alike
+pub edits_left : (s m : StoreState) (journal : List Edit) (e : Edit) → HoldsReplay s journal → verdict_of s.limits journal e ≡ None → AreAlike s m → m.descriptor.edit < m.limits.edits
+edits_left s m journal e held free alike =
+    let left : length journal ≢ s.limits.edits = (not_refused s.limits journal e free).0 in
+    let within : length journal ≤ s.limits.edits = held.kept.edits in
+    rw (alike.edit, alike.limits, held.edit) (omega (arith, left, within))
+
+-- what is refused for want of memory alone leaves the history as it was, where the store reads alike
+pub Answers-no_memory : (s m : StoreState) (journal : List Edit) (e : Edit) (r : Result Receipt Refusal) (why : Refusal) → verdict_of s.limits journal e ≡ None → AreAlike s m → why ≡ NoMemory → IsErrAnd r (λ refusal. refusal ≡ why) → Answers record { limits = s.limits; journal = journal } e r record { limits = m.limits; journal = journal }
+Answers-no_memory s m journal e r why free alike is failed =
+    let (refusal, refused, given) = err_from_is_err_and r failed in
+    rw refused record { verdict = inr (free, given ∙ is); same = rw alike.limits refl }
 
 -- what an accepted edit makes of the elements is the list after it
 list_held : (s : StoreState) (journal : List Edit) (e : Edit) (ys : List ℤ) → HoldsReplay s journal → applied (elements_of s) e ≡ Some ys → list_of (journal ++ e ∷ []) ≡ ys

@@ -3,7 +3,7 @@ ghost use Rattle.lv_bodies.specs.Body.{CanFold};
 ghost use Rattle.lv_standing.specs.Kinds.{kind_of, part_of, shown_of, summary_of};
 
 use lv_bodies::{
-    Affine, AffineMap, Automaton, Best, Body, Greatest, Kind, Least, RunTotals, Shown, Six, Sum,
+    Affine, AffineMap, Automaton, Best, Greatest, Kind, Least, RunTotals, Shown, SixSummary, Sum,
     fold_more,
 };
 
@@ -20,10 +20,10 @@ pub enum KindSummary {
 
 impl KindSummary {
     /// The summary of a kind among those of all six.
-    pub fn of(kind: Kind, six: <Six as Body>::S) -> KindSummary
+    pub fn of(kind: Kind, six: SixSummary) -> KindSummary
         ensures { result ≡ part_of kind six }
     {
-        let (sum, (least, (greatest, (best, (affine, automaton))))) = six;
+        let (sum, (least, (greatest, (best, (affine, automaton))))) = six.each();
         match kind {
             Kind::Sum => KindSummary::Sum(sum),
             Kind::Least => KindSummary::Least(least),

@@ -20,7 +20,7 @@ use crate::notes::{Answered, Note};
 use crate::values::{SHORT, folded};
 use crate::watches::{Watch, ask, count_asked, tell};
 use indexmap::IndexMap;
-use lv_bodies::{Body, Kind, Six, face};
+use lv_bodies::{Body, Kind, Six, SixSummary, face};
 use lv_edits::{Edit, Receipt};
 use lv_geometry::{Limits, Refusal};
 use lv_live::Live;
@@ -149,7 +149,7 @@ impl Standing {
 
     /// The fold of the elements from index `lo` up to `hi` by all six, keeping what is computed for it: so a range that was asked
     /// for is cheap until an edit touches it. Refused with `BadRange`, then `OutOfRange`. Takes no memory.
-    pub fn ask(&mut self, lo: u32, hi: u32) -> Result<Answer<<Six as Body>::S>, Refusal>
+    pub fn ask(&mut self, lo: u32, hi: u32) -> Result<Answer<SixSummary>, Refusal>
         ensures ok { IfOk result (λ answer. IsAnswer six_operations self.old.live.history.journal lo hi answer) }
         ensures err { IfErr result (λ refusal. range_refusal self.old.live.history.journal lo hi ≡ Some refusal) }
         ensures live { SameLive self.old.live self.new.live }

@@ -16,7 +16,7 @@ use crate::kinds::KindSummary;
 use crate::names::Name;
 use crate::notes::Note;
 use indexmap::IndexMap;
-use lv_bodies::{Body, Shown, Six};
+use lv_bodies::{Shown, Six, SixSummary};
 use lv_live::Live;
 
 /// The range of a standing query, and the summary by its kind of the elements that the range has at the last edit.
@@ -49,7 +49,7 @@ impl Watch {
 }
 
 /// What all six make of the elements that a range has, which may reach past the end. Takes no memory.
-pub fn ask(live: &Live<Six>, lo: u32, hi: u32) -> <Six as Body>::S
+pub fn ask(live: &Live<Six>, lo: u32, hi: u32) -> SixSummary
     ensures { result ≡ six_of live.now.history.journal lo hi }
 {
     let end = hi.min(live.size());
@@ -61,7 +61,7 @@ pub fn ask(live: &Live<Six>, lo: u32, hi: u32) -> <Six as Body>::S
 }
 
 // The same of a vector that may keep what is computed for it, so that a range is cheap to ask for after one edit more.
-fn ask_keeping(live: &mut Live<Six>, lo: u32, hi: u32) -> <Six as Body>::S
+fn ask_keeping(live: &mut Live<Six>, lo: u32, hi: u32) -> SixSummary
     ensures value { result ≡ six_of live.old.history.journal lo hi }
     ensures live { SameLive live.old live.new }
 {
@@ -103,7 +103,7 @@ pub fn count_asked(watches: &IndexMap<Name, Watch>, changed: Changed) -> usize
 struct OfRange {
     lo: u32,
     hi: u32,
-    six: <Six as Body>::S,
+    six: SixSummary,
 }
 
 // The summary of a query's range: part of what was asked for last, where that has the same range; else the vector is asked.

@@ -1,4 +1,3 @@
-use Rattle.std.proofs.Common.{◌∙◌}
 use Rattle.lv_edits.proofs.CapacityLaws.{IsCapacityAfter-needed}
 use Rattle.lv_edits.proofs.HoldsLaws.{capacity_held}
 use Rattle.lv_edits.proofs.edits.Edits.capacity.Goals as goal

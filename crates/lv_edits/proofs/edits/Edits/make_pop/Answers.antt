@@ -4,7 +4,7 @@ use Rattle.std.proofs.lemmas.Int.{to_z-of_z}
 use Rattle.lv_edits.specs.declared.edit.Edit.TheVariants.{Pop}
 use Rattle.lv_edits.specs.History.{list_of}
 use Rattle.lv_edits.specs.Verdict.{verdict_of}
-use Rattle.lv_edits.proofs.HoldsLaws.{IsLegalInLimits-alike, fits_held, pop_fits, pop_held, read_held, size_held}
+use Rattle.lv_edits.proofs.HoldsLaws.{Answers-no_memory, HoldsReplay-alike, IsLegalInLimits-alike, edits_left, fits_held, pop_fits, pop_held, read_held, size_held}
 use Rattle.lv_edits.proofs.edits.Edits.make_pop.Goals as goal
 use Rattle.lv_edits.proofs.edits.Edits.make_pop.Goals.{After-size-last}
 
@@ -24,10 +24,25 @@ overflow_sub-last c = (last c).0
 pub read-value-requires : goal.read-value-requires
 read-value-requires c = omega (arith, (last (goal.at.read-value-requires c).After-size-last).1, c.self.invariant.sound.size)
 
+pub invariant_of-self : goal.invariant_of-self
+invariant_of-self c =
+    let e = c.in_err-make_room.ensures in
+    rw e.journal (HoldsReplay-alike _ _ _ c.self.invariant e.alike e.closed e.sound)
+
+pub returns-in_err-make_room-clause-answer : goal.returns-in_err-make_room-clause-answer
+returns-in_err-make_room-clause-answer c =
+    let e = c.in_err-make_room.ensures in
+    let free = free (goal.at.returns-in_err-make_room-clause-answer c).After-size-last in
+    rw (e.journal, ← c.self.view_is) (Answers-no_memory _ _ _ Pop _ _ free e.alike e.err c.from_residual.ensures.1)
+
 pub returns-in_err-make_room-clause-limits : goal.returns-in_err-make_room-clause-limits
 returns-in_err-make_room-clause-limits c =
     let e = c.in_err-make_room.ensures in
     rw e.journal (IsLegalInLimits-alike _ _ _ c.self.invariant e.alike)
+
+pub announce-requires-clause-edit : goal.announce-requires-clause-edit
+announce-requires-clause-edit c =
+    edits_left _ _ _ Pop c.self.invariant (free (goal.at.announce-requires-clause-edit c).After-size-last) c.in_ok-make_room.ensures.alike
 
 pub invariant_of-self-2 : goal.invariant_of-self-2
 invariant_of-self-2 c =

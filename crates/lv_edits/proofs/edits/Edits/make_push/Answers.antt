@@ -5,7 +5,7 @@ use Rattle.lv_geometry.specs.Cells.{capacity_of}
 use Rattle.lv_geometry.proofs.Capacities.{capacity_of_most}
 use Rattle.lv_edits.specs.declared.edit.Edit.TheVariants.{Push}
 use Rattle.lv_edits.specs.Verdict.{verdict_of}
-use Rattle.lv_edits.proofs.HoldsLaws.{IsLegalInLimits-alike, push_fits, push_held, size_held}
+use Rattle.lv_edits.proofs.HoldsLaws.{Answers-no_memory, HoldsReplay-alike, IsLegalInLimits-alike, edits_left, push_fits, push_held, size_held}
 use Rattle.lv_edits.proofs.edits.Edits.make_push.Goals as goal
 use Rattle.lv_edits.proofs.edits.Edits.make_push.Goals.{After-size-index}
 
@@ -26,6 +26,17 @@ overflow_add-index c = omega (arith, (fits (goal.at.overflow_add-index c).After-
 pub make_room-requires-clause-few : goal.make_room-requires-clause-few
 make_room-requires-clause-few c = (fits (goal.at.make_room-requires-clause-few c).After-size-index).0
 
+pub invariant_of-self : goal.invariant_of-self
+invariant_of-self c =
+    let e = c.in_err-make_room.ensures in
+    rw e.journal (HoldsReplay-alike _ _ _ c.self.invariant e.alike e.closed e.sound)
+
+pub returns-in_err-make_room-clause-answer : goal.returns-in_err-make_room-clause-answer
+returns-in_err-make_room-clause-answer c =
+    let e = c.in_err-make_room.ensures in
+    let free = free (goal.at.returns-in_err-make_room-clause-answer c).After-size-index in
+    rw (e.journal, ← c.self.view_is) (Answers-no_memory _ _ _ (Push c.args.x) _ _ free e.alike e.err c.from_residual.ensures.1)
+
 pub returns-in_err-make_room-clause-limits : goal.returns-in_err-make_room-clause-limits
 returns-in_err-make_room-clause-limits c =
     let e = c.in_err-make_room.ensures in
@@ -39,6 +50,10 @@ announce-requires-clause-index c = omega (arith, c.in_ok-make_room.ensures.enoug
 
 pub announce-requires-clause-size : goal.announce-requires-clause-size
 announce-requires-clause-size c = omega (arith, c.in_ok-make_room.ensures.enough)
+
+pub announce-requires-clause-edit : goal.announce-requires-clause-edit
+announce-requires-clause-edit c =
+    edits_left _ _ _ (Push c.args.x) c.self.invariant (free (goal.at.announce-requires-clause-edit c).After-size-index) c.in_ok-make_room.ensures.alike
 
 pub invariant_of-self-2 : goal.invariant_of-self-2
 invariant_of-self-2 c =

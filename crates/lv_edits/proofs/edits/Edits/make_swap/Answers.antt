@@ -3,7 +3,7 @@ use Rattle.std.specs.Int.{w64}
 use Rattle.std.proofs.lemmas.Int.{to_z-of_z}
 use Rattle.lv_edits.specs.declared.edit.Edit.TheVariants.{Swap}
 use Rattle.lv_edits.specs.Verdict.{verdict_of}
-use Rattle.lv_edits.proofs.HoldsLaws.{IsLegalInLimits-alike, fits_held, read_held, second_apart, swap_fits, swap_held}
+use Rattle.lv_edits.proofs.HoldsLaws.{Answers-no_memory, HoldsReplay-alike, IsLegalInLimits-alike, edits_left, fits_held, read_held, second_apart, swap_fits, swap_held}
 use Rattle.lv_edits.proofs.edits.Edits.make_swap.Goals as goal
 use Rattle.lv_edits.proofs.edits.Edits.make_swap.Goals.{After-self}
 
@@ -21,6 +21,17 @@ read-before-requires c = omega (arith, (inside (goal.at.read-before-requires c).
 pub read-after-requires : goal.read-after-requires
 read-after-requires c = omega (arith, (inside (goal.at.read-after-requires c).After-self).1, c.self.invariant.sound.size)
 
+pub invariant_of-self : goal.invariant_of-self
+invariant_of-self c =
+    let e = c.in_err-make_room.ensures in
+    rw e.journal (HoldsReplay-alike _ _ _ c.self.invariant e.alike e.closed e.sound)
+
+pub returns-in_err-make_room-clause-answer : goal.returns-in_err-make_room-clause-answer
+returns-in_err-make_room-clause-answer c =
+    let e = c.in_err-make_room.ensures in
+    let free = free (goal.at.returns-in_err-make_room-clause-answer c).After-self in
+    rw (e.journal, ← c.self.view_is) (Answers-no_memory _ _ _ (Swap c.args.first c.args.second) _ _ free e.alike e.err c.from_residual.ensures.1)
+
 pub returns-in_err-make_room-clause-limits : goal.returns-in_err-make_room-clause-limits
 returns-in_err-make_room-clause-limits c =
     let e = c.in_err-make_room.ensures in
@@ -36,6 +47,10 @@ announce-requires-clause-second c =
     let e = c.in_ok-make_room.ensures in
     rw c.write_at_second-other.ensures
     (second_apart c.args.first c.args.second _ _ c.read-after.result (omega (arith, (inside (goal.at.announce-requires-clause-second c).After-self).1, e.alike.size, e.sound.size)))
+
+pub announce-requires-clause-edit : goal.announce-requires-clause-edit
+announce-requires-clause-edit c =
+    edits_left _ _ _ (Swap c.args.first c.args.second) c.self.invariant (free (goal.at.announce-requires-clause-edit c).After-self) c.in_ok-make_room.ensures.alike
 
 pub invariant_of-self-2 : goal.invariant_of-self-2
 invariant_of-self-2 c =

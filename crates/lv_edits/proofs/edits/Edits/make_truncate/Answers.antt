@@ -1,7 +1,7 @@
 use Rattle.std.proofs.Common.{◌≡◌, ◌+◌, ◌≤◌, None, ap, ◌∙◌, arith}
 use Rattle.lv_edits.specs.declared.edit.Edit.TheVariants.{Truncate}
 use Rattle.lv_edits.specs.Verdict.{verdict_of}
-use Rattle.lv_edits.proofs.HoldsLaws.{IsLegalInLimits-alike, size_held, truncate_fits, truncate_held}
+use Rattle.lv_edits.proofs.HoldsLaws.{Answers-no_memory, HoldsReplay-alike, IsLegalInLimits-alike, edits_left, size_held, truncate_fits, truncate_held}
 use Rattle.lv_edits.proofs.edits.Edits.make_truncate.Goals as goal
 use Rattle.lv_edits.proofs.edits.Edits.make_truncate.Goals.{After-self}
 
@@ -12,6 +12,17 @@ free c = rw (← c.self.view_is) at c.requires
 -- there are as many elements as it keeps
 inside : (c : After-self) → c.args.count ≤ c.self.inside.store.descriptor.size
 inside c = truncate_fits _ _ c.args.count c.self.invariant (free c)
+
+pub invariant_of-self : goal.invariant_of-self
+invariant_of-self c =
+    let e = c.in_err-make_room.ensures in
+    rw e.journal (HoldsReplay-alike _ _ _ c.self.invariant e.alike e.closed e.sound)
+
+pub returns-in_err-make_room-clause-answer : goal.returns-in_err-make_room-clause-answer
+returns-in_err-make_room-clause-answer c =
+    let e = c.in_err-make_room.ensures in
+    let free = free (goal.at.returns-in_err-make_room-clause-answer c).After-self in
+    rw (e.journal, ← c.self.view_is) (Answers-no_memory _ _ _ (Truncate c.args.count) _ _ free e.alike e.err c.from_residual.ensures.1)
 
 pub returns-in_err-make_room-clause-limits : goal.returns-in_err-make_room-clause-limits
 returns-in_err-make_room-clause-limits c =
@@ -26,6 +37,10 @@ announce-requires-clause-size c =
 pub overflow_sub-result : goal.overflow_sub-result
 overflow_sub-result c =
     omega (arith, inside (goal.at.overflow_sub-result c).After-self, c.size-size.ensures.value)
+
+pub announce-requires-clause-edit : goal.announce-requires-clause-edit
+announce-requires-clause-edit c =
+    edits_left _ _ _ (Truncate c.args.count) c.self.invariant (free (goal.at.announce-requires-clause-edit c).After-self) c.in_ok-make_room.ensures.alike
 
 pub invariant_of-self-2 : goal.invariant_of-self-2
 invariant_of-self-2 c =

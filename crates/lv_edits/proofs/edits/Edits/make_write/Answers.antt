@@ -3,7 +3,7 @@ use Rattle.std.specs.Int.{w64}
 use Rattle.std.proofs.lemmas.Int.{to_z-of_z}
 use Rattle.lv_edits.specs.declared.edit.Edit.TheVariants.{Write}
 use Rattle.lv_edits.specs.Verdict.{verdict_of}
-use Rattle.lv_edits.proofs.HoldsLaws.{IsLegalInLimits-alike, fits_held, read_held, write_fits, write_held}
+use Rattle.lv_edits.proofs.HoldsLaws.{Answers-no_memory, HoldsReplay-alike, IsLegalInLimits-alike, edits_left, fits_held, read_held, write_fits, write_held}
 use Rattle.lv_edits.proofs.edits.Edits.make_write.Goals as goal
 use Rattle.lv_edits.proofs.edits.Edits.make_write.Goals.{After-self}
 
@@ -18,6 +18,17 @@ inside c = write_fits _ _ c.args.index c.args.value c.self.invariant (free c)
 pub read-before-requires : goal.read-before-requires
 read-before-requires c = omega (arith, inside (goal.at.read-before-requires c).After-self, c.self.invariant.sound.size)
 
+pub invariant_of-self : goal.invariant_of-self
+invariant_of-self c =
+    let e = c.in_err-make_room.ensures in
+    rw e.journal (HoldsReplay-alike _ _ _ c.self.invariant e.alike e.closed e.sound)
+
+pub returns-in_err-make_room-clause-answer : goal.returns-in_err-make_room-clause-answer
+returns-in_err-make_room-clause-answer c =
+    let e = c.in_err-make_room.ensures in
+    let free = free (goal.at.returns-in_err-make_room-clause-answer c).After-self in
+    rw (e.journal, ← c.self.view_is) (Answers-no_memory _ _ _ (Write c.args.index c.args.value) _ _ free e.alike e.err c.from_residual.ensures.1)
+
 pub returns-in_err-make_room-clause-limits : goal.returns-in_err-make_room-clause-limits
 returns-in_err-make_room-clause-limits c =
     let e = c.in_err-make_room.ensures in
@@ -27,6 +38,10 @@ pub announce-requires-clause-index : goal.announce-requires-clause-index
 announce-requires-clause-index c =
     let e = c.in_ok-make_room.ensures in
     omega (arith, inside (goal.at.announce-requires-clause-index c).After-self, e.alike.size, e.sound.size)
+
+pub announce-requires-clause-edit : goal.announce-requires-clause-edit
+announce-requires-clause-edit c =
+    edits_left _ _ _ (Write c.args.index c.args.value) c.self.invariant (free (goal.at.announce-requires-clause-edit c).After-self) c.in_ok-make_room.ensures.alike
 
 pub invariant_of-self-2 : goal.invariant_of-self-2
 invariant_of-self-2 c =
