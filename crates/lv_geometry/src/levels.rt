@@ -1,7 +1,10 @@
-ghost use Rattle.std.specs.Prelude.{◌≡◌, ◌≤◌};
+ghost use Rattle.std.specs.Prelude.{◌≡◌, ℕ, ◌+◌, ◌*◌, ◌^◌, ◌<◌, ◌≤◌};
 ghost use Rattle.std.specs.Borrow.{Lends, sem};
+ghost use Rattle.std.specs.Int.{div_ceil};
 ghost use Rattle.lv_geometry.specs.Levels.{thing_at, with_thing};
 ghost use Rattle.lv_geometry.specs.contracts.levels.Levels.{the_row};
+
+use crate::nodes::parents_of;
 
 /// One thing for each of the six levels of nodes.
 #[derive(Drop)]
@@ -48,5 +51,27 @@ impl<T> Levels<T> {
             5 => &mut self.level_5,
             _ => &mut self.level_6,
         }
+    }
+}
+
+/// How many rows each level needs for so many blocks: one for each block, and above one for each eight below, and for
+/// those that are left over.
+pub fn rows_of(blocks: u32) -> Levels<u32>
+    ensures blocks { result.level_1 ≡ blocks }
+    ensures above { (level : ℕ) → 1 ≤ level → level < 6 → thing_at result (level + 1) ≡ div_ceil (thing_at result level) 8 }
+    ensures few { (level : ℕ) → 1 ≤ level → level ≤ 6 → thing_at result level ≤ blocks }
+    ensures covers { (level : ℕ) → 1 ≤ level → level ≤ 6 → 8 * blocks ≤ thing_at result level * 8 ^ level }
+{
+    let level_2 = parents_of(blocks);
+    let level_3 = parents_of(level_2);
+    let level_4 = parents_of(level_3);
+    let level_5 = parents_of(level_4);
+    Levels {
+        level_1: blocks,
+        level_2,
+        level_3,
+        level_4,
+        level_5,
+        level_6: parents_of(level_5),
     }
 }

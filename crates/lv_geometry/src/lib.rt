@@ -13,8 +13,8 @@ mod places;
 mod refusals;
 
 pub use cells::{buckets_for, capacity, index, place};
-pub use levels::Levels;
+pub use levels::{Levels, rows_of};
 pub use limits::Limits;
-pub use nodes::{Node, block_of, parents_of, width};
+pub use nodes::{Node, block_of, width};
 pub use places::Place;
 pub use refusals::Refusal;

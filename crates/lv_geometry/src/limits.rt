@@ -7,7 +7,7 @@ use crate::refusals::Refusal;
 use std::marker::Model;
 
 /// The limits of one vector: at most `buckets` buckets are opened, and at most `edits` edits accepted.
-#[derive(Clone, Copy, Debug, PartialEq, Eq, Hash)]
+#[derive(Clone, Copy, Debug, PartialEq, Eq)]
 pub struct Limits {
     buckets: u32,
     edits: u32,

@@ -1,69 +1,50 @@
 ghost use Rattle.std.specs.Prelude.{◌≡◌};
 
-use thiserror::Error;
+use std::error::Error;
+use std::fmt;
 
 /// Why a call was refused. A refused call changes nothing but what its own documentation names.
-#[derive(Clone, Copy, Debug, PartialEq, Eq, Hash, Error)]
+#[derive(Clone, Copy, Debug, PartialEq, Eq)]
 pub enum Refusal {
     /// As many edits are accepted as the limits allow.
-    #[error("the limit of edits is reached")]
     Worn,
     /// There is nothing to pop.
-    #[error("there is nothing to pop")]
     Empty,
     /// An index, or the end of a range, is past the end of the vector.
-    #[error("out of range: the size is {size}")]
     OutOfRange { size: u32 },
     /// More was to be reserved than the limits allow.
-    #[error("too large: the limit is {limit} elements")]
     TooLarge { limit: u32 },
     /// The vector has as many elements as the limits allow.
-    #[error("full: the size is the limit's capacity")]
     Full,
     /// Memory was wanted, and there was none. Nothing has changed.
-    #[error("no memory")]
     NoMemory,
     /// A range whose start is past its end.
-    #[error("a range whose start is past its end")]
     BadRange,
     /// Limits outside their ranges.
-    #[error("limits outside their ranges")]
     BadLimits,
     /// An automaton's table with an entry above 7.
-    #[error("a table with an entry above 7")]
     BadTable,
     /// The name stands for a query already.
-    #[error("the name is taken")]
     NameTaken,
     /// No query has the name.
-    #[error("no such name")]
     NoSuchName,
     /// There are 64 names.
-    #[error("too many names")]
     TooMany,
     /// What was read ended in an error.
-    #[error("a read failed")]
     ReadFault,
     /// What was written could not be.
-    #[error("a write failed")]
     WriteFault,
     /// A result that was not computed from a job of this vector.
-    #[error("a result that is not this vector's")]
     Stranger,
     /// An element that does not fit 16 bits.
-    #[error("an element that does not fit 16 bits")]
     TooWide,
     /// Another edit came first. It is this one, or a later.
-    #[error("contended: edit {edit} came first")]
     Contended { edit: u32 },
     /// The look is too old to answer from: a word of this later edit was found.
-    #[error("overtaken by edit {edit}")]
     Overtaken { edit: u32 },
     /// No job has the number.
-    #[error("no job of that number")]
     NoJob,
     /// The event does not fit what the actor is doing.
-    #[error("not now")]
     NotNow,
 }
 
@@ -98,3 +79,42 @@ impl Refusal {
         }
     }
 }
+
+// The texts by number, each up to the number that it shows, where it shows one.
+const WORDS: [&str; 20] = [
+    "the limit of edits is reached",
+    "there is nothing to pop",
+    "out of range: the size is ",
+    "too large: the limit is ",
+    "full: the size is the limit's capacity",
+    "no memory",
+    "a range whose start is past its end",
+    "limits outside their ranges",
+    "a table with an entry above 7",
+    "the name is taken",
+    "no such name",
+    "too many names",
+    "a read failed",
+    "a write failed",
+    "a result that is not this vector's",
+    "an element that does not fit 16 bits",
+    "contended: edit ",
+    "overtaken by edit ",
+    "no job of that number",
+    "not now",
+];
+
+impl fmt::Display for Refusal {
+    fn fmt<W: fmt::Write>(&self, f: &mut fmt::Formatter<W>) -> fmt::Result {
+        let words = WORDS[self.number() as usize - 1];
+        match *self {
+            Refusal::OutOfRange { size } => write!(f, "{words}{size}"),
+            Refusal::TooLarge { limit } => write!(f, "{words}{limit} elements"),
+            Refusal::Contended { edit } => write!(f, "{words}{edit} came first"),
+            Refusal::Overtaken { edit } => write!(f, "{words}{edit}"),
+            _ => f.write_str(words),
+        }
+    }
+}
+
+impl Error for Refusal {}

@@ -2,12 +2,14 @@
 use Rattle.std.proofs.Common.{◌≡◌, ℕ, ◌+◌, ◌-◌, ◌*◌, ◌^◌, ◌≤◌, true, None, length, get_or, replicate, refl, sym, ap, ◌∙◌, inl, inr, arith}
 use Rattle.std.proofs.lemmas.Bool.{cases_Bool, cases_lt, false≢true}
 use Rattle.std.proofs.lemmas.List.{get_or-append_right, get_or-replicate, get_or_append_left, get_or_past, length-append, length-replicate}
+use Rattle.lv_geometry.specs.declared.levels.Levels.{Levels}
 use Rattle.lv_geometry.specs.declared.nodes.Node.{Node}
+use Rattle.lv_geometry.specs.Levels.{thing_at}
 use Rattle.lv_geometry.specs.Nodes.{is_below, is_node}
 use Rattle.lv_geometry.proofs.NodeLaws.{covers_more, level_of_node}
 use Rattle.lv_refresh.specs.Claimed.{ClaimRows, ClaimTable, claim_blocks, claimed_in, is_hinted, no_claims, version_of}
-use Rattle.lv_refresh.specs.Inner.{AreClaims, FillsClaims, ForgetsClaims}
-use Rattle.lv_refresh.proofs.RowLaws.{AreClaims-by_rows, AreClaims-same, claim_blocks-rows, claim_blocks-same, claimed_in-inside, claimed_in-outside, is_hinted-inside, is_hinted-outside, row_of_node, rows_at}
+use Rattle.lv_refresh.specs.Inner.{AreClaims, AreFilled, ClaimLevelState, FillsClaims, ForgetsClaims, HaveSameRows, claims_of}
+use Rattle.lv_refresh.proofs.RowLaws.{AreClaims-by_rows, AreClaims-same, claim_blocks-rows, claim_blocks-same, claimed_in-inside, claimed_in-outside, is_hinted-inside, is_hinted-outside, row_of_node, rows_at, rows_at-thing}
 
 -- a claim that is void everywhere, and a hint at every row
 abbrev pub ForgetsAll : ClaimTable → ClaimTable → Type 0
@@ -44,6 +46,28 @@ module _ (old new : ClaimTable) (forgot : ForgetsAll old new) where
 abbrev pub FillsAll : ClaimTable → ClaimTable → ℕ → Type 0
 FillsAll old new more =
     (level : ℕ) → 1 ≤ level → level ≤ 6 → (n : ℕ) × FillsClaims (rows_at old level) (rows_at new level) n × (8 * more ≤ n * 8 ^ level)
+
+-- levels with the same rows make the same claims
+pub claims_of-same : (old new : Levels ClaimLevelState) → HaveSameRows old new → claims_of new ≡ claims_of old
+claims_of-same old new same =
+    let e1 : new.level_1.rows ≡ old.level_1.rows = same 1 (omega arith) (omega arith) in
+    let e2 : new.level_2.rows ≡ old.level_2.rows = same 2 (omega arith) (omega arith) in
+    let e3 : new.level_3.rows ≡ old.level_3.rows = same 3 (omega arith) (omega arith) in
+    let e4 : new.level_4.rows ≡ old.level_4.rows = same 4 (omega arith) (omega arith) in
+    let e5 : new.level_5.rows ≡ old.level_5.rows = same 5 (omega arith) (omega arith) in
+    let e6 : new.level_6.rows ≡ old.level_6.rows = same 6 (omega arith) (omega arith) in
+    cc
+
+-- levels that are filled up to the rows that so many blocks need
+pub FillsAll-levels : (old more new : Levels ClaimLevelState) (rows : Levels ℕ) (blocks : ℕ)
+    → HaveSameRows old more → AreFilled more new rows → ((level : ℕ) → 1 ≤ level → level ≤ 6 → 8 * blocks ≤ thing_at rows level * 8 ^ level)
+    → FillsAll (claims_of old) (claims_of new) blocks
+FillsAll-levels old more new rows blocks same fills covers =
+    λ level low high. (
+      thing_at rows level,
+      rw (rows_at-thing old level low high, rows_at-thing new level low high, ← same level low high) (fills level low high),
+      covers level low high,
+    )
 
 -- rows that are added read as not claimed
 stamp-filled : (old new : ClaimRows) (n k : ℕ) → FillsClaims old new n → get_or new.claimed k 0 ≡ get_or old.claimed k 0

@@ -17,9 +17,10 @@ use Rattle.lv_known.proofs.AgreesLaws.{entry_folds}
 use Rattle.lv_known.proofs.FoldableLaws.{part_can_fold}
 use Rattle.lv_summary.proofs.TableLaws.{entry_of_fresh}
 use Rattle.lv_refresh.specs.Claimed.{ClaimTable, claimed_in, record_of}
-use Rattle.lv_refresh.specs.Inner.{IsReady, ServesNode, children_fresh_in, wants_in}
+use Rattle.lv_refresh.specs.Inner.{IsReady, ServesNode, children_fresh_in}
 use Rattle.lv_refresh.specs.Record.{is_version}
 use Rattle.lv_refresh.proofs.HonestyLaws.{child_width, each_child_fresh, parts_of_all}
+use Rattle.lv_refresh.proofs.PickLaws.{whole_of_wants}
 use Rattle.lv_refresh.proofs.RecordLaws.{children_agree, fresh_agrees}
 
 -- the node that was picked is ready
@@ -29,6 +30,10 @@ ready_served t old new job served above =
     let either = (and_parts (whole_in t n && not (fresh_in t n) && not (is_version (touched_in t n) (claimed_in old n))) (nat_eq n.level 1 || children_fresh_in t n) served.wants).1 in
     let high : nat_eq n.level 1 ≡ false = ne_eqb n.level 1 (λ low. omega (arith, low, above)) in
     sym (ap (λ low. low || children_fresh_in t n) high) ∙ either
+
+-- and whole
+pub whole_served : {S : Type 0} (t : Table S) (old new : ClaimTable) (job : Node × ℕ) → ServesNode t old new job → whole_in t job.0 ≡ true
+whole_served t old new job served = whole_of_wants t (claimed_in old job.0) job.0 served.wants
 
 -- the elements of the first k children of a node
 abbrev pub front : List Edit → Node → ℕ → List ℤ

@@ -77,10 +77,6 @@ HintsLevel-one of k number changed low high is =
     (λ is. at_each_level _ (level_stays (omega arith) refl) (level_stays (omega arith) refl) (level_stays (omega arith) refl) (level_stays (omega arith) refl) (level_stays (omega arith) refl) (level_hinted is))
     k low high is
 
--- the rows of a level are those of its thing
-pub rows_at-thing : (of : Levels ClaimLevelState) (k : ℕ) → 1 ≤ k → k ≤ 6 → rows_at (claims_of of) k ≡ (thing_at of k).rows
-rows_at-thing of k low high = at_each_level (λ k. rows_at (claims_of of) k ≡ (thing_at of k).rows) refl refl refl refl refl refl k low high
-
 module _ (old new : ClaimTable) (k number : ℕ) (hinted : (level : ℕ) → 1 ≤ level → level ≤ 6 → HintsLevel old new k number level) where
   -- a hint leaves the stamps of each level
   stamps_stay : (level : ℕ) → 1 ≤ level → level ≤ 6 → (rows_at new level).claimed ≡ (rows_at old level).claimed

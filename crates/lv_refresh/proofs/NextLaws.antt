@@ -100,3 +100,13 @@ module _ {B S : Type 0} (o : Operations S) (edits : List Edit) (t : Table S) (ag
   pub Stands-job : (result : Option (Carried B S)) → IfSome result (λ job. IsJobOf edits t node version body job) → IfSome result (λ job. Stands o (record_of edits t old) job.node job.contents)
   Stands-job None is = tt
   Stands-job (Some job) is = rw is.node_is (Stands-from o edits t agrees old node job.contents is.contents)
+
+  -- some job was given then
+  pub idle-job : (result : Option (Carried B S)) → IfNone result ((1 < node.level) × (children_fresh_in t node ≡ false)) → IfNone result ((n : Node) → claimed_in new n ≡ claimed_in old n)
+  idle-job None never = absurd (ready_of_served never.0 never.1)
+  idle-job (Some job) never = tt
+
+  -- and is by the body
+  pub body-job : (result : Option (Carried B S)) → IfSome result (λ job. IsJobOf edits t node version body job) → IfSome result (λ job. job.body ≡ body)
+  body-job None is = tt
+  body-job (Some job) is = is.body_is

@@ -4,16 +4,22 @@ use Rattle.std.specs.List.{slice_index_or}
 use Rattle.std.proofs.lemmas.Bool.{and_left, cases_Bool, cond-false, cond-true, leb-true}
 use Rattle.std.proofs.lemmas.Grind.{pow_more}
 use Rattle.std.proofs.lemmas.Nat.{div_below}
+use Rattle.lv_geometry.specs.declared.levels.Levels.{Levels}
 use Rattle.lv_geometry.specs.declared.nodes.Node.{Node}
+use Rattle.lv_geometry.specs.Levels.{thing_at}
 use Rattle.lv_geometry.specs.Nodes.{is_below, is_node}
-use Rattle.lv_geometry.proofs.NodeLaws.{level_of_node, number_below, some_width}
+use Rattle.lv_geometry.proofs.NodeLaws.{at_each_level, level_of_node, number_below, some_width}
 use Rattle.lv_refresh.specs.Claimed.{ClaimRows, ClaimTable, claim_blocks, claimed_in, is_hinted, no_claims, version_of}
-use Rattle.lv_refresh.specs.Inner.{AreClaims, IsClaimLevel}
+use Rattle.lv_refresh.specs.Inner.{AreClaims, ClaimLevelState, IsClaimLevel, claims_of}
 use Rattle.lv_refresh.specs.Marks.{is_marked}
 
 -- the rows of a level
 abbrev pub rows_at : ClaimTable → ℕ → ClaimRows
 rows_at c level = slice_index_or c.levels (level - 1) no_claims
+
+-- the rows of a level are those of its thing
+pub rows_at-thing : (of : Levels ClaimLevelState) (k : ℕ) → 1 ≤ k → k ≤ 6 → rows_at (claims_of of) k ≡ (thing_at of k).rows
+rows_at-thing of k low high = at_each_level (λ k. rows_at (claims_of of) k ≡ (thing_at of k).rows) refl refl refl refl refl refl k low high
 
 -- a node of the table was claimed at the version of its row
 pub claimed_in-inside : (c : ClaimTable) (n : Node) → is_node n ≡ true → claimed_in c n ≡ version_of (get_or (rows_at c n.level).claimed n.number 0)

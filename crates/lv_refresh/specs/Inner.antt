@@ -3,6 +3,7 @@ use Rattle.std.specs.Prelude.{◌≡◌, ℕ, ◌+◌, ◌-◌, ◌*◌, ◌^◌
 use Rattle.std.specs.List.{list_all, range_with_len, slice_index_or}
 use Rattle.lv_geometry.specs.declared.levels.Levels.{Levels}
 use Rattle.lv_geometry.specs.declared.nodes.Node.{Node}
+use Rattle.lv_geometry.specs.Levels.{thing_at}
 use Rattle.lv_geometry.specs.Nodes.{child, is_node, same_node}
 use Rattle.lv_edits.specs.declared.edit.Edit.{Edit}
 use Rattle.lv_edits.specs.Touch.{elements_under}
@@ -47,6 +48,18 @@ pub record FillsClaims (old new : ClaimRows) (n : ℕ) : Type 0 where
   pub more : length old.hints ≤ length new.hints
   pub room : n ≤ 64 * length new.hints
 
+-- six levels have the rows of others, whatever they have memory for
+abbrev pub HaveSameRows : Levels ClaimLevelState → Levels ClaimLevelState → Type 0
+HaveSameRows old new = (level : ℕ) → 1 ≤ level → level ≤ 6 → (thing_at new level).rows ≡ (thing_at old level).rows
+
+-- each of six levels has memory for so many rows
+abbrev pub HaveRoom : Levels ClaimLevelState → Levels ℕ → Type 0
+HaveRoom of rows = (level : ℕ) → 1 ≤ level → level ≤ 6 → thing_at rows level ≤ (thing_at of level).capacity
+
+-- each of six levels has further rows, so many in all
+abbrev pub AreFilled : Levels ClaimLevelState → Levels ClaimLevelState → Levels ℕ → Type 0
+AreFilled old new rows = (level : ℕ) → 1 ≤ level → level ≤ 6 → FillsClaims (thing_at old level).rows (thing_at new level).rows (thing_at rows level)
+
 -- the node of a number is hinted at, and nothing else has changed
 pub record HintsAt (old new : ClaimRows) (number : ℕ) : Type 0 where
   pub claimed : new.claimed ≡ old.claimed
@@ -80,6 +93,17 @@ pub record IsFirstHint (rows : ClaimRows) (number : ℕ) : Type 0 where
 -- whether all eight children of a node are fresh in a table
 abbrev pub children_fresh_in : {S : Type 0} → Table S → Node → Bool
 children_fresh_in t n = list_all (λ k. fresh_in t (child n k)) (range_with_len 0 8)
+
+-- whether four of them are, from one on
+abbrev pub four_fresh_in : {S : Type 0} → Table S → Node → ℕ → Bool
+four_fresh_in t n first = fresh_in t (child n first) && fresh_in t (child n (first + 1)) && fresh_in t (child n (first + 2)) && fresh_in t (child n (first + 3))
+
+-- four summaries are those of the children of a node, from one on
+pub record HasEntries {S : Type 0} (t : Table S) (n : Node) (first : ℕ) (a b c d : S) : Type 0 where
+  pub a_is : Some a ≡ entry_in t (child n first)
+  pub b_is : Some b ≡ entry_in t (child n (first + 1))
+  pub c_is : Some c ≡ entry_in t (child n (first + 2))
+  pub d_is : Some d ≡ entry_in t (child n (first + 3))
 
 -- above level 1 the eight children of a node are fresh in a table
 abbrev pub IsReady : {S : Type 0} → Table S → Node → Type 0

@@ -1,4 +1,5 @@
 ghost use Rattle.std.specs.Prelude.{◌≡◌, ℕ, ◌+◌, ◌*◌, ◌/◌, ◌^◌, ◌<◌, ◌≤◌, ◌&&◌, ◌||◌, Bool, true, false, None, Some, option_map, length, IfSome, IfNone, OnOk, OnErr, IfErr, if◌then◌else◌};
+ghost use Rattle.lv_geometry.specs.Levels.{thing_at};
 ghost use Rattle.lv_geometry.specs.Nodes.{covers, is_below, is_node, parent, same_node};
 ghost use Rattle.lv_bodies.specs.Body.{fold_of};
 ghost use Rattle.lv_edits.specs.Touch.{elements_under};
@@ -7,7 +8,7 @@ ghost use Rattle.lv_summary.specs.Table.{whole_in};
 ghost use Rattle.lv_refresh.specs.Claim.{IsNextJob};
 ghost use Rattle.lv_refresh.specs.Claimed.{AreHints, claim_blocks, claimed_in, is_hinted, record_of};
 ghost use Rattle.lv_refresh.specs.Honesty.{Stands};
-ghost use Rattle.lv_refresh.specs.Inner.{CanServe, GivesNext, HintsNode, HintsWants, IsJobOf, ServesNext, children_fresh_in};
+ghost use Rattle.lv_refresh.specs.Inner.{AreFilled, CanServe, GivesNext, HaveRoom, HaveSameRows, HintsNode, HintsWants, IsJobOf, ServesNext, children_fresh_in};
 
 use crate::computing::{Computed, summary_of};
 use crate::contents::Contents;
@@ -17,7 +18,7 @@ use crate::level::Level;
 use crate::wants::wants;
 use lv_bodies::Body;
 use lv_edits::Edits;
-use lv_geometry::{Levels, Node, Refusal, parents_of};
+use lv_geometry::{Levels, Node, Refusal, rows_of};
 use lv_summary::Summaries;
 use std::alloc::Global;
 use std::marker::Model;
@@ -68,23 +69,9 @@ impl Claims {
         ensures err { IfErr result (λ refusal. refusal ≡ Refusal.NoMemory) }
         ensures unchanged { OnErr result (self.new ≡ self.old) }
     {
-        let rows_2 = parents_of(blocks);
-        let rows_3 = parents_of(rows_2);
-        let rows_4 = parents_of(rows_3);
-        let rows_5 = parents_of(rows_4);
-        let rows_6 = parents_of(rows_5);
-        self.levels.level_1.reserve(blocks)?;
-        self.levels.level_2.reserve(rows_2)?;
-        self.levels.level_3.reserve(rows_3)?;
-        self.levels.level_4.reserve(rows_4)?;
-        self.levels.level_5.reserve(rows_5)?;
-        self.levels.level_6.reserve(rows_6)?;
-        self.levels.level_1.fill(blocks);
-        self.levels.level_2.fill(rows_2);
-        self.levels.level_3.fill(rows_3);
-        self.levels.level_4.fill(rows_4);
-        self.levels.level_5.fill(rows_5);
-        self.levels.level_6.fill(rows_6);
+        let rows = rows_of(blocks);
+        reserve_levels(&mut self.levels, &rows)?;
+        fill_levels(&mut self.levels, &rows);
         Ok(())
     }
 
@@ -227,6 +214,30 @@ impl Claims {
             return Some(next);
         }
         next_of(&mut self.levels.level_6, 6, table)
+    }
+}
+
+// Makes memory for so many rows on each level. No row changes.
+fn reserve_levels(levels: &mut Levels<Level>, rows: &Levels<u32>) -> Result<(), Refusal>
+    ensures rows { HaveSameRows levels.old levels.new }
+    ensures ok { OnOk result (HaveRoom levels.new rows.now) }
+    ensures err { IfErr result (λ refusal. refusal ≡ Refusal.NoMemory) }
+{
+    for level in 1..=6 {
+        levels.at_mut(level).reserve(*rows.at(level))?;
+    }
+    Ok(())
+}
+
+// Adds rows on each level that were not claimed and are not hinted at, so that there are so many in all, where there are
+// fewer.
+fn fill_levels(levels: &mut Levels<Level>, rows: &Levels<u32>)
+    requires room { HaveRoom levels.old rows.now }
+    requires few { (level : ℕ) → 1 ≤ level → level ≤ 6 → thing_at rows.now level ≤ 131071 }
+    ensures { AreFilled levels.old levels.new rows.now }
+{
+    for level in 1..=6 {
+        levels.at_mut(level).fill(*rows.at(level));
     }
 }
 

@@ -11,7 +11,7 @@ use lv_geometry::Node;
 use lv_summary::Summaries;
 
 /// A node that was claimed at a version, and its summary then.
-#[derive(Clone, Copy, Debug, PartialEq, Eq, Hash)]
+#[derive(Clone, Copy, Debug, PartialEq, Eq)]
 pub struct Computed<S> {
     pub node: Node,
     pub version: u32,

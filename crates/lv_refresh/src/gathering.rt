@@ -1,8 +1,8 @@
-ghost use Rattle.std.specs.Prelude.{◌≡◌, ℕ, ◌<◌, true, false, slice_get, IfSome, IfNone};
+ghost use Rattle.std.specs.Prelude.{◌≡◌, ℕ, ◌<◌, ◌≤◌, true, false, slice_get, IfSome, IfNone};
 ghost use Rattle.lv_geometry.specs.Nodes.{child};
 ghost use Rattle.lv_summary.specs.Table.{entry_in, whole_in};
 ghost use Rattle.lv_refresh.specs.Contents.{in_order};
-ghost use Rattle.lv_refresh.specs.Inner.{children_fresh_in};
+ghost use Rattle.lv_refresh.specs.Inner.{HasEntries, children_fresh_in, four_fresh_in};
 
 use crate::contents::Eight;
 use lv_geometry::Node;
@@ -16,18 +16,37 @@ pub fn children_of<S: Copy>(table: &Summaries<S>, node: Node) -> Option<Eight<S>
     ensures ready { IfSome result (λ summaries. children_fresh_in table.now node ≡ true) }
     ensures none { IfNone result (children_fresh_in table.now node ≡ false) }
 {
+    let (a, b, c, d) = four_children_of(table, node, 0)?;
+    let (e, f, g, h) = four_children_of(table, node, 4)?;
+    Some(Eight {
+        a,
+        b,
+        c,
+        d,
+        e,
+        f,
+        g,
+        h,
+    })
+}
+
+// The summaries of four of a whole node's children, from one on; none where one of them is not fresh.
+#[inline(always)]
+fn four_children_of<S: Copy>(table: &Summaries<S>, node: Node, first: u32) -> Option<(S, S, S, S)>
+    requires whole { whole_in table.now node ≡ true }
+    requires above { 1 < node.level }
+    requires few { first ≤ 4 }
+    ensures some { IfSome result (λ four. HasEntries table.now node first four.0 four.1 four.2 four.3) }
+    ensures none { IfNone result (four_fresh_in table.now node first ≡ false) }
+{
     // The size tells that the children's numbers are of 32 bits.
     let _size = table.size();
-    Some(Eight {
-        a: table.entry(node.child(0))?,
-        b: table.entry(node.child(1))?,
-        c: table.entry(node.child(2))?,
-        d: table.entry(node.child(3))?,
-        e: table.entry(node.child(4))?,
-        f: table.entry(node.child(5))?,
-        g: table.entry(node.child(6))?,
-        h: table.entry(node.child(7))?,
-    })
+    Some((
+        table.entry(node.child(first))?,
+        table.entry(node.child(first + 1))?,
+        table.entry(node.child(first + 2))?,
+        table.entry(node.child(first + 3))?,
+    ))
 }
 
 /// Whether the eight children of a whole node are fresh.
@@ -36,14 +55,21 @@ pub fn are_children_fresh<S: Copy>(table: &Summaries<S>, node: Node) -> bool
     requires above { 1 < node.level }
     ensures { result ≡ children_fresh_in table.now node }
 {
+    are_four_fresh(table, node, 0) && are_four_fresh(table, node, 4)
+}
+
+// Whether four of the children of a whole node, from one on, are fresh.
+#[inline(always)]
+fn are_four_fresh<S: Copy>(table: &Summaries<S>, node: Node, first: u32) -> bool
+    requires whole { whole_in table.now node ≡ true }
+    requires above { 1 < node.level }
+    requires few { first ≤ 4 }
+    ensures { result ≡ four_fresh_in table.now node first }
+{
     // The size tells that the children's numbers are of 32 bits.
     let _size = table.size();
-    table.fresh(node.child(0))
-        && table.fresh(node.child(1))
-        && table.fresh(node.child(2))
-        && table.fresh(node.child(3))
-        && table.fresh(node.child(4))
-        && table.fresh(node.child(5))
-        && table.fresh(node.child(6))
-        && table.fresh(node.child(7))
+    table.fresh(node.child(first))
+        && table.fresh(node.child(first + 1))
+        && table.fresh(node.child(first + 2))
+        && table.fresh(node.child(first + 3))
 }

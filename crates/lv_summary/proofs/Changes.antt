@@ -7,7 +7,7 @@ use Rattle.lv_geometry.specs.declared.nodes.Node.{Node}
 use Rattle.lv_geometry.specs.Levels.{thing_at, with_thing}
 use Rattle.lv_geometry.specs.Nodes.{covers, is_node, same_node}
 use Rattle.lv_geometry.proofs.NodeLaws.{at_each_level, level_of_node}
-use Rattle.lv_summary.specs.Inner.{IsLevel, IsSound, LevelState, filled, table_of, with_kept, with_learnt, with_touch}
+use Rattle.lv_summary.specs.Inner.{AreFilled, HaveSameRows, IsLevel, IsSound, LevelState, filled, table_of, with_kept, with_learnt, with_touch}
 use Rattle.lv_summary.specs.Changes.{AnswersAlike, HasSize, Keeps, Learns, Touches, beside}
 use Rattle.lv_summary.specs.Table.{Rows, Table, blocks_in, computed_in, kept_in, no_rows, rows_for, touched_in, whole_in}
 use Rattle.lv_summary.proofs.LevelLaws.{IsLevel-empty, IsLevel-filled, IsLevel-with_kept, IsLevel-with_learnt, IsLevel-with_touch, computed_at, computed_at-filled, computed_at-with_kept, computed_at-with_learnt, kept_at, kept_at-filled, kept_at-with_kept, kept_at-with_learnt, length-lengthened, touched_at, touched_at-filled, touched_at-with_touch}
@@ -229,6 +229,34 @@ Learns-at {S} {old} {new} sound size n k s whole at changed =
 abbrev pub HasRowsFilled : {S : Type 0} → Table S → Table S → ℕ → S → Type 0
 HasRowsFilled old new more blank =
     (level : ℕ) → 1 ≤ level → level ≤ 6 → (n : ℕ) × (rows_at new level ≡ filled (rows_at old level) n blank) × (8 * more ≤ n * 8 ^ level)
+
+-- the rows of a level of six
+rows_at-thing : {S : Type 0} (size : ℕ) (of : Levels (LevelState S)) (level : ℕ) → 1 ≤ level → level ≤ 6 → rows_at (table_of size of) level ≡ (thing_at of level).rows
+rows_at-thing size of level low high = at_each_level (λ level. rows_at (table_of size of) level ≡ (thing_at of level).rows) refl refl refl refl refl refl level low high
+
+-- levels with the same rows make the same table
+pub table_of-same : {S : Type 0} (size : ℕ) (old new : Levels (LevelState S)) → HaveSameRows old new → table_of size new ≡ table_of size old
+table_of-same size old new same =
+    let e1 : new.level_1.rows ≡ old.level_1.rows = same 1 (omega arith) (omega arith) in
+    let e2 : new.level_2.rows ≡ old.level_2.rows = same 2 (omega arith) (omega arith) in
+    let e3 : new.level_3.rows ≡ old.level_3.rows = same 3 (omega arith) (omega arith) in
+    let e4 : new.level_4.rows ≡ old.level_4.rows = same 4 (omega arith) (omega arith) in
+    let e5 : new.level_5.rows ≡ old.level_5.rows = same 5 (omega arith) (omega arith) in
+    let e6 : new.level_6.rows ≡ old.level_6.rows = same 6 (omega arith) (omega arith) in
+    cc
+
+-- levels that are filled up to the rows that so many blocks need
+pub HasRowsFilled-levels : {S : Type 0} (size : ℕ) (old more new : Levels (LevelState S)) (rows : Levels ℕ) (blocks : ℕ) (blank : S)
+    → HaveSameRows old more → AreFilled more new rows blank → ((level : ℕ) → 1 ≤ level → level ≤ 6 → 8 * blocks ≤ thing_at rows level * 8 ^ level)
+    → HasRowsFilled (table_of size old) (table_of size new) blocks blank
+HasRowsFilled-levels size old more new rows blocks blank same fills covers =
+    λ level low high. (
+      thing_at rows level,
+      rows_at-thing size new level low high
+          ∙ fills level low high
+          ∙ ap (λ r. filled r (thing_at rows level) blank) (same level low high ∙ sym (rows_at-thing size old level low high)),
+      covers level low high,
+    )
 
 -- the more of two numbers of blocks have rows
 blocks_in-filled : {S : Type 0} (old new : Table S) (more : ℕ) (blank : S) → rows_at new 1 ≡ filled (rows_at old 1) more blank → blocks_in new ≡ blocks_in old + (more - blocks_in old)

@@ -3,6 +3,7 @@ use Rattle.std.specs.Prelude.{◌≡◌, ℕ, ◌+◌, ◌-◌, ◌*◌, ◌^◌
 use Rattle.std.specs.List.{slice_index_or}
 use Rattle.lv_geometry.specs.declared.levels.Levels.{Levels}
 use Rattle.lv_geometry.specs.declared.nodes.Node.{Node}
+use Rattle.lv_geometry.specs.Levels.{thing_at}
 use Rattle.lv_geometry.specs.Nodes.{is_node}
 use Rattle.lv_summary.specs.Table.{Rows, Table, blocks_in, no_rows, rows_for, whole_in}
 
@@ -24,6 +25,19 @@ filled rows n blank =
       computed = lengthened rows.computed n 0;
       kept = lengthened rows.kept n blank;
     }
+
+-- six levels have the rows of others, whatever they have memory for
+abbrev pub HaveSameRows : {S : Type 0} → Levels (LevelState S) → Levels (LevelState S) → Type 0
+HaveSameRows old new = (level : ℕ) → 1 ≤ level → level ≤ 6 → (thing_at new level).rows ≡ (thing_at old level).rows
+
+-- each of six levels has memory for so many rows
+abbrev pub HaveRoom : {S : Type 0} → Levels (LevelState S) → Levels ℕ → Type 0
+HaveRoom of rows = (level : ℕ) → 1 ≤ level → level ≤ 6 → thing_at rows level ≤ (thing_at of level).capacity
+
+-- each of six levels has further rows, so many in all
+abbrev pub AreFilled : {S : Type 0} → Levels (LevelState S) → Levels (LevelState S) → Levels ℕ → S → Type 0
+AreFilled old new rows blank =
+    (level : ℕ) → 1 ≤ level → level ≤ 6 → (thing_at new level).rows ≡ filled (thing_at old level).rows (thing_at rows level) blank
 
 -- rows after an edit that touched the node of a number
 abbrev pub with_touch : {S : Type 0} → Rows S → ℕ → ℕ → Rows S

@@ -1,5 +1,5 @@
 /// What became of a summary that was delivered.
-#[derive(Clone, Copy, Debug, PartialEq, Eq, Hash)]
+#[derive(Clone, Copy, Debug, PartialEq, Eq)]
 pub enum Accepted {
     /// It is kept from now on.
     Installed,

@@ -1,12 +1,12 @@
 ghost use Rattle.std.specs.Prelude.{◌≡◌, ◌/◌, ◌*◌, ◌<◌, ◌≤◌, true, false, option_map, None, IfSome, IfNone, OnOk, OnErr, IfErr};
 ghost use Rattle.lv_geometry.specs.Nodes.{is_node};
-ghost use Rattle.lv_summary.specs.Inner.{IsLevelOf, IsRowOf};
+ghost use Rattle.lv_summary.specs.Inner.{AreFilled, HaveRoom, HaveSameRows, IsLevelOf, IsRowOf};
 ghost use Rattle.lv_summary.specs.Changes.{AfterDelivery, AnswersAlike, HasSize, Keeps, Learns, Touches};
 ghost use Rattle.lv_summary.specs.Table.{blocks_in, computed_in, delivery_in, entry_in, fresh_in, kept_in, known_entry_in, touched_in, whole_in};
 
 use crate::accepted::Accepted;
 use crate::level::Level;
-use lv_geometry::{Levels, Node, Refusal, parents_of};
+use lv_geometry::{Levels, Node, Refusal, rows_of};
 use std::alloc::Global;
 use std::marker::Model;
 
@@ -62,23 +62,9 @@ impl<S: Copy> Summaries<S> {
         ensures err { IfErr result (λ refusal. refusal ≡ Refusal.NoMemory) }
         ensures unchanged { OnErr result (self.new ≡ self.old) }
     {
-        let rows_2 = parents_of(blocks);
-        let rows_3 = parents_of(rows_2);
-        let rows_4 = parents_of(rows_3);
-        let rows_5 = parents_of(rows_4);
-        let rows_6 = parents_of(rows_5);
-        self.levels.level_1.reserve(blocks)?;
-        self.levels.level_2.reserve(rows_2)?;
-        self.levels.level_3.reserve(rows_3)?;
-        self.levels.level_4.reserve(rows_4)?;
-        self.levels.level_5.reserve(rows_5)?;
-        self.levels.level_6.reserve(rows_6)?;
-        self.levels.level_1.fill(blocks, self.blank);
-        self.levels.level_2.fill(rows_2, self.blank);
-        self.levels.level_3.fill(rows_3, self.blank);
-        self.levels.level_4.fill(rows_4, self.blank);
-        self.levels.level_5.fill(rows_5, self.blank);
-        self.levels.level_6.fill(rows_6, self.blank);
+        let rows = rows_of(blocks);
+        reserve_levels(&mut self.levels, &rows)?;
+        fill_levels(&mut self.levels, &rows, self.blank);
         Ok(())
     }
 
@@ -245,5 +231,27 @@ impl<S: Copy> Summaries<S> {
         } else {
             None
         }
+    }
+}
+
+// Makes memory for so many rows on each level. No row changes.
+fn reserve_levels<S: Copy>(levels: &mut Levels<Level<S>>, rows: &Levels<u32>) -> Result<(), Refusal>
+    ensures rows { HaveSameRows levels.old levels.new }
+    ensures ok { OnOk result (HaveRoom levels.new rows.now) }
+    ensures err { IfErr result (λ refusal. refusal ≡ Refusal.NoMemory) }
+{
+    for level in 1..=6 {
+        levels.at_mut(level).reserve(*rows.at(level))?;
+    }
+    Ok(())
+}
+
+// Adds blank rows on each level, so that there are so many in all, where there are fewer.
+fn fill_levels<S: Copy>(levels: &mut Levels<Level<S>>, rows: &Levels<u32>, blank: S)
+    requires { HaveRoom levels.old rows.now }
+    ensures { AreFilled levels.old levels.new rows.now blank }
+{
+    for level in 1..=6 {
+        levels.at_mut(level).fill(*rows.at(level), blank);
     }
 }

@@ -1,23 +1,24 @@
-use Rattle.std.proofs.Common.{ap, arith, sym, ◌∙◌}
-use Rattle.std.proofs.lemmas.Bool.{and_parts}
-use Rattle.lv_summary.specs.Table.{entry_in}
+use Rattle.std.proofs.Common.{◌∙◌}
+use Rattle.std.proofs.lemmas.Bool.{and_from, and_left, and_right}
 use Rattle.lv_geometry.proofs.NodeLaws.{at_each_child}
-use Rattle.lv_refresh.proofs.GatherLaws.{children_fit}
+use Rattle.lv_refresh.proofs.GatherLaws.{children_fresh-fours, four_fresh-entries}
 use Rattle.lv_refresh.proofs.gathering.children_of.Goals as goal
 
-pub child-requires-clause-fits : goal.child-requires-clause-fits
-child-requires-clause-fits g c =
-    omega (arith, children_fit c.args.node c.args.table.now.size (and_parts _ _ c.requires.whole).1 c.requires.above)
+pub returns-in_err-a : goal.returns-in_err-a
+returns-in_err-a g c =
+    rw c.from_residual.ensures record { some = tt; ready = tt; none = children_fresh-fours c.args.table.now c.args.node ∙ and_left _ _ c.in_err-a.ensures.none }
 
-pub returns-clause-some : goal.returns-clause-some
-returns-clause-some g c =
-    let kept = entry_in c.args.table.now in
-    at_each_child _
-    (sym c.in_ok-entry.was ∙ c.entry.ensures ∙ ap kept c.child.ensures)
-    (sym c.in_ok-entry-2.was ∙ c.entry-2.ensures ∙ ap kept c.child-2.ensures)
-    (sym c.in_ok-entry-3.was ∙ c.entry-3.ensures ∙ ap kept c.child-3.ensures)
-    (sym c.in_ok-entry-4.was ∙ c.entry-4.ensures ∙ ap kept c.child-4.ensures)
-    (sym c.in_ok-entry-5.was ∙ c.entry-5.ensures ∙ ap kept c.child-5.ensures)
-    (sym c.in_ok-entry-6.was ∙ c.entry-6.ensures ∙ ap kept c.child-6.ensures)
-    (sym c.in_ok-entry-7.was ∙ c.entry-7.ensures ∙ ap kept c.child-7.ensures)
-    (sym c.in_ok-entry-8.was ∙ c.entry-8.ensures ∙ ap kept c.child-8.ensures)
+pub returns-in_err-e : goal.returns-in_err-e
+returns-in_err-e g c =
+    rw c.from_residual-in_err-e.ensures record { some = tt; ready = tt; none = children_fresh-fours c.args.table.now c.args.node ∙ and_right _ _ c.in_err-e.ensures.none }
+
+pub returns : goal.returns
+returns g c =
+    let four = c.in_ok-a.ensures.some in
+    let others = c.in_ok-e.ensures.some in
+    record {
+      some = at_each_child _ four.a_is four.b_is four.c_is four.d_is others.a_is others.b_is others.c_is others.d_is;
+      ready = children_fresh-fours c.args.table.now c.args.node
+          ∙ and_from _ _ (four_fresh-entries c.args.table.now c.args.node 0 _ _ _ _ four) (four_fresh-entries c.args.table.now c.args.node 4 _ _ _ _ others);
+      none = tt;
+    }

@@ -1,5 +1,5 @@
 use Rattle.std.proofs.Common.{None, Some}
-use Rattle.lv_refresh.proofs.ComputeLaws.{ready_served}
+use Rattle.lv_refresh.proofs.ComputeLaws.{ready_served, whole_served}
 use Rattle.lv_refresh.proofs.NextLaws.{AreHints-served, HintsWants-from, IsNextJob-served}
 use Rattle.lv_refresh.proofs.claims.Claims.compute.Goals as goal
 
@@ -21,3 +21,6 @@ returns-in-None-clause-next g c = IsNextJob-served _ _ c.args.table.now c.requir
 
 pub returns-in-None-clause-hints : goal.returns-in-None-clause-hints
 returns-in-None-clause-hints g c = AreHints-served _ _ c.args.table.now c.requires.agrees c.args.self.now c.next.new.self None c.in-None.ensures
+
+pub summary_of-requires-clause-whole : goal.summary_of-requires-clause-whole
+summary_of-requires-clause-whole g c κs within = whole_served c.args.table.now c.args.self.now c.next.new.self (c.in-Some.node, c.in-Some.version) c.in-Some.ensures

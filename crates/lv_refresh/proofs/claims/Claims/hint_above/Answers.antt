@@ -1,7 +1,7 @@
 use Rattle.std.proofs.Common.{◌≡◌, ◌+◌, ◌≤◌, ap, arith, length, sym}
 use Rattle.lv_geometry.proofs.NodeLaws.{level_of_node}
-use Rattle.lv_refresh.proofs.HintLaws.{AreClaims-hinted, HintsLevel-one, HintsNode-by_rows, rows_at-thing}
-use Rattle.lv_refresh.proofs.RowLaws.{hint_of_parent}
+use Rattle.lv_refresh.proofs.HintLaws.{AreClaims-hinted, HintsLevel-one, HintsNode-by_rows}
+use Rattle.lv_refresh.proofs.RowLaws.{hint_of_parent, rows_at-thing}
 use Rattle.lv_refresh.proofs.claims.Claims.hint_above.Goals as goal
 
 pub at_mut-requires-clause-low : goal.at_mut-requires-clause-low

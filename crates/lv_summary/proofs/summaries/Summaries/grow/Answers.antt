@@ -1,32 +1,32 @@
-use Rattle.std.proofs.Common.{◌≡◌, ◌*◌, ◌≤◌, ap, arith, refl, ◌∙◌}
-use Rattle.lv_geometry.proofs.NodeLaws.{at_each_level, enough_above}
+use Rattle.std.proofs.Common.{◌≡◌, refl, ap, arith, ◌∙◌}
+use Rattle.std.proofs.lemmas.Result.{err_from_is_err_and}
 use Rattle.lv_summary.specs.Inner.{filled, table_of}
-use Rattle.lv_summary.proofs.Changes.{AnswersAlike-by_rows, HasRowsFilled, IsSound-filled, blocks_in_enough, blocks_in_more}
+use Rattle.lv_summary.proofs.Changes.{AnswersAlike-by_rows, HasRowsFilled, HasRowsFilled-levels, IsSound-filled, blocks_in_enough, blocks_in_more, table_of-same}
 use Rattle.lv_summary.proofs.summaries.Summaries.grow.Given.{Over}
 use Rattle.lv_summary.proofs.summaries.Summaries.grow.Goals as goal
 
 -- every level is filled up to the rows that its indices need
-rows_filled : (g : Over) (c : goal.After-fill-6 g) → HasRowsFilled (table_of c.self.inside.size c.self.inside.levels) (table_of c.self.inside.size record { level_1 = c.fill.new.self; level_2 = c.fill-2.new.self; level_3 = c.fill-3.new.self; level_4 = c.fill-4.new.self; level_5 = c.fill-5.new.self; level_6 = c.fill-6.new.self }) c.args.blocks c.self.inside.blank
+rows_filled : (g : Over) (c : goal.After-fill_levels g) → HasRowsFilled (table_of c.self.inside.size c.self.inside.levels) (table_of c.self.inside.size c.fill_levels.new.levels) c.args.blocks c.self.inside.blank
 rows_filled g c =
-    let more = c.args.blocks in
-    let blank = c.self.inside.blank in
-    let e1 : 8 * more ≤ more * 8 = omega arith in
-    let e2 = enough_above (8 * more) more c.parents_of-rows_2.result 8 c.parents_of-rows_2.ensures e1 in
-    let e3 = enough_above (8 * more) c.parents_of-rows_2.result c.parents_of-rows_3.result 64 c.parents_of-rows_3.ensures e2 in
-    let e4 = enough_above (8 * more) c.parents_of-rows_3.result c.parents_of-rows_4.result 512 c.parents_of-rows_4.ensures e3 in
-    let e5 = enough_above (8 * more) c.parents_of-rows_4.result c.parents_of-rows_5.result 4096 c.parents_of-rows_5.ensures e4 in
-    let e6 = enough_above (8 * more) c.parents_of-rows_5.result c.parents_of-rows_6.result 32768 c.parents_of-rows_6.ensures e5 in
-    at_each_level _
-    (more, c.fill.ensures ∙ ap (λ r. filled r more blank) c.in_ok-reserve.ensures.rows, e1)
-    (c.parents_of-rows_2.result, c.fill-2.ensures ∙ ap (λ r. filled r c.parents_of-rows_2.result blank) c.in_ok-reserve-2.ensures.rows, e2)
-    (c.parents_of-rows_3.result, c.fill-3.ensures ∙ ap (λ r. filled r c.parents_of-rows_3.result blank) c.in_ok-reserve-3.ensures.rows, e3)
-    (c.parents_of-rows_4.result, c.fill-4.ensures ∙ ap (λ r. filled r c.parents_of-rows_4.result blank) c.in_ok-reserve-4.ensures.rows, e4)
-    (c.parents_of-rows_5.result, c.fill-5.ensures ∙ ap (λ r. filled r c.parents_of-rows_5.result blank) c.in_ok-reserve-5.ensures.rows, e5)
-    (c.parents_of-rows_6.result, c.fill-6.ensures ∙ ap (λ r. filled r c.parents_of-rows_6.result blank) c.in_ok-reserve-6.ensures.rows, e6)
+    HasRowsFilled-levels c.self.inside.size c.self.inside.levels c.reserve_levels.new.levels c.fill_levels.new.levels c.rows_of-rows.result c.args.blocks c.self.inside.blank
+    c.in_ok-reserve_levels.ensures.rows c.fill_levels.ensures c.rows_of-rows.ensures.covers
 
 -- the first level is filled up to a row for each block
-first_filled : (g : Over) (c : goal.After-fill-6 g) → c.fill.new.self.rows ≡ filled c.self.inside.levels.level_1.rows c.args.blocks c.self.inside.blank
-first_filled g c = c.fill.ensures ∙ ap (λ r. filled r c.args.blocks c.self.inside.blank) c.in_ok-reserve.ensures.rows
+first_filled : (g : Over) (c : goal.After-fill_levels g) → c.fill_levels.new.levels.level_1.rows ≡ filled c.self.inside.levels.level_1.rows c.args.blocks c.self.inside.blank
+first_filled g c =
+    let blank = c.self.inside.blank in
+    c.fill_levels.ensures 1 (omega arith) (omega arith)
+    ∙ ap (λ rows. filled rows c.rows_of-rows.result.level_1 blank) (c.in_ok-reserve_levels.ensures.rows 1 (omega arith) (omega arith))
+    ∙ ap (λ n. filled c.self.inside.levels.level_1.rows n blank) c.rows_of-rows.ensures.blocks
+
+pub invariant_of-self : goal.invariant_of-self
+invariant_of-self g c = rw (table_of-same c.self.inside.size c.self.inside.levels c.reserve_levels.new.levels c.in_err-reserve_levels.ensures.rows) c.self.invariant
+
+pub returns-in_err-reserve_levels : goal.returns-in_err-reserve_levels
+returns-in_err-reserve_levels g c =
+    let same = table_of-same c.self.inside.size c.self.inside.levels c.reserve_levels.new.levels c.in_err-reserve_levels.ensures.rows in
+    let told = err_from_is_err_and c.from_residual.result c.from_residual.ensures.1 in
+    rw (← c.self.view_is, same, told.1, told.2) record { alike = record { size = refl; touched = λ n. refl; kept = λ n. refl; computed = λ n. refl }; more = omega arith; ok = tt; err = c.in_err-reserve_levels.ensures.err; unchanged = refl }
 
 pub invariant_of-self-2 : goal.invariant_of-self-2
 invariant_of-self-2 g c =

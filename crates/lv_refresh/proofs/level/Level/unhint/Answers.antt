@@ -1,0 +1,5 @@
+use Rattle.std.proofs.Common.{refl}
+use Rattle.lv_refresh.proofs.level.Level.unhint.Goals as goal
+
+pub returns : goal.returns
+returns c = rw (← c.self.view_is) record { claimed = refl; hints = c.clear.ensures.marks; room = c.clear.ensures.room; lighter = c.clear.ensures.lighter }
