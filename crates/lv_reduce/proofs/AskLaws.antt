@@ -1,8 +1,6 @@
 -- The walk of a reduction that keeps what it computes, over the greatest nodes inside its range.
-use Rattle.std.proofs.Common.{◌≡◌, ℕ, ℤ, ◌+◌, ◌-◌, ◌*◌, ◌/◌, ◌%◌, ◌^◌, ◌<◌, ◌≤◌, Bool, true, false, ◌&&◌, List, length, count_by, nat_le, slice_range, refl, subst, sym, ap, ◌∙◌, inl, inr, arith}
-use Rattle.std.specs.List.{range_with_len}
-use Rattle.std.proofs.lemmas.Bool.{and_from, and_parts, cases_lt, false≢true, le-leb, true≢false}
-use Rattle.std.proofs.Math.Nat.{mul-le-mul_right}
+use Rattle.std.proofs.Common.{◌≡◌, ℕ, ◌+◌, ◌-◌, ◌*◌, ◌/◌, ◌%◌, ◌^◌, ◌<◌, ◌≤◌, Bool, true, List, length, nat_le, slice_range, refl, subst, sym, ap, ◌∙◌, inl, inr, arith}
+use Rattle.std.proofs.lemmas.Bool.{and_from, and_parts, cases_lt, le-leb, true≢false}
 use Rattle.lv_geometry.specs.declared.nodes.Node.{Node}
 use Rattle.lv_geometry.specs.Nodes.{is_below, is_node, over}
 use Rattle.lv_geometry.proofs.NodeLaws.{node_of_level, some_width}
@@ -15,8 +13,8 @@ use Rattle.lv_summary.specs.Changes.{OnlyLearns}
 use Rattle.lv_summary.specs.Table.{Table, known_in, whole_in}
 use Rattle.lv_summary.proofs.TableLaws.{OnlyLearns-along, OnlyLearns-self}
 use Rattle.lv_reduce.specs.declared.asking.Known.{Known}
-use Rattle.lv_reduce.specs.Asked.{AreTopsKnown, IsFewAsked, Knows, is_learnt, is_learnt_inside, learnt_blocks, learnt_from}
-use Rattle.lv_reduce.specs.Cost.{AllFresh, is_top, unfresh_blocks}
+use Rattle.lv_reduce.specs.Asked.{AreTopsKnown, IsFewAsked, Knows, is_learnt, is_learnt_inside, learnt_from}
+use Rattle.lv_reduce.specs.Cost.{AllFresh, is_top}
 use Rattle.lv_reduce.specs.Pieces.{Fits, NoneFresh}
 use Rattle.lv_reduce.proofs.Bounds.{few_reads}
 use Rattle.lv_reduce.proofs.KnowLaws.{counted, counted-is, counted-le, counted-more, eight_widths, learnt_first, learnt_from-is, learnt_then, node_slice}

@@ -1,5 +1,5 @@
 -- The fold of a range with a node's elements at its end.
-use Rattle.std.proofs.Common.{◌≡◌, ℕ, ℤ, ◌+◌, ◌-◌, ◌^◌, ◌≤◌, Bool, List, ◌++◌, length, drop, take, min, slice_range, sym, ap, subst, ◌∙◌, arith}
+use Rattle.std.proofs.Common.{◌≡◌, ℕ, ℤ, ◌+◌, ◌-◌, ◌^◌, ◌<◌, ◌≤◌, Bool, List, [], ◌∷◌, ◌++◌, length, drop, take, min, slice_index_or, slice_range, sym, ap, subst, ◌∙◌, arith}
 use Rattle.std.proofs.lemmas.List.{drop-drop, take-take, take_all}
 use Rattle.std.proofs.Math.Seq.{take-add}
 use Rattle.lv_geometry.specs.Nodes.{over}
@@ -7,7 +7,7 @@ use Rattle.lv_bodies.specs.Body.{BodyLaws, CanFold, CanJoin, Operations, fold_of
 use Rattle.lv_bodies.specs.FoldLaws.{fold_of-append, fold_of-within}
 use Rattle.lv_edits.specs.declared.edit.Edit.{Edit}
 use Rattle.lv_edits.specs.History.{list_of}
-use Rattle.lv_edits.proofs.Slices.{length-slice_range, part_of_take}
+use Rattle.lv_edits.proofs.Slices.{length-slice_range, part_of_take, slice_range-more}
 use Rattle.lv_known.specs.Agrees.{Agrees}
 use Rattle.lv_summary.specs.Table.{Table}
 use Rattle.lv_known.proofs.AgreesLaws.{entry_folds}
@@ -26,6 +26,12 @@ slice_range-append xs lo at end low high =
     ap (λ n. take n (drop lo xs)) long
     ∙ take-add (at - lo) (end - at) (drop lo xs)
     ∙ ap (λ ys. take (at - lo) (drop lo xs) ++ take (end - at) ys) (drop-drop (at - lo) lo xs ∙ ap (λ n. drop n xs) place)
+
+-- a slice of one element
+pub slice_range-one : {A : Type 0} (xs : List A) (at : ℕ) (x : A) → at < length xs → x ≡ slice_index_or xs at x → x ∷ [] ≡ slice_range xs at (at + 1)
+slice_range-one xs at x small is =
+    let none : 0 ≡ at - at = omega arith in
+    ap (λ n. take n (drop at xs) ++ x ∷ []) none ∙ sym (slice_range-more xs at at x (omega arith) small is)
 
 -- the slice of all is the list
 pub slice_range-whole : {A : Type 0} (xs : List A) → slice_range xs 0 (length xs) ≡ xs

@@ -1,6 +1,8 @@
 -- Folds and scans that go on from a summary.
-use Rattle.std.specs.Prelude.{◌≡◌, ℕ, ℤ, ◌+◌, ◌*◌, ◌^◌, ◌<◌, ◌≤◌, Bool, List, [], ◌∷◌, fold, length, take, drop, slice_index_or, if◌then◌else◌}
+use Rattle.std.specs.Prelude.{◌≡◌, ℕ, ℤ, ◌+◌, ◌-◌, ◌*◌, ◌%◌, ◌^◌, ◌<◌, ◌≤◌, Bool, List, [], ◌∷◌, fold, length, take, drop, slice_index_or, if◌then◌else◌}
 use Rattle.lv_bodies.specs.Body.{Operations, fold_of}
+use Rattle.lv_reduce.specs.declared.parallel.rows.Part.{Part}
+use Rattle.lv_reduce.specs.Rows.{IsPart, elements_of}
 
 -- the summary that a fold over a list reaches from another
 abbrev pub reached : {S : Type 0} → Operations S → S → List ℤ → S
@@ -25,3 +27,12 @@ AreOfPieces {S} o size xs folds = (n : ℕ) (d : S) → n < length folds → sli
 pub record AreBefore {S : Type 0} (o : Operations S) (size : ℕ) (xs : List ℤ) (befores : List S) : Type 0 where
   pub count : (n : ℕ) → n * size < length xs → n < length befores
   pub folds : (n : ℕ) (d : S) → n < length befores → slice_index_or befores n d ≡ fold_of o (take (n * size) xs)
+
+-- so many elements of a part from an index on are in the piece that begins there, and what stands before each piece is told
+pub record IsPiece {S : Type 0} (o : Operations S) (part : Part) (befores : List S) (size start many : ℕ) : Type 0 where
+  pub can_fold : IsPart part
+  pub are_before : AreBefore o size (elements_of part) befores
+  pub wide : 0 < size
+  pub begins : start % size ≡ 0
+  pub some : 0 < many
+  pub inside : start + many ≤ part.hi - part.lo

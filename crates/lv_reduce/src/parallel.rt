@@ -9,7 +9,7 @@ mod slices;
 
 use crate::scans::{Scan, running_folds};
 use crate::values::Values;
-use crate::views::{View, refusal_of};
+use crate::views::{View, refusal_of, run_at};
 use halves::{LEAST_FOLD, LEAST_SCAN, fold_halved, halvings};
 use lv_bodies::Body;
 use lv_edits::Edits;
@@ -101,16 +101,12 @@ pub fn copy_range(alloc: Global, cells: &Edits, lo: u32, hi: u32) -> Result<Vec<
     ensures { IfOk result (λ xs. xs.items ≡ slice_of cells.now.journal lo hi) }
 {
     let mut xs = Vec::with_capacity(alloc, (hi - lo) as usize)?;
+    let mut cell = [0];
     let mut at = lo;
     while at < hi {
-        let run = cells.stretch(at, hi);
-        if run.is_empty() {
-            xs.push_reserved(cells.read(at));
-            at += 1;
-        } else {
-            xs.extend_from_slice(run)?;
-            at += run.len() as u32;
-        }
+        let run = run_at(cells, at, hi, &mut cell);
+        xs.extend_from_slice(run)?;
+        at += run.len() as u32;
     }
     Ok(xs)
 }

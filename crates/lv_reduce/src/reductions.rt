@@ -13,7 +13,7 @@ use lv_summary::Summaries;
 
 /// The answer to a reduction: the number of the last edit, the fold of the range's elements, and how many cells and
 /// summaries were read for it.
-#[derive(Clone, Copy, Debug, PartialEq, Eq, Hash)]
+#[derive(Clone, Copy, Debug, PartialEq, Eq)]
 pub struct Answer<S> {
     pub edit: u32,
     pub value: S,

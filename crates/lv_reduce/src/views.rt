@@ -1,4 +1,5 @@
-ghost use Rattle.std.specs.Prelude.{◌≡◌, ◌≤◌, length, IfNone};
+ghost use Rattle.std.specs.Prelude.{◌≡◌, ◌+◌, ◌<◌, ◌≤◌, length, IfNone};
+ghost use Rattle.std.specs.List.{slice_range};
 ghost use Rattle.lv_edits.specs.History.{list_of};
 ghost use Rattle.lv_edits.specs.Kept.{IsLegalInLimits};
 ghost use Rattle.lv_reduce.specs.Answer.{range_refusal};
@@ -29,4 +30,22 @@ pub fn refusal_of(cells: &Edits, lo: u32, hi: u32) -> Option<Refusal>
     } else {
         None
     }
+}
+
+/// Elements from index `at` on, before `hi`, one at least: a run of them where they lie, or the one at `at` alone, which is put into
+/// `cell`, where the last edit's write of it isn't in its place yet.
+#[inline(always)]
+pub fn run_at<'a>(cells: &'a Edits, at: u32, hi: u32, cell: &'a mut [i64; 1]) -> &'a [i64]
+    requires order { at < hi }
+    requires inside { hi ≤ length (list_of cells.now.journal) }
+    ensures elements { result.now ≡ slice_range (list_of cells.now.journal) at (at + length result.now) }
+    ensures some { 0 < length result.now }
+    ensures few { at + length result.now ≤ hi }
+{
+    let run = cells.stretch(at, hi);
+    if run.is_empty() {
+        *cell = [cells.read(at)];
+        return &cell[..];
+    }
+    run
 }

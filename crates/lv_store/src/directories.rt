@@ -46,7 +46,9 @@ impl<T: Copy> Directory<T> {
         ensures err { IfErr result (λ refusal. refusal ≡ Refusal.NoMemory) }
         ensures unchanged { OnErr result (self.new ≡ self.old) }
     {
-        self.buckets.reserve(1).map_err(|_| Refusal::NoMemory)?;
+        let Ok(()) = self.buckets.reserve(1) else {
+            return Err(Refusal::NoMemory);
+        };
         let bucket = blank_bucket(self.alloc, self.buckets.len() as u32, blank)?;
         self.buckets.push_reserved(bucket);
         Ok(())

@@ -67,7 +67,9 @@ impl Store {
         let open = self.versions.len();
         let buckets = buckets_for(cells);
         let more = ((capacity(buckets) / 8) as usize).saturating_sub(open);
-        self.versions.reserve(more).map_err(|_| Refusal::NoMemory)?;
+        let Ok(()) = self.versions.reserve(more) else {
+            return Err(Refusal::NoMemory);
+        };
         self.values.open_to(buckets, 0)?;
         add_blanks(&mut self.versions, more);
         Ok(())

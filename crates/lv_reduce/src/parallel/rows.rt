@@ -7,6 +7,7 @@ ghost use Rattle.lv_reduce.specs.Answer.{slice_of};
 ghost use Rattle.lv_reduce.specs.Running.{CanGoOn, reached};
 ghost use Rattle.lv_reduce.specs.Rows.{elements_in};
 
+use crate::views::run_at;
 use lv_bodies::{Body, fold_more, fold_slice};
 use lv_edits::Edits;
 
@@ -38,7 +39,7 @@ pub fn fold_range<B: Body>(row: Row<'_>, body: &B, lo: u32, hi: u32) -> B::S
     }
 }
 
-// The fold of a range of a vector, by runs of elements that lie side by side, and cell by cell where a write is pending.
+// The fold of a range of a vector, by runs of elements that lie side by side.
 fn fold_cells<B: Body>(cells: &Edits, body: &B, lo: u32, hi: u32) -> B::S
     requires can { CanFold (list_of cells.now.journal) }
     requires order { lo ≤ hi }
@@ -46,16 +47,12 @@ fn fold_cells<B: Body>(cells: &Edits, body: &B, lo: u32, hi: u32) -> B::S
     ensures { result ≡ fold_of (B.operations (B.meaning body.now)) (slice_of cells.now.journal lo hi) }
 {
     let mut sum = body.identity();
+    let mut cell = [0];
     let mut at = lo;
     while at < hi {
-        let run = cells.stretch(at, hi);
-        if run.is_empty() {
-            sum = fold_more(body, sum, cells.read(at));
-            at += 1;
-        } else {
-            sum = fold_on(body, sum, run);
-            at += run.len() as u32;
-        }
+        let run = run_at(cells, at, hi, &mut cell);
+        sum = fold_on(body, sum, run);
+        at += run.len() as u32;
     }
     sum
 }

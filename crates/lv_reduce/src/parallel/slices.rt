@@ -1,16 +1,18 @@
 //! The two scans of elements where they lie: as one piece into a new vector, and by several threads into disjoint pieces of one.
-ghost use Rattle.std.specs.Prelude.{◌≡◌, ℕ, ◌+◌, ◌-◌, ◌*◌, ◌%◌, ◌<◌, ◌≤◌, ◌^◌, ◌++◌, length, take, drop, vec_len, All, IfOk};
+ghost use Rattle.std.specs.Prelude.{◌≡◌, ℕ, ◌+◌, ◌-◌, ◌*◌, ◌<◌, ◌≤◌, ◌^◌, ◌++◌, length, take, drop, vec_len, All, IfOk};
 ghost use Rattle.std.specs.List.{slice_range};
 ghost use Rattle.lv_geometry.specs.Elements.{IsElement};
 ghost use Rattle.lv_bodies.specs.Body.{CanFold, fold_of};
 ghost use Rattle.lv_edits.specs.History.{list_of};
 ghost use Rattle.lv_reduce.specs.Answer.{scan_of, slice_of};
 ghost use Rattle.lv_reduce.specs.Rows.{IsPart, elements_of};
-ghost use Rattle.lv_reduce.specs.Running.{AreBefore, AreOfPieces, CanGoOn, reached, scan_from};
+ghost use Rattle.lv_reduce.specs.Running.{AreBefore, AreOfPieces, CanGoOn, IsPiece, reached, scan_from};
 
 use crate::parallel::halves::{LEAST_SCAN, halvings};
 use crate::parallel::rows::{Part, Row, fold_range};
 use crate::reductions::join;
+use crate::scans::push_folds;
+use crate::views::run_at;
 use lv_bodies::{Body, fold_more};
 use lv_edits::Edits;
 use rayon::prelude::*;
@@ -84,12 +86,7 @@ pub fn scan_alone<B: Body>(
     ensures { IfOk result (λ values. values.items ≡ scan_of inclusive (B.operations (B.meaning body.now)) xs.now) }
 {
     let mut values = Vec::with_capacity(alloc, xs.len())?;
-    let mut sum = body.identity();
-    for x in xs {
-        let before = sum;
-        sum = fold_more(body, before, *x);
-        values.push_reserved(if inclusive { sum } else { before });
-    }
+    push_folds(body, inclusive, body.identity(), xs, &mut values);
     Ok(values)
 }
 
@@ -177,7 +174,7 @@ fn scan_pieces<R: Threads + Sync, B: Body>(
         values,
         size,
         |start: usize, piece: &mut [B::S]|
-            requires { IsPart part × AreBefore (B.operations (B.meaning body.now)) size (elements_of part) befores.now × (0 < size) × (start % size ≡ 0) × (0 < length piece.now) × (start + length piece.now ≤ part.hi - part.lo) }
+            requires { IsPiece (B.operations (B.meaning body.now)) part befores.now size start (length piece.now) }
             ensures { piece.exit.now ≡ scan_from inclusive (B.operations (B.meaning body.entry.now)) (fold_of (B.operations (B.meaning body.entry.now)) (take start (elements_of part.entry))) (slice_range (elements_of part.entry) start (start + length piece.entry.now)) }
         { scan_piece(part, body, inclusive, befores, size, start, piece) },
     );
@@ -193,12 +190,7 @@ fn scan_piece<B: Body>(
     start: usize,
     piece: &mut [B::S],
 )
-    requires part { IsPart part }
-    requires befores { AreBefore (B.operations (B.meaning body.now)) size (elements_of part) befores.now }
-    requires size { 0 < size }
-    requires begins { start % size ≡ 0 }
-    requires some { 0 < length piece.old }
-    requires inside { start + length piece.old ≤ part.hi - part.lo }
+    requires { IsPiece (B.operations (B.meaning body.now)) part befores.now size start (length piece.old) }
     ensures { piece.new ≡ scan_from inclusive (B.operations (B.meaning body.now)) (fold_of (B.operations (B.meaning body.now)) (take start (elements_of part.entry))) (slice_range (elements_of part.entry) start (start + length piece.old)) }
 {
     let before = befores[start / size];
@@ -236,18 +228,13 @@ fn scan_cells<B: Body>(
 {
     let hi = lo + values.len() as u32;
     let mut sum = before;
+    let mut cell = [0];
     let mut at = lo;
     while at < hi {
         let from = (at - lo) as usize;
-        let run = cells.stretch(at, hi);
-        if run.is_empty() {
-            let cell = [cells.read(at)];
-            sum = scan_into(body, inclusive, sum, &cell, from, values);
-            at += 1;
-        } else {
-            sum = scan_into(body, inclusive, sum, run, from, values);
-            at += run.len() as u32;
-        }
+        let run = run_at(cells, at, hi, &mut cell);
+        sum = scan_into(body, inclusive, sum, run, from, values);
+        at += run.len() as u32;
     }
 }
 

@@ -1,6 +1,6 @@
-use Rattle.std.proofs.Common.{◌≡◌, ◌*◌, ◌+◌, ◌-◌, ◌^◌, ◌≤◌, ◌<◌, true, false, refl, sym, ap, ◌∙◌, arith}
+use Rattle.std.proofs.Common.{◌≡◌, refl, sym, ap, ◌∙◌, arith}
 use Rattle.lv_geometry.proofs.NodeLaws.{level_of_node}
-use Rattle.lv_summary.specs.Table.{known_in, whole_in}
+use Rattle.lv_summary.specs.Table.{whole_in}
 use Rattle.lv_known.proofs.FoldableLaws.{can_fold}
 use Rattle.lv_summary.proofs.TableLaws.{node_of_whole, unknown_of_none, whole_in-size}
 use Rattle.lv_reduce.proofs.KnowLaws.{child_number, child_whole, gathers_more, gathers_none, knows_found, knows_gathered, next_can_join, next_inside}

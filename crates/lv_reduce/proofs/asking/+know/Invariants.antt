@@ -1,7 +1,5 @@
-use Rattle.std.proofs.Common.{◌≡◌, ◌<◌, true, false}
 use Rattle.lv_edits.specs.History.{list_of}
 use Rattle.lv_bodies.specs.Body.{CanFold}
-use Rattle.lv_summary.specs.Table.{known_in, whole_in}
 use Rattle.lv_reduce.proofs.KnowLaws.{Gathers}
 use Rattle.lv_reduce.proofs.asking.+know.Given as goal
 

@@ -1,11 +1,8 @@
-use Rattle.std.proofs.Common.{◌≡◌, ◌+◌, ◌-◌, ◌<◌, ◌++◌, ◌∷◌, [], FitsSigned, length, take, rules, sym, ap, ◌∙◌, arith}
-use Rattle.std.specs.Int.{w64}
-use Rattle.std.proofs.lemmas.Int.{to_z-of_z}
+use Rattle.std.proofs.Common.{◌≡◌, ◌+◌, ◌-◌, length, take, sym, ap, ◌∙◌, arith}
 use Rattle.std.proofs.lemmas.List.{take_all}
 use Rattle.lv_edits.specs.History.{list_of}
-use Rattle.lv_edits.proofs.Slices.{slice_range-more}
 use Rattle.lv_reduce.specs.Answer.{slice_of}
-use Rattle.lv_reduce.specs.Running.{reached, scan_from}
+use Rattle.lv_reduce.specs.Running.{scan_from}
 use Rattle.lv_reduce.proofs.PieceLaws.{slice_can_go_on, slice_range-run, slice_scanned_from, slice_went_on}
 use Rattle.lv_reduce.proofs.parallel.slices.scan_cells.Goals as goal
 
@@ -17,43 +14,7 @@ scan_into-sum-requires-clause-can g c κs within =
     let at = c.loop-at.at in
     let kept = c.loop-at.invariant in
     let so_far = slice_went_on o xs c.requires.before.0 c.args.lo at c.requires.before.1 kept.low c.args.before c.loop-at.sum c.requires.before.2 kept.sum in
-    slice_can_go_on o (g.B.Body.is_within meaning) (g.B.Body.laws c.args.body.now) xs c.requires.can c.requires.before.0 at 1 (omega (arith, c.requires.before.1, kept.low)) (omega (arith, c.requires.inside, c.loop-at-test.true)) c.loop-at.sum so_far
-
-pub loop-at-preserved-then-is_empty : goal.loop-at-preserved-then-is_empty
-loop-at-preserved-then-is_empty g c =
-    let o = g.B.Body.operations (g.B.Body.meaning c.args.body.now) in
-    let xs = list_of c.args.cells.now.journal in
-    let lo = c.args.lo in
-    let at = c.loop-at.at in
-    let x = c.read.result in
-    let kept = c.loop-at.invariant in
-    let made = c.scan_into-sum.ensures in
-    let new = c.scan_into-sum.new.values in
-    let small : at < length xs = omega (arith, c.requires.inside, c.loop-at-test.true) in
-    let fits : FitsSigned w64 x = search rules in
-    let same = to_z-of_z w64 x fits in
-    let more = slice_range-more xs lo at x kept.low small c.read.ensures.value in
-    let place : at + 1 - lo ≡ at - lo + 1 = omega (arith, kept.low) in
-    let gone = slice_scanned_from o c.args.inclusive c.args.before xs lo at (at + 1) (x ∷ []) more c.loop-at.sum c.scan_into-sum.result (take (at - lo) c.loop-at.values) (take (at - lo + 1) new) kept.sum kept.values
-    (made.sum ∙ ap (λ y. reached o c.loop-at.sum (y ∷ [])) same)
-    (made.values ∙ ap (λ y. take (at - lo) c.loop-at.values ++ scan_from c.args.inclusive o c.loop-at.sum (y ∷ [])) same) in
-    record {
-      low = omega (arith, kept.low);
-      high = omega (arith, c.loop-at-test.true);
-      values = ap (λ n. take n new) place ∙ gone.1;
-      sum = gone.0;
-      len = made.len ∙ kept.len;
-    }
-
-pub scan_into-sum-requires-else-is_empty-clause-can : goal.scan_into-sum-requires-else-is_empty-clause-can
-scan_into-sum-requires-else-is_empty-clause-can g c κs within =
-    let meaning = g.B.Body.meaning c.args.body.now in
-    let o = g.B.Body.operations meaning in
-    let xs = list_of c.args.cells.now.journal in
-    let at = c.loop-at.at in
-    let kept = c.loop-at.invariant in
-    let so_far = slice_went_on o xs c.requires.before.0 c.args.lo at c.requires.before.1 kept.low c.args.before c.loop-at.sum c.requires.before.2 kept.sum in
-    slice_can_go_on o (g.B.Body.is_within meaning) (g.B.Body.laws c.args.body.now) xs c.requires.can c.requires.before.0 at (length c.stretch-run.result.now) (omega (arith, c.requires.before.1, kept.low)) (omega (arith, c.requires.inside, c.loop-at-test.true, c.stretch-run.ensures.few)) c.loop-at.sum so_far
+    slice_can_go_on o (g.B.Body.is_within meaning) (g.B.Body.laws c.args.body.now) xs c.requires.can c.requires.before.0 at (length c.run_at-run.result.now) (omega (arith, c.requires.before.1, kept.low)) (omega (arith, c.requires.inside, c.loop-at-test.true, c.run_at-run.ensures.few)) c.loop-at.sum so_far
 
 pub loop-at-preserved : goal.loop-at-preserved
 loop-at-preserved g c =
@@ -61,16 +22,16 @@ loop-at-preserved g c =
     let xs = list_of c.args.cells.now.journal in
     let lo = c.args.lo in
     let at = c.loop-at.at in
-    let run = c.stretch-run.result.now in
+    let run = c.run_at-run.result.now in
     let kept = c.loop-at.invariant in
-    let made = c.scan_into-sum-else-is_empty.ensures in
-    let new = c.scan_into-sum-else-is_empty.new.values in
-    let more = slice_range-run xs lo at run kept.low c.stretch-run.ensures.elements in
+    let made = c.scan_into-sum.ensures in
+    let new = c.scan_into-sum.new.values in
+    let more = slice_range-run xs lo at run kept.low c.run_at-run.ensures.elements in
     let place : at + length run - lo ≡ at - lo + length run = omega (arith, kept.low) in
-    let gone = slice_scanned_from o c.args.inclusive c.args.before xs lo at (at + length run) run more c.loop-at.sum c.scan_into-sum-else-is_empty.result (take (at - lo) c.loop-at.values) (take (at - lo + length run) new) kept.sum kept.values made.sum made.values in
+    let gone = slice_scanned_from o c.args.inclusive c.args.before xs lo at (at + length run) run more c.loop-at.sum c.scan_into-sum.result (take (at - lo) c.loop-at.values) (take (at - lo + length run) new) kept.sum kept.values made.sum made.values in
     record {
       low = omega (arith, kept.low);
-      high = omega (arith, c.stretch-run.ensures.few);
+      high = omega (arith, c.run_at-run.ensures.few);
       values = ap (λ n. take n new) place ∙ gone.1;
       sum = gone.0;
       len = made.len ∙ kept.len;

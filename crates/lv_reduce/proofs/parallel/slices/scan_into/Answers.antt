@@ -1,9 +1,9 @@
 use Rattle.std.proofs.Common.{◌≡◌, ◌+◌, ◌<◌, ◌++◌, ◌∷◌, [], append-nil, append_assoc, pos, length, slice_index_or, slice_set, take, if◌then◌else◌, rules, refl, subst, sym, ap, ◌∙◌, arith}
 use Rattle.std.specs.Int.{w64}
 use Rattle.std.proofs.lemmas.Int.{to_z-of_z}
-use Rattle.std.proofs.lemmas.List.{length-set, take_more_set}
+use Rattle.std.proofs.lemmas.List.{length-set, take_all, take_more_set}
 use Rattle.lv_geometry.specs.Elements.{IsElement}
-use Rattle.lv_reduce.specs.Running.{scan_from}
+use Rattle.lv_reduce.specs.Running.{reached, scan_from}
 use Rattle.lv_reduce.proofs.RunLaws.{scan_from-more}
 use Rattle.lv_reduce.proofs.parallel.slices.scan_into.Goals as goal
 use Rattle.lv_reduce.proofs.parallel.slices.scan_into.Goals.{then-inclusive, else-inclusive}
@@ -47,6 +47,11 @@ loop-k-preserved g c =
       len = length-set values at value ∙ c.loop-k.invariant.len;
     }
 
+pub fold_more-sum-requires-after_bounds : goal.fold_more-sum-requires-after_bounds
+fold_more-sum-requires-after_bounds g c κs within =
+    let can = c.loop-k.invariant.can in
+    record { count = can.0 + c.loop-k.k; count_within = can.1; few = omega (arith, can.2) }
+
 pub loop-k-init : goal.loop-k-init
 loop-k-init g c =
     let within = g.B.Body.is_within (g.B.Body.meaning c.args.body.now) in
@@ -58,3 +63,16 @@ loop-k-init g c =
       can = (c.requires.can.count, subst (within c.args.before) none c.requires.can.count_within, c.requires.can.few);
       len = refl;
     }
+
+pub returns-clause-values : goal.returns-clause-values
+returns-clause-values g c =
+    let o = g.B.Body.operations (g.B.Body.meaning c.args.body.now) in
+    let all : length c.args.xs.now ≡ c.loop-k.k = omega arith in
+    ap (λ n. take (c.args.from + n) c.loop-k.values) all
+    ∙ c.loop-k.invariant.values
+    ∙ ap (λ front. take c.args.from c.args.values.now ++ scan_from c.args.inclusive o c.args.before front) (take_all c.loop-k.k c.args.xs.now (omega arith))
+
+pub returns-clause-sum : goal.returns-clause-sum
+returns-clause-sum g c =
+    let o = g.B.Body.operations (g.B.Body.meaning c.args.body.now) in
+    c.loop-k.invariant.sum ∙ ap (reached o c.args.before) (take_all c.loop-k.k c.args.xs.now (omega arith))

@@ -31,15 +31,15 @@ scan_into-requires-clause-can g c κs within =
     let start = c.args.start in
     let m = length c.args.piece.now in
     let before = c.index-befores-start.result in
-    let long = length-slice_range xs part.lo part.hi c.requires.part.order c.requires.part.inside in
-    let is = stands_before o (elements_of part) c.args.size start c.args.befores.now before c.requires.befores c.requires.begins (omega (arith, long, c.requires.some, c.requires.inside)) c.index-befores-start.is in
+    let long = length-slice_range xs part.lo part.hi c.requires.can_fold.order c.requires.can_fold.inside in
+    let is = stands_before o (elements_of part) c.args.size start c.args.befores.now before c.requires.are_before c.requires.begins (omega (arith, long, c.requires.some, c.requires.inside)) c.index-befores-start.is in
     let so_far = is ∙ ap (fold_of o) (front_of_slice xs part.lo part.hi start (omega (arith, c.requires.inside))) in
     let same = ap (λ row. length (slice_range (elements_in row) (part.lo + start) (part.lo + start + m))) c.in-Slice.is in
-    let inside : part.lo + start + m ≤ length xs = omega (arith, c.requires.inside, c.requires.part.inside, c.requires.part.order) in
+    let inside : part.lo + start + m ≤ length xs = omega (arith, c.requires.inside, c.requires.can_fold.inside, c.requires.can_fold.order) in
     let many = sym (length-slice_range xs (part.lo + start) (part.lo + start + m) (omega arith) inside) ∙ same in
     let wide : m ≡ part.lo + start + m - (part.lo + start) = omega arith in
     subst (CanGoOn is_within before) (wide ∙ many)
-    (slice_can_go_on o is_within (g.B.Body.laws c.args.body.now) xs c.requires.part.can part.lo (part.lo + start) m (omega arith) inside before so_far)
+    (slice_can_go_on o is_within (g.B.Body.laws c.args.body.now) xs c.requires.can_fold.can part.lo (part.lo + start) m (omega arith) inside before so_far)
 
 pub scan_cells-requires-clause-before : goal.scan_cells-requires-clause-before
 scan_cells-requires-clause-before g c κs within =
@@ -48,8 +48,8 @@ scan_cells-requires-clause-before g c κs within =
     let xs = elements_in part.row in
     let start = c.args.start in
     let before = c.index-befores-start.result in
-    let long = length-slice_range xs part.lo part.hi c.requires.part.order c.requires.part.inside in
-    let is = stands_before o (elements_of part) c.args.size start c.args.befores.now before c.requires.befores c.requires.begins (omega (arith, long, c.requires.some, c.requires.inside)) c.index-befores-start.is in
+    let long = length-slice_range xs part.lo part.hi c.requires.can_fold.order c.requires.can_fold.inside in
+    let is = stands_before o (elements_of part) c.args.size start c.args.befores.now before c.requires.are_before c.requires.begins (omega (arith, long, c.requires.some, c.requires.inside)) c.index-befores-start.is in
     let so_far = is ∙ ap (fold_of o) (front_of_slice xs part.lo part.hi start (omega (arith, c.requires.inside))) in
     (part.lo, omega arith, so_far ∙ ap (λ row. fold_of o (slice_range (elements_in row) part.lo (part.lo + start))) c.in-Cells.is)
 
@@ -60,8 +60,8 @@ returns-in-Cells g c =
     let start = c.args.start in
     let m = length c.args.piece.now in
     let before = c.index-befores-start.result in
-    let long = length-slice_range (elements_in part.row) part.lo part.hi c.requires.part.order c.requires.part.inside in
-    let is = stands_before o (elements_of part) c.args.size start c.args.befores.now before c.requires.befores c.requires.begins (omega (arith, long, c.requires.some, c.requires.inside)) c.index-befores-start.is in
+    let long = length-slice_range (elements_in part.row) part.lo part.hi c.requires.can_fold.order c.requires.can_fold.inside in
+    let is = stands_before o (elements_of part) c.args.size start c.args.befores.now before c.requires.are_before c.requires.begins (omega (arith, long, c.requires.some, c.requires.inside)) c.index-befores-start.is in
     c.scan_cells.ensures
     ∙ sym (ap (λ row. scan_from c.args.inclusive o before (slice_range (elements_in row) (part.lo + start) (part.lo + start + m))) c.in-Cells.is)
     ∙ ap (scan_from c.args.inclusive o before) (piece_is (elements_in part.row) part.lo part.hi start m c.requires.inside)
@@ -75,9 +75,9 @@ returns-in-Slice g c =
     let start = c.args.start in
     let m = length c.args.piece.now in
     let before = c.index-befores-start.result in
-    let long = length-slice_range xs part.lo part.hi c.requires.part.order c.requires.part.inside in
-    let is = stands_before o (elements_of part) c.args.size start c.args.befores.now before c.requires.befores c.requires.begins (omega (arith, long, c.requires.some, c.requires.inside)) c.index-befores-start.is in
-    let inside : part.lo + start + m ≤ length xs = omega (arith, c.requires.inside, c.requires.part.inside, c.requires.part.order) in
+    let long = length-slice_range xs part.lo part.hi c.requires.can_fold.order c.requires.can_fold.inside in
+    let is = stands_before o (elements_of part) c.args.size start c.args.befores.now before c.requires.are_before c.requires.begins (omega (arith, long, c.requires.some, c.requires.inside)) c.index-befores-start.is in
+    let inside : part.lo + start + m ≤ length xs = omega (arith, c.requires.inside, c.requires.can_fold.inside, c.requires.can_fold.order) in
     let many = length-slice_range xs (part.lo + start) (part.lo + start + m) (omega arith) inside in
     let same = ap (λ row. length (slice_range (elements_in row) (part.lo + start) (part.lo + start + m))) c.in-Slice.is in
     sym (take_all _ c.scan_into.new.values (omega (arith, many, same, c.scan_into.ensures.len)))
