@@ -64,9 +64,22 @@ fn have_summaries<B: Body>(
 }
 
 // Whether eight summaries are the same. The body only says of which kind they are.
-fn same_summaries<B: Body>(_body: &B, x: &Eight<B::S>, y: &Eight<B::S>) -> bool
+fn same_summaries<B: Body>(body: &B, x: &Eight<B::S>, y: &Eight<B::S>) -> bool
     ensures { IsTrue result ↔ (x.now ≡ y.now) }
 {
-    let first = x.a == y.a && x.b == y.b && x.c == y.c && x.d == y.d;
-    first && x.e == y.e && x.f == y.f && x.g == y.g && x.h == y.h
+    same_first(body, x, y) && same_last(body, x, y)
+}
+
+// Whether the first four are the same.
+fn same_first<B: Body>(_body: &B, x: &Eight<B::S>, y: &Eight<B::S>) -> bool
+    ensures { IsTrue result ↔ ((x.now.a ≡ y.now.a) × (x.now.b ≡ y.now.b) × (x.now.c ≡ y.now.c) × (x.now.d ≡ y.now.d)) }
+{
+    x.a == y.a && x.b == y.b && x.c == y.c && x.d == y.d
+}
+
+// Whether the last four are the same.
+fn same_last<B: Body>(_body: &B, x: &Eight<B::S>, y: &Eight<B::S>) -> bool
+    ensures { IsTrue result ↔ ((x.now.e ≡ y.now.e) × (x.now.f ≡ y.now.f) × (x.now.g ≡ y.now.g) × (x.now.h ≡ y.now.h)) }
+{
+    x.e == y.e && x.f == y.f && x.g == y.g && x.h == y.h
 }

@@ -26,7 +26,7 @@ use crate::replies::{
 };
 use crate::scans::{Asked, answer_scan};
 use crate::watch_replies::{put_named, put_note, put_unwatched, put_watching};
-use lv_bodies::{Body, Kind, Six};
+use lv_bodies::{Body, Kind, Six, SixSummary};
 use lv_edits::Edit;
 use lv_geometry::{Node, Refusal};
 use lv_live::{Issued, Live};
@@ -212,7 +212,7 @@ fn put_reads(standing: &Standing, lo: u32, hi: u32, held: &mut Vec<u8>)
 }
 
 // A reduction of all six bodies.
-fn reduce(standing: &Standing, lo: u32, hi: u32) -> Result<Answer<<Six as Body>::S>, Refusal>
+fn reduce(standing: &Standing, lo: u32, hi: u32) -> Result<Answer<SixSummary>, Refusal>
     ensures answer { Reduces six_operations (recorded standing.now.live) lo hi result }
     ensures limits { IsLegalInLimits standing.now.live.history }
 {

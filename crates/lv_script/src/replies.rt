@@ -1,7 +1,9 @@
 ghost use Rattle.std.specs.Prelude.{◌≡◌, ◌+◌, ◌≤◌, ◌++◌, codes, length, map, decimal, vec_len};
+ghost use Rattle.std.specs.Fmt.{signed_decimal};
+ghost use Rattle.lv_edits.specs.declared.receipt.Receipt.TheVariants as receipt;
 ghost use Rattle.lv_script.specs.Output.{HasRoom, KeepsRoom};
 ghost use Rattle.lv_script.specs.Words.{spaced};
-ghost use Rattle.lv_script.specs.Texts.{answer_text, bad_text, capacity_text, receipt_text, refused_text, settled_text, size_text, shown_text, element_text, value_text};
+ghost use Rattle.lv_script.specs.Texts.{answer_text, bad_text, capacity_text, receipt_text, refused_text, reply_line, settled_text, size_text, shown_text, element_text, value_text};
 
 use crate::sender::{put, put_element, put_number, put_wide};
 use crate::words::kind_name;
@@ -20,43 +22,55 @@ pub fn put_receipt(held: &mut Vec<u8>, receipt: Receipt)
     ensures room { KeepsRoom held.old held.new }
 {
     match receipt {
-        Receipt::Pushed { edit, index } => {
-            put_edit(held, edit, b" at ");
-            put_number(held, index.into());
-            put(held, b"\n");
-        }
-        Receipt::Popped { edit, value } => {
-            put_edit(held, edit, b" value ");
-            put_element(held, value);
-            put(held, b"\n");
-        }
-        Receipt::Written { edit, before } => {
-            put_edit(held, edit, b" was ");
-            put_element(held, before);
-            put(held, b"\n");
-        }
-        Receipt::Reserved { edit, capacity } => {
-            put_edit(held, edit, b" capacity ");
-            put_number(held, capacity.into());
-            put(held, b"\n");
-        }
+        Receipt::Pushed { edit, index } => put_counted(held, edit, b" at ", index),
+        Receipt::Popped { edit, value } => put_valued(held, edit, b" value ", value),
+        Receipt::Written { edit, before } => put_valued(held, edit, b" was ", before),
+        Receipt::Reserved { edit, capacity } => put_counted(held, edit, b" capacity ", capacity),
         Receipt::Swapped {
             edit,
             first,
             second,
-        } => {
-            put_edit(held, edit, b" now ");
-            put_element(held, first);
-            put(held, b" ");
-            put_element(held, second);
-            put(held, b"\n");
-        }
-        Receipt::Truncated { edit, dropped } => {
-            put_edit(held, edit, b" dropped ");
-            put_number(held, dropped.into());
-            put(held, b"\n");
-        }
+        } => put_swapped(held, edit, first, second),
+        Receipt::Truncated { edit, dropped } => put_counted(held, edit, b" dropped ", dropped),
     }
+}
+
+// A line of an edit, a word, and a count behind it.
+fn put_counted(held: &mut Vec<u8>, edit: u32, word: &[u8], count: u32)
+    requires { HasRoom held.old (46 + length word.now) }
+    ensures text { held.new.items ≡ held.old.items ++ reply_line (codes "edit " ++ decimal edit ++ word.now ++ decimal count) }
+    ensures len { vec_len held.new ≤ vec_len held.old + 46 + length word.now }
+    ensures room { KeepsRoom held.old held.new }
+{
+    put_edit(held, edit, word);
+    put_number(held, count.into());
+    put(held, b"\n");
+}
+
+// A line of an edit, a word, and an element behind it.
+fn put_valued(held: &mut Vec<u8>, edit: u32, word: &[u8], x: i64)
+    requires { HasRoom held.old (46 + length word.now) }
+    ensures text { held.new.items ≡ held.old.items ++ reply_line (codes "edit " ++ decimal edit ++ word.now ++ signed_decimal x) }
+    ensures len { vec_len held.new ≤ vec_len held.old + 46 + length word.now }
+    ensures room { KeepsRoom held.old held.new }
+{
+    put_edit(held, edit, word);
+    put_element(held, x);
+    put(held, b"\n");
+}
+
+// A line of a swap: the elements that stand at its two indices after it.
+fn put_swapped(held: &mut Vec<u8>, edit: u32, first: i64, second: i64)
+    requires { HasRoom held.old 72 }
+    ensures text { held.new.items ≡ held.old.items ++ receipt_text (receipt.Swapped edit first second) }
+    ensures len { vec_len held.new ≤ vec_len held.old + 72 }
+    ensures room { KeepsRoom held.old held.new }
+{
+    put_edit(held, edit, b" now ");
+    put_element(held, first);
+    put(held, b" ");
+    put_element(held, second);
+    put(held, b"\n");
 }
 
 // The number of an edit, and the word that comes behind it.

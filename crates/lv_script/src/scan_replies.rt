@@ -8,7 +8,7 @@ use crate::outbox::Outbox;
 use crate::replies::{LINE, put_shown};
 use crate::sender::{put, put_number};
 use crate::words::{kind_name, scan_name};
-use lv_bodies::{Body, Kind, Shown, Six, face};
+use lv_bodies::{Kind, Shown, SixSummary, face};
 use std::io::Write;
 
 /// The scan of a kind at an edit, whose values are those summaries. It may be longer than what is held: what is held is
@@ -18,7 +18,7 @@ pub fn put_scan<W: Write>(
     edit: u32,
     inclusive: bool,
     kind: Kind,
-    values: &[<Six as Body>::S],
+    values: &[SixSummary],
 ) -> Result<(), Fault>
     ensures places { SamePlaces outbox.old outbox.new }
     ensures ok { OnOk result (Puts W.contents outbox.old outbox.new
@@ -76,7 +76,7 @@ fn put_head_line(held: &mut Vec<u8>, edit: u32, inclusive: bool, kind: Kind, cou
 pub fn put_values<W: Write>(
     outbox: &mut Outbox<'_, W>,
     kind: Kind,
-    values: &[<Six as Body>::S],
+    values: &[SixSummary],
 ) -> Result<(), Fault>
     ensures places { SamePlaces outbox.old outbox.new }
     ensures ok { OnOk result (Puts W.contents outbox.old outbox.new

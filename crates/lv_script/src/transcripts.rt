@@ -14,7 +14,7 @@ use std::alloc::Global;
 use std::io::Write;
 
 /// A reduction as it was answered: at which edit, of what kind, over which elements, and by which value.
-#[derive(Clone, Copy, Debug, PartialEq, Eq, Hash)]
+#[derive(Clone, Copy, Debug, PartialEq, Eq)]
 pub struct Claimed {
     /// The number of the last edit before the answer.
     pub edit: u32,

@@ -1,4 +1,4 @@
-use Rattle.std.proofs.Common.{◌∙◌, arith}
+use Rattle.std.proofs.Common.{◌∙◌, ap, arith}
 use Rattle.std.proofs.lemmas.Result.{err_from_is_err_and}
 use Rattle.lv_bodies.specs.Six.{face_of}
 use Rattle.lv_script.proofs.ScanLemmas.{Writes-value, WritesFront-values}
@@ -14,7 +14,7 @@ pub loop-value-preserved : goal.loop-value-preserved
 loop-value-preserved g c = record {
   written =
       Writes-value (face_of c.args.kind) c.args.values.now c.loop-value.value-index _ c.face.result
-      c.loop-value-test.true c.loop-value.invariant.written c.face.ensures.shown c.in_ok-put_scanned.ensures.ok;
+      c.loop-value-test.true c.loop-value.invariant.written (c.face.ensures.shown ∙ ap (face_of c.args.kind) c.value-item.is) c.in_ok-put_scanned.ensures.ok;
   idle = λ room.
       let so_far = c.loop-value.invariant.idle room in
       let kept = c.put_scanned.ensures.idle (omega (arith, room, so_far.1, c.loop-value-test.true, c.loop-value.invariant.room)) in
