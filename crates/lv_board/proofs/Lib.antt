@@ -13,3 +13,4 @@ pub mod Walking
 pub mod Ordered
 pub mod Valued
 pub mod Sharings
+pub mod Shorts

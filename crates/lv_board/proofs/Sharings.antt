@@ -1,5 +1,5 @@
 -- A board that is shared: as it is opened, and as it is closed.
-use Rattle.std.proofs.Common.{◌≡◌, ℕ, ℤ, ◌<◌, List, [], ◌∷◌, length, map, IfOk, IfSome, Result, Ok, Err, get_or, refl, sym, ap, ◌∙◌, subst}
+use Rattle.std.proofs.Common.{◌≡◌, ℕ, ℤ, List, [], ◌∷◌, length, map, IfOk, IfErr, IfSome, Result, Ok, Err, inr, refl, ap, ◌∙◌, subst}
 use Rattle.std.specs.Arc.{arc_value}
 use Rattle.std.specs.List.{All, range_with_len}
 use Rattle.std.proofs.lemmas.List.{get_or-map, length-map}
@@ -9,6 +9,7 @@ use Rattle.std.proofs.lemmas.Option.{slice_get-get_or}
 use Rattle.atomic_table.specs.Seated.{TableId}
 use Rattle.lv_geometry.specs.Bounds.{Bounds}
 use Rattle.lv_geometry.specs.declared.refusals.Refusal.{Refusal}
+use Rattle.lv_geometry.specs.declared.refusals.Refusal.TheVariants.{NoMemory}
 use Rattle.lv_bodies.specs.declared.kinds.Kind.{Kind}
 use Rattle.lv_bodies.specs.declared.kinds.Shown.{Shown}
 use Rattle.lv_bodies.specs.Body.{Operations}
@@ -19,7 +20,7 @@ use Rattle.lv_board.specs.declared.closing.Closed.{Closed}
 use Rattle.lv_board.specs.declared.opened.Opened.{Opened}
 use Rattle.lv_board.specs.declared.seats.Seat.{Seat}
 use Rattle.lv_board.specs.Closing.{IsEnded, IsKept}
-use Rattle.lv_board.specs.Opening.{AreDealt, IsBasisOf, MayOpen}
+use Rattle.lv_board.specs.Opening.{AreDealt, IsBasisOf, IsOpeningRefusal, MayOpen}
 use Rattle.lv_board.specs.Rule.{folds, newcomer, terms_of}
 use Rattle.lv_board.specs.Sharing.{IsClosedShared, IsNewlyShared, Shared, shared_of}
 use Rattle.lv_board.specs.Tells.{actor_of, IsAt}
@@ -46,6 +47,11 @@ module _ {B : Type 0} (table : TableId) (z : Basis B) where
   pub dealt_new : (seats : List (Seat B)) → AreDealt table z seats → map actor_of seats ≡ map newcomer (range_with_len 0 (length seats))
   dealt_new [] dealt = refl
   dealt_new (s ∷ rest) dealt = dealt_from (s ∷ rest) s dealt
+
+-- a board that may be opened isn't shared for want of memory alone
+pub lacks_memory : {X : Type 0} (limits : Bounds) (number : ℕ) (result : Result X Refusal) → MayOpen limits number → IfErr result (λ refusal. refusal ≡ NoMemory) → IfErr result (λ refusal. IsOpeningRefusal limits number refusal)
+lacks_memory limits number (Err refusal) may same = inr (may, same)
+lacks_memory limits number (Ok x) may same = tt
 
 module _ {B S : Type 0} (count : ℕ) (parts_of : S → List ℕ) (operations : B → Operations S) (kind : Kind) (plain : B → List ℤ → Shown) where
   -- what is shared of a new board

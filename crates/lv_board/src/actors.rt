@@ -1,13 +1,26 @@
 use lv_machine::Entry;
+use std::alloc::AllocError;
 use std::collections::LinkedList;
 
 /// What a board is made with: its limits, how many seats it has, and its body.
-#[derive(Clone, Copy)]
+#[derive(Copy)]
 pub struct Basis<B: Copy> {
     pub buckets: u32,
     pub edits: u32,
     pub seats: u32,
     pub body: B,
+}
+
+impl<B: Copy> Clone for Basis<B> {
+    ghost use Rattle.std.specs.Prelude.{◌≡◌, ⊤};
+
+    ghost is_clone = { λ x y. y ≡ x };
+
+    ghost is_infallible = { λ _. ⊤ };
+
+    fn clone(&self) -> Result<Basis<B>, AllocError> {
+        Ok(*self)
+    }
 }
 
 /// A part of a block's summary that a seat installed: its place among the words, and its word. No value of it is made.

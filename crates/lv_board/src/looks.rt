@@ -12,7 +12,7 @@ use lv_bodies::Parted;
 use lv_machine::Sized;
 
 /// What a look shows: the number of the last edit, and the size after it.
-#[derive(Clone, Copy, Debug, PartialEq, Eq, Hash)]
+#[derive(Clone, Copy, Debug, PartialEq, Eq)]
 pub struct Look {
     pub edit: u32,
     pub size: u32,

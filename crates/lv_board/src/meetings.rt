@@ -14,7 +14,7 @@ use atomic_table::Seat as Token;
 use lv_bodies::Parted;
 
 /// The numbers of the last edits where the two seats looked.
-#[derive(Clone, Copy, Debug, PartialEq, Eq, Hash)]
+#[derive(Clone, Copy, Debug, PartialEq, Eq)]
 pub struct Met {
     pub first: u32,
     pub second: u32,

@@ -18,7 +18,7 @@ use std::alloc::Global;
 use std::sync::Arc;
 
 /// Why nobody sits down.
-#[derive(Clone, Copy, Debug, PartialEq, Eq, Hash)]
+#[derive(Clone, Copy, Debug, PartialEq, Eq)]
 pub enum Unseated {
     /// All seats were taken.
     NoSeat,
@@ -27,7 +27,7 @@ pub enum Unseated {
 }
 
 /// Why a shared board stays open.
-#[derive(Clone, Copy, Debug, PartialEq, Eq, Hash)]
+#[derive(Clone, Copy, Debug, PartialEq, Eq)]
 pub enum Unclosed {
     /// Somebody has a seat.
     SeatsOut,
@@ -41,7 +41,7 @@ fn share<B: Parted>(
     board: Board<B>,
     seats: Vec<Seat<B>>,
 ) -> Result<Opened<B>, Refusal>
-    requires { AreInOrder board.table.shared.table_id board.terms seats.items }
+    requires order { AreInOrder board.table.shared.table_id board.terms seats.items }
     ensures ok { IfOk result (λ o. (arc_value o.board ≡ board) × (o.seats.items ≡ seats.items)) }
     ensures err { IfErr result (λ refusal. refusal ≡ Refusal.NoMemory) }
 {

@@ -1,4 +1,4 @@
-ghost use Rattle.std.specs.Prelude.{◌≡◌, ◌+◌, ◌*◌, ◌<◌, ◌≤◌, [], ◌∷◌, length, replicate, slice_get, slice_set, Some, None, IfOk, IfErr, OnOk, OnErr, if◌then◌else◌};
+ghost use Rattle.std.specs.Prelude.{◌≡◌, ⊤, ◌+◌, ◌*◌, ◌<◌, ◌≤◌, [], ◌∷◌, length, replicate, slice_get, slice_set, Some, None, IfOk, IfErr, OnOk, OnErr, if◌then◌else◌};
 ghost use Rattle.lv_edits.specs.Verdict.{IsRefusal};
 ghost use Rattle.lv_machine.specs.History.{descriptor_of};
 ghost use Rattle.lv_machine.specs.Machine.{begins, block_of, block_of_goal, block_refreshed, called, first_state, goal_of, gone_on, idle, is_short, machine_run, machine_step, outcome_of, setting_refusal, stepped, task_after};
@@ -21,10 +21,20 @@ use std::marker::Model;
 const FIRST_DESCRIPTOR: u64 = 0x0fff_0000;
 
 /// What an actor has: the descriptor that it last saw, and its call, if one is under way.
-#[derive(Clone, Copy, Debug)]
+#[derive(Copy)]
 pub struct Actor<S> {
     pub look: u64,
     pub task: Option<Task<S>>,
+}
+
+impl<S: Copy> Clone for Actor<S> {
+    ghost is_clone = { λ x y. y ≡ x };
+
+    ghost is_infallible = { λ _. ⊤ };
+
+    fn clone(&self) -> Result<Actor<S>, AllocError> {
+        Ok(*self)
+    }
 }
 
 /// The lock-free form as a plain value: words, and calls under way. Its actors have the numbers from 0 on.
@@ -91,7 +101,16 @@ impl<B: Parted> Machine<B> {
     pub fn refreshing(&self, actor: u32) -> Option<u32>
         ensures { result ≡ block_refreshed self.now actor }
     {
-        block_of(self.actors.get(actor as usize)?.task?)
+        match actor_at(&self.actors, actor) {
+            Some(
+                Actor {
+                    task: Some(task),
+                    ..
+                },
+            ) => block_of(task),
+            Some(Actor { task: None, .. }) => None,
+            None => None,
+        }
     }
 
     /// Does a list of events, and tells what each comes to. Refused with `NoMemory` where there is no room for the outcomes,

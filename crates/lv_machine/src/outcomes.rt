@@ -1,30 +1,33 @@
+ghost use Rattle.std.specs.Prelude.{◌≡◌, ⊤};
+
 use lv_edits::Receipt;
 use lv_geometry::Refusal;
 use lv_reduce::Answer;
+use std::alloc::AllocError;
 
 /// An element, and the number of the last edit where it was read.
-#[derive(Clone, Copy, Debug, PartialEq, Eq, Hash)]
+#[derive(Clone, Copy, Debug, PartialEq, Eq)]
 pub struct Read {
     pub edit: u32,
     pub value: i64,
 }
 
 /// How many elements there were after an edit.
-#[derive(Clone, Copy, Debug, PartialEq, Eq, Hash)]
+#[derive(Clone, Copy, Debug, PartialEq, Eq)]
 pub struct Sized {
     pub edit: u32,
     pub size: u32,
 }
 
 /// The parts of a block were made: after `edit`, the last edit that touched the block was `version`.
-#[derive(Clone, Copy, Debug, PartialEq, Eq, Hash)]
+#[derive(Clone, Copy, Debug, PartialEq, Eq)]
 pub struct Refreshed {
     pub edit: u32,
     pub version: u32,
 }
 
 /// What a call ends with.
-#[derive(Clone, Copy, Debug, PartialEq, Eq)]
+#[derive(Copy, Debug, PartialEq, Eq)]
 pub enum Said<S> {
     /// An edit was accepted.
     Did(Receipt),
@@ -41,7 +44,7 @@ pub enum Said<S> {
 }
 
 /// What an event comes to.
-#[derive(Clone, Copy, Debug, PartialEq, Eq)]
+#[derive(Copy, Debug, PartialEq, Eq)]
 pub enum Outcome<S> {
     /// The call begins, and needs a step.
     Started,
@@ -51,4 +54,24 @@ pub enum Outcome<S> {
     Done(Said<S>),
     /// The event is refused with `NotNow`, and nothing has changed.
     Refused(Refusal),
+}
+
+impl<S: Copy> Clone for Said<S> {
+    ghost is_clone = { λ x y. y ≡ x };
+
+    ghost is_infallible = { λ _. ⊤ };
+
+    fn clone(&self) -> Result<Said<S>, AllocError> {
+        Ok(*self)
+    }
+}
+
+impl<S: Copy> Clone for Outcome<S> {
+    ghost is_clone = { λ x y. y ≡ x };
+
+    ghost is_infallible = { λ _. ⊤ };
+
+    fn clone(&self) -> Result<Outcome<S>, AllocError> {
+        Ok(*self)
+    }
 }

@@ -1,8 +1,11 @@
+ghost use Rattle.std.specs.Prelude.{◌≡◌, ⊤};
+
 use crate::outcomes::Said;
 use lv_edits::Edit;
+use std::alloc::AllocError;
 
 /// What a call is for. Its edits have elements of 16 bits.
-#[derive(Clone, Copy, Debug, PartialEq, Eq)]
+#[derive(Clone, Copy)]
 pub enum Goal {
     Edit(Edit),
     Get(u32),
@@ -12,7 +15,7 @@ pub enum Goal {
 }
 
 /// A reduction on its way: the summary of the elements from `lo` up to `at`, and what was read for it.
-#[derive(Clone, Copy, Debug, PartialEq, Eq)]
+#[derive(Copy)]
 pub struct Walk<S> {
     pub lo: u32,
     pub at: u32,
@@ -23,7 +26,7 @@ pub struct Walk<S> {
 }
 
 /// The parts of a block's summary, of a version: `number` is the next one.
-#[derive(Clone, Copy, Debug, PartialEq, Eq)]
+#[derive(Clone, Copy)]
 pub struct Parts {
     pub version: u32,
     pub number: u32,
@@ -31,7 +34,7 @@ pub struct Parts {
 }
 
 /// A refresh on its way: the summary of the block's elements before index `at`, and the block's mark.
-#[derive(Clone, Copy, Debug, PartialEq, Eq)]
+#[derive(Copy)]
 pub struct Keep<S> {
     pub block: u32,
     pub version: u32,
@@ -40,7 +43,7 @@ pub struct Keep<S> {
 }
 
 /// A call under way, by the step that comes next, with what its steps have loaded so far.
-#[derive(Clone, Copy, Debug, PartialEq, Eq)]
+#[derive(Copy)]
 pub enum Task<S> {
     /// Loads the descriptor.
     Look(Goal),
@@ -69,8 +72,48 @@ pub enum Task<S> {
 }
 
 /// What becomes of a call by a step: it goes on, or has ended.
-#[derive(Clone, Copy, Debug, PartialEq, Eq)]
+#[derive(Copy)]
 pub enum Advance<S> {
     Goes(Task<S>),
     Ends(Said<S>),
+}
+
+impl<S: Copy> Clone for Walk<S> {
+    ghost is_clone = { λ x y. y ≡ x };
+
+    ghost is_infallible = { λ _. ⊤ };
+
+    fn clone(&self) -> Result<Walk<S>, AllocError> {
+        Ok(*self)
+    }
+}
+
+impl<S: Copy> Clone for Keep<S> {
+    ghost is_clone = { λ x y. y ≡ x };
+
+    ghost is_infallible = { λ _. ⊤ };
+
+    fn clone(&self) -> Result<Keep<S>, AllocError> {
+        Ok(*self)
+    }
+}
+
+impl<S: Copy> Clone for Task<S> {
+    ghost is_clone = { λ x y. y ≡ x };
+
+    ghost is_infallible = { λ _. ⊤ };
+
+    fn clone(&self) -> Result<Task<S>, AllocError> {
+        Ok(*self)
+    }
+}
+
+impl<S: Copy> Clone for Advance<S> {
+    ghost is_clone = { λ x y. y ≡ x };
+
+    ghost is_infallible = { λ _. ⊤ };
+
+    fn clone(&self) -> Result<Advance<S>, AllocError> {
+        Ok(*self)
+    }
 }

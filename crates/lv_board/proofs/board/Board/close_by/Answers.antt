@@ -7,6 +7,21 @@ use Rattle.lv_board.specs.Rule.{folds, terms_of}
 use Rattle.lv_board.proofs.Closes.{cell_within, ended_of, size_within, word_read}
 use Rattle.lv_board.proofs.board.Board.close_by.Goals as goal
 
+pub settle-words-requires-clause-at : goal.settle-words-requires-clause-at
+settle-words-requires-clause-at g c = λ _ _. c.requires.at
+
+pub word-look-requires : goal.word-look-requires
+word-look-requires g c = (omega (arith, c.settle-words.ensures.words), c.settle-words.ensures.full)
+
+pub collect-requires-clause-full : goal.collect-requires-clause-full
+collect-requires-clause-full g c = c.settle-words.ensures.full
+
+pub collect-requires-clause-look : goal.collect-requires-clause-look
+collect-requires-clause-look g c = sym (word_read (slots_items c.settle-words.result.words) 0 c.word-look.result c.word-look.ensures)
+
+pub collect-requires-clause-none : goal.collect-requires-clause-none
+collect-requires-clause-none g c = c.requires.none
+
 pub collect-requires-clause-within : goal.collect-requires-clause-within
 collect-requires-clause-within g c = λ i less.
     let settled = c.settle-words.ensures.settled in
