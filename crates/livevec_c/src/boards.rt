@@ -7,6 +7,7 @@ ghost use Rattle.livevec_c.specs.declared.objects.Object.TheVariants as behind;
 ghost use Rattle.livevec_c.specs.Kinds.{folding_of, kind_at, sat_at, shared_at};
 ghost use Rattle.livevec_c.specs.Lives.{OpensBoard, OpensBoardAt, seatless, SitsBoard, SitsDown, SitsObject};
 
+use crate::jobs::refilled;
 use crate::kind_boards::KindBoard;
 use crate::kind_seats::KindSeat;
 use crate::lifetimes::new_vector;
@@ -16,7 +17,7 @@ use crate::slots::{Slot, is_full, put, take};
 use lv_board::{Opened, Unseated};
 use lv_bodies::{Affine, Automaton, Best, Greatest, Kind, Least, Sum};
 use lv_geometry::{Limits, Refusal};
-use std::alloc::Global;
+use std::alloc::{AllocError, Global};
 
 // The kind of a number.
 fn kind_of(number: u32) -> Option<Kind>
@@ -66,12 +67,19 @@ fn open_kind(alloc: Global, kind: Kind, limits: Limits, seats: u32) -> Result<Ki
     }
 }
 
+// A board in a place of its own.
+fn boxed_board(alloc: Global, board: KindBoard) -> Result<Box<Object>, AllocError>
+    ensures { IfOk result (λ b. b.value ≡ behind.Board board) }
+{
+    Ok(Box::new(alloc, Object::Board(board))?)
+}
+
 // Puts a board into an empty slot.
 fn house(alloc: Global, slot: &mut Slot, board: KindBoard) -> u32
     requires { slot.old.raw.inner ≡ None }
     ensures { ((result ≡ 6) × (slot.new.raw.inner ≡ None)) ⊎ ((result ≡ 0) × (slot.new.raw.inner ≡ Some (behind.Board board))) }
 {
-    match Box::new(alloc, Object::Board(board)) {
+    match boxed_board(alloc, board) {
         Err(_) => NO_MEMORY,
         Ok(held) => {
             put(slot, held);
@@ -163,14 +171,13 @@ fn sit_board(alloc: Global, board: &mut KindBoard, seat: &mut Slot) -> u32
     requires { seat.old.raw.inner ≡ None }
     ensures { SitsBoard result board.old board.new seat.new.raw.inner }
 {
-    let Ok(mut room) = new_vector(alloc, Limits::greatest(), Automaton::program()) else {
+    let Ok(room) = new_vector(alloc, Limits::greatest(), Automaton::program()) else {
         return NO_MEMORY;
     };
     match sit_at(board) {
         Err(why) => unseated(why),
         Ok(taken) => {
-            *room = Object::Seat(taken);
-            put(seat, room);
+            put(seat, refilled(room, Object::Seat(taken)));
             0
         }
     }

@@ -8,7 +8,7 @@ ghost use Rattle.livevec_c.specs.Lives.{Closes, ClosesBoard, ClosesObject, GetsC
 
 use crate::ended::Ended;
 use crate::kind_boards::KindBoard;
-use crate::objects::Object;
+use crate::objects::{Object, refill};
 use crate::reads::{count_answer, missing, uncounted};
 use crate::results::{Count, Element, NO_MEMORY, SEATS_OUT, element_answer};
 use crate::slots::{Slot, put, take};
@@ -108,7 +108,7 @@ fn close_of(alloc: Global, object: &mut Object) -> Count
     ensures { ClosesObject result object.old object.new }
 {
     let (left, answer) = close_object(alloc, mem::replace(object, nothing(alloc)));
-    *object = left;
+    refill(object, left);
     answer
 }
 

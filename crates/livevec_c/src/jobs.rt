@@ -4,7 +4,7 @@ ghost use Rattle.livevec_c.specs.Answers.{accepted_by, claimed_by, unaccepted, u
 ghost use Rattle.livevec_c.specs.Working.{Accepts, AcceptsLive, AcceptsObject, AcceptsVector, AcceptsWith, Claims, ClaimsObject, ClaimsVector, Forgets, ForgetsObject, Refreshes, RefreshesObject, Runs, RunsObject, Vets, VetsObject, VetsVector, VetsWith};
 
 use crate::lifetimes::new_vector;
-use crate::objects::Object;
+use crate::objects::{Object, refill};
 use crate::results::{Count, IN_USE, NO_HANDLE, NO_MEMORY};
 use crate::slots::{Slot, is_full, put, take};
 use lv_bodies::{Automaton, SixByTable};
@@ -130,12 +130,12 @@ fn claim_answer(node: Node, version: u32) -> Claimed
     }
 }
 
-// A box with another object in it.
-fn refilled(room: Box<Object>, object: Object) -> Box<Object>
+/// A box with another object in it.
+pub fn refilled(room: Box<Object>, object: Object) -> Box<Object>
     ensures { result.value ≡ object }
 {
     let mut room = room;
-    *room = object;
+    refill(&mut room, object);
     room
 }
 
@@ -200,7 +200,8 @@ fn run_of(object: &mut Object) -> bool
 {
     match object {
         Object::Job(job) => {
-            *object = Object::Outcome(job.run());
+            let outcome = job.run();
+            refill(object, Object::Outcome(outcome));
             true
         }
         _ => false,

@@ -1,10 +1,13 @@
 //! What lies behind a slot.
+ghost use Rattle.std.specs.Prelude.{◌≡◌};
+
 use crate::ended::Ended;
 use crate::kind_boards::KindBoard;
 use crate::kind_seats::KindSeat;
 use lv_bodies::SixByTable;
 use lv_live::Live;
 use lv_refresh::{Job, Outcome};
+use std::mem;
 
 /// What a slot holds for C: one of these.
 #[derive(Drop)]
@@ -15,4 +18,11 @@ pub enum Object {
     Board(KindBoard),
     Seat(KindSeat),
     Closed(Ended),
+}
+
+/// Puts another object in an object's place, which is dropped.
+pub fn refill(object: &mut Object, other: Object)
+    ensures { object.new ≡ other }
+{
+    drop(mem::replace(object, other));
 }

@@ -2,7 +2,7 @@
 ghost use Rattle.std.specs.Prelude.{◌≡◌, pos, option_map, unwrap_or};
 ghost use Rattle.livevec_c.specs.Answers.{detail_of, edited_by, element_by, high_half, low_half, reduced_by, spread, unreduced, valueless};
 
-use lv_bodies::{Body, RunTotals, SixByTable};
+use lv_bodies::{RunTotals, SixSummary};
 use lv_edits::Receipt;
 use lv_geometry::Refusal;
 use lv_reduce::Answer;
@@ -179,10 +179,10 @@ fn total_halves(totals: Option<RunTotals>) -> (u64, i64)
 }
 
 /// The six summaries of some elements, laid out for C.
-pub fn plain_values(summary: <SixByTable as Body>::S) -> PlainValues
+pub fn plain_values(summary: SixSummary) -> PlainValues
     ensures { result ≡ spread summary }
 {
-    let (sum, (least, (greatest, (best, (affine, automaton))))) = summary;
+    let (sum, (least, (greatest, (best, (affine, automaton))))) = summary.each();
     let (best_low, best_high) = total_halves(best);
     PlainValues {
         sum,
@@ -229,7 +229,7 @@ pub fn not_reduced(refusal: u32, detail: u32) -> Reduced
 }
 
 /// What a reduction answers for C.
-pub fn reduction_answer(answer: Result<Answer<<SixByTable as Body>::S>, Refusal>) -> Reduced
+pub fn reduction_answer(answer: Result<Answer<SixSummary>, Refusal>) -> Reduced
     ensures { result ≡ reduced_by answer }
 {
     match answer {
