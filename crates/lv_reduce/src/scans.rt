@@ -1,16 +1,13 @@
 ghost use Rattle.std.specs.Prelude.{◌≡◌, ◌+◌, ◌<◌, ◌≤◌, [], ◌∷◌, ◌++◌, length, vec_len, vec_capacity, IfOk, IfErr, if◌then◌else◌};
-ghost use Rattle.lv_bodies.specs.Body.{CanFold};
 ghost use Rattle.lv_bodies.specs.Scan.{exclusive_scan, inclusive_scan};
-ghost use Rattle.lv_edits.specs.History.{list_of};
 ghost use Rattle.lv_reduce.specs.Answer.{IsScan, IsScanRefusal, scan_of, slice_of};
 ghost use Rattle.lv_reduce.specs.Running.{CanGoOn, reached, scan_from};
 
 use crate::values::Values;
 use crate::views::{View, refusal_of, run_at};
 use lv_bodies::{Body, fold_more};
-use lv_edits::Edits;
 use lv_geometry::Refusal;
-use std::alloc::{AllocError, Global};
+use std::alloc::Global;
 
 /// The answer to a scan: the number of the last edit, and a value for each element of the range.
 #[derive(Debug, Drop)]
@@ -67,39 +64,21 @@ pub fn running_folds<B: Body>(
     if let Some(refusal) = refusal_of(view.cells, lo, hi) {
         return Err(refusal);
     }
-    let Ok(values) = scan_elements(alloc, view.cells, body, lo, hi, inclusive) else {
+    let Ok(mut values) = Vec::with_capacity(alloc, (hi - lo) as usize) else {
         return Err(Refusal::NoMemory);
     };
-    Ok(Scan {
-        edit: view.cells.edit(),
-        values: Values::from_vec(values),
-    })
-}
-
-// The scan of a range, by runs of elements that lie side by side. The room for all values is made at once.
-fn scan_elements<B: Body>(
-    alloc: Global,
-    cells: &Edits,
-    body: &B,
-    lo: u32,
-    hi: u32,
-    inclusive: bool,
-) -> Result<Vec<B::S>, AllocError>
-    requires can { CanFold (list_of cells.now.journal) }
-    requires order { lo ≤ hi }
-    requires inside { hi ≤ length (list_of cells.now.journal) }
-    ensures { IfOk result (λ values. values.items ≡ scan_of inclusive (B.operations (B.meaning body.now)) (slice_of cells.now.journal lo hi)) }
-{
-    let mut values = Vec::with_capacity(alloc, (hi - lo) as usize)?;
     let mut sum = body.identity();
     let mut cell = [0];
     let mut at = lo;
     while at < hi {
-        let run = run_at(cells, at, hi, &mut cell);
+        let run = run_at(view.cells, at, hi, &mut cell);
         sum = push_folds(body, inclusive, sum, run, &mut values);
         at += run.len() as u32;
     }
-    Ok(values)
+    Ok(Scan {
+        edit: view.cells.edit(),
+        values: Values::from_vec(values),
+    })
 }
 
 /// Puts the scan of some elements, from what stands before them, behind the values that are there, and gives what they lead to. There

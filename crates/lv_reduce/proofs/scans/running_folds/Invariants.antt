@@ -1,7 +1,7 @@
 use Rattle.std.proofs.Common.{◌≡◌, ◌-◌, ◌≤◌, vec_capacity, vec_len}
 use Rattle.lv_bodies.specs.Body.{fold_of}
 use Rattle.lv_reduce.specs.Answer.{scan_of, slice_of}
-use Rattle.lv_reduce.proofs.scans.scan_elements.Given as goal
+use Rattle.lv_reduce.proofs.scans.running_folds.Given as goal
 
 -- the scan and the fold of what was read so far, with room for the rest
 abbrev pub invariant-loop-at : goal.invariant-loop-at
@@ -10,8 +10,8 @@ invariant-loop-at g l =
     record {
       low : l.lo ≤ l.at;
       high : l.at ≤ l.hi;
-      values : l.values.items ≡ scan_of l.inclusive o (slice_of l.cells.journal l.lo l.at);
-      sum : l.sum ≡ fold_of o (slice_of l.cells.journal l.lo l.at);
+      values : l.values.items ≡ scan_of l.inclusive o (slice_of l.view.cells.now.journal l.lo l.at);
+      sum : l.sum ≡ fold_of o (slice_of l.view.cells.now.journal l.lo l.at);
       count : vec_len l.values ≡ l.at - l.lo;
       room : l.hi - l.lo ≤ vec_capacity l.values;
     }
