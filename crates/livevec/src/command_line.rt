@@ -13,6 +13,64 @@ use lv_bodies::Kind;
 use lv_geometry::Limits;
 use std::alloc::{AllocError, Global};
 
+// An option whose value is a number: its name, what it says, its least and greatest number, and the one where it is not given.
+#[derive(Clone, Copy)]
+struct Number {
+    name: &'static str,
+    says: &'static str,
+    least: i64,
+    most: i64,
+    usual: &'static str,
+}
+
+const BUCKETS: Number = Number {
+    name: "buckets",
+    says: "At most how many buckets, 1 to 17: N hold 8 * (2^N - 1) elements",
+    least: 1,
+    most: 17,
+    usual: "17",
+};
+
+const FEW_BUCKETS: Number = Number {
+    name: "buckets",
+    says: "At most how many buckets, 1 to 9: N hold 8 * (2^N - 1) elements",
+    least: 1,
+    most: 9,
+    usual: "9",
+};
+
+const EDITS: Number = Number {
+    name: "edits",
+    says: "At most how many edits, 1 to 16777215",
+    least: 1,
+    most: 16_777_215,
+    usual: "16777215",
+};
+
+const ACTORS: Number = Number {
+    name: "actors",
+    says: "How many actors there are, 1 to 8, with the numbers from 0 on",
+    least: 1,
+    most: 8,
+    usual: "2",
+};
+
+const WORKERS: Number = Number {
+    name: "workers",
+    says: "How many workers refresh the vector beside the sessions, 0 to 8",
+    least: 0,
+    most: 8,
+    usual: "1",
+};
+
+const TURNS: Number = Number {
+    name: "turns",
+    says: "How many turns each worker takes, a claim each, 0 to 1000000",
+    least: 0,
+    most: 1_000_000,
+    usual: "1000",
+};
+
 // The names of the kinds.
 const KINDS: [&str; 6] = ["sum", "least", "greatest", "best", "affine", "automaton"];
 
@@ -46,12 +104,28 @@ fn with_command<'a>(
     command?.subcommand(below?)
 }
 
-// A command with one more argument, where there was memory for it.
-fn with_arg<'a>(
-    command: Result<Command<'a>, AllocError>,
-    arg: Arg<'a>,
+// A command with more options, each a number, where there was memory for them.
+fn with_numbers<'a>(
+    alloc: Global,
+    command: Command<'a>,
+    numbers: &[Number],
 ) -> Result<Command<'a>, AllocError> {
-    command?.arg(arg)
+    let mut command = command;
+    for number in numbers {
+        command = command.arg(number_arg(alloc, number))?;
+    }
+    Ok(command)
+}
+
+// An option whose value is a number.
+fn number_arg<'a>(alloc: Global, number: &Number) -> Arg<'a> {
+    Arg::new(alloc, number.name)
+        .long(number.name)
+        .value_name("N")
+        .help(number.says)
+        .action(ArgAction::Set)
+        .value_parser(value_parser!(u32).range(number.least..=number.most))
+        .default_value(number.usual)
 }
 
 /// The limits that a command's options say, the greatest where they say nothing.
@@ -66,7 +140,7 @@ pub fn plan(matches: &ArgMatches<'_>) -> Plan {
     Plan {
         limits: limits(matches),
         workers: matches.get_one::<u32>("workers").unwrap_or(1),
-        turns: matches.get_one::<u64>("turns").unwrap_or(1000),
+        turns: matches.get_one::<u32>("turns").unwrap_or(1000).into(),
     }
 }
 
@@ -118,8 +192,7 @@ fn run<'a>(alloc: Global) -> Result<Command<'a>, AllocError> {
     let command = Command::new(alloc, "run")
         .about(help::RUN)
         .after_help(help::LINES);
-    let command = with_arg(Ok(command), buckets(alloc));
-    with_arg(command, edits(alloc))
+    with_numbers(alloc, command, &[BUCKETS, EDITS])
 }
 
 // `livevec serve`.
@@ -127,22 +200,18 @@ fn serve<'a>(alloc: Global) -> Result<Command<'a>, AllocError> {
     let command = Command::new(alloc, "serve")
         .about(help::SERVE)
         .after_help(help::SESSIONS);
-    let command = with_arg(Ok(command), workers(alloc));
-    let command = with_arg(command, turns(alloc));
-    let command = with_arg(command, buckets(alloc));
-    let command = with_arg(command, edits(alloc));
-    with_arg(command, files(alloc).num_args(1..=16))
+    let command = with_numbers(alloc, command, &[WORKERS, TURNS, BUCKETS, EDITS])?;
+    command.arg(files(alloc).num_args(1..=16))
 }
 
 // `livevec board`.
 fn board<'a>(alloc: Global) -> Result<Command<'a>, AllocError> {
     let command = Command::new(alloc, "board")
         .about(help::BOARD)
-        .after_help(help::TRIES);
-    let command = with_arg(Ok(command), body(alloc));
-    let command = with_arg(command, few_buckets(alloc));
-    let command = with_arg(command, edits(alloc));
-    with_arg(command, files(alloc).num_args(1..=8))
+        .after_help(help::TRIES)
+        .arg(body(alloc))?;
+    let command = with_numbers(alloc, command, &[FEW_BUCKETS, EDITS])?;
+    command.arg(files(alloc).num_args(1..=8))
 }
 
 // `livevec schedule`.
@@ -150,9 +219,7 @@ fn schedule<'a>(alloc: Global) -> Result<Command<'a>, AllocError> {
     let command = Command::new(alloc, "schedule")
         .about(help::SCHEDULE)
         .after_help(help::EVENTS);
-    let command = with_arg(Ok(command), actor_count(alloc));
-    let command = with_arg(command, few_buckets(alloc));
-    with_arg(command, edits(alloc))
+    with_numbers(alloc, command, &[ACTORS, FEW_BUCKETS, EDITS])
 }
 
 // `livevec audit`.
@@ -160,26 +227,6 @@ fn audit<'a>(alloc: Global) -> Command<'a> {
     Command::new(alloc, "audit")
         .about(help::AUDIT)
         .after_help(help::VERDICTS)
-}
-
-fn buckets<'a>(alloc: Global) -> Arg<'a> {
-    Arg::new(alloc, "buckets")
-        .long("buckets")
-        .value_name("N")
-        .help("At most how many buckets, 1 to 17: N hold 8 * (2^N - 1) elements")
-        .action(ArgAction::Set)
-        .value_parser(value_parser!(u32).range(1..=17))
-        .default_value("17")
-}
-
-fn few_buckets<'a>(alloc: Global) -> Arg<'a> {
-    Arg::new(alloc, "buckets")
-        .long("buckets")
-        .value_name("N")
-        .help("At most how many buckets, 1 to 9: N hold 8 * (2^N - 1) elements")
-        .action(ArgAction::Set)
-        .value_parser(value_parser!(u32).range(1..=9))
-        .default_value("9")
 }
 
 fn body<'a>(alloc: Global) -> Arg<'a> {
@@ -190,46 +237,6 @@ fn body<'a>(alloc: Global) -> Arg<'a> {
         .action(ArgAction::Set)
         .value_parser(ValueParser::Names(&KINDS))
         .default_value("sum")
-}
-
-fn actor_count<'a>(alloc: Global) -> Arg<'a> {
-    Arg::new(alloc, "actors")
-        .long("actors")
-        .value_name("N")
-        .help("How many actors there are, 1 to 8, with the numbers from 0 on")
-        .action(ArgAction::Set)
-        .value_parser(value_parser!(u32).range(1..=8))
-        .default_value("2")
-}
-
-fn edits<'a>(alloc: Global) -> Arg<'a> {
-    Arg::new(alloc, "edits")
-        .long("edits")
-        .value_name("N")
-        .help("At most how many edits, 1 to 16777215")
-        .action(ArgAction::Set)
-        .value_parser(value_parser!(u32).range(1..=16_777_215))
-        .default_value("16777215")
-}
-
-fn workers<'a>(alloc: Global) -> Arg<'a> {
-    Arg::new(alloc, "workers")
-        .long("workers")
-        .value_name("N")
-        .help("How many workers refresh the vector beside the sessions, 0 to 8")
-        .action(ArgAction::Set)
-        .value_parser(value_parser!(u32).range(0..=8))
-        .default_value("1")
-}
-
-fn turns<'a>(alloc: Global) -> Arg<'a> {
-    Arg::new(alloc, "turns")
-        .long("turns")
-        .value_name("N")
-        .help("How many turns each worker takes, a claim each, 0 to 1000000")
-        .action(ArgAction::Set)
-        .value_parser(value_parser!(u64).range(0..=1_000_000))
-        .default_value("1000")
 }
 
 fn files<'a>(alloc: Global) -> Arg<'a> {

@@ -2,7 +2,7 @@
 
 ghost use Rattle.std.specs.Prelude.{◌≡◌, ◌+◌, ℕ, All, IfOk, List, OnOk, Some, vec_len};
 ghost use Rattle.std.specs.Io.KnownBytes.{Appends};
-ghost use Rattle.lv_script.specs.Transcript.{AreAccepted, IsSoundTranscript, IsTrueClaim, greatest};
+ghost use Rattle.lv_transcript.specs.Transcript.{AreAccepted, IsSoundTranscript, IsTrueClaim, greatest};
 
 use crate::failures::{Failure, Place};
 use crate::files::Streams;
@@ -47,7 +47,7 @@ struct Done<N: Means<Six>> {
 
 impl<N: Means<Six>> Model for Done<N> {
     ghost use Rattle.std.specs.Prelude.{◌≡◌, All, IfOk};
-    ghost use Rattle.lv_script.specs.Transcript.{IsTrueClaim};
+    ghost use Rattle.lv_transcript.specs.Transcript.{IsTrueClaim};
     ghost use Rattle.lv_hub.specs.Counting.{ShareState};
 
     ghost Value = { ShareState };

@@ -1,7 +1,7 @@
 //! Tests of the loop of lines over readers and writers that fail, that give or take little, and that give too much.
 ghost use Rattle.std.specs.Prelude.{◌≡◌, ℕ, [], ◌∷◌, ◌++◌, length};
 ghost use Rattle.std.specs.Fmt.{decimal};
-ghost use Rattle.lv_script.specs.Output.{HasRoom, KeepsRoom};
+ghost use Rattle.lv_lines.specs.Output.{HasRoom, KeepsRoom};
 
 use lv_bodies::{Kind, Six, fold_slice};
 use lv_geometry::Limits;

@@ -7,7 +7,6 @@ pub mod Calling
 pub mod Opens
 pub mod Closes
 pub mod Still
-pub mod Conversing
 pub mod Sittings
 pub mod Walking
 pub mod Ordered

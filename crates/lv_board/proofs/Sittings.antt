@@ -4,8 +4,9 @@ use Rattle.lv_bodies.specs.declared.kinds.Kind.{Kind}
 use Rattle.lv_bodies.specs.declared.kinds.Shown.{Shown}
 use Rattle.lv_bodies.specs.Body.{Operations}
 use Rattle.lv_machine.specs.Terms.{Folding}
-use Rattle.lv_script.specs.declared.fault.Fault.{Fault}
-use Rattle.lv_script.specs.Replies.{Conversed}
+use Rattle.lv_lines.specs.declared.fault.Fault.{Fault}
+use Rattle.lv_lines.specs.Replies.{Conversed}
+use Rattle.lv_lines.proofs.Conversing.{conversed_as}
 use Rattle.lv_board.specs.declared.actors.Actor.{Actor}
 use Rattle.lv_board.specs.declared.actors.Basis.{Basis}
 use Rattle.lv_board.specs.declared.seats.Seat.{Seat}
@@ -13,7 +14,6 @@ use Rattle.lv_board.specs.Rule.{terms_of}
 use Rattle.lv_board.specs.Session.{BoardStep}
 use Rattle.lv_board.specs.Sitting.{Sits, Sitting, SittingStep}
 use Rattle.lv_board.specs.Tells.{actor_of, Stays}
-use Rattle.lv_board.proofs.Conversing.{conversed_as}
 
 module _ {B S : Type 0} (f : B → Folding) (o : B → Operations S) (kind : Kind) (shown : B → S → Shown) where
   -- a line by a sitting is one by the actor that it stands for

@@ -18,11 +18,11 @@ use Rattle.lv_machine.specs.declared.outcomes.Said.{Said}
 use Rattle.lv_machine.specs.declared.outcomes.Said.TheVariants as said
 use Rattle.lv_machine.specs.History.{elements_of}
 use Rattle.lv_machine.specs.Terms.{Terms}
+use Rattle.lv_lines.specs.Texts.{bad_text}
 use Rattle.lv_script.specs.declared.board_lines.BoardLine.{BoardLine}
 use Rattle.lv_script.specs.declared.board_lines.BoardLine.TheVariants.{Nothing, Bad, Do}
 use Rattle.lv_script.specs.BoardLine.{board_line_of}
 use Rattle.lv_script.specs.Schedule.{said_shown, said_text}
-use Rattle.lv_script.specs.Texts.{bad_text}
 use Rattle.lv_board.specs.declared.actors.Actor.{Actor}
 use Rattle.lv_board.specs.Calls.{AreInstalled, GetAnswers, HasLooked, ReduceAnswers, RefreshAnswers, TryAnswers}
 

@@ -30,7 +30,7 @@ use Rattle.lv_board.specs.declared.opened.Opened.{Opened}
 use Rattle.lv_board.specs.declared.sharing.Unseated.{Unseated}
 use Rattle.lv_board.specs.declared.sharing.Unseated.TheVariants.{NoMemory, NoSeat}
 use Rattle.lv_board.specs.declared.sitters.Sitter.{Sitter}
-use Rattle.lv_board.specs.Calls.{AreInstalled, GetAnswers, HasLooked, RefreshAnswers, TryAnswers}
+use Rattle.lv_board.specs.Calls.{AreInstalled, GetAnswers, HasLooked, RefreshAnswers}
 use Rattle.lv_board.specs.Closing.{IsKept}
 use Rattle.lv_board.specs.Opening.{MayOpen}
 use Rattle.lv_board.specs.Retrying.{AnswersWithin}

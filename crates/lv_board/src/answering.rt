@@ -1,6 +1,6 @@
 //! What a line of a session is answered.
 ghost use Rattle.std.specs.Prelude.{◌≡◌, ◌++◌, ℕ, List};
-ghost use Rattle.lv_script.specs.Output.{HasRoom, KeepsRoom};
+ghost use Rattle.lv_lines.specs.Output.{HasRoom, KeepsRoom};
 ghost use Rattle.lv_board.specs.declared.board.Board.{Board};
 ghost use Rattle.lv_board.specs.declared.seats.Seat.{Seat};
 ghost use Rattle.lv_board.specs.Rule.{folds, terms_of};

@@ -1,6 +1,6 @@
 //! Sessions: lines that a seat is asked by, one try a line.
 ghost use Rattle.std.specs.Prelude.{◌≡◌};
-ghost use Rattle.lv_script.specs.Replies.{Conversed};
+ghost use Rattle.lv_lines.specs.Replies.{Conversed};
 ghost use Rattle.lv_board.specs.declared.board.Board.{Board};
 ghost use Rattle.lv_board.specs.declared.seats.Seat.{Seat};
 ghost use Rattle.lv_board.specs.Rule.{folds, terms_of};

@@ -13,7 +13,7 @@ use Rattle.lv_edits.specs.History.{History, list_of}
 use Rattle.lv_edits.specs.Kept.{IsLegalInLimits}
 use Rattle.lv_edits.specs.Verdict.{Answers, refused_on, verdict_of}
 use Rattle.lv_edits.proofs.HistoryLaws.{not_refused, unrefused_push, unrefused_reserve}
-use Rattle.lv_script.specs.Transcript.{AreAccepted, AreAcceptedAfter, greatest}
+use Rattle.lv_transcript.specs.Transcript.{AreAccepted, AreAcceptedAfter, greatest}
 use Rattle.lv_hub.specs.Told.{IsVector}
 
 -- on a list that limits allow, what they don't refuse the greatest don't

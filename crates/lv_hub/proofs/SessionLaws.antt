@@ -1,8 +1,8 @@
 -- Conversations whatever they give.
 use Rattle.std.proofs.Common.{◌≡◌, ℕ, Option, Result, Ok, Err, MatchResult, IfOk, List}
-use Rattle.lv_script.specs.declared.fault.Fault.{Fault}
-use Rattle.lv_script.specs.declared.fault.Fault.TheVariants.{NoMemory, ReadFault, TooLong, WriteFault}
-use Rattle.lv_script.specs.Replies.{Conversed}
+use Rattle.lv_lines.specs.declared.fault.Fault.{Fault}
+use Rattle.lv_lines.specs.declared.fault.Fault.TheVariants.{NoMemory, ReadFault, TooLong, WriteFault}
+use Rattle.lv_lines.specs.Replies.{Conversed}
 
 module _ {S T U : Type 0} {step : S → ℕ → List ℕ → List ℕ → S → Type 0} {old new : S} {a b k l : Option (List ℕ)} where
   -- one that ends as another did, with something else to give

@@ -10,14 +10,14 @@ use Rattle.lv_edits.specs.declared.edit.Edit.{Edit}
 use Rattle.lv_edits.specs.declared.receipt.Receipt.{Receipt}
 use Rattle.lv_reduce.specs.declared.reductions.Answer.{Answer}
 use Rattle.lv_reduce.specs.declared.scans.Scan.{Scan}
-use Rattle.lv_script.specs.declared.command.Command.{Command}
-use Rattle.lv_script.specs.declared.command.Command.TheVariants as commands
-use Rattle.lv_script.specs.declared.command.Line.{Line}
-use Rattle.lv_script.specs.declared.command.Line.TheVariants.{Nothing, Bad, Do}
-use Rattle.lv_script.specs.declared.transcripts.Claimed.{Claimed}
-use Rattle.lv_script.specs.Grammar.{line_of}
+use Rattle.lv_lines.specs.declared.command.Command.{Command}
+use Rattle.lv_lines.specs.declared.command.Command.TheVariants as commands
+use Rattle.lv_lines.specs.declared.command.Line.{Line}
+use Rattle.lv_lines.specs.declared.command.Line.TheVariants.{Nothing, Bad, Do}
+use Rattle.lv_lines.specs.Grammar.{line_of}
+use Rattle.lv_lines.specs.Texts.{answer_text, bad_text, refused_text, scan_text}
+use Rattle.lv_transcript.specs.declared.transcripts.Claimed.{Claimed}
 use Rattle.lv_script.specs.Script.{edit_text}
-use Rattle.lv_script.specs.Texts.{answer_text, bad_text, refused_text, scan_text}
 use Rattle.lv_hub.specs.Counting.{ShareState}
 use Rattle.lv_hub.specs.Told.{EditTold, ReductionTold, ScanTold}
 

@@ -1,6 +1,6 @@
 ghost use Rattle.std.specs.Prelude.{◌≡◌, ◌↔◌, ◌<◌, true, false, [], length, Err, Some};
 ghost use mathlib.Core.List.{IsPrefix};
-ghost use Rattle.lv_script.specs.Transcript.{AreAccepted, greatest};
+ghost use Rattle.lv_transcript.specs.Transcript.{AreAccepted, greatest};
 ghost use Rattle.lv_hub.specs.Counting.{Counts, having_seen};
 ghost use Rattle.lv_hub.specs.Told.{AskTold, ClaimTold, EditTold, GiveTold, IsVector, ReductionTold, ScanTold, StretchTold};
 

@@ -6,7 +6,7 @@ ghost use Rattle.lv_refresh.specs.Claim.{IsNextJob};
 ghost use Rattle.lv_refresh.specs.Honesty.{IsHonest};
 ghost use Rattle.lv_live.specs.Kept.{IsLive};
 ghost use Rattle.lv_live.specs.State.{HasClaim, HasDelivery, SameLive, SameRefresh, node_and_version, recorded};
-ghost use Rattle.lv_script.specs.Transcript.{AreAccepted, greatest};
+ghost use Rattle.lv_transcript.specs.Transcript.{AreAccepted, greatest};
 ghost use Rattle.lv_hub.specs.Counting.{Counts, having_seen};
 ghost use Rattle.lv_hub.specs.Told.{Gives, IsVector, VouchedBy};
 
@@ -37,7 +37,7 @@ pub struct LoggedDesk<B: Body, N: Means<B>> {
 impl<B: Body, N: Means<B>> Model for LoggedDesk<B, N> {
     ghost use Rattle.std.specs.Prelude.{◌≡◌, Some};
     ghost use Rattle.lv_live.specs.State.{LiveState};
-    ghost use Rattle.lv_script.specs.Transcript.{AreAccepted, greatest};
+    ghost use Rattle.lv_transcript.specs.Transcript.{AreAccepted, greatest};
 
     ghost Value = { LiveState B B.S };
 

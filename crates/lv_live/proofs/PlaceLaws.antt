@@ -1,12 +1,38 @@
 -- The jobs that were handed out stay in their places when one more is put.
-use Rattle.std.proofs.Common.{◌≡◌, ℕ, Option, Some, None, option_map, List, [], ◌∷◌, ◌++◌, length, map, refl, sym, ap, ap₂, ◌∙◌, Bool, true, false, cond, nat_eq, ◌-◌}
-use Rattle.std.specs.Prelude.{slice_get}
+use Rattle.std.proofs.Common.{◌≡◌, ◌<◌, ◌≤◌, ◌+◌, ℕ, Option, Some, None, option_map, List, [], ◌∷◌, ◌++◌, length, map, refl, sym, ap, ap₂, ◌∙◌, Bool, true, false, cond, nat_eq, ◌-◌, arith}
+use Rattle.std.specs.Prelude.{min, slice_get}
+use Rattle.std.proofs.Math.Nat.{le-min, min-le_left, min-le_right}
 use Rattle.std.proofs.lemmas.List.{length-map, map-append}
 use Rattle.std.proofs.lemmas.Option.{none-some, same_Some, slice_get-map}
 use Rattle.lv_refresh.specs.Carried.{Carried, CarriedBlock}
 use Rattle.lv_live.specs.Places.{AreFilled, IsPut, job_in, jobs_in, place_at, present}
 use Rattle.lv_live.specs.State.{job_at}
 use Rattle.lv_live.specs.declared.places.Place.{Place}
+
+-- ---- room
+
+-- where each of three rows has room for one more, the first has it
+pub room_in_first : (len capacity b c : ℕ) → 0 < min (capacity - len) (min b c) → len < capacity
+room_in_first len capacity b c more = omega (arith, more, min-le_left (capacity - len) (min b c))
+
+-- so has the second
+pub room_in_second : (a len capacity c : ℕ) → 0 < min a (min (capacity - len) c) → len < capacity
+room_in_second a len capacity c more =
+    omega (arith, more, min-le_right a (min (capacity - len) c), min-le_left (capacity - len) c)
+
+-- and the third
+pub room_in_third : (a b len capacity : ℕ) → 0 < min a (min b (capacity - len)) → len < capacity
+room_in_third a b len capacity more =
+    omega (arith, more, min-le_right a (min b (capacity - len)), min-le_right b (capacity - len))
+
+-- where no row has more than one room less, there is at most one room less
+pub room_after : (a b c d e f : ℕ) → a ≤ d + 1 → b ≤ e + 1 → c ≤ f + 1 → min a (min b c) ≤ min d (min e f) + 1
+room_after a b c d e f first second third =
+    let least : ℕ = min a (min b c) - 1 in
+    let in_first : least ≤ d = omega (arith, first, min-le_left a (min b c)) in
+    let in_second : least ≤ e = omega (arith, second, min-le_right a (min b c), min-le_left b c) in
+    let in_third : least ≤ f = omega (arith, third, min-le_right a (min b c), min-le_right b c) in
+    omega (arith, le-min in_first (le-min in_second in_third))
 
 -- ---- lists
 

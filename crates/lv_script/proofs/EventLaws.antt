@@ -29,14 +29,14 @@ use Rattle.lv_live.proofs.WorldLaws.{step_claim, step_delivery, step_edit, step_
 use Rattle.lv_standing.specs.declared.notes.Note.{Note}
 use Rattle.lv_standing.specs.Queries.{AreNotes, Query}
 use Rattle.lv_standing.specs.Standings.{StandingState}
-use Rattle.lv_script.specs.declared.fault.Fault.{Fault}
-use Rattle.lv_script.specs.declared.fault.Fault.TheVariants.{WriteFault}
-use Rattle.lv_script.specs.Output.{Writes, WritesFront}
-use Rattle.lv_script.specs.Replies.{FailsToReply, Replies}
-use Rattle.lv_script.proofs.OutputLemmas.{Writes-trans, WritesFront-after}
+use Rattle.lv_lines.specs.declared.fault.Fault.{Fault}
+use Rattle.lv_lines.specs.declared.fault.Fault.TheVariants.{WriteFault}
+use Rattle.lv_lines.specs.Output.{Writes, WritesFront}
+use Rattle.lv_lines.specs.Replies.{FailsToReply, Replies}
+use Rattle.lv_lines.proofs.OutputLemmas.{Writes-trans, WritesFront-after}
+use Rattle.lv_lines.specs.Texts.{answer_text, refused_text, scan_text}
 use Rattle.lv_script.specs.Script.{HasQueries, Tells, TellsEdit, TellsEvent, TellsScan, edit_text, notes_text, plain_scan, reduced_text, reply_text, scanned_range_text}
 use Rattle.lv_script.specs.Scripted.{state_of}
-use Rattle.lv_script.specs.Texts.{answer_text, refused_text, scan_text}
 
 -- a vector with standing queries that stays as it is
 pub unchanged : (s : StandingState) (jobs : List (Carried Six SixSummary)) → HasQueries (state_of s jobs) (state_of s jobs) s.queries

@@ -16,16 +16,16 @@ use Rattle.lv_live.specs.Step.{EditStep, edit_reply}
 use Rattle.lv_live.proofs.OneOutcomeLaws.{one_record, one_step}
 use Rattle.lv_standing.specs.declared.notes.Note.{Note}
 use Rattle.lv_standing.specs.Queries.{AreNotes, Query, query_of, watch_answer, watch_refusal}
-use Rattle.lv_script.specs.declared.command.Command.{Command}
-use Rattle.lv_script.specs.declared.command.Command.TheVariants as command
-use Rattle.lv_script.specs.declared.command.Line.{Line}
-use Rattle.lv_script.specs.declared.command.Line.TheVariants.{Nothing, Bad, Do}
-use Rattle.lv_script.specs.Grammar.{line_of}
+use Rattle.lv_lines.specs.declared.command.Command.{Command}
+use Rattle.lv_lines.specs.declared.command.Command.TheVariants as command
+use Rattle.lv_lines.specs.declared.command.Line.{Line}
+use Rattle.lv_lines.specs.declared.command.Line.TheVariants.{Nothing, Bad, Do}
+use Rattle.lv_lines.specs.Grammar.{line_of}
+use Rattle.lv_lines.specs.Replies.{Answered}
+use Rattle.lv_lines.specs.Texts.{refused_text}
 use Rattle.lv_script.specs.OneText.{StepWithRoom}
-use Rattle.lv_script.specs.Replies.{Answered}
 use Rattle.lv_script.specs.Script.{CommandAnswer, Does, HasQueries, LineAnswer, ScriptState, ScriptStep, Tells, TellsEdit, TellsEvent, TellsScan, TellsUnwatch, TellsWatch, edit_text, notes_text, reply_text}
 use Rattle.lv_script.specs.Scripted.{Begins}
-use Rattle.lv_script.specs.Texts.{refused_text}
 
 -- the reply to what was refused for want of memory
 abbrev want : Reply SixSummary

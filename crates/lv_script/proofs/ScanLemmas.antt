@@ -10,12 +10,12 @@ use Rattle.lv_geometry.specs.Elements.{IsElement}
 use Rattle.lv_bodies.specs.Body.{CanFold, Operations, fold_of}
 use Rattle.lv_bodies.specs.Plain.{plain_value}
 use Rattle.lv_edits.proofs.Slices.{length-slice_range}
-use Rattle.lv_script.specs.Script.{plain_scan}
+use Rattle.lv_lines.specs.Output.{Writes, WritesFront}
 use Rattle.lv_bodies.specs.declared.kinds.Kind.{Kind}
 use Rattle.lv_bodies.specs.declared.kinds.Shown.{Shown}
-use Rattle.lv_script.specs.Output.{Writes, WritesFront}
-use Rattle.lv_script.specs.Texts.{scan_head, scan_text, scanned_text, values_text}
-use Rattle.lv_script.proofs.OutputLemmas.{Writes-trans, WritesFront-after, WritesFront-longer}
+use Rattle.lv_lines.specs.Texts.{scan_head, scan_text, scanned_text, values_text}
+use Rattle.lv_lines.proofs.OutputLemmas.{Writes-trans, WritesFront-after, WritesFront-longer}
+use Rattle.lv_script.specs.Script.{plain_scan}
 
 -- the lines of values in two parts are those of the first part, and then those of the second
 values_text-append : {X : Type 0} (f : X → Shown) (xs ys : List X) → values_text (map f (xs ++ ys)) ≡ values_text (map f xs) ++ values_text (map f ys)

@@ -4,11 +4,11 @@ use Rattle.std.specs.Str.{bytes_eq}
 use Rattle.lv_bodies.specs.declared.kinds.Kind.{Kind}
 use Rattle.lv_machine.specs.declared.events.Call.{Call}
 use Rattle.lv_machine.specs.declared.events.Call.TheVariants as call
+use Rattle.lv_lines.specs.Grammar.{bounds_in, is_comment, kind_name, without_cr}
+use Rattle.lv_lines.specs.Words.{words_of}
 use Rattle.lv_script.specs.declared.board_lines.BoardLine.{BoardLine}
 use Rattle.lv_script.specs.declared.board_lines.BoardLine.TheVariants.{Nothing, Bad, Do}
-use Rattle.lv_script.specs.Grammar.{bounds_in, is_comment, kind_name, without_cr}
 use Rattle.lv_script.specs.Schedule.{plain_call_in}
-use Rattle.lv_script.specs.Words.{words_of}
 
 -- the reduction that the words `kind lo hi` ask for, where the kind is the board's
 unfoldable pub own_range_in : Kind → List (List ℕ) → Option Call

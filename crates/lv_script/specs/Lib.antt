@@ -1,17 +1,5 @@
-pub mod Faults
-pub mod Grammar
-pub mod Input
-pub mod Numbers
 pub mod OneText
-pub mod Output
-pub mod Printed
-pub mod Progress
-pub mod Replies
 pub mod Schedule
 pub mod Script
 pub mod Scripted
-pub mod Texts
-pub mod Words
-pub mod Auditing
 pub mod BoardLine
-pub mod Transcript

@@ -1,8 +1,8 @@
 -- A line that memory was there for.
 use Rattle.std.specs.Prelude.{◌≢◌, ℕ, List}
 use Rattle.lv_geometry.specs.declared.refusals.Refusal.TheVariants.{NoMemory}
+use Rattle.lv_lines.specs.Texts.{refused_text}
 use Rattle.lv_script.specs.Script.{ScriptState, ScriptStep}
-use Rattle.lv_script.specs.Texts.{refused_text}
 
 -- a line of a script was answered, and not by a refusal for want of memory
 abbrev pub StepWithRoom : ScriptState → ℕ → List ℕ → List ℕ → ScriptState → Type 0

@@ -18,14 +18,14 @@ use Rattle.lv_machine.specs.declared.outcomes.Outcome.TheVariants.{Started, Goin
 use Rattle.lv_machine.specs.declared.outcomes.Said.{Said}
 use Rattle.lv_machine.specs.declared.outcomes.Said.TheVariants as said
 use Rattle.lv_machine.specs.Machine.{MachineState, block_refreshed, machine_step}
-use Rattle.lv_script.specs.declared.command.Command.{Command}
-use Rattle.lv_script.specs.declared.command.Command.TheVariants.{Edit, Get, Size}
+use Rattle.lv_lines.specs.declared.command.Command.{Command}
+use Rattle.lv_lines.specs.declared.command.Command.TheVariants.{Edit, Get, Size}
+use Rattle.lv_lines.specs.Grammar.{◌>>=◌, bounds_in, command_in, is_comment, lone_number, without_cr}
+use Rattle.lv_lines.specs.Numbers.{number_in}
+use Rattle.lv_lines.specs.Words.{words_of}
+use Rattle.lv_lines.specs.Texts.{answer_text, bad_text, fresh_text, receipt_text, refused_text, reply_line, size_text, value_text}
 use Rattle.lv_script.specs.declared.schedule_lines.ScheduleLine.{ScheduleLine}
 use Rattle.lv_script.specs.declared.schedule_lines.ScheduleLine.TheVariants.{Nothing, Bad, Do}
-use Rattle.lv_script.specs.Grammar.{◌>>=◌, bounds_in, command_in, is_comment, lone_number, without_cr}
-use Rattle.lv_script.specs.Numbers.{number_in}
-use Rattle.lv_script.specs.Words.{words_of}
-use Rattle.lv_script.specs.Texts.{answer_text, bad_text, fresh_text, receipt_text, refused_text, reply_line, size_text, value_text}
 
 -- ---- what a line says
 
@@ -144,3 +144,20 @@ machine_after m (Do e) = (sum_step m e).0
 unfoldable pub ScheduleStep : SumMachine → ℕ → List ℕ → List ℕ → SumMachine → Type 0
 ScheduleStep old n line text new =
     (text ≡ line_text old n (schedule_line_of line)) × (new ≡ machine_after old (schedule_line_of line))
+
+-- ---- a schedule while it is played
+
+-- a machine, and the name of the reference to its place
+pub record Played : Type 0 where
+  pub machine : SumMachine
+  pub place : ℕ
+
+-- one line of a schedule, after which the machine is in its place
+pub record PlayedStep (old : Played) (n : ℕ) (line text : List ℕ) (new : Played) : Type 0 where
+  pub place : new.place ≡ old.place
+  pub answered : ScheduleStep old.machine n line text new.machine
+
+-- what stands for the machine of a place
+pub record Plays (place : ℕ) (s : Played) (m : SumMachine) : Type 0 where
+  pub here : s.place ≡ place
+  pub machine : s.machine ≡ m

@@ -12,23 +12,21 @@ ghost use Rattle.lv_live.specs.State.{SameLive, recorded};
 ghost use Rattle.lv_live.specs.Step.{Reduces};
 ghost use Rattle.lv_live.specs.declared.events.Event.TheVariants as event;
 ghost use Rattle.lv_standing.specs.Queries.{query_of};
-ghost use Rattle.lv_script.specs.Output.{HasRoom, KeepsRoom, Puts, PutsFront, SamePlaces};
+ghost use Rattle.lv_lines.specs.Output.{HasRoom, KeepsRoom, Puts, PutsFront, SamePlaces};
+ghost use Rattle.lv_lines.specs.Texts.{capacity_text, element_text, size_text};
 ghost use Rattle.lv_script.specs.Script.{CommandAnswer, TellsEdit, TellsEvent, TellsUnwatch, TellsWatch, Tells, named_answer_text, notes_text, reduced_text};
 ghost use Rattle.lv_script.specs.Scripted.{state_of};
-ghost use Rattle.lv_script.specs.Texts.{capacity_text, element_text, size_text};
 
-use crate::command::Command;
-use crate::fault::Fault;
-use crate::outbox::Outbox;
 use crate::refresh_replies::{put_accepted, put_cost, put_forgotten, put_idle, put_job};
-use crate::replies::{
-    LINE, put_answer, put_capacity, put_receipt, put_refusal, put_settled, put_size, put_value,
-};
 use crate::scans::{Asked, answer_scan};
 use crate::watch_replies::{put_named, put_note, put_unwatched, put_watching};
 use lv_bodies::{Body, Kind, Six, SixSummary};
 use lv_edits::Edit;
 use lv_geometry::{Node, Refusal};
+use lv_lines::{
+    Command, Fault, LINE, Outbox, put_answer, put_capacity, put_receipt, put_refusal, put_settled,
+    put_size, put_value,
+};
 use lv_live::{Issued, Live};
 use lv_reduce::Answer;
 use lv_refresh::Job;

@@ -1,12 +1,11 @@
 ghost use Rattle.std.specs.Prelude.{◌≡◌, ◌∷◌};
-ghost use Rattle.lv_script.specs.Words.{words_of};
+ghost use Rattle.lv_lines.specs.Words.{words_of};
 ghost use Rattle.lv_script.specs.BoardLine.{board_call_in, board_line_of, own_range_in};
 
-use crate::grammar::{bounds, spells};
-use crate::lines::{is_comment, without_cr};
 use crate::plain_calls::plain_call;
-use crate::words::{kind_name, next_word};
 use lv_bodies::Kind;
+use lv_lines::grammar::{bounds, spells};
+use lv_lines::{is_comment, kind_name, next_word, without_cr};
 use lv_machine::Call;
 
 /// What a line of a board's session is.

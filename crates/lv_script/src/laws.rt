@@ -1,12 +1,12 @@
 ghost use Rattle.std.specs.Prelude.{◌≡◌, ℕ, List, [], ◌∷◌, ◌++◌, map, take};
-ghost use Rattle.lv_script.specs.Input.{last_line, lines_of, unended_of, whole_lines_of};
+ghost use Rattle.lv_lines.specs.Input.{last_line, lines_of, unended_of, whole_lines_of};
 ghost use Rattle.lv_geometry.specs.Bounds.{Bounds};
+ghost use Rattle.lv_lines.specs.Replies.{Answered, AnsweredInParts};
 ghost use Rattle.lv_script.specs.OneText.{StepWithRoom};
-ghost use Rattle.lv_script.specs.Replies.{Answered, AnsweredInParts};
 ghost use Rattle.lv_script.specs.Script.{ScriptState};
 ghost use Rattle.lv_script.specs.Scripted.{Begins};
 
-use crate::responder::Responder;
+use lv_lines::Responder;
 
 /// A front of some lines is answered with a front of their text, whatever answers them; the rest goes on from the state
 /// and the number that the front came to.

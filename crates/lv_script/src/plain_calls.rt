@@ -1,11 +1,11 @@
 //! The calls of the lock-free form that schedules and sessions spell alike.
 ghost use Rattle.std.specs.Prelude.{◌≡◌, ◌∷◌};
-ghost use Rattle.lv_script.specs.Words.{words_of};
+ghost use Rattle.lv_lines.specs.Words.{words_of};
 ghost use Rattle.lv_script.specs.Schedule.{call_of, plain_call_in};
 
-use crate::command::Command;
-use crate::grammar::{command, lone_number, spells};
 use lv_edits::Edit;
+use lv_lines::Command;
+use lv_lines::grammar::{command, lone_number, spells};
 use lv_machine::Call;
 
 /// The call that a first word and the words after it ask for beside reductions.

@@ -1,10 +1,9 @@
 ghost use Rattle.std.specs.Prelude.{◌≡◌, ◌++◌};
-ghost use Rattle.lv_script.specs.Output.{HasRoom, KeepsRoom};
-ghost use Rattle.lv_script.specs.Texts.{accepted_text, cost_text, forgotten_text, fresh_text, idle_text, job_text};
+ghost use Rattle.lv_lines.specs.Output.{HasRoom, KeepsRoom};
+ghost use Rattle.lv_lines.specs.Texts.{accepted_text, cost_text, forgotten_text, fresh_text, idle_text, job_text};
 
-use crate::replies::LINE;
-use crate::sender::{put, put_number};
 use lv_geometry::Node;
+use lv_lines::{LINE, put, put_number};
 use lv_summary::Accepted;
 
 /// How many cells and summaries a reduction reads.

@@ -1,14 +1,10 @@
 ghost use Rattle.std.specs.Prelude.{◌≡◌, ◌+◌, ◌*◌, ◌≤◌, [], ◌++◌, length, map, IsOk, OnOk, IfErr, vec_len};
 ghost use Rattle.lv_bodies.specs.Six.{face_of};
-ghost use Rattle.lv_script.specs.Output.{HasRoom, KeepsRoom, Puts, PutsFront, SamePlaces};
-ghost use Rattle.lv_script.specs.Texts.{scan_head, scan_text, scanned_text, values_text};
+ghost use Rattle.lv_lines.specs.Output.{HasRoom, KeepsRoom, Puts, PutsFront, SamePlaces};
+ghost use Rattle.lv_lines.specs.Texts.{scan_head, scan_text, scanned_text, values_text};
 
-use crate::fault::Fault;
-use crate::outbox::Outbox;
-use crate::replies::{LINE, put_shown};
-use crate::sender::{put, put_number};
-use crate::words::{kind_name, scan_name};
 use lv_bodies::{Kind, Shown, SixSummary, face};
+use lv_lines::{Fault, LINE, Outbox, kind_name, put, put_number, put_shown, scan_name};
 use std::io::Write;
 
 /// The scan of a kind at an edit, whose values are those summaries. It may be longer than what is held: what is held is

@@ -7,19 +7,17 @@ ghost use Rattle.lv_bodies.specs.Body.{CanFold, fold_of};
 ghost use Rattle.lv_bodies.specs.Six.{SixSummary};
 ghost use Rattle.lv_bodies.specs.declared.sixes.Six.{Six};
 ghost use Rattle.lv_reduce.specs.Answer.{range_refusal, slice_of};
-ghost use Rattle.lv_script.specs.Output.{HasRoom, Puts, PutsFront, SamePlaces};
+ghost use Rattle.lv_lines.specs.Output.{HasRoom, Puts, PutsFront, SamePlaces};
+ghost use Rattle.lv_lines.specs.Texts.{scan_text, values_text};
 ghost use Rattle.lv_script.specs.Script.{TellsScan, plain_scan, scan_by};
 ghost use Rattle.lv_script.specs.Scripted.{state_of};
-ghost use Rattle.lv_script.specs.Texts.{scan_text, values_text};
 
-use crate::fault::Fault;
-use crate::outbox::Outbox;
-use crate::replies::{LINE, put_refusal};
 use crate::scan_replies::{put_head, put_scanned};
 use lv_bodies::{
     Affine, Automaton, Best, Greatest, Kind, Least, Shown, Single, Six, Sum, fold_more,
 };
 use lv_geometry::Refusal;
+use lv_lines::{Fault, LINE, Outbox, put_refusal};
 use lv_live::Live;
 use lv_standing::Standing;
 use std::io::Write;

@@ -1,12 +1,10 @@
 ghost use Rattle.std.specs.Prelude.{◌≡◌, ◌∷◌};
-ghost use Rattle.lv_script.specs.Words.{words_of};
+ghost use Rattle.lv_lines.specs.Words.{words_of};
 ghost use Rattle.lv_script.specs.Schedule.{call_in, called_in, event_in, schedule_line_of};
 
-use crate::grammar::{bounds, lone_number, spells};
-use crate::lines::{is_comment, without_cr};
-use crate::numbers::number;
 use crate::plain_calls::plain_call;
-use crate::words::next_word;
+use lv_lines::grammar::{bounds, lone_number, spells};
+use lv_lines::{is_comment, next_word, number, without_cr};
 use lv_machine::{Call, Event};
 
 /// What a line of a schedule is.

@@ -1,11 +1,10 @@
 ghost use Rattle.std.specs.Prelude.{◌≡◌, ◌*◌, ◌++◌};
-ghost use Rattle.lv_script.specs.Output.{HasRoom, KeepsRoom};
+ghost use Rattle.lv_lines.specs.Output.{HasRoom, KeepsRoom};
 ghost use Rattle.lv_script.specs.Schedule.{outcome_text, said_shown, said_text};
 
 use crate::refresh_replies::put_fresh;
-use crate::replies::{LINE, put_answer, put_receipt, put_refusal, put_size, put_value};
-use crate::sender::{put, put_number};
 use lv_bodies::{Kind, Shown, Single, Sum};
+use lv_lines::{LINE, put, put_answer, put_number, put_receipt, put_refusal, put_size, put_value};
 use lv_machine::{Outcome, Said};
 use lv_reduce::Answer;
 

@@ -1,16 +1,12 @@
 ghost use Rattle.std.specs.Prelude.{◌≡◌, ◌++◌};
-ghost use Rattle.lv_script.specs.Output.{HasRoom, KeepsRoom};
-ghost use Rattle.lv_script.specs.Replies.{Conversed};
-ghost use Rattle.lv_script.specs.Schedule.{ScheduleStep, SumMachine, actor_of, event_text, line_text, machine_after, sum_step};
+ghost use Rattle.lv_lines.specs.Output.{HasRoom, KeepsRoom};
+ghost use Rattle.lv_lines.specs.Replies.{Conversed};
+ghost use Rattle.lv_script.specs.Schedule.{Played, PlayedStep, ScheduleStep, actor_of, event_text, line_text, machine_after, sum_step};
 
-use crate::conversation::converse;
-use crate::fault::Fault;
-use crate::outbox::Outbox;
-use crate::replies::put_bad;
-use crate::responder::Responder;
 use crate::schedule_lines::{ScheduleLine, read_schedule_line};
 use crate::schedule_replies::{EVENT, put_outcome};
 use lv_bodies::Sum;
+use lv_lines::{Fault, Outbox, Responder, converse, put_bad};
 use lv_machine::{Event, Machine};
 use std::alloc::Global;
 use std::io::{Read, Write};
@@ -28,15 +24,22 @@ pub fn run_schedule<R: Read, W: Write>(
     ensures { Conversed ScheduleStep machine.old machine.new
         (R.remaining reader.old) (R.remaining reader.new) (W.contents writer.old) (W.contents writer.new) result }
 {
-    converse(alloc, machine, reader, writer)
+    let mut player = Player { machine };
+    converse(alloc, &mut player, reader, writer)
 }
 
-impl Responder for Machine<Sum> {
-    ghost State = { SumMachine };
+// What answers the lines of a schedule: whoever plays it on a machine.
+#[derive(Drop)]
+struct Player<'m> {
+    machine: &'m mut Machine<Sum>,
+}
 
-    ghost state = { λ m. m };
+impl Responder for Player<'_> {
+    ghost State = { Played };
 
-    ghost step = { ScheduleStep };
+    ghost state = { λ p. record { machine = p.machine.now; place = p.machine.ghost_name } };
+
+    ghost step = { PlayedStep };
 
     fn respond<W: Write>(
         &mut self,
@@ -45,7 +48,7 @@ impl Responder for Machine<Sum> {
         outbox: &mut Outbox<'_, W>,
     ) -> Result<(), Fault> {
         outbox.make_room(EVENT)?;
-        answer_line(self, number, read_schedule_line(line), outbox.held);
+        answer_line(self.machine, number, read_schedule_line(line), outbox.held);
         Ok(())
     }
 }

@@ -1,21 +1,15 @@
 ghost use Rattle.std.specs.Prelude.{◌≡◌, ◌≤◌, [], List, ℕ, length, OnOk, IfErr};
 ghost use Rattle.lv_bodies.specs.Six.{six_operations};
 ghost use Rattle.lv_live.specs.Kept.{IsWorld};
-ghost use Rattle.lv_script.specs.Output.{HasRoom, Puts, PutsFront, SamePlaces};
-ghost use Rattle.lv_script.specs.Replies.{Conversed, FailsToReply, Replies};
+ghost use Rattle.lv_lines.specs.Output.{HasRoom, Puts, PutsFront, SamePlaces};
+ghost use Rattle.lv_lines.specs.Replies.{Conversed, FailsToReply, Replies};
 ghost use Rattle.lv_script.specs.Script.{LineAnswer, ScriptState, ScriptStep};
 ghost use Rattle.lv_script.specs.Scripted.{Begins, state_of};
 
 use crate::answers::{ROOM, answer};
-use crate::command::Line;
-use crate::conversation::converse;
-use crate::fault::Fault;
-use crate::lines::read_line;
-use crate::outbox::Outbox;
-use crate::replies::put_bad;
-use crate::responder::Responder;
 use lv_bodies::Six;
 use lv_geometry::Limits;
+use lv_lines::{Fault, Line, Outbox, Responder, converse, put_bad, read_line};
 use lv_live::Issued;
 use lv_standing::Standing;
 use std::alloc::Global;
@@ -41,7 +35,9 @@ pub fn run_script<R: Read, W: Write>(
         issued: Issued::new(alloc),
         alloc,
     };
-    converse(alloc, &mut script, reader, writer)
+    let ended = converse(alloc, &mut script, reader, writer);
+    drop(script);
+    ended
 }
 
 // What answers the lines of a script.

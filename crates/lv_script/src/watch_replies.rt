@@ -1,10 +1,9 @@
 ghost use Rattle.std.specs.Prelude.{◌≡◌, ◌+◌, ◌≤◌, ◌++◌, vec_len};
-ghost use Rattle.lv_script.specs.Output.{HasRoom, KeepsRoom};
-ghost use Rattle.lv_script.specs.Texts.{named_text, note_text, unwatched_text, watching_text};
+ghost use Rattle.lv_lines.specs.Output.{HasRoom, KeepsRoom};
+ghost use Rattle.lv_lines.specs.Texts.{named_text, note_text, unwatched_text, watching_text};
 
-use crate::replies::{LINE, put_shown};
-use crate::sender::{put, put_number};
 use lv_bodies::Shown;
+use lv_lines::{LINE, put, put_number, put_shown};
 use lv_standing::Name;
 
 /// That a query stands under the name from now on.

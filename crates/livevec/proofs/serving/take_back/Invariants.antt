@@ -1,5 +1,5 @@
 use Rattle.std.proofs.Common.{◌≡◌, ◌+◌, All, length}
-use Rattle.lv_script.specs.Transcript.{IsTrueClaim}
+use Rattle.lv_transcript.specs.Transcript.{IsTrueClaim}
 use Rattle.livevec.proofs.serving.take_back.Given as goal
 
 abbrev pub invariant-loop-session : goal.invariant-loop-session

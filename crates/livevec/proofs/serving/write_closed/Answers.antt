@@ -1,5 +1,5 @@
 use Rattle.std.proofs.Common.{All, subst, sym}
-use Rattle.lv_script.specs.Transcript.{IsTrueClaim}
+use Rattle.lv_transcript.specs.Transcript.{IsTrueClaim}
 use Rattle.lv_hub.proofs.TruthLaws.{all_true_of_more}
 use Rattle.livevec.proofs.serving.write_closed.Goals as goal
 

@@ -1,7 +1,7 @@
 use Rattle.std.proofs.Common.{All}
 use Rattle.std.proofs.lemmas.List.Elements.{All-same}
 use Rattle.std.proofs.lemmas.List.Sorted.{All-permutation}
-use Rattle.lv_script.specs.Transcript.{IsTrueClaim}
+use Rattle.lv_transcript.specs.Transcript.{IsTrueClaim}
 use Rattle.livevec.proofs.SoundWriting.{written_sound}
 use Rattle.livevec.proofs.serving.write_in_order.Goals as goal
 

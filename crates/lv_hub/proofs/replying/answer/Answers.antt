@@ -1,5 +1,5 @@
 use Rattle.std.proofs.Common.{Result, Ok, Err, OnOk, IfErr}
-use Rattle.lv_script.proofs.OutputLemmas.{Writes-put}
+use Rattle.lv_lines.proofs.OutputLemmas.{Writes-put}
 use Rattle.lv_hub.proofs.replying.answer.Goals as goal
 
 -- what follows where it succeeded, and where it failed

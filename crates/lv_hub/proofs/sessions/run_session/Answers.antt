@@ -1,6 +1,6 @@
 use Rattle.std.proofs.Common.{◌≡◌, All, refl, rules, ap, sym}
 use Rattle.std.proofs.lemmas.List.Elements.{All-nil}
-use Rattle.lv_script.specs.Transcript.{IsTrueClaim}
+use Rattle.lv_transcript.specs.Transcript.{IsTrueClaim}
 use Rattle.lv_hub.proofs.SessionLaws.{conversed_as, given_as}
 use Rattle.lv_hub.proofs.TruthLaws.{conversed_keeps}
 use Rattle.lv_hub.proofs.sessions.run_session.Goals as goal

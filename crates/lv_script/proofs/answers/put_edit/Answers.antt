@@ -2,8 +2,8 @@ use Rattle.std.proofs.Common.{◌++◌, ◌∙◌, Ok, ap}
 use Rattle.std.proofs.lemmas.List.{append_assoc}
 use Rattle.lv_bodies.specs.Six.{six_operations}
 use Rattle.lv_live.proofs.WorldLaws.{world_edit}
+use Rattle.lv_lines.specs.Texts.{receipt_text}
 use Rattle.lv_script.specs.Script.{notes_text}
-use Rattle.lv_script.specs.Texts.{receipt_text}
 use Rattle.lv_script.proofs.EventLaws.{tells_accepted, tells_refused}
 use Rattle.lv_script.proofs.answers.put_edit.Goals as goal
 

@@ -1,8 +1,8 @@
 use Rattle.std.proofs.Common.{◌++◌, map, take, ap, ◌∙◌}
 use Rattle.std.proofs.lemmas.List.{map-append}
-use Rattle.lv_script.specs.Input.{lines_of, unended_of, whole_lines_of}
-use Rattle.lv_script.proofs.InputLemmas.{lines_of-append}
-use Rattle.lv_script.proofs.ReplyLemmas.{Answered-split}
+use Rattle.lv_lines.specs.Input.{lines_of, unended_of, whole_lines_of}
+use Rattle.lv_lines.proofs.InputLemmas.{lines_of-append}
+use Rattle.lv_lines.proofs.ReplyLemmas.{Answered-split}
 use Rattle.lv_script.proofs.laws.a_front_of_the_input_gives_a_front_of_the_text.Goals as goal
 
 pub returns : goal.returns

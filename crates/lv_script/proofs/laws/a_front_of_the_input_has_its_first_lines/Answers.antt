@@ -1,4 +1,4 @@
-use Rattle.lv_script.proofs.InputLemmas.{lines_of-append, lines_of-ended, lines_of-parts, whole_lines_of-append}
+use Rattle.lv_lines.proofs.InputLemmas.{lines_of-append, lines_of-ended, lines_of-parts, whole_lines_of-append}
 use Rattle.lv_script.proofs.laws.a_front_of_the_input_has_its_first_lines.Goals as goal
 
 pub returns-clause-all : goal.returns-clause-all

@@ -1,4 +1,4 @@
-use Rattle.lv_script.proofs.ReplyLemmas.{Answered-split}
+use Rattle.lv_lines.proofs.ReplyLemmas.{Answered-split}
 use Rattle.lv_script.proofs.laws.a_front_of_the_lines_gives_a_front_of_the_text.Goals as goal
 
 pub returns : goal.returns

@@ -1,6 +1,6 @@
 use Rattle.std.proofs.Common.{sym, subst}
+use Rattle.lv_lines.specs.Replies.{Answered}
 use Rattle.lv_script.specs.OneText.{StepWithRoom}
-use Rattle.lv_script.specs.Replies.{Answered}
 use Rattle.lv_script.proofs.OneTextLaws.{lines_one, one_beginning}
 use Rattle.lv_script.proofs.laws.a_script_has_one_text.Goals as goal
 

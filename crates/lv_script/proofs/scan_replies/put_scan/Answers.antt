@@ -1,8 +1,8 @@
 use Rattle.std.proofs.lemmas.Result.{IfErr-weaker, err_from_is_err_and, on_ok_weaker}
 use Rattle.std.proofs.Common.{map}
 use Rattle.lv_bodies.specs.Six.{face_of}
-use Rattle.lv_script.specs.Texts.{scan_text}
-use Rattle.lv_script.proofs.OutputLemmas.{WritesFront-longer}
+use Rattle.lv_lines.specs.Texts.{scan_text}
+use Rattle.lv_lines.proofs.OutputLemmas.{WritesFront-longer}
 use Rattle.lv_script.proofs.ScanLemmas.{Writes-scan, WritesFront-scan}
 use Rattle.lv_script.proofs.scan_replies.put_scan.Goals as goal
 

@@ -1,7 +1,7 @@
 use Rattle.std.proofs.Common.{◌≡◌, ◌+◌, ◌*◌, ◌≤◌, length, map, take, vec_len}
 use Rattle.lv_bodies.specs.Six.{face_of}
-use Rattle.lv_script.specs.Output.{HasRoom, KeepsRoom, Puts, SamePlaces}
-use Rattle.lv_script.specs.Texts.{values_text}
+use Rattle.lv_lines.specs.Output.{HasRoom, KeepsRoom, Puts, SamePlaces}
+use Rattle.lv_lines.specs.Texts.{values_text}
 use Rattle.lv_script.proofs.scan_replies.put_values.Given as goal
 
 -- the values so far are written, and none of them is sent where there is room for all

@@ -1,5 +1,5 @@
 use Rattle.std.proofs.Common.{◌∙◌, sym}
-use Rattle.lv_script.specs.Output.{Puts, PutsFront}
+use Rattle.lv_lines.specs.Output.{Puts, PutsFront}
 use Rattle.lv_script.proofs.EventLaws.{scan_put, scan_put_front}
 use Rattle.lv_script.proofs.scans.answer_scan.Goals as goal
 

@@ -6,8 +6,8 @@ use Rattle.lv_bodies.specs.Body.{CanFold}
 use Rattle.lv_edits.specs.History.{list_of}
 use Rattle.lv_edits.proofs.Slices.{length-slice_range}
 use Rattle.lv_reduce.proofs.ScanLaws.{fold_of-slice-more}
+use Rattle.lv_lines.proofs.OutputLemmas.{Writes-nil}
 use Rattle.lv_script.proofs.EventLaws.{can_fold_slice}
-use Rattle.lv_script.proofs.OutputLemmas.{Writes-nil}
 use Rattle.lv_script.proofs.ScanLemmas.{shown_value, value_at, Writes-next, Writes-whole, WritesFront-so_far}
 use Rattle.lv_script.proofs.scans.put_running_values.Goals as goal
 use Rattle.lv_script.proofs.scans.put_running_values.Goals.{then-asked, else-asked}

@@ -1,7 +1,7 @@
 use Rattle.std.proofs.Common.{[], refl, sym}
 use Rattle.std.proofs.lemmas.List.{append-nil}
+use Rattle.lv_lines.proofs.OutputLemmas.{Writes-put}
 use Rattle.lv_script.proofs.EventLaws.{unchanged}
-use Rattle.lv_script.proofs.OutputLemmas.{Writes-put}
 use Rattle.lv_script.proofs.scripts.answer_line.Goals as goal
 
 pub returns-in-Nothing-clause-ok : goal.returns-in-Nothing-clause-ok

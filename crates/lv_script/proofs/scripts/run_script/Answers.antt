@@ -17,5 +17,5 @@ returns g c =
         kept = c.new.ensures.nothing_kept;
         queries = c.new.ensures.queries;
       },
-      c.converse.ensures,
+      c.converse-ended.ensures,
     )

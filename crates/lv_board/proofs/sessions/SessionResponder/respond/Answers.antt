@@ -1,5 +1,5 @@
 use Rattle.std.proofs.Common.{refl}
-use Rattle.lv_script.proofs.OutputLemmas.{Writes-put, Writes-trans}
+use Rattle.lv_lines.proofs.OutputLemmas.{Writes-put, Writes-trans}
 use Rattle.lv_board.specs.Session.{BoardStep}
 use Rattle.lv_board.proofs.sessions.SessionResponder.respond.Goals as goal
 

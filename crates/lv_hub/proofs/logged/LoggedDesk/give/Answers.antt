@@ -1,5 +1,5 @@
 use Rattle.std.proofs.Common.{Some, ap, subst, sym, ◌∙◌}
-use Rattle.lv_script.specs.Transcript.{AreAccepted, greatest}
+use Rattle.lv_transcript.specs.Transcript.{AreAccepted, greatest}
 use Rattle.lv_hub.proofs.ToldLaws.{given_leaves}
 use Rattle.lv_hub.proofs.logged.LoggedDesk.give.Goals as goal
 

@@ -1,0 +1,12 @@
+pub mod ConversationLemmas
+pub mod Conversing
+pub mod CutWords
+pub mod HearingLemmas
+pub mod InputLemmas
+pub mod OutputLemmas
+pub mod PrintedNumbers
+pub mod PrintedWords
+pub mod ProgressLemmas
+pub mod ReadAgain
+pub mod ReadDigits
+pub mod ReplyLemmas

@@ -1,0 +1,17 @@
+use Rattle.std.proofs.Common.{◌≡◌, ◌==◌, false, true, length, sym, ◌∙◌}
+use Rattle.std.proofs.lemmas.Result.{IfErr-weaker}
+use Rattle.lv_lines.specs.Progress.{point_of}
+use Rattle.lv_lines.proofs.ProgressLemmas.{Finishes-nothing, FinishesFront-line}
+use Rattle.lv_lines.proofs.progress.Progress.finish.Goals as goal
+
+pub returns-then-is_empty-clause-ok : goal.returns-then-is_empty-clause-ok
+returns-then-is_empty-clause-ok g c =
+    let nothing : (length c.args.self.now.kept.items == 0) ≡ true = sym c.is_empty.ensures ∙ c.if-is_empty.true in
+    Finishes-nothing g.A.Responder.step (point_of (g.A.Responder.state c.args.responder.now) c.args.self.now g.W.Write.contents c.args.outbox.now) nothing
+
+pub returns-clause-fault : goal.returns-clause-fault
+returns-clause-fault g c =
+    let some : (length c.args.self.now.kept.items == 0) ≡ false = sym c.is_empty.ensures ∙ c.if-is_empty.false in
+    let start = point_of (g.A.Responder.state c.args.responder.now) c.args.self.now g.W.Write.contents c.args.outbox.now in
+    let end = point_of (g.A.Responder.state c.answer_kept.new.responder) c.answer_kept.new.self g.W.Write.contents c.answer_kept.new.outbox in
+    IfErr-weaker c.answer_kept.result _ _ (λ fault fails. (fails.0, FinishesFront-line g.A.Responder.step start end some fails.1)) c.answer_kept.ensures.fault

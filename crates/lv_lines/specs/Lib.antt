@@ -1,0 +1,10 @@
+pub mod Faults
+pub mod Grammar
+pub mod Input
+pub mod Numbers
+pub mod Output
+pub mod Printed
+pub mod Progress
+pub mod Replies
+pub mod Texts
+pub mod Words

@@ -1,0 +1,43 @@
+-- The numbers that a line may have.
+use Rattle.std.specs.Prelude.{ℕ, ◌+◌, ◌-◌, ◌*◌, ◌^◌, Bool, ◌&&◌, if◌then◌else◌, List, drop, codes, nat_eq, nat_lt, fold, Option, Some, None, option_map, ℤ, pos, negsuc, neg_ℤ}
+use Rattle.std.specs.List.{starts_with}
+use Rattle.std.specs.Str.{all_ascii_digits}
+use Rattle.lv_lines.specs.Words.{is_word}
+
+-- what decimal digits stand for
+abbrev pub value_of : List ℕ → ℕ
+value_of digits = fold (λ n digit. 10 * n + (digit - 48)) 0 digits
+
+-- what one or more digits stand for; leading zeros are read
+abbrev pub numeral_in : List ℕ → Option ℕ
+numeral_in word = if is_word word && all_ascii_digits word then Some (value_of word) else None
+
+-- the value, where it is allowed
+abbrev pub allowed : {X : Type 0} → (X → Bool) → Option X → Option X
+allowed test None = None
+allowed test (Some x) = if test x then Some x else None
+
+-- whether a number fits into 32 bits
+abbrev pub is_number : ℕ → Bool
+is_number n = nat_lt n (2 ^ 32)
+
+-- whether a number fits into 64 bits
+abbrev pub fits_64 : ℕ → Bool
+fits_64 n = nat_lt n (2 ^ 64)
+
+-- a number: one or more digits, whose value fits into 32 bits
+unfoldable pub number_in : List ℕ → Option ℕ
+number_in word = allowed is_number (numeral_in word)
+
+-- what one or more digits stand for, behind a `-` with its sign turned
+abbrev pub signed_numeral_in : List ℕ → Option ℤ
+signed_numeral_in word = if starts_with nat_eq word (codes "-") then option_map (λ n. neg_ℤ (pos n)) (numeral_in (drop 1 word)) else option_map pos (numeral_in word)
+
+-- whether an integer fits into 64 bits, one of them for the sign
+abbrev pub is_element : ℤ → Bool
+is_element (pos n) = nat_lt n (2 ^ 63)
+is_element (negsuc n) = nat_lt n (2 ^ 63)
+
+-- an element: an optional `-` and one or more digits, whose value fits into 64 bits
+unfoldable pub element_in : List ℕ → Option ℤ
+element_in word = allowed is_element (signed_numeral_in word)

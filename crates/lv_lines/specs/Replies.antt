@@ -1,0 +1,79 @@
+-- What it means that lines are answered in turn, and that a conversation was had.
+use Rattle.std.specs.Prelude.{◌≡◌, ◌⊎◌, ℕ, ◌+◌, ◌^◌, ◌≤◌, List, [], ◌∷◌, ◌++◌, length, take, map, Option, Result, Ok, Err}
+use Rattle.std.specs.Io.KnownBytes.{Appends, Consumes, IsAtEnd}
+use Rattle.lv_lines.specs.declared.fault.Fault.{Fault}
+use Rattle.lv_lines.specs.declared.fault.Fault.TheVariants.{NoMemory, ReadFault, TooLong, WriteFault}
+use Rattle.lv_lines.specs.Input.{lines_of, whole_lines_of}
+use Rattle.lv_lines.specs.Output.{WritesFront}
+
+-- of an input no more bytes were seen than it may have
+abbrev pub IsNotTooLong : List ℕ → Type 0
+IsNotTooLong seen = length seen ≤ 2 ^ 30
+
+-- one more was seen. Then no more are read
+abbrev pub IsTooLong : List ℕ → Type 0
+IsTooLong seen = length seen ≡ 2 ^ 30 + 1
+
+module _ {S : Type 0} (step : S → ℕ → List ℕ → List ℕ → S → Type 0) where
+  -- from state old the lines, numbered from n, were answered in turn with this text, to state new
+  abbrev pub Answered : S → ℕ → List (List ℕ) → List ℕ → S → Type 0
+  Answered old n [] text new = (text ≡ []) × (new ≡ old)
+  Answered old n (line ∷ lines) text new =
+      (reply : List ℕ) × (rest : List ℕ) × (mid : S) × step old n line reply mid × Answered mid (n + 1) lines rest new × (text ≡ reply ++ rest)
+
+  -- two parts of lines were answered with two parts of a text: the second from the state and the number that the first came to
+  pub record AnsweredInParts (old : S) (n : ℕ) (xs ys : List (List ℕ)) (text : List ℕ) (new : S) : Type 0 where
+    pub front : List ℕ
+    pub rest : List ℕ
+    pub mid : S
+    pub first : Answered old n xs front mid
+    pub second : Answered mid (n + length xs) ys rest new
+    pub joined : text ≡ front ++ rest
+
+  -- from state old line n was answered, to state new, with a reply that was written so
+  pub record Replies (old : S) (n : ℕ) (line : List ℕ) (new : S) (written_so : List ℕ → Type 0) : Type 0 where
+    pub reply : List ℕ
+    pub answered : step old n line reply new
+    pub written : written_so reply
+
+  -- nothing was answered, and of what was held no more than a front written; or line n was, to state new, with a reply that was written in part
+  abbrev pub FailsToReply : S → ℕ → List ℕ → S → (List ℕ → Type 0) → Type 0
+  FailsToReply old n line new written_in_part = ((new ≡ old) × written_in_part []) ⊎ Replies old n line new written_in_part
+
+  -- the lines, of each its first 121 bytes, were answered in turn from number 1, and all replies written
+  pub record AnswersAll (old : S) (lines : List (List ℕ)) (new : S) (old_contents new_contents : Option (List ℕ)) : Type 0 where
+    pub text : List ℕ
+    pub answered : Answered old 1 (map (take 121) lines) text new
+    pub written : Appends old_contents new_contents text
+
+  -- a front of the lines was answered so, to state new, and no more than a front of the replies written
+  pub record AnswersFront (old : S) (lines : List (List ℕ)) (new : S) (old_contents new_contents : Option (List ℕ)) : Type 0 where
+    pub front : List (List ℕ)
+    pub rest : List (List ℕ)
+    pub all : map (take 121) lines ≡ front ++ rest
+    pub text : List ℕ
+    pub answered : Answered old 1 front text new
+    pub written : WritesFront old_contents [] new_contents text
+
+  -- how a conversation ended, by the bytes that were seen. Ok: at the end of the input. ReadFault: a read failed, and what was seen is
+  -- not too long. TooLong: what was seen is. WriteFault: a write failed. NoMemory: it never began.
+  -- No clause can say of ReadFault that the reader answered an error: all that `Read` tells of an error is that no byte is lost by it
+  abbrev pub Ends : {T : Type 0} → S → S → Option (List ℕ) → Option (List ℕ) → Option (List ℕ) → Option (List ℕ) → List ℕ → Result T Fault → Type 0
+  Ends old new remaining_old remaining_new contents_old contents_new seen (Ok _) =
+      IsAtEnd remaining_new × IsNotTooLong seen × AnswersAll old (lines_of seen) new contents_old contents_new
+  Ends old new remaining_old remaining_new contents_old contents_new seen (Err ReadFault) =
+      IsNotTooLong seen × AnswersAll old (whole_lines_of seen) new contents_old contents_new
+  Ends old new remaining_old remaining_new contents_old contents_new seen (Err TooLong) =
+      IsTooLong seen × AnswersAll old (whole_lines_of seen) new contents_old contents_new
+  Ends old new remaining_old remaining_new contents_old contents_new seen (Err WriteFault) =
+      AnswersFront old (whole_lines_of seen) new contents_old contents_new
+      ⊎ (IsAtEnd remaining_new × IsNotTooLong seen × AnswersFront old (lines_of seen) new contents_old contents_new)
+  Ends old new remaining_old remaining_new contents_old contents_new seen (Err NoMemory) =
+      (new ≡ old) × (remaining_new ≡ remaining_old) × (contents_new ≡ contents_old)
+
+  -- bytes were read and their lines answered, from state old to state new
+  pub record Conversed {T : Type 0} (old new : S) (remaining_old remaining_new contents_old contents_new : Option (List ℕ)) (result : Result T Fault) : Type 0 where
+    pub seen : List ℕ
+    pub read : Consumes remaining_old remaining_new seen
+    pub few : length seen ≤ 2 ^ 30 + 1
+    pub ends : Ends old new remaining_old remaining_new contents_old contents_new seen result

@@ -1,0 +1,37 @@
+//! Lines: what a line says, the texts of replies, and the loop that reads lines from any reader and writes the replies
+//! to any writer.
+//!
+//! The model is bytes: a line is its words, `read_line` gives exactly what the grammar says of it, and what
+//! `print_command` writes is read as the same command. `converse` has a `Responder` answer the lines of what it reads
+//! one after the other, and writes the replies joined end to end; a fault leaves a front of them. Memory is fixed,
+//! however long the input or a line of it is. What a line is answered is for the crates above to say.
+#![tactic(auto)]
+
+mod command;
+mod conversation;
+mod fault;
+pub mod grammar;
+mod lines;
+mod numbers;
+mod outbox;
+mod printing;
+mod progress;
+mod replies;
+mod responder;
+mod sender;
+mod words;
+
+pub use command::{Command, Line};
+pub use conversation::converse;
+pub use fault::Fault;
+pub use lines::{is_comment, read_line, without_cr};
+pub use numbers::number;
+pub use outbox::Outbox;
+pub use printing::{COMMAND, print_command, put_command};
+pub use replies::{
+    LINE, put_answer, put_bad, put_capacity, put_receipt, put_refusal, put_settled, put_shown,
+    put_size, put_value,
+};
+pub use responder::Responder;
+pub use sender::{HELD, put, put_element, put_number, put_wide, write_whole};
+pub use words::{kind_name, next_word, scan_name};

@@ -1,0 +1,175 @@
+// What a conversation has in hand between two lines: the number of the next line, and the first bytes of a
+// line that was begun.
+ghost use Rattle.std.specs.Prelude.{◌≡◌, ◌+◌, ◌^◌, ◌<◌, ◌≤◌, ◌==◌, [], ◌++◌, length, take, position, OnOk, IfErr};
+ghost use Rattle.lv_lines.specs.Output.{Puts, PutsFront, SamePlaces};
+ghost use Rattle.lv_lines.specs.Replies.{Replies, FailsToReply};
+
+use crate::fault::Fault;
+use crate::outbox::Outbox;
+use crate::responder::Responder;
+use arrayvec::ArrayVec;
+use std::io::Write;
+
+const LF: u8 = 10;
+
+/// How many bytes of a line tell whether it is too long, and what it says where it isn't.
+const LONGEST: usize = 121;
+
+#[derive(Drop)]
+pub(crate) struct Progress {
+    pub(crate) number: u32,
+    pub(crate) kept: ArrayVec<u8, LONGEST>,
+}
+
+impl Progress {
+    ghost use Rattle.lv_lines.specs.Progress.{IsReady, Feeds, FeedsFront, Finishes, FinishesFront, point_of};
+
+    /// Before the first line.
+    pub(crate) fn new() -> Progress
+        ensures ready { IsReady result }
+        ensures number { result.number ≡ 1 }
+        ensures kept { result.kept.items ≡ [] }
+    {
+        Progress {
+            number: 1,
+            kept: ArrayVec::new(),
+        }
+    }
+
+    /// Takes bytes of the input: has the lines that they end answered, and keeps what they leave.
+    pub(crate) fn feed<A: Responder, W: Write>(
+        &mut self,
+        responder: &mut A,
+        bytes: &[u8],
+        outbox: &mut Outbox<'_, W>,
+    ) -> Result<(), Fault>
+        requires ready { IsReady self.old }
+        requires number { self.old.number + length bytes.now < 2 ^ 32 }
+        ensures places { SamePlaces outbox.old outbox.new }
+        ensures ok { OnOk result (Feeds A.step (point_of (A.state responder.old) self.old W.contents outbox.old)
+            (point_of (A.state responder.new) self.new W.contents outbox.new) bytes.now) }
+        ensures fault { IfErr result (λ fault. (fault ≡ Fault.WriteFault)
+            × FeedsFront A.step (point_of (A.state responder.old) self.old W.contents outbox.old)
+            (point_of (A.state responder.new) self.new W.contents outbox.new) bytes.now) }
+        ensures ready { OnOk result (IsReady self.new) }
+    {
+        let mut rest = bytes;
+        while let Some(end) = end_of_line(rest) {
+            let (piece, ended) = rest.split_at(end);
+            self.end_line(responder, piece, outbox)?;
+            (_, rest) = ended.split_at(1);
+        }
+        keep(&mut self.kept, rest);
+        Ok(())
+    }
+
+    // Ends the line that was begun with these bytes, and has it answered.
+    fn end_line<A: Responder, W: Write>(
+        &mut self,
+        responder: &mut A,
+        piece: &[u8],
+        outbox: &mut Outbox<'_, W>,
+    ) -> Result<(), Fault>
+        requires ready { IsReady self.old }
+        requires number { self.old.number + 1 < 2 ^ 32 }
+        ensures places { SamePlaces outbox.old outbox.new }
+        ensures ok { OnOk result (Replies A.step (A.state responder.old) self.old.number (take 121 (self.old.kept.items ++ piece.now)) (A.state responder.new) (Puts W.contents outbox.old outbox.new)) }
+        ensures number { OnOk result (self.new.number ≡ self.old.number + 1) }
+        ensures kept { OnOk result (self.new.kept.items ≡ []) }
+        ensures fault { IfErr result (λ fault. (fault ≡ Fault.WriteFault)
+            × FailsToReply A.step (A.state responder.old) self.old.number (take 121 (self.old.kept.items ++ piece.now)) (A.state responder.new) (PutsFront W.contents outbox.old outbox.new)) }
+    {
+        if self.kept.is_empty() {
+            return self.answer(responder, front(piece, LONGEST), outbox);
+        }
+        keep(&mut self.kept, piece);
+        self.answer_kept(responder, outbox)
+    }
+
+    // Has a line answered of which nothing is kept.
+    fn answer<A: Responder, W: Write>(
+        &mut self,
+        responder: &mut A,
+        line: &[u8],
+        outbox: &mut Outbox<'_, W>,
+    ) -> Result<(), Fault>
+        requires number { self.old.number + 1 < 2 ^ 32 }
+        requires short { length line.now ≤ 121 }
+        ensures places { SamePlaces outbox.old outbox.new }
+        ensures ok { OnOk result (Replies A.step (A.state responder.old) self.old.number line.now (A.state responder.new) (Puts W.contents outbox.old outbox.new)) }
+        ensures number { OnOk result (self.new.number ≡ self.old.number + 1) }
+        ensures kept { self.new.kept ≡ self.old.kept }
+        ensures fault { IfErr result (λ fault. (fault ≡ Fault.WriteFault)
+            × FailsToReply A.step (A.state responder.old) self.old.number line.now (A.state responder.new) (PutsFront W.contents outbox.old outbox.new)) }
+    {
+        responder.respond(self.number, line, outbox)?;
+        self.number += 1;
+        Ok(())
+    }
+
+    // Has the line answered of which the first bytes are kept.
+    fn answer_kept<A: Responder, W: Write>(
+        &mut self,
+        responder: &mut A,
+        outbox: &mut Outbox<'_, W>,
+    ) -> Result<(), Fault>
+        requires number { self.old.number + 1 < 2 ^ 32 }
+        ensures places { SamePlaces outbox.old outbox.new }
+        ensures ok { OnOk result (Replies A.step (A.state responder.old) self.old.number self.old.kept.items (A.state responder.new) (Puts W.contents outbox.old outbox.new)) }
+        ensures number { OnOk result (self.new.number ≡ self.old.number + 1) }
+        ensures kept { OnOk result (self.new.kept.items ≡ []) }
+        ensures fault { IfErr result (λ fault. (fault ≡ Fault.WriteFault)
+            × FailsToReply A.step (A.state responder.old) self.old.number self.old.kept.items (A.state responder.new) (PutsFront W.contents outbox.old outbox.new)) }
+    {
+        responder.respond(self.number, self.kept.as_slice(), outbox)?;
+        self.kept.clear();
+        self.number += 1;
+        Ok(())
+    }
+
+    /// Has the line answered that was begun, where it isn't empty.
+    pub(crate) fn finish<A: Responder, W: Write>(
+        &mut self,
+        responder: &mut A,
+        outbox: &mut Outbox<'_, W>,
+    ) -> Result<(), Fault>
+        requires number { self.old.number + 1 < 2 ^ 32 }
+        ensures places { SamePlaces outbox.old outbox.new }
+        ensures ok { OnOk result (Finishes A.step (point_of (A.state responder.old) self.old W.contents outbox.old)
+            (point_of (A.state responder.new) self.new W.contents outbox.new)) }
+        ensures fault { IfErr result (λ fault. (fault ≡ Fault.WriteFault)
+            × FinishesFront A.step (point_of (A.state responder.old) self.old W.contents outbox.old)
+            (point_of (A.state responder.new) self.new W.contents outbox.new)) }
+    {
+        if self.kept.is_empty() {
+            return Ok(());
+        }
+        self.answer_kept(responder, outbox)
+    }
+}
+
+// Where the first LF is.
+fn end_of_line(bytes: &[u8]) -> Option<usize>
+    ensures { result ≡ position (λ byte. byte == 10) bytes.now }
+{
+    bytes.iter().position(|byte| *byte == LF)
+}
+
+// The first bytes, at most `most`.
+fn front(bytes: &[u8], most: usize) -> &[u8]
+    ensures value { result.now ≡ take most bytes.now }
+    ensures short { length result.now ≤ most }
+{
+    let (front, _) = bytes.split_at(bytes.len().min(most));
+    front
+}
+
+// Keeps so many of the bytes as there is room for.
+fn keep(kept: &mut ArrayVec<u8, LONGEST>, bytes: &[u8])
+    ensures { kept.new.items ≡ take 121 (kept.old.items ++ bytes.now) }
+{
+    let room = LONGEST - kept.len();
+    let Ok(()) = kept.try_extend_from_slice(front(bytes, room)) else {
+        unreachable!();
+    };
+}

@@ -1,0 +1,207 @@
+ghost use Rattle.std.specs.Prelude.{◌≡◌, ◌+◌, ◌≤◌, ◌++◌, codes, length, map, decimal, vec_len};
+ghost use Rattle.std.specs.Fmt.{signed_decimal};
+ghost use Rattle.lv_edits.specs.declared.receipt.Receipt.TheVariants as receipt;
+ghost use Rattle.lv_lines.specs.Output.{HasRoom, KeepsRoom};
+ghost use Rattle.lv_lines.specs.Words.{spaced};
+ghost use Rattle.lv_lines.specs.Texts.{answer_text, bad_text, capacity_text, receipt_text, refused_text, reply_line, settled_text, size_text, shown_text, element_text, value_text};
+
+use crate::sender::{put, put_element, put_number, put_wide};
+use crate::words::kind_name;
+use lv_bodies::{Kind, Shown};
+use lv_edits::Receipt;
+use lv_geometry::Refusal;
+
+/// At most how many bytes one line of reply has.
+pub const LINE: usize = 256;
+
+/// What an accepted edit answers.
+pub fn put_receipt(held: &mut Vec<u8>, receipt: Receipt)
+    requires { HasRoom held.old LINE }
+    ensures text { held.new.items ≡ held.old.items ++ receipt_text receipt }
+    ensures len { vec_len held.new ≤ vec_len held.old + LINE }
+    ensures room { KeepsRoom held.old held.new }
+{
+    match receipt {
+        Receipt::Pushed { edit, index } => put_counted(held, edit, b" at ", index),
+        Receipt::Popped { edit, value } => put_valued(held, edit, b" value ", value),
+        Receipt::Written { edit, before } => put_valued(held, edit, b" was ", before),
+        Receipt::Reserved { edit, capacity } => put_counted(held, edit, b" capacity ", capacity),
+        Receipt::Swapped {
+            edit,
+            first,
+            second,
+        } => put_swapped(held, edit, first, second),
+        Receipt::Truncated { edit, dropped } => put_counted(held, edit, b" dropped ", dropped),
+    }
+}
+
+// A line of an edit, a word, and a count behind it.
+fn put_counted(held: &mut Vec<u8>, edit: u32, word: &[u8], count: u32)
+    requires { HasRoom held.old (46 + length word.now) }
+    ensures text { held.new.items ≡ held.old.items ++ reply_line (codes "edit " ++ decimal edit ++ word.now ++ decimal count) }
+    ensures len { vec_len held.new ≤ vec_len held.old + 46 + length word.now }
+    ensures room { KeepsRoom held.old held.new }
+{
+    put_edit(held, edit, word);
+    put_number(held, count.into());
+    put(held, b"\n");
+}
+
+// A line of an edit, a word, and an element behind it.
+fn put_valued(held: &mut Vec<u8>, edit: u32, word: &[u8], x: i64)
+    requires { HasRoom held.old (46 + length word.now) }
+    ensures text { held.new.items ≡ held.old.items ++ reply_line (codes "edit " ++ decimal edit ++ word.now ++ signed_decimal x) }
+    ensures len { vec_len held.new ≤ vec_len held.old + 46 + length word.now }
+    ensures room { KeepsRoom held.old held.new }
+{
+    put_edit(held, edit, word);
+    put_element(held, x);
+    put(held, b"\n");
+}
+
+// A line of a swap: the elements that stand at its two indices after it.
+fn put_swapped(held: &mut Vec<u8>, edit: u32, first: i64, second: i64)
+    requires { HasRoom held.old 72 }
+    ensures text { held.new.items ≡ held.old.items ++ receipt_text (receipt.Swapped edit first second) }
+    ensures len { vec_len held.new ≤ vec_len held.old + 72 }
+    ensures room { KeepsRoom held.old held.new }
+{
+    put_edit(held, edit, b" now ");
+    put_element(held, first);
+    put(held, b" ");
+    put_element(held, second);
+    put(held, b"\n");
+}
+
+// The number of an edit, and the word that comes behind it.
+fn put_edit(held: &mut Vec<u8>, edit: u32, word: &[u8])
+    requires { HasRoom held.old (25 + length word.now) }
+    ensures text { held.new.items ≡ held.old.items ++ (codes "edit " ++ decimal edit ++ word.now) }
+    ensures len { vec_len held.new ≤ vec_len held.old + 25 + length word.now }
+    ensures room { KeepsRoom held.old held.new }
+{
+    put(held, b"edit ");
+    put_number(held, edit.into());
+    put(held, word);
+}
+
+/// A refusal, by its number.
+pub fn put_refusal(held: &mut Vec<u8>, refusal: Refusal)
+    requires { HasRoom held.old LINE }
+    ensures text { held.new.items ≡ held.old.items ++ refused_text refusal }
+    ensures room { KeepsRoom held.old held.new }
+{
+    put(held, b"refused ");
+    put_number(held, refusal.number().into());
+    put(held, b"\n");
+}
+
+/// That line `number` says nothing known.
+pub fn put_bad(held: &mut Vec<u8>, number: u32)
+    requires { HasRoom held.old LINE }
+    ensures text { held.new.items ≡ held.old.items ++ bad_text number }
+    ensures room { KeepsRoom held.old held.new }
+{
+    put(held, b"bad ");
+    put_number(held, number.into());
+    put(held, b"\n");
+}
+
+/// That a pending write is complete.
+pub fn put_settled(held: &mut Vec<u8>)
+    requires { HasRoom held.old LINE }
+    ensures text { held.new.items ≡ held.old.items ++ settled_text }
+    ensures room { KeepsRoom held.old held.new }
+{
+    put(held, b"settled\n");
+}
+
+/// An element, or why there is none.
+pub fn put_value(held: &mut Vec<u8>, value: Result<i64, Refusal>)
+    requires { HasRoom held.old LINE }
+    ensures text { held.new.items ≡ held.old.items ++ element_text value }
+    ensures room { KeepsRoom held.old held.new }
+{
+    match value {
+        Ok(x) => {
+            put(held, b"value ");
+            put_element(held, x);
+            put(held, b"\n");
+        }
+        Err(refusal) => put_refusal(held, refusal),
+    }
+}
+
+/// The size, and the number of the last edit.
+pub fn put_size(held: &mut Vec<u8>, size: u32, edit: u32)
+    requires { HasRoom held.old LINE }
+    ensures text { held.new.items ≡ held.old.items ++ size_text size edit }
+    ensures room { KeepsRoom held.old held.new }
+{
+    put(held, b"size ");
+    put_number(held, size.into());
+    put(held, b" edit ");
+    put_number(held, edit.into());
+    put(held, b"\n");
+}
+
+/// How many elements the open buckets hold.
+pub fn put_capacity(held: &mut Vec<u8>, cells: u32)
+    requires { HasRoom held.old LINE }
+    ensures text { held.new.items ≡ held.old.items ++ capacity_text cells }
+    ensures room { KeepsRoom held.old held.new }
+{
+    put(held, b"capacity ");
+    put_number(held, cells.into());
+    put(held, b"\n");
+}
+
+/// The value of a kind at an edit.
+pub fn put_answer(held: &mut Vec<u8>, edit: u32, kind: Kind, value: Shown)
+    requires { HasRoom held.old LINE }
+    ensures text { held.new.items ≡ held.old.items ++ answer_text edit kind value }
+    ensures room { KeepsRoom held.old held.new }
+{
+    put(held, b"at ");
+    put_number(held, edit.into());
+    put(held, b" ");
+    put(held, kind_name(kind).as_bytes());
+    put(held, b" ");
+    put_shown(held, value);
+    put(held, b"\n");
+}
+
+/// The value of a kind, as it is shown.
+pub fn put_shown(held: &mut Vec<u8>, value: Shown)
+    requires { HasRoom held.old 168 }
+    ensures text { held.new.items ≡ held.old.items ++ shown_text value }
+    ensures len { vec_len held.new ≤ vec_len held.old + 168 }
+    ensures room { KeepsRoom held.old held.new }
+{
+    match value {
+        Shown::Sum(n) => put_number(held, n),
+        Shown::Least(None) | Shown::Greatest(None) | Shown::Best(None) => put(held, b"none"),
+        Shown::Least(Some(x)) | Shown::Greatest(Some(x)) => put_element(held, x),
+        Shown::Best(Some(x)) => put_wide(held, x),
+        Shown::Affine { a, b } => {
+            put_number(held, a.into());
+            put(held, b" ");
+            put_number(held, b.into());
+        }
+        Shown::Automaton(states) => put_states(held, states),
+    }
+}
+
+// The states of an automaton, with one space between.
+fn put_states(held: &mut Vec<u8>, states: [u8; 8])
+    requires { HasRoom held.old 168 }
+    ensures text { held.new.items ≡ held.old.items ++ spaced (map decimal states) }
+    ensures len { vec_len held.new ≤ vec_len held.old + 168 }
+    ensures room { KeepsRoom held.old held.new }
+{
+    put_number(held, states[0].into());
+    for state in &states[1..] {
+        put(held, b" ");
+        put_number(held, (*state).into());
+    }
+}

@@ -1,0 +1,49 @@
+ghost use Rattle.std.specs.Prelude.{◌≡◌, [], ◌∷◌, MatchOption, option_copied};
+ghost use Rattle.lv_lines.specs.Grammar.{kind_name};
+ghost use Rattle.lv_lines.specs.Texts.{scan_name};
+ghost use Rattle.lv_lines.specs.Words.{words_of, only_word};
+
+use lv_bodies::Kind;
+
+/// The first word and the bytes after it, or nothing where there are no words.
+pub fn next_word(bytes: &[u8]) -> Option<(&[u8], &[u8])>
+    ensures { MatchOption result (words_of bytes.now ≡ [])
+        (λ found. words_of bytes.now ≡ found.0.now ∷ words_of found.1.now) }
+{
+    let start = bytes.iter().position(|b| *b != b' ')?;
+    let (_, bytes) = bytes.split_at(start);
+    let end = bytes.iter().position(|b| *b == b' ').unwrap_or(bytes.len());
+    Some(bytes.split_at(end))
+}
+
+/// The one word, where there is one and no other.
+pub(crate) fn only_word(bytes: &[u8]) -> Option<&[u8]>
+    ensures { option_copied result ≡ only_word (words_of bytes.now) }
+{
+    let (word, rest) = next_word(bytes)?;
+    if next_word(rest).is_some() {
+        return None;
+    }
+    Some(word)
+}
+
+/// The word that a kind goes by.
+pub fn kind_name(kind: Kind) -> &'static str
+    ensures { result.now ≡ kind_name kind }
+{
+    match kind {
+        Kind::Sum => "sum",
+        Kind::Least => "least",
+        Kind::Greatest => "greatest",
+        Kind::Best => "best",
+        Kind::Affine => "affine",
+        Kind::Automaton => "automaton",
+    }
+}
+
+/// The word of a scan.
+pub fn scan_name(inclusive: bool) -> &'static str
+    ensures { result.now ≡ scan_name inclusive }
+{
+    if inclusive { "inc" } else { "exc" }
+}

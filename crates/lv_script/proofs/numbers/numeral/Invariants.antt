@@ -1,8 +1,0 @@
-use Rattle.std.proofs.Common.{◌≡◌, ◌^◌, ◌<◌, drop}
-use Rattle.lv_script.specs.Numbers.{numeral_in}
-use Rattle.lv_script.proofs.ReadDigits.{numeral_from}
-use Rattle.lv_script.proofs.numbers.numeral.Given as goal
-
--- what is read and what is left give what all give
-abbrev pub invariant-loop-digit : goal.invariant-loop-digit
-invariant-loop-digit l = (numeral_from l.value (drop l.digit-index l.digits) ≡ numeral_in l.digits) × (l.value < 2 ^ 64)

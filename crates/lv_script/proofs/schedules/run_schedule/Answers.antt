@@ -1,0 +1,6 @@
+use Rattle.std.proofs.Common.{rules}
+use Rattle.lv_script.proofs.Playing.{played_as}
+use Rattle.lv_script.proofs.schedules.run_schedule.Goals as goal
+
+pub returns : goal.returns
+returns g c = played_as _ _ _ c.converse.new.responder.machine.now _ _ _ _ _ c.converse.result (search rules) c.converse.ensures

@@ -1,0 +1,161 @@
+-- What becomes of a line in an audit.
+use Rattle.std.proofs.Common.{◌≡◌, ◌≢◌, ◌⊎◌, ℕ, ◌<◌, ◌≤◌, List, [], ◌∷◌, ◌++◌, length, get_or, take, drop, slice_range, refl, sym, ap, ◌∙◌, subst, inl, inr, arith}
+use Rattle.std.proofs.lemmas.Bool.{eqb-false}
+use Rattle.std.proofs.lemmas.Option.{same_Some}
+use Rattle.std.proofs.Math.Seq.{drop-append_seam}
+use Rattle.lv_bodies.specs.Plain.{plain_value}
+use Rattle.lv_edits.specs.declared.edit.Edit.{Edit}
+use Rattle.lv_edits.specs.History.{list_of}
+use Rattle.lv_edits.specs.Verdict.{verdict_of}
+use Rattle.lv_lines.specs.declared.command.Command.TheVariants as command
+use Rattle.lv_lines.specs.declared.command.Line.TheVariants.{Do}
+use Rattle.lv_lines.specs.Texts.{shown_text}
+use Rattle.lv_transcript.specs.declared.auditor.Stage.{Stage}
+use Rattle.lv_transcript.specs.declared.auditor.Stage.TheVariants.{Start, Edits, Claims, End, No, Bad, NoMemory}
+use Rattle.lv_transcript.specs.declared.transcript_lines.Question.{Question}
+use Rattle.lv_transcript.specs.Transcript.{edit_line, greatest, end_line, IsEdit}
+use Rattle.lv_transcript.specs.Auditing.{AuditState, ClaimBecomes, EditBecomes, Becomes, IsAnswered, IsQuestion, MayEnd, Takes, TakesClaim, TakesEdit, TakesLater, question_of, text_of}
+use Rattle.lv_transcript.proofs.ReadTranscripts.{line_of-edit_line, question_in-text_of}
+
+-- what follows where the lines that may be taken are the same
+pub Becomes-same : (n : ℕ) (line : List ℕ) (P Q : AuditState → Type 0) (new : AuditState) → ((next : AuditState) → P next → Q next) → ((next : AuditState) → Q next → P next) → Becomes n line P new → Becomes n line Q new
+Becomes-same n line P Q new to back (inl taken) = inl (to new taken)
+Becomes-same n line P Q new to back (inr (inl found)) = inr (inl (found.0, λ next taken. found.1 next (back next taken)))
+Becomes-same n line P Q new to back (inr (inr none)) = inr (inr none)
+
+-- ---- edits
+
+-- the line of an edit is that of no other
+pub edit_line-injective : (line : List ℕ) (e f : Edit) → IsEdit e → IsEdit f → line ≡ edit_line e → line ≡ edit_line f → e ≡ f
+edit_line-injective line e f p q first second =
+    let one = line_of-edit_line line (drop 2 line) e p refl first in
+    let two = line_of-edit_line line (drop 2 line) f q refl second in
+    let same : Do (command.Edit e) ≡ Do (command.Edit f) = sym one ∙ two in
+    cc same
+
+-- the first byte of a line
+abbrev first_byte : List ℕ → ℕ
+first_byte line = get_or line 0 0
+
+-- it begins with a `j`
+begins_with_j : (e : Edit) → first_byte (edit_line e) ≡ 106
+begins_with_j e = refl
+
+-- so it is no line that comes after the edits
+pub no_edit_later : (old next : AuditState) (line : List ℕ) (e : Edit) → line ≡ edit_line e → TakesLater old line next → ⊥
+no_edit_later old next line e is (inl t) = eqb-false 106 97 refl (sym (begins_with_j e) ∙ ap first_byte (sym is ∙ t.text))
+no_edit_later old next line e is (inr t) = eqb-false 106 101 refl (sym (begins_with_j e) ∙ ap first_byte (sym is ∙ t.text))
+
+-- what became of an edit is what became of its line
+pub Becomes-edit : (number : ℕ) (old : AuditState) (line : List ℕ) (e : Edit) (stage : Stage) (journal : List Edit) → old.stage ≡ Edits → IsEdit e → line ≡ edit_line e
+    → EditBecomes number old.journal e stage journal
+    → Becomes number line (λ new. TakesEdit old line new ⊎ TakesLater old line new) record old { stage = stage; journal = journal }
+Becomes-edit number old line e Edits journal at fits is ends =
+    inl (inl record {
+      edit = e;
+      at = at;
+      fits = fits;
+      text = is;
+      verdict = ends.0;
+      next = ap (λ (js : List Edit). record old { stage = Edits; journal = js }) ends.1 ∙ ap (λ (s : Stage). record old { stage = s; journal = old.journal ++ e ∷ [] }) (sym at);
+    })
+Becomes-edit number old line e (No n) journal at fits is ends =
+    inr (inl (
+      (ends.0, inl (e, fits, is)),
+      λ next taken. elim taken [
+        | inl t ↦ ends.1 (ap (verdict_of greatest old.journal) (edit_line-injective line e t.edit fits t.fits is t.text) ∙ t.verdict)
+        | inr later ↦ no_edit_later old next line e is later
+      ],
+    ))
+Becomes-edit number old line e NoMemory journal at fits is ends = inr (inr refl)
+Becomes-edit number old line e Start journal at fits is ends = absurd ends
+Becomes-edit number old line e Claims journal at fits is ends = absurd ends
+Becomes-edit number old line e End journal at fits is ends = absurd ends
+Becomes-edit number old line e (Bad n) journal at fits is ends = absurd ends
+
+-- ---- claims
+
+-- a line that begins with a question begins with no other
+pub same_question : (line first second : List ℕ) (p q : Question) → IsQuestion p → IsQuestion q → line ≡ text_of p ++ first → line ≡ text_of q ++ second → p ≡ q
+same_question line first second p q fits fits_too is is_too =
+    same_Some p q (sym (question_in-text_of p line first fits is) ∙ question_in-text_of q line second fits_too is_too)
+
+-- and has one value behind it
+same_value : (question first second : List ℕ) → question ++ first ≡ question ++ second → first ≡ second
+same_value question first second same =
+    sym (drop-append_seam question first) ∙ ap (drop (length question)) same ∙ drop-append_seam question second
+
+-- a claim that is taken is answered right
+taken_is_answered : (old next : AuditState) (line value : List ℕ) (q : Question) → IsQuestion q → line ≡ text_of q ++ value → TakesClaim old line next → IsAnswered old.journal old.last q value
+taken_is_answered old next line value q fits is t =
+    let asked = question_of t.claim in
+    let same : asked ≡ q = same_question line (shown_text t.claim.value) value asked q t.fits fits t.text is in
+    let right : IsAnswered old.journal old.last asked (shown_text t.claim.value) = record {
+      order = t.order;
+      edit = t.holds.edit;
+      answer = record { range = t.holds.range; end = t.holds.end; right = ap shown_text t.holds.value };
+    } in
+    let behind : shown_text t.claim.value ≡ value =
+    same_value (text_of asked) (shown_text t.claim.value) value (sym t.text ∙ is ∙ ap (λ (p : Question). text_of p ++ value) (sym same)) in
+    subst (λ (p : Question). IsAnswered old.journal old.last p value) same (subst (IsAnswered old.journal old.last asked) behind right)
+
+-- the last line begins with no question
+pub not_last : (q : Question) (value line : List ℕ) → line ≡ text_of q ++ value → line ≡ end_line → ⊥
+not_last q value line is last = eqb-false 97 101 refl (ap first_byte (sym is ∙ last))
+
+-- a question that is not answered right is not taken
+not_taken : (old next : AuditState) (line value : List ℕ) (q : Question) → IsQuestion q → line ≡ text_of q ++ value → (IsAnswered old.journal old.last q value → ⊥) → TakesLater old line next → ⊥
+not_taken old next line value q fits is wrong (inl t) = wrong (taken_is_answered old next line value q fits is t)
+not_taken old next line value q fits is wrong (inr t) = not_last q value line is t.text
+
+-- what comes before is not what comes after or at once
+disordered : (last edit : ℕ) → edit < last → last ≤ edit → ⊥
+disordered last edit before after = absurd (omega arith)
+
+-- what became of a claim is what became of its line
+pub Becomes-claim : (number : ℕ) (old : AuditState) (line value : List ℕ) (q : Question) (stage : Stage) (reached : ℕ) → MayEnd old.stage → IsQuestion q → line ≡ text_of q ++ value
+    → ClaimBecomes number old.journal old.last q value stage reached → Becomes number line (TakesLater old line) record old { stage = stage; last = reached }
+Becomes-claim number old line value q Claims reached at fits is ends =
+    let answer = ends.0.answer in
+    inl (inl record {
+      claim = record { edit = q.edit; kind = q.kind; lo = q.lo; hi = q.hi; value = plain_value q.kind (slice_range (list_of (take q.edit old.journal)) q.lo q.hi) };
+      at = at;
+      fits = fits;
+      text = is ∙ ap (λ (xs : List ℕ). text_of q ++ xs) answer.right;
+      order = ends.0.order;
+      holds = record { edit = ends.0.edit; range = answer.range; end = answer.end; value = refl };
+      next = ap (λ (n : ℕ). record old { stage = Claims; last = n }) ends.1;
+    })
+Becomes-claim number old line value q (No n) reached at fits is ends =
+    inr (inl ((ends.0, inr (q.edit, q.kind, q.lo, q.hi, value, is)), λ next taken. not_taken old next line value q fits is ends.2 taken))
+Becomes-claim number old line value q (Bad n) reached at fits is ends =
+    inr (inl (ends.0, λ next taken. not_taken old next line value q fits is (λ answered. disordered old.last q.edit ends.1 answered.order) taken))
+Becomes-claim number old line value q NoMemory reached at fits is ends = inr (inr refl)
+Becomes-claim number old line value q Start reached at fits is ends = absurd ends
+Becomes-claim number old line value q Edits reached at fits is ends = absurd ends
+Becomes-claim number old line value q End reached at fits is ends = absurd ends
+
+-- a line that is not the last, and begins with no question, is not taken after the edits
+pub none_later : (old next : AuditState) (line : List ℕ) → line ≢ end_line → ((q : Question) (value : List ℕ) → IsQuestion q → line ≢ text_of q ++ value) → TakesLater old line next → ⊥
+none_later old next line other none (inl t) = none (question_of t.claim) (shown_text t.claim.value) t.fits t.text
+none_later old next line other none (inr t) = other t.text
+
+-- ---- at their stages
+
+-- where edits may stand
+pub Becomes-at_edits : (n : ℕ) (old new : AuditState) (line : List ℕ) → old.stage ≡ Edits → length line ≤ 120 → Becomes n line (λ next. TakesEdit old line next ⊎ TakesLater old line next) new → Becomes n line (Takes old line) new
+Becomes-at_edits n old new line at short =
+    Becomes-same n line (λ next. TakesEdit old line next ⊎ TakesLater old line next) (Takes old line) new (λ next taken. (short, inr taken))
+    (λ next taken. elim taken.1 [ inl t ↦ absurd (cc (at, t.at)) | inr t ↦ t ])
+
+-- where claims may stand
+pub Becomes-at_claims : (n : ℕ) (old new : AuditState) (line : List ℕ) → old.stage ≡ Claims → length line ≤ 120 → Becomes n line (TakesLater old line) new → Becomes n line (Takes old line) new
+Becomes-at_claims n old new line at short =
+    Becomes-same n line (TakesLater old line) (Takes old line) new (λ next taken. (short, inr (inr taken)))
+    (λ next taken. elim taken.1 [ inl t ↦ absurd (cc (at, t.at)) | inr (inl t) ↦ absurd (cc (at, t.at)) | inr (inr t) ↦ t ])
+
+-- a line that is not that of an edit is one after the edits, or none
+pub Becomes-no_edit : (n : ℕ) (old new : AuditState) (line : List ℕ) → ((e : Edit) → IsEdit e → line ≢ edit_line e) → Becomes n line (TakesLater old line) new → Becomes n line (λ next. TakesEdit old line next ⊎ TakesLater old line next) new
+Becomes-no_edit n old new line none =
+    Becomes-same n line (TakesLater old line) (λ next. TakesEdit old line next ⊎ TakesLater old line next) new (λ next taken. inr taken)
+    (λ next taken. elim taken [ inl t ↦ absurd (none t.edit t.fits t.text) | inr t ↦ t ])

@@ -1,0 +1,311 @@
+-- What an audit of lines that are taken one after the other comes to.
+use Rattle.std.proofs.Common.{◌≡◌, ◌⊎◌, ℕ, ◌+◌, ◌≤◌, true, false, List, [], ◌∷◌, ◌++◌, length, map, All, refl, sym, ap, ◌∙◌, subst, inl, inr, append_assoc, append-nil, arith, true≢false}
+use Rattle.std.proofs.lemmas.List.Elements.{All-nil, All-cons}
+use Rattle.lv_edits.specs.declared.edit.Edit.{Edit}
+use Rattle.lv_lines.specs.Texts.{shown_text}
+use Rattle.lv_lines.specs.Replies.{Answered}
+use Rattle.lv_transcript.specs.declared.auditor.Stage.{Stage}
+use Rattle.lv_transcript.specs.declared.auditor.Stage.TheVariants.{Start, Edits, Claims, End, No, Bad, NoMemory}
+use Rattle.lv_transcript.specs.declared.transcripts.Claimed.{Claimed}
+use Rattle.lv_transcript.specs.Transcript.{claim_line, edit_line, first_line, greatest, end_line, transcript_lines, AreAccepted, AreAcceptedAfter, HasForm, IsEdit, IsTrueClaim}
+use Rattle.lv_transcript.specs.Auditing.{AuditState, AuditStep, IsFaultOf, MayEnd, Takes, TakesEdit, TakesFirst, TakesLater, is_fault, is_stopped, question_of, start_state}
+use Rattle.lv_transcript.proofs.AuditLines.{edit_line-injective, no_edit_later, not_last, same_question}
+
+-- ---- one line
+
+-- an audit that has stopped takes none
+stopped_takes_none : (old new : AuditState) (line : List ℕ) → is_stopped old.stage ≡ true → Takes old line new → ⊥
+stopped_takes_none old new line stopped taken =
+    let at_stage = λ (s : Stage) (at : old.stage ≡ s) (going : is_stopped s ≡ false). true≢false (sym stopped ∙ ap is_stopped at ∙ going) in
+    let at_end = λ (at : MayEnd old.stage). elim at as (λ _. ⊥) [ inl e ↦ at_stage Edits e refl | inr e ↦ at_stage Claims e refl ] in
+    elim taken.1 as (λ _. ⊥) [
+      | inl t ↦ at_stage Start t.at refl
+      | inr (inl t) ↦ at_stage Edits t.at refl
+      | inr (inr (inl t)) ↦ at_end t.at
+      | inr (inr (inr t)) ↦ at_end t.at
+    ]
+
+-- where the last line may stand, the first may not
+not_start : (stage : Stage) → stage ≡ Start → MayEnd stage → ⊥
+not_start stage start (inl at) = absurd (cc (start, at))
+not_start stage start (inr at) = absurd (cc (start, at))
+
+-- a line that comes after the edits is taken in one way
+same_later : (old a b : AuditState) (line : List ℕ) → TakesLater old line a → TakesLater old line b → a ≡ b
+same_later old a b line (inl p) (inl q) =
+    let same : question_of p.claim ≡ question_of q.claim =
+    same_question line (shown_text p.claim.value) (shown_text q.claim.value) (question_of p.claim) (question_of q.claim) p.fits q.fits p.text q.text in
+    p.next ∙ ap (λ (n : ℕ). record old { stage = Claims; last = n }) (ap (λ asked. asked.edit) same) ∙ sym q.next
+same_later old a b line (inl p) (inr q) = absurd (not_last (question_of p.claim) (shown_text p.claim.value) line p.text q.text)
+same_later old a b line (inr p) (inl q) = absurd (not_last (question_of q.claim) (shown_text q.claim.value) line q.text p.text)
+same_later old a b line (inr p) (inr q) = p.next ∙ sym q.next
+
+-- a line is taken in one way
+same_way : (old a b : AuditState) (line : List ℕ) → TakesFirst old line a ⊎ TakesEdit old line a ⊎ TakesLater old line a → TakesFirst old line b ⊎ TakesEdit old line b ⊎ TakesLater old line b → a ≡ b
+same_way old a b line (inl p) (inl q) = p.next ∙ sym q.next
+same_way old a b line (inl p) (inr (inl q)) = absurd (cc (p.at, q.at))
+same_way old a b line (inl p) (inr (inr (inl q))) = absurd (not_start old.stage p.at q.at)
+same_way old a b line (inl p) (inr (inr (inr q))) = absurd (not_start old.stage p.at q.at)
+same_way old a b line (inr (inl p)) (inl q) = absurd (cc (p.at, q.at))
+same_way old a b line (inr (inl p)) (inr (inl q)) =
+    p.next ∙ ap (λ (e : Edit). record old { journal = old.journal ++ e ∷ [] }) (edit_line-injective line p.edit q.edit p.fits q.fits p.text q.text) ∙ sym q.next
+same_way old a b line (inr (inl p)) (inr (inr q)) = absurd (no_edit_later old b line p.edit p.text q)
+same_way old a b line (inr (inr (inl p))) (inl q) = absurd (not_start old.stage q.at p.at)
+same_way old a b line (inr (inr (inr p))) (inl q) = absurd (not_start old.stage q.at p.at)
+same_way old a b line (inr (inr p)) (inr (inl q)) = absurd (no_edit_later old a line q.edit q.text p)
+same_way old a b line (inr (inr p)) (inr (inr q)) = same_later old a b line p q
+
+-- ---- many lines
+
+-- among lines that are numbered from n, that of this number has the form of an edit or of a claim
+pub record IsNamed (lines : List (List ℕ)) (number n : ℕ) : Type 0 where
+  pub front : List (List ℕ)
+  pub line : List ℕ
+  pub rest : List (List ℕ)
+  pub all : lines ≡ front ++ line ∷ rest
+  pub number_is : number ≡ n + length front
+  pub form : HasForm line
+
+-- from one state to another the lines are taken
+abbrev pub Runs : AuditState → List (List ℕ) → AuditState → Type 0
+Runs old [] new = new ≡ old
+Runs old (line ∷ lines) new = (mid : AuditState) × Takes old line mid × Runs mid lines new
+
+-- nothing is answered
+pub no_replies : (old : AuditState) (n : ℕ) (lines : List (List ℕ)) (text : List ℕ) (new : AuditState) → Answered AuditStep old n lines text new → text ≡ []
+unfolding AuditStep
+no_replies old n [] text new a = a.0
+no_replies old n (line ∷ lines) text new a =
+    a.5 ∙ ap (λ (xs : List ℕ). xs ++ a.1) a.3.0 ∙ no_replies a.2 (n + 1) lines a.1 new a.4
+
+-- an audit that has stopped stays where it is
+stays : (old : AuditState) (n : ℕ) (lines : List (List ℕ)) (text : List ℕ) (new : AuditState) → is_stopped old.stage ≡ true → Answered AuditStep old n lines text new → new ≡ old
+unfolding AuditStep
+stays old n [] text new stopped a = a.1
+stays old n (line ∷ lines) text new stopped a =
+    elim a.3.1 [
+      | inl still ↦ stays a.2 (n + 1) lines a.1 new (ap (λ s. is_stopped s.stage) still.1 ∙ stopped) a.4 ∙ still.1
+      | inr goes ↦ absurd (true≢false (sym stopped ∙ goes.0))
+    ]
+
+-- a fault of a line is one
+fault_of_line : (n : ℕ) (line : List ℕ) (stage : Stage) → IsFaultOf n line stage → is_fault stage ≡ true
+fault_of_line n line (No k) fault = refl
+fault_of_line n line (Bad k) fault = refl
+fault_of_line n line NoMemory fault = absurd fault
+fault_of_line n line Start fault = absurd fault
+fault_of_line n line Edits fault = absurd fault
+fault_of_line n line Claims fault = absurd fault
+fault_of_line n line End fault = absurd fault
+
+-- a fault stops it
+fault_stops : (stage : Stage) → is_fault stage ≡ true → is_stopped stage ≡ true
+fault_stops (No n) fault = refl
+fault_stops (Bad n) fault = refl
+fault_stops NoMemory fault = refl
+fault_stops Start fault = fault
+fault_stops Edits fault = fault
+fault_stops Claims fault = fault
+fault_stops End fault = fault
+
+-- one that has stopped does not end
+stopped_never_ends : (old : AuditState) (n : ℕ) (lines : List (List ℕ)) (text : List ℕ) (new : AuditState) → is_stopped old.stage ≡ true → Answered AuditStep old n lines text new → new.stage ≡ End → ⊥
+stopped_never_ends old n lines text new stopped a end =
+    true≢false (sym stopped ∙ ap (λ s. is_stopped s.stage) (sym (stays old n lines text new stopped a)) ∙ ap is_stopped end)
+
+-- where it comes to the end, all lines were taken
+pub taken_to_end : (old : AuditState) (n : ℕ) (lines : List (List ℕ)) (text : List ℕ) (new : AuditState) → Answered AuditStep old n lines text new → new.stage ≡ End → Runs old lines new
+unfolding AuditStep
+taken_to_end old n [] text new a end = a.1
+taken_to_end old n (line ∷ lines) text new a end =
+    let never = λ (stopped : is_stopped a.2.stage ≡ true). stopped_never_ends a.2 (n + 1) lines a.1 new stopped a.4 end in
+    elim a.3.1 [
+      | inl still ↦ absurd (never (ap (λ s. is_stopped s.stage) still.1 ∙ still.0))
+      | inr (goes, inl taken) ↦ (a.2, taken, taken_to_end a.2 (n + 1) lines a.1 new a.4 end)
+      | inr (goes, inr (inl found)) ↦ absurd (never (fault_stops a.2.stage (fault_of_line n line a.2.stage found.0)))
+      | inr (goes, inr (inr none)) ↦ absurd (never (ap is_stopped none))
+    ]
+
+-- where all lines can be taken, they are, or there is no memory
+pub taken_or_none : (old : AuditState) (n : ℕ) (lines : List (List ℕ)) (text : List ℕ) (new end : AuditState) → Answered AuditStep old n lines text new → Runs old lines end → (new ≡ end) ⊎ (new.stage ≡ NoMemory)
+unfolding AuditStep
+taken_or_none old n [] text new end a runs = inl (a.1 ∙ sym runs)
+taken_or_none old n (line ∷ lines) text new end a runs =
+    elim a.3.1 [
+      | inl still ↦ absurd (stopped_takes_none old runs.0 line still.0 runs.1)
+      | inr (goes, inl taken) ↦
+          let same : runs.0 ≡ a.2 = same_way old runs.0 a.2 line runs.1.1 taken.1 in
+          taken_or_none a.2 (n + 1) lines a.1 new end a.4 (subst (λ (s : AuditState). Runs s lines end) same runs.2)
+      | inr (goes, inr (inl found)) ↦ absurd (found.1 runs.0 runs.1)
+      | inr (goes, inr (inr none)) ↦
+          inr (ap (λ s. s.stage) (stays a.2 (n + 1) lines a.1 new (ap is_stopped none) a.4) ∙ none)
+    ]
+
+-- a line that is taken leads to no fault
+taken_is_none : (old new : AuditState) (line : List ℕ) (k : ℕ) → Takes old line new → new.stage ≡ No k → ⊥
+taken_is_none old new line k taken at =
+    elim taken.1 as (λ _. ⊥) [
+      | inl t ↦ absurd (cc (ap (λ s. s.stage) t.next, at))
+      | inr (inl t) ↦ absurd (cc (ap (λ s. s.stage) t.next, t.at, at))
+      | inr (inr (inl t)) ↦ absurd (cc (ap (λ s. s.stage) t.next, at))
+      | inr (inr (inr t)) ↦ absurd (cc (ap (λ s. s.stage) t.next, at))
+    ]
+
+-- the line that a fault names as false, where there is one more before it
+one_more : (lines : List (List ℕ)) (line : List ℕ) (k n : ℕ) → IsNamed lines k (n + 1) → IsNamed (line ∷ lines) k n
+one_more lines line k n named = record {
+  front = line ∷ named.front;
+  line = named.line;
+  rest = named.rest;
+  all = ap (λ (ls : List (List ℕ)). line ∷ ls) named.all;
+  number_is = omega (arith, named.number_is);
+  form = named.form;
+}
+
+-- where it has found a line false, that has the right form
+pub named_false : (old : AuditState) (n : ℕ) (lines : List (List ℕ)) (text : List ℕ) (new : AuditState) (k : ℕ) → Answered AuditStep old n lines text new → (old.stage ≡ No k → ⊥)
+    → new.stage ≡ No k → IsNamed lines k n
+unfolding AuditStep
+named_false old n [] text new k a other at = absurd (other (ap (λ s. s.stage) (sym a.1) ∙ at))
+named_false old n (line ∷ lines) text new k a other at =
+    elim a.3.1 [
+      | inl still ↦ one_more lines line k n (named_false a.2 (n + 1) lines a.1 new k a.4 (λ is. other (ap (λ s. s.stage) (sym still.1) ∙ is)) at)
+      | inr (goes, inl taken) ↦ one_more lines line k n (named_false a.2 (n + 1) lines a.1 new k a.4 (taken_is_none old a.2 line k taken) at)
+      | inr (goes, inr (inl found)) ↦
+          let same : new ≡ a.2 = stays a.2 (n + 1) lines a.1 new (fault_stops a.2.stage (fault_of_line n line a.2.stage found.0)) a.4 in
+          let fault : IsFaultOf n line (No k) = subst (IsFaultOf n line) (ap (λ s. s.stage) (sym same) ∙ at) found.0 in
+          record { front = []; line = line; rest = lines; all = refl; number_is = omega (arith, fault.0); form = fault.1 }
+      | inr (goes, inr (inr none)) ↦ absurd (cc (none, ap (λ s. s.stage) (stays a.2 (n + 1) lines a.1 new (ap is_stopped none) a.4), at))
+    ]
+
+-- each line that is taken is short
+pub runs_short : (old new : AuditState) (lines : List (List ℕ)) → Runs old lines new → All (λ line. length line ≤ 120) lines
+runs_short old new [] runs = All-nil (λ line. length line ≤ 120)
+runs_short old new (line ∷ lines) runs = All-cons (λ line. length line ≤ 120) line lines runs.1.0 (runs_short runs.0 new lines runs.2)
+
+-- ---- what lines that are taken are
+
+-- claims that rise from an edit on
+abbrev pub RiseFrom : ℕ → List Claimed → Type 0
+RiseFrom last [] = Unit {0}
+RiseFrom last (claim ∷ claims) = (last ≤ claim.edit) × RiseFrom claim.edit claims
+
+-- lines that come after the edits: true claims in order, and the last line
+record IsTail (journal : List Edit) (last : ℕ) (lines : List (List ℕ)) : Type 0 where
+  claims : List Claimed
+  lines_are : lines ≡ map claim_line claims ++ end_line ∷ []
+  all_true : All (IsTrueClaim journal) claims
+  rise : RiseFrom last claims
+
+-- no line is taken after the last
+none_after_last : (old new : AuditState) (lines : List (List ℕ)) → old.stage ≡ End → Runs old lines new → lines ≡ []
+none_after_last old new [] at runs = refl
+none_after_last old new (line ∷ lines) at runs =
+    elim runs.1.1 [
+      | inl t ↦ absurd (cc (at, t.at))
+      | inr (inl t) ↦ absurd (cc (at, t.at))
+      | inr (inr (inl t)) ↦ elim t.at [ inl e ↦ absurd (cc (at, e)) | inr e ↦ absurd (cc (at, e)) ]
+      | inr (inr (inr t)) ↦ elim t.at [ inl e ↦ absurd (cc (at, e)) | inr e ↦ absurd (cc (at, e)) ]
+    ]
+
+-- a line that comes after the edits, and what follows it
+tail_of : (old mid new : AuditState) (line : List ℕ) (lines : List (List ℕ)) → TakesLater old line mid → Runs mid lines new
+    → ((s : AuditState) → s.stage ≡ Claims → Runs s lines new → IsTail s.journal s.last lines) → IsTail old.journal old.last (line ∷ lines)
+tail_of old mid new line lines (inl t) runs more =
+    let rest = more record old { stage = Claims; last = t.claim.edit } refl (subst (λ (s : AuditState). Runs s lines new) t.next runs) in
+    record {
+      claims = t.claim ∷ rest.claims;
+      lines_are = ap (λ (xs : List ℕ). xs ∷ lines) t.text ∙ ap (λ (ls : List (List ℕ)). claim_line t.claim ∷ ls) rest.lines_are;
+      all_true = All-cons (IsTrueClaim old.journal) t.claim rest.claims t.holds rest.all_true;
+      rise = (t.order, rest.rise);
+    }
+tail_of old mid new line lines (inr t) runs more =
+    let none = none_after_last mid new lines (ap (λ s. s.stage) t.next) runs in
+    record {
+      claims = [];
+      lines_are = ap (λ (xs : List ℕ). xs ∷ lines) t.text ∙ ap (λ (ls : List (List ℕ)). end_line ∷ ls) none;
+      all_true = All-nil (IsTrueClaim old.journal);
+      rise = tt;
+    }
+
+-- after a claim come claims and the last line
+tail_after_claim : (old new : AuditState) (lines : List (List ℕ)) → new.stage ≡ End → old.stage ≡ Claims → Runs old lines new → IsTail old.journal old.last lines
+tail_after_claim old new [] end at runs = absurd (cc (end, at, ap (λ s. s.stage) runs))
+tail_after_claim old new (line ∷ lines) end at runs =
+    elim runs.1.1 [
+      | inl t ↦ absurd (cc (at, t.at))
+      | inr (inl t) ↦ absurd (cc (at, t.at))
+      | inr (inr t) ↦ tail_of old runs.0 new line lines t runs.2 (λ s at_claims more. tail_after_claim s new lines end at_claims more)
+    ]
+
+-- lines behind the first: edits that are accepted after those before them, and then a tail
+record IsBody (journal : List Edit) (last : ℕ) (lines : List (List ℕ)) : Type 0 where
+  edits : List Edit
+  claims : List Claimed
+  lines_are : lines ≡ map edit_line edits ++ map claim_line claims ++ end_line ∷ []
+  fit : All IsEdit edits
+  accepted : AreAcceptedAfter greatest journal edits
+  all_true : All (IsTrueClaim (journal ++ edits)) claims
+  rise : RiseFrom last claims
+
+-- a tail is such
+body_of_tail : (journal : List Edit) (last : ℕ) (lines : List (List ℕ)) → IsTail journal last lines → IsBody journal last lines
+body_of_tail journal last lines tail = record {
+  edits = [];
+  claims = tail.claims;
+  lines_are = tail.lines_are;
+  fit = All-nil IsEdit;
+  accepted = tt;
+  all_true = rw (append-nil journal) tail.all_true;
+  rise = tail.rise;
+}
+
+-- after the first line, or an edit, comes such
+body_after_edit : (old new : AuditState) (lines : List (List ℕ)) → new.stage ≡ End → old.stage ≡ Edits → Runs old lines new → IsBody old.journal old.last lines
+body_after_edit old new [] end at runs = absurd (cc (end, at, ap (λ s. s.stage) runs))
+body_after_edit old new (line ∷ lines) end at runs =
+    elim runs.1.1 [
+      | inl t ↦ absurd (cc (at, t.at))
+      | inr (inl t) ↦
+          let rest = body_after_edit record old { journal = old.journal ++ t.edit ∷ [] } new lines end at (subst (λ (s : AuditState). Runs s lines new) t.next runs.2) in
+          record {
+            edits = t.edit ∷ rest.edits;
+            claims = rest.claims;
+            lines_are = ap (λ (xs : List ℕ). xs ∷ lines) t.text ∙ ap (λ (ls : List (List ℕ)). edit_line t.edit ∷ ls) rest.lines_are;
+            fit = All-cons IsEdit t.edit rest.edits t.fits rest.fit;
+            accepted = (t.verdict, rest.accepted);
+            all_true = subst (λ (js : List Edit). All (IsTrueClaim js) rest.claims) (append_assoc old.journal (t.edit ∷ []) rest.edits) rest.all_true;
+            rise = rest.rise;
+          }
+      | inr (inr t) ↦ body_of_tail old.journal old.last (line ∷ lines) (tail_of old runs.0 new line lines t runs.2 (λ s at_claims more. tail_after_claim s new lines end at_claims more))
+    ]
+
+-- lines that are taken from the first to the last are those of a transcript
+pub record IsTaken (lines : List (List ℕ)) : Type 0 where
+  pub edits : List Edit
+  pub claims : List Claimed
+  pub lines_are : lines ≡ transcript_lines edits claims
+  pub fit : All IsEdit edits
+  pub accepted : AreAccepted greatest edits
+  pub all_true : All (IsTrueClaim edits) claims
+  pub rise : RiseFrom 0 claims
+
+pub taken_lines : (new : AuditState) (lines : List (List ℕ)) → new.stage ≡ End → Runs start_state lines new → IsTaken lines
+taken_lines new [] end runs = absurd (cc (end, ap (λ s. s.stage) runs))
+taken_lines new (line ∷ lines) end runs =
+    elim runs.1.1 [
+      | inl t ↦
+          let rest = body_after_edit record start_state { stage = Edits } new lines end refl (subst (λ (s : AuditState). Runs s lines new) t.next runs.2) in
+          record {
+            edits = rest.edits;
+            claims = rest.claims;
+            lines_are = ap (λ (xs : List ℕ). xs ∷ lines) t.text ∙ ap (λ (ls : List (List ℕ)). first_line ∷ ls) rest.lines_are;
+            fit = rest.fit;
+            accepted = rest.accepted;
+            all_true = rest.all_true;
+            rise = rest.rise;
+          }
+      | inr (inl t) ↦ absurd (cc (t.at))
+      | inr (inr (inl t)) ↦ elim t.at [ inl e ↦ absurd (cc (e)) | inr e ↦ absurd (cc (e)) ]
+      | inr (inr (inr t)) ↦ elim t.at [ inl e ↦ absurd (cc (e)) | inr e ↦ absurd (cc (e)) ]
+    ]

@@ -1,0 +1,9 @@
+pub mod WrittenTranscripts
+pub mod ReadTranscripts
+pub mod AuditLines
+pub mod AuditRuns
+pub mod ShownTexts
+pub mod SoundTranscripts
+pub mod TranscriptBytes
+pub mod AuditedTranscripts
+pub mod ReplayLemmas

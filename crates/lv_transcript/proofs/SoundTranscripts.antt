@@ -1,0 +1,263 @@
+-- A sound transcript is taken line by line.
+use Rattle.std.proofs.Common.{◌≡◌, ℕ, zero, suc, ◌-◌, ◌^◌, ◌<◌, ◌≤◌, Bool, true, List, [], ◌∷◌, ◌++◌, length, get_or, take, drop, map, slice_range, codes, nat_le, All, None, lit≤, refl, sym, ◌∙◌, subst, inl, inr, arith, append_assoc, append-nil, length-append}
+use Rattle.std.specs.Prelude.{decimal}
+use Rattle.std.specs.List.{list_all}
+use Rattle.std.proofs.lemmas.Bool.{and_parts, leb-true}
+use Rattle.std.proofs.lemmas.Fmt.{length-decimal-le}
+use Rattle.std.proofs.lemmas.List.{length-take, length-drop, take_all}
+use Rattle.std.proofs.lemmas.List.Elements.{All-nil, All-cons, All-head, All-tail, All-take, All-drop, All-append, All-map, All-weaker}
+use Rattle.lv_geometry.specs.Elements.{IsElement}
+use Rattle.lv_bodies.specs.declared.kinds.Kind.{Kind}
+use Rattle.lv_bodies.specs.Body.{CanFold}
+use Rattle.lv_edits.specs.declared.edit.Edit.{Edit}
+use Rattle.lv_edits.specs.declared.edit.Edit.TheVariants.{Push, Pop, Write, Reserve, Swap, Truncate}
+use Rattle.lv_edits.specs.History.{list_of}
+use Rattle.lv_edits.specs.Kept.{CarriesElement, IsLegalInLimits}
+use Rattle.lv_edits.specs.Verdict.{verdict_of}
+use Rattle.lv_edits.proofs.HistoryLaws.{IsLegalInLimits-empty, IsLegalInLimits-snoc, not_refused, unrefused_reserve, unrefused_swap, unrefused_truncate, unrefused_write}
+use Rattle.lv_lines.specs.declared.command.Command.TheVariants as commands
+use Rattle.lv_lines.specs.Printed.{printed}
+use Rattle.lv_lines.specs.Grammar.{kind_name}
+use Rattle.lv_lines.specs.Texts.{shown_text}
+use Rattle.lv_lines.proofs.PrintedWords.{IsPrintable, no_control, plain_number}
+use Rattle.lv_lines.proofs.ReadAgain.{length-printed, plain_kind, printed_printable}
+use Rattle.lv_transcript.specs.declared.auditor.Stage.{Stage}
+use Rattle.lv_transcript.specs.declared.auditor.Stage.TheVariants.{Edits, Claims, End}
+use Rattle.lv_transcript.specs.declared.transcripts.Claimed.{Claimed}
+use Rattle.lv_transcript.specs.Transcript.{claim_line, edit_line, first_line, greatest, end_line, question_text, transcript_lines, AreAccepted, AreAcceptedAfter, AreInOrder, IsEdit, IsTrueClaim}
+use Rattle.lv_transcript.specs.Auditing.{AuditState, IsQuestion, MayEnd, Takes, question_of, start_state}
+use Rattle.lv_transcript.proofs.AuditRuns.{RiseFrom, Runs}
+use Rattle.lv_transcript.proofs.ShownTexts.{IsShownText, shown_plain}
+
+-- ---- edits that are accepted
+
+-- a journal within the greatest limits
+abbrev pub IsWithin : List Edit → Type 0
+IsWithin journal = IsLegalInLimits record { limits = greatest; journal = journal }
+
+-- no edits are
+within_none : IsWithin []
+within_none = IsLegalInLimits-empty greatest record { some_buckets = lit≤ tt; few_buckets = lit≤ tt; some_edits = lit≤ tt; few_edits = lit≤ tt }
+
+-- one more edit that is accepted
+within_more : (journal : List Edit) (e : Edit) → IsWithin journal → verdict_of greatest journal e ≡ None → CarriesElement e → IsWithin (journal ++ e ∷ [])
+within_more journal e within free carried = IsLegalInLimits-snoc record { limits = greatest; journal = journal } e within free carried
+
+-- the numbers of an accepted edit have their bits
+accepted_fits : (journal : List Edit) (e : Edit) → IsWithin journal → verdict_of greatest journal e ≡ None → CarriesElement e → IsEdit e
+accepted_fits journal (Push x) within free carried = carried
+accepted_fits journal Pop within free carried = tt
+accepted_fits journal (Write i x) within free carried =
+    (omega (arith, within.few, unrefused_write greatest (list_of journal) i x (not_refused greatest journal (Write i x) free).1), carried)
+accepted_fits journal (Reserve n) within free carried =
+    omega (arith, unrefused_reserve greatest (list_of journal) n (not_refused greatest journal (Reserve n) free).1)
+accepted_fits journal (Swap i j) within free carried =
+    let below = unrefused_swap greatest (list_of journal) i j (not_refused greatest journal (Swap i j) free).1 in
+    (omega (arith, within.few, below.0), omega (arith, within.few, below.1))
+accepted_fits journal (Truncate n) within free carried =
+    omega (arith, within.few, unrefused_truncate greatest (list_of journal) n (not_refused greatest journal (Truncate n) free).1)
+
+-- each beginning of accepted edits is within the limits
+beginnings_within : (before edits : List Edit) (k : ℕ) → IsWithin before → AreAcceptedAfter greatest before edits → All CarriesElement edits → IsWithin (before ++ take k edits)
+beginnings_within before edits zero within accepted carry = rw (append-nil before) within
+beginnings_within before [] (suc k) within accepted carry = rw (append-nil before) within
+beginnings_within before (e ∷ edits) (suc k) within accepted carry =
+    let next = within_more before e within accepted.0 (All-head CarriesElement e edits carry) in
+    subst (λ (js : List Edit). IsWithin js) (append_assoc before (e ∷ []) (take k edits))
+    (beginnings_within (before ++ e ∷ []) edits k next accepted.1 (All-tail CarriesElement e edits carry))
+
+-- and the numbers of all have their bits
+all_fit : (before edits : List Edit) → IsWithin before → AreAcceptedAfter greatest before edits → All CarriesElement edits → All IsEdit edits
+all_fit before [] within accepted carry = All-nil IsEdit
+all_fit before (e ∷ edits) within accepted carry =
+    let carried = All-head CarriesElement e edits carry in
+    All-cons IsEdit e edits (accepted_fits before e within accepted.0 carried)
+    (all_fit (before ++ e ∷ []) edits (within_more before e within accepted.0 carried) accepted.1 (All-tail CarriesElement e edits carry))
+
+-- ---- lines
+
+-- whether no byte is below the space
+abbrev is_printable : List ℕ → Bool
+is_printable bytes = list_all (λ b. nat_le 32 b) bytes
+
+-- bytes that pass
+printable_bytes : (bytes : List ℕ) → is_printable bytes ≡ true → All IsPrintable bytes
+printable_bytes [] h = All-nil IsPrintable
+printable_bytes (b ∷ bytes) h =
+    let parts = and_parts (nat_le 32 b) _ h in
+    All-cons IsPrintable b bytes (leb-true 32 b parts.0) (printable_bytes bytes parts.1)
+
+-- a line of a transcript: at most 120 bytes, none below the space
+pub record IsLine (line : List ℕ) : Type 0 where
+  pub short : length line ≤ 120
+  pub printable : All IsPrintable line
+
+-- the line of an edit
+pub line_of_edit : (e : Edit) → IsEdit e → IsLine (edit_line e)
+line_of_edit e fits =
+    let command = commands.Edit e in
+    record {
+      short = omega (arith, length-printed command fits);
+      printable = All-append IsPrintable (codes "j ") (printed command) (printable_bytes (codes "j ") refl) (printed_printable command fits);
+    }
+
+-- the beginning of a claim's line has at most 56 bytes
+record IsBeginning (text : List ℕ) : Type 0 where
+  short : length text ≤ 56
+  printable : All IsPrintable text
+
+-- two texts that are printable are so together
+both : (xs ys : List ℕ) → All IsPrintable xs → All IsPrintable ys → All IsPrintable (xs ++ ys)
+both xs ys p q = All-append IsPrintable xs ys p q
+
+-- a question's text is such
+beginning_of_claim : (edit : ℕ) (kind : Kind) (lo hi : ℕ) → edit < 2 ^ 32 → lo < 2 ^ 32 → hi < 2 ^ 32 → IsBeginning (question_text edit kind lo hi)
+beginning_of_claim edit kind lo hi p q r =
+    let e = decimal edit in
+    let k = kind_name kind in
+    let l = decimal lo in
+    let h = decimal hi in
+    let s = codes " " in
+    let few_e : length e ≤ 10 = length-decimal-le 10 edit (omega arith) (omega arith) (omega arith) in
+    let few_l : length l ≤ 10 = length-decimal-le 10 lo (omega arith) (omega arith) (omega arith) in
+    let few_h : length h ≤ 10 = length-decimal-le 10 hi (omega arith) (omega arith) (omega arith) in
+    let space : All IsPrintable s = printable_bytes s refl in
+    let t1 = codes "a " ++ e in
+    let t2 = t1 ++ s in
+    let t3 = t2 ++ k in
+    let t4 = t3 ++ s in
+    let t5 = t4 ++ l in
+    let t6 = t5 ++ s in
+    let t7 = t6 ++ h in
+    let a1 : All IsPrintable t1 = both (codes "a ") e (printable_bytes (codes "a ") refl) (no_control e (plain_number edit p)) in
+    let a3 : All IsPrintable t3 = both t2 k (both t1 s a1 space) (no_control k (plain_kind kind)) in
+    let a5 : All IsPrintable t5 = both t4 l (both t3 s a3 space) (no_control l (plain_number lo q)) in
+    let a7 : All IsPrintable t7 = both t6 h (both t5 s a5 space) (no_control h (plain_number hi r)) in
+    record {
+      short = omega (arith, few_e, few_l, few_h, (plain_kind kind).short, length-append t7 s, length-append t6 h, length-append t5 s, length-append t4 l, length-append t3 s, length-append t2 k, length-append t1 s, length-append (codes "a ") e);
+      printable = both t7 s a7 space;
+    }
+
+-- a slice of a list within the limits may be folded
+slice_folds : (journal : List Edit) (lo hi : ℕ) → IsWithin journal → CanFold (slice_range (list_of journal) lo hi)
+slice_folds journal lo hi within =
+    let xs = list_of journal in
+    record {
+      few = omega (arith, within.few, length-take (hi - lo) (drop lo xs), length-drop lo xs);
+      elements = All-take IsElement (hi - lo) (drop lo xs) (All-drop IsElement lo xs within.elements);
+    }
+
+-- a true claim, as a line
+pub record IsPlainClaim (claim : Claimed) : Type 0 where
+  pub fits : IsQuestion (question_of claim)
+  pub line : IsLine (claim_line claim)
+
+-- each true claim is one, where each beginning of the journal is within the limits
+plain_claim : (edits : List Edit) → ((k : ℕ) → IsWithin (take k edits)) → (claim : Claimed) → IsTrueClaim edits claim → IsPlainClaim claim
+plain_claim edits beginnings claim holds =
+    let all : IsWithin edits = subst (λ (js : List Edit). IsWithin js) (take_all (length edits) edits (omega arith)) (beginnings (length edits)) in
+    let then = beginnings claim.edit in
+    let few : claim.edit < 2 ^ 32 = omega (arith, all.edits, holds.edit) in
+    let near : claim.hi < 2 ^ 32 = omega (arith, then.few, holds.end) in
+    let first : claim.lo < 2 ^ 32 = omega (arith, holds.range) in
+    let begins = beginning_of_claim claim.edit claim.kind claim.lo claim.hi few first near in
+    let shown : IsShownText (shown_text claim.value) =
+    rw holds.value (shown_plain claim.kind _ (slice_folds (take claim.edit edits) claim.lo claim.hi then)) in
+    let question = question_text claim.edit claim.kind claim.lo claim.hi in
+    record {
+      fits = record { edit = few; lo = first; hi = near };
+      line = record {
+        short = omega (arith, begins.short, shown.short, length-append question (shown_text claim.value));
+        printable = both question (shown_text claim.value) begins.printable shown.printable;
+      };
+    }
+
+-- ---- claims in order
+
+-- claims in order rise from any edit that is not after the first
+rise_in_order : (last : ℕ) (claims : List Claimed) → ((d : Claimed) → 0 < length claims → last ≤ (get_or claims 0 d).edit) → AreInOrder claims → RiseFrom last claims
+rise_in_order last [] first order = tt
+rise_in_order last (claim ∷ claims) first order =
+    (first claim (omega arith), rise_in_order claim.edit claims (λ d some. order 0 1 d (omega arith) (omega arith)) (λ i j d le lt. order (suc i) (suc j) d (omega arith) (omega arith)))
+
+-- the first of claims that rise is not before that edit, and no later one is
+rise_above : (last : ℕ) (claims : List Claimed) → RiseFrom last claims → (j : ℕ) (d : Claimed) → j < length claims → last ≤ (get_or claims j d).edit
+rise_above last [] rise j d lt = absurd (omega arith)
+rise_above last (claim ∷ claims) rise zero d lt = rise.0
+rise_above last (claim ∷ claims) rise (suc j) d lt = omega (arith, rise.0, rise_above claim.edit claims rise.1 j d (omega arith))
+
+-- claims that rise are in order
+pub in_order_of_rise : (last : ℕ) (claims : List Claimed) → RiseFrom last claims → AreInOrder claims
+in_order_of_rise last [] rise i j d le lt = absurd (omega arith)
+in_order_of_rise last (claim ∷ claims) rise zero zero d le lt = omega arith
+in_order_of_rise last (claim ∷ claims) rise zero (suc j) d le lt = rise_above claim.edit claims rise.1 j d (omega arith)
+in_order_of_rise last (claim ∷ claims) rise (suc i) zero d le lt = absurd (omega arith)
+in_order_of_rise last (claim ∷ claims) rise (suc i) (suc j) d le lt = in_order_of_rise claim.edit claims rise.1 i j d (omega arith) (omega arith)
+
+-- ---- the lines are taken
+
+-- lines are taken from a state to the end
+pub record RunsToEnd (old : AuditState) (lines : List (List ℕ)) : Type 0 where
+  pub end : AuditState
+  pub runs : Runs old lines end
+  pub at_end : end.stage ≡ End
+
+-- one line, and then the others
+first_taken : (old mid : AuditState) (line : List ℕ) (lines : List (List ℕ)) → Takes old line mid → RunsToEnd mid lines → RunsToEnd old (line ∷ lines)
+first_taken old mid line lines taken rest = record { end = rest.end; runs = (mid, taken, rest.runs); at_end = rest.at_end }
+
+-- the last line is
+last_taken : (old : AuditState) → MayEnd old.stage → RunsToEnd old (end_line ∷ [])
+last_taken old at =
+    let end : AuditState = record old { stage = End } in
+    record { end = end; runs = (end, (lit≤ tt, inr (inr (inr record { at = at; text = refl; next = refl }))), refl); at_end = refl }
+
+module _ (edits : List Edit) (plain : (claim : Claimed) → IsTrueClaim edits claim → IsPlainClaim claim) where
+  -- true claims that rise are, and then the last line
+  claims_taken : (stage : Stage) (last : ℕ) (claims : List Claimed) → MayEnd stage → All (IsTrueClaim edits) claims → RiseFrom last claims
+      → RunsToEnd record { stage = stage; journal = edits; last = last } (map claim_line claims ++ end_line ∷ [])
+  claims_taken stage last [] at holds rise = last_taken record { stage = stage; journal = edits; last = last } at
+  claims_taken stage last (claim ∷ claims) at holds rise =
+      let here = All-head (IsTrueClaim edits) claim claims holds in
+      let one = plain claim here in
+      first_taken record { stage = stage; journal = edits; last = last } record { stage = Claims; journal = edits; last = claim.edit } (claim_line claim) (map claim_line claims ++ end_line ∷ [])
+      (one.line.short, inr (inr (inl record { claim = claim; at = at; fits = one.fits; text = refl; order = rise.0; holds = here; next = refl })))
+      (claims_taken Claims claim.edit claims (inr refl) (All-tail (IsTrueClaim edits) claim claims holds) rise.1)
+
+  -- accepted edits are, and then those
+  edits_taken : (before more : List Edit) (claims : List Claimed) → before ++ more ≡ edits → AreAcceptedAfter greatest before more → All IsEdit more → All (IsTrueClaim edits) claims → RiseFrom 0 claims
+      → RunsToEnd record { stage = Edits; journal = before; last = 0 } (map edit_line more ++ map claim_line claims ++ end_line ∷ [])
+  edits_taken before [] claims all accepted fit holds rise =
+      rw (sym (append-nil before) ∙ all) (claims_taken Edits 0 claims (inl refl) holds rise)
+  edits_taken before (e ∷ more) claims all accepted fit holds rise =
+      let here = All-head IsEdit e more fit in
+      first_taken record { stage = Edits; journal = before; last = 0 } record { stage = Edits; journal = before ++ e ∷ []; last = 0 } (edit_line e)
+      (map edit_line more ++ map claim_line claims ++ end_line ∷ [])
+      ((line_of_edit e here).short, inr (inl record { edit = e; at = refl; fits = here; text = refl; verdict = accepted.0; next = refl }))
+      (edits_taken (before ++ e ∷ []) more claims (append_assoc before (e ∷ []) more ∙ all) accepted.1 (All-tail IsEdit e more fit) holds rise)
+
+-- what is known of a sound transcript's lines
+pub record AreSoundLines (edits : List Edit) (claims : List Claimed) : Type 0 where
+  pub runs : RunsToEnd start_state (transcript_lines edits claims)
+  pub printable : All (All IsPrintable) (transcript_lines edits claims)
+
+-- the lines of a sound transcript are taken from the first to the last, and have no LF
+pub sound_lines : (edits : List Edit) (claims : List Claimed) → All CarriesElement edits → AreAccepted greatest edits → AreInOrder claims → All (IsTrueClaim edits) claims → AreSoundLines edits claims
+sound_lines edits claims carry accepted order holds =
+    let fit = all_fit [] edits within_none accepted carry in
+    let plain = plain_claim edits (λ k. beginnings_within [] edits k within_none accepted carry) in
+    let rise = rise_in_order 0 claims (λ d some. omega arith) order in
+    let after_first : AuditState = record { stage = Edits; journal = []; last = 0 } in
+    let printable_edits = All-map (All IsPrintable) edit_line edits (All-weaker IsEdit (λ e. All IsPrintable (edit_line e)) (λ e fits. (line_of_edit e fits).printable) edits fit) in
+    let printable_claims = All-map (All IsPrintable) claim_line claims (All-weaker (IsTrueClaim edits) (λ c. All IsPrintable (claim_line c)) (λ c true. (plain c true).line.printable) claims holds) in
+    record {
+      runs =
+          first_taken start_state after_first first_line (map edit_line edits ++ map claim_line claims ++ end_line ∷ [])
+          (lit≤ tt, inl record { at = refl; text = refl; next = refl })
+          (edits_taken edits plain [] edits claims refl accepted fit holds rise);
+      printable =
+          All-cons (All IsPrintable) first_line (map edit_line edits ++ map claim_line claims ++ end_line ∷ []) (printable_bytes first_line refl)
+          (All-append (All IsPrintable) (map edit_line edits ++ map claim_line claims) (end_line ∷ [])
+          (All-append (All IsPrintable) (map edit_line edits) (map claim_line claims) printable_edits printable_claims)
+          (All-cons (All IsPrintable) end_line [] (printable_bytes end_line refl) (All-nil (All IsPrintable))));
+    }

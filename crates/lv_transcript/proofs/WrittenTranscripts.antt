@@ -1,0 +1,117 @@
+-- A transcript is written line by line.
+use Rattle.std.proofs.Common.{◌≡◌, ℕ, ◌+◌, ◌<◌, List, [], ◌∷◌, ◌++◌, length, get_or, take, drop, map, Option, Result, Ok, Err, OnOk, IfErr, sym, ap, ◌∙◌, append-nil, take-append-drop}
+use Rattle.std.specs.Io.KnownBytes.{Appends}
+use Rattle.std.specs.List.{flat_map}
+use Rattle.std.proofs.lemmas.Grind.{flat_map-append}
+use Rattle.std.proofs.lemmas.List.{take_more}
+use Rattle.std.proofs.lemmas.List.Folds.{flat_map-map}
+use Rattle.lv_edits.specs.declared.edit.Edit.{Edit}
+use Rattle.lv_lines.specs.declared.fault.Fault.{Fault}
+use Rattle.lv_lines.specs.declared.fault.Fault.TheVariants.{WriteFault}
+use Rattle.lv_lines.specs.Output.{Writes, WritesFront}
+use Rattle.lv_lines.proofs.OutputLemmas.{Writes-put, Writes-sent, Writes-all, Writes-trans, WritesFront-after, WritesFront-longer}
+use Rattle.lv_transcript.specs.declared.transcripts.Claimed.{Claimed}
+use Rattle.lv_transcript.specs.Transcript.{first_line, end_line, edit_line, claim_line, transcript_text, Transcribes}
+
+-- ---- the pieces of a list, one for each element
+
+-- the pieces up to an element, and its own
+flat_map-take_more : {X : Type 0} (f : X → List ℕ) (xs : List X) (i : ℕ) (d : X) → i < length xs → flat_map f (take (i + 1) xs) ≡ flat_map f (take i xs) ++ f (get_or xs i d)
+flat_map-take_more f xs i d within =
+    ap (flat_map f) (take_more xs i d within) ∙ flat_map-append f (take i xs) (get_or xs i d ∷ [])
+    ∙ ap (λ (ys : List ℕ). flat_map f (take i xs) ++ ys) (append-nil (f (get_or xs i d)))
+
+-- the pieces of all elements are those of the first ones and of the others
+flat_map-parts : {X : Type 0} (f : X → List ℕ) (xs : List X) (i : ℕ) → flat_map f xs ≡ flat_map f (take i xs) ++ flat_map f (drop i xs)
+flat_map-parts f xs i = ap (flat_map f) (sym (take-append-drop i xs)) ∙ flat_map-append f (take i xs) (drop i xs)
+
+-- the piece of one more element was written
+pub Writes-piece : {X : Type 0} (f : X → List ℕ) (xs : List X) (i : ℕ) (d : X) {a b c : Option (List ℕ)} {h k l : List ℕ} → i < length xs
+    → Writes a h b k (flat_map f (take i xs)) → Writes b k c l (f (get_or xs i d)) → Writes a h c l (flat_map f (take (i + 1) xs))
+Writes-piece f xs i d within first second = rw (flat_map-take_more f xs i d within) (Writes-trans first second)
+
+-- or no more than a front of what was held after the first pieces
+pub WritesFront-pieces : {X : Type 0} (f : X → List ℕ) (xs : List X) (i : ℕ) {a b c : Option (List ℕ)} {h k : List ℕ}
+    → Writes a h b k (flat_map f (take i xs)) → WritesFront b k c [] → WritesFront a h c (flat_map f xs)
+WritesFront-pieces f xs i first second =
+    rw (flat_map-parts f xs i)
+    (WritesFront-longer (flat_map f (drop i xs)) (rw (append-nil (flat_map f (take i xs))) at (WritesFront-after first second)))
+
+-- ---- a whole transcript
+
+-- the first line, ended
+abbrev pub first_text : List ℕ
+first_text = first_line ++ 10 ∷ []
+
+-- the lines of the edits, ended
+abbrev pub edits_text : List Edit → List ℕ
+edits_text edits = flat_map (λ edit. edit_line edit ++ 10 ∷ []) edits
+
+-- the lines of the claims, ended
+abbrev pub claims_text : List Claimed → List ℕ
+claims_text claims = flat_map (λ claim. claim_line claim ++ 10 ∷ []) claims
+
+-- the last line, ended
+abbrev pub last_text : List ℕ
+last_text = end_line ++ 10 ∷ []
+
+-- a transcript is these four texts
+pub transcript_text-parts : (edits : List Edit) (claims : List Claimed) → transcript_text edits claims ≡ ((first_text ++ edits_text edits) ++ claims_text claims) ++ last_text
+transcript_text-parts edits claims =
+    let f : List ℕ → List ℕ = λ line. line ++ 10 ∷ [] in
+    let middle = map edit_line edits ++ map claim_line claims in
+    let two = flat_map-append f (map edit_line edits) (map claim_line claims) ∙ ap (λ (xs : List ℕ). xs ++ flat_map f (map claim_line claims)) (flat_map-map f edit_line edits)
+    ∙ ap (λ (xs : List ℕ). edits_text edits ++ xs) (flat_map-map f claim_line claims) in
+    let three = flat_map-append f middle (end_line ∷ []) ∙ ap (λ (xs : List ℕ). xs ++ last_text) two in
+    ap (λ (xs : List ℕ). first_text ++ xs) three
+
+-- what was put is sent, or no more than a front of it is
+transcribed : {T : Type 0} (start room contents : Option (List ℕ)) (last left text : List ℕ) (result : Result T Fault) → Writes start [] room last text
+    → OnOk result ((left ≡ []) × Appends room contents last)
+    → IfErr result (λ fault. (fault ≡ WriteFault) × WritesFront room last contents [])
+    → Transcribes start contents text result
+transcribed start room contents last left text (Ok x) put sent unsent =
+    Writes-all start contents text
+    (rw (append-nil text) at (Writes-trans put (rw sent.0 at (Writes-sent room contents last left sent))))
+transcribed start room contents last left text (Err fault) put sent unsent =
+    rw unsent.0 (rw (append-nil text) at (WritesFront-after put unsent.1))
+
+module _ (edits : List Edit) (claims : List Claimed) {start : Option (List ℕ)} where
+  -- a failed write ends it
+  pub Transcribes-fault : (T : Type 0) (contents : Option (List ℕ)) (fault : Fault) → fault ≡ WriteFault → WritesFront start [] contents (transcript_text edits claims)
+      → Transcribes {T = T} start contents (transcript_text edits claims) (Err fault)
+  Transcribes-fault T contents fault failed front = rw failed front
+
+  -- no more than a front of the first line and the edits was written
+  pub WritesFront-edits : {contents : Option (List ℕ)} {held : List ℕ} → held ≡ first_text → WritesFront start held contents (edits_text edits)
+      → WritesFront start [] contents (transcript_text edits claims)
+  WritesFront-edits {contents} {held} put front =
+      rw (transcript_text-parts edits claims)
+      (WritesFront-longer last_text (WritesFront-longer (claims_text claims) (WritesFront-after (Writes-put start [] held first_text put) front)))
+
+  -- the first line and the edits were written
+  pub Writes-edits : {contents : Option (List ℕ)} {first held : List ℕ} → first ≡ first_text → Writes start first contents held (edits_text edits)
+      → Writes start [] contents held (first_text ++ edits_text edits)
+  Writes-edits {contents} {first} {held} put all = Writes-trans (Writes-put start [] first first_text put) all
+
+  -- and no more than a front of the claims
+  pub WritesFront-claims : {mid contents : Option (List ℕ)} {held : List ℕ} → Writes start [] mid held (first_text ++ edits_text edits) → WritesFront mid held contents (claims_text claims)
+      → WritesFront start [] contents (transcript_text edits claims)
+  WritesFront-claims all front = rw (transcript_text-parts edits claims) (WritesFront-longer last_text (WritesFront-after all front))
+
+  -- or all the claims, and no more of the last line than nothing
+  pub WritesFront-last : {mid contents : Option (List ℕ)} {held : List ℕ} → Writes start [] mid held ((first_text ++ edits_text edits) ++ claims_text claims) → WritesFront mid held contents []
+      → WritesFront start [] contents (transcript_text edits claims)
+  WritesFront-last all front =
+      rw (transcript_text-parts edits claims) (WritesFront-longer last_text (rw (append-nil ((first_text ++ edits_text edits) ++ claims_text claims)) at (WritesFront-after all front)))
+
+  -- all of it was put, and was sent or not
+  pub Transcribes-sent : {T : Type 0} (room contents : Option (List ℕ)) (held last left : List ℕ) (result : Result T Fault)
+      → Writes start [] room held ((first_text ++ edits_text edits) ++ claims_text claims) → last ≡ held ++ last_text
+      → OnOk result ((left ≡ []) × Appends room contents last)
+      → IfErr result (λ fault. (fault ≡ WriteFault) × WritesFront room last contents [])
+      → Transcribes start contents (transcript_text edits claims) result
+  Transcribes-sent room contents held last left result all put sent unsent =
+      let text : Writes start [] room last (transcript_text edits claims) =
+      rw (transcript_text-parts edits claims) (Writes-trans all (Writes-put room held last last_text put)) in
+      transcribed start room contents last left (transcript_text edits claims) result text sent unsent

@@ -1,0 +1,12 @@
+use Rattle.std.proofs.Common.{[], refl}
+use Rattle.lv_lines.proofs.OutputLemmas.{Writes-nil}
+use Rattle.lv_transcript.specs.Auditing.{AuditStep}
+use Rattle.lv_transcript.proofs.auditor.AuditorResponder.respond.Goals as goal
+
+pub returns-clause-ok : goal.returns-clause-ok
+unfolding AuditStep
+returns-clause-ok g c = record {
+  reply = [];
+  answered = (refl, c.take_line.ensures);
+  written = Writes-nil _ _;
+}

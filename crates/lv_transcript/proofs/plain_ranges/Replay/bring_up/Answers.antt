@@ -1,0 +1,20 @@
+use Rattle.std.proofs.Common.{pos, refl, sym, ap, arith, slice_index_or, ◌∙◌}
+use Rattle.std.proofs.lemmas.Option.{same_Some}
+use Rattle.lv_edits.specs.declared.edit.Edit.TheVariants.{Push}
+use Rattle.lv_edits.specs.History.{applied}
+use Rattle.lv_transcript.proofs.ReplayLemmas.{next_list}
+use Rattle.lv_transcript.proofs.plain_ranges.Replay.bring_up.Goals as goal
+
+pub make-requires : goal.make-requires
+make-requires c =
+    let next = next_list c.args.journal.now c.loop-i.i (Push (pos 0)) (omega (arith, c.requires.within)) c.requires.legal in
+    record { possible = rw (c.loop-i.invariant.list, next) refl }
+
+pub loop-i-preserved : goal.loop-i-preserved
+loop-i-preserved c =
+    let next = next_list c.args.journal.now c.loop-i.i (Push (pos 0)) (omega (arith, c.requires.within)) c.requires.legal in
+    let edit = slice_index_or c.args.journal.now c.loop-i.i (Push (pos 0)) in
+    record {
+      reached = refl;
+      list = same_Some _ _ (sym c.in_ok-make.ensures.ok ∙ ap (λ xs. applied xs edit) c.loop-i.invariant.list ∙ next);
+    }

@@ -1,0 +1,197 @@
+-- How a transcript is audited: what a line is read as, and how far the lines so far lead.
+use Rattle.std.specs.Prelude.{◌≡◌, ◌⊎◌, ℕ, ◌^◌, ◌<◌, ◌≤◌, Bool, true, false, List, [], ◌∷◌, ◌++◌, length, take, slice_range, ℤ, Option, Some, None}
+use Rattle.lv_bodies.specs.declared.kinds.Kind.{Kind}
+use Rattle.lv_bodies.specs.Plain.{plain_value}
+use Rattle.lv_edits.specs.declared.edit.Edit.{Edit}
+use Rattle.lv_edits.specs.History.{History, list_of}
+use Rattle.lv_edits.specs.Verdict.{verdict_of}
+use Rattle.lv_lines.specs.Grammar.{kind_in, ◌>>=◌}
+use Rattle.lv_lines.specs.Numbers.{number_in}
+use Rattle.lv_lines.specs.Texts.{shown_text}
+use Rattle.lv_transcript.specs.declared.auditor.Stage.{Stage}
+use Rattle.lv_transcript.specs.declared.auditor.Stage.TheVariants as stages
+use Rattle.lv_transcript.specs.declared.transcript_lines.Question.{Question}
+use Rattle.lv_transcript.specs.declared.transcripts.Claimed.{Claimed}
+use Rattle.lv_transcript.specs.declared.auditor.Verdict.{Verdict}
+use Rattle.lv_transcript.specs.declared.auditor.Verdict.TheVariants as verdicts
+use Rattle.lv_transcript.specs.Transcript.{claim_line, edit_line, first_line, greatest, end_line, question_text, HasForm, IsEdit, IsTrueClaim}
+
+-- ---- a question: what a claim asks
+
+-- its text
+abbrev pub text_of : Question → List ℕ
+text_of question = question_text question.edit question.kind question.lo question.hi
+
+-- its numbers have 32 bits
+pub record IsQuestion (question : Question) : Type 0 where
+  pub edit : question.edit < 2 ^ 32
+  pub lo : question.lo < 2 ^ 32
+  pub hi : question.hi < 2 ^ 32
+
+-- the number that the first of some words is
+abbrev pub first_number : List (List ℕ) → Option ℕ
+first_number [] = None
+first_number (word ∷ words) = number_in word
+
+-- the bounds that some words begin with
+unfoldable pub bounds_before : List (List ℕ) → Option (ℕ × ℕ)
+bounds_before [] = None
+bounds_before (word ∷ words) = do
+  lo ← number_in word
+  hi ← first_number words
+  Some (lo, hi)
+
+-- the kind and the bounds that some words begin with
+unfoldable pub range_before : List (List ℕ) → Option (Kind × ℕ × ℕ)
+range_before [] = None
+range_before (word ∷ words) = do
+  kind ← kind_in word
+  bounds ← bounds_before words
+  Some (kind, bounds.0, bounds.1)
+
+-- the question that some words begin with
+unfoldable pub question_before : List (List ℕ) → Option Question
+question_before [] = None
+question_before (word ∷ words) = do
+  edit ← number_in word
+  range ← range_before words
+  Some record { edit = edit; kind = range.0; lo = range.1; hi = range.2 }
+
+-- the question that the words of a line have, behind the first
+abbrev pub question_in : List (List ℕ) → Option Question
+question_in [] = None
+question_in (word ∷ words) = question_before words
+
+-- what a claim asks
+abbrev pub question_of : Claimed → Question
+question_of claim = record { edit = claim.edit; kind = claim.kind; lo = claim.lo; hi = claim.hi }
+
+-- bytes are the right answer to a question, on the list after its edit
+pub record IsAnswer (xs : List ℤ) (question : Question) (value : List ℕ) : Type 0 where
+  pub range : question.lo ≤ question.hi
+  pub end : question.hi ≤ length xs
+  pub right : value ≡ shown_text (plain_value question.kind (slice_range xs question.lo question.hi))
+
+-- a question that comes in order, of an edit that there is, with the right answer
+pub record IsAnswered (journal : List Edit) (last : ℕ) (question : Question) (value : List ℕ) : Type 0 where
+  pub order : last ≤ question.edit
+  pub edit : question.edit ≤ length journal
+  pub answer : IsAnswer (list_of (take question.edit journal)) question value
+
+-- ---- how far an audit has come
+
+-- what comes next or was found, the edits so far, and the edit of the last claim
+pub record AuditState : Type 0 where
+  pub stage : Stage
+  pub journal : List Edit
+  pub last : ℕ
+
+-- the state of an audit that is at a stage, has replayed all edits so far, and has come to the edit of the last claim
+abbrev pub state_of : Stage → History → ℕ → AuditState
+state_of stage edits last = record { stage = stage; journal = edits.journal; last = last }
+
+-- an audit before its first line
+abbrev pub start_state : AuditState
+start_state = record { stage = stages.Start; journal = []; last = 0 }
+
+-- a line is false, or not of the form that may stand there
+abbrev pub is_fault : Stage → Bool
+is_fault (stages.No n) = true
+is_fault (stages.Bad n) = true
+is_fault _ = false
+
+-- no further line is looked at
+abbrev pub is_stopped : Stage → Bool
+is_stopped stages.NoMemory = true
+is_stopped stage = is_fault stage
+
+-- edits may be followed by edits, claims and the last line, and claims by claims and the last line
+abbrev pub MayEnd : Stage → Type 0
+MayEnd stage = (stage ≡ stages.Edits) ⊎ (stage ≡ stages.Claims)
+
+-- the first line is taken
+pub record TakesFirst (old : AuditState) (line : List ℕ) (new : AuditState) : Type 0 where
+  pub at : old.stage ≡ stages.Start
+  pub text : line ≡ first_line
+  pub next : new ≡ record old { stage = stages.Edits }
+
+-- the line of an edit is taken, which is accepted after those before it
+pub record TakesEdit (old : AuditState) (line : List ℕ) (new : AuditState) : Type 0 where
+  pub edit : Edit
+  pub at : old.stage ≡ stages.Edits
+  pub fits : IsEdit edit
+  pub text : line ≡ edit_line edit
+  pub verdict : verdict_of greatest old.journal edit ≡ None
+  pub next : new ≡ record old { journal = old.journal ++ edit ∷ [] }
+
+-- the line of a claim is taken, which comes in order and is true
+pub record TakesClaim (old : AuditState) (line : List ℕ) (new : AuditState) : Type 0 where
+  pub claim : Claimed
+  pub at : MayEnd old.stage
+  pub fits : IsQuestion (question_of claim)
+  pub text : line ≡ claim_line claim
+  pub order : old.last ≤ claim.edit
+  pub holds : IsTrueClaim old.journal claim
+  pub next : new ≡ record old { stage = stages.Claims; last = claim.edit }
+
+-- the last line is taken
+pub record TakesLast (old : AuditState) (line : List ℕ) (new : AuditState) : Type 0 where
+  pub at : MayEnd old.stage
+  pub text : line ≡ end_line
+  pub next : new ≡ record old { stage = stages.End }
+
+-- a line that comes after the edits is taken
+abbrev pub TakesLater : AuditState → List ℕ → AuditState → Type 0
+TakesLater old line new = TakesClaim old line new ⊎ TakesLast old line new
+
+-- a line of at most 120 bytes is taken where it may stand
+abbrev pub Takes : AuditState → List ℕ → AuditState → Type 0
+Takes old line new = (length line ≤ 120) × (TakesFirst old line new ⊎ TakesEdit old line new ⊎ TakesLater old line new)
+
+-- a fault names the line of this number; where that is false it has the right form
+abbrev pub IsFaultOf : ℕ → List ℕ → Stage → Type 0
+IsFaultOf number line (stages.No n) = (n ≡ number) × HasForm line
+IsFaultOf number line (stages.Bad n) = n ≡ number
+IsFaultOf number line _ = ⊥
+
+-- line n was taken; or it cannot be, and that is found; or there was no memory
+abbrev pub Becomes : ℕ → List ℕ → (AuditState → Type 0) → AuditState → Type 0
+Becomes n line Next new = Next new ⊎ (IsFaultOf n line new.stage × ((next : AuditState) → Next next → ⊥)) ⊎ (new.stage ≡ stages.NoMemory)
+
+-- line n of an audit: nothing changes once it has stopped
+abbrev pub Audits : AuditState → ℕ → List ℕ → AuditState → Type 0
+Audits old n line new =
+    ((is_stopped old.stage ≡ true) × (new ≡ old)) ⊎ ((is_stopped old.stage ≡ false) × Becomes n line (Takes old line) new)
+
+-- what became of line n, which should be the first
+abbrev pub FirstBecomes : ℕ → List ℕ → Stage → Type 0
+FirstBecomes number line stages.Edits = line ≡ first_line
+FirstBecomes number line (stages.Bad n) = (n ≡ number) × (line ≡ first_line → ⊥)
+FirstBecomes number line _ = ⊥
+
+-- what became of the edit of line n after those before it: it was made, or cannot be, or there was no memory
+abbrev pub EditBecomes : ℕ → List Edit → Edit → Stage → List Edit → Type 0
+EditBecomes number old edit stages.Edits new = (verdict_of greatest old edit ≡ None) × (new ≡ old ++ edit ∷ [])
+EditBecomes number old edit (stages.No n) new = (n ≡ number) × (verdict_of greatest old edit ≡ None → ⊥)
+EditBecomes number old edit stages.NoMemory new = Unit {0}
+EditBecomes number old edit _ new = ⊥
+
+-- what became of the claim of line n: it is true, or isn't, or comes out of order, or there was no memory
+abbrev pub ClaimBecomes : ℕ → List Edit → ℕ → Question → List ℕ → Stage → ℕ → Type 0
+ClaimBecomes number journal last question value stages.Claims reached = IsAnswered journal last question value × (reached ≡ question.edit)
+ClaimBecomes number journal last question value (stages.No n) reached = (n ≡ number) × (last ≤ question.edit) × (IsAnswered journal last question value → ⊥)
+ClaimBecomes number journal last question value (stages.Bad n) reached = (n ≡ number) × (question.edit < last)
+ClaimBecomes number journal last question value stages.NoMemory reached = Unit {0}
+ClaimBecomes number journal last question value _ reached = ⊥
+
+-- the verdict of an audit that has come to this stage: of one that hasn't come to the end it is bad
+abbrev pub IsVerdictAt : Stage → Verdict → Type 0
+IsVerdictAt stages.End verdict = verdict ≡ verdicts.Yes
+IsVerdictAt (stages.No n) verdict = verdict ≡ verdicts.No n
+IsVerdictAt (stages.Bad n) verdict = verdict ≡ verdicts.Bad n
+IsVerdictAt stages.NoMemory verdict = ⊥
+IsVerdictAt _ verdict = (n : ℕ) × (verdict ≡ verdicts.Bad n)
+
+-- an audit answers its lines by nothing
+unfoldable pub AuditStep : AuditState → ℕ → List ℕ → List ℕ → AuditState → Type 0
+AuditStep old n line text new = (text ≡ []) × Audits old n line new

@@ -1,0 +1,167 @@
+-- Transcripts: a journal of edits, and reductions that were answered, as text; and when such a text is sound.
+use Rattle.std.specs.Prelude.{◌≡◌, ◌⊎◌, ◌↔◌, ℕ, ◌+◌, ◌^◌, ◌≤◌, None, List, [], ◌∷◌, ◌++◌, length, take, map, All, slice_range, codes, decimal, Option, Result, Ok, Err}
+use Rattle.std.specs.List.{flat_map}
+use Rattle.std.specs.List.Sorted.{IsNonDecreasingBy}
+use Rattle.std.specs.Io.KnownBytes.{Appends, Consumes, IsAtEnd}
+use Rattle.lv_geometry.specs.Bounds.{Bounds}
+use Rattle.lv_bodies.specs.declared.kinds.Kind.{Kind}
+use Rattle.lv_bodies.specs.Plain.{plain_value}
+use Rattle.lv_edits.specs.declared.edit.Edit.{Edit}
+use Rattle.lv_edits.specs.History.{list_of}
+use Rattle.lv_edits.specs.Kept.{CarriesElement}
+use Rattle.lv_edits.specs.Verdict.{verdict_of}
+use Rattle.lv_lines.specs.declared.fault.Fault.{Fault}
+use Rattle.lv_lines.specs.declared.fault.Fault.TheVariants.{NoMemory, ReadFault, TooLong, WriteFault}
+use Rattle.lv_lines.specs.declared.command.Command.TheVariants as command
+use Rattle.lv_lines.specs.Grammar.{kind_name}
+use Rattle.lv_lines.specs.Input.{lines_of}
+use Rattle.lv_lines.specs.Printed.{printed, IsCommand}
+use Rattle.lv_lines.specs.Texts.{bad_text, reply_line, shown_text}
+use Rattle.lv_lines.specs.Output.{WritesFront}
+use Rattle.lv_lines.specs.Replies.{IsNotTooLong, IsTooLong}
+use Rattle.lv_transcript.specs.declared.auditor.Verdict.{Verdict}
+use Rattle.lv_transcript.specs.declared.auditor.Verdict.TheVariants.{Yes, No, Bad}
+use Rattle.lv_transcript.specs.declared.transcripts.Claimed.{Claimed}
+
+-- ---- the text
+
+-- the line that a transcript begins with, which names its format
+abbrev pub first_line : List ℕ
+first_line = codes "livevec 1"
+
+-- the line that it ends with
+abbrev pub end_line : List ℕ
+end_line = codes "end"
+
+-- the line of an edit: `j`, and the edit as a command
+abbrev pub edit_line : Edit → List ℕ
+edit_line e = codes "j " ++ printed (command.Edit e)
+
+-- what the line of a claim begins with: all but its value
+abbrev pub question_text : ℕ → Kind → ℕ → ℕ → List ℕ
+question_text edit kind lo hi =
+    codes "a " ++ decimal edit ++ codes " " ++ kind_name kind ++ codes " " ++ decimal lo ++ codes " " ++ decimal hi ++ codes " "
+
+-- the line of a claim
+abbrev pub claim_line : Claimed → List ℕ
+claim_line claim = question_text claim.edit claim.kind claim.lo claim.hi ++ shown_text claim.value
+
+-- the lines of a transcript: its first line, one for each edit, one for each claim, and its last line
+abbrev pub transcript_lines : List Edit → List Claimed → List (List ℕ)
+transcript_lines edits claims = first_line ∷ [] ++ map edit_line edits ++ map claim_line claims ++ end_line ∷ []
+
+-- lines as a text: each is ended by LF
+abbrev pub ended : List (List ℕ) → List ℕ
+ended lines = flat_map (λ line. line ++ 10 ∷ []) lines
+
+-- the text of a transcript
+abbrev pub transcript_text : List Edit → List Claimed → List ℕ
+transcript_text edits claims = ended (transcript_lines edits claims)
+
+-- ---- when it is sound
+
+-- the greatest limits that a vector can have
+abbrev pub greatest : Bounds
+greatest = record { buckets = 17; edits = 16777215 }
+
+-- after the edits before them, these are accepted one after the other
+abbrev pub AreAcceptedAfter : Bounds → List Edit → List Edit → Type 0
+AreAcceptedAfter limits before [] = Unit {0}
+AreAcceptedAfter limits before (edit ∷ edits) = (verdict_of limits before edit ≡ None) × AreAcceptedAfter limits (before ++ edit ∷ []) edits
+
+-- each edit is accepted where it comes
+abbrev pub AreAccepted : Bounds → List Edit → Type 0
+AreAccepted limits edits = AreAcceptedAfter limits [] edits
+
+-- claims in rising order of their edits, equal ones allowed
+abbrev pub AreInOrder : List Claimed → Type 0
+AreInOrder claims = IsNonDecreasingBy (λ claim. claim.edit) claims
+
+-- a claim is true of a journal: its edit is at most the number of edits (0 stands for before the first), its range lies in the list
+-- after that edit, and its value is the plain one there
+pub record IsTrueClaim (edits : List Edit) (claim : Claimed) : Type 0 where
+  pub edit : claim.edit ≤ length edits
+  pub range : claim.lo ≤ claim.hi
+  pub end : claim.hi ≤ length (list_of (take claim.edit edits))
+  pub value : claim.value ≡ plain_value claim.kind (slice_range (list_of (take claim.edit edits)) claim.lo claim.hi)
+
+-- bytes are a sound transcript: the text of edits that a vector of the greatest limits accepts, and of true claims in
+-- order; the last LF may be missing
+pub record IsSoundTranscript (bytes : List ℕ) : Type 0 where
+  pub edits : List Edit
+  pub claims : List Claimed
+  pub text : (bytes ≡ transcript_text edits claims) ⊎ (bytes ++ 10 ∷ [] ≡ transcript_text edits claims)
+  pub elements : All CarriesElement edits
+  pub accepted : AreAccepted greatest edits
+  pub order : AreInOrder claims
+  pub all_true : All (IsTrueClaim edits) claims
+
+-- ---- its audit
+
+-- an edit whose numbers fit their types
+abbrev pub IsEdit : Edit → Type 0
+IsEdit e = IsCommand (command.Edit e)
+
+-- the line that tells a verdict
+abbrev pub verdict_text : Verdict → List ℕ
+verdict_text Yes = reply_line (codes "yes")
+verdict_text (No n) = reply_line (codes "no " ++ decimal n)
+verdict_text (Bad n) = bad_text n
+
+-- a line has the form of an edit, or begins as a claim does, with any value behind that
+abbrev pub HasForm : List ℕ → Type 0
+HasForm line =
+    ((edit : Edit) × IsEdit edit × (line ≡ edit_line edit))
+    ⊎ ((edit : ℕ) × (kind : Kind) × (lo : ℕ) × (hi : ℕ) × (value : List ℕ) × (line ≡ question_text edit kind lo hi ++ value))
+
+-- the line of this number among some lines has the form of an edit or of a claim
+pub record HasFormAt (lines : List (List ℕ)) (number : ℕ) : Type 0 where
+  pub front : List (List ℕ)
+  pub line : List ℕ
+  pub rest : List (List ℕ)
+  pub all : lines ≡ front ++ line ∷ rest
+  pub number_is : number ≡ 1 + length front
+  pub form : HasForm line
+
+-- what a verdict tells of the line that it names: `no` names one of the right form, of which the first 121 bytes are looked at
+abbrev pub NamesRight : List ℕ → Verdict → Type 0
+NamesRight bytes (No n) = HasFormAt (map (take 121) (lines_of bytes)) n
+NamesRight bytes _ = Unit {0}
+
+-- a verdict on bytes is right: it is yes exactly where they are a sound transcript, and `no` names a line of the right form (that the
+-- line of `bad` is the first that isn't is not said here)
+abbrev pub IsRight : List ℕ → Verdict → Type 0
+IsRight bytes verdict = ((verdict ≡ Yes) ↔ IsSoundTranscript bytes) × NamesRight bytes verdict
+
+-- all bytes of an input that is not too long were seen
+abbrev pub IsWhole : List ℕ → Option (List ℕ) → Type 0
+IsWhole seen remaining = IsAtEnd remaining × IsNotTooLong seen
+
+-- how an audit ended, by the bytes that were seen: the right verdict was written on the whole input; or a write failed,
+-- after no more than a front of it; or a read failed, the input is too long, or there was no memory, and nothing was written
+abbrev pub AuditEnds : Option (List ℕ) → Option (List ℕ) → Option (List ℕ) → List ℕ → Result Verdict Fault → Type 0
+AuditEnds remaining contents_old contents_new seen (Ok verdict) =
+    IsWhole seen remaining × IsRight seen verdict × Appends contents_old contents_new (verdict_text verdict)
+AuditEnds remaining contents_old contents_new seen (Err WriteFault) =
+    Appends contents_old contents_new []
+    ⊎ ((verdict : Verdict) × IsWhole seen remaining × IsRight seen verdict × WritesFront contents_old [] contents_new (verdict_text verdict))
+AuditEnds remaining contents_old contents_new seen (Err ReadFault) = IsNotTooLong seen × Appends contents_old contents_new []
+AuditEnds remaining contents_old contents_new seen (Err TooLong) = IsTooLong seen × Appends contents_old contents_new []
+AuditEnds remaining contents_old contents_new seen (Err NoMemory) = Appends contents_old contents_new []
+
+-- an input was audited, of which at most 2 ^ 30 + 1 bytes were read
+pub record Audited (remaining_old remaining_new contents_old contents_new : Option (List ℕ)) (result : Result Verdict Fault) : Type 0 where
+  pub seen : List ℕ
+  pub read : Consumes remaining_old remaining_new seen
+  pub few : length seen ≤ 2 ^ 30 + 1
+  pub ends : AuditEnds remaining_new contents_old contents_new seen result
+
+-- ---- how it is written
+
+-- how the writing of a text ended: all of it was written, no more than a front, or nothing
+abbrev pub Transcribes : {T : Type 0} → Option (List ℕ) → Option (List ℕ) → List ℕ → Result T Fault → Type 0
+Transcribes contents_old contents_new text (Ok _) = Appends contents_old contents_new text
+Transcribes contents_old contents_new text (Err WriteFault) = WritesFront contents_old [] contents_new text
+Transcribes contents_old contents_new text (Err NoMemory) = contents_new ≡ contents_old
+Transcribes contents_old contents_new text (Err ReadFault) = ⊥
+Transcribes contents_old contents_new text (Err TooLong) = ⊥

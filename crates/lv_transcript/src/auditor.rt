@@ -1,0 +1,272 @@
+ghost use Rattle.std.specs.Prelude.{◌≡◌, ◌↔◌, ℕ, ◌^◌, ◌≤◌, ◌++◌, ◌⊎◌, [], IfOk, MatchResult, IsTrue, length, take, vec_capacity};
+ghost use Rattle.lv_lines.specs.Output.{HasRoom};
+ghost use Rattle.lv_edits.specs.History.{list_of};
+ghost use Rattle.lv_lines.specs.declared.replies.TheConstants.{LINE};
+ghost use Rattle.lv_transcript.specs.Auditing.{AuditState, start_state, state_of, Audits, AuditStep, ClaimBecomes, EditBecomes, Becomes, FirstBecomes, IsAnswer, IsVerdictAt, MayEnd, Takes, TakesEdit, TakesLater};
+ghost use Rattle.lv_transcript.specs.Transcript.{greatest, verdict_text, Audited};
+
+use crate::plain_ranges::{Replay, plain_value_of};
+use crate::transcript_lines::{Question, read_claim, read_edit};
+use lv_edits::{Edit, Edits};
+use lv_geometry::Limits;
+use lv_lines::{
+    Fault, LINE, Outbox, Responder, converse, put, put_bad, put_number, put_shown, write_whole,
+};
+use std::alloc::{AllocError, Global};
+use std::io::{Read, Write};
+
+/// What an audit says of a transcript.
+#[derive(Clone, Copy, Debug, PartialEq, Eq)]
+pub enum Verdict {
+    /// It is sound.
+    Yes,
+    /// The line of this number is the first fault: it has the right form, and is false.
+    No(u32),
+    /// The line of this number is the first fault: it is not of the form that may stand there, or is missing.
+    Bad(u32),
+}
+
+/// Audits a transcript: reads it to its end, and writes the verdict as a line.
+///
+/// Each edit is made anew, and each claim's value is the left fold of the elements of its range, one by one. Memory
+/// grows with the journal, and not with the text. Nothing is written where a read fails, which is `ReadFault`, where the
+/// input has more than 2^30 bytes, which is `TooLong`, and where there is no memory, which is `NoMemory`. A failed
+/// write, and one that takes no byte, is `WriteFault`.
+pub fn audit<R: Read, W: Write>(
+    alloc: Global,
+    reader: &mut R,
+    writer: &mut W,
+) -> Result<Verdict, Fault>
+    ensures { Audited (R.remaining reader.old) (R.remaining reader.new) (W.contents writer.old) (W.contents writer.new) result }
+{
+    let Ok(mut auditor) = Auditor::new(alloc) else {
+        return Err(Fault::NoMemory);
+    };
+    let Ok(mut held) = Vec::with_capacity(alloc, LINE) else {
+        return Err(Fault::NoMemory);
+    };
+    converse(alloc, &mut auditor, reader, writer)?;
+    let verdict = auditor.verdict()?;
+    put_verdict(&mut held, verdict);
+    write_whole(writer, held.as_slice())?;
+    Ok(verdict)
+}
+
+// Puts the line of a verdict behind what is held.
+fn put_verdict(held: &mut Vec<u8>, verdict: Verdict)
+    requires { HasRoom held.old LINE }
+    ensures { held.new.items ≡ held.old.items ++ verdict_text verdict }
+{
+    match verdict {
+        Verdict::Yes => put(held, b"yes\n"),
+        Verdict::No(line) => {
+            put(held, b"no ");
+            put_number(held, line.into());
+            put(held, b"\n");
+        }
+        Verdict::Bad(line) => put_bad(held, line),
+    }
+}
+
+/// What comes next in an audit, or what it found.
+#[derive(Clone, Copy)]
+enum Stage {
+    /// The first line.
+    Start,
+    /// Edits, claims, or the last line.
+    Edits,
+    /// Claims, or the last line.
+    Claims,
+    /// Nothing: the last line was read.
+    End,
+    /// The line of this number is false.
+    No(u32),
+    /// The line of this number is not of the form that may stand there.
+    Bad(u32),
+    /// There was no memory for the edits.
+    NoMemory,
+}
+
+/// Reads the lines of a transcript, and keeps the first fault that it finds.
+#[derive(Drop)]
+struct Auditor {
+    stage: Stage,
+    lines: u32,
+    // All edits so far, and the list after those up to the last claim.
+    edits: Edits,
+    replay: Replay,
+    // The text of the line that is read, or of its value.
+    text: Vec<u8>,
+    ghost limits: { edits.limits ≡ greatest },
+    ghost replayed: { replay.list.items ≡ list_of (take replay.edit edits.journal) },
+    ghost within: { replay.edit ≤ length edits.journal },
+    // No list on the way was longer than a fold may be.
+    ghost few: { (n : ℕ) → length (list_of (take n edits.journal)) ≤ 2 ^ 20 },
+    ghost room: { LINE ≤ vec_capacity text },
+}
+
+impl Responder for Auditor {
+    ghost State = { AuditState };
+
+    ghost state = { λ a. state_of a.stage a.edits a.replay.edit };
+
+    ghost step = { AuditStep };
+
+    fn respond<W: Write>(
+        &mut self,
+        number: u32,
+        line: &[u8],
+        _outbox: &mut Outbox<'_, W>,
+    ) -> Result<(), Fault> {
+        self.take_line(number, line);
+        Ok(())
+    }
+}
+
+impl Auditor {
+    // Before the first line.
+    fn new(alloc: Global) -> Result<Auditor, AllocError>
+        ensures { IfOk result (λ a. state_of a.stage a.edits a.replay.edit ≡ start_state) }
+    {
+        Ok(Auditor {
+            stage: Stage::Start,
+            lines: 0,
+            edits: Edits::new(alloc, Limits::greatest()),
+            replay: Replay::new(alloc),
+            text: Vec::with_capacity(alloc, LINE)?,
+        })
+    }
+
+    // What was found, once all lines were read.
+    fn verdict(&self) -> Result<Verdict, Fault>
+        ensures { MatchResult result (IsVerdictAt self.now.stage) (λ fault. fault ≡ Fault.NoMemory) }
+    {
+        match self.stage {
+            Stage::Start | Stage::Edits | Stage::Claims => {
+                Ok(Verdict::Bad(self.lines.saturating_add(1)))
+            }
+            Stage::End => Ok(Verdict::Yes),
+            Stage::No(line) => Ok(Verdict::No(line)),
+            Stage::Bad(line) => Ok(Verdict::Bad(line)),
+            Stage::NoMemory => Err(Fault::NoMemory),
+        }
+    }
+
+    // Takes a line, or finds the first fault.
+    fn take_line(&mut self, number: u32, line: &[u8])
+        ensures { Audits (state_of self.old.stage self.old.edits self.old.replay.edit) number line.now (state_of self.new.stage self.new.edits self.new.replay.edit) }
+    {
+        self.lines = number;
+        match self.stage {
+            Stage::No(_) | Stage::Bad(_) | Stage::NoMemory => {}
+            Stage::Start | Stage::Edits | Stage::Claims | Stage::End => {
+                self.stage = self.next_stage(number, line);
+            }
+        }
+    }
+
+    // The stage behind a line.
+    fn next_stage(&mut self, number: u32, line: &[u8]) -> Stage
+        ensures { Becomes number line.now (Takes (state_of self.old.stage self.old.edits self.old.replay.edit) line.now) (state_of result self.new.edits self.new.replay.edit) }
+    {
+        if line.len() > 120 {
+            return Stage::Bad(number);
+        }
+        match self.stage {
+            Stage::Start => first_stage(number, line),
+            Stage::Edits => self.edit_or_later(number, line),
+            Stage::Claims => self.claim_or_last(number, line),
+            Stage::End | Stage::No(_) | Stage::Bad(_) | Stage::NoMemory => Stage::Bad(number),
+        }
+    }
+
+    // The stage behind a line that may be that of an edit.
+    fn edit_or_later(&mut self, number: u32, line: &[u8]) -> Stage
+        requires { self.old.stage ≡ Stage.Edits }
+        ensures { Becomes number line.now (λ new. TakesEdit (state_of self.old.stage self.old.edits self.old.replay.edit) line.now new
+            ⊎ TakesLater (state_of self.old.stage self.old.edits self.old.replay.edit) line.now new) (state_of result self.new.edits self.new.replay.edit) }
+    {
+        match read_edit(line, &mut self.text) {
+            Some(edit) => self.take_edit(number, edit),
+            None => self.claim_or_last(number, line),
+        }
+    }
+
+    // Makes an edit, where that is possible.
+    fn take_edit(&mut self, number: u32, edit: Edit) -> Stage
+        ensures edit { EditBecomes number self.old.edits.journal edit result self.new.edits.journal }
+        ensures replay { self.new.replay ≡ self.old.replay }
+    {
+        if self.edits.verdict(&edit).is_some() {
+            return Stage::No(number);
+        }
+        match self.edits.apply(edit) {
+            Ok(_) => Stage::Edits,
+            Err(_) => Stage::NoMemory,
+        }
+    }
+
+    // The stage behind a line that is not that of an edit.
+    fn claim_or_last(&mut self, number: u32, line: &[u8]) -> Stage
+        requires { MayEnd self.old.stage }
+        ensures { Becomes number line.now (TakesLater (state_of self.old.stage self.old.edits self.old.replay.edit) line.now) (state_of result self.new.edits self.new.replay.edit) }
+    {
+        if line == b"end".as_slice() {
+            return Stage::End;
+        }
+        match read_claim(line, &mut self.text) {
+            Some((question, value)) => self.take_claim(number, question, value),
+            None => Stage::Bad(number),
+        }
+    }
+
+    // Answers a claim's question anew, and compares.
+    fn take_claim(&mut self, number: u32, question: Question, value: &[u8]) -> Stage
+        ensures claim { ClaimBecomes number self.old.edits.journal self.old.replay.edit question value.now result self.new.replay.edit }
+        ensures edits { self.new.edits ≡ self.old.edits }
+    {
+        if question.edit < self.replay.edit {
+            return Stage::Bad(number);
+        }
+        if question.edit > self.edits.edit() {
+            return Stage::No(number);
+        }
+        if self
+            .replay
+            .bring_up(self.edits.journal(), question.edit)
+            .is_err()
+        {
+            return Stage::NoMemory;
+        }
+        if is_answer(self.replay.list.as_slice(), question, value, &mut self.text) {
+            return Stage::Claims;
+        }
+        Stage::No(number)
+    }
+}
+
+// The stage behind a line that should be the first.
+fn first_stage(number: u32, line: &[u8]) -> Stage
+    ensures { FirstBecomes number line.now result }
+{
+    if line == b"livevec 1".as_slice() {
+        return Stage::Edits;
+    }
+    Stage::Bad(number)
+}
+
+// Whether a range lies in the list, and its value is this text.
+fn is_answer(list: &[i64], question: Question, value: &[u8], text: &mut Vec<u8>) -> bool
+    requires few { length list.now ≤ 2 ^ 20 }
+    requires room { LINE ≤ vec_capacity text.old }
+    ensures answer { IsTrue result ↔ IsAnswer list.now question value.now }
+    ensures room { LINE ≤ vec_capacity text.new }
+{
+    let (lo, hi) = (question.lo as usize, question.hi as usize);
+    if lo > hi || hi > list.len() {
+        return false;
+    }
+    text.clear();
+    put_shown(text, plain_value_of(question.kind, &list[lo..hi]));
+    text.as_slice() == value
+}

@@ -1,0 +1,139 @@
+ghost use Rattle.std.specs.Prelude.{◌≡◌, ◌≤◌, [], ◌∷◌, ◌++◌, All, OnOk, IfErr, vec_capacity};
+ghost use Rattle.std.specs.List.{flat_map};
+ghost use Rattle.lv_lines.specs.Output.{Puts, PutsFront, SamePlaces};
+ghost use Rattle.lv_transcript.specs.Transcript.{edit_line, claim_line, transcript_text, greatest, AreAccepted, AreInOrder, IsEdit, IsTrueClaim, IsSoundTranscript, Transcribes};
+
+use crate::transcript_lines::{put_edit_line, put_question};
+use lv_bodies::{Kind, Shown};
+use lv_edits::Edit;
+use lv_lines::{Fault, HELD, LINE, Outbox, put, put_shown};
+use std::alloc::Global;
+use std::io::Write;
+
+/// A reduction as it was answered: at which edit, of what kind, over which elements, and by which value.
+#[derive(Clone, Copy, Debug, PartialEq, Eq)]
+pub struct Claimed {
+    /// The number of the last edit before the answer.
+    pub edit: u32,
+    /// What was asked of the range.
+    pub kind: Kind,
+    /// The first index of the range.
+    pub lo: u32,
+    /// The index behind its last.
+    pub hi: u32,
+    /// What was answered.
+    pub value: Shown,
+}
+
+/// Writes the transcript of a journal and of what was claimed of it, and flushes the writer. The claims stand in
+/// rising order of their edits.
+///
+/// Where the journal is one that a vector of the greatest limits accepts, and each claim is true, the transcript is
+/// sound: an audit of it answers yes. Memory is fixed, and taken before anything is written: where there is none, the
+/// fault is `NoMemory`. A failed write, and one that takes no byte, is `WriteFault`.
+pub fn write_transcript<W: Write>(
+    alloc: Global,
+    edits: &[Edit],
+    claims: &[Claimed],
+    writer: &mut W,
+) -> Result<(), Fault>
+    requires { AreInOrder claims.now }
+    ensures text { Transcribes (W.contents writer.old) (W.contents writer.new) (transcript_text edits.now claims.now) result }
+    ensures sound { AreAccepted greatest edits.now → All (IsTrueClaim edits.now) claims.now
+        → OnOk result (IsSoundTranscript (transcript_text edits.now claims.now)) }
+{
+    let Ok(mut held) = Vec::with_capacity(alloc, HELD) else {
+        return Err(Fault::NoMemory);
+    };
+    write_by(edits, claims, &mut held, writer)
+}
+
+// Writes a transcript by a buffer that was made for it.
+fn write_by<W: Write>(
+    edits: &[Edit],
+    claims: &[Claimed],
+    held: &mut Vec<u8>,
+    writer: &mut W,
+) -> Result<(), Fault>
+    requires held { held.old.items ≡ [] }
+    requires room { HELD ≤ vec_capacity held.old }
+    ensures text { Transcribes (W.contents writer.old) (W.contents writer.new) (transcript_text edits.now claims.now) result }
+    ensures fits { OnOk result (All IsEdit edits.now) }
+{
+    let mut outbox = Outbox { writer, held };
+    write_lines(edits, claims, &mut outbox)
+}
+
+// Writes the lines of a transcript by an empty outbox.
+fn write_lines<W: Write>(
+    edits: &[Edit],
+    claims: &[Claimed],
+    outbox: &mut Outbox<'_, W>,
+) -> Result<(), Fault>
+    requires held { outbox.old.held.now.items ≡ [] }
+    ensures places { SamePlaces outbox.old outbox.new }
+    ensures text { Transcribes (W.contents outbox.old.writer.now) (W.contents outbox.new.writer.now) (transcript_text edits.now claims.now) result }
+    ensures fits { OnOk result (All IsEdit edits.now) }
+{
+    put(outbox.held, b"livevec 1\n");
+    write_edits(edits, outbox)?;
+    write_claims(claims, outbox)?;
+    outbox.make_room(LINE)?;
+    put(outbox.held, b"end\n");
+    outbox.send()
+}
+
+// Writes the lines of the edits behind what is held.
+fn write_edits<W: Write>(edits: &[Edit], outbox: &mut Outbox<'_, W>) -> Result<(), Fault>
+    ensures places { SamePlaces outbox.old outbox.new }
+    ensures ok { OnOk result (Puts W.contents outbox.old outbox.new
+        (flat_map (λ edit. edit_line edit ++ 10 ∷ []) edits.now)) }
+    ensures fault { IfErr result (λ fault. (fault ≡ Fault.WriteFault)
+        × PutsFront W.contents outbox.old outbox.new (flat_map (λ edit. edit_line edit ++ 10 ∷ []) edits.now)) }
+    ensures fits { OnOk result (All IsEdit edits.now) }
+{
+    for edit in edits {
+        write_edit(*edit, outbox)?;
+    }
+    Ok(())
+}
+
+fn write_edit<W: Write>(edit: Edit, outbox: &mut Outbox<'_, W>) -> Result<(), Fault>
+    ensures places { SamePlaces outbox.old outbox.new }
+    ensures ok { OnOk result (Puts W.contents outbox.old outbox.new (edit_line edit ++ 10 ∷ [])) }
+    ensures fault { IfErr result (λ fault. (fault ≡ Fault.WriteFault)
+        × PutsFront W.contents outbox.old outbox.new []) }
+    ensures fits { OnOk result (IsEdit edit) }
+{
+    outbox.make_room(LINE)?;
+    put_edit_line(outbox.held, edit);
+    put(outbox.held, b"\n");
+    Ok(())
+}
+
+// Writes the lines of the claims behind what is held.
+fn write_claims<W: Write>(claims: &[Claimed], outbox: &mut Outbox<'_, W>) -> Result<(), Fault>
+    ensures places { SamePlaces outbox.old outbox.new }
+    ensures ok { OnOk result (Puts W.contents outbox.old outbox.new
+        (flat_map (λ claim. claim_line claim ++ 10 ∷ []) claims.now)) }
+    ensures fault { IfErr result (λ fault. (fault ≡ Fault.WriteFault)
+        × PutsFront W.contents outbox.old outbox.new (flat_map (λ claim. claim_line claim ++ 10 ∷ []) claims.now)) }
+{
+    for claim in claims {
+        write_claim(*claim, outbox)?;
+    }
+    Ok(())
+}
+
+fn write_claim<W: Write>(claim: Claimed, outbox: &mut Outbox<'_, W>) -> Result<(), Fault>
+    ensures places { SamePlaces outbox.old outbox.new }
+    ensures ok { OnOk result (Puts W.contents outbox.old outbox.new (claim_line claim ++ 10 ∷ [])) }
+    ensures fault { IfErr result (λ fault. (fault ≡ Fault.WriteFault)
+        × PutsFront W.contents outbox.old outbox.new []) }
+{
+    outbox.make_room(LINE)?;
+    put_question(outbox.held, claim.edit, claim.kind, claim.lo, claim.hi);
+    put_shown(outbox.held, claim.value);
+    put(outbox.held, b"\n");
+    Ok(())
+}
