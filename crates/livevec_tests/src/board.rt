@@ -5,6 +5,7 @@ ghost use Rattle.lv_board.specs.Closing.{AreAll, AreAt, IsStill};
 ghost use Rattle.lv_board.specs.Opening.{AreDealt};
 ghost use Rattle.lv_board.specs.Tells.{actor_of, IsAt};
 
+use crate::same::assert_same;
 use lv_board::*;
 use lv_bodies::Sum;
 use lv_edits::Receipt;
@@ -35,7 +36,7 @@ fn open_or_again(rt: &impl Abort, alloc: Global) -> Result<(Board<Sum>, Vec<Seat
     let opened = match open(alloc) {
         Ok(opened) => opened,
         Err(refusal) => {
-            assert_eq!(rt; refusal, Refusal::NoMemory);
+            assert_same(rt, &refusal, &Refusal::NoMemory);
             return open(alloc);
         }
     };
@@ -71,8 +72,8 @@ fn assert_closed(
 {
     match close_or_again(alloc, board, seats) {
         Ok(closed) => {
-            assert_eq!(rt; closed.edit, edit);
-            assert_eq!(rt; closed.elements.as_slice(), elements);
+            assert_same(rt, &closed.edit, &edit);
+            assert_same(rt, &closed.elements.as_slice(), &elements);
             drop(closed);
         }
         Err((board, seats)) => {
@@ -97,7 +98,7 @@ fn assert_pushed(
     ensures { IsStill seat.old seat.new }
 {
     let pushed = board.try_push(seat, x);
-    assert_eq!(rt; pushed, Ok(Receipt::Pushed { edit, index }));
+    assert_same(rt, &pushed, &Ok(Receipt::Pushed { edit, index }));
 }
 
 // Reads an element, and sees what it is, and after which edit.
@@ -113,7 +114,7 @@ fn assert_read(
     ensures { IsStill seat.old seat.new }
 {
     let read = board.get(seat, i);
-    assert_eq!(rt; read, Ok(Read { edit, value }));
+    assert_same(rt, &read, &Ok(Read { edit, value }));
 }
 
 // Two seats look, and the second comes first with its push.
@@ -125,11 +126,11 @@ fn contend(rt: &impl Abort, board: &Board<Sum>, a: &mut Seat<Sum>, b: &mut Seat<
 {
     let seen = (board.look(a), board.look(b));
     let none = Look { edit: 0, size: 0 };
-    assert_eq!(rt; seen, (none, none));
+    assert_same(rt, &seen, &(none, none));
     let pushed = board.push_looked(b, 4);
-    assert_eq!(rt; pushed, Ok(Receipt::Pushed { edit: 1, index: 0 }));
+    assert_same(rt, &pushed, &Ok(Receipt::Pushed { edit: 1, index: 0 }));
     let lost = board.push_looked(a, 5);
-    assert_eq!(rt; lost, Err(Refusal::Contended { edit: 1 }));
+    assert_same(rt, &lost, &Err(Refusal::Contended { edit: 1 }));
 }
 
 // The first seat pushes, reads and is refused an element that is too wide.
@@ -142,7 +143,7 @@ fn push(rt: &impl Abort, board: &Board<Sum>, a: &mut Seat<Sum>)
     assert_pushed(rt, board, a, 32767, 3, 2);
     assert_pushed(rt, board, a, -32768, 4, 3);
     let wide = board.try_push(a, 40000);
-    assert_eq!(rt; wide, Err(Refusal::TooWide));
+    assert_same(rt, &wide, &Err(Refusal::TooWide));
     assert_summed(rt, board, a, 4, 4, 8);
 }
 
@@ -165,7 +166,7 @@ fn assert_summed(
         cells_read: hi % 8,
         summaries_read: hi / 8,
     };
-    assert_eq!(rt; summed, Ok(answer));
+    assert_same(rt, &summed, &Ok(answer));
 }
 
 // Refreshes the first block, and sees what comes of it.
@@ -179,7 +180,7 @@ fn assert_refreshed(
     ensures { IsStill seat.old seat.new }
 {
     let refreshed = board.refresh(seat, 0);
-    assert_eq!(rt; refreshed, wanted);
+    assert_same(rt, &refreshed, &wanted);
 }
 
 // The first four edits of two seats.
@@ -192,7 +193,7 @@ fn make_four(rt: &impl Abort, board: &Board<Sum>, a: &mut Seat<Sum>, b: &mut Sea
     contend(rt, board, a, b);
     push(rt, board, a);
     let size = board.size(b);
-    assert_eq!(rt; size, Sized { edit: 4, size: 4 });
+    assert_same(rt, &size, &Sized { edit: 4, size: 4 });
 }
 
 // The second seat drops the last element, and the first overwrites one; they meet.
@@ -203,20 +204,20 @@ fn change(rt: &impl Abort, board: &Board<Sum>, a: &mut Seat<Sum>, b: &mut Seat<S
     ensures b { IsStill b.old b.new }
 {
     let popped = board.try_pop(b);
-    assert_eq!(rt; popped, Ok(Receipt::Popped { edit: 9, value: 1 }));
+    assert_same(rt, &popped, &Ok(Receipt::Popped { edit: 9, value: 1 }));
     let written = board.try_write(a, 0, 9);
     let receipt = Receipt::Written {
         edit: 10,
         before: 4,
     };
-    assert_eq!(rt; written, Ok(receipt));
+    assert_same(rt, &written, &Ok(receipt));
     let past = board.try_write(a, 7, 9);
-    assert_eq!(rt; past, Err(Refusal::OutOfRange { size: 7 }));
+    assert_same(rt, &past, &Err(Refusal::OutOfRange { size: 7 }));
     assert_refreshed(rt, board, a, Err(Refusal::OutOfRange { size: 7 }));
     let met = board.meet(a, b);
-    assert_eq!(rt; (met.first, met.second), (10, 10));
+    assert_same(rt, &(met.first, met.second), &(10, 10));
     assert_read(rt, board, b, 0, 10, 9);
-    assert_eq!(rt; (a.seen(), b.seen()), (10, 10));
+    assert_same(rt, &(a.seen(), b.seen()), &(10, 10));
 }
 
 // The two seats of a new board, and the vector that they were in.
@@ -323,7 +324,7 @@ fn two_seats(rt: HostRuntime) -> Result<(), Fail> {
 fn limits_are_kept(rt: HostRuntime) -> Result<(), Fail> {
     for (buckets, seats) in [(10, 1), (9, 0), (9, 9)] {
         let refused = Board::new(rt.alloc(), Limits::new(buckets, 1)?, seats, Sum).err();
-        assert_eq!(rt; refused, Some(Refusal::BadLimits));
+        assert_same(&rt, &refused, &Some(Refusal::BadLimits));
     }
     Ok(())
 }
@@ -379,11 +380,12 @@ fn assert_counts(rt: &impl Abort, closed: &Closed, ones: usize, twos: usize) {
     let elements = closed.elements.as_slice();
     let accepted = ones.saturating_add(twos);
     assert!(rt; accepted >= 500);
-    assert_eq!(rt;
-        (closed.edit as usize, elements.len()),
-        (accepted, accepted)
+    assert_same(
+        rt,
+        &(closed.edit as usize, elements.len()),
+        &(accepted, accepted),
     );
-    assert_eq!(rt; (times(elements, 1), times(elements, 2)), (ones, twos));
+    assert_same(rt, &(times(elements, 1), times(elements, 2)), &(ones, twos));
 }
 
 // A board that two threads pushed to, closed.
@@ -503,7 +505,7 @@ fn two_turns<R: Threads + Abort + Sync>(
 {
     let (a, b, rest) = seats_of(rt, &board, seats);
     let ((a, first), (b, second)) = push_by_turns(rt, &board, a, b);
-    assert_eq!(rt; (first, second), (true, true));
+    assert_same(rt, &(first, second), &(true, true));
     let seats = both(&board, a, b, rest);
     assert_closed(rt, alloc, board, seats, 2, &[1, 2]);
 }

@@ -5,6 +5,7 @@ ghost use Rattle.lv_board.specs.Opening.{AreDealt};
 ghost use Rattle.lv_board.specs.Tells.{IsAt};
 
 use crate::board::{open, seats_of};
+use crate::same::assert_same;
 use lv_board::{Board, Seat};
 use lv_bodies::Sum;
 use lv_geometry::Refusal;
@@ -130,7 +131,7 @@ fn assert_fresh(rt: &impl Abort, board: &Board<Sum>, seat: &mut Seat<Sum>)
         edit: 408,
         version: 406,
     };
-    assert_eq!(rt; refreshed, Ok(made));
+    assert_same(rt, &refreshed, &Ok(made));
     let summed = board.reduce(seat, 0, 8);
     let whole = Answer {
         edit: 408,
@@ -138,9 +139,9 @@ fn assert_fresh(rt: &impl Abort, board: &Board<Sum>, seat: &mut Seat<Sum>)
         cells_read: 0,
         summaries_read: 1,
     };
-    assert_eq!(rt; summed, Ok(whole));
+    assert_same(rt, &summed, &Ok(whole));
     let past = board.refresh(seat, 1);
-    assert_eq!(rt; past, Err(Refusal::OutOfRange { size: 9 }));
+    assert_same(rt, &past, &Err(Refusal::OutOfRange { size: 9 }));
 }
 
 // A board whose seats do all that.
@@ -151,7 +152,7 @@ fn edits_and_sums<R: Threads + Abort + Sync>(rt: &R, board: &Board<Sum>, seats: 
     let (mut a, b, none) = seats_of(rt, board, seats);
     push_eight(rt, board, &mut a);
     let (accepted, (mut b, right)) = edit_beside_sums(rt, board, a, b);
-    assert_eq!(rt; (accepted, right), (400, true));
+    assert_same(rt, &(accepted, right), &(400, true));
     assert_fresh(rt, board, &mut b);
     drop(b);
     drop(none);

@@ -2,6 +2,7 @@
 ghost use Rattle.std.specs.Prelude.{◌<◌};
 ghost use Rattle.lv_board.specs.Tells.{IsAt};
 
+use crate::same::assert_same;
 use lv_board::{Board, Seat, run_board_session};
 use lv_bodies::Sum;
 use lv_geometry::{Limits, Refusal};
@@ -46,8 +47,8 @@ fn check(
     let (board, mut seats) = Board::new(alloc, Limits::new(9, 16_777_215)?, 1, Sum)?;
     if let [seat] = seats.as_mut_slice() {
         let result = run_board_session(alloc, &board, seat, reader, writer);
-        assert_eq!(rt; result, end);
-        assert_eq!(rt; writer.taken.as_slice(), replies);
+        assert_same(rt, &result, &end);
+        assert_same(rt, &writer.taken.as_slice(), &replies);
     }
     drop(seats);
     drop(board);
@@ -107,9 +108,10 @@ fn hold_or_again(
     let mut reader = reader(1000, 1000);
     let first = run_board_session(alloc, board, seat, &mut reader, writer);
     if first == Err(Fault::NoMemory) {
-        assert_eq!(rt;
-            (reader.rest.len(), writer.taken.len(), seat.seen()),
-            (LINES.len(), 0, 0)
+        assert_same(
+            rt,
+            &(reader.rest.len(), writer.taken.len(), seat.seen()),
+            &(LINES.len(), 0, 0),
         );
         return run_board_session(alloc, board, seat, &mut reader, writer);
     }
@@ -123,8 +125,8 @@ fn a_session_without_memory_never_began(rt: HostRuntime) -> Result<(), Fail> {
     let (board, mut seats) = Board::new(rt.alloc(), Limits::new(9, 16_777_215)?, 1, Sum)?;
     if let [seat] = seats.as_mut_slice() {
         let ended = hold_or_again(&rt, rt.alloc(), &board, seat, &mut writer);
-        assert_eq!(rt; ended, Ok(()));
-        assert_eq!(rt; writer.taken.as_slice(), REPLIES);
+        assert_same(&rt, &ended, &Ok(()));
+        assert_same(&rt, &writer.taken.as_slice(), &REPLIES);
     }
     drop(seats);
     drop(board);

@@ -3,6 +3,7 @@ ghost use Rattle.std.specs.Prelude.{◌≡◌, ℕ, [], ◌∷◌, ◌++◌, len
 ghost use Rattle.std.specs.Fmt.{decimal};
 ghost use Rattle.lv_lines.specs.Output.{HasRoom, KeepsRoom};
 
+use crate::same::assert_same;
 use lv_bodies::{Kind, Six, fold_slice};
 use lv_geometry::Limits;
 use lv_script::devices::{FailingReader, FailingWriter, Failure};
@@ -65,8 +66,8 @@ fn check_echo(
 ) {
     let mut echo = Echo { last: 0 };
     let result = converse(alloc, &mut echo, reader, writer);
-    assert_eq!(rt; result, end);
-    assert_eq!(rt; writer.taken.as_slice(), replies);
+    assert_same(rt, &result, &end);
+    assert_same(rt, &writer.taken.as_slice(), &replies);
 }
 
 const INPUT: &[u8] = b"push 1\n\nab\nlast";
@@ -84,9 +85,9 @@ fn whole_input_by_any_steps(rt: HostRuntime) -> Result<(), Fail> {
         };
         let mut writer = writer(rt.alloc(), step, 1000)?;
         let result = converse(rt.alloc(), &mut echo, &mut reader, &mut writer);
-        assert_eq!(rt; result, Ok(()));
+        assert_same(&rt, &result, &Ok(()));
         assert_eq!(rt; writer.taken.as_slice(), REPLIES, "by steps of {step}");
-        assert_eq!(rt; echo.last, 4);
+        assert_same(&rt, &echo.last, &4);
     }
     Ok(())
 }
@@ -176,8 +177,8 @@ fn replies_are_flushed(rt: HostRuntime) {
             fails,
         };
         let result = converse(rt.alloc(), &mut echo, &mut reader, &mut writer);
-        assert_eq!(rt; result, end);
-        assert_eq!(rt; writer.flushed, flushed);
+        assert_same(&rt, &result, &end);
+        assert_same(&rt, &writer.flushed, &flushed);
     }
 }
 
@@ -204,13 +205,13 @@ fn numbers_in_decimal(rt: HostRuntime) -> Result<(), Fail> {
         held: &mut held,
     };
     put_numbers(outbox.held);
-    assert_eq!(rt; outbox.make_room(10), Ok(()));
+    assert_same(&rt, &outbox.make_room(10), &Ok(()));
     assert!(rt; outbox.writer.is_empty());
-    assert_eq!(rt; outbox.send(), Ok(()));
+    assert_same(&rt, &outbox.send(), &Ok(()));
     assert!(rt; outbox.held.is_empty());
     let text =
         b"18446744073709551615 -9223372036854775808 -170141183460469231731687303715884105728 0";
-    assert_eq!(rt; writer.as_slice(), text.as_slice());
+    assert_same(&rt, &writer.as_slice(), &text.as_slice());
     Ok(())
 }
 
@@ -223,8 +224,8 @@ fn faults_have_numbers_and_texts(rt: HostRuntime) -> Result<(), Fail> {
         (Fault::WriteFault, 14, "fault 14"),
     ];
     for (fault, number, text) in table {
-        assert_eq!(rt; fault.number(), number);
-        assert_eq!(rt; fault.to_string(rt.alloc())?.as_str(), text);
+        assert_same(&rt, &fault.number(), &number);
+        assert_same(&rt, &fault.to_string(rt.alloc())?.as_str(), &text);
     }
     Ok(())
 }
@@ -255,8 +256,8 @@ fn an_input_has_at_most_2_to_the_30_bytes(rt: HostRuntime) {
         let mut reader = Hashes { left };
         let mut written = Vec::new(rt.alloc());
         let ended = run_script(rt.alloc(), Limits::greatest(), &mut reader, &mut written);
-        assert_eq!(rt; ended, end);
-        assert_eq!(rt; written.as_slice(), replies);
+        assert_same(&rt, &ended, &end);
+        assert_same(&rt, &written.as_slice(), &replies);
     }
 }
 
@@ -273,7 +274,7 @@ fn commands_are_printed(rt: HostRuntime) -> Result<(), Fail> {
             return Err("no command".into());
         };
         let printed = print_command(rt.alloc(), &command)?;
-        assert_eq!(rt; printed.as_slice(), text);
+        assert_same(&rt, &printed.as_slice(), &text);
     }
     Ok(())
 }
@@ -295,9 +296,9 @@ fn scans_that_are_not_written(rt: HostRuntime) -> Result<(), Fail> {
             held: &mut held,
         };
         let result = put_scan(&mut outbox, 9, true, Kind::Automaton, &values);
-        assert_eq!(rt; result, Err(Fault::WriteFault));
+        assert_same(&rt, &result, &Err(Fault::WriteFault));
         let text = b"at 9 inc automaton 5000\n= 0 1 2 3 4 5 6 7\n= 0 1 2 3 4 5 6 7\n";
-        assert_eq!(rt; writer.taken.as_slice(), text.as_slice());
+        assert_same(&rt, &writer.taken.as_slice(), &text.as_slice());
     }
     Ok(())
 }

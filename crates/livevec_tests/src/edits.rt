@@ -1,4 +1,5 @@
 //! Tests of swaps and truncates on edits alone, where memory is wanting too.
+use crate::same::assert_same;
 use lv_edits::{Edits, Receipt};
 use lv_geometry::{Limits, Refusal};
 use std::process::Abort;
@@ -13,7 +14,7 @@ fn swap_or_again(
     let before = (edits.size(), edits.edit(), edits.get(first));
     let answer = edits.swap(first, second);
     if answer == Err(Refusal::NoMemory) {
-        assert_eq!(rt; (edits.size(), edits.edit(), edits.get(first)), before);
+        assert_same(rt, &(edits.size(), edits.edit(), edits.get(first)), &before);
         return edits.swap(first, second);
     }
     answer
@@ -24,7 +25,7 @@ fn truncate_or_again(rt: &impl Abort, edits: &mut Edits, count: u32) -> Result<R
     let before = (edits.size(), edits.edit(), edits.get(0));
     let answer = edits.truncate(count);
     if answer == Err(Refusal::NoMemory) {
-        assert_eq!(rt; (edits.size(), edits.edit(), edits.get(0)), before);
+        assert_same(rt, &(edits.size(), edits.edit(), edits.get(0)), &before);
         return edits.truncate(count);
     }
     answer
@@ -49,33 +50,36 @@ fn check_swaps(rt: &impl Abort, edits: &mut Edits) {
     let truncated = truncate_or_again(rt, edits, 1);
     let beyond = truncate_or_again(rt, edits, 2);
     let last = (edits.size(), edits.edit(), edits.capacity(), edits.get(0));
-    assert_eq!(rt;
-        swapped,
-        Ok(Receipt::Swapped {
+    assert_same(
+        rt,
+        &swapped,
+        &Ok(Receipt::Swapped {
             edit: 4,
             first: 9,
-            second: 4
-        })
+            second: 4,
+        }),
     );
-    assert_eq!(rt;
-        same,
-        Ok(Receipt::Swapped {
+    assert_same(
+        rt,
+        &same,
+        &Ok(Receipt::Swapped {
             edit: 5,
             first: 6,
-            second: 6
-        })
+            second: 6,
+        }),
     );
-    assert_eq!(rt;
-        truncated,
-        Ok(Receipt::Truncated {
+    assert_same(
+        rt,
+        &truncated,
+        &Ok(Receipt::Truncated {
             edit: 6,
-            dropped: 2
-        })
+            dropped: 2,
+        }),
     );
-    assert_eq!(rt; outside, Err(Refusal::OutOfRange { size: 3 }));
-    assert_eq!(rt; beyond, Err(Refusal::OutOfRange { size: 1 }));
-    assert_eq!(rt; first, (Ok(9), Ok(6), Ok(4)));
-    assert_eq!(rt; last, (1, 6, 8, Ok(9)));
+    assert_same(rt, &outside, &Err(Refusal::OutOfRange { size: 3 }));
+    assert_same(rt, &beyond, &Err(Refusal::OutOfRange { size: 1 }));
+    assert_same(rt, &first, &(Ok(9), Ok(6), Ok(4)));
+    assert_same(rt, &last, &(1, 6, 8, Ok(9)));
 }
 
 // To be run with each allocation failing in turn, too.

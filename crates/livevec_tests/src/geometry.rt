@@ -1,3 +1,4 @@
+use crate::same::assert_same;
 use lv_geometry::{Limits, Place, Refusal, block_of, buckets_for, capacity, index, place};
 
 #[test]
@@ -7,17 +8,17 @@ fn limits_are_checked(rt: HostRuntime) {
         assert!(rt; refused, "{buckets} {edits}");
     }
     let greatest = Limits::new(17, 16_777_215);
-    assert_eq!(rt; greatest, Ok(Limits::greatest()));
-    assert_eq!(rt; Limits::greatest().capacity(), 1_048_568);
-    assert_eq!(rt; Limits::greatest().buckets(), 17);
-    assert_eq!(rt; Limits::greatest().edits(), 16_777_215);
+    assert_same(&rt, &greatest, &Ok(Limits::greatest()));
+    assert_same(&rt, &Limits::greatest().capacity(), &1_048_568);
+    assert_same(&rt, &Limits::greatest().buckets(), &17);
+    assert_same(&rt, &Limits::greatest().edits(), &16_777_215);
 }
 
 #[test]
 fn places_and_back(rt: HostRuntime) {
     for (i, bucket, cell) in [(0, 0, 0), (7, 0, 7), (8, 1, 0), (23, 1, 15), (24, 2, 0)] {
         assert_eq!(rt; place(i), Place { bucket, cell }, "at {i}");
-        assert_eq!(rt; index(place(i)), i);
+        assert_same(&rt, &index(place(i)), &i);
     }
 }
 
@@ -26,15 +27,15 @@ fn buckets_and_blocks(rt: HostRuntime) {
     for (n, k) in [(0, 0), (1, 1), (8, 1), (9, 2), (25, 3), (1_048_568, 17)] {
         assert_eq!(rt; buckets_for(n), k, "at {n}");
     }
-    assert_eq!(rt; capacity(3), 56);
-    assert_eq!(rt; block_of(23), 2);
+    assert_same(&rt, &capacity(3), &56);
+    assert_same(&rt, &block_of(23), &2);
 }
 
 #[test]
 fn refusals_have_numbers_and_texts(rt: HostRuntime) -> Result<(), std::test::Fail> {
-    assert_eq!(rt; Refusal::Worn.number(), 1);
-    assert_eq!(rt; Refusal::NotNow.number(), 20);
+    assert_same(&rt, &Refusal::Worn.number(), &1);
+    assert_same(&rt, &Refusal::NotNow.number(), &20);
     let text = Refusal::OutOfRange { size: 9 }.to_string(rt.alloc())?;
-    assert_eq!(rt; text.as_str(), "out of range: the size is 9");
+    assert_same(&rt, &text.as_str(), &"out of range: the size is 9");
     Ok(())
 }

@@ -1,4 +1,5 @@
 //! That jobs which are held to the end, and then delivered late and twice, change no answer.
+use crate::same::assert_same;
 use lv_bodies::{Affine, AffineMap};
 use lv_edits::{Edit, Receipt};
 use lv_geometry::{Limits, Refusal};
@@ -109,10 +110,15 @@ fn held_to_the_end(rt: HostRuntime) -> Result<(), Fail> {
     let alloc = rt.alloc();
     let refreshed = play(alloc, &events(alloc, true)?)?;
     let alone = play(alloc, &events(alloc, false)?)?;
-    assert_eq!(rt; given(alloc, &refreshed)?.as_slice(), wanted().as_slice());
-    assert_eq!(rt;
-        answers_of(alloc, &refreshed)?.as_slice(),
-        answers_of(alloc, &alone)?.as_slice()
+    assert_same(
+        &rt,
+        &given(alloc, &refreshed)?.as_slice(),
+        &wanted().as_slice(),
+    );
+    assert_same(
+        &rt,
+        &answers_of(alloc, &refreshed)?.as_slice(),
+        &answers_of(alloc, &alone)?.as_slice(),
     );
     let answer = Answer {
         edit: 72,
@@ -120,6 +126,6 @@ fn held_to_the_end(rt: HostRuntime) -> Result<(), Fail> {
         cells_read: 15,
         summaries_read: 6,
     };
-    assert_eq!(rt; last(&refreshed), Some(answer));
+    assert_same(&rt, &last(&refreshed), &Some(answer));
     Ok(())
 }

@@ -3,6 +3,7 @@
 //!
 //! Here a function that owns a vector, a hub or a world lends it to another function and then drops it by a call: the proof of
 //! a body that drops it by itself is long.
+//! Two values are compared by `assert_same`; `assert_eq!` stays where a loop says which turn it is.
 #![tactic(auto)]
 
 #[cfg(test)]
@@ -33,6 +34,8 @@ mod memory;
 mod parallel;
 #[cfg(test)]
 mod runs;
+#[cfg(test)]
+mod same;
 #[cfg(test)]
 mod standing;
 #[cfg(test)]

@@ -1,4 +1,5 @@
 //! Tests what a live vector says of the outcomes of another.
+use crate::same::assert_same;
 use lv_bodies::Sum;
 use lv_edits::Edit;
 use lv_geometry::{Limits, Node, Refusal};
@@ -72,12 +73,12 @@ fn check_outcomes(
         Some(Accepted::Stale { now: 8 }),
         Some(Accepted::Stale { now: 10 }),
     ];
-    assert_eq!(rt; given, expected);
+    assert_same(rt, &given, &expected);
     let node = Node {
         level: 1,
         number: 0,
     };
-    assert_eq!(rt; next(live), Some((node, 10)));
+    assert_same(rt, &next(live), &Some((node, 10)));
     Ok(())
 }
 

@@ -1,4 +1,5 @@
 //! Tests of the lock-free machine as values: a list of events, counts of reads, want of memory.
+use crate::same::assert_same;
 use lv_bodies::Sum;
 use lv_edits::Receipt;
 use lv_geometry::{Limits, Refusal};
@@ -46,9 +47,10 @@ fn contended() -> [(Event, Outcome<u64>); 10] {
 fn check_contended(rt: &impl Abort, machine: &mut Machine<Sum>) -> Result<(), Fail> {
     let table = contended();
     let outcomes = machine.run(&table.map(|(event, _)| event))?;
-    assert_eq!(rt;
-        outcomes.as_slice(),
-        table.map(|(_, outcome)| outcome).as_slice()
+    assert_same(
+        rt,
+        &outcomes.as_slice(),
+        &table.map(|(_, outcome)| outcome).as_slice(),
     );
     Ok(())
 }
@@ -73,7 +75,7 @@ fn check_calls(rt: &impl Abort, machine: &mut Machine<Sum>, calls: &[Call], last
             outcome = machine.step(step(0));
         }
     }
-    assert_eq!(rt; outcome, Outcome::Done(last));
+    assert_same(rt, &outcome, &Outcome::Done(last));
 }
 
 // Nine elements, of which the first eight are read as one summary after a refresh.
@@ -109,12 +111,12 @@ fn run_or_again(rt: &impl Abort, machine: &mut Machine<Sum>) -> Result<(), Fail>
     let events = [call(0, Call::Push(4)), step(0), step(0)];
     let mut outcomes = machine.run(&events);
     if let Err(refusal) = &outcomes {
-        assert_eq!(rt; *refusal, Refusal::NoMemory);
+        assert_same(rt, &*refusal, &Refusal::NoMemory);
         outcomes = machine.run(&events);
     }
     let pushed = Outcome::Done(Said::Did(Receipt::Pushed { edit: 1, index: 0 }));
     let expected = [Outcome::Started, Outcome::Going, pushed];
-    assert_eq!(rt; outcomes?.as_slice(), expected.as_slice());
+    assert_same(rt, &outcomes?.as_slice(), &expected.as_slice());
     Ok(())
 }
 

@@ -1,4 +1,5 @@
 //! Tests that nothing changes where memory is wanting.
+use crate::same::assert_same;
 use lv_bodies::Sum;
 use lv_edits::{Edit, Receipt};
 use lv_geometry::{Limits, Refusal};
@@ -11,7 +12,7 @@ fn push_or_again(rt: &impl Abort, live: &mut Live<Sum>) -> Result<Receipt, Refus
     let before = (live.size(), live.edit(), live.capacity());
     let first = live.apply(Edit::Push(1));
     if first == Err(Refusal::NoMemory) {
-        assert_eq!(rt; (live.size(), live.edit(), live.capacity()), before);
+        assert_same(rt, &(live.size(), live.edit(), live.capacity()), &before);
         return live.apply(Edit::Push(1));
     }
     first
@@ -20,15 +21,20 @@ fn push_or_again(rt: &impl Abort, live: &mut Live<Sum>) -> Result<Receipt, Refus
 fn check_pushes(rt: &impl Abort, live: &mut Live<Sum>) {
     for index in 0..17 {
         let receipt = push_or_again(rt, live);
-        assert_eq!(rt;
-            receipt,
-            Ok(Receipt::Pushed {
+        assert_same(
+            rt,
+            &receipt,
+            &Ok(Receipt::Pushed {
                 edit: index + 1,
-                index
-            })
+                index,
+            }),
         );
     }
-    assert_eq!(rt; (live.size(), live.edit(), live.capacity()), (17, 17, 24));
+    assert_same(
+        rt,
+        &(live.size(), live.edit(), live.capacity()),
+        &(17, 17, 24),
+    );
 }
 
 // To be run with each allocation failing in turn, too.
@@ -48,7 +54,11 @@ fn run_or_again(
     let events = [Event::Edit(Edit::Push(1)), Event::Settle];
     let mut replies = run(alloc, world, &events);
     if let Err(refusal) = &replies {
-        assert_eq!(rt; (*refusal, world.live().edit()), (Refusal::NoMemory, 0));
+        assert_same(
+            rt,
+            &(*refusal, world.live().edit()),
+            &(Refusal::NoMemory, 0),
+        );
         replies = run(alloc, world, &events);
     }
     Ok(match replies?.as_slice() {
@@ -60,7 +70,7 @@ fn run_or_again(
 fn check_run(rt: &impl Abort, alloc: Global, world: &mut World<Sum>) -> Result<(), Refusal> {
     let pushed = run_or_again(rt, alloc, world)?;
     if world.live().edit() == 1 {
-        assert_eq!(rt; pushed, Some(Receipt::Pushed { edit: 1, index: 0 }));
+        assert_same(rt, &pushed, &Some(Receipt::Pushed { edit: 1, index: 0 }));
     }
     Ok(())
 }

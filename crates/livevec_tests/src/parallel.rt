@@ -1,6 +1,7 @@
 //! Tests the parallel forms: what they answer and refuse, and that two pieces are folded at once.
 ghost use Rattle.std.specs.Prelude.{◌^◌, ◌≤◌, length, IfOk};
 
+use crate::same::assert_same;
 use lv_bodies::{Best, Body, Pair, Sum};
 use lv_edits::Edits;
 use lv_geometry::{Limits, Refusal};
@@ -38,9 +39,10 @@ fn check_answers<R: Threads + Sync + Abort>(
         cells: edits,
         table,
     };
-    assert_eq!(rt;
-        par_reduce(rt, alloc, view, &Sum, 0, 4096),
-        Ok((4096, 8_386_560))
+    assert_same(
+        rt,
+        &par_reduce(rt, alloc, view, &Sum, 0, 4096),
+        &Ok((4096, 8_386_560)),
     );
     let inclusive = par_scan_inclusive(rt, alloc, view, &Sum, 0, 4096)?;
     let exclusive = par_scan_exclusive(rt, alloc, view, &Sum, 0, 4096)?;
@@ -92,8 +94,8 @@ fn slices_of_one_two_three(rt: HostRuntime) -> Result<(), Fail> {
     let inclusive = par_scan_slice(&rt, rt.alloc(), &Sum, &[1, 2, 3], true)?;
     let exclusive = par_scan_slice(&rt, rt.alloc(), &Sum, &[1, 2, 3], false)?;
     let nothing = par_scan_slice(&rt, rt.alloc(), &Sum, &[], true)?;
-    assert_eq!(rt; inclusive.as_slice(), [1, 3, 6].as_slice());
-    assert_eq!(rt; exclusive.as_slice(), [0, 1, 3].as_slice());
+    assert_same(&rt, &inclusive.as_slice(), &[1, 3, 6].as_slice());
+    assert_same(&rt, &exclusive.as_slice(), &[0, 1, 3].as_slice());
     assert!(rt; nothing.is_empty());
     Ok(())
 }
@@ -213,7 +215,7 @@ fn meet_in_reduce<R: Threads + Sync + Abort>(
     let meeting = Meeting::new();
     let body = wide(&meeting);
     let answer = par_reduce(rt, alloc, view, &body, 0, 262_144)?;
-    assert_eq!(rt; (answer.0, answer.1.0), (262_144, 3));
+    assert_same(rt, &(answer.0, answer.1.0), &(262_144, 3));
     assert!(rt; meeting.took_place());
     Ok(())
 }
@@ -256,7 +258,7 @@ fn meet_in_slice<R: Threads + Sync + Abort>(
 // Sees that as many values end with the sum of all, or of all but the last.
 fn assert_last(rt: &impl Abort, values: &Values<WideSummary>, inclusive: bool) {
     let last = if inclusive { 3 } else { 1 };
-    assert_eq!(rt; values.len(), 262_144);
+    assert_same(rt, &values.len(), &262_144);
     assert!(rt; matches!(values.as_slice().last(), Some(value) if value.0 == last));
 }
 

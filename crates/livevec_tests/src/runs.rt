@@ -1,4 +1,5 @@
 //! Tests of runs: the laws at a body, every event's reply as a value, and that a reduction lifts no more elements than it says.
+use crate::same::assert_same;
 use lv_bodies::{Body, Sum};
 use lv_edits::{Edit, Receipt};
 use lv_geometry::{Limits, Refusal};
@@ -87,14 +88,15 @@ fn check_lifts(
     lifts.store(0, Ordering::SeqCst);
     let answer = live.reduce(1, 63)?;
     let counted = lifts.load(Ordering::SeqCst);
-    assert_eq!(rt;
-        (
+    assert_same(
+        rt,
+        &(
             answer.value,
             answer.cells_read,
             answer.summaries_read,
-            counted
+            counted,
         ),
-        (62, 14, 6, 14)
+        &(62, 14, 6, 14),
     );
     Ok(())
 }
@@ -121,19 +123,20 @@ fn check_asked(
         lifts.store(0, Ordering::SeqCst);
         let asked = live.ask(1, 63)?;
         let counted = lifts.load(Ordering::SeqCst);
-        assert_eq!(rt;
-            (
+        assert_same(
+            rt,
+            &(
                 asked.edit,
                 asked.value,
                 asked.cells_read,
                 asked.summaries_read,
-                counted
+                counted,
             ),
-            (64, 62, cells, summaries, lifted)
+            &(64, 62, cells, summaries, lifted),
         );
     }
     let reduced = live.reduce(1, 63)?;
-    assert_eq!(rt; (reduced.cells_read, reduced.summaries_read), (62, 0));
+    assert_same(rt, &(reduced.cells_read, reduced.summaries_read), &(62, 0));
     Ok(())
 }
 
@@ -151,12 +154,16 @@ fn check_refreshed(rt: &impl Abort, live: &mut Live<Sum>) -> Result<(), Refusal>
     for _ in 0..64 {
         live.apply(Edit::Push(1))?;
     }
-    assert_eq!(rt; live.refresh(3), 3);
+    assert_same(rt, &live.refresh(3), &3);
     let some = live.reduce(0, 64)?;
-    assert_eq!(rt; (some.cells_read, some.summaries_read), (40, 3));
-    assert_eq!(rt; live.refresh(100), 6);
+    assert_same(rt, &(some.cells_read, some.summaries_read), &(40, 3));
+    assert_same(rt, &live.refresh(100), &6);
     let all = live.reduce(0, 64)?;
-    assert_eq!(rt; (all.value, all.cells_read, all.summaries_read), (64, 0, 1));
+    assert_same(
+        rt,
+        &(all.value, all.cells_read, all.summaries_read),
+        &(64, 0, 1),
+    );
     Ok(())
 }
 

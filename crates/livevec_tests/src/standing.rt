@@ -1,4 +1,5 @@
 //! Tests of the names of standing queries as keys.
+use crate::same::assert_same;
 use lv_standing::Name;
 use std::alloc::{AllocError, Global};
 use std::collections::HashMap;
@@ -22,7 +23,7 @@ fn names_are_keys(rt: HostRuntime) -> Result<(), Fail> {
     let second = Name::new(b"w10").ok_or("w10")?;
     let found = found_under(rt.alloc(), first, second)?;
     assert!(rt; first != second);
-    assert_eq!(rt; first.as_bytes(), b"w1".as_slice());
-    assert_eq!(rt; found, (Some(1), Some(2)));
+    assert_same(&rt, &first.as_bytes(), &b"w1".as_slice());
+    assert_same(&rt, &found, &(Some(1), Some(2)));
     Ok(())
 }

@@ -1,6 +1,7 @@
 ghost use Rattle.std.specs.Prelude.{◌≡◌, ◌+◌, ◌<◌, ◌≤◌, None, IfOk};
 ghost use Rattle.lv_geometry.specs.Cells.{capacity_of};
 
+use crate::same::assert_same;
 use lv_geometry::{Limits, Refusal};
 use lv_store::{Descriptor, Store, Writes};
 use std::alloc::Global;
@@ -46,18 +47,19 @@ fn a_pending_write_is_read(rt: HostRuntime) -> Result<(), Fail> {
     let popped = (store.size(), store.edit(), store.version(0));
     store.announce(Some((0, 5)), None, 1);
     let pushed = (store.size(), store.edit(), store.version(0));
-    assert_eq!(rt; (pending, complete), ((5, 1, 1), (5, 1, 1)));
-    assert_eq!(rt; (popped, pushed), ((0, 2, 1), (1, 3, 3)));
-    assert_eq!(rt;
-        store.descriptor(),
-        Descriptor {
+    assert_same(&rt, &(pending, complete), &((5, 1, 1), (5, 1, 1)));
+    assert_same(&rt, &(popped, pushed), &((0, 2, 1), (1, 3, 3)));
+    assert_same(
+        &rt,
+        &store.descriptor(),
+        &Descriptor {
             edit: 3,
             size: 1,
             pending: Some(Writes {
                 first: (0, 5),
-                second: None
-            })
-        }
+                second: None,
+            }),
+        },
     );
     Ok(())
 }
@@ -77,11 +79,11 @@ fn blocks_meet_at_the_seams_of_buckets(rt: HostRuntime) -> Result<(), Fail> {
         store.version(3),
     );
     let none = (store.version(4), store.version(7), store.version(u32::MAX));
-    assert_eq!(rt; read, (-7, 8, i64::MAX, i64::MIN));
-    assert_eq!(rt; (versions, none), ((1, 2, 3, 4), (0, 0, 0)));
-    assert_eq!(rt; store.cells(0), [0, 0, 0, 0, 0, 0, 0, -7]);
-    assert_eq!(rt; store.cells(1), [8, 0, 0, 0, 0, 0, 0, 0]);
-    assert_eq!(rt; store.cells(2), [0, 0, 0, 0, 0, 0, 0, i64::MAX]);
+    assert_same(&rt, &read, &(-7, 8, i64::MAX, i64::MIN));
+    assert_same(&rt, &(versions, none), &((1, 2, 3, 4), (0, 0, 0)));
+    assert_same(&rt, &store.cells(0), &[0, 0, 0, 0, 0, 0, 0, -7]);
+    assert_same(&rt, &store.cells(1), &[8, 0, 0, 0, 0, 0, 0, 0]);
+    assert_same(&rt, &store.cells(2), &[0, 0, 0, 0, 0, 0, 0, i64::MAX]);
     Ok(())
 }
 
@@ -93,11 +95,12 @@ fn a_pending_write_is_among_its_cells(rt: HostRuntime) -> Result<(), Fail> {
     let pending = (store.cells(1), store.cells(2), store.version(2));
     store.open_to(57)?;
     let after = (store.buckets(), store.cells(2), store.version(2));
-    assert_eq!(rt;
-        pending,
-        ([0, 0, 0, 0, 0, 0, 0, 0], [1, 0, 0, 4, 0, 0, 0, 0], 2)
+    assert_same(
+        &rt,
+        &pending,
+        &([0, 0, 0, 0, 0, 0, 0, 0], [1, 0, 0, 4, 0, 0, 0, 0], 2),
     );
-    assert_eq!(rt; after, (4, [1, 0, 0, 4, 0, 0, 0, 0], 2));
+    assert_same(&rt, &after, &(4, [1, 0, 0, 4, 0, 0, 0, 0], 2));
     Ok(())
 }
 
@@ -112,10 +115,10 @@ fn two_pending_writes_are_read(rt: HostRuntime) -> Result<(), Fail> {
     store.settle();
     let complete = (store.read(3), store.read(16), store.edit());
     let settled = (store.version(0), store.version(1), store.version(2));
-    assert_eq!(rt; (pending, complete), ((2, 1, 3), (2, 1, 3)));
-    assert_eq!(rt; (versions, settled), ((3, 0, 3), (3, 0, 3)));
-    assert_eq!(rt; store.cells(0), [0, 0, 0, 2, 0, 0, 0, 0]);
-    assert_eq!(rt; store.cells(2), [1, 0, 0, 0, 0, 0, 0, 0]);
+    assert_same(&rt, &(pending, complete), &((2, 1, 3), (2, 1, 3)));
+    assert_same(&rt, &(versions, settled), &((3, 0, 3), (3, 0, 3)));
+    assert_same(&rt, &store.cells(0), &[0, 0, 0, 2, 0, 0, 0, 0]);
+    assert_same(&rt, &store.cells(2), &[1, 0, 0, 0, 0, 0, 0, 0]);
     Ok(())
 }
 
@@ -128,7 +131,7 @@ fn open_or_again(rt: &impl Abort, store: &mut Store, cells: u32) -> Result<(), R
     let first = store.open_to(cells);
     if first == Err(Refusal::NoMemory) {
         let after = (store.buckets(), store.descriptor(), store.version(0));
-        assert_eq!(rt; after, before);
+        assert_same(rt, &after, &before);
         return store.open_to(cells);
     }
     first
@@ -140,9 +143,9 @@ fn check_opening(rt: &impl Abort, store: &mut Store)
     let one = (open_or_again(rt, store, 8), store.buckets());
     let four = (open_or_again(rt, store, 57), store.buckets());
     let fewer = (open_or_again(rt, store, 9), store.buckets());
-    assert_eq!(rt; one, (Ok(()), 1));
-    assert_eq!(rt; four, (Ok(()), 4));
-    assert_eq!(rt; fewer, (Ok(()), 4));
+    assert_same(rt, &one, &(Ok(()), 1));
+    assert_same(rt, &four, &(Ok(()), 4));
+    assert_same(rt, &fewer, &(Ok(()), 4));
 }
 
 // To be run with each allocation failing in turn, too.

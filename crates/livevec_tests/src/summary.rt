@@ -2,6 +2,7 @@
 ghost use Rattle.std.specs.Prelude.{◌≡◌, ◌*◌, ◌≤◌, OnOk};
 ghost use Rattle.lv_summary.specs.Table.{blocks_in};
 
+use crate::same::assert_same;
 use lv_geometry::{Node, Refusal};
 use lv_summary::{Accepted, Summaries};
 use std::process::Abort;
@@ -26,21 +27,31 @@ fn fill(table: &mut Summaries<u64>, blocks: u32) -> Result<(), Refusal>
 fn check_block(rt: &impl Abort, table: &mut Summaries<u64>) -> Result<(), Refusal> {
     fill(table, 1)?;
     let block = node(1, 0);
-    assert_eq!(rt;
-        (table.touched(block), table.whole(block), table.fresh(block)),
-        (8, true, false)
+    assert_same(
+        rt,
+        &(table.touched(block), table.whole(block), table.fresh(block)),
+        &(8, true, false),
     );
-    assert_eq!(rt; table.install(block, 8, 36), Accepted::Installed);
-    assert_eq!(rt; table.entry(block), Some(36));
-    assert_eq!(rt; table.install(block, 8, 36), Accepted::Held);
-    assert_eq!(rt; table.install(block, 7, 36), Accepted::Stale { now: 8 });
+    assert_same(rt, &table.install(block, 8, 36), &Accepted::Installed);
+    assert_same(rt, &table.entry(block), &Some(36));
+    assert_same(rt, &table.install(block, 8, 36), &Accepted::Held);
+    assert_same(
+        rt,
+        &table.install(block, 7, 36),
+        &Accepted::Stale { now: 8 },
+    );
     table.set_size(7);
-    assert_eq!(rt; table.install(block, 8, 36), Accepted::Stale { now: 8 });
-    assert_eq!(rt; table.entry(block), None);
+    assert_same(
+        rt,
+        &table.install(block, 8, 36),
+        &Accepted::Stale { now: 8 },
+    );
+    assert_same(rt, &table.entry(block), &None);
     table.set_size(8);
-    assert_eq!(rt;
-        (table.entry(block), table.kept_version(block)),
-        (Some(36), Some(8))
+    assert_same(
+        rt,
+        &(table.entry(block), table.kept_version(block)),
+        &(Some(36), Some(8)),
     );
     Ok(())
 }
@@ -57,21 +68,22 @@ fn a_summary_is_kept_for_a_block(rt: HostRuntime) -> Result<(), Refusal> {
 fn check_learnt(rt: &impl Abort, table: &mut Summaries<u64>) -> Result<(), Refusal> {
     fill(table, 1)?;
     let block = node(1, 0);
-    assert_eq!(rt; table.known(block), None);
+    assert_same(rt, &table.known(block), &None);
     assert!(rt; table.whole(block));
     table.learn(block, 36);
-    assert_eq!(rt;
-        (
+    assert_same(
+        rt,
+        &(
             table.known(block),
             table.entry(block),
-            table.kept_version(block)
+            table.kept_version(block),
         ),
-        (Some(36), None, None)
+        &(Some(36), None, None),
     );
-    assert_eq!(rt; table.install(block, 8, 36), Accepted::Installed);
-    assert_eq!(rt; table.install(block, 8, 36), Accepted::Held);
+    assert_same(rt, &table.install(block, 8, 36), &Accepted::Installed);
+    assert_same(rt, &table.install(block, 8, 36), &Accepted::Held);
     table.touch(3, 9);
-    assert_eq!(rt; table.known(block), None);
+    assert_same(rt, &table.known(block), &None);
     Ok(())
 }
 
@@ -87,30 +99,33 @@ fn what_was_computed_is_known(rt: HostRuntime) -> Result<(), Refusal> {
 fn check_parent(rt: &impl Abort, table: &mut Summaries<u64>) -> Result<(), Refusal> {
     fill(table, 8)?;
     let parent = node(2, 0);
-    assert_eq!(rt;
-        (
+    assert_same(
+        rt,
+        &(
             table.touched(parent),
             table.touched(node(6, 0)),
-            table.whole(node(6, 0))
+            table.whole(node(6, 0)),
         ),
-        (64, 64, false)
+        &(64, 64, false),
     );
-    assert_eq!(rt; table.install(parent, 64, 2080), Accepted::Installed);
+    assert_same(rt, &table.install(parent, 64, 2080), &Accepted::Installed);
     table.touch(3, 65);
-    assert_eq!(rt;
-        (
+    assert_same(
+        rt,
+        &(
             table.fresh(parent),
             table.touched(parent),
-            table.touched(node(1, 3))
+            table.touched(node(1, 3)),
         ),
-        (false, 65, 32)
+        &(false, 65, 32),
     );
-    assert_eq!(rt;
-        table.install(parent, 64, 2080),
-        Accepted::Stale { now: 65 }
+    assert_same(
+        rt,
+        &table.install(parent, 64, 2080),
+        &Accepted::Stale { now: 65 },
     );
-    assert_eq!(rt; table.install(parent, 65, 2085), Accepted::Installed);
-    assert_eq!(rt; table.kept_version(parent), Some(65));
+    assert_same(rt, &table.install(parent, 65, 2085), &Accepted::Installed);
+    assert_same(rt, &table.kept_version(parent), &Some(65));
     Ok(())
 }
 
@@ -159,16 +174,18 @@ fn check_growth(rt: &impl Abort, table: &mut Summaries<u64>) -> Result<(), Refus
     let _ = table.install(node(1, 7), 64, 484);
     table.grow(131_071)?;
     table.grow(9)?;
-    assert_eq!(rt;
-        (table.blocks(), table.size(), table.entry(node(1, 7))),
-        (131_071, 64, Some(484))
+    assert_same(
+        rt,
+        &(table.blocks(), table.size(), table.entry(node(1, 7))),
+        &(131_071, 64, Some(484)),
     );
     table.touch(1_048_567, 16_777_215);
     table.set_size(1_048_568);
-    assert_eq!(rt; table.touched(node(6, 3)), 16_777_215);
-    assert_eq!(rt;
-        (table.whole(node(6, 3)), table.whole(node(6, 2))),
-        (false, true)
+    assert_same(rt, &table.touched(node(6, 3)), &16_777_215);
+    assert_same(
+        rt,
+        &(table.whole(node(6, 3)), table.whole(node(6, 2))),
+        &(false, true),
     );
     Ok(())
 }

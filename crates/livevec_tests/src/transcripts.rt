@@ -1,4 +1,5 @@
 //! Tests of transcripts and the auditor over readers and writers that fail.
+use crate::same::assert_same;
 use lv_edits::Edit;
 use lv_script::devices::{FailingReader, FailingWriter, Failure};
 use lv_script::{Fault, Verdict, audit, write_transcript};
@@ -27,13 +28,13 @@ fn a_writer_fails_under_a_transcript(rt: HostRuntime) -> Result<(), Fail> {
             let mut writer = writer(rt.alloc(), 3, left)?;
             writer.failure = failure;
             let result = write_transcript(rt.alloc(), &edits, &[], &mut writer);
-            assert_eq!(rt; result, Err(Fault::WriteFault));
+            assert_same(&rt, &result, &Err(Fault::WriteFault));
             assert_eq!(rt; writer.taken.as_slice(), &text[..left], "{failure:?}");
         }
     }
     let mut writer = writer(rt.alloc(), 1, 100)?;
     write_transcript(rt.alloc(), &edits, &[], &mut writer)?;
-    assert_eq!(rt; writer.taken.as_slice(), text);
+    assert_same(&rt, &writer.taken.as_slice(), &text);
     Ok(())
 }
 
@@ -47,8 +48,8 @@ fn check_audit(
     text: &[u8],
 ) {
     let result = audit(alloc, reader, writer);
-    assert_eq!(rt; result, end);
-    assert_eq!(rt; writer.taken.as_slice(), text);
+    assert_same(rt, &result, &end);
+    assert_same(rt, &writer.taken.as_slice(), &text);
 }
 
 #[test]

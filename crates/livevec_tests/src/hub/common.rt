@@ -1,6 +1,7 @@
 //! What the tests share: what they do to a hub and see of it, and a place where threads wait.
 ghost use Rattle.std.specs.Prelude.{◌≡◌};
 
+use crate::same::assert_same;
 use lv_bodies::{Body, Sum};
 use lv_edits::{Edit, Receipt};
 use lv_geometry::Refusal;
@@ -67,7 +68,7 @@ pub(crate) fn assert_sum<N: Means<Sum>, R: Wait + Abort>(
     ensures { share.new.parts ≡ share.old.parts }
 {
     let answer = hub.reduce(rt, share, 0, hi)?;
-    assert_eq!(rt; (answer.edit, answer.value), (edit, value));
+    assert_same(rt, &(answer.edit, answer.value), &(edit, value));
     Ok(())
 }
 
@@ -78,7 +79,7 @@ pub(crate) fn assert_given<N: Means<Sum>, R: Wait + Abort>(
     outcome: Outcome<Sum>,
     answer: Result<Accepted, Refusal>,
 ) {
-    assert_eq!(rt; hub.give(rt, outcome), answer);
+    assert_same(rt, &hub.give(rt, outcome), &answer);
 }
 
 // Writes over an element, and sees the edit's number and that a 1 stood there.
@@ -93,7 +94,7 @@ pub(crate) fn overwrite_a_one<N: Means<Sum>, R: Wait + Abort>(
     ensures { share.new.parts ≡ share.old.parts }
 {
     let receipt = hub.edit(rt, share, Edit::Write { index, value });
-    assert_eq!(rt; receipt, Ok(Receipt::Written { edit, before: 1 }));
+    assert_same(rt, &receipt, &Ok(Receipt::Written { edit, before: 1 }));
 }
 
 // Whether a flag is seen set within 1,000,000 turns.

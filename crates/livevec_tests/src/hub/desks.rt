@@ -1,6 +1,7 @@
 //! Tests a desk with no hub around it, and shares that are split and joined.
 ghost use Rattle.std.specs.Prelude.{◌≡◌};
 
+use crate::same::assert_same;
 use lv_bodies::Sum;
 use lv_edits::Edit;
 use lv_geometry::{Limits, Refusal};
@@ -36,7 +37,7 @@ fn push_eight<N: Naming>(desk: &mut Desk<Sum, N>, share: &mut Share<N>) -> Resul
 // Refreshes a desk of eight elements, and sees that nothing more is wanted.
 fn assert_refreshed<N: Naming>(rt: &impl Abort, desk: &mut Desk<Sum, N>) -> Result<(), Fail> {
     let outcome = desk.claim().ok_or("a job is wanted")?.run();
-    assert_eq!(rt; desk.give(outcome), Ok(Accepted::Installed));
+    assert_same(rt, &desk.give(outcome), &Ok(Accepted::Installed));
     assert!(rt; desk.claim().is_none());
     Ok(())
 }
@@ -44,7 +45,7 @@ fn assert_refreshed<N: Naming>(rt: &impl Abort, desk: &mut Desk<Sum, N>) -> Resu
 // Sees what a refreshed desk of eight elements 1 reads for their sum.
 fn assert_read<N: Naming>(rt: &impl Abort, desk: &Desk<Sum, N>) -> Result<(), Fail> {
     let answer = desk.live().reduce(0, 8)?;
-    assert_eq!(rt; (answer.value, answer.summaries_read), (8, 1));
+    assert_same(rt, &(answer.value, answer.summaries_read), &(8, 1));
     Ok(())
 }
 
@@ -59,7 +60,7 @@ fn assert_desk<N: Naming>(
     push_eight(desk, share)?;
     assert_refreshed(rt, desk)?;
     assert_read(rt, desk)?;
-    assert_eq!(rt; split_and_join(share), [(2, 8), (1, 0), (3, 8)]);
+    assert_same(rt, &split_and_join(share), &[(2, 8), (1, 0), (3, 8)]);
     Ok(())
 }
 

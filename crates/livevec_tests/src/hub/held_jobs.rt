@@ -2,6 +2,7 @@
 ghost use Rattle.std.specs.Prelude.{◌≡◌, Some};
 
 use super::common::*;
+use crate::same::assert_same;
 use lv_bodies::Body;
 use lv_edits::{Edit, Receipt};
 use lv_geometry::{Limits, Refusal};
@@ -163,9 +164,9 @@ fn assert_held(rt: &impl Abort, done: HeldOnce) {
     let (worked, (first, answer, second)) = done;
     let first_wanted = Receipt::Pushed { edit: 9, index: 8 };
     let second_wanted = Receipt::Pushed { edit: 10, index: 9 };
-    assert_eq!(rt; (first, second), (first_wanted, second_wanted));
-    assert_eq!(rt; (answer.edit, answer.value), (9, 9));
-    assert_eq!(rt; worked, one_installed());
+    assert_same(rt, &(first, second), &(first_wanted, second_wanted));
+    assert_same(rt, &(answer.edit, answer.value), &(9, 9));
+    assert_same(rt, &worked, &one_installed());
 }
 
 #[test]
@@ -183,7 +184,7 @@ fn a_held_job_holds_nobody(rt: HostRuntime) -> Result<(), Fail> {
     )?;
     assert!(rt; stage.was_in_time());
     // a claim that computes its job under the lock lifts before the gate
-    assert_eq!(rt; stage.early.load(Ordering::SeqCst), 0);
+    assert_same(&rt, &stage.early.load(Ordering::SeqCst), &0);
     assert_held(&rt, done);
     Ok(())
 }

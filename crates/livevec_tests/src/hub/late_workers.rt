@@ -2,6 +2,7 @@
 ghost use Rattle.std.specs.Prelude.{◌≡◌, Some};
 
 use super::common::*;
+use crate::same::assert_same;
 use lv_bodies::Sum;
 use lv_edits::{Edit, Receipt};
 use lv_geometry::{Limits, Refusal};
@@ -60,14 +61,15 @@ fn work_late<N: Means<Sum> + Send + Sync, R: Threads + Wait + Sync>(
 // Sees what was done while a worker was late.
 fn assert_done_late(rt: &impl Abort, done: DoneLate) {
     let (first, (second, written)) = done;
-    assert_eq!(rt;
-        written,
-        Ok(Receipt::Written {
+    assert_same(
+        rt,
+        &written,
+        &Ok(Receipt::Written {
             edit: 17,
-            before: 1
-        })
+            before: 1,
+        }),
     );
-    assert_eq!(rt; (first, second), (one_stale(), one_installed()));
+    assert_same(rt, &(first, second), &(one_stale(), one_installed()));
 }
 
 // Makes a new hub one of 16 elements 1, where a worker is late.

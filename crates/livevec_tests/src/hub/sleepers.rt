@@ -2,6 +2,7 @@
 ghost use Rattle.std.specs.Prelude.{◌≡◌, Some};
 
 use super::common::*;
+use crate::same::assert_same;
 use lv_bodies::Sum;
 use lv_geometry::{Limits, Refusal};
 use lv_hub::*;
@@ -102,8 +103,8 @@ fn assert_woken<N: Means<Sum> + Send + Sync, R: Threads + Wait + Clock + Abort +
         move || attend(rt, hub, gate, 1000),
         move || push_then_dismiss(rt, hub, share, gate),
     );
-    assert_eq!(rt; seen, Ok(true));
-    assert_eq!(rt; worked, installed(2));
+    assert_same(rt, &seen, &Ok(true));
+    assert_same(rt, &worked, &installed(2));
     Ok(())
 }
 
@@ -166,13 +167,13 @@ fn assert_dismissed<N: Means<Sum> + Send + Sync, R: Threads + Wait + Clock + Abo
     hub: &Hub<Sum, N>,
     share: &mut Share<N>,
 ) -> Result<(), Fail> {
-    assert_eq!(rt; attend(rt, hub, &OpenGate, 1), installed(0));
+    assert_same(rt, &attend(rt, hub, &OpenGate, 1), &installed(0));
     for worked in dismiss_eight(rt, alloc, hub)?.iter() {
-        assert_eq!(rt; *worked, installed(0));
+        assert_same(rt, &*worked, &installed(0));
     }
     push_all(rt, hub, share, 8, 1)?;
-    assert_eq!(rt; attend(rt, hub, &OpenGate, 1000), installed(0));
-    assert_eq!(rt; work(rt, hub, &OpenGate, 1000), installed(1));
+    assert_same(rt, &attend(rt, hub, &OpenGate, 1000), &installed(0));
+    assert_same(rt, &work(rt, hub, &OpenGate, 1000), &installed(1));
     Ok(())
 }
 

@@ -2,6 +2,7 @@
 ghost use Rattle.std.specs.Prelude.{◌≡◌, Some};
 
 use super::common::*;
+use crate::same::assert_same;
 use lv_bodies::{Automaton, Body, Sum};
 use lv_geometry::{Limits, Refusal};
 use lv_hub::*;
@@ -88,8 +89,8 @@ fn answer_to<B: Body, N: Means<B>, R: Wait>(
 
 // Sees the edit and the values of a scan.
 fn assert_scan(rt: &impl Abort, scan: &Scan<u64>, edit: u32, values: &[u64]) {
-    assert_eq!(rt; scan.edit, edit);
-    assert_eq!(rt; scan.values.as_slice(), values);
+    assert_same(rt, &scan.edit, &edit);
+    assert_same(rt, &scan.values.as_slice(), &values);
 }
 
 // Gives a hub of eight elements 1 the outcome of another, and then its own, twice.
@@ -175,7 +176,7 @@ fn one_hub_of_two<N: Means<Sum>, R: Threads + Wait + Abort + Sync>(
     let seen = assert_strangers(rt, alloc, &hub, &mut share, strange);
     let counts = counts_at_close(rt, hub, share);
     seen?;
-    assert_eq!(rt; counts, (9, 9));
+    assert_same(rt, &counts, &(9, 9));
     Ok(())
 }
 
@@ -226,7 +227,7 @@ fn equal_contents_are_no_stranger(rt: HostRuntime) -> Result<(), Fail> {
         1,
         outcome,
     );
-    assert_eq!(rt; answer, Ok(Accepted::Installed));
+    assert_same(&rt, &answer, &Ok(Accepted::Installed));
     Ok(())
 }
 
@@ -269,6 +270,6 @@ fn an_outcome_by_another_table_is_a_stranger(rt: HostRuntime) -> Result<(), Fail
         1,
         outcome,
     );
-    assert_eq!(rt; answer, Err(Refusal::Stranger));
+    assert_same(&rt, &answer, &Err(Refusal::Stranger));
     Ok(())
 }

@@ -2,6 +2,7 @@
 ghost use Rattle.std.specs.Prelude.{◌≡◌, Some};
 
 use super::common::*;
+use crate::same::assert_same;
 use lv_bodies::Sum;
 use lv_geometry::{Limits, Node, Refusal};
 use lv_hub::*;
@@ -47,7 +48,7 @@ fn outcome_of_64<N: Means<Sum>, R: Wait + Abort>(
         level: 2,
         number: 0,
     };
-    assert_eq!(rt; (outcome.node(), outcome.version()), (node, 64));
+    assert_same(rt, &(outcome.node(), outcome.version()), &(node, 64));
     Ok(outcome)
 }
 

@@ -2,6 +2,7 @@
 ghost use Rattle.std.specs.Prelude.{◌≡◌, Some};
 
 use super::common::*;
+use crate::same::assert_same;
 use lv_bodies::Sum;
 use lv_edits::{Edit, Receipt};
 use lv_geometry::{Limits, Refusal};
@@ -68,7 +69,7 @@ fn total<N: Means<Sum> + Send + Sync, R: Threads + Wait + Abort + Sync>(
     let (share, pushed) = push_from_two(rt, &hub, share);
     let counts = counts_at_close(rt, hub, share);
     pushed?;
-    assert_eq!(rt; counts, (1000, 1000));
+    assert_same(rt, &counts, &(1000, 1000));
     Ok(())
 }
 
@@ -95,7 +96,7 @@ fn push_or_again<N: Means<Sum>, R: Wait + Abort>(
     let before = share.count();
     let first = hub.edit(rt, share, Edit::Push(1));
     if first == Err(Refusal::NoMemory) {
-        assert_eq!(rt; share.count(), before);
+        assert_same(rt, &share.count(), &before);
         return hub.edit(rt, share, Edit::Push(1));
     }
     first
@@ -107,7 +108,7 @@ fn push_nine<N: Means<Sum>, R: Wait + Abort>(rt: &R, hub: &Hub<Sum, N>, share: &
     for index in 0..9 {
         let receipt = push_or_again(rt, hub, share);
         let edit = index + 1;
-        assert_eq!(rt; receipt, Ok(Receipt::Pushed { edit, index }));
+        assert_same(rt, &receipt, &Ok(Receipt::Pushed { edit, index }));
     }
 }
 
@@ -128,7 +129,7 @@ fn nine_pushes<N: Means<Sum>, R: Wait + Abort>(
 {
     let (hub, mut share) = Hub::<Sum, N>::new(alloc, limits, body, blank, 1, opened);
     push_nine(rt, &hub, &mut share);
-    assert_eq!(rt; counts_at_close(rt, hub, share), (9, 9));
+    assert_same(rt, &counts_at_close(rt, hub, share), &(9, 9));
 }
 
 // To be run with each allocation failing in turn, too.
