@@ -4,7 +4,7 @@ use lv_script::Fault;
 use std::fmt;
 
 /// Where a fault came up. Files are counted from 0, as the command line names them.
-#[derive(Clone, Copy, Debug, PartialEq, Eq)]
+#[derive(Clone, Copy)]
 pub enum Place {
     /// On standard input or standard output.
     Standard,
@@ -15,7 +15,7 @@ pub enum Place {
 }
 
 /// A fault, and where it came up.
-#[derive(Clone, Copy, Debug, PartialEq, Eq)]
+#[derive(Clone, Copy)]
 pub struct Failure {
     pub fault: Fault,
     pub place: Place,

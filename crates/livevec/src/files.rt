@@ -19,7 +19,7 @@ pub struct Streams<F: Drop> {
 }
 
 /// Why files can't be sessions together.
-#[derive(Clone, Copy, Debug, PartialEq, Eq)]
+#[derive(Clone, Copy)]
 pub enum Clash<'a> {
     /// A file is named twice.
     Twice(&'a str),

@@ -193,7 +193,9 @@ fn share_out<N: Means<Six>, F: Drop>(
             share: share.split(),
             streams,
         };
-        tasks.push(task).map_err(|_| Failure::memory())?;
+        if tasks.push(task).is_err() {
+            return Err(Failure::memory());
+        }
     }
     Ok(tasks)
 }

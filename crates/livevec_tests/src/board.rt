@@ -58,7 +58,22 @@ fn close_or_again(
     }
 }
 
-// What is there when a board is closed: the number of its last edit, and its elements.
+// What is left of a board, where memory is not wanting twice.
+fn closed(rt: &impl Abort, alloc: Global, board: Board<Sum>, seats: Vec<Seat<Sum>>) -> Closed
+    requires at { AreAt board.table.shared.table_id board.terms seats.items }
+    requires all { AreAll board.terms.seats seats.items }
+{
+    match close_or_again(alloc, board, seats) {
+        Ok(closed) => closed,
+        Err((board, seats)) => {
+            drop(seats);
+            drop(board);
+            panic!(rt; "memory is wanting twice");
+        }
+    }
+}
+
+// Closes a board, and sees the number of its last edit and its elements.
 fn assert_closed(
     rt: &impl Abort,
     alloc: Global,
@@ -70,18 +85,10 @@ fn assert_closed(
     requires at { AreAt board.table.shared.table_id board.terms seats.items }
     requires all { AreAll board.terms.seats seats.items }
 {
-    match close_or_again(alloc, board, seats) {
-        Ok(closed) => {
-            assert_same(rt, &closed.edit, &edit);
-            assert_same(rt, &closed.elements.as_slice(), &elements);
-            drop(closed);
-        }
-        Err((board, seats)) => {
-            drop(seats);
-            drop(board);
-            panic!(rt; "memory is wanting twice");
-        }
-    }
+    let left = closed(rt, alloc, board, seats);
+    assert_same(rt, &left.edit, &edit);
+    assert_same(rt, &left.elements.as_slice(), &elements);
+    drop(left);
 }
 
 // Pushes an element, and sees where it came.
@@ -394,7 +401,7 @@ fn thousand_tries<R: Threads + Abort + Sync>(
     alloc: Global,
     board: Board<Sum>,
     seats: Vec<Seat<Sum>>,
-) -> Result<(), Fail>
+)
     requires count { board.terms.seats ≡ 2 }
     requires two { length seats.items ≡ 2 }
     requires dealt { AreDealt board.table.shared.table_id board.terms seats.items }
@@ -402,18 +409,16 @@ fn thousand_tries<R: Threads + Abort + Sync>(
     let (a, b, rest) = seats_of(rt, &board, seats);
     let ((a, ones), (b, twos)) = push_from_two(rt, &board, a, b);
     let seats = both(&board, a, b, rest);
-    let Ok(closed) = board.close(alloc, seats) else {
-        return Err(Fail::new("the board is closed"));
-    };
-    assert_counts(rt, &closed, ones, twos);
-    drop(closed);
-    Ok(())
+    let left = closed(rt, alloc, board, seats);
+    assert_counts(rt, &left, ones, twos);
+    drop(left);
 }
 
 #[test]
 fn two_threads_try(rt: HostRuntime) -> Result<(), Fail> {
     let (board, seats) = open(rt.alloc())?;
-    thousand_tries(&rt, rt.alloc(), board, seats)
+    thousand_tries(&rt, rt.alloc(), board, seats);
+    Ok(())
 }
 
 // Looks until there are so many elements, at most 1,000,000 times. Whether there were.

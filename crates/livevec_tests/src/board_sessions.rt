@@ -95,6 +95,17 @@ fn writes_that_fail(rt: HostRuntime) -> Result<(), Fail> {
     Ok(())
 }
 
+// Sees that nothing was read or written, and that the seat saw no edit.
+fn assert_not_begun(
+    rt: &impl Abort,
+    reader: &FailingReader<'_>,
+    writer: &FailingWriter,
+    seat: &Seat<Sum>,
+) {
+    let read_written_seen = (reader.rest.len(), writer.taken.len(), seat.seen());
+    assert_same(rt, &read_written_seen, &(LINES.len(), 0, 0));
+}
+
 // Holds a session. Where memory is wanting it sees that nothing was read or written, and holds it again.
 fn hold_or_again(
     rt: &impl Abort,
@@ -106,16 +117,13 @@ fn hold_or_again(
     requires { IsAt board.now.table.shared.table_id board.now.terms seat.old }
 {
     let mut reader = reader(1000, 1000);
-    let first = run_board_session(alloc, board, seat, &mut reader, writer);
-    if first == Err(Fault::NoMemory) {
-        assert_same(
-            rt,
-            &(reader.rest.len(), writer.taken.len(), seat.seen()),
-            &(LINES.len(), 0, 0),
-        );
-        return run_board_session(alloc, board, seat, &mut reader, writer);
+    match run_board_session(alloc, board, seat, &mut reader, writer) {
+        Err(Fault::NoMemory) => {
+            assert_not_begun(rt, &reader, writer, seat);
+            run_board_session(alloc, board, seat, &mut reader, writer)
+        }
+        ended => ended,
     }
-    first
 }
 
 // To be run with each allocation failing in turn, too.

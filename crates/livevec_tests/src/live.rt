@@ -1,6 +1,6 @@
 //! Tests what a live vector says of the outcomes of another.
 use crate::same::assert_same;
-use lv_bodies::Sum;
+use lv_bodies::{Body, Sum};
 use lv_edits::Edit;
 use lv_geometry::{Limits, Node, Refusal};
 use lv_live::Live;
@@ -19,7 +19,7 @@ fn push_eight(live: &mut Live<Sum>, x: i64) -> Result<(), Refusal> {
 }
 
 // Gives an outcome to a vector, if the vector vouches for it.
-fn give(live: &mut Live<Sum>, outcome: Outcome<Sum>) -> Option<Accepted> {
+pub(crate) fn give<B: Body>(live: &mut Live<B>, outcome: Outcome<B>) -> Option<Accepted> {
     if live.vet(&outcome) {
         Some(live.accept(outcome))
     } else {

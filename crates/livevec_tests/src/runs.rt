@@ -1,4 +1,5 @@
 //! Tests of runs: the laws at a body, every event's reply as a value, and that a reduction lifts no more elements than it says.
+use crate::live::give;
 use crate::same::assert_same;
 use lv_bodies::{Body, Sum};
 use lv_edits::{Edit, Receipt};
@@ -65,11 +66,9 @@ impl<'a> Body for Counted<'a> {
 
 // Claims a job, runs it and gives its outcome back, where there is a job.
 fn refresh_counted(live: &mut Live<Counted<'_>>) -> Option<Accepted> {
-    let outcome = live.claim()?.run();
-    if live.vet(&outcome) {
-        Some(live.accept(outcome))
-    } else {
-        None
+    match live.claim() {
+        Some(job) => give(live, job.run()),
+        None => None,
     }
 }
 

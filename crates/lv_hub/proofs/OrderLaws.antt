@@ -6,7 +6,7 @@ use Rattle.std.proofs.slice.Orders.{nat_cmp-ltb}
 use Rattle.std.proofs.lemmas.Bool.{cases_lt, eq-eqb, le-ltb, lt-ltb, ne_eqb}
 use Rattle.lv_bodies.specs.declared.kinds.Kind.TheVariants.{Sum}
 use Rattle.lv_bodies.specs.declared.kinds.Shown.TheVariants as shown
-use Rattle.lv_transcript.specs.declared.transcripts.Claimed.{Claimed}
+use Rattle.lv_transcript.specs.declared.claimed.Claimed.{Claimed}
 use Rattle.lv_hub.specs.Session.{KeepTies}
 
 -- neither of two numbers is below the other where they are one

@@ -16,7 +16,7 @@ use Rattle.lv_lines.specs.declared.command.Line.{Line}
 use Rattle.lv_lines.specs.declared.command.Line.TheVariants.{Nothing, Bad, Do}
 use Rattle.lv_lines.specs.Grammar.{line_of}
 use Rattle.lv_lines.specs.Texts.{answer_text, bad_text, refused_text, scan_text}
-use Rattle.lv_transcript.specs.declared.transcripts.Claimed.{Claimed}
+use Rattle.lv_transcript.specs.declared.claimed.Claimed.{Claimed}
 use Rattle.lv_script.specs.Script.{edit_text}
 use Rattle.lv_hub.specs.Counting.{ShareState}
 use Rattle.lv_hub.specs.Told.{EditTold, ReductionTold, ScanTold}

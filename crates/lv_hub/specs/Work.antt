@@ -5,7 +5,7 @@ use Rattle.lv_summary.specs.declared.accepted.Accepted.{Accepted}
 use Rattle.lv_summary.specs.declared.accepted.Accepted.TheVariants.{Held, Installed, Stale}
 use Rattle.lv_edits.specs.declared.receipt.Receipt.{Receipt}
 use Rattle.lv_edits.specs.declared.receipt.Receipt.TheVariants.{Pushed, Popped, Written, Reserved, Swapped, Truncated}
-use Rattle.lv_hub.specs.declared.workers.Worked.{Worked}
+use Rattle.lv_hub.specs.declared.worked.Worked.{Worked}
 
 -- what a worker did, with one outcome more
 abbrev pub noted : Worked → Result Accepted Refusal → Worked

@@ -3,7 +3,7 @@ ghost use Rattle.std.specs.Prelude.{◌≡◌, ◌+◌, ◌≤◌};
 use crate::gates::Gate;
 use crate::hubs::Hub;
 use crate::naming::Means;
-use crate::workers::Worked;
+use crate::worked::Worked;
 use lv_bodies::Body;
 use std::sync::Wait;
 

@@ -21,6 +21,7 @@ mod replying;
 mod rooms;
 mod sessions;
 mod shares;
+mod worked;
 mod workers;
 
 pub use attending::attend;
@@ -31,4 +32,5 @@ pub use hubs::Hub;
 pub use naming::{Means, Naming};
 pub use sessions::{in_order, run_session};
 pub use shares::Share;
-pub use workers::{Worked, work};
+pub use worked::Worked;
+pub use workers::work;

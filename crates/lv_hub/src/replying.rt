@@ -1,6 +1,6 @@
 ghost use Rattle.std.specs.Prelude.{◌≡◌, ◌≤◌, ◌++◌, ℕ, List, OnOk, IfErr};
 ghost use Rattle.lv_lines.specs.Output.{HasRoom, KeepsRoom, Puts, PutsFront, SamePlaces};
-ghost use Rattle.lv_transcript.specs.declared.transcripts.Claimed.{Claimed};
+ghost use Rattle.lv_transcript.specs.declared.claimed.Claimed.{Claimed};
 ghost use Rattle.lv_hub.specs.Counting.{having_seen};
 ghost use Rattle.lv_hub.specs.Session.{SessionCommandAnswer, SessionLineAnswer, TellsEdit, TellsReduction, TellsScan, session_at};
 

@@ -1,45 +1,15 @@
 ghost use Rattle.std.specs.Prelude.{◌≡◌, ◌+◌, ◌^◌, ◌<◌, ◌≤◌};
-ghost use Rattle.lv_hub.specs.Work.{noted};
 
 use crate::gates::Gate;
 use crate::hubs::Hub;
 use crate::naming::Means;
+use crate::worked::Worked;
 use lv_bodies::Body;
-use lv_geometry::Refusal;
 use lv_refresh::Job;
-use lv_summary::Accepted;
 use std::sync::Wait;
 use std::thread;
 
-/// What a worker did: how many jobs it claimed, and what became of their outcomes.
-#[derive(Clone, Copy, Debug, Default, PartialEq, Eq)]
-pub struct Worked {
-    /// How many jobs were claimed.
-    pub claimed: u64,
-    /// How many outcomes were installed.
-    pub installed: u64,
-    /// How many were held already.
-    pub held: u64,
-    /// How many were stale.
-    pub stale: u64,
-    /// How many were refused as another vector's.
-    pub strangers: u64,
-}
-
 impl Worked {
-    // Counts what became of an outcome.
-    fn note(&mut self, given: Result<Accepted, Refusal>)
-        requires { self.old.installed + self.old.held + self.old.stale + self.old.strangers + 1 < 2 ^ 64 }
-        ensures { self.new ≡ noted self.old given }
-    {
-        match given {
-            Ok(Accepted::Installed) => self.installed += 1,
-            Ok(Accepted::Held) => self.held += 1,
-            Ok(Accepted::Stale { .. }) => self.stale += 1,
-            Err(_) => self.strangers += 1,
-        }
-    }
-
     // Passes the gate with a job that was claimed, computes it and gives the outcome, with no lock held between.
     #[inline(always)]
     pub(crate) fn finish<B: Body, N: Means<B>, G: Gate, R: Wait>(

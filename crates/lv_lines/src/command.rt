@@ -3,7 +3,7 @@ use lv_edits::Edit;
 use lv_standing::Name;
 
 /// What a line of a script asks for.
-#[derive(Clone, Copy, Debug, PartialEq, Eq)]
+#[derive(Clone, Copy)]
 pub enum Command {
     /// Change the vector.
     Edit(Edit),
@@ -53,7 +53,7 @@ pub enum Command {
 }
 
 /// What a line of a script is.
-#[derive(Clone, Copy, Debug, PartialEq, Eq)]
+#[derive(Clone, Copy)]
 pub enum Line {
     /// Blank, or a comment. It has no reply.
     Nothing,

@@ -11,7 +11,7 @@ use lv_refresh::Claims;
 use lv_summary::Summaries;
 
 /// The indices that an edit touches: none, one, or two that may be the same.
-#[derive(Clone, Copy, Debug)]
+#[derive(Clone, Copy)]
 pub enum Touched {
     Nothing,
     One(u32),

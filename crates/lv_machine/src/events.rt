@@ -1,5 +1,5 @@
 /// What an actor may ask of a machine.
-#[derive(Clone, Copy, Debug, PartialEq, Eq)]
+#[derive(Clone, Copy)]
 pub enum Call {
     /// Puts an element of 16 bits at the end.
     Push(i64),
@@ -18,7 +18,7 @@ pub enum Call {
 }
 
 /// What may happen to a machine: actor `actor`, counted from 0, starts a call, or does the next atomic step of its call.
-#[derive(Clone, Copy, Debug, PartialEq, Eq)]
+#[derive(Clone, Copy)]
 pub enum Event {
     Call { actor: u32, call: Call },
     Step { actor: u32 },

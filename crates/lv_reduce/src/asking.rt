@@ -1,4 +1,4 @@
-ghost use Rattle.std.specs.Prelude.{◌≡◌, ◌+◌, ◌*◌, ◌≤◌, true, false, length, IfOk, IfErr, OnErr};
+ghost use Rattle.std.specs.Prelude.{◌≡◌, ⊤, ◌+◌, ◌*◌, ◌≤◌, true, false, length, IfOk, IfErr, OnErr};
 ghost use Rattle.lv_edits.specs.History.{list_of};
 ghost use Rattle.lv_known.specs.Agrees.{Agrees};
 ghost use Rattle.lv_summary.specs.Changes.{OnlyLearns};
@@ -12,13 +12,24 @@ use lv_bodies::{Body, fold_more, fold_slice};
 use lv_edits::Edits;
 use lv_geometry::{Node, Refusal, width};
 use lv_summary::Summaries;
+use std::alloc::AllocError;
 
 /// The summary of a node, and how many cells and summaries were read for it.
-#[derive(Clone, Copy)]
+#[derive(Copy)]
 pub struct Known<S> {
     pub summary: S,
     pub cells_read: u32,
     pub summaries_read: u32,
+}
+
+impl<S: Copy> Clone for Known<S> {
+    ghost is_clone = { λ x y. y ≡ x };
+
+    ghost is_infallible = { λ _. ⊤ };
+
+    fn clone(&self) -> Result<Known<S>, AllocError> {
+        Ok(*self)
+    }
 }
 
 /// The fold of the elements from index `lo` up to `hi`, `hi` excluded, as `reduce` answers it; what is computed for it is kept in

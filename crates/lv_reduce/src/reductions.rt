@@ -1,4 +1,4 @@
-ghost use Rattle.std.specs.Prelude.{◌≡◌, ◌+◌, ◌-◌, ◌*◌, ◌/◌, ◌%◌, ◌^◌, ◌<◌, ◌≤◌, ℕ, length, true, false, IfOk, IfErr, IfSome, IfNone};
+ghost use Rattle.std.specs.Prelude.{◌≡◌, ⊤, ◌+◌, ◌-◌, ◌*◌, ◌/◌, ◌%◌, ◌^◌, ◌<◌, ◌≤◌, ℕ, length, true, false, IfOk, IfErr, IfSome, IfNone};
 ghost use Rattle.lv_bodies.specs.Body.{CanJoin};
 ghost use Rattle.lv_known.specs.Agrees.{Agrees};
 ghost use Rattle.lv_summary.specs.Table.{fresh_in};
@@ -10,6 +10,7 @@ use crate::views::{View, refusal_of};
 use lv_bodies::{Body, fold_more};
 use lv_geometry::{Node, Refusal, width};
 use lv_summary::Summaries;
+use std::alloc::AllocError;
 
 /// The answer to a reduction: the number of the last edit, the fold of the range's elements, and how many cells and
 /// summaries were read for it.
@@ -22,10 +23,20 @@ pub struct Answer<S> {
 }
 
 // The summary of a fresh node, and the node's level.
-#[derive(Clone, Copy)]
+#[derive(Copy)]
 struct Piece<S> {
     level: u32,
     summary: S,
+}
+
+impl<S: Copy> Clone for Piece<S> {
+    ghost is_clone = { λ x y. y ≡ x };
+
+    ghost is_infallible = { λ _. ⊤ };
+
+    fn clone(&self) -> Result<Piece<S>, AllocError> {
+        Ok(*self)
+    }
 }
 
 /// The fold of the elements from index `lo` up to `hi`, `hi` excluded. Refused with `BadRange`, then `OutOfRange`.

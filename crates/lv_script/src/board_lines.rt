@@ -9,7 +9,7 @@ use lv_lines::{is_comment, kind_name, next_word, without_cr};
 use lv_machine::Call;
 
 /// What a line of a board's session is.
-#[derive(Clone, Copy, Debug, PartialEq, Eq)]
+#[derive(Clone, Copy)]
 pub enum BoardLine {
     /// Blank, or a comment. It has no reply.
     Nothing,

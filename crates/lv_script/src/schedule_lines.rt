@@ -8,7 +8,7 @@ use lv_lines::{is_comment, next_word, number, without_cr};
 use lv_machine::{Call, Event};
 
 /// What a line of a schedule is.
-#[derive(Clone, Copy, Debug, PartialEq, Eq)]
+#[derive(Clone, Copy)]
 pub enum ScheduleLine {
     /// Blank, or a comment. It has no reply.
     Nothing,

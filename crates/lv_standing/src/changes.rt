@@ -4,7 +4,7 @@ ghost use Rattle.lv_standing.specs.Inner.{changed_by, pushed_by};
 use lv_edits::Edit;
 
 /// The indices whose elements an edit changes, brings or drops.
-#[derive(Clone, Copy, Debug)]
+#[derive(Clone, Copy)]
 pub enum Changed {
     Nothing,
     One(u32),

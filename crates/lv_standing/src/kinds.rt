@@ -8,7 +8,7 @@ use lv_bodies::{
 };
 
 /// The summary of some elements by one kind.
-#[derive(Clone, Copy, Debug)]
+#[derive(Clone, Copy)]
 pub enum KindSummary {
     Sum(u64),
     Least(Option<i64>),

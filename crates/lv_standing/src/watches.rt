@@ -20,7 +20,7 @@ use lv_bodies::{Shown, Six, SixSummary};
 use lv_live::Live;
 
 /// The range of a standing query, and the summary by its kind of the elements that the range has at the last edit.
-#[derive(Clone, Copy, Debug)]
+#[derive(Clone, Copy)]
 pub struct Watch {
     pub lo: u32,
     pub hi: u32,
@@ -99,7 +99,7 @@ pub fn count_asked(watches: &IndexMap<Name, Watch>, changed: Changed) -> usize
 }
 
 // What all six make of a range that was asked for.
-#[derive(Clone, Copy, Debug)]
+#[derive(Clone, Copy)]
 struct OfRange {
     lo: u32,
     hi: u32,

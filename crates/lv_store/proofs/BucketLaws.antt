@@ -1,6 +1,7 @@
 -- The cells of buckets in a row: where an index lies in them, and what a change of one bucket makes of them.
 use Rattle.std.proofs.Common.{◌≡◌, ℕ, zero, suc, ◌+◌, ◌-◌, ◌*◌, ◌<◌, ◌≤◌, List, [], ◌∷◌, ◌++◌, length, map, fold, take, drop, get_or, set, refl, sym, ap, ◌∙◌, add-one, append_assoc, max, replicate, append-nil, inl, inr, arith}
 use Rattle.std.specs.List.{flat_map, range_with_len, sum_by}
+use Rattle.std.proofs.Math.Seq.{take-append_seam}
 use Rattle.std.proofs.lemmas.Bool.{cases_lt}
 use Rattle.std.proofs.lemmas.List.{drop-append-le, drop-drop, drop_at, flat_map_more, get_or-map, length-append, length-drop, length-map, length-set, length-take-le, length_push, map-set, map_push, replicate-append-replicate, set-append_left, set-append_right, set-get_or, take-append-drop, take-append-le, take-map, take_at}
 use Rattle.std.proofs.lemmas.List.Concat.{flat_map-append, get_or-flat_map, length-flat_map}
@@ -9,7 +10,7 @@ use Rattle.std.proofs.lemmas.List.FromFn.{get_or-map-range_with_len, map-range_w
 use Rattle.std.proofs.lemmas.Nat.{pow_pos}
 use Rattle.lv_geometry.specs.Cells.{IsCell, capacity_of, index_of}
 use Rattle.lv_geometry.specs.declared.places.Place.{Place}
-use Rattle.lv_store.specs.Directory.{Cells, with_bucket, with_buckets}
+use Rattle.lv_store.specs.Directory.{Cells, first_buckets, with_bucket, with_buckets}
 use Rattle.lv_store.specs.Inner.{AreBuckets}
 use Rattle.lv_geometry.proofs.Capacities.{capacity_of_mono, capacity_of_most, capacity_of_next, cells_in}
 
@@ -221,6 +222,15 @@ with_buckets_same c i blank within =
     let most : c.buckets ≡ max c.buckets i = omega arith in
     let none : capacity_of i - capacity_of c.buckets ≡ 0 = omega (arith, capacity_of_mono i c.buckets within) in
     same_cells _ _ _ _ most (sym (ap (λ n. c.cells ++ replicate n blank) none ∙ append-nil c.cells))
+
+-- where buckets were opened and are closed again, there is what there was
+pub closed_again : {T : Type 0} (c d : Cells T) (before k : ℕ) (blank : T) → before ≡ c.buckets → length c.cells ≡ capacity_of c.buckets → d ≡ with_buckets c k blank → first_buckets d before ≡ c
+closed_again c d before k blank here full is =
+    let more = replicate (capacity_of k - capacity_of c.buckets) blank in
+    ap (λ s. first_buckets s before) is
+    ∙ ap (λ n. first_buckets (with_buckets c k blank) n) here
+    ∙ ap (λ n. record c { cells = take n (c.cells ++ more) }) (sym full)
+    ∙ ap (λ xs. record c { cells = xs }) (take-append_seam c.cells more)
 
 -- more buckets were opened, as many as were wanted
 pub as_many : {T : Type 0} (c d : Cells T) (i n : ℕ) (blank : T) → n ≤ i → c.buckets ≤ i → i ≤ max c.buckets n → d ≡ with_buckets c i blank → d ≡ with_buckets c n blank

@@ -6,7 +6,7 @@ use Rattle.lv_lines.specs.Texts.{shown_text}
 use Rattle.lv_lines.specs.Replies.{Answered}
 use Rattle.lv_transcript.specs.declared.auditor.Stage.{Stage}
 use Rattle.lv_transcript.specs.declared.auditor.Stage.TheVariants.{Start, Edits, Claims, End, No, Bad, NoMemory}
-use Rattle.lv_transcript.specs.declared.transcripts.Claimed.{Claimed}
+use Rattle.lv_transcript.specs.declared.claimed.Claimed.{Claimed}
 use Rattle.lv_transcript.specs.Transcript.{claim_line, edit_line, first_line, greatest, end_line, transcript_lines, AreAccepted, AreAcceptedAfter, HasForm, IsEdit, IsTrueClaim}
 use Rattle.lv_transcript.specs.Auditing.{AuditState, AuditStep, IsFaultOf, MayEnd, Takes, TakesEdit, TakesFirst, TakesLater, is_fault, is_stopped, question_of, start_state}
 use Rattle.lv_transcript.proofs.AuditLines.{edit_line-injective, no_edit_later, not_last, same_question}

@@ -23,7 +23,7 @@ use Rattle.lv_lines.proofs.PrintedWords.{IsPrintable, no_control, plain_number}
 use Rattle.lv_lines.proofs.ReadAgain.{length-printed, plain_kind, printed_printable}
 use Rattle.lv_transcript.specs.declared.auditor.Stage.{Stage}
 use Rattle.lv_transcript.specs.declared.auditor.Stage.TheVariants.{Edits, Claims, End}
-use Rattle.lv_transcript.specs.declared.transcripts.Claimed.{Claimed}
+use Rattle.lv_transcript.specs.declared.claimed.Claimed.{Claimed}
 use Rattle.lv_transcript.specs.Transcript.{claim_line, edit_line, first_line, greatest, end_line, question_text, transcript_lines, AreAccepted, AreAcceptedAfter, AreInOrder, IsEdit, IsTrueClaim}
 use Rattle.lv_transcript.specs.Auditing.{AuditState, IsQuestion, MayEnd, Takes, question_of, start_state}
 use Rattle.lv_transcript.proofs.AuditRuns.{RiseFrom, Runs}

@@ -10,7 +10,7 @@ use Rattle.lv_lines.specs.declared.fault.Fault.{Fault}
 use Rattle.lv_lines.specs.declared.fault.Fault.TheVariants.{WriteFault}
 use Rattle.lv_lines.specs.Output.{Writes, WritesFront}
 use Rattle.lv_lines.proofs.OutputLemmas.{Writes-put, Writes-sent, Writes-all, Writes-trans, WritesFront-after, WritesFront-longer}
-use Rattle.lv_transcript.specs.declared.transcripts.Claimed.{Claimed}
+use Rattle.lv_transcript.specs.declared.claimed.Claimed.{Claimed}
 use Rattle.lv_transcript.specs.Transcript.{first_line, end_line, edit_line, claim_line, transcript_text, Transcribes}
 
 -- ---- the pieces of a list, one for each element

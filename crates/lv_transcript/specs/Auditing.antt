@@ -11,7 +11,7 @@ use Rattle.lv_lines.specs.Texts.{shown_text}
 use Rattle.lv_transcript.specs.declared.auditor.Stage.{Stage}
 use Rattle.lv_transcript.specs.declared.auditor.Stage.TheVariants as stages
 use Rattle.lv_transcript.specs.declared.transcript_lines.Question.{Question}
-use Rattle.lv_transcript.specs.declared.transcripts.Claimed.{Claimed}
+use Rattle.lv_transcript.specs.declared.claimed.Claimed.{Claimed}
 use Rattle.lv_transcript.specs.declared.auditor.Verdict.{Verdict}
 use Rattle.lv_transcript.specs.declared.auditor.Verdict.TheVariants as verdicts
 use Rattle.lv_transcript.specs.Transcript.{claim_line, edit_line, first_line, greatest, end_line, question_text, HasForm, IsEdit, IsTrueClaim}

@@ -21,7 +21,7 @@ use Rattle.lv_lines.specs.Output.{WritesFront}
 use Rattle.lv_lines.specs.Replies.{IsNotTooLong, IsTooLong}
 use Rattle.lv_transcript.specs.declared.auditor.Verdict.{Verdict}
 use Rattle.lv_transcript.specs.declared.auditor.Verdict.TheVariants.{Yes, No, Bad}
-use Rattle.lv_transcript.specs.declared.transcripts.Claimed.{Claimed}
+use Rattle.lv_transcript.specs.declared.claimed.Claimed.{Claimed}
 
 -- ---- the text
 

@@ -6,9 +6,11 @@
 #![tactic(auto)]
 
 mod auditor;
+mod claimed;
 mod plain_ranges;
 mod transcript_lines;
 mod transcripts;
 
 pub use auditor::{Verdict, audit};
-pub use transcripts::{Claimed, write_transcript};
+pub use claimed::Claimed;
+pub use transcripts::write_transcript;

@@ -3,27 +3,12 @@ ghost use Rattle.std.specs.List.{flat_map};
 ghost use Rattle.lv_lines.specs.Output.{Puts, PutsFront, SamePlaces};
 ghost use Rattle.lv_transcript.specs.Transcript.{edit_line, claim_line, transcript_text, greatest, AreAccepted, AreInOrder, IsEdit, IsTrueClaim, IsSoundTranscript, Transcribes};
 
+use crate::claimed::Claimed;
 use crate::transcript_lines::{put_edit_line, put_question};
-use lv_bodies::{Kind, Shown};
 use lv_edits::Edit;
 use lv_lines::{Fault, HELD, LINE, Outbox, put, put_shown};
 use std::alloc::Global;
 use std::io::Write;
-
-/// A reduction as it was answered: at which edit, of what kind, over which elements, and by which value.
-#[derive(Clone, Copy, Debug, PartialEq, Eq)]
-pub struct Claimed {
-    /// The number of the last edit before the answer.
-    pub edit: u32,
-    /// What was asked of the range.
-    pub kind: Kind,
-    /// The first index of the range.
-    pub lo: u32,
-    /// The index behind its last.
-    pub hi: u32,
-    /// What was answered.
-    pub value: Shown,
-}
 
 /// Writes the transcript of a journal and of what was claimed of it, and flushes the writer. The claims stand in
 /// rising order of their edits.

@@ -120,19 +120,29 @@ fn while_held<B: Body<S = u64>, N: Means<B>, R: Wait>(
 // What was done while a job was held: by a worker with one turn, and what the main thread was answered.
 type HeldOnce = (Worked, (Receipt, Answer<u64>, Receipt));
 
-// Makes a new hub one of eight elements 1, whose first job is held.
+// A worker's first job is held, and the main thread asks beside it.
 fn hold_once<B: Body<S = u64>, N: Means<B> + Send + Sync, R: Threads + Wait + Sync>(
+    rt: &R,
+    hub: &Hub<B, N>,
+    share: &mut Share<N>,
+    stage: &Stage,
+) -> (Worked, Result<(Receipt, Answer<u64>, Receipt), Refusal>) {
+    thread::join(
+        rt,
+        move || work(rt, hub, stage, 1),
+        move || while_held(rt, hub, share, stage),
+    )
+}
+
+// Makes a new hub one of eight elements 1, whose first job is held.
+fn hold_of_eight<B: Body<S = u64>, N: Means<B> + Send + Sync, R: Threads + Wait + Sync>(
     rt: &R,
     hub: &Hub<B, N>,
     share: &mut Share<N>,
     stage: &Stage,
 ) -> Result<HeldOnce, Refusal> {
     push_all(rt, hub, share, 8, 1)?;
-    let (worked, answers) = thread::join(
-        rt,
-        move || work(rt, hub, stage, 1),
-        move || while_held(rt, hub, share, stage),
-    );
+    let (worked, answers) = hold_once(rt, hub, share, stage);
     Ok((worked, answers?))
 }
 
@@ -154,7 +164,7 @@ fn hold_a_job<B: Body<S = u64>, N: Means<B> + Send + Sync, R: Threads + Wait + S
     requires body { N.body ≡ Some body }
 {
     let (hub, mut share) = Hub::<B, N>::new(alloc, limits, body, blank, 1, opened);
-    let done = hold_once(rt, &hub, &mut share, stage);
+    let done = hold_of_eight(rt, &hub, &mut share, stage);
     drop(hub);
     done
 }

@@ -5,7 +5,7 @@ use Rattle.lv_bodies.specs.declared.kinds.Shown.{Shown}
 use Rattle.lv_lines.specs.Texts.{answer_text, refused_text}
 use Rattle.lv_refresh.specs.Record.{is_fresh}
 use Rattle.lv_live.specs.State.{recorded}
-use Rattle.lv_transcript.specs.declared.transcripts.Claimed.{Claimed}
+use Rattle.lv_transcript.specs.declared.claimed.Claimed.{Claimed}
 use Rattle.lv_hub.specs.Counting.{ShareState}
 use Rattle.lv_hub.specs.Session.{session_at, up_to}
 use Rattle.lv_hub.proofs.AskedLaws.{counted, refused_as_reduction, told_as_reduction}

@@ -2,7 +2,7 @@ use Rattle.std.proofs.Common.{List, ℕ, [], ◌∷◌, ◌++◌, ◌∙◌, ari
 use Rattle.std.proofs.lemmas.Result.{err_from_is_err_and}
 use Rattle.lv_bodies.specs.declared.kinds.Kind.TheVariants.{Sum}
 use Rattle.lv_bodies.specs.declared.kinds.Shown.TheVariants as shown
-use Rattle.lv_transcript.specs.declared.transcripts.Claimed.{Claimed}
+use Rattle.lv_transcript.specs.declared.claimed.Claimed.{Claimed}
 use Rattle.lv_transcript.specs.Transcript.{claim_line}
 use Rattle.lv_transcript.proofs.WrittenTranscripts.{Writes-piece, WritesFront-pieces}
 use Rattle.lv_transcript.proofs.transcripts.write_claims.Goals as goal

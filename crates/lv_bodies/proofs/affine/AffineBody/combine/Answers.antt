@@ -1,0 +1,5 @@
+use Rattle.lv_bodies.proofs.affine.AffineBody.combine.Goals as goal
+
+-- the left map is taken first
+pub returns : goal.returns
+returns c = c.then.ensures
