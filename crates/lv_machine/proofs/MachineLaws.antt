@@ -16,7 +16,7 @@ use Rattle.lv_edits.specs.declared.edit.Edit.TheVariants.{Pop}
 use Rattle.lv_machine.specs.declared.entries.Entry.{Entry}
 use Rattle.lv_machine.specs.declared.events.Call.{Call}
 use Rattle.lv_machine.specs.declared.events.Call.TheVariants as call
-use Rattle.lv_machine.specs.declared.machines.Actor.{Actor}
+use Rattle.lv_machine.specs.declared.actors.Actor.{Actor}
 use Rattle.lv_machine.specs.declared.outcomes.Outcome.TheVariants as outcome
 use Rattle.lv_machine.specs.declared.outcomes.Said.{Said}
 use Rattle.lv_machine.specs.declared.tasks.Advance.{Advance}

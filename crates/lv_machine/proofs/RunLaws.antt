@@ -5,7 +5,7 @@ use Rattle.lv_bodies.specs.Body.{Operations}
 use Rattle.lv_machine.specs.declared.events.Call.{Call}
 use Rattle.lv_machine.specs.declared.events.Event.{Event}
 use Rattle.lv_machine.specs.declared.events.Event.TheVariants as event
-use Rattle.lv_machine.specs.declared.machines.Actor.{Actor}
+use Rattle.lv_machine.specs.declared.actors.Actor.{Actor}
 use Rattle.lv_machine.specs.declared.outcomes.Outcome.{Outcome}
 use Rattle.lv_machine.specs.declared.tasks.Goal.{Goal}
 use Rattle.lv_machine.specs.declared.tasks.Task.{Task}

@@ -24,7 +24,7 @@ use Rattle.lv_machine.specs.declared.tasks.Task.TheVariants as task
 use Rattle.lv_machine.specs.declared.tasks.Keep.{Keep}
 use Rattle.lv_machine.specs.declared.tasks.Parts.{Parts}
 use Rattle.lv_machine.specs.declared.tasks.Walk.{Walk}
-use Rattle.lv_machine.specs.declared.machines.Actor.{Actor}
+use Rattle.lv_machine.specs.declared.actors.Actor.{Actor}
 use Rattle.lv_machine.specs.History.{descriptor_of}
 use Rattle.lv_machine.specs.Layout.{cell_place, mark_place, part_place}
 use Rattle.lv_machine.specs.Moves.{Config, Move, Look, Exchange, HelpCell, HelpMark, Install, Read, moved, verdict_at}

@@ -11,7 +11,7 @@ use Rattle.lv_edits.specs.Touch.{elements_under, is_whole}
 use Rattle.lv_edits.specs.Verdict.{receipt_of, verdict_of}
 use Rattle.lv_reduce.specs.Answer.{IsAnswer}
 use Rattle.lv_machine.specs.declared.entries.Entry.{Entry}
-use Rattle.lv_machine.specs.declared.machines.Actor.{Actor}
+use Rattle.lv_machine.specs.declared.actors.Actor.{Actor}
 use Rattle.lv_reduce.specs.declared.reductions.Answer.{Answer}
 use Rattle.lv_machine.specs.declared.outcomes.Read.{Read}
 use Rattle.lv_machine.specs.declared.outcomes.Refreshed.{Refreshed}

@@ -6,6 +6,7 @@
 //! the descriptor unchanged, in that order; they are not stored. No thread is started here, and nothing waits.
 #![tactic(auto)]
 
+mod actors;
 mod advances;
 mod entries;
 mod events;

@@ -1,10 +1,11 @@
-ghost use Rattle.std.specs.Prelude.{◌≡◌, ⊤, ◌+◌, ◌*◌, ◌<◌, ◌≤◌, [], ◌∷◌, length, replicate, slice_get, slice_set, Some, None, IfOk, IfErr, OnOk, OnErr, if◌then◌else◌};
+ghost use Rattle.std.specs.Prelude.{◌≡◌, ◌+◌, ◌*◌, ◌<◌, ◌≤◌, [], ◌∷◌, length, replicate, slice_get, slice_set, Some, None, IfOk, IfErr, OnOk, OnErr, if◌then◌else◌};
 ghost use Rattle.lv_edits.specs.Verdict.{IsRefusal};
 ghost use Rattle.lv_machine.specs.History.{descriptor_of};
 ghost use Rattle.lv_machine.specs.Machine.{begins, block_of, block_of_goal, block_refreshed, called, first_state, goal_of, gone_on, idle, is_short, machine_run, machine_step, outcome_of, setting_refusal, stepped, task_after};
 ghost use Rattle.lv_machine.specs.Progress.{IsGoal};
 ghost use Rattle.lv_machine.specs.Terms.{blocks_of};
 
+use crate::actors::Actor;
 use crate::advances::advance;
 use crate::events::{Call, Event};
 use crate::outcomes::{Outcome, Said};
@@ -19,23 +20,6 @@ use std::marker::Model;
 
 // The descriptor before the first edit.
 const FIRST_DESCRIPTOR: u64 = 0x0fff_0000;
-
-/// What an actor has: the descriptor that it last saw, and its call, if one is under way.
-#[derive(Copy)]
-pub struct Actor<S> {
-    pub look: u64,
-    pub task: Option<Task<S>>,
-}
-
-impl<S: Copy> Clone for Actor<S> {
-    ghost is_clone = { λ x y. y ≡ x };
-
-    ghost is_infallible = { λ _. ⊤ };
-
-    fn clone(&self) -> Result<Actor<S>, AllocError> {
-        Ok(*self)
-    }
-}
 
 /// The lock-free form as a plain value: words, and calls under way. Its actors have the numbers from 0 on.
 #[derive(Drop)]

@@ -9,7 +9,7 @@ use Rattle.lv_edits.specs.Touch.{elements_under}
 use Rattle.lv_known.specs.Agrees.{Agrees}
 use Rattle.lv_summary.specs.Changes.{OnlyLearns}
 use Rattle.lv_summary.specs.Table.{Table, known_in}
-use Rattle.lv_reduce.specs.declared.asking.Known.{Known}
+use Rattle.lv_reduce.specs.declared.reductions.Known.{Known}
 use Rattle.lv_reduce.specs.Cost.{is_top}
 
 -- the greatest nodes inside the range are known

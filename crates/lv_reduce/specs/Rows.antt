@@ -3,9 +3,9 @@ use Rattle.std.specs.List.{slice_range}
 use Rattle.lv_bodies.specs.Body.{CanFold}
 use Rattle.std.specs.Prelude.{ℤ, ◌≤◌, List, length}
 use Rattle.lv_edits.specs.History.{list_of}
-use Rattle.lv_reduce.specs.declared.parallel.rows.Part.{Part}
-use Rattle.lv_reduce.specs.declared.parallel.rows.Row.{Row}
-use Rattle.lv_reduce.specs.declared.parallel.rows.Row.TheVariants.{Cells, Slice}
+use Rattle.lv_reduce.specs.declared.rows.Part.{Part}
+use Rattle.lv_reduce.specs.declared.rows.Row.{Row}
+use Rattle.lv_reduce.specs.declared.rows.Row.TheVariants.{Cells, Slice}
 
 -- all elements of a row
 abbrev pub elements_in : Row → List ℤ

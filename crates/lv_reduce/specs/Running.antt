@@ -1,7 +1,7 @@
 -- Folds and scans that go on from a summary.
 use Rattle.std.specs.Prelude.{◌≡◌, ℕ, ℤ, ◌+◌, ◌-◌, ◌*◌, ◌%◌, ◌^◌, ◌<◌, ◌≤◌, Bool, List, [], ◌∷◌, fold, length, take, drop, slice_index_or, if◌then◌else◌}
 use Rattle.lv_bodies.specs.Body.{Operations, fold_of}
-use Rattle.lv_reduce.specs.declared.parallel.rows.Part.{Part}
+use Rattle.lv_reduce.specs.declared.rows.Part.{Part}
 use Rattle.lv_reduce.specs.Rows.{IsPart, elements_of}
 
 -- the summary that a fold over a list reaches from another

@@ -1,4 +1,4 @@
-ghost use Rattle.std.specs.Prelude.{◌≡◌, ⊤, ◌+◌, ◌*◌, ◌≤◌, true, false, length, IfOk, IfErr, OnErr};
+ghost use Rattle.std.specs.Prelude.{◌≡◌, ◌+◌, ◌*◌, ◌≤◌, true, false, length, IfOk, IfErr, OnErr};
 ghost use Rattle.lv_edits.specs.History.{list_of};
 ghost use Rattle.lv_known.specs.Agrees.{Agrees};
 ghost use Rattle.lv_summary.specs.Changes.{OnlyLearns};
@@ -6,31 +6,12 @@ ghost use Rattle.lv_summary.specs.Table.{known_in, whole_in};
 ghost use Rattle.lv_reduce.specs.Answer.{IsAnswer, range_refusal};
 ghost use Rattle.lv_reduce.specs.Asked.{AreTopsKnown, IsFewAsked, Knows};
 
-use crate::reductions::{Answer, greatest_level, join};
+use crate::reductions::{Answer, Known, greatest_level, join};
 use crate::views::refusal_of;
 use lv_bodies::{Body, fold_more, fold_slice};
 use lv_edits::Edits;
 use lv_geometry::{Node, Refusal, width};
 use lv_summary::Summaries;
-use std::alloc::AllocError;
-
-/// The summary of a node, and how many cells and summaries were read for it.
-#[derive(Copy)]
-pub struct Known<S> {
-    pub summary: S,
-    pub cells_read: u32,
-    pub summaries_read: u32,
-}
-
-impl<S: Copy> Clone for Known<S> {
-    ghost is_clone = { λ x y. y ≡ x };
-
-    ghost is_infallible = { λ _. ⊤ };
-
-    fn clone(&self) -> Result<Known<S>, AllocError> {
-        Ok(*self)
-    }
-}
 
 /// The fold of the elements from index `lo` up to `hi`, `hi` excluded, as `reduce` answers it; what is computed for it is kept in
 /// the table. So a range that was asked for costs at most 14 cells and 84 summaries until an edit touches it. Refused with `BadRange`,

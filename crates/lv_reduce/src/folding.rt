@@ -1,7 +1,7 @@
 ghost use Rattle.std.specs.Prelude.{◌≡◌, Some, IfOk, IfErr};
 ghost use Rattle.lv_reduce.specs.Answer.{IsAnswerPair, range_refusal};
 
-use crate::parallel::{Row, fold_range};
+use crate::rows::{Row, fold_range};
 use crate::views::refusal_of;
 use lv_bodies::Body;
 use lv_edits::Edits;

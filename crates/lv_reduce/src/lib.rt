@@ -11,6 +11,7 @@ mod asking;
 mod folding;
 mod parallel;
 mod reductions;
+mod rows;
 mod scans;
 mod stretches;
 mod values;

@@ -4,9 +4,9 @@ ghost use Rattle.lv_edits.specs.History.{list_of};
 ghost use Rattle.lv_reduce.specs.Answer.{IsScan, IsScanRefusal, IsAnswerPair, scan_of, slice_of};
 
 mod halves;
-mod rows;
 mod slices;
 
+use crate::rows::{Part, Row};
 use crate::scans::{Scan, running_folds};
 use crate::values::Values;
 use crate::views::{View, refusal_of, run_at};
@@ -14,8 +14,6 @@ use halves::{LEAST_FOLD, LEAST_SCAN, fold_halved, halvings};
 use lv_bodies::Body;
 use lv_edits::Edits;
 use lv_geometry::Refusal;
-use rows::Part;
-pub use rows::{Row, fold_range};
 pub use slices::scan_alone;
 use slices::{scan_part, scan_slice};
 use std::alloc::{AllocError, Global};
@@ -39,7 +37,8 @@ pub fn par_reduce<R: Threads + Sync, B: Body>(
         return Err(refusal);
     }
     let depth = halvings(rt, body, hi - lo, LEAST_FOLD);
-    let value = fold_halved(rt, Row::Cells(view.cells), body, lo, hi, depth);
+    let row = Row::Cells(view.cells);
+    let value = fold_halved(rt, Part { row, lo, hi }, body, depth);
     Ok((view.cells.edit(), value))
 }
 

@@ -39,6 +39,24 @@ impl<S: Copy> Clone for Piece<S> {
     }
 }
 
+/// The summary of a node, and how many cells and summaries were read for it.
+#[derive(Copy)]
+pub struct Known<S> {
+    pub summary: S,
+    pub cells_read: u32,
+    pub summaries_read: u32,
+}
+
+impl<S: Copy> Clone for Known<S> {
+    ghost is_clone = { λ x y. y ≡ x };
+
+    ghost is_infallible = { λ _. ⊤ };
+
+    fn clone(&self) -> Result<Known<S>, AllocError> {
+        Ok(*self)
+    }
+}
+
 /// The fold of the elements from index `lo` up to `hi`, `hi` excluded. Refused with `BadRange`, then `OutOfRange`.
 /// Takes no memory, and lifts the cells that it counts, no others.
 pub fn reduce<B: Body>(

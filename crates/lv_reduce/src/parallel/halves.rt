@@ -1,13 +1,12 @@
 //! Folds and scans by several threads: a row is halved until each thread has a part, and each half is worked on by a thread of
 //! its own.
-ghost use Rattle.std.specs.Prelude.{◌≡◌, ◌+◌, ◌<◌, ◌≤◌, ◌^◌, ℕ, length};
-ghost use Rattle.std.specs.List.{slice_range};
+ghost use Rattle.std.specs.Prelude.{◌≡◌, ◌+◌, ◌<◌, ◌≤◌, ◌^◌, ℕ};
 ghost use Rattle.std.specs.Thread.{IsSync, IsSend};
-ghost use Rattle.lv_bodies.specs.Body.{CanFold, fold_of};
-ghost use Rattle.lv_reduce.specs.Rows.{elements_in};
+ghost use Rattle.lv_bodies.specs.Body.{fold_of};
+ghost use Rattle.lv_reduce.specs.Rows.{IsPart, elements_of};
 
-use crate::parallel::rows::{Row, fold_range};
 use crate::reductions::join;
+use crate::rows::{Part, fold_range};
 use lv_bodies::Body;
 use rayon::current_num_threads;
 use std::mem::size_of_val;
@@ -36,34 +35,27 @@ pub fn halvings<R: Threads, B: Body>(rt: &R, body: &B, len: u32, least: usize) -
     parts.min(current_num_threads(rt)).max(1).ilog2()
 }
 
-/// The fold of the elements of a row from index `lo` up to `hi`, which is halved so often.
-pub fn fold_halved<R: Threads + Sync, B: Body>(
-    rt: &R,
-    row: Row<'_>,
-    body: &B,
-    lo: u32,
-    hi: u32,
-    depth: u32,
-) -> B::S
-    requires can { CanFold (elements_in row) }
-    requires order { lo ≤ hi }
-    requires inside { hi ≤ length (elements_in row) }
-    ensures { result ≡ fold_of (B.operations (B.meaning body.now)) (slice_range (elements_in row.entry) lo hi) }
+/// The fold of the elements of a part of a row, which is halved so often.
+pub fn fold_halved<R: Threads + Sync, B: Body>(rt: &R, part: Part<'_>, body: &B, depth: u32) -> B::S
+    requires part { IsPart part }
+    ensures { result ≡ fold_of (B.operations (B.meaning body.now)) (elements_of part.entry) }
 {
+    let Part { row, lo, hi } = part;
     if depth == 0 {
         return fold_range(row, body, lo, hi);
     }
     let mid = middle(lo, hi);
+    let (first, second) = (Part { row, lo, hi: mid }, Part { row, lo: mid, hi });
     let (front, back) = thread::join(
         rt,
         || -> B::S
-            requires { IsSync R.row × IsSync B.row × (0 < depth) × CanFold (elements_in row) × (lo ≤ mid) × (mid ≤ length (elements_in row)) }
-            ensures { result ≡ fold_of (B.operations (B.meaning body.entry.now)) (slice_range (elements_in row.entry) lo mid) }
-        { fold_halved(rt, row, body, lo, mid, depth - 1) },
+            requires { IsSync R.row × IsSync B.row × (0 < depth) × IsPart first }
+            ensures { result ≡ fold_of (B.operations (B.meaning body.entry.now)) (elements_of first.entry) }
+        { fold_halved(rt, first, body, depth - 1) },
         || -> B::S
-            requires { IsSync R.row × IsSync B.row × (0 < depth) × CanFold (elements_in row) × (mid ≤ hi) × (hi ≤ length (elements_in row)) }
-            ensures { result ≡ fold_of (B.operations (B.meaning body.entry.now)) (slice_range (elements_in row.entry) mid hi) }
-        { fold_halved(rt, row, body, mid, hi, depth - 1) },
+            requires { IsSync R.row × IsSync B.row × (0 < depth) × IsPart second }
+            ensures { result ≡ fold_of (B.operations (B.meaning body.entry.now)) (elements_of second.entry) }
+        { fold_halved(rt, second, body, depth - 1) },
     );
     join(body, front, back)
 }

@@ -9,8 +9,8 @@ ghost use Rattle.lv_reduce.specs.Rows.{IsPart, elements_of};
 ghost use Rattle.lv_reduce.specs.Running.{AreBefore, AreOfPieces, CanGoOn, IsPiece, reached, scan_from};
 
 use crate::parallel::halves::{LEAST_SCAN, halvings};
-use crate::parallel::rows::{Part, Row, fold_range};
 use crate::reductions::join;
+use crate::rows::{Part, Row, fold_range};
 use crate::scans::push_folds;
 use crate::views::run_at;
 use lv_bodies::{Body, fold_more};

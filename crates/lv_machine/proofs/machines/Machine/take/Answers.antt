@@ -3,7 +3,7 @@ use Rattle.std.proofs.lemmas.Option.{slice_get_within}
 use Rattle.std.specs.Prelude.{slice_get}
 use Rattle.lv_bodies.specs.Parts.{HasParts}
 use Rattle.lv_machine.specs.Machine.{advanced, MachineState, outcome_of, place_of, sees_next, stepped, task_after}
-use Rattle.lv_machine.specs.declared.machines.Actor.{Actor}
+use Rattle.lv_machine.specs.declared.actors.Actor.{Actor}
 use Rattle.lv_machine.proofs.MachineLaws.{actor_after, lent_back, reached_next, take_advances, take_moves}
 use Rattle.lv_machine.proofs.machines.Machine.take.Goals as goal
 

@@ -5,7 +5,7 @@ use Rattle.std.proofs.lemmas.List.{take_all}
 use Rattle.lv_geometry.specs.Elements.{IsElement}
 use Rattle.lv_reduce.specs.Running.{reached}
 use Rattle.lv_reduce.proofs.RunLaws.{reached-more}
-use Rattle.lv_reduce.proofs.parallel.rows.fold_on.Goals as goal
+use Rattle.lv_reduce.proofs.rows.fold_on.Goals as goal
 
 pub loop-x-init : goal.loop-x-init
 loop-x-init g c =

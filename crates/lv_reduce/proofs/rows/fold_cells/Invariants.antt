@@ -1,7 +1,7 @@
 use Rattle.std.proofs.Common.{◌≡◌, ◌-◌, ◌≤◌}
 use Rattle.lv_bodies.specs.Body.{fold_of}
 use Rattle.lv_reduce.specs.Answer.{slice_of}
-use Rattle.lv_reduce.proofs.parallel.rows.fold_cells.Given as goal
+use Rattle.lv_reduce.proofs.rows.fold_cells.Given as goal
 
 -- the fold of what was read so far
 abbrev pub invariant-loop-at : goal.invariant-loop-at

@@ -1,7 +1,7 @@
 use Rattle.std.proofs.Common.{length, arith}
 use Rattle.lv_edits.specs.History.{list_of}
 use Rattle.lv_reduce.proofs.PieceLaws.{slice-run, slice_can_go_on}
-use Rattle.lv_reduce.proofs.parallel.rows.fold_cells.Goals as goal
+use Rattle.lv_reduce.proofs.rows.fold_cells.Goals as goal
 
 pub fold_on-sum-requires-after_bounds : goal.fold_on-sum-requires-after_bounds
 fold_on-sum-requires-after_bounds g c κs within =

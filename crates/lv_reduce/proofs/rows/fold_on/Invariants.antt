@@ -1,6 +1,6 @@
 use Rattle.std.proofs.Common.{◌≡◌, ◌+◌, ◌^◌, ◌≤◌, ℕ, length, take}
 use Rattle.lv_reduce.specs.Running.{reached}
-use Rattle.lv_reduce.proofs.parallel.rows.fold_on.Given as goal
+use Rattle.lv_reduce.proofs.rows.fold_on.Given as goal
 
 -- what the elements so far lead to, which may take the rest
 abbrev pub invariant-loop-x : goal.invariant-loop-x
