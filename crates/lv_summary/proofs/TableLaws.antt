@@ -74,6 +74,13 @@ module _ {S : Type 0} where
       let parts = or_parts (fresh_in t n) (is_computed_in t n) unknown in
       cond-false (fresh_in t n) _ _ parts.0 ∙ cond-false (is_computed_in t n) _ _ parts.1
 
+  -- a summary that is delivered for a whole node, of the version that it was touched by last, is held where the node is fresh, and else installed
+  pub delivery_in-current : (t : Table S) (n : Node) (v : ℕ) → whole_in t n ≡ true → touched_in t n ≡ v → delivery_in t n v ≡ cond (fresh_in t n) Held Installed
+  delivery_in-current t n v whole current =
+      cond-true (whole_in t n && nat_eq (touched_in t n) v) _ _ (and_from _ _ whole (eq-eqb (touched_in t n) v current))
+      ∙ ap (λ v. cond (has_version v (kept_in t n)) Held Installed) (sym current)
+      ∙ ap (λ w. cond (w && has_version (touched_in t n) (kept_in t n)) Held Installed) (sym whole)
+
   -- a table answers like itself
   pub AnswersAlike-self : (t : Table S) → AnswersAlike t t
   AnswersAlike-self t = record { size = refl; touched = λ n. refl; kept = λ n. refl; computed = λ n. refl }

@@ -1,6 +1,6 @@
 -- A table of summaries, node by node: by which edit each was touched last, and which summary is kept for it, delivered or
 -- computed by who asked.
-use Rattle.std.specs.Prelude.{ℕ, ◌-◌, Bool, true, false, ◌&&◌, ◌||◌, Option, Some, None, option_map, List, [], slice_get, slice_index, nat_eq, nat_lt, length, if◌then◌else◌}
+use Rattle.std.specs.Prelude.{ℕ, ◌-◌, Bool, false, ◌&&◌, ◌||◌, Option, Some, None, option_map, List, [], slice_get, slice_index, nat_eq, nat_lt, length, if◌then◌else◌}
 use Rattle.std.specs.List.{slice_index_or}
 use Rattle.lv_geometry.specs.declared.nodes.Node.{Node}
 use Rattle.lv_geometry.specs.Nodes.{is_below, is_node}

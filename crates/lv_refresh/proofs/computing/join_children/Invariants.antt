@@ -1,6 +1,3 @@
-use Rattle.std.proofs.Common.{◌≡◌}
-use Rattle.lv_bodies.specs.Body.{CanFold}
-use Rattle.lv_edits.specs.History.{list_of}
 use Rattle.lv_refresh.proofs.ComputeLaws.{Joins}
 use Rattle.lv_refresh.proofs.computing.join_children.Given as goal
 

@@ -1,4 +1,3 @@
-use Rattle.std.proofs.Common.{◌≡◌, ap, sym, ◌∙◌}
 use Rattle.lv_standing.proofs.RangeLaws.{range_can_fold}
 use Rattle.lv_standing.proofs.standing.Standing.value.Goals as goal
 
