@@ -19,7 +19,7 @@ use Rattle.livevec_c.specs.declared.results.Edited.{Edited}
 use Rattle.livevec_c.specs.declared.results.Element.{Element}
 use Rattle.livevec_c.specs.declared.results.PlainValues.{PlainValues}
 use Rattle.livevec_c.specs.declared.results.Reduced.{Reduced}
-use Rattle.livevec_c.specs.declared.verdicts.Verdict.{Verdict}
+use Rattle.livevec_c.specs.declared.results.Verdict.{Verdict}
 
 -- what a refusal tells beside its number: the size, the limit, or the edit that came first
 abbrev pub detail_of : Refusal → ℕ

@@ -18,11 +18,11 @@ use Rattle.livevec_c.specs.declared.objects.Object.{Object}
 use Rattle.livevec_c.specs.declared.objects.Object.TheVariants.{Vector}
 use Rattle.livevec_c.specs.declared.results.Edited.{Edited}
 use Rattle.livevec_c.specs.declared.results.Element.{Element}
-use Rattle.livevec_c.specs.declared.verdicts.Verdict.{Verdict}
+use Rattle.livevec_c.specs.declared.results.Verdict.{Verdict}
 use Rattle.livevec_c.specs.declared.results.Count.{Count}
 use Rattle.livevec_c.specs.declared.results.Reduced.{Reduced}
-use Rattle.livevec_c.specs.declared.reads.Counted.{Counted}
-use Rattle.livevec_c.specs.declared.reads.Counted.TheVariants as counts
+use Rattle.livevec_c.specs.declared.results.Counted.{Counted}
+use Rattle.livevec_c.specs.declared.results.Counted.TheVariants as counts
 use Rattle.livevec_c.specs.Answers.{edited_by, element_by, judged_by, no_element, reduced_by, unedited, unjudged, unreduced}
 
 -- a vector for C: of the six bodies at once

@@ -1,13 +1,13 @@
 //! Reads of a vector: its elements, its counts and its reductions.
 ghost use Rattle.std.specs.Prelude.{◌≡◌};
-ghost use Rattle.livevec_c.specs.declared.reads.Counted.TheVariants as counts;
+ghost use Rattle.livevec_c.specs.declared.results.Counted.TheVariants as counts;
 ghost use Rattle.livevec_c.specs.Answers.{no_element, unreduced};
 ghost use Rattle.livevec_c.specs.Behind.{Asks, AsksObject, Counts, CountsObject, Gets, GetsObject, Reduces, ReducesObject};
 ghost use Rattle.livevec_c.specs.Plainly.{IsPlain};
 
 use crate::objects::Object;
 use crate::results::{
-    Count, Element, NO_HANDLE, Reduced, element_answer, not_reduced, reduction_answer,
+    Count, Counted, Element, NO_HANDLE, Reduced, element_answer, not_reduced, reduction_answer,
 };
 use crate::slots::{Slot, put, take};
 use std::alloc::Global;
@@ -64,14 +64,6 @@ pub fn uncounted() -> Count
         refusal: NO_HANDLE,
         value: 0,
     }
-}
-
-/// What is counted of a vector.
-#[derive(Clone, Copy)]
-pub enum Counted {
-    Size,
-    Capacity,
-    Edits,
 }
 
 // A count of an object.

@@ -36,6 +36,22 @@ pub struct Edited {
     pub value: i64,
 }
 
+/// Why an edit would be refused: zeros where it would be accepted.
+#[repr(C)]
+#[derive(Clone, Copy)]
+pub struct Verdict {
+    pub refusal: u32,
+    pub detail: u32,
+}
+
+/// What is counted of a vector.
+#[derive(Clone, Copy)]
+pub enum Counted {
+    Size,
+    Capacity,
+    Edits,
+}
+
 /// A count.
 #[repr(C)]
 #[derive(Clone, Copy)]

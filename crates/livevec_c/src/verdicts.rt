@@ -5,19 +5,11 @@ ghost use Rattle.livevec_c.specs.Answers.{judged_by, unjudged};
 ghost use Rattle.livevec_c.specs.Behind.{Judges, JudgesObject};
 
 use crate::objects::Object;
-use crate::results::{NO_HANDLE, detail};
+use crate::results::{NO_HANDLE, Verdict, detail};
 use crate::slots::{Slot, put, take};
 use lv_edits::Edit;
 use lv_geometry::Refusal;
 use std::alloc::Global;
-
-/// Why an edit would be refused: zeros where it would be accepted.
-#[repr(C)]
-#[derive(Clone, Copy)]
-pub struct Verdict {
-    pub refusal: u32,
-    pub detail: u32,
-}
 
 // What is judged where a slot holds no vector.
 fn not_judged() -> Verdict

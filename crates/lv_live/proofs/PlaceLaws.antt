@@ -1,13 +1,14 @@
 -- The jobs that were handed out stay in their places when one more is put.
-use Rattle.std.proofs.Common.{◌≡◌, ◌<◌, ◌≤◌, ◌+◌, ℕ, Option, Some, None, option_map, List, [], ◌∷◌, ◌++◌, length, map, refl, sym, ap, ap₂, ◌∙◌, Bool, true, false, cond, nat_eq, ◌-◌, arith}
+use Rattle.std.proofs.Common.{◌≡◌, ◌<◌, ◌≤◌, ◌+◌, ℕ, Option, Some, None, option_map, List, [], ◌∷◌, ◌++◌, length, map, refl, sym, ap, ap₂, ◌∙◌, Bool, true, false, cond, nat_eq, zero, suc, ◌-◌, arith}
 use Rattle.std.specs.Prelude.{min, slice_get}
 use Rattle.std.proofs.Math.Nat.{le-min, min-le_left, min-le_right}
 use Rattle.std.proofs.lemmas.List.{length-map, map-append}
 use Rattle.std.proofs.lemmas.Option.{none-some, same_Some, slice_get-map}
-use Rattle.lv_refresh.specs.Carried.{Carried, CarriedBlock}
+use Rattle.lv_refresh.specs.Carried.{Carried, CarriedBlock, carried_of}
 use Rattle.lv_live.specs.Places.{AreFilled, IsPut, job_in, jobs_in, place_at, present}
 use Rattle.lv_live.specs.State.{job_at}
 use Rattle.lv_live.specs.declared.places.Place.{Place}
+use Rattle.lv_live.specs.declared.places.Place.TheVariants.{Block, Parent}
 
 -- ---- room
 
@@ -62,7 +63,46 @@ at_index f None x p is same = absurd (none-some p same)
 at_index f (Some q) None p is same = absurd (none-some (f q) (sym is))
 at_index f (Some q) (Some x) p is same = ap f (sym (same_Some q p same)) ∙ same_Some (f q) (Some x) is
 
+-- what was put behind a list stands at its length
+last_of : {X : Type 0} (xs : List X) (x : X) → slice_get (xs ++ x ∷ []) (length xs) ≡ Some x
+last_of [] x = refl
+last_of (y ∷ xs) x = last_of xs x
+
+-- and what stood in it, it stands there still
+kept_before : {X : Type 0} (xs ys : List X) (k : ℕ) (x : X) → slice_get xs k ≡ Some x → slice_get (xs ++ ys) k ≡ Some x
+kept_before [] ys k x is = absurd (none-some x is)
+kept_before (y ∷ xs) ys zero x is = is
+kept_before (y ∷ xs) ys (suc k) x is = kept_before xs ys k x is
+
+-- also where it is seen through a map
+kept_through : {X Y : Type 0} (f : X → Y) (xs ys : List X) (k : ℕ) (y : Y) → option_map f (slice_get xs k) ≡ Some y → option_map f (slice_get (xs ++ ys) k) ≡ Some y
+kept_through f [] ys k y is = absurd (none-some y is)
+kept_through f (x ∷ xs) ys zero y is = is
+kept_through f (x ∷ xs) ys (suc k) y is = kept_through f xs ys k y is
+
 module _ {B S : Type 0} where
+  -- a parent's job that was put behind the others of parents has its place there
+  pub put_parent : (blocks : List (CarriedBlock B)) (parents others : List (Carried B S)) (len : ℕ) (job : Carried B S) → others ≡ parents ++ job ∷ [] → len ≡ length parents → IsPut blocks parents blocks others (Parent len) job
+  put_parent blocks parents others len job are at = record {
+    there = ap₂ slice_get are at ∙ last_of parents job;
+    others = stays;
+  }
+    where
+      stays : (p : Place) (j : Carried B S) → job_in blocks parents p ≡ Some j → job_in blocks others p ≡ Some j
+      stays (Block k) j is = is
+      stays (Parent k) j is = ap (λ xs. slice_get xs k) are ∙ kept_before parents (job ∷ []) k j is
+
+  -- and so has a block's
+  pub put_block : (blocks more : List (CarriedBlock B)) (parents : List (Carried B S)) (len : ℕ) (block : CarriedBlock B) (job : Carried B S) → more ≡ blocks ++ block ∷ [] → len ≡ length blocks → carried_of block ≡ job → IsPut blocks parents more parents (Block len) job
+  put_block blocks more parents len block job are at is = record {
+    there = ap (option_map carried_of) (ap₂ slice_get are at ∙ last_of blocks block) ∙ ap Some is;
+    others = stays;
+  }
+    where
+      stays : (p : Place) (j : Carried B S) → job_in blocks parents p ≡ Some j → job_in more parents p ≡ Some j
+      stays (Block k) j had = ap (λ xs. option_map carried_of (slice_get xs k)) are ∙ kept_through carried_of blocks (block ∷ []) k j had
+      stays (Parent k) j had = had
+
   -- where each place has a job, they are the jobs
   filled_are : (blocks : List (CarriedBlock B)) (parents : List (Carried B S)) (places : List Place) (jobs : List (Carried B S)) → map (job_in blocks parents) places ≡ map Some jobs → jobs_in blocks parents places ≡ jobs
   filled_are blocks parents places jobs is = ap present is ∙ present_some jobs

@@ -14,12 +14,12 @@ ghost use Rattle.lv_live.specs.declared.events.Event.TheVariants as event;
 ghost use Rattle.lv_standing.specs.Queries.{query_of};
 ghost use Rattle.lv_lines.specs.Output.{HasRoom, KeepsRoom, Puts, PutsFront, SamePlaces};
 ghost use Rattle.lv_lines.specs.Texts.{capacity_text, element_text, size_text};
-ghost use Rattle.lv_script.specs.Script.{CommandAnswer, TellsEdit, TellsEvent, TellsUnwatch, TellsWatch, Tells, named_answer_text, notes_text, reduced_text};
+ghost use Rattle.lv_script.specs.Script.{CommandAnswer, TellsEdit, TellsEvent, TellsUnwatch, TellsWatch, Tells, named_answer_text, reduced_text};
 ghost use Rattle.lv_script.specs.Scripted.{state_of};
 
 use crate::refresh_replies::{put_accepted, put_cost, put_forgotten, put_idle, put_job};
 use crate::scans::{Asked, answer_scan};
-use crate::watch_replies::{put_named, put_note, put_unwatched, put_watching};
+use crate::watch_replies::{put_named, put_notes, put_unwatched, put_watching};
 use lv_bodies::{Body, Kind, Six, SixSummary};
 use lv_edits::Edit;
 use lv_geometry::{Node, Refusal};
@@ -30,7 +30,7 @@ use lv_lines::{
 use lv_live::{Issued, Live};
 use lv_reduce::Answer;
 use lv_refresh::Job;
-use lv_standing::{Name, Note, Standing};
+use lv_standing::{Name, Standing};
 use std::alloc::Global;
 use std::io::Write;
 
@@ -111,17 +111,6 @@ fn put_edit(alloc: Global, standing: &mut Standing, edit: Edit, held: &mut Vec<u
             put_notes(held, notes.as_slice());
         }
         Err(refusal) => put_refusal(held, refusal),
-    }
-}
-
-// Each note on a line.
-fn put_notes(held: &mut Vec<u8>, notes: &[Note])
-    requires { HasRoom held.old (LINE * length notes.now) }
-    ensures text { held.new.items ≡ held.old.items ++ notes_text notes.now }
-    ensures room { KeepsRoom held.old held.new }
-{
-    for note in notes {
-        put_note(held, note.name, note.value);
     }
 }
 

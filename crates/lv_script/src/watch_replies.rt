@@ -1,10 +1,11 @@
-ghost use Rattle.std.specs.Prelude.{◌≡◌, ◌+◌, ◌≤◌, ◌++◌, vec_len};
+ghost use Rattle.std.specs.Prelude.{◌≡◌, ◌+◌, ◌*◌, ◌≤◌, ◌++◌, length, vec_len};
 ghost use Rattle.lv_lines.specs.Output.{HasRoom, KeepsRoom};
 ghost use Rattle.lv_lines.specs.Texts.{named_text, note_text, unwatched_text, watching_text};
+ghost use Rattle.lv_script.specs.Script.{notes_text};
 
 use lv_bodies::Shown;
 use lv_lines::{LINE, put, put_number, put_shown};
-use lv_standing::Name;
+use lv_standing::{Name, Note};
 
 /// That a query stands under the name from now on.
 pub fn put_watching(held: &mut Vec<u8>, name: Name)
@@ -43,8 +44,8 @@ pub fn put_named(held: &mut Vec<u8>, edit: u32, name: Name, value: Shown)
     put(held, b"\n");
 }
 
-/// That an edit changed the answer of the query under the name, to this value.
-pub fn put_note(held: &mut Vec<u8>, name: Name, value: Shown)
+// That an edit changed the answer of the query under the name, to this value.
+fn put_note(held: &mut Vec<u8>, name: Name, value: Shown)
     requires { HasRoom held.old LINE }
     ensures text { held.new.items ≡ held.old.items ++ note_text name value }
     ensures len { vec_len held.new ≤ vec_len held.old + LINE }
@@ -55,6 +56,17 @@ pub fn put_note(held: &mut Vec<u8>, name: Name, value: Shown)
     put(held, b" ");
     put_shown(held, value);
     put(held, b"\n");
+}
+
+/// Each note on a line.
+pub fn put_notes(held: &mut Vec<u8>, notes: &[Note])
+    requires { HasRoom held.old (LINE * length notes.now) }
+    ensures text { held.new.items ≡ held.old.items ++ notes_text notes.now }
+    ensures room { KeepsRoom held.old held.new }
+{
+    for note in notes {
+        put_note(held, note.name, note.value);
+    }
 }
 
 // The bytes of a name, of which there are at most 16.

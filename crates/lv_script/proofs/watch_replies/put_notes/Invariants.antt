@@ -1,6 +1,6 @@
 use Rattle.std.proofs.Common.{◌≡◌, ◌+◌, ◌-◌, ◌*◌, ◌≤◌, ◌++◌, length, take, vec_capacity, vec_len}
 use Rattle.lv_script.specs.Script.{notes_text}
-use Rattle.lv_script.proofs.answers.put_notes.Given as goal
+use Rattle.lv_script.proofs.watch_replies.put_notes.Given as goal
 
 abbrev pub invariant-loop-note : goal.invariant-loop-note
 invariant-loop-note l =
