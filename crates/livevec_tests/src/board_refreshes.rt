@@ -95,7 +95,7 @@ fn push_eight(rt: &impl Abort, board: &Board<Sum>, seat: &mut Seat<Sum>)
 {
     for x in 1..9 {
         let pushed = board.try_push(seat, x);
-        assert!(rt; pushed.is_ok());
+        assert_same(rt, &pushed.err(), &None);
     }
 }
 
@@ -149,7 +149,7 @@ fn edits_and_sums<R: Threads + Abort + Sync>(rt: &R, board: &Board<Sum>, seats: 
     requires two { length seats.items ≡ 2 }
     requires dealt { AreDealt board.now.table.shared.table_id board.now.terms seats.items }
 {
-    let (mut a, b, none) = seats_of(rt, board, seats);
+    let (mut a, b, none) = seats_of(board, seats);
     push_eight(rt, board, &mut a);
     let (accepted, (mut b, right)) = edit_beside_sums(rt, board, a, b);
     assert_same(rt, &(accepted, right), &(400, true));

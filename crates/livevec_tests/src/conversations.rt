@@ -1,12 +1,13 @@
 //! Tests of the loop of lines over readers and writers that fail, that give or take little, and that give too much.
-ghost use Rattle.std.specs.Prelude.{◌≡◌, ℕ, [], ◌∷◌, ◌++◌, length};
+ghost use Rattle.std.specs.Prelude.{◌≡◌, ◌<◌, ℕ, [], ◌∷◌, ◌++◌, length};
 ghost use Rattle.std.specs.Fmt.{decimal};
 ghost use Rattle.lv_lines.specs.Output.{HasRoom, KeepsRoom};
 
 use crate::same::assert_same;
-use lv_bodies::{Kind, Six, fold_slice};
+use crate::takers::{Takes, all, writer};
+use lv_bodies::{Kind, Six, SixSummary, fold_slice};
 use lv_geometry::Limits;
-use lv_script::devices::{FailingReader, FailingWriter, Failure};
+use lv_script::devices::{FailingReader, Failure};
 use lv_script::{
     Fault, HELD, Line, Outbox, Responder, converse, print_command, put, put_element, put_number,
     put_scan, put_wide, read_line, run_script,
@@ -46,48 +47,40 @@ impl Responder for Echo {
     }
 }
 
-fn writer(alloc: Global, step: usize, left: usize) -> Result<FailingWriter, AllocError> {
-    Ok(FailingWriter {
-        taken: Vec::with_capacity(alloc, left)?,
-        step,
-        left,
-        failure: Failure::Refuses,
-    })
-}
-
-// Has an echo answer what a reader gives, and compares how that ends and what was written.
-fn check_echo(
-    rt: &impl Abort,
-    alloc: Global,
-    reader: &mut FailingReader<'_>,
-    writer: &mut FailingWriter,
-    end: Result<(), Fault>,
-    replies: &[u8],
-) {
-    let mut echo = Echo { last: 0 };
-    let result = converse(alloc, &mut echo, reader, writer);
-    assert_same(rt, &result, &end);
-    assert_same(rt, &writer.taken.as_slice(), &replies);
-}
-
 const INPUT: &[u8] = b"push 1\n\nab\nlast";
 
 const REPLIES: &[u8] = b"1 6\n2 0\n3 2\n4 4\n";
 
+// Has an echo answer the input, and compares how that ends and what was written. The number of the last line that was answered.
+fn check_echo(
+    rt: &impl Abort,
+    alloc: Global,
+    step: usize,
+    left: usize,
+    takes: Takes,
+    end: Result<(), Fault>,
+    replies: &[u8],
+) -> Result<u32, AllocError>
+    requires { 0 < step }
+{
+    let mut reader = FailingReader {
+        rest: INPUT,
+        step,
+        left,
+    };
+    let mut writer = writer(alloc, takes)?;
+    let mut echo = Echo { last: 0 };
+    let ended = converse(alloc, &mut echo, &mut reader, &mut writer);
+    assert_same(rt, &(ended, writer.taken.as_slice()), &(end, replies));
+    drop(writer);
+    Ok(echo.last)
+}
+
 #[test]
 fn whole_input_by_any_steps(rt: HostRuntime) -> Result<(), Fail> {
     for step in [1, 3, 1000] {
-        let mut echo = Echo { last: 0 };
-        let mut reader = FailingReader {
-            rest: INPUT,
-            step,
-            left: 1000,
-        };
-        let mut writer = writer(rt.alloc(), step, 1000)?;
-        let result = converse(rt.alloc(), &mut echo, &mut reader, &mut writer);
-        assert_same(&rt, &result, &Ok(()));
-        assert_eq!(rt; writer.taken.as_slice(), REPLIES, "by steps of {step}");
-        assert_same(&rt, &echo.last, &4);
+        let last = check_echo(&rt, rt.alloc(), step, 1000, all(step), Ok(()), REPLIES)?;
+        assert_same(&rt, &(step, last), &(step, 4));
     }
     Ok(())
 }
@@ -105,14 +98,8 @@ fn failing_reads(rt: HostRuntime) -> Result<(), Fail> {
     ];
     for (left, replies) in table {
         for step in [1, 1000] {
-            let mut reader = FailingReader {
-                rest: INPUT,
-                step,
-                left,
-            };
-            let mut writer = writer(rt.alloc(), 1000, 1000)?;
             let end = Err(Fault::ReadFault);
-            check_echo(&rt, rt.alloc(), &mut reader, &mut writer, end, replies);
+            check_echo(&rt, rt.alloc(), step, left, all(1000), end, replies)?;
         }
     }
     Ok(())
@@ -122,22 +109,9 @@ fn failing_reads(rt: HostRuntime) -> Result<(), Fail> {
 fn failing_writes(rt: HostRuntime) -> Result<(), Fail> {
     for failure in [Failure::Refuses, Failure::Stalls] {
         for left in 0..REPLIES.len() {
-            let mut reader = FailingReader {
-                rest: INPUT,
-                step: 1000,
-                left: 1000,
-            };
-            let mut writer = writer(rt.alloc(), 3, left)?;
-            writer.failure = failure;
+            let takes = (3, left, failure);
             let end = Err(Fault::WriteFault);
-            check_echo(
-                &rt,
-                rt.alloc(),
-                &mut reader,
-                &mut writer,
-                end,
-                &REPLIES[..left],
-            );
+            check_echo(&rt, rt.alloc(), 1000, 1000, takes, end, &REPLIES[..left])?;
         }
     }
     Ok(())
@@ -279,26 +253,37 @@ fn commands_are_printed(rt: HostRuntime) -> Result<(), Fail> {
     Ok(())
 }
 
+// Has a scan of 5,000 values put where the writer fails, and sees what it took.
+fn check_scan(
+    rt: &impl Abort,
+    alloc: Global,
+    failure: Failure,
+    values: &[SixSummary],
+) -> Result<(), AllocError> {
+    let mut held = Vec::with_capacity(alloc, HELD)?;
+    let mut writer = writer(alloc, (50, 60, failure))?;
+    let mut outbox = Outbox {
+        writer: &mut writer,
+        held: &mut held,
+    };
+    let ended = put_scan(&mut outbox, 9, true, Kind::Automaton, values);
+    let text = b"at 9 inc automaton 5000\n= 0 1 2 3 4 5 6 7\n= 0 1 2 3 4 5 6 7\n";
+    assert_same(
+        rt,
+        &(ended, writer.taken.as_slice()),
+        &(Err(Fault::WriteFault), text.as_slice()),
+    );
+    drop(held);
+    drop(writer);
+    Ok(())
+}
+
 #[test]
 fn scans_that_are_not_written(rt: HostRuntime) -> Result<(), Fail> {
     let none = fold_slice(&Six, &[]);
     let values = Vec::from_elem(rt.alloc(), none, 5_000)?;
     for failure in [Failure::Refuses, Failure::Stalls] {
-        let mut held = Vec::with_capacity(rt.alloc(), HELD)?;
-        let mut writer = FailingWriter {
-            taken: Vec::with_capacity(rt.alloc(), 60)?,
-            step: 50,
-            left: 60,
-            failure,
-        };
-        let mut outbox = Outbox {
-            writer: &mut writer,
-            held: &mut held,
-        };
-        let result = put_scan(&mut outbox, 9, true, Kind::Automaton, &values);
-        assert_same(&rt, &result, &Err(Fault::WriteFault));
-        let text = b"at 9 inc automaton 5000\n= 0 1 2 3 4 5 6 7\n= 0 1 2 3 4 5 6 7\n";
-        assert_same(&rt, &writer.taken.as_slice(), &text.as_slice());
+        check_scan(&rt, rt.alloc(), failure, &values)?;
     }
     Ok(())
 }

@@ -4,8 +4,12 @@ use lv_geometry::{Limits, Place, Refusal, block_of, buckets_for, capacity, index
 #[test]
 fn limits_are_checked(rt: HostRuntime) {
     for (buckets, edits) in [(0, 1), (18, 1), (1, 0), (1, 16_777_216)] {
-        let refused = matches!(Limits::new(buckets, edits), Err(Refusal::BadLimits));
-        assert!(rt; refused, "{buckets} {edits}");
+        let refused = Limits::new(buckets, edits);
+        assert_same(
+            &rt,
+            &(buckets, edits, refused),
+            &(buckets, edits, Err(Refusal::BadLimits)),
+        );
     }
     let greatest = Limits::new(17, 16_777_215);
     assert_same(&rt, &greatest, &Ok(Limits::greatest()));
@@ -17,15 +21,16 @@ fn limits_are_checked(rt: HostRuntime) {
 #[test]
 fn places_and_back(rt: HostRuntime) {
     for (i, bucket, cell) in [(0, 0, 0), (7, 0, 7), (8, 1, 0), (23, 1, 15), (24, 2, 0)] {
-        assert_eq!(rt; place(i), Place { bucket, cell }, "at {i}");
-        assert_same(&rt, &index(place(i)), &i);
+        let found = place(i);
+        assert_same(&rt, &(i, found), &(i, Place { bucket, cell }));
+        assert_same(&rt, &index(found), &i);
     }
 }
 
 #[test]
 fn buckets_and_blocks(rt: HostRuntime) {
     for (n, k) in [(0, 0), (1, 1), (8, 1), (9, 2), (25, 3), (1_048_568, 17)] {
-        assert_eq!(rt; buckets_for(n), k, "at {n}");
+        assert_same(&rt, &(n, buckets_for(n)), &(n, k));
     }
     assert_same(&rt, &capacity(3), &56);
     assert_same(&rt, &block_of(23), &2);

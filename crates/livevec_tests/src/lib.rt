@@ -3,7 +3,7 @@
 //!
 //! Here a function that owns a vector, a hub or a world lends it to another function and then drops it by a call: the proof of
 //! a body that drops it by itself is long.
-//! Two values are compared by `assert_same`; `assert_eq!` stays where a loop says which turn it is.
+//! Two values are compared by `assert_same`, in a loop with what tells which turn it is.
 #![tactic(auto)]
 
 #[cfg(test)]
@@ -42,5 +42,7 @@ mod standing;
 mod store;
 #[cfg(test)]
 mod summary;
+#[cfg(test)]
+mod takers;
 #[cfg(test)]
 mod transcripts;

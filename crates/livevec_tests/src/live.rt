@@ -10,9 +10,9 @@ use std::alloc::Global;
 use std::process::Abort;
 use std::test::Fail;
 
-// Adds eight elements.
-fn push_eight(live: &mut Live<Sum>, x: i64) -> Result<(), Refusal> {
-    for _ in 0..8 {
+// Adds equal elements.
+pub(crate) fn push_all<B: Body>(live: &mut Live<B>, count: u32, x: i64) -> Result<(), Refusal> {
+    for _ in 0..count {
         live.apply(Edit::Push(x))?;
     }
     Ok(())
@@ -29,7 +29,7 @@ pub(crate) fn give<B: Body>(live: &mut Live<B>, outcome: Outcome<B>) -> Option<A
 
 // The outcome of the first job of a new vector, made one of eight elements 2.
 fn first_outcome(live: &mut Live<Sum>) -> Result<Outcome<Sum>, Fail> {
-    push_eight(live, 2)?;
+    push_all(live, 8, 2)?;
     match live.claim() {
         Some(job) => Ok(job.run()),
         None => Err(Fail::new("no job")),
@@ -66,7 +66,7 @@ fn check_outcomes(
     live: &mut Live<Sum>,
     outcome: Outcome<Sum>,
 ) -> Result<(), Refusal> {
-    push_eight(live, 1)?;
+    push_all(live, 8, 1)?;
     let given = give_thrice(live, outcome)?;
     let expected = [
         None,

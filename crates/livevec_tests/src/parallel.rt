@@ -16,13 +16,46 @@ use std::test::Fail;
 use std::thread;
 use std::thread::Threads;
 
-// Whether a scan at edit 4096 has as many values, which begin and end with these.
-fn goes(scan: &Scan<u64>, first: &[u64], last: u64) -> bool {
+// Sees that a scan at edit 4096 has as many values, which begin and end with these.
+fn assert_goes(rt: &impl Abort, scan: &Scan<u64>, first: &[u64], last: u64) {
     let values = scan.values.as_slice();
-    scan.edit == 4096
-        && values.len() == 4096
-        && values.starts_with(first)
-        && values.last() == Some(&last)
+    let seen = (values.starts_with(first), values.last().copied());
+    assert_same(
+        rt,
+        &(scan.edit, values.len(), seen),
+        &(4096, 4096, (true, Some(last))),
+    );
+}
+
+// Sees the scan of 0 to 4095 that is wanted.
+fn check_scan<R: Threads + Sync + Abort>(
+    rt: &R,
+    alloc: Global,
+    view: View<'_, u64>,
+    inclusive: bool,
+    first: &[u64],
+    last: u64,
+) -> Result<(), Refusal> {
+    let scan = either_scan(rt, alloc, view, &Sum, 4096, inclusive)?;
+    assert_goes(rt, &scan, first, last);
+    drop(scan);
+    Ok(())
+}
+
+// The scan of so many elements that is wanted.
+fn either_scan<B: Body + Sync, R: Threads + Sync>(
+    rt: &R,
+    alloc: Global,
+    view: View<'_, B::S>,
+    body: &B,
+    hi: u32,
+    inclusive: bool,
+) -> Result<Scan<B::S>, Refusal> {
+    if inclusive {
+        par_scan_inclusive(rt, alloc, view, body, 0, hi)
+    } else {
+        par_scan_exclusive(rt, alloc, view, body, 0, hi)
+    }
 }
 
 // Pushes 0 to 4095, and asks for their sum, their scans, and what is refused.
@@ -31,7 +64,7 @@ fn check_answers<R: Threads + Sync + Abort>(
     alloc: Global,
     edits: &mut Edits,
     table: &Summaries<u64>,
-) -> Result<(), Fail> {
+) -> Result<(), Refusal> {
     for x in 0..4096 {
         edits.push(x)?;
     }
@@ -44,16 +77,11 @@ fn check_answers<R: Threads + Sync + Abort>(
         &par_reduce(rt, alloc, view, &Sum, 0, 4096),
         &Ok((4096, 8_386_560)),
     );
-    let inclusive = par_scan_inclusive(rt, alloc, view, &Sum, 0, 4096)?;
-    let exclusive = par_scan_exclusive(rt, alloc, view, &Sum, 0, 4096)?;
-    assert!(rt; goes(&inclusive, &[0, 1, 3], 8_386_560));
-    assert!(rt; goes(&exclusive, &[0, 0, 1], 8_382_465));
-    for (lo, hi, refusal) in [
-        (2, 1, Refusal::BadRange),
-        (0, 4097, Refusal::OutOfRange { size: 4096 }),
-    ] {
-        check_refusal(rt, alloc, view, lo, hi, refusal);
-    }
+    check_scan(rt, alloc, view, true, &[0, 1, 3], 8_386_560)?;
+    check_scan(rt, alloc, view, false, &[0, 0, 1], 8_382_465)?;
+    check_refusal(rt, alloc, view, 2, 1, Refusal::BadRange);
+    let past = Refusal::OutOfRange { size: 4096 };
+    check_refusal(rt, alloc, view, 0, 4097, past);
     Ok(())
 }
 
@@ -66,16 +94,13 @@ fn check_refusal<R: Threads + Sync + Abort>(
     hi: u32,
     refusal: Refusal,
 ) {
-    assert_eq!(rt;
-        par_reduce(rt, alloc, view, &Sum, lo, hi),
-        Err(refusal),
-        "{lo} {hi}"
-    );
-    assert!(rt;
-        matches!(par_scan_inclusive(rt, alloc, view, &Sum, lo, hi), Err(reason) if reason == refusal)
-    );
-    assert!(rt;
-        matches!(par_scan_exclusive(rt, alloc, view, &Sum, lo, hi), Err(reason) if reason == refusal)
+    let reduced = par_reduce(rt, alloc, view, &Sum, lo, hi).err();
+    let inclusive = par_scan_inclusive(rt, alloc, view, &Sum, lo, hi).err();
+    let exclusive = par_scan_exclusive(rt, alloc, view, &Sum, lo, hi).err();
+    assert_same(
+        rt,
+        &[reduced, inclusive, exclusive],
+        &[Some(refusal), Some(refusal), Some(refusal)],
     );
 }
 
@@ -86,18 +111,30 @@ fn the_numbers_below_4096(rt: HostRuntime) -> Result<(), Fail> {
     let done = check_answers(&rt, rt.alloc(), &mut edits, &table);
     drop(table);
     drop(edits);
-    done
+    Ok(done?)
+}
+
+// Sees the scan of a slice.
+fn check_slice<R: Threads + Sync + Abort>(
+    rt: &R,
+    alloc: Global,
+    xs: &[i64],
+    inclusive: bool,
+    wanted: &[u64],
+) -> Result<(), Refusal>
+    requires { length xs.now ≤ 2 ^ 20 }
+{
+    let values = par_scan_slice(rt, alloc, &Sum, xs, inclusive)?;
+    assert_same(rt, &values.as_slice(), &wanted);
+    drop(values);
+    Ok(())
 }
 
 #[test]
-fn slices_of_one_two_three(rt: HostRuntime) -> Result<(), Fail> {
-    let inclusive = par_scan_slice(&rt, rt.alloc(), &Sum, &[1, 2, 3], true)?;
-    let exclusive = par_scan_slice(&rt, rt.alloc(), &Sum, &[1, 2, 3], false)?;
-    let nothing = par_scan_slice(&rt, rt.alloc(), &Sum, &[], true)?;
-    assert_same(&rt, &inclusive.as_slice(), &[1, 3, 6].as_slice());
-    assert_same(&rt, &exclusive.as_slice(), &[0, 1, 3].as_slice());
-    assert!(rt; nothing.is_empty());
-    Ok(())
+fn slices_of_one_two_three(rt: HostRuntime) -> Result<(), Refusal> {
+    check_slice(&rt, rt.alloc(), &[1, 2, 3], true, &[1, 3, 6])?;
+    check_slice(&rt, rt.alloc(), &[1, 2, 3], false, &[0, 1, 3])?;
+    check_slice(&rt, rt.alloc(), &[], true, &[])
 }
 
 // Where the `lift` of an element 1 waits until an element 2 is lifted.
@@ -215,8 +252,8 @@ fn meet_in_reduce<R: Threads + Sync + Abort>(
     let meeting = Meeting::new();
     let body = wide(&meeting);
     let answer = par_reduce(rt, alloc, view, &body, 0, 262_144)?;
-    assert_same(rt, &(answer.0, answer.1.0), &(262_144, 3));
-    assert!(rt; meeting.took_place());
+    let seen = (answer.0, answer.1.0, meeting.took_place());
+    assert_same(rt, &seen, &(262_144, 3, true));
     Ok(())
 }
 
@@ -229,13 +266,10 @@ fn meet_in_scan<R: Threads + Sync + Abort>(
 ) -> Result<(), Refusal> {
     let meeting = Meeting::new();
     let body = wide(&meeting);
-    let scan = if inclusive {
-        par_scan_inclusive(rt, alloc, view, &body, 0, 262_144)?
-    } else {
-        par_scan_exclusive(rt, alloc, view, &body, 0, 262_144)?
-    };
+    let scan = either_scan(rt, alloc, view, &body, 262_144, inclusive)?;
     assert_last(rt, &scan.values, inclusive);
-    assert!(rt; meeting.took_place());
+    drop(scan);
+    assert_same(rt, &meeting.took_place(), &true);
     Ok(())
 }
 
@@ -251,15 +285,24 @@ fn meet_in_slice<R: Threads + Sync + Abort>(
     let body = wide(&meeting);
     let values = par_scan_slice(rt, alloc, &body, xs, true)?;
     assert_last(rt, &values, true);
-    assert!(rt; meeting.took_place());
+    drop(values);
+    assert_same(rt, &meeting.took_place(), &true);
     Ok(())
+}
+
+// The sum in the last of some values.
+fn last_sum(values: &[WideSummary]) -> Option<u64> {
+    match values.last() {
+        Some(value) => Some(value.0),
+        None => None,
+    }
 }
 
 // Sees that as many values end with the sum of all, or of all but the last.
 fn assert_last(rt: &impl Abort, values: &Values<WideSummary>, inclusive: bool) {
     let last = if inclusive { 3 } else { 1 };
     assert_same(rt, &values.len(), &262_144);
-    assert!(rt; matches!(values.as_slice().last(), Some(value) if value.0 == last));
+    assert_same(rt, &last_sum(values.as_slice()), &Some(last));
 }
 
 // Pushes the elements, and has the three calls that take a range meet over them.

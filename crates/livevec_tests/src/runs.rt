@@ -1,5 +1,5 @@
 //! Tests of runs: the laws at a body, every event's reply as a value, and that a reduction lifts no more elements than it says.
-use crate::live::give;
+use crate::live::{give, push_all};
 use crate::same::assert_same;
 use lv_bodies::{Body, Sum};
 use lv_edits::{Edit, Receipt};
@@ -77,12 +77,10 @@ fn check_lifts(
     live: &mut Live<Counted<'_>>,
     lifts: &AtomicU32,
 ) -> Result<(), Refusal> {
-    for _ in 0..64 {
-        live.apply(Edit::Push(1))?;
-    }
-    for block in 0..8 {
+    push_all(live, 64, 1)?;
+    for block in 0..8_u32 {
         let accepted = refresh_counted(live);
-        assert_eq!(rt; accepted, Some(Accepted::Installed), "block {block}");
+        assert_same(rt, &(block, accepted), &(block, Some(Accepted::Installed)));
     }
     lifts.store(0, Ordering::SeqCst);
     let answer = live.reduce(1, 63)?;
@@ -115,9 +113,7 @@ fn check_asked(
     live: &mut Live<Counted<'_>>,
     lifts: &AtomicU32,
 ) -> Result<(), Refusal> {
-    for _ in 0..64 {
-        live.apply(Edit::Push(1))?;
-    }
+    push_all(live, 64, 1)?;
     for (lifted, cells, summaries) in [(62, 62, 0), (14, 14, 6)] {
         lifts.store(0, Ordering::SeqCst);
         let asked = live.ask(1, 63)?;
@@ -150,9 +146,7 @@ fn what_is_asked_is_kept(rt: HostRuntime) -> Result<(), Refusal> {
 
 // Three jobs are those of the first three blocks; five blocks and their parent are left.
 fn check_refreshed(rt: &impl Abort, live: &mut Live<Sum>) -> Result<(), Refusal> {
-    for _ in 0..64 {
-        live.apply(Edit::Push(1))?;
-    }
+    push_all(live, 64, 1)?;
     assert_same(rt, &live.refresh(3), &3);
     let some = live.reduce(0, 64)?;
     assert_same(rt, &(some.cells_read, some.summaries_read), &(40, 3));
@@ -208,18 +202,20 @@ fn is_1_3_6(scan: &Scan<u64>) -> bool {
     scan.values.as_slice() == [1, 3, 6].as_slice()
 }
 
+// What an event is answered.
+fn answer_to(alloc: Global, world: &mut World<Sum>, event: Event) -> Result<Option<Told>, Refusal> {
+    let replies = run(alloc, world, &[event])?;
+    let told = replies.get(0).map(tell);
+    drop(replies);
+    Ok(told)
+}
+
 // Sees that events are answered like this.
-fn check_events(
-    rt: &impl Abort,
-    alloc: Global,
-    world: &mut World<Sum>,
-    table: &[(Event, Told)],
-) -> Result<(), Refusal> {
-    for (event, told) in table {
-        let replies = run(alloc, world, &[*event])?;
-        assert_eq!(rt; replies.get(0).map(tell), Some(*told), "{event:?}");
+fn check_events(rt: &impl Abort, alloc: Global, world: &mut World<Sum>, table: &[(Event, Told)]) {
+    for (event, wanted) in table {
+        let answer = answer_to(alloc, world, *event);
+        assert_same(rt, &(*event, answer), &(*event, Ok(Some(*wanted))));
     }
-    Ok(())
 }
 
 fn push_1_to_8(alloc: Global, world: &mut World<Sum>) -> Result<(), Refusal> {
@@ -281,7 +277,8 @@ fn events_of_each_kind() -> [(Event, Told); 16] {
 
 fn check_each_kind(rt: &impl Abort, alloc: Global, world: &mut World<Sum>) -> Result<(), Refusal> {
     push_1_to_8(alloc, world)?;
-    check_events(rt, alloc, world, &events_of_each_kind())
+    check_events(rt, alloc, world, &events_of_each_kind());
+    Ok(())
 }
 
 #[test]

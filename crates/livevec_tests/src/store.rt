@@ -16,8 +16,13 @@ fn opened(alloc: Global, cells: u32) -> Result<Store, Refusal>
     ensures descriptor { IfOk result (λ store. store.descriptor ≡ record { edit = 0; size = 0; pending = None }) }
 {
     let mut store = Store::new(alloc, Limits::greatest());
-    store.open_to(cells)?;
-    Ok(store)
+    match store.open_to(cells) {
+        Ok(()) => Ok(store),
+        Err(refusal) => {
+            drop(store);
+            Err(refusal)
+        }
+    }
 }
 
 // Writes an element, and completes the write.
@@ -36,17 +41,29 @@ fn write(store: &mut Store, index: u32, element: i64, size: u32)
     store.settle();
 }
 
+// The first element, and the numbers of the last edit and of the last one in the first block.
+fn first(store: &Store) -> (i64, u32, u32)
+    requires { 0 < capacity_of store.now.buckets }
+{
+    (store.read(0), store.edit(), store.version(0))
+}
+
+// How many elements there are, and the same numbers.
+fn extent(store: &Store) -> (u32, u32, u32) {
+    (store.size(), store.edit(), store.version(0))
+}
+
 #[test]
 fn a_pending_write_is_read(rt: HostRuntime) -> Result<(), Fail> {
     let mut store = opened(rt.alloc(), 1)?;
     store.announce(Some((0, 5)), None, 1);
-    let pending = (store.read(0), store.edit(), store.version(0));
+    let pending = first(&store);
     store.settle();
-    let complete = (store.read(0), store.edit(), store.version(0));
+    let complete = first(&store);
     store.announce(None, None, 0);
-    let popped = (store.size(), store.edit(), store.version(0));
+    let popped = extent(&store);
     store.announce(Some((0, 5)), None, 1);
-    let pushed = (store.size(), store.edit(), store.version(0));
+    let pushed = extent(&store);
     assert_same(&rt, &(pending, complete), &((5, 1, 1), (5, 1, 1)));
     assert_same(&rt, &(popped, pushed), &((0, 2, 1), (1, 3, 3)));
     assert_same(
@@ -61,7 +78,25 @@ fn a_pending_write_is_read(rt: HostRuntime) -> Result<(), Fail> {
             }),
         },
     );
+    drop(store);
     Ok(())
+}
+
+// The numbers of the last edits in the first three blocks.
+fn versions(store: &Store) -> (u32, u32, u32) {
+    (store.version(0), store.version(1), store.version(2))
+}
+
+// The numbers of the last edits in blocks that have none, of which two are not there.
+fn no_versions(store: &Store) -> (u32, u32, u32) {
+    (store.version(4), store.version(7), store.version(u32::MAX))
+}
+
+// The elements at the seams of the first three buckets.
+fn seams(store: &Store) -> (i64, i64, i64, i64)
+    requires { 25 ≤ capacity_of store.now.buckets }
+{
+    (store.read(7), store.read(8), store.read(23), store.read(24))
 }
 
 #[test]
@@ -71,19 +106,17 @@ fn blocks_meet_at_the_seams_of_buckets(rt: HostRuntime) -> Result<(), Fail> {
     write(&mut store, 8, 8, 25);
     write(&mut store, 23, i64::MAX, 25);
     store.announce(Some((24, i64::MIN)), None, 25);
-    let read = (store.read(7), store.read(8), store.read(23), store.read(24));
-    let versions = (
-        store.version(0),
-        store.version(1),
-        store.version(2),
-        store.version(3),
-    );
-    let none = (store.version(4), store.version(7), store.version(u32::MAX));
-    assert_same(&rt, &read, &(-7, 8, i64::MAX, i64::MIN));
-    assert_same(&rt, &(versions, none), &((1, 2, 3, 4), (0, 0, 0)));
-    assert_same(&rt, &store.cells(0), &[0, 0, 0, 0, 0, 0, 0, -7]);
-    assert_same(&rt, &store.cells(1), &[8, 0, 0, 0, 0, 0, 0, 0]);
-    assert_same(&rt, &store.cells(2), &[0, 0, 0, 0, 0, 0, 0, i64::MAX]);
+    let seen = (versions(&store), store.version(3), no_versions(&store));
+    assert_same(&rt, &seams(&store), &(-7, 8, i64::MAX, i64::MIN));
+    assert_same(&rt, &seen, &((1, 2, 3), 4, (0, 0, 0)));
+    let cells = [store.cells(0), store.cells(1), store.cells(2)];
+    let wanted = [
+        [0, 0, 0, 0, 0, 0, 0, -7],
+        [8, 0, 0, 0, 0, 0, 0, 0],
+        [0, 0, 0, 0, 0, 0, 0, i64::MAX],
+    ];
+    assert_same(&rt, &cells, &wanted);
+    drop(store);
     Ok(())
 }
 
@@ -93,15 +126,23 @@ fn a_pending_write_is_among_its_cells(rt: HostRuntime) -> Result<(), Fail> {
     write(&mut store, 16, 1, 24);
     store.announce(Some((19, 4)), None, 24);
     let pending = (store.cells(1), store.cells(2), store.version(2));
-    store.open_to(57)?;
-    let after = (store.buckets(), store.cells(2), store.version(2));
+    let opened = store.open_to(57);
+    let after = (opened, store.buckets(), store.cells(2), store.version(2));
     assert_same(
         &rt,
         &pending,
         &([0, 0, 0, 0, 0, 0, 0, 0], [1, 0, 0, 4, 0, 0, 0, 0], 2),
     );
-    assert_same(&rt, &after, &(4, [1, 0, 0, 4, 0, 0, 0, 0], 2));
+    assert_same(&rt, &after, &(Ok(()), 4, [1, 0, 0, 4, 0, 0, 0, 0], 2));
+    drop(store);
     Ok(())
+}
+
+// The two elements that are exchanged, and the number of the last edit.
+fn exchanged(store: &Store) -> (i64, i64, u32)
+    requires { 16 < capacity_of store.now.buckets }
+{
+    (store.read(3), store.read(16), store.edit())
 }
 
 #[test]
@@ -110,15 +151,15 @@ fn two_pending_writes_are_read(rt: HostRuntime) -> Result<(), Fail> {
     write(&mut store, 3, 1, 24);
     write(&mut store, 16, 2, 24);
     store.announce(Some((3, 2)), Some((16, 1)), 24);
-    let pending = (store.read(3), store.read(16), store.edit());
-    let versions = (store.version(0), store.version(1), store.version(2));
+    let pending = (exchanged(&store), versions(&store));
     store.settle();
-    let complete = (store.read(3), store.read(16), store.edit());
-    let settled = (store.version(0), store.version(1), store.version(2));
-    assert_same(&rt, &(pending, complete), &((2, 1, 3), (2, 1, 3)));
-    assert_same(&rt, &(versions, settled), &((3, 0, 3), (3, 0, 3)));
-    assert_same(&rt, &store.cells(0), &[0, 0, 0, 2, 0, 0, 0, 0]);
-    assert_same(&rt, &store.cells(2), &[1, 0, 0, 0, 0, 0, 0, 0]);
+    let complete = (exchanged(&store), versions(&store));
+    let wanted = ((2, 1, 3), (3, 0, 3));
+    assert_same(&rt, &(pending, complete), &(wanted, wanted));
+    let cells = [store.cells(0), store.cells(2)];
+    let wanted = [[0, 0, 0, 2, 0, 0, 0, 0], [1, 0, 0, 0, 0, 0, 0, 0]];
+    assert_same(&rt, &cells, &wanted);
+    drop(store);
     Ok(())
 }
 

@@ -142,19 +142,15 @@ fn check_outside(rt: &impl Abort, table: &mut Summaries<u64>) -> Result<(), Refu
     fill(table, 8)?;
     for (level, number) in [(0, 0), (7, 0), (1, 8), (2, u32::MAX), (u32::MAX, 0)] {
         let outside = node(level, number);
-        assert_eq!(rt;
-            (
-                table.touched(outside),
-                table.whole(outside),
-                table.entry(outside)
-            ),
-            (0, false, None),
-            "{level} {number}"
+        assert_same(
+            rt,
+            &(level, number, table.touched(outside), table.whole(outside)),
+            &(level, number, 0, false),
         );
-        assert_eq!(rt;
-            table.install(outside, 0, 1),
-            Accepted::Stale { now: 0 },
-            "{level} {number}"
+        assert_same(
+            rt,
+            &(table.entry(outside), table.install(outside, 0, 1)),
+            &(None, Accepted::Stale { now: 0 }),
         );
     }
     Ok(())

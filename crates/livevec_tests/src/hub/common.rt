@@ -14,20 +14,39 @@ use std::sync::atomic::{AtomicBool, Ordering};
 use std::test::Fail;
 use std::thread;
 
-// Pushes equal elements in turn.
-pub(crate) fn push_all<B: Body, N: Means<B>, R: Wait>(
+// Pushes equal elements in turn, and sees that each is accepted.
+pub(crate) fn push_all<B: Body, N: Means<B>, R: Wait + Abort>(
     rt: &R,
     hub: &Hub<B, N>,
     share: &mut Share<N>,
     count: u32,
     x: i64,
-) -> Result<(), Refusal>
+)
     ensures { share.new.parts ≡ share.old.parts }
 {
     for _ in 0..count {
-        hub.edit(rt, share, Edit::Push(x))?;
+        let pushed = hub.edit(rt, share, Edit::Push(x));
+        assert_same(rt, &pushed.err(), &None);
     }
-    Ok(())
+}
+
+// Has a worker work for one turn.
+pub(crate) fn work_once<B: Body, N: Means<B>, G: Gate, R: Wait>(
+    rt: &R,
+    hub: &Hub<B, N>,
+    gate: &G,
+) -> Worked {
+    work(rt, hub, gate, 1)
+}
+
+// Has a worker attend for some turns.
+pub(crate) fn attend_for<B: Body, N: Means<B>, G: Gate, R: Wait>(
+    rt: &R,
+    hub: &Hub<B, N>,
+    gate: &G,
+    turns: u64,
+) -> Worked {
+    attend(rt, hub, gate, turns)
 }
 
 // How many edits a share of all parts counts, and how many the journal of its hub has, which is closed.
@@ -159,11 +178,11 @@ impl Gate for Latch {
     }
 }
 
-// What a worker did that installed one outcome.
-pub(crate) fn one_installed() -> Worked {
+// What a worker did that installed so many outcomes.
+pub(crate) fn installed(count: u64) -> Worked {
     Worked {
-        claimed: 1,
-        installed: 1,
+        claimed: count,
+        installed: count,
         held: 0,
         stale: 0,
         strangers: 0,

@@ -6,6 +6,7 @@ use lv_bodies::Sum;
 use lv_edits::Edit;
 use lv_geometry::{Limits, Refusal};
 use lv_hub::*;
+use lv_refresh::Outcome;
 use lv_summary::Accepted;
 use std::alloc::Global;
 use std::marker::Brand;
@@ -24,21 +25,36 @@ fn split_and_join<N: Naming>(share: &mut Share<N>) -> [(u64, u64); 3]
     [left, cut_off, (share.parts(), share.count())]
 }
 
+// Pushes an element 1.
+fn push_one<N: Naming>(desk: &mut Desk<Sum, N>, share: &mut Share<N>) -> Option<Refusal>
+    ensures { share.new.parts ≡ share.old.parts }
+{
+    desk.edit(share, Edit::Push(1)).err()
+}
+
 // Pushes eight elements 1.
-fn push_eight<N: Naming>(desk: &mut Desk<Sum, N>, share: &mut Share<N>) -> Result<(), Refusal>
+fn push_eight<N: Naming>(rt: &impl Abort, desk: &mut Desk<Sum, N>, share: &mut Share<N>)
     ensures { share.new.parts ≡ share.old.parts }
 {
     for _ in 0..8 {
-        desk.edit(share, Edit::Push(1))?;
+        let refused = push_one(desk, share);
+        assert_same(rt, &refused, &None);
     }
-    Ok(())
+}
+
+// The outcome of a desk's next job.
+fn next_of<N: Naming>(desk: &mut Desk<Sum, N>) -> Result<Outcome<Sum>, Fail> {
+    match desk.claim() {
+        Some(job) => Ok(job.run()),
+        None => Err(Fail::new("a job is wanted")),
+    }
 }
 
 // Refreshes a desk of eight elements, and sees that nothing more is wanted.
 fn assert_refreshed<N: Naming>(rt: &impl Abort, desk: &mut Desk<Sum, N>) -> Result<(), Fail> {
-    let outcome = desk.claim().ok_or("a job is wanted")?.run();
+    let outcome = next_of(desk)?;
     assert_same(rt, &desk.give(outcome), &Ok(Accepted::Installed));
-    assert!(rt; desk.claim().is_none());
+    assert_same(rt, &desk.claim().is_none(), &true);
     Ok(())
 }
 
@@ -57,7 +73,7 @@ fn assert_desk<N: Naming>(
 ) -> Result<(), Fail>
     requires { share.old.parts ≡ 3 }
 {
-    push_eight(desk, share)?;
+    push_eight(rt, desk, share);
     assert_refreshed(rt, desk)?;
     assert_read(rt, desk)?;
     assert_same(rt, &split_and_join(share), &[(2, 8), (1, 0), (3, 8)]);

@@ -14,7 +14,6 @@ use std::process::Abort;
 use std::sync::Wait;
 use std::sync::atomic::{AtomicBool, AtomicU32, Ordering};
 use std::sync::ledger::Blank;
-use std::test::Fail;
 use std::thread;
 use std::thread::Threads;
 
@@ -101,53 +100,45 @@ impl<'a> Body for Held<'a> {
 }
 
 // What the main thread is answered while a job is held: at the gate a push and a reduction, within `lift` another push.
+type HeldAnswers = (
+    Result<Receipt, Refusal>,
+    Result<Answer<u64>, Refusal>,
+    Result<Receipt, Refusal>,
+);
+
 fn while_held<B: Body<S = u64>, N: Means<B>, R: Wait>(
     rt: &R,
     hub: &Hub<B, N>,
     share: &mut Share<N>,
     stage: &Stage,
-) -> Result<(Receipt, Answer<u64>, Receipt), Refusal> {
+) -> HeldAnswers {
     stage.gate.wait_for_it();
-    let first = hub.edit(rt, share, Edit::Push(1))?;
-    let answer = hub.reduce(rt, share, 0, 9)?;
+    let first = hub.edit(rt, share, Edit::Push(1));
+    let answer = hub.reduce(rt, share, 0, 9);
     stage.gate.release();
     stage.lift.wait_for_it();
-    let second = hub.edit(rt, share, Edit::Push(1))?;
+    let second = hub.edit(rt, share, Edit::Push(1));
     stage.lift.release();
-    Ok((first, answer, second))
+    (first, answer, second)
 }
 
-// What was done while a job was held: by a worker with one turn, and what the main thread was answered.
-type HeldOnce = (Worked, (Receipt, Answer<u64>, Receipt));
-
-// A worker's first job is held, and the main thread asks beside it.
-fn hold_once<B: Body<S = u64>, N: Means<B> + Send + Sync, R: Threads + Wait + Sync>(
+// Makes a new hub one of eight elements 1. A worker's first job is held, and the main thread asks beside it.
+fn hold_once<B: Body<S = u64>, N: Means<B> + Send + Sync, R: Threads + Wait + Abort + Sync>(
     rt: &R,
     hub: &Hub<B, N>,
     share: &mut Share<N>,
     stage: &Stage,
-) -> (Worked, Result<(Receipt, Answer<u64>, Receipt), Refusal>) {
+) -> (Worked, HeldAnswers) {
+    push_all(rt, hub, share, 8, 1);
     thread::join(
         rt,
-        move || work(rt, hub, stage, 1),
+        move || work_once(rt, hub, stage),
         move || while_held(rt, hub, share, stage),
     )
 }
 
-// Makes a new hub one of eight elements 1, whose first job is held.
-fn hold_of_eight<B: Body<S = u64>, N: Means<B> + Send + Sync, R: Threads + Wait + Sync>(
-    rt: &R,
-    hub: &Hub<B, N>,
-    share: &mut Share<N>,
-    stage: &Stage,
-) -> Result<HeldOnce, Refusal> {
-    push_all(rt, hub, share, 8, 1)?;
-    let (worked, answers) = hold_once(rt, hub, share, stage);
-    Ok((worked, answers?))
-}
-
 // What was done while a job of a hub of eight elements 1 was held.
-fn hold_a_job<B: Body<S = u64>, N: Means<B> + Send + Sync, R: Threads + Wait + Sync>(
+fn hold_a_job<B: Body<S = u64>, N: Means<B> + Send + Sync, R: Threads + Wait + Abort + Sync>(
     rt: &R,
     alloc: Global,
     limits: Limits,
@@ -155,7 +146,7 @@ fn hold_a_job<B: Body<S = u64>, N: Means<B> + Send + Sync, R: Threads + Wait + S
     opened: Opened,
     body: B,
     stage: &Stage,
-) -> Result<HeldOnce, Refusal>
+) -> (Worked, HeldAnswers)
     requires name { blank.name ≡ N.name }
     requires all { blank.parts ≡ N.parts }
     requires one { blank.parts ≡ 1 }
@@ -164,37 +155,37 @@ fn hold_a_job<B: Body<S = u64>, N: Means<B> + Send + Sync, R: Threads + Wait + S
     requires body { N.body ≡ Some body }
 {
     let (hub, mut share) = Hub::<B, N>::new(alloc, limits, body, blank, 1, opened);
-    let done = hold_of_eight(rt, &hub, &mut share, stage);
+    let done = hold_once(rt, &hub, &mut share, stage);
     drop(hub);
     done
 }
 
 // Sees what was done while a job was held.
-fn assert_held(rt: &impl Abort, done: HeldOnce) {
+fn assert_held(rt: &impl Abort, done: (Worked, HeldAnswers)) -> Result<(), Refusal> {
     let (worked, (first, answer, second)) = done;
     let first_wanted = Receipt::Pushed { edit: 9, index: 8 };
     let second_wanted = Receipt::Pushed { edit: 10, index: 9 };
-    assert_same(rt, &(first, second), &(first_wanted, second_wanted));
+    assert_same(rt, &(first, second), &(Ok(first_wanted), Ok(second_wanted)));
+    assert_same(rt, &worked, &installed(1));
+    let answer = answer?;
     assert_same(rt, &(answer.edit, answer.value), &(9, 9));
-    assert_same(rt, &worked, &one_installed());
+    Ok(())
 }
 
 #[test]
-fn a_held_job_holds_nobody(rt: HostRuntime) -> Result<(), Fail> {
+fn a_held_job_holds_nobody(rt: HostRuntime) -> Result<(), Refusal> {
     let stage = Stage::new();
-    let limits = Limits::greatest();
     let done = hold_a_job::<Held<'_>, Brand, _>(
         &rt,
         rt.alloc(),
-        limits,
+        Limits::greatest(),
         Blank::new(1),
         Opened::new(),
         Held { stage: &stage },
         &stage,
-    )?;
-    assert!(rt; stage.was_in_time());
+    );
+    assert_same(&rt, &stage.was_in_time(), &true);
     // a claim that computes its job under the lock lifts before the gate
     assert_same(&rt, &stage.early.load(Ordering::SeqCst), &0);
-    assert_held(&rt, done);
-    Ok(())
+    assert_held(&rt, done)
 }

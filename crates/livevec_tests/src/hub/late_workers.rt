@@ -28,14 +28,14 @@ fn one_stale() -> Worked {
 }
 
 // While the first worker stands at its gate, a second one works for a turn, and then the first element is overwritten.
-fn overtake<N: Means<Sum> + Send + Sync, R: Threads + Wait + Sync>(
+fn overtake<N: Means<Sum>, R: Wait>(
     rt: &R,
     hub: &Hub<Sum, N>,
     share: &mut Share<N>,
     gate: &Latch,
 ) -> (Worked, Result<Receipt, Refusal>) {
     gate.wait_for_it();
-    let (worked, ()) = thread::join(rt, move || work(rt, hub, &OpenGate, 1), || ());
+    let worked = work_once(rt, hub, &OpenGate);
     let written = hub.edit(rt, share, Edit::Write { index: 0, value: 9 });
     gate.release();
     (worked, written)
@@ -53,23 +53,18 @@ fn work_late<N: Means<Sum> + Send + Sync, R: Threads + Wait + Sync>(
 ) -> DoneLate {
     thread::join(
         rt,
-        move || work(rt, hub, gate, 1),
+        move || work_once(rt, hub, gate),
         move || overtake(rt, hub, share, gate),
     )
 }
 
 // Sees what was done while a worker was late.
 fn assert_done_late(rt: &impl Abort, done: DoneLate) {
-    let (first, (second, written)) = done;
-    assert_same(
-        rt,
-        &written,
-        &Ok(Receipt::Written {
-            edit: 17,
-            before: 1,
-        }),
-    );
-    assert_same(rt, &(first, second), &(one_stale(), one_installed()));
+    let receipt = Receipt::Written {
+        edit: 17,
+        before: 1,
+    };
+    assert_same(rt, &done, &(one_stale(), (installed(1), Ok(receipt))));
 }
 
 // Makes a new hub one of 16 elements 1, where a worker is late.
@@ -78,10 +73,10 @@ fn assert_late<N: Means<Sum> + Send + Sync, R: Threads + Wait + Abort + Sync>(
     hub: &Hub<Sum, N>,
     share: &mut Share<N>,
 ) -> Result<(), Fail> {
-    push_all(rt, hub, share, 16, 1)?;
+    push_all(rt, hub, share, 16, 1);
     let gate = Latch::new();
     let done = work_late(rt, hub, share, &gate);
-    assert!(rt; gate.was_in_time());
+    assert_same(rt, &gate.was_in_time(), &true);
     assert_done_late(rt, done);
     assert_sum(rt, hub, share, 16, 17, 24)
 }

@@ -4,7 +4,7 @@ ghost use Rattle.std.specs.Prelude.{◌≡◌, Some};
 use super::common::*;
 use crate::same::assert_same;
 use lv_bodies::Sum;
-use lv_geometry::{Limits, Refusal};
+use lv_geometry::Limits;
 use lv_hub::*;
 use std::alloc::{AllocError, Global};
 use std::marker::Brand;
@@ -12,7 +12,6 @@ use std::process::Abort;
 use std::sync::Wait;
 use std::sync::atomic::{AtomicU64, Ordering};
 use std::sync::ledger::Blank;
-use std::test::Fail;
 use std::thread;
 use std::thread::Threads;
 use std::time::{Clock, Duration};
@@ -53,41 +52,21 @@ fn let_it_sleep(clock: &impl Clock) {
     thread::sleep(clock, Duration::from_millis(50));
 }
 
-// What a worker did that installed so many outcomes.
-fn installed(count: u64) -> Worked {
-    Worked {
-        claimed: count,
-        installed: count,
-        held: 0,
-        stale: 0,
-        strangers: 0,
-    }
-}
-
-// Pushes a block that a worker claims, and once it had time to fall asleep another one. Says whether both were claimed.
-fn push_two_blocks<N: Means<Sum>, R: Wait + Clock>(
+// Pushes a block that a worker claims, and once it had time to fall asleep another one; then the worker is dismissed. Says whether
+// the first block was claimed, and whether both were.
+fn push_then_dismiss<N: Means<Sum>, R: Wait + Clock + Abort>(
     rt: &R,
     hub: &Hub<Sum, N>,
     share: &mut Share<N>,
     gate: &Turnstile,
-) -> Result<bool, Refusal> {
-    push_all(rt, hub, share, 8, 1)?;
+) -> (bool, bool) {
+    push_all(rt, hub, share, 8, 1);
     let first = gate.is_passed_by(rt, 1);
     let_it_sleep(rt);
-    push_all(rt, hub, share, 8, 1)?;
-    Ok(first && gate.is_passed_by(rt, 2))
-}
-
-// The same, and the worker is dismissed in any case.
-fn push_then_dismiss<N: Means<Sum>, R: Wait + Clock>(
-    rt: &R,
-    hub: &Hub<Sum, N>,
-    share: &mut Share<N>,
-    gate: &Turnstile,
-) -> Result<bool, Refusal> {
-    let seen = push_two_blocks(rt, hub, share, gate);
+    push_all(rt, hub, share, 8, 1);
+    let both = gate.is_passed_by(rt, 2);
     hub.dismiss(rt);
-    seen
+    (first, both)
 }
 
 // A worker of a thousand turns attends while two blocks are pushed.
@@ -95,17 +74,15 @@ fn assert_woken<N: Means<Sum> + Send + Sync, R: Threads + Wait + Clock + Abort +
     rt: &R,
     hub: &Hub<Sum, N>,
     share: &mut Share<N>,
-) -> Result<(), Fail> {
+) {
     let turnstile = Turnstile::new();
     let gate = &turnstile;
-    let (worked, seen) = thread::join(
+    let seen = thread::join(
         rt,
-        move || attend(rt, hub, gate, 1000),
+        move || attend_for(rt, hub, gate, 1000),
         move || push_then_dismiss(rt, hub, share, gate),
     );
-    assert_same(rt, &seen, &Ok(true));
-    assert_same(rt, &worked, &installed(2));
-    Ok(())
+    assert_same(rt, &seen, &(installed(2), (true, true)));
 }
 
 fn woken<N: Means<Sum> + Send + Sync, R: Threads + Wait + Clock + Abort + Sync>(
@@ -115,7 +92,7 @@ fn woken<N: Means<Sum> + Send + Sync, R: Threads + Wait + Clock + Abort + Sync>(
     blank: Blank,
     opened: Opened,
     body: Sum,
-) -> Result<(), Fail>
+)
     requires name { blank.name ≡ N.name }
     requires all { blank.parts ≡ N.parts }
     requires one { blank.parts ≡ 1 }
@@ -124,13 +101,12 @@ fn woken<N: Means<Sum> + Send + Sync, R: Threads + Wait + Clock + Abort + Sync>(
     requires body { N.body ≡ Some body }
 {
     let (hub, mut share) = Hub::<Sum, N>::new(alloc, limits, body, blank, 1, opened);
-    let seen = assert_woken(rt, &hub, &mut share);
+    assert_woken(rt, &hub, &mut share);
     drop(hub);
-    seen
 }
 
 #[test]
-fn an_edit_wakes_a_sleeping_worker(rt: HostRuntime) -> Result<(), Fail> {
+fn an_edit_wakes_a_sleeping_worker(rt: HostRuntime) {
     woken::<Brand, _>(
         &rt,
         rt.alloc(),
@@ -138,7 +114,7 @@ fn an_edit_wakes_a_sleeping_worker(rt: HostRuntime) -> Result<(), Fail> {
         Blank::new(1),
         Opened::new(),
         Sum,
-    )
+    );
 }
 
 // What eight workers did that would attend for good, on a hub with nothing to do, and were dismissed.
@@ -147,7 +123,7 @@ fn dismiss_eight<N: Means<Sum> + Send + Sync, R: Threads + Wait + Clock + Sync>(
     alloc: Global,
     hub: &Hub<Sum, N>,
 ) -> Result<Vec<Worked>, AllocError> {
-    let worker = |_: usize| attend(rt, hub, &OpenGate, u64::MAX);
+    let worker = |_: usize| attend_for(rt, hub, &OpenGate, u64::MAX);
     let (worked, ()) = thread::join(
         rt,
         || thread::map_indices(rt, alloc, 8, &worker),
@@ -166,13 +142,13 @@ fn assert_dismissed<N: Means<Sum> + Send + Sync, R: Threads + Wait + Clock + Abo
     alloc: Global,
     hub: &Hub<Sum, N>,
     share: &mut Share<N>,
-) -> Result<(), Fail> {
-    assert_same(rt, &attend(rt, hub, &OpenGate, 1), &installed(0));
+) -> Result<(), AllocError> {
+    assert_same(rt, &attend_for(rt, hub, &OpenGate, 1), &installed(0));
     for worked in dismiss_eight(rt, alloc, hub)?.iter() {
         assert_same(rt, &*worked, &installed(0));
     }
-    push_all(rt, hub, share, 8, 1)?;
-    assert_same(rt, &attend(rt, hub, &OpenGate, 1000), &installed(0));
+    push_all(rt, hub, share, 8, 1);
+    assert_same(rt, &attend_for(rt, hub, &OpenGate, 1000), &installed(0));
     assert_same(rt, &work(rt, hub, &OpenGate, 1000), &installed(1));
     Ok(())
 }
@@ -184,7 +160,7 @@ fn dismissed<N: Means<Sum> + Send + Sync, R: Threads + Wait + Clock + Abort + Sy
     blank: Blank,
     opened: Opened,
     body: Sum,
-) -> Result<(), Fail>
+) -> Result<(), AllocError>
     requires name { blank.name ≡ N.name }
     requires all { blank.parts ≡ N.parts }
     requires one { blank.parts ≡ 1 }
@@ -199,7 +175,7 @@ fn dismissed<N: Means<Sum> + Send + Sync, R: Threads + Wait + Clock + Abort + Sy
 }
 
 #[test]
-fn dismissed_workers_end(rt: HostRuntime) -> Result<(), Fail> {
+fn dismissed_workers_end(rt: HostRuntime) -> Result<(), AllocError> {
     dismissed::<Brand, _>(
         &rt,
         rt.alloc(),

@@ -18,18 +18,18 @@ use std::test::Fail;
 use std::thread::Threads;
 
 // Makes a new hub one of eight equal elements, and computes its first job.
-fn outcome_of_eight<B: Body, N: Means<B>, R: Wait>(
+fn outcome_of_eight<B: Body, N: Means<B>, R: Wait + Abort>(
     rt: &R,
     hub: &Hub<B, N>,
     share: &mut Share<N>,
     x: i64,
 ) -> Result<Outcome<B>, Fail> {
-    push_all(rt, hub, share, 8, x)?;
+    push_all(rt, hub, share, 8, x);
     next_outcome(rt, hub)
 }
 
 // The outcome of the first job of a hub of eight equal elements.
-fn first_outcome<B: Body, N: Means<B>, R: Wait>(
+fn first_outcome<B: Body, N: Means<B>, R: Wait + Abort>(
     rt: &R,
     alloc: Global,
     limits: Limits,
@@ -52,19 +52,19 @@ fn first_outcome<B: Body, N: Means<B>, R: Wait>(
 }
 
 // Makes a new hub one of eight equal elements, and gives it an outcome.
-fn give_to_eight<B: Body, N: Means<B>, R: Wait>(
+fn give_to_eight<B: Body, N: Means<B>, R: Wait + Abort>(
     rt: &R,
     hub: &Hub<B, N>,
     share: &mut Share<N>,
     x: i64,
     outcome: Outcome<B>,
 ) -> Result<Accepted, Refusal> {
-    push_all(rt, hub, share, 8, x)?;
+    push_all(rt, hub, share, 8, x);
     hub.give(rt, outcome)
 }
 
 // What a hub of eight equal elements answers where it is given an outcome.
-fn answer_to<B: Body, N: Means<B>, R: Wait>(
+fn answer_to<B: Body, N: Means<B>, R: Wait + Abort>(
     rt: &R,
     alloc: Global,
     limits: Limits,
@@ -149,7 +149,7 @@ fn assert_strangers<N: Means<Sum>, R: Threads + Wait + Abort + Sync>(
 ) -> Result<(), Fail>
     ensures { share.new.parts ≡ share.old.parts }
 {
-    push_all(rt, hub, share, 8, 1)?;
+    push_all(rt, hub, share, 8, 1);
     assert_own_alone(rt, hub, share, strange)?;
     overwrite_a_one(rt, hub, share, 0, 5, 9);
     assert_follows(rt, alloc, hub, share, strange)

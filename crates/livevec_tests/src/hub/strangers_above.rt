@@ -29,7 +29,7 @@ fn eight_blocks<N: Means<Sum>, R: Wait + Abort>(
     share: &mut Share<N>,
     x: i64,
 ) -> Result<(), Fail> {
-    push_all(rt, hub, share, 64, x)?;
+    push_all(rt, hub, share, 64, x);
     for _ in 0..8 {
         refresh(rt, hub)?;
     }

@@ -12,41 +12,36 @@ use std::marker::Brand;
 use std::process::Abort;
 use std::sync::Wait;
 use std::sync::ledger::Blank;
-use std::test::Fail;
 use std::thread;
 use std::thread::Threads;
 
 // Pushes 500 elements on a share of its own, and hands it back.
-fn push_500<N: Means<Sum>, R: Wait>(
-    rt: &R,
-    hub: &Hub<Sum, N>,
-    share: Share<N>,
-) -> (Share<N>, Result<(), Refusal>)
-    ensures { result.0.parts ≡ share.parts }
+fn push_500<N: Means<Sum>, R: Wait + Abort>(rt: &R, hub: &Hub<Sum, N>, share: Share<N>) -> Share<N>
+    ensures { result.parts ≡ share.parts }
 {
     let mut share = share;
-    let pushed = push_all(rt, hub, &mut share, 500, 1);
-    (share, pushed)
+    push_all(rt, hub, &mut share, 500, 1);
+    share
 }
 
 // Two threads push 500 elements each; both shares together are handed back.
-fn push_from_two<N: Means<Sum> + Send + Sync, R: Threads + Wait + Sync>(
+fn push_from_two<N: Means<Sum> + Send + Sync, R: Threads + Wait + Abort + Sync>(
     rt: &R,
     hub: &Hub<Sum, N>,
     share: Share<N>,
-) -> (Share<N>, Result<(), Refusal>)
+) -> Share<N>
     requires { share.parts ≡ 2 }
-    ensures { result.0.parts ≡ 2 }
+    ensures { result.parts ≡ 2 }
 {
     let mut mine = share;
     let theirs = mine.split();
-    let ((theirs, their_pushes), (mut all, pushes)) = thread::join(
+    let (theirs, mut all) = thread::join(
         rt,
         move || push_500(rt, hub, theirs),
         move || push_500(rt, hub, mine),
     );
     all.join(theirs);
-    (all, pushes.and(their_pushes))
+    all
 }
 
 // A hub that two threads edit, closed.
@@ -57,7 +52,7 @@ fn total<N: Means<Sum> + Send + Sync, R: Threads + Wait + Abort + Sync>(
     blank: Blank,
     opened: Opened,
     body: Sum,
-) -> Result<(), Fail>
+)
     requires name { blank.name ≡ N.name }
     requires all { blank.parts ≡ N.parts }
     requires two { blank.parts ≡ 2 }
@@ -66,15 +61,12 @@ fn total<N: Means<Sum> + Send + Sync, R: Threads + Wait + Abort + Sync>(
     requires body { N.body ≡ Some body }
 {
     let (hub, share) = Hub::<Sum, N>::new(alloc, limits, body, blank, 2, opened);
-    let (share, pushed) = push_from_two(rt, &hub, share);
-    let counts = counts_at_close(rt, hub, share);
-    pushed?;
-    assert_same(rt, &counts, &(1000, 1000));
-    Ok(())
+    let share = push_from_two(rt, &hub, share);
+    assert_same(rt, &counts_at_close(rt, hub, share), &(1000, 1000));
 }
 
 #[test]
-fn totals_over_threads(rt: HostRuntime) -> Result<(), Fail> {
+fn totals_over_threads(rt: HostRuntime) {
     total::<Brand, _>(
         &rt,
         rt.alloc(),
@@ -82,7 +74,7 @@ fn totals_over_threads(rt: HostRuntime) -> Result<(), Fail> {
         Blank::new(2),
         Opened::new(),
         Sum,
-    )
+    );
 }
 
 // Pushes a 1. Where memory is wanting it sees that the share counts nothing, and pushes again.
