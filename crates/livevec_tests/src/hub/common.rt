@@ -30,25 +30,6 @@ pub(crate) fn push_all<B: Body, N: Means<B>, R: Wait + Abort>(
     }
 }
 
-// Has a worker work for one turn.
-pub(crate) fn work_once<B: Body, N: Means<B>, G: Gate, R: Wait>(
-    rt: &R,
-    hub: &Hub<B, N>,
-    gate: &G,
-) -> Worked {
-    work(rt, hub, gate, 1)
-}
-
-// Has a worker attend for some turns.
-pub(crate) fn attend_for<B: Body, N: Means<B>, G: Gate, R: Wait>(
-    rt: &R,
-    hub: &Hub<B, N>,
-    gate: &G,
-    turns: u64,
-) -> Worked {
-    attend(rt, hub, gate, turns)
-}
-
 // How many edits a share of all parts counts, and how many the journal of its hub has, which is closed.
 pub(crate) fn counts_at_close<N: Means<Sum>, R: Wait>(
     rt: &R,

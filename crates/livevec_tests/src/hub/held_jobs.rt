@@ -106,6 +106,7 @@ type HeldAnswers = (
     Result<Receipt, Refusal>,
 );
 
+// Asks so, while a worker stands.
 fn while_held<B: Body<S = u64>, N: Means<B>, R: Wait>(
     rt: &R,
     hub: &Hub<B, N>,
@@ -132,7 +133,7 @@ fn hold_once<B: Body<S = u64>, N: Means<B> + Send + Sync, R: Threads + Wait + Ab
     push_all(rt, hub, share, 8, 1);
     thread::join(
         rt,
-        move || work_once(rt, hub, stage),
+        move || work(rt, hub, stage, 1),
         move || while_held(rt, hub, share, stage),
     )
 }

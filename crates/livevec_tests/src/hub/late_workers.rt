@@ -35,7 +35,7 @@ fn overtake<N: Means<Sum>, R: Wait>(
     gate: &Latch,
 ) -> (Worked, Result<Receipt, Refusal>) {
     gate.wait_for_it();
-    let worked = work_once(rt, hub, &OpenGate);
+    let worked = work(rt, hub, &OpenGate, 1);
     let written = hub.edit(rt, share, Edit::Write { index: 0, value: 9 });
     gate.release();
     (worked, written)
@@ -53,7 +53,7 @@ fn work_late<N: Means<Sum> + Send + Sync, R: Threads + Wait + Sync>(
 ) -> DoneLate {
     thread::join(
         rt,
-        move || work_once(rt, hub, gate),
+        move || work(rt, hub, gate, 1),
         move || overtake(rt, hub, share, gate),
     )
 }

@@ -79,7 +79,7 @@ fn assert_woken<N: Means<Sum> + Send + Sync, R: Threads + Wait + Clock + Abort +
     let gate = &turnstile;
     let seen = thread::join(
         rt,
-        move || attend_for(rt, hub, gate, 1000),
+        move || attend(rt, hub, gate, 1000),
         move || push_then_dismiss(rt, hub, share, gate),
     );
     assert_same(rt, &seen, &(installed(2), (true, true)));
@@ -123,7 +123,7 @@ fn dismiss_eight<N: Means<Sum> + Send + Sync, R: Threads + Wait + Clock + Sync>(
     alloc: Global,
     hub: &Hub<Sum, N>,
 ) -> Result<Vec<Worked>, AllocError> {
-    let worker = |_: usize| attend_for(rt, hub, &OpenGate, u64::MAX);
+    let worker = |_: usize| attend(rt, hub, &OpenGate, u64::MAX);
     let (worked, ()) = thread::join(
         rt,
         || thread::map_indices(rt, alloc, 8, &worker),
@@ -143,12 +143,12 @@ fn assert_dismissed<N: Means<Sum> + Send + Sync, R: Threads + Wait + Clock + Abo
     hub: &Hub<Sum, N>,
     share: &mut Share<N>,
 ) -> Result<(), AllocError> {
-    assert_same(rt, &attend_for(rt, hub, &OpenGate, 1), &installed(0));
+    assert_same(rt, &attend(rt, hub, &OpenGate, 1), &installed(0));
     for worked in dismiss_eight(rt, alloc, hub)?.iter() {
         assert_same(rt, &*worked, &installed(0));
     }
     push_all(rt, hub, share, 8, 1);
-    assert_same(rt, &attend_for(rt, hub, &OpenGate, 1000), &installed(0));
+    assert_same(rt, &attend(rt, hub, &OpenGate, 1000), &installed(0));
     assert_same(rt, &work(rt, hub, &OpenGate, 1000), &installed(1));
     Ok(())
 }
