@@ -8,7 +8,7 @@ use crate::help;
 use crate::serving::Plan;
 use clap::builder::ValueParser;
 use clap::error::ErrorKind;
-use clap::{Arg, ArgAction, ArgMatches, Command, Error, value_parser};
+use clap::{Arg, ArgAction, ArgMatches, Command, Error};
 use lv_bodies::Kind;
 use lv_geometry::Limits;
 use std::alloc::{AllocError, Global};
@@ -85,15 +85,13 @@ pub fn command<'a>(alloc: Global) -> Result<Command<'a>, AllocError> {
 
 // What stands above the commands.
 fn heading<'a>(alloc: Global) -> Result<Command<'a>, AllocError> {
-    Ok(
-        Command::new(alloc, "livevec")
-            .bin_name("livevec")?
-            .version(help::VERSION)
-            .about(help::ABOUT)
-            .after_help(help::STATUSES)
-            .subcommand_required(true)
-            .arg_required_else_help(true),
-    )
+    Command::new(alloc, "livevec")
+        .version(help::VERSION)
+        .about(help::ABOUT)
+        .after_help(help::STATUSES)
+        .subcommand_required(true)
+        .arg_required_else_help(true)
+        .bin_name("livevec")
 }
 
 // A command with one more below it, where there was memory for both.
@@ -101,7 +99,27 @@ fn with_command<'a>(
     command: Result<Command<'a>, AllocError>,
     below: Result<Command<'a>, AllocError>,
 ) -> Result<Command<'a>, AllocError> {
-    command?.subcommand(below?)
+    match below {
+        Ok(below) => with_made(command, below),
+        Err(error) => {
+            drop(command);
+            Err(error)
+        }
+    }
+}
+
+// A command, where there was memory for it, with one more below it.
+fn with_made<'a>(
+    command: Result<Command<'a>, AllocError>,
+    below: Command<'a>,
+) -> Result<Command<'a>, AllocError> {
+    match command {
+        Ok(command) => command.subcommand(below),
+        Err(error) => {
+            drop(below);
+            Err(error)
+        }
+    }
 }
 
 // A command with more options, each a number, where there was memory for them.
@@ -119,13 +137,26 @@ fn with_numbers<'a>(
 
 // An option whose value is a number.
 fn number_arg<'a>(alloc: Global, number: &Number) -> Arg<'a> {
-    Arg::new(alloc, number.name)
-        .long(number.name)
-        .value_name("N")
-        .help(number.says)
+    let numbers = ValueParser::signed(number.least, number.most);
+    option(alloc, number.name, "N", number.says, numbers, number.usual)
+}
+
+// An option with one value: its name, what stands for the value, what it says, what it takes, and the value where it is not given.
+fn option<'a>(
+    alloc: Global,
+    name: &'static str,
+    value: &'static str,
+    says: &'static str,
+    takes: ValueParser<'a>,
+    usual: &'static str,
+) -> Arg<'a> {
+    Arg::new(alloc, name)
+        .long(name)
+        .value_name(value)
+        .help(says)
         .action(ArgAction::Set)
-        .value_parser(value_parser!(u32).range(number.least..=number.most))
-        .default_value(number.usual)
+        .value_parser(takes)
+        .default_value(usual)
 }
 
 /// The limits that a command's options say, the greatest where they say nothing.
@@ -230,13 +261,8 @@ fn audit<'a>(alloc: Global) -> Command<'a> {
 }
 
 fn body<'a>(alloc: Global) -> Arg<'a> {
-    Arg::new(alloc, "body")
-        .long("body")
-        .value_name("KIND")
-        .help("What reductions compute")
-        .action(ArgAction::Set)
-        .value_parser(ValueParser::Names(&KINDS))
-        .default_value("sum")
+    let kinds = ValueParser::Names(&KINDS);
+    option(alloc, "body", "KIND", "What reductions compute", kinds, "sum")
 }
 
 fn files<'a>(alloc: Global) -> Arg<'a> {

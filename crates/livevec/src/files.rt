@@ -55,14 +55,19 @@ fn clash_between<'a>(before: &[&'a str], file: &'a str) -> Option<Clash<'a>> {
         if *other == file {
             return Some(Clash::Twice(file));
         }
-        if file.strip_suffix(REPLIES) == Some(*other) {
+        if is_reply_of(file, other) {
             return Some(Clash::Replies(file));
         }
-        if other.strip_suffix(REPLIES) == Some(file) {
+        if is_reply_of(other, file) {
             return Some(Clash::Replies(other));
         }
     }
     None
+}
+
+// Whether a name is that of the replies to another.
+fn is_reply_of(name: &str, file: &str) -> bool {
+    name.strip_suffix(REPLIES) == Some(file)
 }
 
 /// Opens each file and makes that of its replies, in order. The first that fails is the fault: `ReadFault` where it can't be

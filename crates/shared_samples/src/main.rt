@@ -81,9 +81,10 @@ fn collect<R: AllocGlobal + Print + Threads + Sync>(
 // Shows what was closed: the accepted edits, and the total of all elements; and the mishaps, none.
 fn show<R: Print>(rt: &R, mishaps: &Mishaps, closed: &Closed) -> Result<(), Failure> {
     let (edit, elements) = (closed.edit, closed.elements.as_slice());
-    let total = elements
-        .iter()
-        .fold(0_i64, |total, x| total.wrapping_add(*x));
+    let mut total = 0_i64;
+    for x in elements {
+        total = total.wrapping_add(*x);
+    }
     println!(rt;
         "{edit} edits, {} samples, their total is {total}",
         elements.len()
