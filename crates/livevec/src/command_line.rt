@@ -262,7 +262,14 @@ fn audit<'a>(alloc: Global) -> Command<'a> {
 
 fn body<'a>(alloc: Global) -> Arg<'a> {
     let kinds = ValueParser::Names(&KINDS);
-    option(alloc, "body", "KIND", "What reductions compute", kinds, "sum")
+    option(
+        alloc,
+        "body",
+        "KIND",
+        "What reductions compute",
+        kinds,
+        "sum",
+    )
 }
 
 fn files<'a>(alloc: Global) -> Arg<'a> {
