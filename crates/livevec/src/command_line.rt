@@ -99,27 +99,7 @@ fn with_command<'a>(
     command: Result<Command<'a>, AllocError>,
     below: Result<Command<'a>, AllocError>,
 ) -> Result<Command<'a>, AllocError> {
-    match below {
-        Ok(below) => with_made(command, below),
-        Err(error) => {
-            drop(command);
-            Err(error)
-        }
-    }
-}
-
-// A command, where there was memory for it, with one more below it.
-fn with_made<'a>(
-    command: Result<Command<'a>, AllocError>,
-    below: Command<'a>,
-) -> Result<Command<'a>, AllocError> {
-    match command {
-        Ok(command) => command.subcommand(below),
-        Err(error) => {
-            drop(below);
-            Err(error)
-        }
-    }
+    command?.subcommand(below?)
 }
 
 // A command with more options, each a number, where there was memory for them.
@@ -194,20 +174,32 @@ pub fn kind(matches: &ArgMatches<'_>) -> Kind {
 
 /// That files can't be sessions of `serve` together.
 pub fn serve_error(alloc: Global, clash: Clash<'_>) -> Result<Error, AllocError> {
-    let command = serve(alloc)?.bin_name("livevec serve")?;
-    clash_error(alloc, command, clash)
+    error_of(alloc, serve(alloc), "livevec serve", clash)
 }
 
 /// That files can't be sessions of `board` together.
 pub fn board_error(alloc: Global, clash: Clash<'_>) -> Result<Error, AllocError> {
-    let command = board(alloc)?.bin_name("livevec board")?;
-    clash_error(alloc, command, clash)
+    error_of(alloc, board(alloc), "livevec board", clash)
 }
 
-// That files can't be sessions of a command together.
-fn clash_error(alloc: Global, command: Command<'_>, clash: Clash<'_>) -> Result<Error, AllocError> {
+// That files can't be sessions of a command together, told under the command's whole name.
+fn error_of(
+    alloc: Global,
+    command: Result<Command<'_>, AllocError>,
+    name: &str,
+    clash: Clash<'_>,
+) -> Result<Error, AllocError> {
+    let mut command = command?.bin_name(name)?;
+    clash_error(alloc, &mut command, clash)
+}
+
+// The same, of a command that is lent: the proof of a body that owns one is long.
+fn clash_error(
+    alloc: Global,
+    command: &mut Command<'_>,
+    clash: Clash<'_>,
+) -> Result<Error, AllocError> {
     let text = clash.to_string(alloc)?;
-    let mut command = command;
     command.error(ErrorKind::ValueValidation, text.as_str())
 }
 
