@@ -1,7 +1,7 @@
 //! What `--help` and `--version` say.
 
-/// The version of the program, and the toolchain that it is proved and built with, as `rt version` tells it.
-pub const VERSION: &str = "0.1.0 (rattle-kit-13f logic dac8208d650f15bf)";
+/// The version of the program, and the logic that it is proved in, as `rt version` tells it. Kits with the same logic prove the same.
+pub const VERSION: &str = "0.1.0 (logic dac8208d650f15bf)";
 
 /// What the program is.
 pub const ABOUT: &str =

@@ -26,7 +26,7 @@ use Rattle.lv_machine.proofs.WordLaws.{value_of-cell, value_of-short}
 use Rattle.lv_board.specs.declared.actors.Actor.{Actor}
 use Rattle.lv_board.specs.declared.actors.Basis.{Basis}
 use Rattle.lv_board.specs.declared.actors.View.{View}
-use Rattle.lv_board.specs.declared.closing.Closed.{Closed}
+use Rattle.lv_board.specs.declared.remains.Closed.{Closed}
 use Rattle.lv_board.specs.declared.seats.Seat.{Seat}
 use Rattle.lv_board.specs.Closing.{AreAll, IsClosed, IsEnded, IsKept, IsSettled, made_by, shown_at}
 use Rattle.lv_board.specs.Rule.{ActorFits, gathered, Holds, spent, terms_of}

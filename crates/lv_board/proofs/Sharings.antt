@@ -16,7 +16,7 @@ use Rattle.lv_bodies.specs.Body.{Operations}
 use Rattle.lv_machine.specs.Terms.{Terms}
 use Rattle.lv_board.specs.declared.actors.Basis.{Basis}
 use Rattle.lv_board.specs.declared.board.Board.{Board}
-use Rattle.lv_board.specs.declared.closing.Closed.{Closed}
+use Rattle.lv_board.specs.declared.remains.Closed.{Closed}
 use Rattle.lv_board.specs.declared.opened.Opened.{Opened}
 use Rattle.lv_board.specs.declared.seats.Seat.{Seat}
 use Rattle.lv_board.specs.Closing.{IsEnded, IsKept}
@@ -48,11 +48,6 @@ module _ {B : Type 0} (table : TableId) (z : Basis B) where
   dealt_new [] dealt = refl
   dealt_new (s ∷ rest) dealt = dealt_from (s ∷ rest) s dealt
 
--- a board that may be opened isn't shared for want of memory alone
-pub lacks_memory : {X : Type 0} (limits : Bounds) (number : ℕ) (result : Result X Refusal) → MayOpen limits number → IfErr result (λ refusal. refusal ≡ NoMemory) → IfErr result (λ refusal. IsOpeningRefusal limits number refusal)
-lacks_memory limits number (Err refusal) may same = inr (may, same)
-lacks_memory limits number (Ok x) may same = tt
-
 module _ {B S : Type 0} (count : ℕ) (parts_of : S → List ℕ) (operations : B → Operations S) (kind : Kind) (plain : B → List ℤ → Shown) where
   -- what is shared of a new board
   pub newly_shared : (limits : Bounds) (number : ℕ) (body : B) (board : Board B S) (seats : List (Seat B)) (result : Result (Opened B S) Refusal) → MayOpen limits number → IsBasisOf limits number body board.terms → length seats ≡ number → AreDealt board.table.shared.table_id board.terms seats
@@ -65,3 +60,8 @@ module _ {B S : Type 0} (count : ℕ) (parts_of : S → List ℕ) (operations : 
     plain_is = ap (λ (b : Board B S). plain b.terms.body) same ∙ ap (λ (z : Basis B). plain z.body) basis;
     left = ap (map actor_of) left ∙ dealt_new board.table.shared.table_id board.terms seats dealt ∙ ap (λ n. map newcomer (range_with_len 0 n)) long;
   }
+
+-- a board that may be opened isn't shared for want of memory alone
+pub lacks_memory : {X : Type 0} (limits : Bounds) (number : ℕ) (result : Result X Refusal) → MayOpen limits number → IfErr result (λ refusal. refusal ≡ NoMemory) → IfErr result (λ refusal. IsOpeningRefusal limits number refusal)
+lacks_memory limits number (Err refusal) may same = inr (may, same)
+lacks_memory limits number (Ok x) may same = tt

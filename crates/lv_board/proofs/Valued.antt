@@ -25,9 +25,7 @@ folds_range t h lo hi terms legal =
     }
 
 pub valued : {S : Type 0} (o : Operations S) (shown : S → Shown) (plain : List ℤ → Shown) (t : Terms) (h : List Entry) (lo hi : ℕ) (answer : Answer S) (value : Shown) → ((xs : List ℤ) → CanFold xs → shown (fold_of o xs) ≡ plain xs) → AreTerms t → IsLegalHistory t h → IsSummed o (edits_of h) lo hi answer → value ≡ shown answer.value → IsPlainValue plain (edits_of h) lo hi record { edit = answer.edit; value = value; cells_read = answer.cells_read; summaries_read = answer.summaries_read }
-valued o shown plain t h lo hi answer value shows terms legal summed is = record {
-  granted = summed.fold.granted;
-  edit = summed.fold.edit;
-  value = is ∙ ap shown summed.fold.value ∙ shows (slice_of (edits_of h) lo hi) (folds_range t h lo hi terms legal);
-  reads = summed.reads;
-}
+valued o shown plain t h lo hi answer value shows terms legal summed is =
+    let folded = folds_range t h lo hi terms legal in
+    let shown_value = is ∙ ap shown summed.fold.value ∙ shows (slice_of (edits_of h) lo hi) folded in
+    record { granted = summed.fold.granted; edit = summed.fold.edit; value = shown_value; reads = summed.reads }

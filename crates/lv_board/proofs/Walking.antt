@@ -31,7 +31,7 @@ use Rattle.lv_machine.proofs.RightLaws.{same_list}
 use Rattle.lv_board.specs.declared.actors.Actor.{Actor}
 use Rattle.lv_board.specs.declared.actors.Basis.{Basis}
 use Rattle.lv_board.specs.declared.actors.Installed.{Installed}
-use Rattle.lv_board.specs.declared.reductions.Walk.{Walk}
+use Rattle.lv_board.specs.declared.underway.Walk.{Walk}
 use Rattle.lv_board.specs.declared.seats.Seat.{Seat}
 use Rattle.lv_board.specs.Calls.{AreInstalled, HasLooked, IsSummed}
 use Rattle.lv_board.specs.Plays.{IsRead, SeesAll}

@@ -11,7 +11,7 @@ use Rattle.lv_machine.specs.Terms.{AreTerms, Terms}
 use Rattle.lv_machine.specs.Words.{index_of, signed, value_of}
 use Rattle.lv_board.specs.declared.actors.Actor.{Actor}
 use Rattle.lv_board.specs.declared.actors.Basis.{Basis}
-use Rattle.lv_board.specs.declared.closing.Closed.{Closed}
+use Rattle.lv_board.specs.declared.remains.Closed.{Closed}
 use Rattle.lv_board.specs.declared.seats.Seat.{Seat}
 use Rattle.lv_board.specs.Tells.{actor_of, IsAt, Stays}
 

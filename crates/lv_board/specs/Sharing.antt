@@ -25,7 +25,7 @@ use Rattle.lv_machine.specs.declared.entries.Entry.{Entry}
 use Rattle.lv_machine.specs.History.{edits_of, elements_of, IsLegalHistory}
 use Rattle.lv_machine.specs.Terms.{Folding, Terms}
 use Rattle.lv_board.specs.declared.actors.Actor.{Actor}
-use Rattle.lv_board.specs.declared.closing.Closed.{Closed}
+use Rattle.lv_board.specs.declared.remains.Closed.{Closed}
 use Rattle.lv_board.specs.declared.opened.Opened.{Opened}
 use Rattle.lv_board.specs.declared.sharing.Unseated.{Unseated}
 use Rattle.lv_board.specs.declared.sharing.Unseated.TheVariants.{NoMemory, NoSeat}

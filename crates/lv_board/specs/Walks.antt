@@ -10,7 +10,7 @@ use Rattle.lv_machine.specs.Shows.{block, mark_of}
 use Rattle.lv_machine.specs.Terms.{AreTerms, Terms}
 use Rattle.lv_machine.specs.Words.{part_word}
 use Rattle.lv_board.specs.declared.actors.Installed.{Installed}
-use Rattle.lv_board.specs.declared.reductions.Walk.{Walk}
+use Rattle.lv_board.specs.declared.underway.Walk.{Walk}
 use Rattle.lv_board.specs.declared.seats.Seat.{Seat}
 use Rattle.lv_board.specs.Plays.{IsQuiet}
 use Rattle.lv_board.specs.Stands.{IsReady}

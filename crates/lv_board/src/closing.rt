@@ -13,23 +13,13 @@ ghost use Rattle.lv_board.specs.Tells.{actor_of, IsAt};
 use crate::actors::View;
 use crate::board::Board;
 use crate::plays::Gather;
+use crate::remains::{Closed, Elements};
 use crate::seats::Seat;
 use crate::words::{cell_place_of, edit_in, element, index_in, size_in, value_in};
 use atomic_table::{Closed as Shut, Seat as Token};
 use lv_bodies::Parted;
 use lv_geometry::capacity;
-use lv_reduce::Values;
 use std::alloc::Global;
-
-/// The elements of a closed vector, in order. Contracts see a list.
-pub type Elements = Values<i64>;
-
-/// What a vector was when its board was closed: the number of its last edit, and its elements.
-#[derive(Debug, Drop)]
-pub struct Closed {
-    pub edit: u32,
-    pub elements: Elements,
-}
 
 // The 16 bits of the element at an index that the last words show, of which the first is given.
 #[tactic(auto, using(crate::proofs::Closes::shown_elsewhere))]

@@ -11,33 +11,11 @@ ghost use Rattle.lv_board.specs.Walks.{block_fold, Comes, GoesOn, HasCome, HasRe
 
 use crate::board::Board;
 use crate::seats::Seat;
+use crate::underway::Walk;
 use crate::words::{edit_in, part_place_of, part_value_in, part_version_in, size_in};
 use lv_bodies::{Parted, fold_more};
 use lv_geometry::Refusal;
 use lv_reduce::Answer;
-use std::alloc::AllocError;
-
-// A reduction on its way: the fold of the elements from `lo` up to `at`, and how many cells and blocks were read for it.
-#[derive(Copy)]
-pub(crate) struct Walk<S> {
-    pub(crate) lo: u32,
-    pub(crate) at: u32,
-    pub(crate) sum: S,
-    pub(crate) cells: u32,
-    pub(crate) summaries: u32,
-}
-
-impl<S: Copy> Clone for Walk<S> {
-    ghost use Rattle.std.specs.Prelude.{◌≡◌, ⊤};
-
-    ghost is_clone = { λ x y. y ≡ x };
-
-    ghost is_infallible = { λ _. ⊤ };
-
-    fn clone(&self) -> Result<Walk<S>, AllocError> {
-        Ok(*self)
-    }
-}
 
 impl<B: Parted> Board<B> {
     // A part of a whole block's summary, where its version is that of the block's mark.

@@ -7,8 +7,8 @@ ghost use Rattle.lv_board.specs.Rule.{folds};
 ghost use Rattle.lv_board.specs.Sharing.{IsClosedShared, IsNewlyShared, IsUnseated, Makes, sat_of, shared_of, Sits};
 
 use crate::board::Board;
-use crate::closing::Closed;
 use crate::opened::Opened;
+use crate::remains::Closed;
 use crate::seats::Seat;
 use crate::sitters::Sitter;
 use lv_bodies::{Parted, Shown};

@@ -1,19 +1,16 @@
-//! The atomic steps of a seat, each on one word.
-ghost use Rattle.std.specs.Prelude.{◌≡◌, ◌<◌, None};
-ghost use Rattle.lv_machine.specs.History.{IsShortEdit};
+//! The atomic steps of a seat, each on one word; the exchange, by which an edit is made, stands in `exchanges`.
+ghost use Rattle.std.specs.Prelude.{◌<◌};
 ghost use Rattle.lv_machine.specs.Layout.{count_of};
-ghost use Rattle.lv_machine.specs.Moves.{verdict_at};
-ghost use Rattle.lv_machine.specs.Words.{descriptor_after, HasPending};
+ghost use Rattle.lv_machine.specs.Words.{HasPending};
 ghost use Rattle.lv_board.specs.Rule.{folds};
-ghost use Rattle.lv_board.specs.Stands.{IsReady, limits_of};
-ghost use Rattle.lv_board.specs.Tells.{actor_of, IsAt, IsCellHelped, IsExchanged, IsHelped, IsLoaded, IsMarkHelped, IsWordLoaded};
+ghost use Rattle.lv_board.specs.Stands.{limits_of};
+ghost use Rattle.lv_board.specs.Tells.{IsAt, IsCellHelped, IsHelped, IsLoaded, IsMarkHelped, IsWordLoaded};
 
 use crate::board::Board;
-use crate::plays::{Exchange, HelpCell, HelpMark, LoadDescriptor, LoadWord};
+use crate::plays::{HelpCell, HelpMark, LoadDescriptor, LoadWord};
 use crate::seats::Seat;
 use crate::words::{cell_place_of, edit_in, index_in, mark_place_of, pack_cell, value_in};
 use lv_bodies::Parted;
-use lv_edits::Edit;
 
 impl<B: Parted> Board<B> {
     // The descriptor: the seat's look becomes what is loaded.
@@ -71,28 +68,5 @@ impl<B: Parted> Board<B> {
             self.help_cell(seat);
             self.help_mark(seat);
         }
-    }
-
-    // The exchange of the descriptor from the look to the one after an edit. Says whether it was made; either way the look becomes
-    // the descriptor that is there then.
-    pub(crate) fn exchange(&self, seat: &mut Seat<B>, edit: Edit, new: u64) -> bool
-        requires here { IsAt self.now.table.shared.table_id self.now.terms seat.old }
-        requires ready { IsReady (actor_of seat.old) seat.old.look }
-        requires short { IsShortEdit edit }
-        requires free { verdict_at (limits_of self.now.terms) seat.old.look edit ≡ None }
-        requires after { new ≡ descriptor_after seat.old.look edit }
-        ensures { IsExchanged (folds B.PARTS B.parts_of (λ b. B.operations (B.meaning b))) edit result seat.old seat.new }
-    {
-        let old = seat.look;
-        let found = self
-            .table
-            .shared
-            .compare_exchange::<Exchange<B>>(&mut seat.token, 0, old, new);
-        if found == old {
-            seat.look = new;
-            return true;
-        }
-        seat.look = found;
-        false
     }
 }

@@ -12,6 +12,7 @@ ghost use Rattle.lv_board.specs.Stands.{IsReady, limits_of};
 ghost use Rattle.lv_board.specs.Tells.{actor_of, entry_of, IsAt, IsSame, Stays};
 
 use crate::board::Board;
+use crate::exchanges::exchange;
 use crate::seats::Seat;
 use crate::verdicts::verdict;
 use crate::words::{edit_in, fits_short, look_after, size_in};
@@ -34,7 +35,7 @@ impl<B: Parted> Board<B> {
         ensures contended { IfErr result (λ e. IsContended (terms_of (folds B.PARTS B.parts_of (λ b. B.operations (B.meaning b))) seat.old.terms) (actor_of seat.old) (actor_of seat.new) seat.new.look) }
     {
         let new = look_after(seat.look, edit);
-        if self.exchange(seat, edit, new) {
+        if exchange(&self.table, seat, edit, new) {
             Ok(edit_in(seat.look))
         } else {
             Err(Refusal::Contended {

@@ -1,18 +1,16 @@
-use Rattle.std.proofs.Common.{◌≡◌, ℕ, nat_eq, refl, sym, ◌∙◌, subst, arith}
-use Rattle.std.specs.Prelude.{MatchBool, None}
+use Rattle.std.proofs.Common.{◌≡◌, ℕ, nat_eq, refl, ◌∙◌, subst, arith}
+use Rattle.std.specs.Prelude.{MatchBool}
 use Rattle.std.proofs.lemmas.Bool.{eq-eqb, ne_eqb}
-use Rattle.lv_machine.specs.Moves.{verdict_at}
 use Rattle.lv_board.specs.Rule.{folds, terms_of}
-use Rattle.lv_board.specs.Stands.{limits_of}
 use Rattle.lv_board.proofs.Exchanging.{accepted_as, exchanges_at_key, look_accepted, made_accepted}
 use Rattle.lv_board.proofs.Seating.{based_after, look_found, seat_after}
-use Rattle.lv_board.proofs.board.Board.exchange.Goals as goal
+use Rattle.lv_board.proofs.exchanges.exchange.Goals as goal
 
 pub compare_exchange-found-requires : goal.compare_exchange-found-requires
 compare_exchange-found-requires g c = (
-  c.requires.here.at,
-  omega (arith, c.args.self.now.count),
-  exchanges_at_key (folds g.B.Parted.PARTS g.B.Parted.parts_of (λ b. g.B.Body.operations (g.B.Body.meaning b))) c.args.self.now.terms c.args.self.now.table.shared.key c.args.self.now.key c.args.self.now.table.shared.table_id.slots c.args.seat.now.token.id c.args.seat.now.look c.args.new c.args.edit c.args.seat.now.token.me c.args.seat.now.sits c.args.seat.now.looks.shown c.requires.after c.requires.short c.requires.ready c.requires.free,
+  c.requires.here,
+  omega (arith, c.requires.count),
+  exchanges_at_key (folds g.B.Parted.PARTS g.B.Parted.parts_of (λ b. g.B.Body.operations (g.B.Body.meaning b))) c.args.seat.now.terms c.args.table.now.shared.key c.requires.key c.args.table.now.shared.table_id.slots c.args.seat.now.token.id c.args.seat.now.look c.args.new c.args.edit c.args.seat.now.token.me c.args.seat.now.sits c.args.seat.now.looks.shown c.requires.after c.requires.short c.requires.ready c.requires.free,
 )
 
 -- what the table's step told, by the test of what it found
@@ -25,25 +23,23 @@ told_false P Q m n apart told = subst (λ b. MatchBool b P Q) (ne_eqb m n apart)
 pub invariant_of-seat : goal.invariant_of-seat
 invariant_of-seat g c =
     let told = c.compare_exchange-found.ensures.2 in
-    let free = subst (λ z. verdict_at (limits_of z) c.args.seat.now.look c.args.edit ≡ None) (sym c.requires.here.terms) c.requires.free in
     let won = told_true _ _ c.compare_exchange-found.result c.args.seat.now.look c.if-found-old.true (told.1 c.args.seat.now.terms c.args.seat.now.based) in
-    let as' = accepted_as (terms_of (folds g.B.Parted.PARTS g.B.Parted.parts_of (λ b. g.B.Body.operations (g.B.Body.meaning b))) c.args.seat.now.terms) c.args.seat.now.token.me.0.actor c.compare_exchange-found.new.seat.me.0.actor c.args.seat.now.look c.args.new c.args.edit c.args.seat.now.looks.shown c.requires.after c.requires.short free won in
+    let as' = accepted_as (terms_of (folds g.B.Parted.PARTS g.B.Parted.parts_of (λ b. g.B.Body.operations (g.B.Body.meaning b))) c.args.seat.now.terms) c.args.seat.now.token.me.0.actor c.compare_exchange-found.new.seat.me.0.actor c.args.seat.now.look c.args.new c.args.edit c.args.seat.now.looks.shown c.requires.after c.requires.short c.requires.free won in
     record {
       basis = c.args.seat.now.basis;
       sits = seat_after c.args.seat.now.token.me.0 c.compare_exchange-found.new.seat.me.0 c.compare_exchange-found.new.seat.me.0.actor told.0.1 c.args.seat.now.sits;
       based = based_after c.args.seat.now.token.me.0 c.compare_exchange-found.new.seat.me.0 c.args.seat.now.terms c.compare_exchange-found.new.seat.me.0.actor told.0.1 c.args.seat.now.based;
       slots = told.0.0 ∙ c.args.seat.now.slots;
       made = made_accepted (terms_of (folds g.B.Parted.PARTS g.B.Parted.parts_of (λ b. g.B.Body.operations (g.B.Body.meaning b))) c.args.seat.now.terms) c.args.seat.now.token.me.0.actor c.compare_exchange-found.new.seat.me.0.actor c.args.edit c.args.seat.now.made as';
-      looks = look_accepted (terms_of (folds g.B.Parted.PARTS g.B.Parted.parts_of (λ b. g.B.Body.operations (g.B.Body.meaning b))) c.args.seat.now.terms) c.args.seat.now.token.me.0.actor c.compare_exchange-found.new.seat.me.0.actor c.args.seat.now.look c.args.new c.args.edit c.args.seat.now.looks.shown c.requires.after c.requires.short free as';
+      looks = look_accepted (terms_of (folds g.B.Parted.PARTS g.B.Parted.parts_of (λ b. g.B.Body.operations (g.B.Body.meaning b))) c.args.seat.now.terms) c.args.seat.now.token.me.0.actor c.compare_exchange-found.new.seat.me.0.actor c.args.seat.now.look c.args.new c.args.edit c.args.seat.now.looks.shown c.requires.after c.requires.short c.requires.free as';
     }
 
 pub returns-then-found-old : goal.returns-then-found-old
 returns-then-found-old g c =
     let told = c.compare_exchange-found.ensures.2 in
-    let free = subst (λ z. verdict_at (limits_of z) c.args.seat.now.look c.args.edit ≡ None) (sym c.requires.here.terms) c.requires.free in
     let won = told_true _ _ c.compare_exchange-found.result c.args.seat.now.look c.if-found-old.true (told.1 c.args.seat.now.terms c.args.seat.now.based) in (
       record { table = c.compare_exchange-found.ensures.0; terms = refl },
-      accepted_as (terms_of (folds g.B.Parted.PARTS g.B.Parted.parts_of (λ b. g.B.Body.operations (g.B.Body.meaning b))) c.args.seat.now.terms) c.args.seat.now.token.me.0.actor c.compare_exchange-found.new.seat.me.0.actor c.args.seat.now.look c.args.new c.args.edit c.args.seat.now.looks.shown c.requires.after c.requires.short free won,
+      accepted_as (terms_of (folds g.B.Parted.PARTS g.B.Parted.parts_of (λ b. g.B.Body.operations (g.B.Body.meaning b))) c.args.seat.now.terms) c.args.seat.now.token.me.0.actor c.compare_exchange-found.new.seat.me.0.actor c.args.seat.now.look c.args.new c.args.edit c.args.seat.now.looks.shown c.requires.after c.requires.short c.requires.free won,
     )
 
 pub invariant_of-seat-2 : goal.invariant_of-seat-2

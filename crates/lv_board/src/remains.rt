@@ -1,0 +1,11 @@
+use lv_reduce::Values;
+
+/// The elements of a closed vector, in order. Contracts see a list.
+pub type Elements = Values<i64>;
+
+/// What a vector was when its board was closed: the number of its last edit, and its elements.
+#[derive(Debug, Drop)]
+pub struct Closed {
+    pub edit: u32,
+    pub elements: Elements,
+}

@@ -1,0 +1,23 @@
+use std::alloc::AllocError;
+
+// A reduction on its way: the fold of the elements from `lo` up to `at`, and how many cells and blocks were read for it.
+#[derive(Copy)]
+pub(crate) struct Walk<S> {
+    pub(crate) lo: u32,
+    pub(crate) at: u32,
+    pub(crate) sum: S,
+    pub(crate) cells: u32,
+    pub(crate) summaries: u32,
+}
+
+impl<S: Copy> Clone for Walk<S> {
+    ghost use Rattle.std.specs.Prelude.{◌≡◌, ⊤};
+
+    ghost is_clone = { λ x y. y ≡ x };
+
+    ghost is_infallible = { λ _. ⊤ };
+
+    fn clone(&self) -> Result<Walk<S>, AllocError> {
+        Ok(*self)
+    }
+}
