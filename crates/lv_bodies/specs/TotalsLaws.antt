@@ -126,9 +126,4 @@ joined_elements r s n m p q =
 
 -- the best run meets the laws of a body
 pub best_laws : BodyLaws best_operations IsBest
-best_laws = optional_laws totals_of join_totals AreTotalsOf record {
-  lift_within = one_element;
-  join_within = λ r s n m p q few. joined_elements r s n m p q;
-  more_within = more_elements;
-  associative = runs_associative;
-}
+best_laws = optional_laws totals_of join_totals AreTotalsOf record { lift_within = one_element; join_within = λ r s n m p q few. joined_elements r s n m p q; more_within = more_elements; associative = runs_associative }
