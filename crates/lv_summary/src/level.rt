@@ -1,4 +1,4 @@
-ghost use Rattle.std.specs.Prelude.{◌≡◌, ◌+◌, ◌-◌, ◌<◌, ◌≤◌, ◌++◌, ◌==◌, ◌||◌, length, replicate, slice_index, slice_get, Some, OnOk, IfErr, vec_len, vec_capacity};
+ghost use Rattle.std.specs.Prelude.{◌≡◌, ◌+◌, ◌-◌, ◌<◌, ◌≤◌, ◌++◌, ◌==◌, ◌||◌, length, replicate, true, slice_index, slice_get, Some, OnOk, IfErr, vec_len, vec_capacity};
 ghost use Rattle.lv_summary.specs.Inner.{filled, with_kept, with_learnt, with_touch};
 ghost use Rattle.lv_summary.specs.Table.{no_rows};
 
@@ -50,10 +50,16 @@ impl<S: Copy> Level<S> {
         ensures ok { OnOk result (rows ≤ self.new.capacity) }
         ensures err { IfErr result (λ refusal. refusal ≡ Refusal.NoMemory) }
     {
-        make_room(&mut self.touched, rows as usize)?;
-        make_room(&mut self.stamps, rows as usize)?;
-        make_room(&mut self.computed, rows as usize)?;
-        make_room(&mut self.kept, rows as usize)
+        let rows = rows as usize;
+        if make_room(&mut self.touched, rows)
+            && make_room(&mut self.stamps, rows)
+            && make_room(&mut self.computed, rows)
+            && make_room(&mut self.kept, rows)
+        {
+            Ok(())
+        } else {
+            Err(Refusal::NoMemory)
+        }
     }
 
     /// Adds blank rows, so that there are so many in all, where there are fewer.
@@ -153,14 +159,13 @@ impl<S: Copy> Level<S> {
     }
 }
 
-// Makes memory for so many items in all. The list stays as it is.
-fn make_room<T>(list: &mut Vec<T>, items: usize) -> Result<(), Refusal>
+// Makes memory for so many items in all, and says whether there is. The list stays as it is.
+fn make_room<T>(list: &mut Vec<T>, items: usize) -> bool
     ensures items { list.new.items ≡ list.old.items }
-    ensures ok { OnOk result (items ≤ vec_capacity list.new) }
-    ensures err { IfErr result (λ refusal. refusal ≡ Refusal.NoMemory) }
+    ensures room { result ≡ true → items ≤ vec_capacity list.new }
 {
     let more = items.saturating_sub(list.len());
-    list.reserve(more).map_err(|_| Refusal::NoMemory)
+    list.reserve(more).is_ok()
 }
 
 // Adds copies of an item, so that there are so many in all, where there are fewer.

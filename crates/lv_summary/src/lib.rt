@@ -6,6 +6,7 @@
 #![tactic(auto)]
 
 mod accepted;
+mod delivery;
 mod level;
 mod summaries;
 

@@ -1,10 +1,10 @@
-ghost use Rattle.std.specs.Prelude.{◌≡◌, ◌/◌, ◌*◌, ◌<◌, ◌≤◌, true, false, option_map, None, IfSome, IfNone, OnOk, OnErr, IfErr};
-ghost use Rattle.lv_geometry.specs.Nodes.{is_node};
-ghost use Rattle.lv_summary.specs.Inner.{AreFilled, HaveRoom, HaveSameRows, IsLevelOf, IsRowOf};
-ghost use Rattle.lv_summary.specs.Changes.{AfterDelivery, AnswersAlike, HasSize, Keeps, Learns, Touches};
+ghost use Rattle.std.specs.Prelude.{◌≡◌, ◌/◌, ◌*◌, ◌<◌, ◌≤◌, true, option_map, None, OnOk, OnErr, IfErr};
+ghost use Rattle.lv_summary.specs.Inner.{AreFilled, HaveRoom, HaveSameRows};
+ghost use Rattle.lv_summary.specs.Changes.{AfterDelivery, AnswersAlike, HasSize, Learns, Touches};
 ghost use Rattle.lv_summary.specs.Table.{blocks_in, computed_in, delivery_in, entry_in, fresh_in, kept_in, known_entry_in, touched_in, whole_in};
 
 use crate::accepted::Accepted;
+use crate::delivery::{deliver, is_fresh, last_touch, level_of, whole_level};
 use crate::level::Level;
 use lv_geometry::{Levels, Node, Refusal, rows_of};
 use std::alloc::Global;
@@ -114,10 +114,7 @@ impl<S: Copy> Summaries<S> {
         ensures value { result ≡ touched_in self.now node }
         ensures bound { result ≤ 16777215 }
     {
-        match self.level(node) {
-            Some(level) => level.touched(node.number),
-            None => 0,
-        }
+        last_touch(&self.levels, self.size, node)
     }
 
     /// Whether every index of a node is below the size.
@@ -133,10 +130,7 @@ impl<S: Copy> Summaries<S> {
     pub fn fresh(&self, node: Node) -> bool
         ensures { result ≡ fresh_in self.now node }
     {
-        match self.whole_level(node) {
-            Some(level) => level.is_current(node.number),
-            None => false,
-        }
+        is_fresh(&self.levels, self.size, node)
     }
 
     /// The summary of a node, where it is fresh.
@@ -144,7 +138,7 @@ impl<S: Copy> Summaries<S> {
     pub fn entry(&self, node: Node) -> Option<S>
         ensures { result ≡ entry_in self.now node }
     {
-        let level = self.whole_level(node)?;
+        let level = whole_level(&self.levels, self.size, node)?;
         if level.is_current(node.number) {
             Some(level.kept(node.number))
         } else {
@@ -157,7 +151,7 @@ impl<S: Copy> Summaries<S> {
     pub fn known(&self, node: Node) -> Option<S>
         ensures { result ≡ known_entry_in self.now node }
     {
-        let level = self.whole_level(node)?;
+        let level = whole_level(&self.levels, self.size, node)?;
         if level.is_known(node.number) {
             Some(level.kept(node.number))
         } else {
@@ -169,7 +163,7 @@ impl<S: Copy> Summaries<S> {
     pub fn kept_version(&self, node: Node) -> Option<u32>
         ensures { result ≡ option_map (λ kept. kept.0) (kept_in self.now node) }
     {
-        let stamp = self.level(node)?.stamp(node.number);
+        let stamp = level_of(&self.levels, self.size, node)?.stamp(node.number);
         if stamp == 0 { None } else { Some(stamp - 1) }
     }
 
@@ -179,15 +173,7 @@ impl<S: Copy> Summaries<S> {
         ensures answer { result ≡ delivery_in self.old node version }
         ensures after { AfterDelivery self.old self.new node version s result }
     {
-        let now = self.touched(node);
-        if !self.whole(node) || now != version {
-            return Accepted::Stale { now };
-        }
-        if self.fresh(node) {
-            return Accepted::Held;
-        }
-        self.keep(node, version, s);
-        Accepted::Installed
+        deliver(&mut self.levels, self.size, node, version, s)
     }
 
     /// Keeps a summary that who asks computed for a whole node, so that the node is known until it is touched again. What was
@@ -197,40 +183,6 @@ impl<S: Copy> Summaries<S> {
         ensures { Learns self.old self.new node s }
     {
         self.levels.at_mut(node.level).learn(node.number, s);
-    }
-
-    // Keeps a summary of a version for a whole node.
-    fn keep(&mut self, node: Node, version: u32, s: S)
-        requires whole { whole_in self.old node ≡ true }
-        requires version { version ≤ 16777215 }
-        ensures { Keeps self.old self.new node version s }
-    {
-        self.levels.at_mut(node.level).keep(node.number, version, s);
-    }
-
-    // The level of a node; none where there is no such level.
-    #[inline(always)]
-    fn level(&self, node: Node) -> Option<&Level<S>>
-        ensures some { IfSome result (λ level. IsLevelOf self.now node level.now.rows) }
-        ensures none { IfNone result (is_node node ≡ false) }
-    {
-        if node.level == 0 || node.level > 6 {
-            return None;
-        }
-        Some(self.levels.at(node.level))
-    }
-
-    // The level of a node that is whole, in which it has a row; none where the node is not whole.
-    #[inline(always)]
-    fn whole_level(&self, node: Node) -> Option<&Level<S>>
-        ensures some { IfSome result (λ level. IsRowOf self.now node level.now.rows) }
-        ensures none { IfNone result (whole_in self.now node ≡ false) }
-    {
-        if node.is_whole(self.size) {
-            self.level(node)
-        } else {
-            None
-        }
     }
 }
 
