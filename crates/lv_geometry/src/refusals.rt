@@ -107,13 +107,14 @@ const WORDS: [&str; 20] = [
 impl fmt::Display for Refusal {
     fn fmt<W: fmt::Write>(&self, f: &mut fmt::Formatter<W>) -> fmt::Result {
         let words = WORDS[self.number() as usize - 1];
-        match *self {
-            Refusal::OutOfRange { size } => write!(f, "{words}{size}"),
-            Refusal::TooLarge { limit } => write!(f, "{words}{limit} elements"),
-            Refusal::Contended { edit } => write!(f, "{words}{edit} came first"),
-            Refusal::Overtaken { edit } => write!(f, "{words}{edit}"),
-            _ => f.write_str(words),
-        }
+        let (shown, end) = match *self {
+            Refusal::OutOfRange { size } => (size, ""),
+            Refusal::TooLarge { limit } => (limit, " elements"),
+            Refusal::Contended { edit } => (edit, " came first"),
+            Refusal::Overtaken { edit } => (edit, ""),
+            _ => return f.write_str(words),
+        };
+        write!(f, "{words}{shown}{end}")
     }
 }
 
