@@ -14,12 +14,22 @@ use std::alloc::AllocError;
 
 /// The answer to a reduction: the number of the last edit, the fold of the range's elements, and how many cells and
 /// summaries were read for it.
-#[derive(Clone, Copy, Debug, PartialEq, Eq)]
+#[derive(Copy, Debug, PartialEq, Eq)]
 pub struct Answer<S> {
     pub edit: u32,
     pub value: S,
     pub cells_read: u32,
     pub summaries_read: u32,
+}
+
+impl<S: Copy> Clone for Answer<S> {
+    ghost is_clone = { λ x y. y ≡ x };
+
+    ghost is_infallible = { λ _. ⊤ };
+
+    fn clone(&self) -> Result<Answer<S>, AllocError> {
+        Ok(*self)
+    }
 }
 
 // The summary of a fresh node, and the node's level.

@@ -1,4 +1,4 @@
-ghost use Rattle.std.specs.Prelude.{◌≡◌, ◌+◌, ◌<◌, ◌≤◌, length, IfNone};
+ghost use Rattle.std.specs.Prelude.{◌≡◌, ⊤, ◌+◌, ◌<◌, ◌≤◌, length, IfNone};
 ghost use Rattle.std.specs.List.{slice_range};
 ghost use Rattle.lv_edits.specs.History.{list_of};
 ghost use Rattle.lv_edits.specs.Kept.{IsLegalInLimits};
@@ -7,12 +7,26 @@ ghost use Rattle.lv_reduce.specs.Answer.{range_refusal};
 use lv_edits::Edits;
 use lv_geometry::Refusal;
 use lv_summary::Summaries;
+use std::alloc::AllocError;
 
 /// What a query reads: the vector's cells, and the table of summaries that are kept for them.
-#[derive(Clone, Copy)]
+#[derive(Copy)]
 pub struct View<'a, S> {
     pub cells: &'a Edits,
     pub table: &'a Summaries<S>,
+}
+
+impl<'a, S> Clone for View<'a, S> {
+    ghost is_clone = { λ x y. y ≡ x };
+
+    ghost is_infallible = { λ _. ⊤ };
+
+    fn clone(&self) -> Result<View<'a, S>, AllocError> {
+        Ok(View {
+            cells: self.cells,
+            table: self.table,
+        })
+    }
 }
 
 // Why a range is refused, or nothing.
