@@ -1,11 +1,26 @@
 use crate::bodies::Body;
+use std::alloc::AllocError;
 
 /// Two bodies side by side: both are computed of the same elements.
-#[derive(Clone, Copy, Debug, PartialEq, Eq)]
+#[derive(Debug, PartialEq, Eq)]
 pub struct Pair<A, B> {
     pub first: A,
     pub second: B,
 }
+
+impl<A: Copy, B: Copy> Clone for Pair<A, B> {
+    ghost use Rattle.std.specs.Prelude.{◌≡◌, ⊤};
+
+    ghost is_clone = { λ x y. y ≡ x };
+
+    ghost is_infallible = { λ _. ⊤ };
+
+    fn clone(&self) -> Result<Pair<A, B>, AllocError> {
+        Ok(*self)
+    }
+}
+
+impl<A: Copy, B: Copy> Copy for Pair<A, B> {}
 
 impl<A: Body, B: Body> Body for Pair<A, B> {
     ghost use Rattle.lv_bodies.specs.Pairs.{pair_operations, IsPairWithin};

@@ -9,14 +9,29 @@ use lv_bodies::{Body, fold_slice};
 use lv_edits::Edits;
 use lv_geometry::Node;
 use lv_summary::Summaries;
+use std::alloc::AllocError;
 
 /// A node that was claimed at a version, and its summary then.
-#[derive(Clone, Copy, Debug, PartialEq, Eq)]
+#[derive(Debug, PartialEq, Eq)]
 pub struct Computed<S> {
     pub node: Node,
     pub version: u32,
     pub summary: S,
 }
+
+impl<S: Copy> Clone for Computed<S> {
+    ghost use Rattle.std.specs.Prelude.{◌≡◌, ⊤};
+
+    ghost is_clone = { λ x y. y ≡ x };
+
+    ghost is_infallible = { λ _. ⊤ };
+
+    fn clone(&self) -> Result<Computed<S>, AllocError> {
+        Ok(*self)
+    }
+}
+
+impl<S: Copy> Copy for Computed<S> {}
 
 /// The fold of a whole node's elements, computed where its contents lie: from the elements of a block, and above from the
 /// summaries of the children, which are fresh.
