@@ -1,16 +1,31 @@
-use Rattle.std.proofs.Common.{◌≡◌, inl, inr}
+use Rattle.std.proofs.Common.{◌≡◌, inl, inr, sym, ◌∙◌}
+use Rattle.lv_lines.specs.declared.command.Command.{Command}
 use Rattle.lv_lines.specs.declared.command.Command.TheVariants as commands
+use Rattle.lv_lines.specs.declared.command.Line.{Line}
+use Rattle.lv_lines.specs.declared.command.Line.TheVariants.{Nothing, Bad, Do}
 use Rattle.lv_transcript.proofs.ReadTranscripts.{line_of-edit_line}
 use Rattle.lv_transcript.proofs.transcript_lines.likely_edit.Goals as goal
+
+-- two readings of one line say the same
+same_command : (line : Line) (one other : Command) → line ≡ Do one → line ≡ Do other → one ≡ other
+same_command line one other is as' = cc
+
+-- a line that says something says no nothing, and is not bad
+not_nothing : (line : Line) (command : Command) → line ≡ Nothing → line ≡ Do command → ⊥
+not_nothing line command is as' = absurd cc
+
+not_bad : (line : Line) (command : Command) → line ≡ Bad → line ≡ Do command → ⊥
+not_bad line command is as' = absurd cc
 
 pub returns-in-Do : goal.returns-in-Do
 returns-in-Do c = λ edit fits is.
     let read = line_of-edit_line c.args.line.now c.in_ok-command.command.now edit fits c.in_ok-command.ensures.cases.1 is in
-    let same : c.in-Do.command ≡ commands.Edit edit = cc (c.in-Do.ensures, read) in
-    c.edit_of.ensures edit same
+    c.edit_of.ensures edit (same_command _ c.in-Do.command (commands.Edit edit) (sym c.in-Do.ensures) read)
 
 pub returns-in-Nothing : goal.returns-in-Nothing
 returns-in-Nothing c = λ edit fits is.
-    let read = line_of-edit_line c.args.line.now c.in_ok-command.command.now edit fits c.in_ok-command.ensures.cases.1 is in
-    let line = c.read_line.ensures in
-    elim c.in-Nothing.is [ inl nothing ↦ absurd (cc (read, line, nothing)) | inr bad ↦ absurd (cc (read, line, bad)) ]
+    let read = c.read_line.ensures ∙ line_of-edit_line c.args.line.now c.in_ok-command.command.now edit fits c.in_ok-command.ensures.cases.1 is in
+    elim c.in-Nothing.is [
+      | inl nothing ↦ absurd (not_nothing _ _ nothing read)
+      | inr bad ↦ absurd (not_bad _ _ bad read)
+    ]
