@@ -5,7 +5,7 @@ use Rattle.lv_store.specs.Inner.{IsStore}
 use Rattle.lv_store.specs.State.{StoreState, elements_of}
 use Rattle.lv_edits.specs.declared.edit.Edit.{Edit}
 use Rattle.lv_edits.specs.Capacity.{longest, most_reserved}
-use Rattle.lv_edits.specs.History.{list_of}
+use Rattle.lv_edits.specs.History.{History, list_of}
 use Rattle.lv_edits.specs.Kept.{IsLegalInLimits}
 
 -- so many buckets are needed, and no fewer, for all that the list ever had and all that was ever reserved
@@ -15,6 +15,10 @@ AreNeeded journal buckets = AreFewest (max (longest journal) (most_reserved jour
 -- what a swap writes at its second index, where that is another than the first: the element that was at the first
 abbrev pub write_at_second : ℕ → ℕ → ℤ → Option (ℕ × ℤ)
 write_at_second first second before = if nat_eq first second then None else Some (second, before)
+
+-- what a store and a journal tell of the history
+abbrev pub history_of : StoreState → List Edit → History
+history_of store journal = record { limits = store.limits; journal = journal }
 
 -- a store holds what a journal leaves: the journal is legal in the store's limits, its list is the store's elements, so many buckets
 -- are open as are needed, and its last edit is the store's

@@ -1,15 +1,12 @@
-ghost use Rattle.std.specs.Prelude.{◌≡◌, ℕ, ◌+◌, ◌*◌, ◌<◌, ◌≤◌, max, None, [], ◌∷◌, ◌++◌, length, take, drop, OnOk, OnErr, IfErr, vec_len, vec_capacity};
+ghost use Rattle.std.specs.Prelude.{◌≡◌, ◌+◌, ◌*◌, ◌<◌, ◌≤◌, None, [], length, take, drop};
 ghost use Rattle.std.specs.List.{slice_index_or, slice_range};
-ghost use Rattle.lv_geometry.specs.Cells.{AreFewest, capacity_of};
-ghost use Rattle.lv_store.specs.Inner.{IsStore};
-ghost use Rattle.lv_store.specs.State.{AreAlike};
 ghost use Rattle.lv_edits.specs.Capacity.{capacity_after, IsCapacityAfter};
 ghost use Rattle.lv_edits.specs.History.{History, list_of};
 ghost use Rattle.lv_edits.specs.Kept.{IsLegalInLimits};
-ghost use Rattle.lv_edits.specs.Inner.{write_at_second};
 ghost use Rattle.lv_edits.specs.Verdict.{Answers, element_at, verdict_of};
 
 use crate::edit::Edit;
+use crate::making::make_edit;
 use crate::receipt::Receipt;
 use lv_geometry::{Limits, Refusal, capacity};
 use lv_store::Store;
@@ -118,14 +115,7 @@ impl Edits {
         ensures answer { Answers self.old edit result self.new }
         ensures limits { IsLegalInLimits self.new }
     {
-        match edit {
-            Edit::Push(x) => self.make_push(x),
-            Edit::Pop => self.make_pop(),
-            Edit::Write { index, value } => self.make_write(index, value),
-            Edit::Reserve(cells) => self.make_reserve(cells),
-            Edit::Swap { first, second } => self.make_swap(first, second),
-            Edit::Truncate(count) => self.make_truncate(count),
-        }
+        make_edit(&mut self.store, &mut self.journal, edit)
     }
 
     /// The first refusal that applies to an edit, want of memory apart, or none.
@@ -241,150 +231,4 @@ impl Edits {
     {
         self.store.limits()
     }
-}
-
-impl Edits {
-    // Makes a push that the verdict allows.
-    fn make_push(&mut self, x: i64) -> Result<Receipt, Refusal>
-        requires { verdict_of self.old.limits self.old.journal (Edit.Push x) ≡ None }
-        ensures answer { Answers self.old (Edit.Push x) result self.new }
-        ensures limits { IsLegalInLimits self.new }
-    {
-        let index = self.store.size();
-        make_room(&mut self.store, &mut self.journal, index + 1)?;
-        self.store.announce(Some((index, x)), None, index + 1);
-        append(&mut self.journal, Edit::Push(x));
-        Ok(Receipt::Pushed {
-            edit: self.store.edit(),
-            index,
-        })
-    }
-
-    // Makes a pop that the verdict allows.
-    fn make_pop(&mut self) -> Result<Receipt, Refusal>
-        requires { verdict_of self.old.limits self.old.journal Edit.Pop ≡ None }
-        ensures answer { Answers self.old Edit.Pop result self.new }
-        ensures limits { IsLegalInLimits self.new }
-    {
-        let last = self.store.size() - 1;
-        let value = self.store.read(last);
-        make_room(&mut self.store, &mut self.journal, 0)?;
-        self.store.announce(None, None, last);
-        append(&mut self.journal, Edit::Pop);
-        Ok(Receipt::Popped {
-            edit: self.store.edit(),
-            value,
-        })
-    }
-
-    // Makes a write that the verdict allows.
-    fn make_write(&mut self, index: u32, value: i64) -> Result<Receipt, Refusal>
-        requires { verdict_of self.old.limits self.old.journal (Edit.Write index value) ≡ None }
-        ensures answer { Answers self.old (Edit.Write index value) result self.new }
-        ensures limits { IsLegalInLimits self.new }
-    {
-        let before = self.store.read(index);
-        make_room(&mut self.store, &mut self.journal, 0)?;
-        let size = self.store.size();
-        self.store.announce(Some((index, value)), None, size);
-        append(&mut self.journal, Edit::Write { index, value });
-        Ok(Receipt::Written {
-            edit: self.store.edit(),
-            before,
-        })
-    }
-
-    // Makes a reserve that the verdict allows.
-    fn make_reserve(&mut self, cells: u32) -> Result<Receipt, Refusal>
-        requires { verdict_of self.old.limits self.old.journal (Edit.Reserve cells) ≡ None }
-        ensures answer { Answers self.old (Edit.Reserve cells) result self.new }
-        ensures limits { IsLegalInLimits self.new }
-    {
-        make_room(&mut self.store, &mut self.journal, cells)?;
-        let size = self.store.size();
-        self.store.announce(None, None, size);
-        append(&mut self.journal, Edit::Reserve(cells));
-        Ok(Receipt::Reserved {
-            edit: self.store.edit(),
-            capacity: capacity(self.store.buckets()),
-        })
-    }
-
-    // Makes a swap that the verdict allows.
-    fn make_swap(&mut self, first: u32, second: u32) -> Result<Receipt, Refusal>
-        requires { verdict_of self.old.limits self.old.journal (Edit.Swap first second) ≡ None }
-        ensures answer { Answers self.old (Edit.Swap first second) result self.new }
-        ensures limits { IsLegalInLimits self.new }
-    {
-        let before = self.store.read(first);
-        let after = self.store.read(second);
-        make_room(&mut self.store, &mut self.journal, 0)?;
-        let other = write_at_second(first, second, before);
-        let size = self.store.size();
-        self.store.announce(Some((first, after)), other, size);
-        append(&mut self.journal, Edit::Swap { first, second });
-        Ok(Receipt::Swapped {
-            edit: self.store.edit(),
-            first: after,
-            second: before,
-        })
-    }
-
-    // Makes a truncate that the verdict allows.
-    fn make_truncate(&mut self, count: u32) -> Result<Receipt, Refusal>
-        requires { verdict_of self.old.limits self.old.journal (Edit.Truncate count) ≡ None }
-        ensures answer { Answers self.old (Edit.Truncate count) result self.new }
-        ensures limits { IsLegalInLimits self.new }
-    {
-        let size = self.store.size();
-        make_room(&mut self.store, &mut self.journal, 0)?;
-        self.store.announce(None, None, count);
-        append(&mut self.journal, Edit::Truncate(count));
-        Ok(Receipt::Truncated {
-            edit: self.store.edit(),
-            dropped: size - count,
-        })
-    }
-}
-
-// Completes the write that is pending, and makes room for one more edit, then for so many cells. Changes no element.
-fn make_room(store: &mut Store, journal: &mut Vec<Edit>, cells: u32) -> Result<(), Refusal>
-    requires few { cells ≤ capacity_of store.old.limits.buckets }
-    requires sound { IsStore store.old }
-    ensures alike { AreAlike store.old store.new }
-    ensures settled { store.new.descriptor.pending ≡ None }
-    ensures sound { IsStore store.new }
-    ensures buckets { OnOk result ((k : ℕ) → AreFewest cells k → store.new.buckets ≡ max store.old.buckets k) }
-    ensures enough { OnOk result (cells ≤ capacity_of store.new.buckets) }
-    ensures closed { OnErr result (store.new.buckets ≡ store.old.buckets) }
-    ensures journal { journal.new.items ≡ journal.old.items }
-    ensures edit { OnOk result (vec_len journal.new < vec_capacity journal.new) }
-    ensures err { IfErr result (λ refusal. refusal ≡ Refusal.NoMemory) }
-{
-    store.settle();
-    if journal.reserve(1).is_err() {
-        return Err(Refusal::NoMemory);
-    }
-    store.open_to(cells)
-}
-
-// What a swap writes at its second index, where that is another than the first: the element that was at the first.
-fn write_at_second(first: u32, second: u32, before: i64) -> Option<(u32, i64)>
-    ensures { result ≡ write_at_second first second before }
-{
-    if first == second {
-        None
-    } else {
-        Some((second, before))
-    }
-}
-
-// Puts an item where there is room for it.
-fn append<T: Copy>(list: &mut Vec<T>, item: T)
-    requires { vec_len list.old < vec_capacity list.old }
-    ensures { list.new.items ≡ list.old.items ++ item ∷ [] }
-{
-    let Ok(()) = list.push(item) else {
-        unreachable!()
-    };
 }

@@ -7,6 +7,7 @@
 
 mod edit;
 mod edits;
+mod making;
 mod receipt;
 
 pub use edit::Edit;

@@ -6,7 +6,7 @@ use Rattle.lv_geometry.specs.declared.refusals.Refusal.{Refusal}
 use Rattle.lv_store.specs.Inner.{IsStore}
 use Rattle.lv_store.specs.State.{AreAlike, Opens, StoreState, settled}
 use Rattle.lv_store.proofs.ElementsLaws.{alike_through, opens_alike, settled_alike}
-use Rattle.lv_edits.proofs.edits.make_room.Goals as goal
+use Rattle.lv_edits.proofs.making.make_room.Goals as goal
 
 -- a store was settled, and then its buckets were opened or not
 record Readied (s t : StoreState) (cells : ℕ) (r : Result (Unit {0}) Refusal) : Type 0 where

@@ -1,0 +1,190 @@
+ghost use Rattle.std.specs.Prelude.{◌≡◌, ℕ, ◌<◌, ◌≤◌, max, None, [], ◌∷◌, ◌++◌, OnOk, OnErr, IfErr, vec_len, vec_capacity};
+ghost use Rattle.lv_geometry.specs.Cells.{AreFewest, capacity_of};
+ghost use Rattle.lv_store.specs.Inner.{IsStore};
+ghost use Rattle.lv_store.specs.State.{AreAlike};
+ghost use Rattle.lv_edits.specs.Inner.{HoldsReplay, history_of, write_at_second};
+ghost use Rattle.lv_edits.specs.Verdict.{Answers, verdict_of};
+
+use crate::edit::Edit;
+use crate::receipt::Receipt;
+use lv_geometry::{Refusal, capacity};
+use lv_store::Store;
+
+/// Makes an edit that the verdict allows, so that it is refused with `NoMemory` alone. The room in the journal, then the
+/// bucket, is made before anything changes.
+#[inline]
+pub fn make_edit(store: &mut Store, journal: &mut Vec<Edit>, edit: Edit) -> Result<Receipt, Refusal>
+    requires held { HoldsReplay store.old journal.old.items }
+    requires free { verdict_of store.old.limits journal.old.items edit ≡ None }
+    ensures answer { Answers (history_of store.old journal.old.items) edit result (history_of store.new journal.new.items) }
+    ensures held { HoldsReplay store.new journal.new.items }
+{
+    match edit {
+        Edit::Push(x) => make_push(store, journal, x),
+        Edit::Pop => make_pop(store, journal),
+        Edit::Write { index, value } => make_write(store, journal, index, value),
+        Edit::Reserve(cells) => make_reserve(store, journal, cells),
+        Edit::Swap { first, second } => make_swap(store, journal, first, second),
+        Edit::Truncate(count) => make_truncate(store, journal, count),
+    }
+}
+
+// Makes a push that the verdict allows.
+fn make_push(store: &mut Store, journal: &mut Vec<Edit>, x: i64) -> Result<Receipt, Refusal>
+    requires held { HoldsReplay store.old journal.old.items }
+    requires free { verdict_of store.old.limits journal.old.items (Edit.Push x) ≡ None }
+    ensures answer { Answers (history_of store.old journal.old.items) (Edit.Push x) result (history_of store.new journal.new.items) }
+    ensures held { HoldsReplay store.new journal.new.items }
+{
+    let index = store.size();
+    make_room(store, journal, index + 1)?;
+    store.announce(Some((index, x)), None, index + 1);
+    append(journal, Edit::Push(x));
+    Ok(Receipt::Pushed {
+        edit: store.edit(),
+        index,
+    })
+}
+
+// Makes a pop that the verdict allows.
+fn make_pop(store: &mut Store, journal: &mut Vec<Edit>) -> Result<Receipt, Refusal>
+    requires held { HoldsReplay store.old journal.old.items }
+    requires free { verdict_of store.old.limits journal.old.items Edit.Pop ≡ None }
+    ensures answer { Answers (history_of store.old journal.old.items) Edit.Pop result (history_of store.new journal.new.items) }
+    ensures held { HoldsReplay store.new journal.new.items }
+{
+    let last = store.size() - 1;
+    let value = store.read(last);
+    make_room(store, journal, 0)?;
+    store.announce(None, None, last);
+    append(journal, Edit::Pop);
+    Ok(Receipt::Popped {
+        edit: store.edit(),
+        value,
+    })
+}
+
+// Makes a write that the verdict allows.
+fn make_write(
+    store: &mut Store,
+    journal: &mut Vec<Edit>,
+    index: u32,
+    value: i64,
+) -> Result<Receipt, Refusal>
+    requires held { HoldsReplay store.old journal.old.items }
+    requires free { verdict_of store.old.limits journal.old.items (Edit.Write index value) ≡ None }
+    ensures answer { Answers (history_of store.old journal.old.items) (Edit.Write index value) result (history_of store.new journal.new.items) }
+    ensures held { HoldsReplay store.new journal.new.items }
+{
+    let before = store.read(index);
+    make_room(store, journal, 0)?;
+    let size = store.size();
+    store.announce(Some((index, value)), None, size);
+    append(journal, Edit::Write { index, value });
+    Ok(Receipt::Written {
+        edit: store.edit(),
+        before,
+    })
+}
+
+// Makes a reserve that the verdict allows.
+fn make_reserve(store: &mut Store, journal: &mut Vec<Edit>, cells: u32) -> Result<Receipt, Refusal>
+    requires held { HoldsReplay store.old journal.old.items }
+    requires free { verdict_of store.old.limits journal.old.items (Edit.Reserve cells) ≡ None }
+    ensures answer { Answers (history_of store.old journal.old.items) (Edit.Reserve cells) result (history_of store.new journal.new.items) }
+    ensures held { HoldsReplay store.new journal.new.items }
+{
+    make_room(store, journal, cells)?;
+    let size = store.size();
+    store.announce(None, None, size);
+    append(journal, Edit::Reserve(cells));
+    Ok(Receipt::Reserved {
+        edit: store.edit(),
+        capacity: capacity(store.buckets()),
+    })
+}
+
+// Makes a swap that the verdict allows.
+fn make_swap(
+    store: &mut Store,
+    journal: &mut Vec<Edit>,
+    first: u32,
+    second: u32,
+) -> Result<Receipt, Refusal>
+    requires held { HoldsReplay store.old journal.old.items }
+    requires free { verdict_of store.old.limits journal.old.items (Edit.Swap first second) ≡ None }
+    ensures answer { Answers (history_of store.old journal.old.items) (Edit.Swap first second) result (history_of store.new journal.new.items) }
+    ensures held { HoldsReplay store.new journal.new.items }
+{
+    let before = store.read(first);
+    let after = store.read(second);
+    make_room(store, journal, 0)?;
+    let other = write_at_second(first, second, before);
+    let size = store.size();
+    store.announce(Some((first, after)), other, size);
+    append(journal, Edit::Swap { first, second });
+    Ok(Receipt::Swapped {
+        edit: store.edit(),
+        first: after,
+        second: before,
+    })
+}
+
+// Makes a truncate that the verdict allows.
+fn make_truncate(store: &mut Store, journal: &mut Vec<Edit>, count: u32) -> Result<Receipt, Refusal>
+    requires held { HoldsReplay store.old journal.old.items }
+    requires free { verdict_of store.old.limits journal.old.items (Edit.Truncate count) ≡ None }
+    ensures answer { Answers (history_of store.old journal.old.items) (Edit.Truncate count) result (history_of store.new journal.new.items) }
+    ensures held { HoldsReplay store.new journal.new.items }
+{
+    let size = store.size();
+    make_room(store, journal, 0)?;
+    store.announce(None, None, count);
+    append(journal, Edit::Truncate(count));
+    Ok(Receipt::Truncated {
+        edit: store.edit(),
+        dropped: size - count,
+    })
+}
+
+// Completes the write that is pending, and makes room for one more edit, then for so many cells. Changes no element.
+fn make_room(store: &mut Store, journal: &mut Vec<Edit>, cells: u32) -> Result<(), Refusal>
+    requires few { cells ≤ capacity_of store.old.limits.buckets }
+    requires sound { IsStore store.old }
+    ensures alike { AreAlike store.old store.new }
+    ensures settled { store.new.descriptor.pending ≡ None }
+    ensures sound { IsStore store.new }
+    ensures buckets { OnOk result ((k : ℕ) → AreFewest cells k → store.new.buckets ≡ max store.old.buckets k) }
+    ensures enough { OnOk result (cells ≤ capacity_of store.new.buckets) }
+    ensures closed { OnErr result (store.new.buckets ≡ store.old.buckets) }
+    ensures journal { journal.new.items ≡ journal.old.items }
+    ensures edit { OnOk result (vec_len journal.new < vec_capacity journal.new) }
+    ensures err { IfErr result (λ refusal. refusal ≡ Refusal.NoMemory) }
+{
+    store.settle();
+    if journal.reserve(1).is_err() {
+        return Err(Refusal::NoMemory);
+    }
+    store.open_to(cells)
+}
+
+// What a swap writes at its second index, where that is another than the first: the element that was at the first.
+fn write_at_second(first: u32, second: u32, before: i64) -> Option<(u32, i64)>
+    ensures { result ≡ write_at_second first second before }
+{
+    if first == second {
+        None
+    } else {
+        Some((second, before))
+    }
+}
+
+// Puts an item where there is room for it.
+fn append<T: Copy>(list: &mut Vec<T>, item: T)
+    requires { vec_len list.old < vec_capacity list.old }
+    ensures { list.new.items ≡ list.old.items ++ item ∷ [] }
+{
+    let Ok(()) = list.push(item) else {
+        unreachable!()
+    };
+}
