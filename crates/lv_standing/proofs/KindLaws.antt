@@ -1,14 +1,16 @@
 -- What is kept of one kind: a part of the fold of all six.
-use Rattle.std.proofs.Common.{◌≡◌, Option, ℕ, ℤ, List, [], ◌∷◌, ◌++◌, length, refl, ap, sym, subst, ◌∙◌, arith, length-append, All}
+use Rattle.std.proofs.Common.{◌≡◌, ℕ, ℤ, List, [], ◌∷◌, ◌++◌, length, refl, ap, sym, subst, ◌∙◌, arith, length-append, All}
 use Rattle.std.proofs.lemmas.List.Sums.{fold-append}
 use Rattle.std.proofs.Math.Seq.{drop-append_seam, take-append_seam}
 use Rattle.std.proofs.lemmas.List.Elements.{All-drop, All-head, All-take}
 use Rattle.lv_geometry.specs.Elements.{IsElement}
 use Rattle.lv_bodies.specs.Body.{CanFold, CanGrow, fold_of}
 use Rattle.lv_bodies.specs.FoldLaws.{fold_of-within}
+use Rattle.lv_bodies.specs.Sums.{IsSum, sum_operations}
+use Rattle.lv_bodies.specs.Extremes.{IsExtreme, least_operations, greatest_operations}
 use Rattle.lv_bodies.specs.RunTotals.{IsBest, best_operations}
-use Rattle.lv_bodies.specs.Tables.{IsStateMap}
-use Rattle.lv_bodies.specs.declared.best.RunTotals.{RunTotals}
+use Rattle.lv_bodies.specs.AffineMaps.{IsAffineMap, affine_operations}
+use Rattle.lv_bodies.specs.Tables.{IsStateMap, automaton_operations}
 use Rattle.lv_bodies.specs.Plain.{plain_value, program_table}
 use Rattle.lv_bodies.specs.Six.{SixSummary, face_of, six_operations, six_within}
 use Rattle.lv_bodies.specs.SixLaws.{six_laws}
@@ -56,41 +58,58 @@ can_fold_front xs x can = record {
   elements = subst (All IsElement) (take-append_seam xs (x ∷ [])) (All-take IsElement (length xs) (xs ++ x ∷ []) can.elements);
 }
 
+-- whether what is kept may take one more element
+abbrev pub CanGrowKept : KindSummary → Type 0
+CanGrowKept (kept.Sum s) = CanGrow IsSum s
+CanGrowKept (kept.Least s) = CanGrow IsExtreme s
+CanGrowKept (kept.Greatest s) = CanGrow IsExtreme s
+CanGrowKept (kept.Best s) = CanGrow IsBest s
+CanGrowKept (kept.Affine s) = CanGrow IsAffineMap s
+CanGrowKept (kept.Automaton s) = CanGrow IsStateMap s
+
+-- what is kept, with one more element
+abbrev pub grown : KindSummary → ℤ → KindSummary
+grown (kept.Sum s) x = kept.Sum (sum_operations.join s (sum_operations.lift x))
+grown (kept.Least s) x = kept.Least (least_operations.join s (least_operations.lift x))
+grown (kept.Greatest s) x = kept.Greatest (greatest_operations.join s (greatest_operations.lift x))
+grown (kept.Best s) x = kept.Best (best_operations.join s (best_operations.lift x))
+grown (kept.Affine s) x = kept.Affine (affine_operations.join s (affine_operations.lift x))
+grown (kept.Automaton s) x = kept.Automaton ((automaton_operations program_table).join s ((automaton_operations program_table).lift x))
+
 module _ (before : List ℤ) (x : ℤ) (can : CanFold (before ++ x ∷ [])) where
   -- the fold of all but the last keeps its bounds
   front_within : six_within (fold_of six_operations before) (length before)
   front_within = fold_of-within six_operations six_within six_laws before (can_fold_front before x can)
 
-  -- so that best runs may take one more element
-  pub best_can_grow : (s : Option RunTotals) → s ≡ (fold_of six_operations before).1.1.1.0 → CanGrow IsBest s
-  best_can_grow s e = record {
+  -- so that what is kept of it may take one more element
+  front_can_grow : {S : Type 0} (within : S → ℕ → Type 0) (s t : S) → within t (length before) → s ≡ t → CanGrow within s
+  front_can_grow within s t bound e = record {
     count = length before;
-    count_within = subst (λ t. IsBest t (length before)) (sym e) front_within.1.1.1.0;
+    count_within = subst (λ r. within r (length before)) (sym e) bound;
     few = omega (arith, can.few, length-append before (x ∷ []));
   }
 
-  -- and an automaton's row
-  pub row_can_grow : (s : List ℕ) → s ≡ (fold_of six_operations before).1.1.1.1.1 → CanGrow IsStateMap s
-  row_can_grow s e = record {
-    count = length before;
-    count_within = subst (λ t. IsStateMap t (length before)) (sym e) front_within.1.1.1.1.1;
-    few = omega (arith, can.few, length-append before (x ∷ []));
-  }
+  pub kept_can_grow : (k : KindSummary) → k ≡ summary_of (kind_of k) before → CanGrowKept k
+  kept_can_grow (kept.Sum s) from = front_can_grow IsSum s (fold_of six_operations before).0 front_within.0 cc
+  kept_can_grow (kept.Least s) from = front_can_grow IsExtreme s (fold_of six_operations before).1.0 front_within.1.0 cc
+  kept_can_grow (kept.Greatest s) from = front_can_grow IsExtreme s (fold_of six_operations before).1.1.0 front_within.1.1.0 cc
+  kept_can_grow (kept.Best s) from = front_can_grow IsBest s (fold_of six_operations before).1.1.1.0 front_within.1.1.1.0 cc
+  kept_can_grow (kept.Affine s) from = front_can_grow IsAffineMap s (fold_of six_operations before).1.1.1.1.0 front_within.1.1.1.1.0 cc
+  kept_can_grow (kept.Automaton s) from = front_can_grow IsStateMap s (fold_of six_operations before).1.1.1.1.1 front_within.1.1.1.1.1 cc
 
-module _ (k : KindSummary) (before : List ℤ) (from : k ≡ summary_of (kind_of k) before) where
-  -- best runs that are kept are those of the fold
-  pub best_is : (s : Option RunTotals) → k ≡ kept.Best s → s ≡ (fold_of six_operations before).1.1.1.0
-  best_is s is = let e : kept.Best s ≡ kept.Best (fold_of six_operations before).1.1.1.0 = subst (λ j. j ≡ summary_of (kind_of j) before) is from in cc
+-- a part of six summaries with one more element is that part of them, with it
+grown_part : (k : Kind) (s : SixSummary) (x : ℤ) → grown (part_of k s) x ≡ part_of k (six_operations.join s (six_operations.lift x))
+grown_part Sum s x = refl
+grown_part Least s x = refl
+grown_part Greatest s x = refl
+grown_part Best s x = refl
+grown_part Affine s x = refl
+grown_part Automaton s x = refl
 
-  -- so is a row
-  pub row_is : (s : List ℕ) → k ≡ kept.Automaton s → s ≡ (fold_of six_operations before).1.1.1.1.1
-  row_is s is = let e : kept.Automaton s ≡ kept.Automaton (fold_of six_operations before).1.1.1.1.1 = subst (λ j. j ≡ summary_of (kind_of j) before) is from in cc
-
-  -- best runs with one more element
-  pub best_more : (s r : Option RunTotals) (x : ℤ) → k ≡ kept.Best s → r ≡ best_operations.join s (best_operations.lift x) → kept.Best r ≡ summary_of (kind_of k) (before ++ x ∷ [])
-  best_more s r x is value =
-      ap kept.Best (value ∙ ap (λ t. best_operations.join t (best_operations.lift x)) (best_is s is) ∙ ap (λ (t : SixSummary). t.1.1.1.0) (sym (six_more before x)))
-      ∙ ap (λ j. summary_of (kind_of j) (before ++ x ∷ [])) (sym is)
+-- what is kept of some elements, with one more, is what is kept of them and that one
+pub kept_more : (k v : KindSummary) (before : List ℤ) (x : ℤ) → k ≡ v → k ≡ summary_of (kind_of k) before → grown v x ≡ summary_of (kind_of k) (before ++ x ∷ [])
+kept_more k v before x is from =
+    ap (λ j. grown j x) (sym is ∙ from) ∙ grown_part (kind_of k) (fold_of six_operations before) x ∙ ap (part_of (kind_of k)) (sym (six_more before x))
 
 -- a part of the fold of some elements is their summary by its kind
 pub part_is_current : (k : Kind) (xs : List ℤ) (six : SixSummary) (s : KindSummary) → s ≡ part_of k six → six ≡ fold_of six_operations xs → s ≡ summary_of (kind_of s) xs
