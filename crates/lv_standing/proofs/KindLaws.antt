@@ -4,7 +4,7 @@ use Rattle.std.proofs.lemmas.List.Sums.{fold-append}
 use Rattle.std.proofs.Math.Seq.{drop-append_seam, take-append_seam}
 use Rattle.std.proofs.lemmas.List.Elements.{All-drop, All-head, All-take}
 use Rattle.lv_geometry.specs.Elements.{IsElement}
-use Rattle.lv_bodies.specs.Body.{CanFold, CanGrow, fold_of}
+use Rattle.lv_bodies.specs.Body.{CanFold, CanJoin, fold_of}
 use Rattle.lv_bodies.specs.FoldLaws.{fold_of-within}
 use Rattle.lv_bodies.specs.Sums.{IsSum, sum_operations}
 use Rattle.lv_bodies.specs.Extremes.{IsExtreme, least_operations, greatest_operations}
@@ -58,14 +58,19 @@ can_fold_front xs x can = record {
   elements = subst (All IsElement) (take-append_seam xs (x ∷ [])) (All-take IsElement (length xs) (xs ++ x ∷ []) can.elements);
 }
 
--- whether what is kept may take one more element
-abbrev pub CanGrowKept : KindSummary → Type 0
-CanGrowKept (kept.Sum s) = CanGrow IsSum s
-CanGrowKept (kept.Least s) = CanGrow IsExtreme s
-CanGrowKept (kept.Greatest s) = CanGrow IsExtreme s
-CanGrowKept (kept.Best s) = CanGrow IsBest s
-CanGrowKept (kept.Affine s) = CanGrow IsAffineMap s
-CanGrowKept (kept.Automaton s) = CanGrow IsStateMap s
+-- the last of what can be folded is a number of 64 bits
+pub last_is_element : (before : List ℤ) (x : ℤ) → CanFold (before ++ x ∷ []) → IsElement x
+last_is_element before x can =
+    All-head IsElement x [] (subst (All IsElement) (drop-append_seam before (x ∷ [])) (All-drop IsElement (length before) (before ++ x ∷ []) can.elements))
+
+-- whether what is kept may be joined with the summary of one more element
+abbrev pub CanGrow : KindSummary → ℤ → Type 0
+CanGrow (kept.Sum s) x = CanJoin IsSum s (sum_operations.lift x)
+CanGrow (kept.Least s) x = CanJoin IsExtreme s (least_operations.lift x)
+CanGrow (kept.Greatest s) x = CanJoin IsExtreme s (greatest_operations.lift x)
+CanGrow (kept.Best s) x = CanJoin IsBest s (best_operations.lift x)
+CanGrow (kept.Affine s) x = CanJoin IsAffineMap s (affine_operations.lift x)
+CanGrow (kept.Automaton s) x = CanJoin IsStateMap s ((automaton_operations program_table).lift x)
 
 -- what is kept, with one more element
 abbrev pub grown : KindSummary → ℤ → KindSummary
@@ -81,21 +86,30 @@ module _ (before : List ℤ) (x : ℤ) (can : CanFold (before ++ x ∷ [])) wher
   front_within : six_within (fold_of six_operations before) (length before)
   front_within = fold_of-within six_operations six_within six_laws before (can_fold_front before x can)
 
-  -- so that what is kept of it may take one more element
-  front_can_grow : {S : Type 0} (within : S → ℕ → Type 0) (s t : S) → within t (length before) → s ≡ t → CanGrow within s
-  front_can_grow within s t bound e = record {
-    count = length before;
-    count_within = subst (λ r. within r (length before)) (sym e) bound;
+  -- and that one keeps them for one
+  last_within : six_within (six_operations.lift x) 1
+  last_within = six_laws.lift_within x (last_is_element before x can)
+
+  -- so that what is kept of them may be joined with it
+  can_join : {S : Type 0} (within : S → ℕ → Type 0) (s t lifted : S) → within t (length before) → within lifted 1 → s ≡ t → CanJoin within s lifted
+  can_join within s t lifted front last e = record {
+    left = length before;
+    right = 1;
+    left_within = subst (λ r. within r (length before)) (sym e) front;
+    right_within = last;
     few = omega (arith, can.few, length-append before (x ∷ []));
   }
 
-  pub kept_can_grow : (k : KindSummary) → k ≡ summary_of (kind_of k) before → CanGrowKept k
-  kept_can_grow (kept.Sum s) from = front_can_grow IsSum s (fold_of six_operations before).0 front_within.0 cc
-  kept_can_grow (kept.Least s) from = front_can_grow IsExtreme s (fold_of six_operations before).1.0 front_within.1.0 cc
-  kept_can_grow (kept.Greatest s) from = front_can_grow IsExtreme s (fold_of six_operations before).1.1.0 front_within.1.1.0 cc
-  kept_can_grow (kept.Best s) from = front_can_grow IsBest s (fold_of six_operations before).1.1.1.0 front_within.1.1.1.0 cc
-  kept_can_grow (kept.Affine s) from = front_can_grow IsAffineMap s (fold_of six_operations before).1.1.1.1.0 front_within.1.1.1.1.0 cc
-  kept_can_grow (kept.Automaton s) from = front_can_grow IsStateMap s (fold_of six_operations before).1.1.1.1.1 front_within.1.1.1.1.1 cc
+  can_grow : (k : KindSummary) → k ≡ summary_of (kind_of k) before → CanGrow k x
+  can_grow (kept.Sum s) from = can_join IsSum s (fold_of six_operations before).0 (sum_operations.lift x) front_within.0 last_within.0 cc
+  can_grow (kept.Least s) from = can_join IsExtreme s (fold_of six_operations before).1.0 (least_operations.lift x) front_within.1.0 last_within.1.0 cc
+  can_grow (kept.Greatest s) from = can_join IsExtreme s (fold_of six_operations before).1.1.0 (greatest_operations.lift x) front_within.1.1.0 last_within.1.1.0 cc
+  can_grow (kept.Best s) from = can_join IsBest s (fold_of six_operations before).1.1.1.0 (best_operations.lift x) front_within.1.1.1.0 last_within.1.1.1.0 cc
+  can_grow (kept.Affine s) from = can_join IsAffineMap s (fold_of six_operations before).1.1.1.1.0 (affine_operations.lift x) front_within.1.1.1.1.0 last_within.1.1.1.1.0 cc
+  can_grow (kept.Automaton s) from = can_join IsStateMap s (fold_of six_operations before).1.1.1.1.1 ((automaton_operations program_table).lift x) front_within.1.1.1.1.1 last_within.1.1.1.1.1 cc
+
+  pub kept_can_grow : (k v : KindSummary) → k ≡ v → k ≡ summary_of (kind_of k) before → CanGrow v x
+  kept_can_grow k v is from = subst (λ j. CanGrow j x) is (can_grow k from)
 
 -- a part of six summaries with one more element is that part of them, with it
 grown_part : (k : Kind) (s : SixSummary) (x : ℤ) → grown (part_of k s) x ≡ part_of k (six_operations.join s (six_operations.lift x))
@@ -120,8 +134,3 @@ part_is_current k xs six s part fold =
 -- a summary by a kind is one by the kind that it is of
 pub summary_is_current : (k : Kind) (xs : List ℤ) → summary_of k xs ≡ summary_of (kind_of (summary_of k xs)) xs
 summary_is_current k xs = part_is_current k xs (fold_of six_operations xs) (summary_of k xs) refl refl
-
--- the last of what can be folded is a number of 64 bits
-pub last_is_element : (before : List ℤ) (x : ℤ) → CanFold (before ++ x ∷ []) → IsElement x
-last_is_element before x can =
-    All-head IsElement x [] (subst (All IsElement) (drop-append_seam before (x ∷ [])) (All-drop IsElement (length before) (before ++ x ∷ []) can.elements))

@@ -3,8 +3,8 @@ ghost use Rattle.lv_bodies.specs.Body.{CanFold};
 ghost use Rattle.lv_standing.specs.Kinds.{kind_of, part_of, shown_of, summary_of};
 
 use lv_bodies::{
-    Affine, AffineMap, Automaton, Best, Greatest, Kind, Least, RunTotals, Shown, SixSummary, Sum,
-    fold_more,
+    Affine, AffineMap, Automaton, Best, Body, Greatest, Kind, Least, RunTotals, Shown, SixSummary,
+    Sum,
 };
 
 /// The summary of some elements by one kind.
@@ -70,15 +70,16 @@ impl KindSummary {
         ensures { result ≡ summary_of (kind_of self) (before ++ x ∷ []) }
     {
         match self {
-            KindSummary::Sum(sum) => KindSummary::Sum(fold_more(&Sum, sum, x)),
-            KindSummary::Least(least) => KindSummary::Least(fold_more(&Least, least, x)),
+            KindSummary::Sum(sum) => KindSummary::Sum(Sum.combine(sum, Sum.lift(x))),
+            KindSummary::Least(least) => KindSummary::Least(Least.combine(least, Least.lift(x))),
             KindSummary::Greatest(greatest) => {
-                KindSummary::Greatest(fold_more(&Greatest, greatest, x))
+                KindSummary::Greatest(Greatest.combine(greatest, Greatest.lift(x)))
             }
-            KindSummary::Best(best) => KindSummary::Best(fold_more(&Best, best, x)),
-            KindSummary::Affine(map) => KindSummary::Affine(fold_more(&Affine, map, x)),
+            KindSummary::Best(best) => KindSummary::Best(Best.combine(best, Best.lift(x))),
+            KindSummary::Affine(map) => KindSummary::Affine(Affine.combine(map, Affine.lift(x))),
             KindSummary::Automaton(row) => {
-                KindSummary::Automaton(fold_more(&Automaton::program(), row, x))
+                let program = Automaton::program();
+                KindSummary::Automaton(program.combine(row, program.lift(x)))
             }
         }
     }
