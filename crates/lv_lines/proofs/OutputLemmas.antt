@@ -1,7 +1,7 @@
 -- Texts that are put into a buffer, and sent, one after the other.
 use Rattle.std.proofs.Common.{◌≡◌, ℕ, List, [], ◌++◌, Option, sym, ap, ◌∙◌, append_assoc, append-nil}
-use Rattle.std.proofs.KnownBytes.{Appends-nil, Appends-trans}
-use Rattle.std.specs.Io.KnownBytes.{Appends}
+use Rattle.std.proofs.KnownBytes.{Appends-kept, Appends-nil, Appends-trans}
+use Rattle.std.specs.Io.KnownBytes.{Appends, Keeps}
 use Rattle.lv_lines.specs.Output.{Writes, WritesFront}
 
 -- nothing was put, and nothing sent
@@ -28,6 +28,15 @@ Writes-sent_more {a} {b} {c} {h} {k} {l} front w sent cut = record {
   appended = Appends-trans a b c w.sent front w.appended sent;
   all = w.all ∙ ap (λ (xs : List ℕ). w.sent ++ xs) cut ∙ sym (append_assoc w.sent front l);
 }
+
+-- and then no more
+pub Writes-kept : {a b c : Option (List ℕ)} {h k : List ℕ} → Writes a h b k [] → Keeps b c → Writes a h c k []
+Writes-kept {a} {b} {c} w kept = record { sent = w.sent; appended = Appends-kept a b c w.sent w.appended kept; all = w.all }
+
+-- all that was held was sent, and then no more
+pub Writes-flushed : (a b c : Option (List ℕ)) {h k : List ℕ} → Writes a h b k [] → k ≡ [] → Keeps b c → Appends a c h
+Writes-flushed a b c {h} {k} w none kept =
+    rw (sym (append-nil h) ∙ w.all ∙ ap (λ (xs : List ℕ). w.sent ++ xs) none ∙ append-nil w.sent) (Appends-kept a b c w.sent w.appended kept)
 
 -- all that was written was sent, where nothing was held at the start and nothing is now
 pub Writes-all : (old_contents new_contents : Option (List ℕ)) (text : List ℕ) → Writes old_contents [] new_contents [] text → Appends old_contents new_contents text

@@ -25,7 +25,10 @@ pub fn write_whole<W: Write>(writer: &mut W, bytes: &[u8]) -> Result<(), Fault>
             Ok(count) => (_, rest) = rest.split_at(count),
         }
     }
-    writer.flush().map_err(|_| Fault::WriteFault)
+    let Ok(()) = writer.flush() else {
+        return Err(Fault::WriteFault);
+    };
+    Ok(())
 }
 
 /// Puts bytes after what is held. The room for them was made before, so no memory is taken.
