@@ -74,13 +74,83 @@ const TURNS: Number = Number {
 // The names of the kinds.
 const KINDS: [&str; 6] = ["sum", "least", "greatest", "best", "affine", "automaton"];
 
+// What a command takes.
+#[derive(Clone, Copy)]
+enum Argument {
+    // An option whose value is a number.
+    Number(Number),
+    // The option that says the kind of a board's body.
+    Body,
+    // The files of sessions, at most so many.
+    Files(usize),
+}
+
+// A command: its name, what it says, what stands at the end of its help, and what it takes, in order.
+#[derive(Clone, Copy)]
+struct Mode {
+    name: &'static str,
+    about: &'static str,
+    after_help: &'static str,
+    arguments: &'static [Argument],
+}
+
+const RUN: Mode = Mode {
+    name: "run",
+    about: help::RUN,
+    after_help: help::LINES,
+    arguments: &[Argument::Number(BUCKETS), Argument::Number(EDITS)],
+};
+
+const SERVE: Mode = Mode {
+    name: "serve",
+    about: help::SERVE,
+    after_help: help::SESSIONS,
+    arguments: &[
+        Argument::Number(WORKERS),
+        Argument::Number(TURNS),
+        Argument::Number(BUCKETS),
+        Argument::Number(EDITS),
+        Argument::Files(16),
+    ],
+};
+
+const BOARD: Mode = Mode {
+    name: "board",
+    about: help::BOARD,
+    after_help: help::TRIES,
+    arguments: &[
+        Argument::Body,
+        Argument::Number(FEW_BUCKETS),
+        Argument::Number(EDITS),
+        Argument::Files(8),
+    ],
+};
+
+const SCHEDULE: Mode = Mode {
+    name: "schedule",
+    about: help::SCHEDULE,
+    after_help: help::EVENTS,
+    arguments: &[
+        Argument::Number(ACTORS),
+        Argument::Number(FEW_BUCKETS),
+        Argument::Number(EDITS),
+    ],
+};
+
+const AUDIT: Mode = Mode {
+    name: "audit",
+    about: help::AUDIT,
+    after_help: help::VERDICTS,
+    arguments: &[],
+};
+
 /// The command line of the program.
 pub fn command<'a>(alloc: Global) -> Result<Command<'a>, AllocError> {
-    let command = with_command(heading(alloc), run(alloc));
-    let command = with_command(command, serve(alloc));
-    let command = with_command(command, board(alloc));
-    let command = with_command(command, schedule(alloc));
-    with_command(command, Ok(audit(alloc)))
+    let command = with_command(heading(alloc), command_of(alloc, &RUN));
+    let command = with_command(command, command_of(alloc, &SERVE));
+    let command = with_command(command, command_of(alloc, &BOARD));
+    let command = with_command(command, command_of(alloc, &SCHEDULE));
+    with_command(command, command_of(alloc, &AUDIT))
 }
 
 // What stands above the commands.
@@ -102,17 +172,34 @@ fn with_command<'a>(
     command?.subcommand(below?)
 }
 
-// A command with more options, each a number, where there was memory for them.
-fn with_numbers<'a>(
+// A command that stands below the program's.
+fn command_of<'a>(alloc: Global, mode: &Mode) -> Result<Command<'a>, AllocError> {
+    let command = Command::new(alloc, mode.name)
+        .about(mode.about)
+        .after_help(mode.after_help);
+    with_arguments(alloc, command, mode.arguments)
+}
+
+// A command that takes these besides, where there was memory for them.
+fn with_arguments<'a>(
     alloc: Global,
     command: Command<'a>,
-    numbers: &[Number],
+    arguments: &[Argument],
 ) -> Result<Command<'a>, AllocError> {
     let mut command = command;
-    for number in numbers {
-        command = command.arg(number_arg(alloc, number))?;
+    for argument in arguments {
+        command = command.arg(arg_of(alloc, argument))?;
     }
     Ok(command)
+}
+
+// What a command takes, as `clap` has it.
+fn arg_of<'a>(alloc: Global, argument: &Argument) -> Arg<'a> {
+    match argument {
+        Argument::Number(number) => number_arg(alloc, number),
+        Argument::Body => body(alloc),
+        Argument::Files(most) => files(alloc, *most),
+    }
 }
 
 // An option whose value is a number.
@@ -174,23 +261,25 @@ pub fn kind(matches: &ArgMatches<'_>) -> Kind {
 
 /// That files can't be sessions of `serve` together.
 pub fn serve_error(alloc: Global, clash: Clash<'_>) -> Result<Error, AllocError> {
-    error_of(alloc, serve(alloc), "livevec serve", clash)
+    error_of(alloc, &SERVE, "livevec serve", clash)
 }
 
 /// That files can't be sessions of `board` together.
 pub fn board_error(alloc: Global, clash: Clash<'_>) -> Result<Error, AllocError> {
-    error_of(alloc, board(alloc), "livevec board", clash)
+    error_of(alloc, &BOARD, "livevec board", clash)
 }
 
 // That files can't be sessions of a command together, told under the command's whole name.
-fn error_of(
-    alloc: Global,
-    command: Result<Command<'_>, AllocError>,
-    name: &str,
-    clash: Clash<'_>,
-) -> Result<Error, AllocError> {
-    let mut command = command?.bin_name(name)?;
-    clash_error(alloc, &mut command, clash)
+fn error_of(alloc: Global, mode: &Mode, name: &str, clash: Clash<'_>) -> Result<Error, AllocError> {
+    let mut command = named(alloc, mode, name)?;
+    let error = clash_error(alloc, &mut command, clash);
+    drop(command);
+    error
+}
+
+// A command with its whole name.
+fn named<'a>(alloc: Global, mode: &Mode, name: &str) -> Result<Command<'a>, AllocError> {
+    command_of(alloc, mode)?.bin_name(name)
 }
 
 // The same, of a command that is lent: the proof of a body that owns one is long.
@@ -210,48 +299,6 @@ fn limits_of(buckets: u32, edits: u32) -> Limits
     Limits::new(buckets, edits).unwrap_or(Limits::greatest())
 }
 
-// `livevec run`.
-fn run<'a>(alloc: Global) -> Result<Command<'a>, AllocError> {
-    let command = Command::new(alloc, "run")
-        .about(help::RUN)
-        .after_help(help::LINES);
-    with_numbers(alloc, command, &[BUCKETS, EDITS])
-}
-
-// `livevec serve`.
-fn serve<'a>(alloc: Global) -> Result<Command<'a>, AllocError> {
-    let command = Command::new(alloc, "serve")
-        .about(help::SERVE)
-        .after_help(help::SESSIONS);
-    let command = with_numbers(alloc, command, &[WORKERS, TURNS, BUCKETS, EDITS])?;
-    command.arg(files(alloc).num_args(1..=16))
-}
-
-// `livevec board`.
-fn board<'a>(alloc: Global) -> Result<Command<'a>, AllocError> {
-    let command = Command::new(alloc, "board")
-        .about(help::BOARD)
-        .after_help(help::TRIES)
-        .arg(body(alloc))?;
-    let command = with_numbers(alloc, command, &[FEW_BUCKETS, EDITS])?;
-    command.arg(files(alloc).num_args(1..=8))
-}
-
-// `livevec schedule`.
-fn schedule<'a>(alloc: Global) -> Result<Command<'a>, AllocError> {
-    let command = Command::new(alloc, "schedule")
-        .about(help::SCHEDULE)
-        .after_help(help::EVENTS);
-    with_numbers(alloc, command, &[ACTORS, FEW_BUCKETS, EDITS])
-}
-
-// `livevec audit`.
-fn audit<'a>(alloc: Global) -> Command<'a> {
-    Command::new(alloc, "audit")
-        .about(help::AUDIT)
-        .after_help(help::VERDICTS)
-}
-
 fn body<'a>(alloc: Global) -> Arg<'a> {
     let kinds = ValueParser::Names(&KINDS);
     option(
@@ -264,10 +311,11 @@ fn body<'a>(alloc: Global) -> Arg<'a> {
     )
 }
 
-fn files<'a>(alloc: Global) -> Arg<'a> {
+fn files<'a>(alloc: Global, most: usize) -> Arg<'a> {
     Arg::new(alloc, "files")
         .value_name("FILE")
         .help("A session's lines; its replies are written to FILE.out")
         .required(true)
         .action(ArgAction::Append)
+        .num_args(1..=most)
 }
