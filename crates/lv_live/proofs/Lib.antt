@@ -8,6 +8,7 @@ pub mod PlaceLaws
 pub mod PlayLaws
 pub mod QueryLaws
 mod RefreshLaws
+mod RememberLaws
 pub mod RunLaws
 pub mod VouchLaws
 mod TurnLaws

@@ -1,9 +1,10 @@
 -- What a live vector holds, and the record of it.
-use Rattle.std.specs.Prelude.{◌≡◌, ℕ, Option, Some, None, List, [], ◌∷◌, ◌++◌, map, nat_eq, slice_get, ◌-◌, if◌then◌else◌}
+use Rattle.std.specs.Prelude.{◌≡◌, ℕ, true, Option, Some, None, List, [], ◌∷◌, ◌++◌, map, nat_eq, slice_get, ◌-◌, if◌then◌else◌}
 use Rattle.lv_geometry.specs.declared.nodes.Node.{Node}
 use Rattle.lv_edits.specs.History.{History}
+use Rattle.lv_edits.specs.Touch.{is_whole, touched_by}
 use Rattle.lv_summary.specs.declared.accepted.Accepted.{Accepted}
-use Rattle.lv_summary.specs.Table.{Table}
+use Rattle.lv_summary.specs.Table.{Table, known_in}
 use Rattle.lv_refresh.specs.Carried.{Carried}
 use Rattle.lv_refresh.specs.Claimed.{ClaimTable, record_of}
 use Rattle.lv_refresh.specs.Record.{Record}
@@ -58,6 +59,11 @@ pub record HasDelivery {B S : Type 0} (old new : LiveState B S) (node : Node) (v
   pub history : new.history ≡ old.history
   pub claimed : (n : Node) → (recorded new).claimed n ≡ (recorded old).claimed n
   pub kept : (n : Node) → (recorded new).kept n ≡ (after_accepted (recorded old) node version accepted).kept n
+
+-- each summary that was known still is, while its node is whole and no edit has touched it since
+abbrev pub Remembers : {B S : Type 0} → LiveState B S → LiveState B S → Type 0
+Remembers old new =
+    (n : Node) → known_in old.table n ≡ true → is_whole new.history.journal n ≡ true → touched_by new.history.journal n ≡ touched_by old.history.journal n → known_in new.table n ≡ true
 
 -- node and version of a job
 abbrev pub node_and_version : {B S : Type 0} → Carried B S → Node × ℕ

@@ -16,7 +16,7 @@ ghost use Rattle.lv_reduce.specs.Asked.{AreTopsKnown, IsFewAsked};
 ghost use Rattle.lv_reduce.specs.Cost.{IsFew};
 ghost use Rattle.lv_reduce.specs.Stretch.{IsStretch};
 ghost use Rattle.lv_live.specs.Kept.{IsLive};
-ghost use Rattle.lv_live.specs.State.{HasClaim, HasDelivery, HasNoClaims, SameLive, SameRefresh, node_and_version, recorded};
+ghost use Rattle.lv_live.specs.State.{HasClaim, HasDelivery, HasNoClaims, Remembers, SameLive, SameRefresh, node_and_version, recorded};
 ghost use Rattle.lv_live.specs.Step.{Reduces, Scans};
 ghost use Rattle.lv_live.specs.Turns.{TakesTurn, TakesTurns};
 
@@ -74,6 +74,7 @@ impl<B: Body> Live<B> {
         ensures answer { Answers self.old.history edit result self.new.history }
         ensures limits { IsLegalInLimits self.new.history }
         ensures refresh { SameRefresh self.old self.new }
+        ensures remembers { Remembers self.old self.new }
     {
         match self.cells.verdict(&edit) {
             Some(refusal) => Err(refusal),
@@ -88,6 +89,7 @@ impl<B: Body> Live<B> {
         ensures answer { Answers self.old.history edit result self.new.history }
         ensures limits { IsLegalInLimits self.new.history }
         ensures refresh { SameRefresh self.old self.new }
+        ensures remembers { Remembers self.old self.new }
     {
         let touched = touched_indices(&edit, self.table.size());
         make_room(&mut self.table, &mut self.claims, touched)?;
@@ -111,7 +113,8 @@ impl<B: Body> Live<B> {
 
     /// Completes what is pending. Changes no answer.
     pub fn settle(&mut self)
-        ensures { SameLive self.old self.new }
+        ensures same { SameLive self.old self.new }
+        ensures remembers { Remembers self.old self.new }
     {
         self.cells.settle();
     }
@@ -170,6 +173,7 @@ impl<B: Body> Live<B> {
         ensures unchanged { OnErr result (self.new.table ≡ self.old.table) }
         ensures agrees { Agrees (B.operations (B.meaning self.new.body)) self.new.history.journal self.new.table }
         ensures learns { OnlyLearns self.old.table self.new.table }
+        ensures remembers { Remembers self.old self.new }
         ensures known { IfOk result (λ _. AreTopsKnown (known_in self.new.table) lo hi) }
         ensures quiet { AreTopsKnown (known_in self.old.table) lo hi → self.new.table ≡ self.old.table }
         ensures few { IfOk result (λ answer. IsFewAsked (known_in self.old.table) (known_in self.new.table) lo hi answer.cells_read answer.summaries_read) }
@@ -218,6 +222,7 @@ impl<B: Body> Live<B> {
         ensures claimed { HasClaim self.old self.new (option_map node_and_version result) }
         ensures body { IfSome result (λ job. job.body ≡ self.old.body) }
         ensures honest { IfSome result (λ job. IsHonest (B.operations (B.meaning self.old.body)) (recorded self.new) job.node job.version job.contents) }
+        ensures remembers { Remembers self.old self.new }
     {
         self.claims.claim(&self.cells, &self.table, self.body)
     }
@@ -228,6 +233,7 @@ impl<B: Body> Live<B> {
         ensures turns { TakesTurns (B.operations (B.meaning self.old.body)) self.old self.new result }
         ensures most { result ≤ jobs }
         ensures idle { result < jobs → IsNextJob (recorded self.new) None }
+        ensures remembers { Remembers self.old self.new }
     {
         for done in 0..jobs {
             if !self.take_turn() {
@@ -244,6 +250,7 @@ impl<B: Body> Live<B> {
         ensures turn { result ≡ true → TakesTurn self.old self.new }
         ensures idle { result ≡ false → IsNextJob (recorded self.old) None }
         ensures same { result ≡ false → HasClaim self.old self.new None }
+        ensures remembers { Remembers self.old self.new }
     {
         let Some(done) = self.claims.compute(&self.cells, &self.table, &self.body) else {
             return false;
@@ -255,7 +262,8 @@ impl<B: Body> Live<B> {
 
     /// Forgets all claims. Jobs that were handed out stay good. Takes no memory.
     pub fn forget_claims(&mut self)
-        ensures { HasNoClaims self.old self.new }
+        ensures forgotten { HasNoClaims self.old self.new }
+        ensures remembers { Remembers self.old self.new }
     {
         self.claims.forget_claims();
     }
@@ -283,6 +291,7 @@ impl<B: Body> Live<B> {
             (B.meaning self.old.body ≡ B.meaning outcome.body) outcome.node outcome.version outcome.contents }
         ensures accepted { result ≡ delivery_of (recorded self.old) outcome.node outcome.version }
         ensures delivered { HasDelivery self.old self.new outcome.node outcome.version result }
+        ensures remembers { Remembers self.old self.new }
     {
         let node = outcome.node();
         let accepted = self

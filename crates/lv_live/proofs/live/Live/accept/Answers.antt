@@ -1,6 +1,7 @@
 use Rattle.std.proofs.Common.{◌∙◌, sym, ap}
 use Rattle.lv_refresh.specs.Contents.{fold_of_contents}
 use Rattle.lv_live.proofs.DeliverLaws.{delivered, live_after_accept}
+use Rattle.lv_live.proofs.RememberLaws.{known_after_delivery}
 use Rattle.lv_live.proofs.live.Live.accept.Goals as goal
 
 pub invariant_of-self : goal.invariant_of-self
@@ -17,3 +18,7 @@ returns-in-Installed-clause-delivered g c =
     rw (← c.self.view_is) (rw (← c.node-node.ensures.value) (rw (← c.version.ensures)
     (delivered (g.B.Body.operations (g.B.Body.meaning c.self.inside.body)) (g.B.Body.is_within (g.B.Body.meaning c.self.inside.body)) (g.B.Body.laws c.self.inside.body) _ c.self.invariant c.install-accepted.new.self c.hint_parent.new.self
     c.node-node.result c.version.result c.summary.result c.install-accepted.result c.hint_parent.ensures.claimed c.install-accepted.ensures.after)))
+
+pub returns-in-Installed-clause-remembers : goal.returns-in-Installed-clause-remembers
+returns-in-Installed-clause-remembers g c =
+    rw (← c.self.view_is) (λ n known whole touched. known_after_delivery _ c.install-accepted.new.self _ _ _ _ c.in-Installed.ensures.answer c.in-Installed.ensures.after n known)

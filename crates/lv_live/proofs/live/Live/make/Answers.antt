@@ -6,6 +6,7 @@ use Rattle.lv_summary.specs.Table.{blocks_in}
 use Rattle.lv_live.specs.Follows.{indices_in}
 use Rattle.lv_live.proofs.EditLaws.{room_accepted, same_refresh_followed, written_inside}
 use Rattle.lv_live.proofs.LiveLaws.{live_after_edit, live_alike}
+use Rattle.lv_live.proofs.RememberLaws.{remembers_edit}
 use Rattle.lv_live.proofs.live.Live.make.Goals as goal
 
 pub make_room-requires : goal.make_room-requires
@@ -42,3 +43,7 @@ invariant_of-self-2 g c =
 pub returns-clause-refresh : goal.returns-clause-refresh
 returns-clause-refresh g c =
     rw (← c.self.view_is) (same_refresh_followed _ _ _ _ _ _ _ _ _ c.make_room.ensures.table c.make_room.ensures.claims c.follow.ensures.table c.follow.ensures.claims)
+
+pub returns-clause-remembers : goal.returns-clause-remembers
+returns-clause-remembers g c =
+    rw (← c.self.view_is) (remembers_edit (g.B.Body.operations (g.B.Body.meaning c.self.inside.body)) _ _ _ _ _ _ _ _ c.self.invariant (invariant_of-self-2 g c) c.make_room.ensures.table c.follow.ensures.table)

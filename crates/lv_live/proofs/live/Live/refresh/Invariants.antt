@@ -1,6 +1,7 @@
+use Rattle.lv_live.specs.State.{Remembers}
 use Rattle.lv_live.specs.Turns.{TakesTurns}
 use Rattle.lv_live.proofs.live.Live.refresh.Given as goal
 
--- so many turns were taken
+-- so many turns were taken, and all that was known still is
 abbrev pub invariant-loop-done : goal.invariant-loop-done
-invariant-loop-done g l = TakesTurns (g.B.Body.operations (g.B.Body.meaning l.initial.self.body)) l.initial.self l.self l.done
+invariant-loop-done g l = TakesTurns (g.B.Body.operations (g.B.Body.meaning l.initial.self.body)) l.initial.self l.self l.done × Remembers l.initial.self l.self

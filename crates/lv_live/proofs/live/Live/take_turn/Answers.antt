@@ -1,4 +1,5 @@
 use Rattle.lv_live.proofs.TurnLaws.{live_taken, not_taken, turn_taken}
+use Rattle.lv_live.proofs.RememberLaws.{known_after_delivery}
 use Rattle.lv_live.proofs.live.Live.take_turn.Goals as goal
 
 pub returns-in_default-clause-idle : goal.returns-in_default-clause-idle
@@ -22,3 +23,7 @@ returns-clause-turn g c = λ took.
     record { next = c.in-Some.ensures.next; claimed = c.in-Some.ensures.claimed; hints = c.in-Some.ensures.hints; blocks = c.in-Some.ensures.blocks }
     c.install.new.self c.hint_parent.new.self c.in-Some.done.summary c.install.result c.install.ensures.answer c.install.ensures.after
     record { claimed = c.hint_parent.ensures.claimed; hints = c.hint_parent.ensures.hints; blocks = c.hint_parent.ensures.blocks })
+
+pub returns-clause-remembers : goal.returns-clause-remembers
+returns-clause-remembers g c =
+    rw (← c.self.view_is) (λ n known whole touched. known_after_delivery _ c.install.new.self _ _ _ _ c.install.ensures.answer c.install.ensures.after n known)
