@@ -2,6 +2,7 @@
 mod common;
 mod desks;
 mod held_jobs;
+mod held_scans;
 mod late_workers;
 mod sleepers;
 mod strangers;

@@ -17,19 +17,19 @@ use std::sync::ledger::Blank;
 use std::thread;
 use std::thread::Threads;
 
-// A gate, and a place within a body's `lift`, where the first call after the gate stands. How often an element was lifted, and how
-// often before the gate.
+// A gate, and a place within a body's `lift`, where a call stands: the first after the gate, or the next. How often an element was
+// lifted, and how often before the gate.
 #[derive(Drop)]
-struct Stage {
+pub(crate) struct Stage {
     gate: Latch,
-    lift: Latch,
+    pub(crate) lift: Latch,
     holds_next: AtomicBool,
     lifts: AtomicU32,
     early: AtomicU32,
 }
 
 impl Stage {
-    fn new() -> Stage {
+    pub(crate) fn new() -> Stage {
         Stage {
             gate: Latch::new(),
             lift: Latch::new(),
@@ -39,7 +39,12 @@ impl Stage {
         }
     }
 
-    fn was_in_time(&self) -> bool {
+    // Has the next call of `lift` stand.
+    pub(crate) fn hold_next_lift(&self) {
+        self.holds_next.store(true, Ordering::SeqCst);
+    }
+
+    pub(crate) fn was_in_time(&self) -> bool {
         self.gate.was_in_time() && self.lift.was_in_time()
     }
 }
@@ -49,14 +54,14 @@ impl Gate for Stage {
         let lifts = self.lifts.load(Ordering::SeqCst);
         self.early.store(lifts, Ordering::SeqCst);
         self.gate.stand();
-        self.holds_next.store(true, Ordering::SeqCst);
+        self.hold_next_lift();
     }
 }
 
 // The sum, by a body whose `lift` may stand. That is no part of its meaning.
 #[derive(Clone, Copy)]
-struct Held<'a> {
-    stage: &'a Stage,
+pub(crate) struct Held<'a> {
+    pub(crate) stage: &'a Stage,
 }
 
 impl<'a> Body for Held<'a> {

@@ -1,0 +1,11 @@
+use Rattle.std.proofs.Common.{Some}
+use Rattle.livevec_tests.proofs.hub.held_scans.assert_held_scan.Given as goal
+
+abbrev pub ghosts-hold_a_scan-N-Ledger : goal.ghosts-hold_a_scan-N-Ledger
+ghosts-hold_a_scan-N-Ledger g a = record { name = a.blank.name; parts = a.blank.parts }
+
+abbrev pub ghosts-hold_a_scan-N-Naming : goal.ghosts-hold_a_scan-N-Naming
+ghosts-hold_a_scan-N-Naming g a = record { limits = a.limits; history = a.opened }
+
+abbrev pub ghosts-hold_a_scan-N-Means : goal.ghosts-hold_a_scan-N-Means
+ghosts-hold_a_scan-N-Means g a = record { body = Some a.body }

@@ -1,0 +1,133 @@
+//! Tests that a scan which stands within a body's `lift` holds nobody up: its elements were copied, and the lock is free again.
+ghost use Rattle.std.specs.Prelude.{◌≡◌, Some};
+
+use super::common::*;
+use super::held_jobs::{Held, Stage};
+use crate::same::assert_same;
+use lv_bodies::Body;
+use lv_edits::{Edit, Receipt};
+use lv_geometry::{Limits, Refusal};
+use lv_hub::*;
+use lv_reduce::Scan;
+use std::alloc::Global;
+use std::marker::Brand;
+use std::process::Abort;
+use std::sync::Wait;
+use std::sync::ledger::Blank;
+use std::test::Fail;
+use std::thread;
+use std::thread::Threads;
+
+// One of the two scans of a hub's first two elements. The first `lift` of it stands.
+fn scan_two<B: Body<S = u64>, N: Means<B>, R: Threads + Wait + Sync>(
+    rt: &R,
+    alloc: Global,
+    hub: &Hub<B, N>,
+    share: &mut Share<N>,
+    stage: &Stage,
+    inclusive: bool,
+) -> Result<Scan<u64>, Refusal> {
+    stage.hold_next_lift();
+    if inclusive {
+        return hub.scan_inclusive(rt, alloc, share, 0, 2);
+    }
+    hub.scan_exclusive(rt, alloc, share, 0, 2)
+}
+
+// Pushes while a scan stands, and lets it go on.
+fn push_beside<B: Body<S = u64>, N: Means<B>, R: Wait>(
+    rt: &R,
+    hub: &Hub<B, N>,
+    share: &mut Share<N>,
+    stage: &Stage,
+) -> Result<Receipt, Refusal> {
+    stage.lift.wait_for_it();
+    let pushed = hub.edit(rt, share, Edit::Push(1));
+    stage.lift.release();
+    pushed
+}
+
+// What a held scan answers, and what the push beside it does.
+type ScanAndPush = (Result<Scan<u64>, Refusal>, Result<Receipt, Refusal>);
+
+// Makes a new hub one of two elements 1. One thread scans them and is held, and another pushes.
+fn hold_once<B: Body<S = u64>, N: Means<B> + Send + Sync, R: Threads + Wait + Abort + Sync>(
+    rt: &R,
+    alloc: Global,
+    hub: &Hub<B, N>,
+    share: Share<N>,
+    stage: &Stage,
+    inclusive: bool,
+) -> ScanAndPush
+    requires { share.parts ≡ 2 }
+{
+    let mut mine = share;
+    let mut theirs = mine.split();
+    push_all(rt, hub, &mut mine, 2, 1);
+    thread::join(
+        rt,
+        move || scan_two(rt, alloc, hub, &mut theirs, stage, inclusive),
+        move || push_beside(rt, hub, &mut mine, stage),
+    )
+}
+
+// The same of a hub of its own.
+fn hold_a_scan<B: Body<S = u64>, N: Means<B> + Send + Sync, R: Threads + Wait + Abort + Sync>(
+    rt: &R,
+    alloc: Global,
+    limits: Limits,
+    blank: Blank,
+    opened: Opened,
+    body: B,
+    stage: &Stage,
+    inclusive: bool,
+) -> ScanAndPush
+    requires name { blank.name ≡ N.name }
+    requires all { blank.parts ≡ N.parts }
+    requires two { blank.parts ≡ 2 }
+    requires limits { limits ≡ N.limits }
+    requires history { opened ≡ N.history }
+    requires body { N.body ≡ Some body }
+{
+    let (hub, share) = Hub::<B, N>::new(alloc, limits, body, blank, 2, opened);
+    let done = hold_once(rt, alloc, &hub, share, stage, inclusive);
+    drop(hub);
+    done
+}
+
+// Sees that a push beside a held scan waits for nothing, and that the scan answers at the edit before it.
+fn assert_held_scan<R: Threads + Wait + Abort + Sync>(
+    rt: &R,
+    alloc: Global,
+    inclusive: bool,
+    values: &[u64],
+) -> Result<(), Fail> {
+    let stage = Stage::new();
+    let (scan, pushed) = hold_a_scan::<Held<'_>, Brand, _>(
+        rt,
+        alloc,
+        Limits::greatest(),
+        Blank::new(2),
+        Opened::new(),
+        Held { stage: &stage },
+        &stage,
+        inclusive,
+    );
+    assert_same(rt, &stage.was_in_time(), &true);
+    let receipt = Receipt::Pushed { edit: 3, index: 2 };
+    assert_same(rt, &pushed, &Ok(receipt));
+    let scan = scan?;
+    assert_same(rt, &scan.edit, &2);
+    assert_same(rt, &scan.values.as_slice(), &values);
+    Ok(())
+}
+
+#[test]
+fn a_held_inclusive_scan_holds_nobody(rt: HostRuntime) -> Result<(), Fail> {
+    assert_held_scan(&rt, rt.alloc(), true, &[1, 2])
+}
+
+#[test]
+fn a_held_exclusive_scan_holds_nobody(rt: HostRuntime) -> Result<(), Fail> {
+    assert_held_scan(&rt, rt.alloc(), false, &[0, 1])
+}
