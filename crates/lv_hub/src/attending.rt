@@ -10,7 +10,8 @@ use std::sync::Wait;
 /// Refreshes a hub for a number of turns, as `work` does, and sleeps where no node wants a job, until an edit wakes it. Ends sooner
 /// once the workers are dismissed by `Hub::dismiss`: so whoever calls it sees to that.
 ///
-/// A claim that found no job is a turn too. A worker whose turns are used up doesn't sleep any more, and wakes another in its place.
+/// For a claim it goes last: while other threads have the lock it naps, at most eight times a tenth of a millisecond. A claim that
+/// found no job is a turn too. A worker whose turns are used up doesn't sleep any more, and wakes another in its place.
 pub fn attend<B: Body, N: Means<B>, G: Gate, R: Wait>(
     rt: &R,
     hub: &Hub<B, N>,

@@ -19,8 +19,14 @@ use lv_summary::Accepted;
 use std::alloc::Global;
 use std::marker::Model;
 use std::sync::ledger::Blank;
-use std::sync::{Condvar, Mutex, Wait};
-use std::thread::Threads;
+use std::sync::{Condvar, Mutex, MutexGuard, Wait};
+use std::thread::{Parker, Threads};
+use std::time::Duration;
+
+// How often a worker naps while others have the lock, and how long.
+const NAPS: u32 = 8;
+
+const NAP_MICROSECONDS: u64 = 100;
 
 /// A live vector that threads share. Each of its calls but `new` and `close` waits for the lock, and holds it for one call of
 /// its desk. Its edits are one list, which only grows; contracts see the hub as its body.
@@ -224,10 +230,23 @@ impl<B: Body, N: Means<B>> Hub<B, N> {
         self.room.lock(rt).desk.claim()
     }
 
+    // The lock, for a worker. While others have it the worker naps and tries again, a few times, so that threads that edit and ask
+    // go first. After that it waits as they do.
+    fn lock_last<R: Wait>(&self, rt: &R) -> MutexGuard<'_, Room<B, N>> {
+        let pillow = Parker::new();
+        for _ in 0..NAPS {
+            if let Some(room) = self.room.try_lock() {
+                return room;
+            }
+            pillow.park_timeout(rt, Duration::from_micros(NAP_MICROSECONDS));
+        }
+        self.room.lock(rt)
+    }
+
     // A job for the least node that wants one, unless the workers were dismissed. Where it gives none it sleeps before, if that is
     // wanted, until an edit or a dismissal wakes it. It looks and counts itself under one lock, so no edit comes between.
     pub(crate) fn claim_or_sleep<R: Wait>(&self, rt: &R, sleeps: bool) -> Option<Job<B>> {
-        let mut room = self.room.lock(rt);
+        let mut room = self.lock_last(rt);
         if room.is_dismissed() {
             return None;
         }
