@@ -2,7 +2,7 @@
 use Rattle.std.proofs.Common.{◌≡◌, ℕ, ℤ, ◌+◌, ◌^◌, ◌≤◌, ◌+ℤ◌, FitsSigned, arith, ap, ◌∙◌}
 use Rattle.std.specs.Int.{int_max, cast_signed, cast_unsigned, w128}
 use Rattle.std.proofs.lemmas.Int.{ints, to_z-of_z}
-use Rattle.lv_bodies.specs.Body.{CanJoin}
+use Rattle.lv_bodies.specs.Long.{CanJoinLong}
 use Rattle.lv_bodies.specs.RunTotals.{join_totals, IsTotalOf, AreTotalsOf}
 use Rattle.lv_bodies.specs.TotalsLaws.{same_runs, greater, more_elements, joined_elements}
 use Rattle.lv_bodies.specs.declared.best.RunTotals.{RunTotals}
@@ -12,11 +12,11 @@ abbrev pub read_back : ℤ → ℤ
 read_back x = cast_signed w128 (cast_unsigned w128 x)
 
 -- a total of few enough elements fits
-total_fits : (n : ℕ) (x : ℤ) → n ≤ 2 ^ 20 → IsTotalOf n x → FitsSigned w128 x
+total_fits : (n : ℕ) (x : ℤ) → n ≤ 2 ^ 62 → IsTotalOf n x → FitsSigned w128 x
 total_fits n x few h = omega (arith, ints)
 
 -- totals of elements that are few enough together can be added
-sum_fits : (n m : ℕ) (x y : ℤ) → n + m ≤ 2 ^ 20 → IsTotalOf n x → IsTotalOf m y → FitsSigned w128 (read_back x +ℤ read_back y)
+sum_fits : (n m : ℕ) (x y : ℤ) → n + m ≤ 2 ^ 62 → IsTotalOf n x → IsTotalOf m y → FitsSigned w128 (read_back x +ℤ read_back y)
 sum_fits n m x y few p q =
     let left = total_fits n x (omega arith) p in
     let right = total_fits m y (omega arith) q in
@@ -30,7 +30,7 @@ pub record SumsFit (r s : RunTotals) : Type 0 where
   pub best : FitsSigned w128 (read_back r.suffix +ℤ read_back s.prefix)
 
 -- they fit where the runs may be joined
-pub SumsFit-can_join : (r s : RunTotals) → CanJoin AreTotalsOf r s → SumsFit r s
+pub SumsFit-can_join : (r s : RunTotals) → CanJoinLong AreTotalsOf r s → SumsFit r s
 SumsFit-can_join r s h =
     let n = h.left in
     let m = h.right in
@@ -45,7 +45,7 @@ SumsFit-can_join r s h =
     }
 
 -- of numbers that fit, with their sum, the code reads the sum itself
-read_sum : (n m : ℕ) (x y : ℤ) → n + m ≤ 2 ^ 20 → IsTotalOf n x → IsTotalOf m y → read_back (read_back x +ℤ read_back y) ≡ x +ℤ y
+read_sum : (n m : ℕ) (x y : ℤ) → n + m ≤ 2 ^ 62 → IsTotalOf n x → IsTotalOf m y → read_back (read_back x +ℤ read_back y) ≡ x +ℤ y
 read_sum n m x y few p q =
     let left = total_fits n x (omega arith) p in
     let right = total_fits m y (omega arith) q in
@@ -53,7 +53,7 @@ read_sum n m x y few p q =
     simp to_z-of_z
 
 -- a total of few enough elements is read as it is
-read_total : (n : ℕ) (x : ℤ) → n ≤ 2 ^ 20 → IsTotalOf n x → read_back x ≡ x
+read_total : (n : ℕ) (x : ℤ) → n ≤ 2 ^ 62 → IsTotalOf n x → read_back x ≡ x
 read_total n x few p = to_z-of_z w128 x (total_fits n x few p)
 
 -- the greater of two numbers that are read is that of the numbers
@@ -61,7 +61,7 @@ greater_read : (x y a b : ℤ) → a ≡ x → b ≡ y → int_max a b ≡ int_m
 greater_read x y a b e f = ap (λ z. int_max z b) e ∙ ap (int_max x) f
 
 -- what the code computes is the runs joined
-pub joined_by_code : (r s : RunTotals) → CanJoin AreTotalsOf r s → (prefix suffix inner best : ℤ)
+pub joined_by_code : (r s : RunTotals) → CanJoinLong AreTotalsOf r s → (prefix suffix inner best : ℤ)
     → prefix ≡ int_max (read_back r.prefix) (read_back (read_back r.total +ℤ read_back s.prefix))
     → suffix ≡ int_max (read_back s.suffix) (read_back (read_back s.total +ℤ read_back r.suffix))
     → inner ≡ int_max (read_back r.best) (read_back s.best)

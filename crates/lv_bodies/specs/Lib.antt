@@ -8,6 +8,8 @@ pub mod Extremes
 pub mod FoldLaws
 pub mod AffineLaws
 pub mod AffineMaps
+pub mod Long
+pub mod LongLaws
 pub mod Optional
 pub mod OptionalLaws
 pub mod PairLaws

@@ -76,7 +76,7 @@ best_assoc a b c x y z u v =
     ∙ ap (int_max (int_max a (int_max (int_max b c) (z +ℤ v)))) (sym (add-max x y (u +ℤ v)))
 
 -- of three parts the first two or the last two may be joined first
-runs_associative : (r s t : RunTotals) → join_totals (join_totals r s) t ≡ join_totals r (join_totals s t)
+pub runs_associative : (r s t : RunTotals) → join_totals (join_totals r s) t ≡ join_totals r (join_totals s t)
 runs_associative r s t =
     same_runs _ _ (+ℤ_assoc r.total s.total t.total) (prefix_assoc r.prefix r.total s.prefix s.total t.prefix)
     (suffix_assoc t.suffix t.total s.suffix s.total r.suffix)

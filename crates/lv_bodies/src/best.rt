@@ -19,7 +19,7 @@ pub struct RunTotals {
 }
 
 impl RunTotals {
-    ghost use Rattle.lv_bodies.specs.Body.{CanJoin};
+    ghost use Rattle.lv_bodies.specs.Long.{CanJoinLong};
     ghost use Rattle.lv_bodies.specs.RunTotals.{totals_of, join_totals, AreTotalsOf};
 
     /// The run of one element.
@@ -38,8 +38,8 @@ impl RunTotals {
 
     /// The run of neighbours and of those after them.
     #[inline(always)]
-    fn join(self, next: RunTotals) -> RunTotals
-        requires { CanJoin AreTotalsOf self next }
+    pub(crate) fn join(self, next: RunTotals) -> RunTotals
+        requires { CanJoinLong AreTotalsOf self next }
         ensures { result ≡ join_totals self next }
     {
         RunTotals {

@@ -14,6 +14,7 @@ mod greatest;
 mod kinds;
 mod laws;
 mod least;
+mod long;
 mod pairs;
 mod parts;
 mod singles;
@@ -31,6 +32,7 @@ pub use laws::{
     best_is_the_best_run, eight_come_back_from_parts, extremes_are_reached_bounds, pair_folds_apart,
 };
 pub use least::Least;
+pub use long::{LongBody, long_laws};
 pub use pairs::Pair;
 pub use parts::Parted;
 pub use singles::Single;

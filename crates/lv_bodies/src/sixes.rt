@@ -23,7 +23,7 @@ pub type SixPairs = Pair<Sum, Pair<Least, Pair<Greatest, Pair<Best, Pair<Affine,
 /// The summaries of all six, side by side. It has a type of its own, so that what is generic over its body stays small.
 #[derive(Debug, PartialEq, Eq)]
 pub struct SixSummary {
-    each: <SixPairs as Body>::S,
+    pub(crate) each: <SixPairs as Body>::S,
 }
 
 impl Model for SixSummary {
@@ -174,7 +174,7 @@ impl Body for SixByTable {
 
 /// The six by table, with the program's automaton.
 #[inline(always)]
-fn by_program() -> SixByTable
+pub(crate) fn by_program() -> SixByTable
     ensures { table_of result.automaton ≡ program_table }
 {
     SixByTable {

@@ -1,0 +1,150 @@
+ghost use Rattle.std.specs.Prelude.{◌≡◌};
+ghost use Rattle.lv_bodies.specs.Long.{CanJoinLong, LongLaws};
+
+use crate::affine::{Affine, AffineMap};
+use crate::automata::Automaton;
+use crate::best::{Best, RunTotals};
+use crate::bodies::Body;
+use crate::greatest::Greatest;
+use crate::least::Least;
+use crate::pairs::Pair;
+use crate::sixes::{Six, SixByTable, SixSummary, by_program};
+use crate::sums::Sum;
+
+/// A body whose summaries may be those of up to 2^62 elements, where `combine` goes up to 2^20.
+pub trait LongBody: Body {
+    /// The summary of the elements of `a`, then those of `b`: at most 2^62 together.
+    fn combine_long(&self, a: Self::S, b: Self::S) -> Self::S
+        requires { CanJoinLong (Self.is_within (Self.meaning self.now)) a b }
+        ensures { result ≡ (Self.operations (Self.meaning self.now)).join a b };
+
+    ghost long: { (b : Self) → LongLaws (Self.operations (Self.meaning b)) (Self.is_within (Self.meaning b)) };
+}
+
+/// The laws of a body, up to 2^62 elements. Computes nothing.
+#[inline(always)]
+pub fn long_laws<B: LongBody>(body: &B)
+    ensures { LongLaws (B.operations (B.meaning body.now)) (B.is_within (B.meaning body.now)) }
+{}
+
+impl LongBody for Sum {
+    ghost use Rattle.lv_bodies.specs.LongLaws.{sum_long};
+
+    #[inline(always)]
+    fn combine_long(&self, a: u64, b: u64) -> u64 {
+        self.combine(a, b)
+    }
+
+    ghost long = { λ _. sum_long };
+}
+
+impl LongBody for Least {
+    ghost use Rattle.lv_bodies.specs.LongLaws.{least_long};
+
+    #[inline(always)]
+    fn combine_long(&self, a: Option<i64>, b: Option<i64>) -> Option<i64> {
+        self.combine(a, b)
+    }
+
+    ghost long = { λ _. least_long };
+}
+
+impl LongBody for Greatest {
+    ghost use Rattle.lv_bodies.specs.LongLaws.{greatest_long};
+
+    #[inline(always)]
+    fn combine_long(&self, a: Option<i64>, b: Option<i64>) -> Option<i64> {
+        self.combine(a, b)
+    }
+
+    ghost long = { λ _. greatest_long };
+}
+
+impl LongBody for Best {
+    ghost use Rattle.lv_bodies.specs.LongLaws.{best_long};
+
+    #[inline(always)]
+    fn combine_long(&self, a: Option<RunTotals>, b: Option<RunTotals>) -> Option<RunTotals> {
+        match (a, b) {
+            (Some(run), Some(next)) => Some(run.join(next)),
+            (None, t) => t,
+            (s, None) => s,
+        }
+    }
+
+    ghost long = { λ _. best_long };
+}
+
+impl LongBody for Affine {
+    ghost use Rattle.lv_bodies.specs.LongLaws.{affine_long};
+
+    #[inline(always)]
+    fn combine_long(&self, a: AffineMap, b: AffineMap) -> AffineMap {
+        self.combine(a, b)
+    }
+
+    ghost long = { λ _. affine_long };
+}
+
+impl LongBody for Automaton {
+    ghost use Rattle.lv_bodies.specs.LongLaws.{automaton_long};
+
+    #[inline(always)]
+    fn combine_long(&self, a: [u8; 8], b: [u8; 8]) -> [u8; 8] {
+        self.combine(a, b)
+    }
+
+    ghost long = { λ a. automaton_long a.table a.valid };
+}
+
+impl<A: LongBody, B: LongBody> LongBody for Pair<A, B> {
+    ghost use Rattle.lv_bodies.specs.LongLaws.{pair_long};
+
+    #[inline(always)]
+    fn combine_long(&self, a: (A::S, B::S), b: (A::S, B::S)) -> (A::S, B::S) {
+        (
+            self.first.combine_long(a.0, b.0),
+            self.second.combine_long(a.1, b.1),
+        )
+    }
+
+    ghost long = { λ p. pair_long _ _ _ _ (A.long p.first) (B.long p.second) };
+}
+
+impl LongBody for SixByTable {
+    ghost use Rattle.lv_bodies.specs.LongLaws.{six_long_by};
+
+    #[inline(always)]
+    fn combine_long(&self, a: SixSummary, b: SixSummary) -> SixSummary {
+        let (sum, (least, (greatest, (best, (affine, states))))) = a.each;
+        let (next_sum, (next_least, (next_greatest, (next_best, (next_affine, next_states))))) =
+            b.each;
+        let last = (
+            Affine.combine_long(affine, next_affine),
+            self.automaton.combine_long(states, next_states),
+        );
+        let later = (
+            Greatest.combine_long(greatest, next_greatest),
+            (Best.combine_long(best, next_best), last),
+        );
+        SixSummary {
+            each: (
+                Sum.combine_long(sum, next_sum),
+                (Least.combine_long(least, next_least), later),
+            ),
+        }
+    }
+
+    ghost long = { λ b. six_long_by b.automaton.table b.automaton.valid };
+}
+
+impl LongBody for Six {
+    ghost use Rattle.lv_bodies.specs.LongLaws.{six_long};
+
+    #[inline(always)]
+    fn combine_long(&self, a: SixSummary, b: SixSummary) -> SixSummary {
+        by_program().combine_long(a, b)
+    }
+
+    ghost long = { λ _. six_long };
+}
