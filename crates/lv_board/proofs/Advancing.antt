@@ -1,7 +1,7 @@
 -- What a move of one actor leaves as it was for the others.
 use Rattle.std.proofs.Common.{◌≡◌, ◌≢◌, ℕ, zero, suc, ◌/◌, ◌≤◌, max, Bool, true, false, nat_eq, List, [], ◌∷◌, slice_index, slice_set, refl, sym, ap, ◌∙◌, subst, arith}
 use Rattle.std.specs.Prelude.{All, if◌then◌else◌}
-use Rattle.std.proofs.lemmas.Bool.{cond-false, cond-true, eq-eqb}
+use Rattle.std.proofs.lemmas.Bool.{cond-false, cond-true, eq-eqb, false≢true}
 use Rattle.std.proofs.lemmas.Bool.Decides.{nat_tests}
 use Rattle.std.proofs.lemmas.List.{get_or-set_other}
 use Rattle.std.proofs.lemmas.List.Elements.{All-weaker}
@@ -9,7 +9,9 @@ use Rattle.lv_edits.specs.declared.edit.Edit.{Edit}
 use Rattle.lv_machine.specs.declared.entries.Entry.{Entry}
 use Rattle.lv_machine.specs.History.{descriptor_of, Ends, own}
 use Rattle.lv_machine.specs.Layout.{cell_place, mark_place, place}
-use Rattle.lv_machine.specs.Moves.{accepted, Config, look_set, looked, Move, moved, Look, Exchange, HelpCell, HelpMark, Install, Read, raised}
+use Rattle.lv_machine.specs.declared.moves.Move.{Move}
+use Rattle.lv_machine.specs.declared.moves.Move.TheVariants.{Look, Exchange, HelpCell, HelpMark, Install, Read}
+use Rattle.lv_machine.specs.Moves.{accepted, Config, look_set, looked, made_by, moved, mover, raised}
 use Rattle.lv_machine.specs.Terms.{Folding}
 use Rattle.lv_machine.specs.Words.{descriptor_after, index_of}
 use Rattle.lv_machine.proofs.EndsLaws.{Ends-cons, Ends-trans, Ends-whole}
@@ -19,7 +21,7 @@ use Rattle.lv_board.specs.declared.actors.Actor.{Actor}
 use Rattle.lv_board.specs.declared.actors.Basis.{Basis}
 use Rattle.lv_board.specs.declared.actors.Installed.{Installed}
 use Rattle.lv_board.specs.declared.actors.View.{View}
-use Rattle.lv_board.specs.Rule.{ActorFits, IsThere, ViewFits}
+use Rattle.lv_board.specs.Rule.{ActorFits, HasMade, IsSeat, IsThere, ViewFits}
 
 -- a state goes on to another by a move of actor a: the history grows, by edits of a alone; other looks stay, and no word but the descriptor falls
 pub record Advances (a : ℕ) (c d : Config) : Type 0 where
@@ -78,19 +80,34 @@ exchanged_advances : (a : ℕ) (c : Config) (e : Edit) (found : Bool) → Advanc
 exchanged_advances a c e true = accepted_advances a c e
 exchanged_advances a c e false = looked_advances a c
 
--- a move of an actor
-abbrev pub IsOf : ℕ → Move → Type 0
-IsOf a (Look b) = b ≡ a
-IsOf a (Exchange b e) = b ≡ a
-IsOf a (HelpCell b) = b ≡ a
-IsOf a (HelpMark b) = b ≡ a
-IsOf a (Install b block part word) = b ≡ a
-IsOf a (Read b) = b ≡ a
+-- the moves of a list that one actor made, with one move more
+made_by-same : (a : ℕ) (m : Move) (ms : List Move) → mover m ≡ a → made_by a (m ∷ ms) ≡ m ∷ made_by a ms
+unfolding made_by
+made_by-same a m ms of = cond-true _ _ _ (eq-eqb _ _ of)
+
+made_by-other : (a b : ℕ) (m : Move) (ms : List Move) → mover m ≡ a → b ≢ a → made_by b (m ∷ ms) ≡ made_by b ms
+unfolding made_by
+made_by-other a b m ms of apart =
+    let other : mover m ≢ b = λ same. apart (sym same ∙ of) in
+    let q : nat_eq (mover m) b ≡ false = grind (arith, nat_tests) in
+    cond-false _ _ _ q
+
+pub made_by-nil : (a : ℕ) → made_by a [] ≡ []
+unfolding made_by
+made_by-nil a = refl
+
+-- a seat that makes a move has made one more
+pub one_made : {B : Type 0} (seats : ℕ) (m : Move) (ms : List Move) (v : View B) (y : Actor) → IsSeat v → y.number ≡ v.actor.number → mover m ≡ v.actor.number → HasMade seats ms v → HasMade seats (m ∷ ms) (record v { actor = y; moves = m ∷ v.moves })
+one_made seats m ms v y seat number of made = record {
+  sits = λ s. ap (λ n. made_by n (m ∷ ms)) number ∙ made_by-same v.actor.number m ms of ∙ ap (λ l. m ∷ l) (made.sits s);
+  deals = λ wrong. absurd (false≢true (sym seat.deals ∙ wrong));
+}
 
 stays : (a : ℕ) (c : Config) → Advances a c c
 stays a c = record { history = Ends-whole c.history; own_is = λ b apart. refl; looks = λ b apart. refl; words = λ q some. omega arith }
 
-pub moved_advances : (a : ℕ) (c : Config) (m : Move) → IsOf a m → Advances a c (moved c m)
+-- what a move leaves as it was for the others, whose it is not
+pub moved_advances : (a : ℕ) (c : Config) (m : Move) → mover m ≡ a → Advances a c (moved c m)
 moved_advances a c (Look b) is = subst (λ n. Advances n c (looked c b)) is (looked_advances b c)
 moved_advances a c (Exchange b e) is = subst (λ n. Advances n c (moved c (Exchange b e))) is (exchanged_advances b c e (nat_eq (slice_index c.words 0) (c.looks b)))
 moved_advances a c (HelpCell b) is = raised_advances a c _ _
@@ -140,4 +157,13 @@ module _ {B : Type 0} (f : B → Folding) where
             let u = fits.deals s n from below in
             record { owner_is = u.owner_is; look = on.looks n (other n u.owner_is) ∙ u.look; own_is = on.own_is n (other n u.owner_is) ∙ u.own_is };
         more = All-weaker (ActorFits z.seats c owner id) (ActorFits z.seats d owner id) (λ x y. actor_stays z.seats a c d owner id x on (other x.number y.owner_is) y) v.more fits.more;
+      }
+
+  -- and another seat's moves are those that it made
+  pub others_made : (z : Basis B) (a : ℕ) (m : Move) (ms : List Move) (c : Config) (owner : ℕ → ℕ) (id : ℕ) (v : View B) → mover m ≡ a → owner a ≢ id → ViewFits f z c owner id v → HasMade z.seats ms v → HasMade z.seats (m ∷ ms) v
+  others_made z a m ms c owner id v of apart fits made =
+      let other : (n : ℕ) → owner n ≡ id → n ≢ a = λ n is same. apart (ap owner (sym same) ∙ is) in
+      record {
+        sits = λ s. made_by-other a v.actor.number m ms of (other v.actor.number (fits.sits s).owner_is) ∙ made.sits s;
+        deals = λ s n from below. made_by-other a n m ms of (other n (fits.deals s n from below).owner_is) ∙ made.deals s n from below;
       }

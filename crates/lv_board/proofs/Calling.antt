@@ -26,7 +26,7 @@ use Rattle.std.proofs.lemmas.Bool.{cond-true, eq-eqb}
 use Rattle.lv_board.proofs.Advancing.{own-same}
 use Rattle.lv_board.specs.declared.actors.Actor.{Actor}
 use Rattle.lv_board.specs.declared.actors.Basis.{Basis}
-use Rattle.lv_board.specs.Calls.{HasAdded, HasLooked, LookedAnswers, TakeAnswers, TryAnswers}
+use Rattle.lv_board.specs.Calls.{HasAdded, HasLooked, LoadsCell, LookedAnswers, TakeAnswers, TryAnswers}
 use Rattle.lv_board.specs.Plays.{IsAccepted, IsContended, IsQuiet, IsRead, SeesAll}
 use Rattle.lv_board.specs.Rule.{terms_of}
 use Rattle.lv_machine.specs.Ready.{CanPack, IsIndexShort}
@@ -55,6 +55,7 @@ pub has_looked : {B : Type 0} (f : B → Folding) (y z : Basis B) (a b : Actor) 
 has_looked f y z a b found same quiet sees = subst (λ w. HasLooked (terms_of f w) a b) same record {
   quiet = quiet;
   fresh = subst (Ends a.known) (sym sees.all) quiet.known;
+  kept = subst (Ends b.seen) sees.all (Ends-whole b.seen);
   legal = sees.legal;
 }
 
@@ -63,7 +64,17 @@ pub looked_then : (t : Terms) (x y z : Actor) → HasLooked t x y → IsQuiet y 
 looked_then t x y z looked quiet same = record {
   quiet = quiet_then x y z looked.quiet quiet;
   fresh = subst (Ends x.known) (sym same) looked.fresh;
+  kept = subst (λ h. Ends h z.known) (sym same) (Ends-trans y.seen y.known z.known looked.kept quiet.known);
   legal = subst (IsLegalHistory t) (sym same) looked.legal;
+}
+
+-- a look that follows quietly upon what an actor knew
+pub looked_before : (t : Terms) (x m y : Actor) → IsQuiet x m → HasLooked t m y → HasLooked t x y
+looked_before t x m y quiet looked = record {
+  quiet = quiet_then x m y quiet looked.quiet;
+  fresh = Ends-trans x.known m.known y.seen quiet.known looked.fresh;
+  kept = looked.kept;
+  legal = looked.legal;
 }
 
 -- what a ready seat reads of a cell
@@ -141,9 +152,10 @@ accepted_before t x u y e number seen known made told = record {
 
 -- a try that another edit came before has looked
 pub contended_looked : (t : Terms) (x u y : Actor) (found : ℕ) → IsQuiet x u → IsContended t u y found → HasLooked t x y
-contended_looked t x u y found quiet told = record {
-  quiet = quiet_then x u y quiet told.quiet;
-  fresh = Ends-trans x.known u.known y.seen quiet.known (subst (Ends u.known) (sym told.sees.all) told.quiet.known);
+contended_looked t x u y found quiet told = looked_before t x u y quiet record {
+  quiet = told.quiet;
+  fresh = subst (Ends u.known) (sym told.sees.all) told.quiet.known;
+  kept = subst (Ends y.seen) told.sees.all (Ends-whole y.seen);
   legal = told.sees.legal;
 }
 
@@ -152,24 +164,16 @@ pub try_of_looked : (t : Terms) (x m y : Actor) (e : Edit) (r : Result Receipt R
 try_of_looked t x m y e (Ok receipt) looked added = (m.seen, added_since t x m y e m.seen receipt looked added refl)
 try_of_looked t x m y e (Err refusal) looked (inl (verdict, same)) = (subst (HasLooked t x) (sym same) looked, inl (ap (λ (a : Actor). verdict_of t.limits (edits_of a.seen) e) same ∙ verdict))
 try_of_looked t x m y e (Err refusal) looked (inr (again, contended)) = (
-  record {
-    quiet = quiet_then x m y looked.quiet again.quiet;
-    fresh = Ends-trans x.known m.known y.seen looked.quiet.known again.fresh;
-    legal = again.legal;
-  },
-  inr (inr (m.seen, looked.fresh, contended)),
+  looked_before t x m y looked.quiet again,
+  inr (inr (m.seen, looked.fresh, Ends-trans m.seen m.known y.seen looked.kept again.fresh, contended)),
 )
 
 -- why a pop or a write isn't made, as a try that looked tells it
-pub try_of_untaken : (t : Terms) (x m y : Actor) (e : Edit) (i : ℕ) (refusal : Refusal) → HasLooked t x m → verdict_of t.limits (edits_of m.seen) e ≡ None → TakeAnswers t m y e i (Err refusal) → TryAnswers t x y e (Err refusal)
-try_of_untaken t x m y e i refusal looked free (inl (quiet, same, over)) = (looked_then t x m y looked quiet same, inr (inl (ap (λ h. verdict_of t.limits (edits_of h) e) same ∙ free, over)))
-try_of_untaken t x m y e i refusal looked free (inr (u, first, same, second, fresh, legal, later, is)) = (
-  record {
-    quiet = quiet_then x m y looked.quiet (quiet_then m u y first second);
-    fresh = Ends-trans x.known u.known y.seen (Ends-trans x.known m.known u.known looked.quiet.known first.known) fresh;
-    legal = legal;
-  },
-  inr (inr (m.seen, looked.fresh, record { refusal_is = is; before = later; verdict = free })),
+pub try_of_untaken : (t : Terms) (x m y : Actor) (e : Edit) (i : ℕ) (refusal : Refusal) → LoadsCell e → HasLooked t x m → verdict_of t.limits (edits_of m.seen) e ≡ None → TakeAnswers t m y e i (Err refusal) → TryAnswers t x y e (Err refusal)
+try_of_untaken t x m y e i refusal loads looked free (inl (quiet, same, over)) = (looked_then t x m y looked quiet same, inr (inl (loads, ap (λ h. verdict_of t.limits (edits_of h) e) same ∙ free, over)))
+try_of_untaken t x m y e i refusal loads looked free (inr (u, first, same, again, later, is)) = (
+  looked_before t x m y looked.quiet (looked_before t m u y first again),
+  inr (inr (m.seen, looked.fresh, Ends-trans m.seen u.known y.seen (Ends-trans m.seen m.known u.known looked.kept first.known) again.fresh, record { refusal_is = is; before = later; verdict = free })),
 )
 
 -- and that it is made

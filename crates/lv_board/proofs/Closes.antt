@@ -101,7 +101,7 @@ own_total t [] legal = sym (none_made 0 t.seats)
 own_total t (e ∷ h) (legal, next) = let actor = next.actor in omega (arith, own_total t h legal, made_among e h 0 t.seats (omega arith) (omega arith))
 
 -- what seats know of their own is what they made
-known_total : {B : Type 0} (h : List Entry) (seats : List (Seat B)) → All (λ s. IsKept h (actor_of s)) seats → sum_by made_by seats ≡ sum_by (λ n. length (own n h)) (map (λ s. (actor_of s).number) seats)
+pub known_total : {B : Type 0} (h : List Entry) (seats : List (Seat B)) → All (λ s. IsKept h (actor_of s)) seats → sum_by made_by seats ≡ sum_by (λ n. length (own n h)) (map (λ s. (actor_of s).number) seats)
 known_total h [] kept = refl
 known_total h (s ∷ seats) kept =
     let first = All-head (λ s. IsKept h (actor_of s)) s seats kept in

@@ -11,7 +11,8 @@ use Rattle.atomic_table.specs.Table.{State, Me, step, Act, keeps, stepped, Allow
 use Rattle.lv_edits.specs.declared.edit.Edit.{Edit}
 use Rattle.lv_machine.specs.declared.entries.Entry.{Entry}
 use Rattle.lv_machine.specs.History.{descriptor_of, Ends, IsLegalHistory, IsShortEdit, MayFollow, own}
-use Rattle.lv_machine.specs.Moves.{accepted, IsComplete, looked, MayExchange, moved, Exchange, verdict_at}
+use Rattle.lv_machine.specs.declared.moves.Move.TheVariants.{Exchange}
+use Rattle.lv_machine.specs.Moves.{accepted, IsComplete, looked, MayExchange, moved, verdict_at}
 use Rattle.lv_machine.specs.Terms.{AreTerms, Folding, Terms}
 use Rattle.lv_machine.specs.Words.{descriptor_after, edit_between, edit_of, HasPending}
 use Rattle.lv_machine.proofs.EndsLaws.{Ends-length, Ends-same, Ends-trans, Ends-whole, legal_earlier}
@@ -48,6 +49,17 @@ whole_seen t x h terms legal seen known same =
     let long : length h ≤ length x.seen = omega (arith, ap edit_of same) in
     (Ends-same x.seen h ends long, Ends-same x.known h known (omega (arith, Ends-length x.seen x.known seen)))
 
+-- the edit that the descriptors tell is the one that is exchanged
+pub told_by : (t : Terms) (seen : List Entry) (a look new : ℕ) (edit : Edit) → AreTerms t → IsLegalHistory t seen → a < t.seats → look ≡ descriptor_of seen → new ≡ descriptor_after look edit → IsShortEdit edit → verdict_at t.limits look edit ≡ None → edit_between look new ≡ edit
+told_by t seen a look new edit terms legal seat is after short free =
+    let may : MayFollow t seen record { actor = a; edit = edit } = record {
+      actor = seat;
+      short = short;
+      verdict = sym (verdict_at_descriptor t seen edit terms legal) ∙ subst (λ w. verdict_at t.limits w edit ≡ None) is free;
+    } in
+    let word : new ≡ descriptor_of (record { actor = a; edit = edit } ∷ seen) = after ∙ ap (λ w. descriptor_after w edit) is ∙ next_descriptor t seen record { actor = a; edit = edit } terms legal may in
+    ap (λ w. edit_between w new) is ∙ ap (edit_between (descriptor_of seen)) word ∙ between t seen record { actor = a; edit = edit } terms (legal, may)
+
 module _ {S B : Type 0} (f : B → Folding) (z : Basis B) (slots id look new : ℕ) (edit : Edit) (me : Me S (View B)) (seat : IsSeat me.0) (is : look ≡ descriptor_of me.0.actor.seen) (after : new ≡ descriptor_after look edit) (short : IsShortEdit edit) (ready : IsReady me.0.actor look) (free : verdict_at record { buckets = z.buckets; edits = z.edits } look edit ≡ None) where
   abbrev entry : Entry
   entry = record { actor = me.0.actor.number; edit = edit }
@@ -58,7 +70,7 @@ module _ {S B : Type 0} (f : B → Folding) (z : Basis B) (slots id look new : �
   -- what the exchange is to answer for, where a word is found
   abbrev Ends' : State S (View B) → ℕ → Bool → Type 0
   Ends' s n found = (w : View B) × (a : Act S) × Valid s.homes me.1 a × Holds f z (stepped s 0 (either found new n) id me.1 w a)
-      × ((carried_after me.1 a ≡ me.1) × (w ≡ record (me.0) { actor = w.actor }))
+      × ((carried_after me.1 a ≡ me.1) × (w ≡ record (me.0) { actor = w.actor; moves = Exchange me.0.actor.number (edit_between look new) ∷ me.0.moves }))
       × ((b : Basis B) → me.0.bases ≡ b ∷ []
       → MatchBool found
       (IsAccepted (terms_of f b) me.0.actor w.actor record { actor = me.0.actor.number; edit = edit_between look new })
@@ -93,13 +105,13 @@ module _ {S B : Type 0} (f : B → Folding) (z : Basis B) (slots id look new : �
       let legal' : IsLegalHistory (terms_of f z) (entry ∷ me.0.actor.seen) = subst (λ h. IsLegalHistory (terms_of f z) (entry ∷ h)) (sym all.0) legal in
       let word : new ≡ descriptor_of (entry ∷ me.0.actor.seen) = after ∙ ap (λ w. descriptor_after w edit) is ∙ next_descriptor (terms_of f z) me.0.actor.seen entry rule.terms legal'.0 legal'.1 in
       let told : edit ≡ edit_between look new = sym (between (terms_of f z) me.0.actor.seen entry rule.terms legal') ∙ ap (λ w. edit_between w (descriptor_of (entry ∷ me.0.actor.seen))) (sym is) ∙ ap (edit_between look) (sym word) in (
-        record (me.0) { actor = next },
+        record (me.0) { actor = next; moves = Exchange me.0.actor.number edit ∷ me.0.moves },
         keeps,
         tt,
-        rule_moved f z s rule id 0 new me.0.actor.number me.1 (record (me.0) { actor = next }) (Exchange me.0.actor.number edit) refl x.owner_is may
+        rule_moved f z s rule id 0 new me.1 me.0 next (Exchange me.0.actor.number edit) seat at refl refl x.owner_is may
             (ap (λ c. c.words) is_moved ∙ ap (λ w. slice_set (state_of f z s rule).words 0 w) (ap (λ w. descriptor_after w edit) own_look ∙ sym after))
-            (subst (λ c. ViewFits f z c rule.owner id (record (me.0) { actor = next })) (sym is_moved)
-            (seat_fits f z (accepted (state_of f z s rule) me.0.actor.number edit) rule.owner id me.0 next seat based record {
+            (subst (λ c. ViewFits f z c rule.owner id (record (me.0) { actor = next; moves = Exchange me.0.actor.number edit ∷ me.0.moves })) (sym is_moved)
+            (seat_fits f z (accepted (state_of f z s rule) me.0.actor.number edit) rule.owner id me.0 next (Exchange me.0.actor.number edit ∷ me.0.moves) seat based record {
               number = x.number;
               owner_is = x.owner_is;
               look = cond-true _ _ _ (eq-eqb me.0.actor.number me.0.actor.number refl) ∙ ap (λ w. descriptor_after w edit) own_look ∙ sym after ∙ word;
@@ -112,7 +124,7 @@ module _ {S B : Type 0} (f : B → Folding) (z : Basis B) (slots id look new : �
               marked = λ wrong. absurd (cc);
               installed = installed_stays me.0.actor.number (state_of f z s rule) (accepted (state_of f z s rule) me.0.actor.number edit) me.0.actor.installed (accepted_advances me.0.actor.number (state_of f z s rule) edit) x.installed;
             })),
-        (refl, refl),
+        (refl, ap (λ (e : Edit). record (me.0) { actor = next; moves = Exchange me.0.actor.number e ∷ me.0.moves }) told),
         λ b other. subst (λ b. IsAccepted (terms_of f b) me.0.actor next record { actor = me.0.actor.number; edit = edit_between look new }) (same_basis f z me.0 b based other) record {
           terms = rule.terms;
           number = refl;
@@ -136,16 +148,17 @@ module _ {S B : Type 0} (f : B → Folding) (z : Basis B) (slots id look new : �
       let same : slice_index s.words 0 ≡ slice_index (state_of f z s rule).words 0 = ap (λ ws. slice_index ws 0) rule.words_are in
       let found : slice_index s.words 0 ≡ descriptor_of (state_of f z s rule).history = same ∙ show.first in
       let ends = Ends-trans me.0.actor.seen me.0.actor.known (state_of f z s rule).history x.seen x.known in
+      let between_is : edit_between look new ≡ edit = told_by (terms_of f z) me.0.actor.seen me.0.actor.number look new edit rule.terms (legal_earlier (terms_of f z) me.0.actor.seen (state_of f z s rule).history ends show.legal) x.number is after short free in
       let apart : slice_index (state_of f z s rule).words 0 ≢ (state_of f z s rule).looks me.0.actor.number = λ e. other (same ∙ e ∙ own_look) in
       let test : nat_eq (slice_index (state_of f z s rule).words 0) ((state_of f z s rule).looks me.0.actor.number) ≡ false = ne-nat_eq _ _ apart in
       let is_moved : moved (state_of f z s rule) (Exchange me.0.actor.number edit) ≡ looked (state_of f z s rule) me.0.actor.number = cond-false _ _ _ test in (
-        record (me.0) { actor = y },
+        record (me.0) { actor = y; moves = Exchange me.0.actor.number edit ∷ me.0.moves },
         keeps,
         tt,
-        rule_moved f z s rule id 0 (slice_index s.words 0) me.0.actor.number me.1 (record (me.0) { actor = y }) (Exchange me.0.actor.number edit) refl x.owner_is (may_exchange s rule rule.owner x)
+        rule_moved f z s rule id 0 (slice_index s.words 0) me.1 me.0 y (Exchange me.0.actor.number edit) seat at refl refl x.owner_is (may_exchange s rule rule.owner x)
             (ap (λ c. c.words) is_moved ∙ sym (ap (λ n. slice_set (state_of f z s rule).words 0 n) same ∙ set-get_or (state_of f z s rule).words 0 0))
-            (subst (λ c. ViewFits f z c rule.owner id (record (me.0) { actor = y })) (sym is_moved)
-            (seat_fits f z (looked (state_of f z s rule) me.0.actor.number) rule.owner id me.0 y seat based record {
+            (subst (λ c. ViewFits f z c rule.owner id (record (me.0) { actor = y; moves = Exchange me.0.actor.number edit ∷ me.0.moves })) (sym is_moved)
+            (seat_fits f z (looked (state_of f z s rule) me.0.actor.number) rule.owner id me.0 y (Exchange me.0.actor.number edit ∷ me.0.moves) seat based record {
               number = x.number;
               owner_is = x.owner_is;
               look = cond-true _ _ _ (eq-eqb me.0.actor.number me.0.actor.number refl) ∙ show.first;
@@ -158,8 +171,10 @@ module _ {S B : Type 0} (f : B → Folding) (z : Basis B) (slots id look new : �
               marked = λ wrong. absurd (cc);
               installed = x.installed;
             })),
-        (refl, refl),
+        (refl, ap (λ (e : Edit). record (me.0) { actor = y; moves = Exchange me.0.actor.number e ∷ me.0.moves }) (sym between_is)),
         λ b else'. subst (λ b. IsContended (terms_of f b) me.0.actor y (slice_index s.words 0)) (same_basis f z me.0 b based else') record {
+          number = x.number;
+          seen = ends;
           quiet = record { number = refl; known = x.known; own_is = x.own_is; made = refl };
           sees = record { terms = rule.terms; all = refl; found_is = found; legal = show.legal; made = x.made };
           later = later_by me.0.actor.seen (state_of f z s rule).history ends (λ e. other (found ∙ ap descriptor_of (sym e) ∙ sym is));
@@ -177,14 +192,7 @@ module _ {S B : Type 0} (f : B → Folding) (z : Basis B) (slots id look new : �
 
 -- the edit that the descriptors tell is the one that was exchanged
 pub told_edit : (t : Terms) (x y : Actor) (look new : ℕ) (edit : Edit) → look ≡ descriptor_of x.seen → new ≡ descriptor_after look edit → IsShortEdit edit → verdict_at t.limits look edit ≡ None → IsAccepted t x y record { actor = x.number; edit = edit_between look new } → edit_between look new ≡ edit
-told_edit t x y look new edit is after short free told =
-    let may : MayFollow t x.seen record { actor = x.number; edit = edit } = record {
-      actor = told.legal.1.actor;
-      short = short;
-      verdict = sym (verdict_at_descriptor t x.seen edit told.terms told.legal.0) ∙ subst (λ w. verdict_at t.limits w edit ≡ None) is free;
-    } in
-    let word : new ≡ descriptor_of (record { actor = x.number; edit = edit } ∷ x.seen) = after ∙ ap (λ w. descriptor_after w edit) is ∙ next_descriptor t x.seen record { actor = x.number; edit = edit } told.terms told.legal.0 may in
-    ap (λ w. edit_between w new) is ∙ ap (edit_between (descriptor_of x.seen)) word ∙ between t x.seen record { actor = x.number; edit = edit } told.terms (told.legal.0, may)
+told_edit t x y look new edit is after short free told = told_by t x.seen x.number look new edit told.terms told.legal.0 told.legal.1.actor is after short free
 
 pub accepted_as : (t : Terms) (x y : Actor) (look new : ℕ) (edit : Edit) → look ≡ descriptor_of x.seen → new ≡ descriptor_after look edit → IsShortEdit edit → verdict_at t.limits look edit ≡ None → IsAccepted t x y record { actor = x.number; edit = edit_between look new } → IsAccepted t x y record { actor = x.number; edit = edit }
 accepted_as t x y look new edit is after short free told = subst (λ (e : Edit). IsAccepted t x y record { actor = x.number; edit = e }) (told_edit t x y look new edit is after short free told) told

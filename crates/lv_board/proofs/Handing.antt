@@ -10,13 +10,14 @@ use lib.ListN.{get_elem?, set}
 use Rattle.atomic_table.specs.Table.{State, Joins, Splits}
 use Rattle.atomic_table.proofs.Lists.{at_set}
 use Rattle.lv_machine.specs.declared.entries.Entry.{Entry}
+use Rattle.lv_machine.specs.declared.moves.Move.{Move}
 use Rattle.lv_machine.specs.History.{descriptor_of, Ends, own}
 use Rattle.lv_machine.specs.Moves.{Config, reached}
 use Rattle.lv_machine.specs.Terms.{Folding}
 use Rattle.lv_board.specs.declared.actors.Actor.{Actor}
 use Rattle.lv_board.specs.declared.actors.Basis.{Basis}
 use Rattle.lv_board.specs.declared.actors.View.{View}
-use Rattle.lv_board.specs.Rule.{ActorFits, dealer_from, gathered, Holds, informed, IsSeat, IsThere, newcomer, note, spent, terms_of, ViewFits}
+use Rattle.lv_board.specs.Rule.{ActorFits, dealer_from, gathered, HasMade, Holds, informed, IsSeat, IsThere, newcomer, note, spent, terms_of, ViewFits}
 use Rattle.lv_board.proofs.Advancing.{own-nil}
 
 -- no history is an earlier one of each
@@ -72,7 +73,7 @@ module _ {B : Type 0} (f : B → Folding) (z : Basis B) where
   }
 
   -- a view that says nothing but what it knows
-  quiet_fits : (c : Config) (owner : ℕ → ℕ) (id : ℕ) (k : List Entry) → Ends k c.history → ViewFits f z c owner id record { actor = record { number = 0; seen = []; known = k; own = []; told = []; helped = false; marked = false; installed = [] }; sits = false; deals = false; bases = []; more = [] }
+  quiet_fits : (c : Config) (owner : ℕ → ℕ) (id : ℕ) (k : List Entry) → Ends k c.history → ViewFits f z c owner id record { actor = record { number = 0; seen = []; known = k; own = []; told = []; helped = false; marked = false; installed = [] }; sits = false; deals = false; bases = []; moves = []; more = [] }
   quiet_fits c owner id k known = record {
     known = known;
     based = λ wrong. absurd (false≢true wrong);
@@ -81,7 +82,7 @@ module _ {B : Type 0} (f : B → Folding) (z : Basis B) where
     more = All-nil (ActorFits z.seats c owner id);
   }
 
-  newcomer_fits : (c : Config) (owner : ℕ → ℕ) (id k : ℕ) → k < z.seats → owner k ≡ id → c.looks k ≡ descriptor_of [] → own k c.history ≡ [] → ViewFits f z c owner id record { actor = newcomer k; sits = true; deals = false; bases = z ∷ []; more = [] }
+  newcomer_fits : (c : Config) (owner : ℕ → ℕ) (id k : ℕ) → k < z.seats → owner k ≡ id → c.looks k ≡ descriptor_of [] → own k c.history ≡ [] → ViewFits f z c owner id record { actor = newcomer k; sits = true; deals = false; bases = z ∷ []; moves = []; more = [] }
   newcomer_fits c owner id k below is look idle = record {
     known = Ends-none c.history;
     based = λ _. refl;
@@ -102,13 +103,17 @@ module _ {B : Type 0} (f : B → Folding) (z : Basis B) where
     more = All-nil (ActorFits z.seats c owner id);
   }
 
+-- a view that neither sits nor deals says nothing of who made which moves
+none_made : {B : Type 0} {seats : ℕ} {moves : List Move} {x : Actor} → HasMade {B = B} seats moves record { actor = x; sits = false; deals = false; bases = []; moves = []; more = [] }
+none_made = record { sits = λ wrong. absurd (false≢true wrong); deals = λ wrong. absurd (false≢true wrong) }
+
 module _ {S B : Type 0} (f : B → Folding) (z : Basis B) where
   abbrev state_of : (s : State S (View B)) → Holds f z s → Config
   state_of s rule = reached (terms_of f z) rule.moves
 
 module _ (S : Type 0) {B : Type 0} (f : B → Folding) (z : Basis B) where
   -- the dealer deals its next seat
-  pub deals : (id k : ℕ) → k < z.seats → Splits {S = S} (Holds f z) id (dealer_from z k) (dealer_from z (k + 1)) record { actor = newcomer k; sits = true; deals = false; bases = z ∷ []; more = [] }
+  pub deals : (id k : ℕ) → k < z.seats → Splits {S = S} (Holds f z) id (dealer_from z k) (dealer_from z (k + 1)) record { actor = newcomer k; sits = true; deals = false; bases = z ∷ []; moves = []; more = [] }
   deals id k below s rule at =
       let c = state_of f z s rule in
       let new : ℕ = length s.views in
@@ -121,6 +126,7 @@ module _ (S : Type 0) {B : Type 0} (f : B → Folding) (z : Basis B) where
         moves = rule.moves;
         allowed = rule.allowed;
         words_are = rule.words_are;
+        movers = rule.movers;
         owner = owner_dealt rule.owner k (length s.views);
         views = λ j v there. ⊎_elim
             (λ (old : get_elem? (set s.views id (dealer_from z (k + 1))) j ≡ some v). ⊎_elim
@@ -134,10 +140,24 @@ module _ (S : Type 0) {B : Type 0} (f : B → Folding) (z : Basis B) where
             (λ (t : (j ≢ id) × (get_elem? s.views j ≡ some v)). view_refit f z (state_of f z s rule) rule.owner (owner_dealt rule.owner k (length s.views)) j v
             (λ n is. kept n (λ same. t.0 (sym is ∙ ap rule.owner same ∙ mine.owner_is)) ∙ is) (rule.views j v t.1))
             (at_set s.views id j (dealer_from z (k + 1)) v old))
-            (λ (t : (j ≡ length (set s.views id (dealer_from z (k + 1)))) × (record { actor = newcomer k; sits = true; deals = false; bases = z ∷ []; more = [] } ≡ v)).
+            (λ (t : (j ≡ length (set s.views id (dealer_from z (k + 1)))) × (record { actor = newcomer k; sits = true; deals = false; bases = z ∷ []; moves = []; more = [] } ≡ v)).
             subst (ViewFits f z (state_of f z s rule) (owner_dealt rule.owner k (length s.views)) j) t.1
             (newcomer_fits f z (state_of f z s rule) (owner_dealt rule.owner k (length s.views)) j k below (cond-true _ _ _ (eq-eqb k k refl) ∙ sym (t.0 ∙ length-set s.views id (dealer_from z (k + 1)))) mine.look mine.own_is))
-            (at_end (set s.views id (dealer_from z (k + 1))) record { actor = newcomer k; sits = true; deals = false; bases = z ∷ []; more = [] } v j there);
+            (at_end (set s.views id (dealer_from z (k + 1))) record { actor = newcomer k; sits = true; deals = false; bases = z ∷ []; moves = []; more = [] } v j there);
+        made = λ j v there. ⊎_elim
+            (λ (old : get_elem? (set s.views id (dealer_from z (k + 1))) j ≡ some v). ⊎_elim
+            (λ (t : (j ≡ id) × (dealer_from z (k + 1) ≡ v)). subst (HasMade z.seats rule.moves) t.1 record {
+              sits = λ wrong. absurd (false≢true wrong);
+              deals = λ _ n from under. (rule.made id (dealer_from z k) at).deals refl n (omega arith) under;
+            })
+            (λ (t : (j ≢ id) × (get_elem? s.views j ≡ some v)). rule.made j v t.1)
+            (at_set s.views id j (dealer_from z (k + 1)) v old))
+            (λ (t : (j ≡ length (set s.views id (dealer_from z (k + 1)))) × (record { actor = newcomer k; sits = true; deals = false; bases = z ∷ []; moves = []; more = [] } ≡ v)).
+            subst (HasMade z.seats rule.moves) t.1 record {
+              sits = λ _. (rule.made id (dealer_from z k) at).deals refl k (omega arith) below;
+              deals = λ wrong. absurd (false≢true wrong);
+            })
+            (at_end (set s.views id (dealer_from z (k + 1))) record { actor = newcomer k; sits = true; deals = false; bases = z ∷ []; moves = []; more = [] } v j there);
       }
 
   -- a note of what a seat knows is split off
@@ -147,6 +167,7 @@ module _ (S : Type 0) {B : Type 0} (f : B → Folding) (z : Basis B) where
     moves = rule.moves;
     allowed = rule.allowed;
     words_are = rule.words_are;
+    movers = rule.movers;
     owner = rule.owner;
     views = λ j w there. ⊎_elim
         (λ (old : get_elem? (set s.views id v) j ≡ some w). ⊎_elim
@@ -154,6 +175,13 @@ module _ (S : Type 0) {B : Type 0} (f : B → Folding) (z : Basis B) where
         (λ (t : (j ≢ id) × (get_elem? s.views j ≡ some w)). rule.views j w t.1)
         (at_set s.views id j v w old))
         (λ (t : (j ≡ length (set s.views id v)) × (note v ≡ w)). subst (ViewFits f z (state_of f z s rule) rule.owner j) t.1 (quiet_fits f z (state_of f z s rule) rule.owner j v.actor.known (rule.views id v at).known))
+        (at_end (set s.views id v) (note v) w j there);
+    made = λ j w there. ⊎_elim
+        (λ (old : get_elem? (set s.views id v) j ≡ some w). ⊎_elim
+        (λ (t : (j ≡ id) × (v ≡ w)). subst (HasMade z.seats rule.moves) t.1 (rule.made id v at))
+        (λ (t : (j ≢ id) × (get_elem? s.views j ≡ some w)). rule.made j w t.1)
+        (at_set s.views id j v w old))
+        (λ (t : (j ≡ length (set s.views id v)) × (note v ≡ w)). subst (HasMade z.seats rule.moves) t.1 none_made)
         (at_end (set s.views id v) (note v) w j there);
   }
 
@@ -170,6 +198,7 @@ module _ (S : Type 0) {B : Type 0} (f : B → Folding) (z : Basis B) where
         moves = rule.moves;
         allowed = rule.allowed;
         words_are = rule.words_are;
+        movers = rule.movers;
         owner = rule.owner;
         views = λ j u here. ⊎_elim
             (λ (t : (j ≡ other) × (spent ≡ u)). subst (ViewFits f z (state_of f z s rule) rule.owner j) t.1 (quiet_fits f z (state_of f z s rule) rule.owner j [] (Ends-none (state_of f z s rule).history)))
@@ -196,6 +225,13 @@ module _ (S : Type 0) {B : Type 0} (f : B → Folding) (z : Basis B) where
             (λ (t : (j ≢ id) × (get_elem? s.views j ≡ some u)). rule.views j u t.1)
             (at_set s.views id j (informed v w) u t.1))
             (at_set (set s.views id (informed v w)) other j spent u here);
+        made = λ j u here. ⊎_elim
+            (λ (t : (j ≡ other) × (spent ≡ u)). subst (HasMade z.seats rule.moves) t.1 none_made)
+            (λ (t : (j ≢ other) × (get_elem? (set s.views id (informed v w)) j ≡ some u)). ⊎_elim
+            (λ (t : (j ≡ id) × (informed v w ≡ u)). subst (HasMade z.seats rule.moves) t.1 (let m = rule.made id v at in record { sits = m.sits; deals = m.deals }))
+            (λ (t : (j ≢ id) × (get_elem? s.views j ≡ some u)). rule.made j u t.1)
+            (at_set s.views id j (informed v w) u t.1))
+            (at_set (set s.views id (informed v w)) other j spent u here);
       }
 
   -- a seat takes in another, whose place is its own from then on
@@ -214,6 +250,7 @@ module _ (S : Type 0) {B : Type 0} (f : B → Folding) (z : Basis B) where
         moves = rule.moves;
         allowed = rule.allowed;
         words_are = rule.words_are;
+        movers = rule.movers;
         owner = owner_taken rule.owner id other;
         views = λ j u here. ⊎_elim
             (λ (t : (j ≡ other) × (spent ≡ u)). subst (ViewFits f z (state_of f z s rule) (owner_taken rule.owner id other) j) t.1 (quiet_fits f z (state_of f z s rule) (owner_taken rule.owner id other) j [] (Ends-none (state_of f z s rule).history)))
@@ -230,6 +267,13 @@ module _ (S : Type 0) {B : Type 0} (f : B → Folding) (z : Basis B) where
                   refitted.more);
             })))
             (λ (q : (j ≢ id) × (get_elem? s.views j ≡ some u)). view_refit f z (state_of f z s rule) rule.owner (owner_taken rule.owner id other) j u (λ n is. kept n j is t.0) (rule.views j u q.1))
+            (at_set s.views id j (gathered v w) u t.1))
+            (at_set (set s.views id (gathered v w)) other j spent u here);
+        made = λ j u here. ⊎_elim
+            (λ (t : (j ≡ other) × (spent ≡ u)). subst (HasMade z.seats rule.moves) t.1 none_made)
+            (λ (t : (j ≢ other) × (get_elem? (set s.views id (gathered v w)) j ≡ some u)). ⊎_elim
+            (λ (q : (j ≡ id) × (gathered v w ≡ u)). subst (HasMade z.seats rule.moves) q.1 (let m = rule.made id v at in record { sits = m.sits; deals = m.deals }))
+            (λ (q : (j ≢ id) × (get_elem? s.views j ≡ some u)). rule.made j u q.1)
             (at_set s.views id j (gathered v w) u t.1))
             (at_set (set s.views id (gathered v w)) other j spent u here);
       }

@@ -11,8 +11,10 @@ use Rattle.atomic_table.proofs.Lists.{at_set}
 use Rattle.lv_geometry.specs.Cells.{capacity_of}
 use Rattle.lv_edits.specs.Touch.{elements_under, is_whole}
 use Rattle.lv_machine.specs.History.{cell_of, descriptor_of, edits_of}
-use Rattle.lv_machine.specs.Layout.{cell_place, mark_place, part_place}
-use Rattle.lv_machine.specs.Moves.{completing, Config, looked, MayMove, Move, moved, Look, HelpCell, HelpMark, Install, Read, raised, reached, Shows}
+use Rattle.lv_machine.specs.Layout.{block_at, cell_place, mark_place, part_place, row_at}
+use Rattle.lv_machine.specs.declared.moves.Move.{Move}
+use Rattle.lv_machine.specs.declared.moves.Move.TheVariants.{Look, HelpCell, HelpMark, Install, Read}
+use Rattle.lv_machine.specs.Moves.{completing, Config, looked, MayMove, moved, mover, raised, reached, Shows}
 use Rattle.lv_machine.specs.Shows.{block, Fits, FitsPart, IsCellRead, IsMarkRead, mark_of}
 use Rattle.lv_machine.specs.Terms.{AreTerms, blocks_of, Folding}
 use Rattle.lv_machine.specs.Words.{cell_version, edit_of, HasPending, index_of, part_word, value_of}
@@ -27,17 +29,25 @@ use Rattle.lv_board.specs.declared.actors.Basis.{Basis}
 use Rattle.lv_board.specs.declared.actors.Installed.{Installed}
 use Rattle.lv_board.specs.declared.actors.View.{View}
 use Rattle.lv_board.specs.Plays.{HelpsCell, HelpsMark, Installs, IsRead, Looks, Reads, SeesAll}
-use Rattle.lv_board.specs.Rule.{ActorFits, Holds, IsSeat, IsThere, terms_of, ViewFits}
+use Rattle.lv_board.specs.Rule.{ActorFits, HasMade, Holds, IsSeat, IsThere, terms_of, ViewFits}
 use Rattle.lv_board.proofs.Handing.{Ends-none}
-use Rattle.lv_board.proofs.Advancing.{installed_stays, IsOf, moved_advances, raised_advances, view_stays}
+use Rattle.lv_board.proofs.Advancing.{installed_stays, moved_advances, one_made, others_made, raised_advances, view_stays}
+
+-- the block and the part that lie at a part's place
+pub install_at : (a b p n : ℕ) → p < 4 → Install a b p n ≡ Install a (block_at (part_place b p)) (row_at (part_place b p) - 9) n
+install_at a b p n few =
+    let spot = place_is b (9 + p) in
+    let which : b ≡ block_at (part_place b p) = omega (arith, spot) in
+    let row : p ≡ row_at (part_place b p) - 9 = omega (arith, spot) in
+    ap (λ c. Install a c p n) which ∙ ap (λ q. Install a (block_at (part_place b p)) q n) row
 
 first_same : {A : Type 0} (x y : A) → x ∷ [] ≡ y ∷ [] → x ≡ y
 first_same x y e = cc
 
 module _ {B : Type 0} (f : B → Folding) (z : Basis B) where
   -- the view of a seat whose actor's knowledge is true
-  pub seat_fits : (d : Config) (owner : ℕ → ℕ) (id : ℕ) (v : View B) (y : Actor) → IsSeat v → v.bases ≡ z ∷ [] → ActorFits z.seats d owner id y → ViewFits f z d owner id (record v { actor = y })
-  seat_fits d owner id v y seat based fits = record {
+  pub seat_fits : (d : Config) (owner : ℕ → ℕ) (id : ℕ) (v : View B) (y : Actor) (moves : List Move) → IsSeat v → v.bases ≡ z ∷ [] → ActorFits z.seats d owner id y → ViewFits f z d owner id (record v { actor = y; moves = moves })
+  seat_fits d owner id v y moves seat based fits = record {
     known = fits.known;
     based = λ _. based;
     sits = λ _. fits;
@@ -82,18 +92,23 @@ module _ {S B : Type 0} (f : B → Folding) (z : Basis B) where
   shows s rule = reached_shows (terms_of f z) rule.moves rule.terms rule.allowed
 
   -- a move of the seat `id` keeps the rule, where the seat's new view is true of the new state
-  pub rule_moved : (s : State S (View B)) (rule : Holds f z s) (id i n a : ℕ) (cs : List (ℕ × S)) (w : View B) (m : Move) → IsOf a m → rule.owner a ≡ id → MayMove (terms_of f z) (state_of s rule) m → (moved (state_of s rule) m).words ≡ slice_set (state_of s rule).words i n → ViewFits f z (moved (state_of s rule) m) rule.owner id w → Holds f z (stepped s i n id cs w keeps)
+  pub rule_moved : (s : State S (View B)) (rule : Holds f z s) (id i n : ℕ) (cs : List (ℕ × S)) (u : View B) (y : Actor) (m : Move) → IsSeat u → get_elem? s.views id ≡ some u → y.number ≡ u.actor.number → mover m ≡ u.actor.number → rule.owner u.actor.number ≡ id → MayMove (terms_of f z) (state_of s rule) m → (moved (state_of s rule) m).words ≡ slice_set (state_of s rule).words i n → ViewFits f z (moved (state_of s rule) m) rule.owner id (record u { actor = y; moves = m ∷ u.moves }) → Holds f z (stepped s i n id cs (record u { actor = y; moves = m ∷ u.moves }) keeps)
   unfolding reached
-  rule_moved s rule id i n a cs w m of owned may words fits = record {
+  rule_moved s rule id i n cs u y m seat here number of owned may words fits = record {
     terms = rule.terms;
     moves = m ∷ rule.moves;
     allowed = (rule.allowed, may);
     words_are = ap (λ ws. slice_set ws i n) rule.words_are ∙ sym words;
+    movers = All-cons (λ l. mover l < z.seats) m rule.moves (subst (λ a. a < z.seats) (sym of) ((rule.views id u here).sits seat.sits).number) rule.movers;
     owner = rule.owner;
     views = λ j v at. ⊎_elim
-        (λ (t : (j ≡ id) × (w ≡ v)). subst (λ k. ViewFits f z (moved (state_of s rule) m) rule.owner k v) (sym t.0) (subst (ViewFits f z (moved (state_of s rule) m) rule.owner id) t.1 fits))
-        (λ (t : (j ≢ id) × (get_elem? s.views j ≡ some v)). view_stays f z a (state_of s rule) (moved (state_of s rule) m) rule.owner j v (moved_advances a (state_of s rule) m of) (λ same. t.0 (sym same ∙ owned)) (rule.views j v t.1))
-        (at_set s.views id j w v at);
+        (λ (t : (j ≡ id) × (record u { actor = y; moves = m ∷ u.moves } ≡ v)). subst (λ k. ViewFits f z (moved (state_of s rule) m) rule.owner k v) (sym t.0) (subst (ViewFits f z (moved (state_of s rule) m) rule.owner id) t.1 fits))
+        (λ (t : (j ≢ id) × (get_elem? s.views j ≡ some v)). view_stays f z u.actor.number (state_of s rule) (moved (state_of s rule) m) rule.owner j v (moved_advances u.actor.number (state_of s rule) m of) (λ same. t.0 (sym same ∙ owned)) (rule.views j v t.1))
+        (at_set s.views id j (record u { actor = y; moves = m ∷ u.moves }) v at);
+    made = λ j v at. ⊎_elim
+        (λ (t : (j ≡ id) × (record u { actor = y; moves = m ∷ u.moves } ≡ v)). subst (HasMade z.seats (m ∷ rule.moves)) t.1 (one_made z.seats m rule.moves u y seat number of (rule.made id u here)))
+        (λ (t : (j ≢ id) × (get_elem? s.views j ≡ some v)). others_made f z u.actor.number m rule.moves (state_of s rule) rule.owner j v of (λ same. t.0 (sym same ∙ owned)) (rule.views j v t.1) (rule.made j v t.1))
+        (at_set s.views id j (record u { actor = y; moves = m ∷ u.moves }) v at);
   }
 
   -- a load of the descriptor
@@ -105,12 +120,12 @@ module _ {S B : Type 0} (f : B → Folding) (z : Basis B) where
       let y : Actor = record { number = me.0.actor.number; seen = (state_of s rule).history; known = (state_of s rule).history; own = me.0.actor.own; told = []; helped = false; marked = false; installed = me.0.actor.installed } in
       let show = shows s rule in
       let found : slice_index s.words 0 ≡ descriptor_of (state_of s rule).history = ap (λ ws. slice_index ws 0) rule.words_are ∙ show.first in (
-        record (me.0) { actor = y },
+        record (me.0) { actor = y; moves = Look me.0.actor.number ∷ me.0.moves },
         keeps,
         tt,
-        rule_moved s rule id 0 (slice_index s.words 0) me.0.actor.number me.1 (record (me.0) { actor = y }) (Look me.0.actor.number) refl x.owner_is x.number
+        rule_moved s rule id 0 (slice_index s.words 0) me.1 me.0 y (Look me.0.actor.number) seat at refl refl x.owner_is x.number
             (sym (ap (λ n. slice_set (state_of s rule).words 0 n) (ap (λ ws. slice_index ws 0) rule.words_are) ∙ set-get_or (state_of s rule).words 0 0))
-            (seat_fits f z (looked (state_of s rule) me.0.actor.number) rule.owner id me.0 y seat based record {
+            (seat_fits f z (looked (state_of s rule) me.0.actor.number) rule.owner id me.0 y (Look me.0.actor.number ∷ me.0.moves) seat based record {
               number = x.number;
               owner_is = x.owner_is;
               look = cond-true _ _ _ (eq-eqb me.0.actor.number me.0.actor.number refl) ∙ show.first;
@@ -141,12 +156,12 @@ module _ {S B : Type 0} (f : B → Folding) (z : Basis B) where
       let y : Actor = record (me.0.actor) { known = (state_of s rule).history } in
       let show = shows s rule in
       let same : slice_index s.words i ≡ slice_index (state_of s rule).words i = ap (λ ws. slice_index ws i) rule.words_are in (
-        record (me.0) { actor = y },
+        record (me.0) { actor = y; moves = Read me.0.actor.number ∷ me.0.moves },
         keeps,
         tt,
-        rule_moved s rule id i (slice_index s.words i) me.0.actor.number me.1 (record (me.0) { actor = y }) (Read me.0.actor.number) refl x.owner_is tt
+        rule_moved s rule id i (slice_index s.words i) me.1 me.0 y (Read me.0.actor.number) seat at refl refl x.owner_is tt
             (sym (ap (λ n. slice_set (state_of s rule).words i n) same ∙ set-get_or (state_of s rule).words i 0))
-            (seat_fits f z (state_of s rule) rule.owner id me.0 y seat based record {
+            (seat_fits f z (state_of s rule) rule.owner id me.0 y (Read me.0.actor.number ∷ me.0.moves) seat based record {
               number = x.number;
               owner_is = x.owner_is;
               look = x.look;
@@ -167,11 +182,11 @@ module _ {S B : Type 0} (f : B → Folding) (z : Basis B) where
       )
 
   -- raising a word to complete a pending write, or to install a part
-  raised_kept : (s : State S (View B)) (rule : Holds f z s) (id at n : ℕ) (me : Me S (View B)) (y : Actor) (m : Move) → IsSeat me.0 → me.0.bases ≡ z ∷ [] → ActorFits z.seats (state_of s rule) rule.owner id me.0.actor → IsOf me.0.actor.number m → MayMove (terms_of f z) (state_of s rule) m → moved (state_of s rule) m ≡ raised (state_of s rule) at n → ActorFits z.seats (raised (state_of s rule) at n) rule.owner id y → Holds f z (stepped s at (max (slice_index s.words at) n) id me.1 (record (me.0) { actor = y }) keeps)
-  raised_kept s rule id at n me y m seat based x of may is fits =
-      rule_moved s rule id at (max (slice_index s.words at) n) me.0.actor.number me.1 (record (me.0) { actor = y }) m of x.owner_is may
+  raised_kept : (s : State S (View B)) (rule : Holds f z s) (id at n : ℕ) (me : Me S (View B)) (y : Actor) (m : Move) → IsSeat me.0 → get_elem? s.views id ≡ some me.0 → me.0.bases ≡ z ∷ [] → ActorFits z.seats (state_of s rule) rule.owner id me.0.actor → y.number ≡ me.0.actor.number → mover m ≡ me.0.actor.number → MayMove (terms_of f z) (state_of s rule) m → moved (state_of s rule) m ≡ raised (state_of s rule) at n → ActorFits z.seats (raised (state_of s rule) at n) rule.owner id y → Holds f z (stepped s at (max (slice_index s.words at) n) id me.1 (record (me.0) { actor = y; moves = m ∷ me.0.moves }) keeps)
+  raised_kept s rule id at n me y m seat here based x number of may is fits =
+      rule_moved s rule id at (max (slice_index s.words at) n) me.1 me.0 y m seat here number of x.owner_is may
       (ap (λ c. c.words) is ∙ ap (λ ws. slice_set (state_of s rule).words at (max (slice_index ws at) n)) (sym rule.words_are))
-      (subst (λ c. ViewFits f z c rule.owner id (record (me.0) { actor = y })) (sym is) (seat_fits f z (raised (state_of s rule) at n) rule.owner id me.0 y seat based fits))
+      (subst (λ c. ViewFits f z c rule.owner id (record (me.0) { actor = y; moves = m ∷ me.0.moves })) (sym is) (seat_fits f z (raised (state_of s rule) at n) rule.owner id me.0 y (m ∷ me.0.moves) seat based fits))
 
   -- the place of a pending write's cell, and of its block's mark, are among the words
   pending_within : (s : State S (View B)) (rule : Holds f z s) (x : Actor) (owner : ℕ → ℕ) (id : ℕ) → ActorFits z.seats (state_of s rule) owner id x → HasPending (descriptor_of x.seen) → index_of (descriptor_of x.seen) < capacity_of z.buckets
@@ -194,10 +209,10 @@ module _ {S B : Type 0} (f : B → Folding) (z : Basis B) where
       let on = raised_advances me.0.actor.number (state_of s rule) spot (completing look) in
       let here : slice_index (raised (state_of s rule) spot (completing look)).words spot ≡ value = get_or-set_same (state_of s rule).words spot value 0 (let p = place_is (index_of look / 8) (index_of look % 8) in let q = ap index_of is in omega (arith, show.count)) in
       let dated : cell_version (completing look) ≡ edit_of look = cell_version-word (edit_of look) (value_of look) (value_of-short look) in (
-        record (me.0) { actor = record (me.0.actor) { helped = true } },
+        record (me.0) { actor = record (me.0.actor) { helped = true }; moves = HelpCell me.0.actor.number ∷ me.0.moves },
         keeps,
         tt,
-        raised_kept s rule id spot (completing look) me (record (me.0.actor) { helped = true }) (HelpCell me.0.actor.number) seat based x refl (subst HasPending (sym own_look) has)
+        raised_kept s rule id spot (completing look) me (record (me.0.actor) { helped = true }) (HelpCell me.0.actor.number) seat at based x refl refl (subst HasPending (sym own_look) has)
             (ap (λ w. raised (state_of s rule) (cell_place (index_of w)) (completing w)) own_look)
             record {
               number = x.number;
@@ -229,10 +244,10 @@ module _ {S B : Type 0} (f : B → Folding) (z : Basis B) where
       let value : ℕ = max (slice_index (state_of s rule).words spot) (edit_of look) in
       let on = raised_advances me.0.actor.number (state_of s rule) spot (edit_of look) in
       let here : slice_index (raised (state_of s rule) spot (edit_of look)).words spot ≡ value = get_or-set_same (state_of s rule).words spot value 0 (let p = place_is (index_of look / 8) 8 in let q = ap index_of is in omega (arith, show.count)) in (
-        record (me.0) { actor = record (me.0.actor) { marked = true } },
+        record (me.0) { actor = record (me.0.actor) { marked = true }; moves = HelpMark me.0.actor.number ∷ me.0.moves },
         keeps,
         tt,
-        raised_kept s rule id spot (edit_of look) me (record (me.0.actor) { marked = true }) (HelpMark me.0.actor.number) seat based x refl (subst HasPending (sym own_look) has)
+        raised_kept s rule id spot (edit_of look) me (record (me.0.actor) { marked = true }) (HelpMark me.0.actor.number) seat at based x refl refl (subst HasPending (sym own_look) has)
             (ap (λ w. raised (state_of s rule) (mark_place (index_of w / 8)) (edit_of w)) own_look)
             record {
               number = x.number;
@@ -263,10 +278,10 @@ module _ {S B : Type 0} (f : B → Folding) (z : Basis B) where
       let value : ℕ = max (slice_index (state_of s rule).words spot) n in
       let here : slice_index (raised (state_of s rule) spot n).words spot ≡ value = get_or-set_same (state_of s rule).words spot value 0 (let q = place_is b (9 + p) in omega (arith, show.count, near, few, rule.terms.few_parts)) in
       let put : Installed = record { place = part_place b p; word = n } in (
-        record (me.0) { actor = record (me.0.actor) { installed = put ∷ me.0.actor.installed } },
+        record (me.0) { actor = record (me.0.actor) { installed = put ∷ me.0.actor.installed }; moves = Install me.0.actor.number b p n ∷ me.0.moves },
         keeps,
         tt,
-        raised_kept s rule id (part_place b p) n me (record (me.0.actor) { installed = put ∷ me.0.actor.installed }) (Install me.0.actor.number b p n) seat based x refl
+        raised_kept s rule id (part_place b p) n me (record (me.0.actor) { installed = put ∷ me.0.actor.installed }) (Install me.0.actor.number b p n) seat at based x refl refl
             record { block = near; part = few; fits = subst (FitsPart (f z.body) (state_of s rule).history b p) (sym is) (part_fits (terms_of f z) b p me.0.actor.seen (state_of s rule).history rule.terms show.legal seen whole) }
             refl
             record {
@@ -284,7 +299,7 @@ module _ {S B : Type 0} (f : B → Folding) (z : Basis B) where
                   record { some = omega (arith, place_is b (9 + p)); word = omega (arith, here) }
                   (installed_stays me.0.actor.number (state_of s rule) (raised (state_of s rule) (part_place b p) n) me.0.actor.installed on x.installed);
             },
-        (refl, refl),
+        (refl, ap (λ made. record (me.0) { actor = record (me.0.actor) { installed = put ∷ me.0.actor.installed }; moves = made ∷ me.0.moves }) (install_at me.0.actor.number b p n (omega (arith, few, rule.terms.few_parts)))),
       )
 
 -- the same steps at the table's key, and at the places and words that the code computes

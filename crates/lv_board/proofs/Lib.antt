@@ -10,6 +10,8 @@ pub mod Still
 pub mod Sittings
 pub mod Walking
 pub mod Ordered
+pub mod Retries
+pub mod Numbers
 pub mod Valued
 pub mod Sharings
 pub mod Shorts

@@ -16,15 +16,16 @@ use Rattle.lv_bodies.specs.Body.{Operations, fold_of}
 use Rattle.lv_bodies.specs.Parts.{AreParts}
 use Rattle.lv_machine.specs.declared.entries.Entry.{Entry}
 use Rattle.lv_machine.specs.History.{descriptor_of}
-use Rattle.lv_machine.specs.Moves.{reached, start}
+use Rattle.lv_machine.specs.declared.moves.Move.{Move}
+use Rattle.lv_machine.specs.Moves.{mover, reached, start}
 use Rattle.lv_machine.specs.Terms.{AreTerms, Folding}
 use Rattle.lv_machine.proofs.HistoryLaws.{index_of-nil, no_elements}
 use Rattle.lv_machine.proofs.WordLaws.{edit_of-descriptor, size_of-descriptor}
 use Rattle.lv_board.specs.declared.actors.Basis.{Basis}
 use Rattle.lv_board.specs.declared.actors.View.{View}
-use Rattle.lv_board.specs.Rule.{ActorFits, dealer_from, dealt, folds, fresh, Holds, informed, IsSeat, newcomer, note, spent, terms_of, ViewFits}
+use Rattle.lv_board.specs.Rule.{ActorFits, dealer_from, dealt, folds, fresh, HasMade, Holds, informed, IsSeat, newcomer, note, spent, terms_of, ViewFits}
 use Rattle.lv_board.specs.Stands.{IsBasis, IsLook}
-use Rattle.lv_board.proofs.Advancing.{own-nil}
+use Rattle.lv_board.proofs.Advancing.{made_by-nil, own-nil}
 use Rattle.lv_board.proofs.Handing.{deals, Ends-none, informs, notes}
 
 -- what is beyond a list reads as 0
@@ -61,6 +62,7 @@ opens S f z words terms is = record {
   moves = [];
   allowed = tt;
   words_are = is;
+  movers = All-nil (λ (m : Move). mover m < z.seats);
   owner = λ n. 0;
   views = λ j v at.
       let (first, same) = only_one (dealer_from z 0) v j at in
@@ -71,6 +73,10 @@ opens S f z words terms is = record {
         deals = λ _ n from below. record { owner_is = refl; look = refl; own_is = own-nil n };
         more = All-nil (ActorFits z.seats (start (terms_of f z)) (λ n. 0) 0);
       });
+  made = λ j v at. subst (HasMade z.seats []) (only_one (dealer_from z 0) v j at).1 record {
+    sits = λ wrong. absurd (false≢true wrong);
+    deals = λ _ n from below. made_by-nil n;
+  };
 }
 
 first_of : (buckets edits : ℕ) → IsLook buckets edits (descriptor_of []) []
@@ -96,10 +102,10 @@ pub deals_at_key : (S : Type 0) {B : Type 0} (f : B → Folding) (z key : Basis 
 deals_at_key S f z key id k v is_key is below = subst (λ w. Splits {S = S} (Holds f w) id v (dealt v) (fresh v)) (sym is_key) (subst (λ u. Splits {S = S} (Holds f z) id u (dealt u) (fresh u)) (sym is) (deals S f z id k below))
 
 -- a seat's view that is fresh
-pub fresh_seat : {B : Type 0} (z : Basis B) (k : ℕ) (v w : View B) → v ≡ dealer_from z k → w ≡ fresh v → w ≡ record { actor = newcomer k; sits = true; deals = false; bases = z ∷ []; more = [] }
+pub fresh_seat : {B : Type 0} (z : Basis B) (k : ℕ) (v w : View B) → v ≡ dealer_from z k → w ≡ fresh v → w ≡ record { actor = newcomer k; sits = true; deals = false; bases = z ∷ []; moves = []; more = [] }
 fresh_seat z k v w is made = made ∙ ap fresh is
 
-pub is_seat : {B : Type 0} (z : Basis B) (k : ℕ) (w : View B) → w ≡ record { actor = newcomer k; sits = true; deals = false; bases = z ∷ []; more = [] } → IsSeat w
+pub is_seat : {B : Type 0} (z : Basis B) (k : ℕ) (w : View B) → w ≡ record { actor = newcomer k; sits = true; deals = false; bases = z ∷ []; moves = []; more = [] } → IsSeat w
 is_seat z k w is = record { sits = ap (λ u. u.sits) is; deals = ap (λ u. u.deals) is; more = ap (λ u. u.more) is }
 
 -- one more seat is dealt

@@ -1,8 +1,11 @@
 -- Seats in the order of their numbers: those of a new board, those after calls that leave each the one that it was, and what a close asks.
-use Rattle.std.proofs.Common.{◌≡◌, ℕ, ◌<◌, List, [], ◌∷◌, length, map, IfSome, get_or, sym, ap, ◌∙◌, subst}
-use Rattle.std.specs.List.{range_with_len}
+use Rattle.std.proofs.Common.{◌≡◌, ◌≢◌, ℕ, ◌<◌, nat_eq, List, [], ◌∷◌, length, map, IfSome, get_or, sym, ap, ◌∙◌, subst, arith}
+use Rattle.std.specs.List.{IsDistinct, range_with_len}
+use Rattle.std.proofs.lemmas.Bool.{ne_eqb}
 use Rattle.std.proofs.lemmas.List.{get_or-map, length-map, map-id}
+use Rattle.std.proofs.lemmas.List.Elements.{All-nil}
 use Rattle.std.proofs.lemmas.List.FromFn.{fill_by_all}
+use Rattle.std.proofs.lemmas.Map.Keys.{IsDistinct-from_apart}
 use Rattle.std.proofs.lemmas.List.Sorted.{IsPermutation-refl}
 use Rattle.std.specs.List.Sorted.{IsPermutation}
 use Rattle.std.proofs.lemmas.Option.{slice_get-get_or}
@@ -10,7 +13,7 @@ use Rattle.atomic_table.specs.Seated.{TableId}
 use Rattle.lv_board.specs.declared.actors.Actor.{Actor}
 use Rattle.lv_board.specs.declared.actors.Basis.{Basis}
 use Rattle.lv_board.specs.declared.seats.Seat.{Seat}
-use Rattle.lv_board.specs.Closing.{AreAll, AreAt, IsStill}
+use Rattle.lv_board.specs.Closing.{AreAll, AreAt, AreSome, IsStill}
 use Rattle.lv_board.specs.Opening.{AreDealt}
 use Rattle.lv_board.specs.Ordered.{AreInOrder}
 use Rattle.lv_board.specs.Rule.{newcomer}
@@ -52,3 +55,20 @@ module _ {B : Type 0} (table : TableId) (z : Basis B) where
   pub order_all : (seats : List (Seat B)) → AreInOrder table z seats → AreAll z.seats seats
   order_all [] order = subst (λ n. IsPermutation (range_with_len 0 n) []) order.count (IsPermutation-refl [])
   order_all (s ∷ rest) order = order_from (s ∷ rest) s order
+
+  -- no two of them have one number
+  some_from : (seats : List (Seat B)) → Seat B → AreInOrder table z seats → IsDistinct nat_eq (map (λ u. (actor_of u).number) seats)
+  some_from seats s order = IsDistinct-from_apart nat_eq (map (λ u. (actor_of u).number) seats) (λ i j d less within.
+      let inside : j < length seats = subst (λ n. j < n) (length-map seats (λ u. (actor_of u).number)) within in
+      let before : i < length seats = omega arith in
+      let first = get_or-map (λ u. (actor_of u).number) seats i s d before ∙ (order.each i s before).1 in
+      let second = get_or-map (λ u. (actor_of u).number) seats j s d inside ∙ (order.each j s inside).1 in
+      let apart : get_or (map (λ u. (actor_of u).number) seats) i d ≢ get_or (map (λ u. (actor_of u).number) seats) j d = omega (arith, first, second) in
+      ne_eqb (get_or (map (λ u. (actor_of u).number) seats) i d) (get_or (map (λ u. (actor_of u).number) seats) j d) apart)
+
+  pub order_some : (seats : List (Seat B)) → AreInOrder table z seats → AreSome z.seats seats
+  order_some [] order = record { below = All-nil (λ s. (actor_of s).number < z.seats); apart = IsDistinct-from_apart nat_eq [] (λ i j d less within. absurd (omega arith)) }
+  order_some (s ∷ rest) order = record {
+    below = λ k u within. omega (arith, (order.each k u within).1, order.count);
+    apart = some_from (s ∷ rest) s order;
+  }

@@ -2,6 +2,7 @@
 use Rattle.std.proofs.Common.{◌≡◌, ℕ, ◌*◌, ◌/◌, ◌%◌, ◌<◌, List, [], ◌∷◌, refl, sym, ap, ◌∙◌, subst, arith}
 use Rattle.lv_geometry.specs.Cells.{capacity_of}
 use Rattle.lv_machine.specs.declared.entries.Entry.{Entry}
+use Rattle.lv_machine.specs.declared.moves.Move.{Move}
 use Rattle.lv_machine.specs.History.{descriptor_of, IsLegalHistory, own}
 use Rattle.lv_machine.specs.Terms.{AreTerms, Folding, Terms}
 use Rattle.lv_machine.proofs.HistoryLaws.{decoded, legal_within, length_below}
@@ -14,15 +15,15 @@ use Rattle.lv_board.specs.Plays.{IsQuiet, SeesAll}
 use Rattle.lv_board.specs.Rule.{IsSeat, terms_of}
 use Rattle.lv_board.specs.Stands.{IsLook, limits_of}
 
--- a view with another actor is a seat's where it was
-pub seat_after : {B : Type 0} (v w : View B) (x : Actor) → w ≡ record v { actor = x } → IsSeat v → IsSeat w
+-- a view with another actor and other moves is a seat's where it was
+pub seat_after : {B : Type 0} {moves : List Move} (v w : View B) (x : Actor) → w ≡ record v { actor = x; moves = moves } → IsSeat v → IsSeat w
 seat_after v w x same seat = record {
   sits = ap (λ u. u.sits) same ∙ seat.sits;
   deals = ap (λ u. u.deals) same ∙ seat.deals;
   more = ap (λ u. u.more) same ∙ seat.more;
 }
 
-pub based_after : {B : Type 0} (v w : View B) (z : Basis B) (x : Actor) → w ≡ record v { actor = x } → v.bases ≡ z ∷ [] → w.bases ≡ z ∷ []
+pub based_after : {B : Type 0} {moves : List Move} (v w : View B) (z : Basis B) (x : Actor) → w ≡ record v { actor = x; moves = moves } → v.bases ≡ z ∷ [] → w.bases ≡ z ∷ []
 based_after v w z x same based = ap (λ u. u.bases) same ∙ based
 
 -- the descriptor of a legal history is a look

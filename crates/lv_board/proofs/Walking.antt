@@ -1,11 +1,11 @@
 -- What the loads of a reduction and of a refresh make of the fold.
-use Rattle.std.proofs.Common.{◌≡◌, ℕ, ℤ, pos, ◌+◌, ◌-◌, ◌*◌, ◌/◌, ◌%◌, ◌<◌, ◌≤◌, true, false, None, List, Result, Ok, Err, length, nat_lt, slice_index, slice_set, replicate, length-set, refl, sym, ap, ◌∙◌, subst, inl, inr, arith}
+use Rattle.std.proofs.Common.{◌≡◌, ℕ, zero, suc, ℤ, pos, ◌+◌, ◌-◌, ◌*◌, ◌/◌, ◌%◌, ◌<◌, ◌≤◌, true, false, None, List, Result, Ok, Err, length, nat_lt, slice_index, slice_set, replicate, length-set, refl, sym, ap, ◌∙◌, subst, inl, inr, arith}
 use Rattle.std.specs.Prelude.{take, drop, slice_range, All}
 use Rattle.std.specs.List.{slice_index_or}
 use Rattle.std.proofs.lemmas.Bool.{cases_lt, cases_eq, cond-false}
 use Rattle.std.proofs.lemmas.Bool.Decides.{nat_tests}
 use Rattle.std.proofs.lemmas.List.{get_or_default, get_or_past, get_or-replicate, get_or-set_other, get_or-set_same}
-use Rattle.std.proofs.lemmas.List.Elements.{All-drop, All-take}
+use Rattle.std.proofs.lemmas.List.Elements.{All-drop, All-head, All-tail, All-take}
 use Rattle.atomic_table.specs.Seated.{TableId}
 use Rattle.lv_geometry.specs.Cells.{capacity_of}
 use Rattle.lv_geometry.specs.declared.refusals.Refusal.{Refusal}
@@ -23,7 +23,7 @@ use Rattle.lv_machine.specs.History.{cell_of, edits_of, elements_of, IsLegalHist
 use Rattle.lv_machine.specs.Layout.{part_place}
 use Rattle.lv_machine.specs.Shows.{block, mark_of}
 use Rattle.lv_machine.specs.Terms.{AreTerms, Folding, Terms}
-use Rattle.lv_machine.specs.Words.{HasPending, part_value, part_version, signed, value_of}
+use Rattle.lv_machine.specs.Words.{HasPending, part_value, part_version, part_word, signed, value_of}
 use Rattle.lv_machine.proofs.HistoryLaws.{legal_within, length-edits_of, size_below}
 use Rattle.lv_machine.proofs.ReadLaws.{all_short, cell_element, part_is}
 use Rattle.lv_machine.proofs.ReadyLaws.{block_whole}
@@ -35,7 +35,7 @@ use Rattle.lv_board.specs.declared.underway.Walk.{Walk}
 use Rattle.lv_board.specs.declared.seats.Seat.{Seat}
 use Rattle.lv_board.specs.Calls.{AreInstalled, HasLooked, IsSummed}
 use Rattle.lv_board.specs.Plays.{IsRead, SeesAll}
-use Rattle.lv_board.specs.Rule.{terms_of}
+use Rattle.lv_board.specs.Rule.{IsThere, terms_of}
 use Rattle.lv_board.specs.Tells.{actor_of, HasInstalled, IsAt, IsCellTaken, IsHelped, IsMarkTaken, IsWordLoaded}
 use Rattle.lv_board.specs.Walks.{AreTaken, block_fold, block_installed, Comes, HasCome, HasRead, MayRead, Sums}
 use Rattle.lv_board.proofs.Calling.{helped_quiet, looked_then, quiet_same, quiet_then}
@@ -210,12 +210,24 @@ looked_and_installed t x parts u w looked has =
     (quiet_same (actor_of u) (actor_of w) (ap (λ (a : Actor). a.number) has.actor) (ap (λ (a : Actor). a.known) has.actor) (ap (λ (a : Actor). a.own) has.actor))
     (ap (λ (a : Actor). a.seen) has.actor)
 
--- the parts of a block that were installed are those that the seat sees
+-- each of the first parts of a block is among those that were installed
+part_there : (t : Terms) (words : List ℕ) (b p n : ℕ) (h : List Entry) (before : List Installed) → p < n → All (IsThere words) (block_installed t b h n before) → part_word (mark_of b h) (t.folding.part p (elements_under (edits_of h) (block b))) ≤ slice_index words (part_place b p)
+part_there t words b p zero h before within all = absurd (omega arith)
+part_there t words b p (suc n) h before within all = elim (cases_lt p n) [
+  | inl earlier ↦ part_there t words b p n h before earlier (All-tail (IsThere words) record { place = part_place b n; word = part_word (mark_of b h) (t.folding.part n (elements_under (edits_of h) (block b))) } (block_installed t b h n before) all)
+  | inr last ↦
+      let here : n ≡ p = omega arith in
+      subst (λ q. part_word (mark_of b h) (t.folding.part q (elements_under (edits_of h) (block b))) ≤ slice_index words (part_place b q)) here
+      (All-head (IsThere words) record { place = part_place b n; word = part_word (mark_of b h) (t.folding.part n (elements_under (edits_of h) (block b))) } (block_installed t b h n before) all).word
+]
+
+-- the parts of a block that were installed are kept in each state of the board
 pub are_installed : {B : Type 0} (t : Terms) (b : ℕ) (u w : Seat B) → HasInstalled (block_installed t b (actor_of u).seen t.folding.parts (actor_of u).installed) u w → AreInstalled t b (actor_of w)
-are_installed t b u w has = (
-  (actor_of u).installed,
-  ap (λ (a : Actor). a.installed) has.actor ∙ ap (λ h. block_installed t b h t.folding.parts (actor_of u).installed) (sym (ap (λ (a : Actor). a.seen) has.actor)),
-)
+are_installed t b u w has = λ state owner id p fits within.
+    let all = subst (λ l. All (IsThere state.words) l) (ap (λ (a : Actor). a.installed) has.actor) fits.installed in
+    let same : (actor_of w).seen ≡ (actor_of u).seen = ap (λ (a : Actor). a.seen) has.actor in
+    subst (λ h. part_word (mark_of b h) (t.folding.part p (elements_under (edits_of h) (block b))) ≤ slice_index state.words (part_place b p)) (sym same)
+    (part_there t state.words b p t.folding.parts (actor_of u).seen (actor_of u).installed within all)
 
 -- nothing refuses a range in the list
 range_free : (es : List Edit) (lo hi : ℕ) → lo ≤ hi → hi ≤ length (list_of es) → range_refusal es lo hi ≡ None

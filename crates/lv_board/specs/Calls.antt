@@ -1,31 +1,36 @@
 -- What the calls of a board answer.
-use Rattle.std.specs.Prelude.{◌≡◌, ◌⊎◌, ℕ, ℤ, pos, ◌+◌, ◌-◌, ◌*◌, ◌<◌, true, false, Some, None, Result, Ok, Err, List, ◌∷◌, length}
+use Rattle.std.specs.Prelude.{◌≡◌, ◌⊎◌, ℕ, ℤ, pos, ◌+◌, ◌-◌, ◌*◌, ◌<◌, ◌≤◌, true, false, Some, None, Result, Ok, Err, List, ◌∷◌, length, slice_index}
 use Rattle.std.specs.List.{slice_index_or}
 use Rattle.lv_geometry.specs.declared.refusals.Refusal.{Refusal}
 use Rattle.lv_geometry.specs.declared.refusals.Refusal.TheVariants.{Contended, OutOfRange}
 use Rattle.lv_bodies.specs.Body.{Operations}
 use Rattle.lv_edits.specs.declared.edit.Edit.{Edit}
+use Rattle.lv_edits.specs.declared.edit.Edit.TheVariants.{Push, Pop, Write, Reserve, Swap, Truncate}
 use Rattle.lv_edits.specs.declared.receipt.Receipt.{Receipt}
-use Rattle.lv_edits.specs.Touch.{is_whole}
+use Rattle.lv_edits.specs.Touch.{elements_under, is_whole}
 use Rattle.lv_edits.specs.Verdict.{element_at, receipt_of, verdict_of}
 use Rattle.lv_machine.specs.declared.entries.Entry.{Entry}
 use Rattle.lv_machine.specs.declared.outcomes.Read.{Read}
 use Rattle.lv_machine.specs.declared.outcomes.Refreshed.{Refreshed}
+use Rattle.lv_machine.specs.Layout.{part_place}
+use Rattle.lv_machine.specs.Moves.{Config}
 use Rattle.lv_machine.specs.Shows.{block, mark_of}
+use Rattle.lv_machine.specs.Words.{part_word}
 use Rattle.lv_reduce.specs.Answer.{IsAnswer, range_refusal}
 use Rattle.lv_reduce.specs.declared.reductions.Answer.{Answer}
 use Rattle.lv_machine.specs.History.{edits_of, elements_of, Ends, IsLegalHistory, own}
 use Rattle.lv_machine.specs.Terms.{Terms}
 use Rattle.lv_board.specs.declared.actors.Actor.{Actor}
-use Rattle.lv_board.specs.declared.actors.Installed.{Installed}
 use Rattle.lv_board.specs.Plays.{IsAccepted, IsQuiet}
+use Rattle.lv_board.specs.Rule.{ActorFits}
 use Rattle.lv_board.specs.Tells.{IsOvertaken}
-use Rattle.lv_board.specs.Walks.{block_installed}
 
--- an actor looked and made no edit: all that it knew before is in what it sees, a legal history
+-- an actor looked and made no edit: what it knew before is a beginning of what it sees, a legal history, and that is a beginning of what it
+-- knows now. So what it sees at one call is a beginning of what it sees at the next, and of the history at the close
 pub record HasLooked (t : Terms) (x y : Actor) : Type 0 where
   pub quiet : IsQuiet x y
   pub fresh : Ends x.known y.seen
+  pub kept : Ends y.seen y.known
   pub legal : IsLegalHistory t y.seen
 
 -- an edit was accepted, right after a history: it is the last entry of what the actor sees, and the last of its own
@@ -39,26 +44,36 @@ pub record HasAdded (t : Terms) (x y : Actor) (edit : Edit) (h : List Entry) (re
   pub verdict : verdict_of t.limits (edits_of h) edit ≡ None
   pub receipt_is : receipt ≡ receipt_of (edits_of h) edit
 
--- another edit came before the exchange: the answer is the number of the last edit that is seen now, above that of the look that was used,
--- where nothing refused the edit
+-- another edit came between the look that was used, where nothing refused the edit, and the exchange: the answer is the number of the last
+-- edit that is seen now, above that of the look
 pub record IsContendedAt (t : Terms) (y : Actor) (edit : Edit) (looked : List Entry) (refusal : Refusal) : Type 0 where
   pub refusal_is : refusal ≡ Contended (length y.seen)
   pub before : length looked < length y.seen
   pub verdict : verdict_of t.limits (edits_of looked) edit ≡ None
 
--- why a try is refused: by its verdict at what it saw, or by a word of a later edit, or because another edit came first
+-- the edits whose tries load a cell: a pop and a write give the element that was there. A push loads none
+abbrev pub LoadsCell : Edit → Type 0
+LoadsCell (Push x) = ⊥
+LoadsCell Pop = Unit {0}
+LoadsCell (Write i x) = Unit {0}
+LoadsCell (Reserve n) = ⊥
+LoadsCell (Swap i j) = ⊥
+LoadsCell (Truncate n) = ⊥
+
+-- why a try is refused: by its verdict at what is seen now; or, of an edit that loads a cell, because a later edit wrote there; or because
+-- another edit came between its look and its exchange. What was known before, the look, and what is seen now each begin the next
 abbrev pub IsTryRefusal : Terms → Actor → Actor → Edit → Refusal → Type 0
 IsTryRefusal t x y edit refusal =
     (verdict_of t.limits (edits_of y.seen) edit ≡ Some refusal)
-    ⊎ ((verdict_of t.limits (edits_of y.seen) edit ≡ None) × IsOvertaken y refusal)
-    ⊎ ((h : List Entry) × Ends x.known h × IsContendedAt t y edit h refusal)
+    ⊎ (LoadsCell edit × (verdict_of t.limits (edits_of y.seen) edit ≡ None) × IsOvertaken y refusal)
+    ⊎ ((looked : List Entry) × Ends x.known looked × Ends looked y.seen × IsContendedAt t y edit looked refusal)
 
 -- what a try that looks first answers
 abbrev pub TryAnswers : Terms → Actor → Actor → Edit → Result Receipt Refusal → Type 0
 TryAnswers t x y edit (Ok receipt) = (h : List Entry) × HasAdded t x y edit h receipt
 TryAnswers t x y edit (Err refusal) = HasLooked t x y × IsTryRefusal t x y edit refusal
 
--- what an exchange from the look that a seat has answers: refused at its look, nothing has changed but that its write is complete
+-- what an exchange from the look that a seat has answers: refused at its look, it changes nothing; and it loads no cell
 abbrev pub LookedAnswers : Terms → Actor → Actor → Edit → Result Receipt Refusal → Type 0
 LookedAnswers t x y edit (Ok receipt) = HasAdded t x y edit x.seen receipt
 LookedAnswers t x y edit (Err refusal) =
@@ -73,7 +88,7 @@ TakeAnswers t x y edit i (Ok taken) =
     × (taken.1 ≡ slice_index_or (elements_of x.seen) i (pos 0))
 TakeAnswers t x y edit i (Err refusal) =
     (IsQuiet x y × (y.seen ≡ x.seen) × IsOvertaken y refusal)
-    ⊎ ((m : Actor) × IsQuiet x m × (m.seen ≡ x.seen) × IsQuiet m y × Ends m.known y.seen × IsLegalHistory t y.seen × (length x.seen < length y.seen) × (refusal ≡ Contended (length y.seen)))
+    ⊎ ((m : Actor) × IsQuiet x m × (m.seen ≡ x.seen) × HasLooked t m y × (length x.seen < length y.seen) × (refusal ≡ Contended (length y.seen)))
 
 -- what a read of an element answers
 abbrev pub GetAnswers : ℕ → Actor → Result Read Refusal → Type 0
@@ -102,6 +117,11 @@ RefreshAnswers b y (Err refusal) =
     ((is_whole (edits_of y.seen) (block b) ≡ false) × (refusal ≡ OutOfRange (length (elements_of y.seen))))
     ⊎ ((is_whole (edits_of y.seen) (block b) ≡ true) × IsOvertaken y refusal)
 
--- the parts of a block, as the actor sees it, are the last that it installed
+-- the parts of a block, as the actor sees it, are kept: in whatever state of the board this actor is, the word at each part's place is that
+-- part, or a greater one, which displaced it
 abbrev pub AreInstalled : Terms → ℕ → Actor → Type 0
-AreInstalled t b y = (before : List Installed) × (y.installed ≡ block_installed t b y.seen t.folding.parts before)
+AreInstalled t b y =
+    (state : Config) (owner : ℕ → ℕ) (id p : ℕ)
+    → ActorFits t.seats state owner id y
+    → p < t.folding.parts
+    → part_word (mark_of b y.seen) (t.folding.part p (elements_under (edits_of y.seen) (block b))) ≤ slice_index state.words (part_place b p)

@@ -1,6 +1,6 @@
 -- What the close of a board gives.
-use Rattle.std.specs.Prelude.{◌≡◌, ◌≤◌, ℕ, ℤ, List, length, map, nat_eq, slice_index, All, if◌then◌else◌}
-use Rattle.std.specs.List.{range_with_len, sum_by}
+use Rattle.std.specs.Prelude.{◌≡◌, ◌<◌, ◌≤◌, ℕ, ℤ, List, length, map, nat_eq, slice_index, All, if◌then◌else◌}
+use Rattle.std.specs.List.{IsDistinct, range_with_len, sum_by}
 use Rattle.std.specs.List.Sorted.{IsPermutation}
 use Rattle.atomic_table.specs.Seated.{TableId}
 use Rattle.lv_machine.specs.declared.entries.Entry.{Entry}
@@ -43,6 +43,11 @@ module _ {B : Type 0} where
   abbrev pub AreAll : ℕ → List (Seat B) → Type 0
   AreAll count seats = IsPermutation (range_with_len 0 count) (map (λ s. (actor_of s).number) seats)
 
+  -- some of the seats of a board of so many: no two of one number
+  pub record AreSome (count : ℕ) (seats : List (Seat B)) : Type 0 where
+    pub below : All (λ s. (actor_of s).number < count) seats
+    pub apart : IsDistinct nat_eq (map (λ s. (actor_of s).number) seats)
+
   -- a seat is still the one that it was: it stays at its board and keeps its number
   pub record IsStill (s u : Seat B) : Type 0 where
     pub stays : Stays s u
@@ -52,8 +57,7 @@ module _ {B : Type 0} where
   abbrev pub made_by : Seat B → ℕ
   made_by s = length (own (actor_of s).number (actor_of s).known)
 
-  -- what was closed by some of the seats had one legal history. The number is that of its last edit, and the elements are those after it;
-  -- and each of those seats knows an earlier one, with all entries of its own
+  -- what a board came to by such seats as were handed in, if any: each of them knows an earlier history, with all entries of its own
   pub record IsEnded (t : Terms) (seats : List (Seat B)) (closed : Closed) : Type 0 where
     pub history : List Entry
     pub legal : IsLegalHistory t history

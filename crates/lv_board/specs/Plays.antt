@@ -1,10 +1,12 @@
--- What each step of a seat tells it.
-use Rattle.std.specs.Prelude.{◌≡◌, ℕ, ◌<◌, true, [], ◌∷◌, length, MatchBool, nat_eq}
+-- What each step of a seat tells it, and the move that it is.
+use Rattle.std.specs.Prelude.{◌≡◌, ℕ, ◌-◌, ◌<◌, true, [], ◌∷◌, length, MatchBool, nat_eq}
 use Rattle.atomic_table.specs.Table.{Me, Step}
 use Rattle.lv_geometry.specs.Cells.{capacity_of}
 use Rattle.lv_machine.specs.declared.entries.Entry.{Entry}
+use Rattle.lv_machine.specs.declared.moves.Move.{Move}
+use Rattle.lv_machine.specs.declared.moves.Move.TheVariants.{Exchange, HelpCell, HelpMark, Install, Look, Read}
 use Rattle.lv_machine.specs.History.{descriptor_of, Ends, IsLegalHistory, own}
-use Rattle.lv_machine.specs.Layout.{cell_place, mark_place, part_place}
+use Rattle.lv_machine.specs.Layout.{block_at, cell_place, mark_place, part_place, row_at}
 use Rattle.lv_machine.specs.Shows.{FitsPart, IsCellRead, IsMarkRead}
 use Rattle.lv_machine.specs.Terms.{AreTerms, blocks_of, Folding, Terms}
 use Rattle.lv_machine.specs.Words.{edit_between, HasPending}
@@ -51,34 +53,38 @@ pub record IsAccepted (t : Terms) (x y : Actor) (entry : Entry) : Type 0 where
 
 -- another descriptor was found, of a longer history, which the actor sees now
 pub record IsContended (t : Terms) (x y : Actor) (found : ℕ) : Type 0 where
+  pub number : x.number < t.seats
+  pub seen : Ends x.seen y.seen
   pub quiet : IsQuiet x y
   pub sees : SeesAll t y found
   pub later : length x.seen < length y.seen
 
 module _ {S B : Type 0} where
-  -- the seat's view is the same but for its actor
-  abbrev pub WithActor : Me S (View B) → Me S (View B) → Type 0
-  WithActor me after = (after.1 ≡ me.1) × (after.0 ≡ record (me.0) { actor = after.0.actor })
+  -- a seat made a move, of its number: its view is the same but for that and its actor
+  abbrev pub Makes : Move → Actor → Me S (View B) → Me S (View B) → Type 0
+  Makes move actor me after = (after.1 ≡ me.1) × (after.0 ≡ record (me.0) { actor = actor; moves = move ∷ me.0.moves })
 
   abbrev pub HelpsCell : Step S → Me S (View B) → ℕ → Me S (View B) → Type 0
-  HelpsCell step me found after = (after.1 ≡ me.1) × (after.0 ≡ record (me.0) { actor = record (me.0.actor) { helped = true } })
+  HelpsCell step me found after = Makes (HelpCell me.0.actor.number) (record (me.0.actor) { helped = true }) me after
 
   abbrev pub HelpsMark : Step S → Me S (View B) → ℕ → Me S (View B) → Type 0
-  HelpsMark step me found after = (after.1 ≡ me.1) × (after.0 ≡ record (me.0) { actor = record (me.0.actor) { marked = true } })
+  HelpsMark step me found after = Makes (HelpMark me.0.actor.number) (record (me.0.actor) { marked = true }) me after
 
   abbrev pub Installs : Step S → Me S (View B) → ℕ → Me S (View B) → Type 0
-  Installs step me found after = (after.1 ≡ me.1) × (after.0 ≡ record (me.0) { actor = record (me.0.actor) { installed = record { place = step.word; word = step.first } ∷ me.0.actor.installed } })
+  Installs step me found after =
+      Makes (Install me.0.actor.number (block_at step.word) (row_at step.word - 9) step.first)
+      (record (me.0.actor) { installed = record { place = step.word; word = step.first } ∷ me.0.actor.installed }) me after
 
   module _ (f : B → Folding) where
     abbrev pub Looks : Step S → Me S (View B) → ℕ → Me S (View B) → Type 0
-    Looks step me found after = WithActor me after × IsQuiet me.0.actor after.0.actor × ((z : Basis B) → me.0.bases ≡ z ∷ [] → SeesAll (terms_of f z) after.0.actor found) × Ends me.0.actor.told after.0.actor.known
+    Looks step me found after = Makes (Look me.0.actor.number) after.0.actor me after × IsQuiet me.0.actor after.0.actor × ((z : Basis B) → me.0.bases ≡ z ∷ [] → SeesAll (terms_of f z) after.0.actor found) × Ends me.0.actor.told after.0.actor.known
 
     abbrev pub Reads : Step S → Me S (View B) → ℕ → Me S (View B) → Type 0
-    Reads step me found after = WithActor me after × ((z : Basis B) → me.0.bases ≡ z ∷ [] → IsRead (terms_of f z) me.0.actor after.0.actor step.word found)
+    Reads step me found after = Makes (Read me.0.actor.number) after.0.actor me after × ((z : Basis B) → me.0.bases ≡ z ∷ [] → IsRead (terms_of f z) me.0.actor after.0.actor step.word found)
 
     abbrev pub Exchanges : Step S → Me S (View B) → ℕ → Me S (View B) → Type 0
     Exchanges step me found after =
-        WithActor me after
+        Makes (Exchange me.0.actor.number (edit_between step.first step.second)) after.0.actor me after
         × ((z : Basis B) → me.0.bases ≡ z ∷ []
         → MatchBool (nat_eq found step.first)
         (IsAccepted (terms_of f z) me.0.actor after.0.actor record { actor = me.0.actor.number; edit = edit_between step.first step.second })

@@ -1,9 +1,11 @@
 -- What several tries of one edit answer, made one after the other.
-use Rattle.std.specs.Prelude.{◌≡◌, ◌⊎◌, ℕ, zero, suc, ◌+◌, ◌<◌, Result, Ok, Err}
+use Rattle.std.specs.Prelude.{◌≡◌, ◌⊎◌, ℕ, zero, suc, ◌+◌, ◌<◌, Result, Ok, Err, List, ◌∷◌}
 use Rattle.lv_geometry.specs.declared.refusals.Refusal.{Refusal}
 use Rattle.lv_geometry.specs.declared.refusals.Refusal.TheVariants.{Contended, Overtaken}
 use Rattle.lv_edits.specs.declared.edit.Edit.{Edit}
 use Rattle.lv_edits.specs.declared.receipt.Receipt.{Receipt}
+use Rattle.lv_machine.specs.declared.entries.Entry.{Entry}
+use Rattle.lv_machine.specs.History.{Ends, own}
 use Rattle.lv_machine.specs.Terms.{Terms}
 use Rattle.lv_board.specs.declared.actors.Actor.{Actor}
 use Rattle.lv_board.specs.Calls.{TryAnswers}
@@ -18,6 +20,17 @@ abbrev pub AreOutrun : Terms → Edit → ℕ → Actor → Actor → Type 0
 AreOutrun t edit zero x y = y ≡ x
 AreOutrun t edit (suc n) x y = (m : Actor) × (refusal : Refusal) × AreOutrun t edit n x m × TryAnswers t m y edit (Err refusal) × IsOutrun (Err refusal)
 
+-- the entries of an actor's own after tries of an edit: the edit is the last of them where it was accepted, and there is no other new one
+abbrev pub own_after : Actor → Edit → Result Receipt Refusal → List Entry
+own_after x edit (Ok receipt) = record { actor = x.number; edit = edit } ∷ own x.number x.known
+own_after x edit (Err refusal) = own x.number x.known
+
+-- what an actor knew before its tries of an edit is a beginning of what it knows after them, and of its own it made what was accepted alone
+pub record HasTried (x y : Actor) (edit : Edit) (result : Result Receipt Refusal) : Type 0 where
+  pub number : y.number ≡ x.number
+  pub known : Ends x.known y.known
+  pub own_is : own x.number y.known ≡ own_after x edit result
+
 -- at most so many tries of an edit were made, one after the other: all but the last were outrun, and the answer is the last one's; where that
 -- is outrun too, all were made
 pub record AnswersWithin (t : Terms) (tries : ℕ) (x y : Actor) (edit : Edit) (result : Result Receipt Refusal) : Type 0 where
@@ -27,3 +40,4 @@ pub record AnswersWithin (t : Terms) (tries : ℕ) (x y : Actor) (edit : Edit) (
   pub last : TryAnswers t before y edit result
   pub few : outrun < tries
   pub all : IsOutrun result → outrun + 1 ≡ tries
+  pub tried : HasTried x y edit result

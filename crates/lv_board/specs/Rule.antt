@@ -6,7 +6,8 @@ use Rattle.atomic_table.specs.Table.{State}
 use Rattle.lv_bodies.specs.Body.{fold_of, Operations}
 use Rattle.lv_machine.specs.History.{descriptor_of, Ends, own}
 use Rattle.lv_machine.specs.Layout.{cell_place, mark_place}
-use Rattle.lv_machine.specs.Moves.{AreAllowed, Config, Move, reached}
+use Rattle.lv_machine.specs.declared.moves.Move.{Move}
+use Rattle.lv_machine.specs.Moves.{AreAllowed, Config, made_by, mover, reached}
 use Rattle.lv_machine.specs.Terms.{AreTerms, Folding, Terms}
 use Rattle.lv_machine.specs.Words.{cell_version, edit_of, HasPending, index_of}
 use Rattle.lv_board.specs.declared.actors.Actor.{Actor}
@@ -23,13 +24,9 @@ abbrev pub newcomer : ℕ → Actor
 newcomer number = record { number = number; seen = []; known = []; own = []; told = []; helped = false; marked = false; installed = [] }
 
 module _ {B : Type 0} where
-  -- the view of a seat
-  abbrev pub seated : Basis B → Actor → View B
-  seated z x = record { actor = x; sits = true; deals = false; bases = z ∷ []; more = [] }
-
   -- the view that deals the seats, from a number on; the first view deals all of them
   abbrev pub dealer_from : Basis B → ℕ → View B
-  dealer_from z number = record { actor = newcomer number; sits = false; deals = true; bases = z ∷ []; more = [] }
+  dealer_from z number = record { actor = newcomer number; sits = false; deals = true; bases = z ∷ []; moves = []; more = [] }
 
   abbrev pub dealer : Basis B → View B
   dealer z = dealer_from z 0
@@ -39,15 +36,15 @@ module _ {B : Type 0} where
   dealt v = record v { actor = newcomer (v.actor.number + 1) }
 
   abbrev pub fresh : View B → View B
-  fresh v = record { actor = newcomer v.actor.number; sits = true; deals = false; bases = v.bases; more = [] }
+  fresh v = record { actor = newcomer v.actor.number; sits = true; deals = false; bases = v.bases; moves = []; more = [] }
 
   -- a view that is spent knows nothing
   abbrev pub spent : View B
-  spent = record { actor = newcomer 0; sits = false; deals = false; bases = []; more = [] }
+  spent = record { actor = newcomer 0; sits = false; deals = false; bases = []; moves = []; more = [] }
 
   -- a note tells what a seat knows, and is no seat
   abbrev pub note : View B → View B
-  note v = record { actor = record { number = 0; seen = []; known = v.actor.known; own = []; told = []; helped = false; marked = false; installed = [] }; sits = false; deals = false; bases = []; more = [] }
+  note v = record { actor = record { number = 0; seen = []; known = v.actor.known; own = []; told = []; helped = false; marked = false; installed = [] }; sits = false; deals = false; bases = []; moves = []; more = [] }
 
   -- a seat that has read a note was told of what it says
   abbrev pub informed : View B → View B → View B
@@ -88,6 +85,12 @@ pub record IsUndealt (c : Config) (owner : ℕ → ℕ) (id number : ℕ) : Type
   pub look : c.looks number ≡ descriptor_of []
   pub own_is : own number c.history ≡ []
 
+-- what a view says of the moves that led to a state: those of a seat's number are the moves that the seat made, and those of the number
+-- of a seat that is not dealt yet are none
+pub record HasMade {B : Type 0} (seats : ℕ) (moves : List Move) (v : View B) : Type 0 where
+  pub sits : v.sits ≡ true → made_by v.actor.number moves ≡ v.moves
+  pub deals : v.deals ≡ true → (number : ℕ) → v.actor.number ≤ number → number < seats → made_by number moves ≡ []
+
 module _ {B : Type 0} (f : B → Folding) where
   -- the terms of the lock-free form that a board is made with
   abbrev pub terms_of : Basis B → Terms
@@ -101,11 +104,14 @@ module _ {B : Type 0} (f : B → Folding) where
     pub deals : v.deals ≡ true → (number : ℕ) → v.actor.number ≤ number → number < z.seats → IsUndealt c owner id number
     pub more : All (ActorFits z.seats c owner id) v.more
 
-  -- there are allowed moves that lead to the words, and each view is true of what they reach
+  -- there are allowed moves that lead to the words; each view is true of what they reach, each move is of a seat's number, and each
+  -- seat made those of its own
   pub record Holds {S : Type 0} (z : Basis B) (s : State S (View B)) : Type 0 where
     pub terms : AreTerms (terms_of z)
     pub moves : List Move
     pub allowed : AreAllowed (terms_of z) moves
     pub words_are : s.words ≡ (reached (terms_of z) moves).words
+    pub movers : All (λ m. mover m < z.seats) moves
     pub owner : ℕ → ℕ
     pub views : (id : ℕ) (v : View B) → get_elem? s.views id ≡ some v → ViewFits z (reached (terms_of z) moves) owner id v
+    pub made : (id : ℕ) (v : View B) → get_elem? s.views id ≡ some v → HasMade z.seats moves v

@@ -1,6 +1,6 @@
 -- A board that is shared, its seats, and what their calls end with.
-use Rattle.std.specs.Prelude.{◌≡◌, ◌⊎◌, ℕ, ℤ, ◌+◌, ◌-◌, ◌*◌, ◌<◌, ◌≤◌, max, None, Some, Result, Ok, Err, List, [], ◌∷◌, length, map, All, IfOk}
-use Rattle.std.specs.List.{range_with_len}
+use Rattle.std.specs.Prelude.{◌≡◌, ◌≢◌, ◌⊎◌, ℕ, ℤ, ◌+◌, ◌-◌, ◌*◌, ◌<◌, ◌≤◌, max, None, Some, Result, Ok, Err, List, [], ◌∷◌, ◌++◌, length, map, All, IfOk}
+use Rattle.std.specs.List.{range_with_len, sum_by}
 use Rattle.std.specs.Arc.{arc_value}
 use Rattle.atomic_table.specs.Seated.{TableId}
 use Rattle.lv_geometry.specs.Bounds.{Bounds}
@@ -22,11 +22,13 @@ use Rattle.lv_machine.specs.declared.outcomes.Refreshed.{Refreshed}
 use Rattle.lv_machine.specs.declared.outcomes.Said.{Said}
 use Rattle.lv_machine.specs.declared.outcomes.Said.TheVariants as said
 use Rattle.lv_machine.specs.declared.entries.Entry.{Entry}
-use Rattle.lv_machine.specs.History.{edits_of, elements_of, IsLegalHistory}
+use Rattle.lv_machine.specs.History.{edits_of, elements_of, IsLegalHistory, own}
 use Rattle.lv_machine.specs.Terms.{Folding, Terms}
 use Rattle.lv_board.specs.declared.actors.Actor.{Actor}
 use Rattle.lv_board.specs.declared.remains.Closed.{Closed}
 use Rattle.lv_board.specs.declared.opened.Opened.{Opened}
+use Rattle.lv_board.specs.declared.sharing.Unclosed.{Unclosed}
+use Rattle.lv_board.specs.declared.sharing.Unclosed.TheVariants as unclosed
 use Rattle.lv_board.specs.declared.sharing.Unseated.{Unseated}
 use Rattle.lv_board.specs.declared.sharing.Unseated.TheVariants.{NoMemory, NoSeat}
 use Rattle.lv_board.specs.declared.sitters.Sitter.{Sitter}
@@ -38,17 +40,19 @@ use Rattle.lv_board.specs.Rule.{folds, newcomer, terms_of}
 use Rattle.lv_board.specs.Session.{said_read, said_reduced, said_refreshed, said_tried}
 use Rattle.lv_board.specs.Tells.{actor_of, IsOvertaken}
 
--- where a seat is, and what it knows: the board and its terms, the kind and what it says of a list, and the seat's actor
+-- where a seat is, and what it knows: the board with its stamp and its terms, the kind and what it says of a list, and the seat's actor
 pub record Sat : Type 0 where
   pub board : TableId
+  pub stamp : ℕ
   pub terms : Terms
   pub kind : Kind
   pub plain : List ℤ → Shown
   pub knows : Actor
 
--- a board that is shared: the same, and what those of its seats know that nobody has taken, in the order of their numbers
+-- a board that is shared: the same, and what those of its seats know that are there. The first of them is the next to be taken
 pub record Shared : Type 0 where
   pub board : TableId
+  pub stamp : ℕ
   pub terms : Terms
   pub kind : Kind
   pub plain : List ℤ → Shown
@@ -56,9 +60,10 @@ pub record Shared : Type 0 where
 
 -- ---- a board that is shared
 
--- a board was opened: of these limits, this number of seats, this kind and these values, with no edits, and all its seats are there
-pub record IsNewlyShared (limits : Bounds) (seats : ℕ) (folding : Folding) (kind : Kind) (plain : List ℤ → Shown) (new : Shared) : Type 0 where
+-- a board was opened: of these limits, this number of seats, this stamp, this kind and these values, with no edits, and all its seats are there
+pub record IsNewlyShared (limits : Bounds) (seats stamp : ℕ) (folding : Folding) (kind : Kind) (plain : List ℤ → Shown) (new : Shared) : Type 0 where
   pub allowed : MayOpen limits seats
+  pub stamp_is : new.stamp ≡ stamp
   pub terms : new.terms ≡ record { limits = limits; seats = seats; folding = folding }
   pub kind_is : new.kind ≡ kind
   pub plain_is : new.plain ≡ plain
@@ -66,7 +71,7 @@ pub record IsNewlyShared (limits : Bounds) (seats : ℕ) (folding : Folding) (ki
 
 -- the first of the seats that were there was taken, and the others are there
 pub record Sits (old : Shared) (s : Sat) (new : Shared) : Type 0 where
-  pub seat : s ≡ record { board = old.board; terms = old.terms; kind = old.kind; plain = old.plain; knows = s.knows }
+  pub seat : s ≡ record { board = old.board; stamp = old.stamp; terms = old.terms; kind = old.kind; plain = old.plain; knows = s.knows }
   pub first : old.left ≡ s.knows ∷ new.left
   pub same : new ≡ record old { left = new.left }
 
@@ -75,20 +80,41 @@ abbrev pub IsUnseated : Shared → Unseated → Type 0
 IsUnseated old NoSeat = old.left ≡ []
 IsUnseated old NoMemory = 0 < length old.left
 
--- what was closed had one legal history. The number is that of its last edit, and the elements are those after it; and each seat that nobody
--- had taken knows an earlier one, with all entries of its own
+-- a seat of the board was taken back, behind those that were there, with all that it knows
+pub record IsBack (old : Shared) (s : Sat) (new : Shared) : Type 0 where
+  pub stamp : s.stamp ≡ old.stamp
+  pub board : s.board ≡ old.board
+  pub left : new.left ≡ old.left ++ s.knows ∷ []
+  pub same : new ≡ record old { left = new.left }
+
+-- why a board stays open. Want of memory is found only where all seats are there
+abbrev pub IsUnclosed : Shared → Unclosed → Type 0
+IsUnclosed old unclosed.SeatsOut = Unit {0}
+IsUnclosed old unclosed.NoMemory = length old.left ≡ old.terms.seats
+
+-- what was closed had one legal history. The number is that of its last edit, and the elements are those after it. All seats of the board were
+-- there: each knows an earlier history, with all entries of its own; and the entries of all seats are all that there are
 pub record IsClosedShared (old : Shared) (closed : Closed) : Type 0 where
   pub history : List Entry
   pub legal : IsLegalHistory old.terms history
   pub edit : closed.edit ≡ length history
   pub elements : closed.elements ≡ elements_of history
   pub few : length closed.elements ≤ 4088
+  pub all : length old.left ≡ old.terms.seats
   pub known : All (IsKept history) old.left
+  pub total : closed.edit ≡ sum_by (λ x. length (own x.number x.known)) old.left
+
+module _ {B S : Type 0} where
+  -- a sitter has a seat of the board, and none that is there has its number
+  pub record IsOut (o : Opened B S) (s : Sitter B S) : Type 0 where
+    pub board : arc_value s.board ≡ arc_value o.board
+    pub apart : All (λ u. (actor_of u).number ≢ (actor_of s.seat).number) o.seats.items
 
 module _ {B S : Type 0} (count : ℕ) (parts_of : S → List ℕ) (operations : B → Operations S) (kind : Kind) (plain : B → List ℤ → Shown) where
   abbrev pub sat_of : Sitter B S → Sat
   sat_of s = record {
     board = (arc_value s.board).table.shared.table_id;
+    stamp = s.stamp;
     terms = terms_of (folds count parts_of operations) (arc_value s.board).terms;
     kind = kind;
     plain = plain (arc_value s.board).terms.body;
@@ -98,6 +124,7 @@ module _ {B S : Type 0} (count : ℕ) (parts_of : S → List ℕ) (operations : 
   abbrev pub shared_of : Opened B S → Shared
   shared_of o = record {
     board = (arc_value o.board).table.shared.table_id;
+    stamp = o.stamp;
     terms = terms_of (folds count parts_of operations) (arc_value o.board).terms;
     kind = kind;
     plain = plain (arc_value o.board).terms.body;

@@ -1,6 +1,8 @@
 -- What the calls of a board tell of a seat, before and after.
 use Rattle.std.specs.Prelude.{◌≡◌, ℕ, ◌<◌, ◌≤◌, Bool, true, List, ◌∷◌, length, ℤ, Result, IfOk, IfErr, MatchBool}
 use Rattle.lv_machine.specs.declared.entries.Entry.{Entry}
+use Rattle.lv_machine.specs.declared.moves.Move.{Move}
+use Rattle.lv_machine.specs.declared.moves.Move.TheVariants.{Exchange, HelpCell, HelpMark, Install, Look, Read}
 use Rattle.lv_machine.specs.History.{cell_of, IsLegalHistory}
 use Rattle.lv_machine.specs.Words.{signed, value_of}
 use Rattle.lv_machine.specs.Shows.{mark_of}
@@ -29,6 +31,18 @@ module _ {B : Type 0} where
   abbrev pub actor_of : Seat B → Actor
   actor_of s = s.token.me.0.actor
 
+  -- the steps that a seat made on the words, the last first
+  abbrev pub moves_of : Seat B → List Move
+  moves_of s = s.token.me.0.moves
+
+  -- a seat made one move more, of its number
+  abbrev pub HasMoved : (ℕ → Move) → Seat B → Seat B → Type 0
+  HasMoved move s t = moves_of t ≡ move (actor_of s).number ∷ moves_of s
+
+  -- the move that it made more installs a word as a part of a block
+  abbrev pub HasMovedPart : ℕ → ℕ → ℕ → Seat B → Seat B → Type 0
+  HasMovedPart b part word = HasMoved (λ a. Install a b part word)
+
   -- a seat is one of the board of a table and a basis
   pub record IsAt (table : TableId) (z : Basis B) (s : Seat B) : Type 0 where
     pub at : s.token.table_id ≡ table
@@ -54,11 +68,13 @@ module _ {B : Type 0} where
     pub stays : Stays s t
     pub look : t.look ≡ s.look
     pub actor : actor_of t ≡ record (actor_of s) { helped = true }
+    pub moves : HasMoved HelpCell s t
 
   pub record IsMarkHelped (s t : Seat B) : Type 0 where
     pub stays : Stays s t
     pub look : t.look ≡ s.look
     pub actor : actor_of t ≡ record (actor_of s) { marked = true }
+    pub moves : HasMoved HelpMark s t
 
   -- the parts that a seat installed are these now, and nothing else of it has changed
   pub record HasInstalled (parts : List Installed) (s t : Seat B) : Type 0 where
@@ -86,12 +102,14 @@ module _ {B : Type 0} where
       pub stays : Stays s t
       pub quiet : IsQuiet (actor_of s) (actor_of t)
       pub sees : SeesAll (terms_of f s.terms) (actor_of t) t.look
+      pub moves : HasMoved Look s t
 
     -- a seat loaded another word
     pub record IsWordLoaded (at found : ℕ) (s t : Seat B) : Type 0 where
       pub stays : Stays s t
       pub look : t.look ≡ s.look
       pub read : IsRead (terms_of f s.terms) (actor_of s) (actor_of t) at found
+      pub moves : HasMoved Read s t
 
     -- an exchange for an edit was made, or another descriptor was found
     abbrev pub IsExchanged : Edit → Bool → Seat B → Seat B → Type 0
@@ -100,6 +118,7 @@ module _ {B : Type 0} where
         × MatchBool done
         (IsAccepted (terms_of f s.terms) (actor_of s) (actor_of t) record { actor = (actor_of s).number; edit = edit })
         (IsContended (terms_of f s.terms) (actor_of s) (actor_of t) t.look)
+        × HasMoved (λ a. Exchange a edit) s t
 
 module _ {B : Type 0} where
   -- what a load of a cell gives: the bits that the history wrote there last, which the seat saw, or the later edit that it found

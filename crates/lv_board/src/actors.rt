@@ -1,4 +1,4 @@
-use lv_machine::Entry;
+use lv_machine::{Entry, Move};
 use std::alloc::AllocError;
 use std::collections::LinkedList;
 
@@ -55,6 +55,8 @@ pub struct View<B: Copy> {
     pub deals: bool,
     /// The board's basis, or nothing once the view is spent.
     pub bases: LinkedList<Basis<B>>,
+    /// The steps that the seat made on the words, the last first.
+    pub moves: LinkedList<Move>,
     /// The actors of the seats that were gathered into this one.
     pub more: LinkedList<Actor>,
 }

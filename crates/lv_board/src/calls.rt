@@ -17,8 +17,13 @@ use lv_machine::{Call, Read, Refreshed, Said};
 use lv_reduce::Answer;
 
 impl<B: Parted> Board<B> {
-    // The plain value of a range.
-    fn reduce_plain(&self, seat: &mut Seat<B>, lo: u32, hi: u32) -> Result<Answer<Shown>, Refusal>
+    /// What `reduce` answers, with the plain value of the range in place of its summary. The seat is one of this board's.
+    pub fn reduce_plain(
+        &self,
+        seat: &mut Seat<B>,
+        lo: u32,
+        hi: u32,
+    ) -> Result<Answer<Shown>, Refusal>
         requires { IsAt self.now.table.shared.table_id self.now.terms seat.old }
         ensures stays { Stays seat.old seat.new }
         ensures looked { lo ≤ hi → HasLooked (terms_of (folds B.PARTS B.parts_of (λ b. B.operations (B.meaning b))) self.now.terms) (actor_of seat.old) (actor_of seat.new) }

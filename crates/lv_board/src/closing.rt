@@ -110,9 +110,15 @@ impl<B: Parted> Board<B> {
         capacity(self.terms.buckets)
     }
 
-    /// The vector by such seats as are left, in a vector that has room for its elements: this takes no memory. The others are gone, and
-    /// what they did stays. The seats are this board's.
-    pub fn close_by(self, seats: Vec<Seat<B>>, mut elements: Vec<i64>) -> Closed
+    /// How many seats the board has.
+    pub fn seats(&self) -> u32
+        ensures { result ≡ self.now.terms.seats }
+    {
+        self.terms.seats
+    }
+
+    // The vector by such seats as are handed in, in a vector that has room for its elements.
+    pub(crate) fn close_by(self, seats: Vec<Seat<B>>, mut elements: Vec<i64>) -> Closed
         requires at { AreAt self.table.shared.table_id self.terms seats.items }
         requires none { elements.items ≡ [] }
         requires room { capacity_of self.terms.buckets ≤ vec_capacity elements }

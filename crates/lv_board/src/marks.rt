@@ -8,7 +8,7 @@ ghost use Rattle.lv_machine.specs.Shows.{block, mark_of};
 ghost use Rattle.lv_machine.specs.Words.{part_word};
 ghost use Rattle.lv_board.specs.Rule.{folds, terms_of};
 ghost use Rattle.lv_board.specs.Stands.{IsReady};
-ghost use Rattle.lv_board.specs.Tells.{actor_of, IsAt, IsInstalled, IsMarkTaken};
+ghost use Rattle.lv_board.specs.Tells.{actor_of, HasMovedPart, IsAt, IsInstalled, IsMarkTaken};
 
 use crate::board::Board;
 use crate::plays::Install;
@@ -39,7 +39,8 @@ impl<B: Parted> Board<B> {
         requires part { part < B.PARTS }
         requires whole { is_whole (edits_of (actor_of seat.old).seen) (block b) ≡ true }
         requires word { word ≡ part_word (mark_of b (actor_of seat.old).seen) ((terms_of (folds B.PARTS B.parts_of (λ b. B.operations (B.meaning b))) self.now.terms).folding.part part (elements_under (edits_of (actor_of seat.old).seen) (block b))) }
-        ensures { IsInstalled (part_place b part) word seat.old seat.new }
+        ensures installed { IsInstalled (part_place b part) word seat.old seat.new }
+        ensures moves { HasMovedPart b part word seat.old seat.new }
     {
         self.table
             .shared

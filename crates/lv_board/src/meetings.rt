@@ -1,9 +1,10 @@
 //! One seat tells another what it knows.
 ghost use Rattle.std.specs.Prelude.{◌≡◌, [], length};
+ghost use Rattle.lv_machine.specs.declared.moves.Move.TheVariants.{Look};
 ghost use Rattle.lv_machine.specs.History.{Ends};
 ghost use Rattle.lv_board.specs.Calls.{HasLooked};
 ghost use Rattle.lv_board.specs.Rule.{folds, note, terms_of};
-ghost use Rattle.lv_board.specs.Tells.{actor_of, IsAt, IsSame, Stays};
+ghost use Rattle.lv_board.specs.Tells.{actor_of, HasMoved, IsAt, IsSame, moves_of, Stays};
 
 use crate::actors::View;
 use crate::board::Board;
@@ -27,6 +28,7 @@ impl<B: Parted> Board<B> {
         ensures same { IsSame seat.old seat.new }
         ensures table { result.table_id ≡ self.now.table.shared.table_id }
         ensures note { result.me ≡ (note seat.old.token.me.0, []) }
+        ensures moves { moves_of seat.new ≡ moves_of seat.old }
     {
         self.table.shared.split_seat::<Note>(&mut seat.token)
     }
@@ -39,6 +41,7 @@ impl<B: Parted> Board<B> {
         ensures stays { Stays seat.old seat.new }
         ensures looked { HasLooked (terms_of (folds B.PARTS B.parts_of (λ b. B.operations (B.meaning b))) self.now.terms) (actor_of seat.old) (actor_of seat.new) }
         ensures told { Ends note.me.0.actor.known (actor_of seat.new).seen }
+        ensures moves { HasMoved Look seat.old seat.new }
     {
         self.table.shared.join_seat::<Inform>(&mut seat.token, note);
         seat.look = self

@@ -3,6 +3,7 @@ ghost use Rattle.std.specs.Prelude.{◌≡◌, ◌<◌, ◌≤◌, ◌⊎◌, �
 ghost use Rattle.lv_machine.specs.Layout.{count_of};
 ghost use Rattle.lv_machine.specs.History.{descriptor_of};
 ghost use Rattle.lv_board.specs.Opening.{AreDealt, IsBasisOf, IsOpeningRefusal, MayOpen};
+ghost use Rattle.lv_board.specs.Ordered.{AreInOrder};
 ghost use Rattle.lv_board.specs.Rule.{dealer_from, newcomer};
 ghost use Rattle.lv_board.specs.Stands.{IsBasis, limits_of};
 ghost use Rattle.lv_board.specs.Tells.{actor_of, IsAt};
@@ -86,6 +87,7 @@ impl<B: Parted> Board<B> {
         ensures basis { IfOk result (λ r. IsBasisOf limits seats body r.0.terms) }
         ensures count { IfOk result (λ r. length r.1.items ≡ seats) }
         ensures dealt { IfOk result (λ r. AreDealt r.0.table.shared.table_id r.0.terms r.1.items) }
+        ensures order { IfOk result (λ r. AreInOrder r.0.table.shared.table_id r.0.terms r.1.items) }
         ensures err { IfErr result (λ refusal. IsOpeningRefusal limits seats refusal) }
     {
         if limits.buckets() > 9 || seats == 0 || seats > 8 {

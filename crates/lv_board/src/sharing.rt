@@ -1,10 +1,10 @@
-//! A board that threads share without a scope: each has a seat with its share of the board.
-ghost use Rattle.std.specs.Prelude.{◌≡◌, ◌≤◌, [], IfOk, IfErr};
+//! A board that threads share without a scope: each has a seat with its share of the board, and gives it back when it goes.
+ghost use Rattle.std.specs.Prelude.{◌≡◌, ◌≢◌, ◌≤◌, [], length, nat_eq, IfOk, IfErr, OnOk};
 ghost use Rattle.std.specs.Arc.{arc_value};
 ghost use Rattle.lv_board.specs.Opening.{IsOpeningRefusal, MayOpen};
 ghost use Rattle.lv_board.specs.Ordered.{AreInOrder};
 ghost use Rattle.lv_board.specs.Rule.{folds};
-ghost use Rattle.lv_board.specs.Sharing.{IsClosedShared, IsNewlyShared, IsUnseated, Makes, sat_of, shared_of, Sits};
+ghost use Rattle.lv_board.specs.Sharing.{IsBack, IsClosedShared, IsNewlyShared, IsOut, IsUnclosed, IsUnseated, Makes, sat_of, shared_of, Sits};
 
 use crate::board::Board;
 use crate::opened::Opened;
@@ -20,7 +20,7 @@ use std::sync::Arc;
 /// Why nobody sits down.
 #[derive(Clone, Copy, Debug, PartialEq, Eq)]
 pub enum Unseated {
-    /// All seats were taken.
+    /// No seat is there.
     NoSeat,
     /// One more share of the board was wanted, and there was none.
     NoMemory,
@@ -29,7 +29,7 @@ pub enum Unseated {
 /// Why a shared board stays open.
 #[derive(Clone, Copy, Debug, PartialEq, Eq)]
 pub enum Unclosed {
-    /// Somebody has a seat.
+    /// Not all seats are there.
     SeatsOut,
     /// Memory for the elements was wanted, and there was none.
     NoMemory,
@@ -40,33 +40,46 @@ fn share<B: Parted>(
     alloc: Global,
     board: Board<B>,
     seats: Vec<Seat<B>>,
+    stamp: u64,
 ) -> Result<Opened<B>, Refusal>
     requires order { AreInOrder board.table.shared.table_id board.terms seats.items }
-    ensures ok { IfOk result (λ o. (arc_value o.board ≡ board) × (o.seats.items ≡ seats.items)) }
+    ensures ok { IfOk result (λ o. (arc_value o.board ≡ board) × (o.seats.items ≡ seats.items) × (o.stamp ≡ stamp)) }
     ensures err { IfErr result (λ refusal. refusal ≡ Refusal.NoMemory) }
 {
     match Arc::new(alloc, board) {
         Err(_) => Err(Refusal::NoMemory),
-        Ok(board) => Ok(Opened { board, seats }),
+        Ok(board) => Ok(Opened {
+            stamp,
+            board,
+            seats,
+        }),
     }
 }
 
 impl<B: Parted> Opened<B> {
-    /// A board with no edits, to be shared, whose seats are all there: seat k is actor k. Refused as `Board::new` is.
-    pub fn new(alloc: Global, limits: Limits, seats: u32, body: B) -> Result<Opened<B>, Refusal>
-        ensures ok { IfOk result (λ o. IsNewlyShared limits seats (folds B.PARTS B.parts_of (λ b. B.operations (B.meaning b)) body) B.the_kind (B.plain body) (shared_of B.PARTS B.parts_of (λ b. B.operations (B.meaning b)) B.the_kind B.plain o)) }
+    /// A board with no edits, to be shared, whose seats are all there: seat k is actor k. Who opens several boards gives each a stamp of
+    /// its own. Refused as `Board::new` is.
+    pub fn new(
+        alloc: Global,
+        limits: Limits,
+        seats: u32,
+        body: B,
+        stamp: u64,
+    ) -> Result<Opened<B>, Refusal>
+        ensures ok { IfOk result (λ o. IsNewlyShared limits seats stamp (folds B.PARTS B.parts_of (λ b. B.operations (B.meaning b)) body) B.the_kind (B.plain body) (shared_of B.PARTS B.parts_of (λ b. B.operations (B.meaning b)) B.the_kind B.plain o)) }
         ensures err { IfErr result (λ refusal. IsOpeningRefusal limits seats refusal) }
     {
         match Board::new(alloc, limits, seats, body) {
             Err(refusal) => Err(refusal),
-            Ok((board, seats)) => share(alloc, board, seats),
+            Ok((board, seats)) => share(alloc, board, seats, stamp),
         }
     }
 
-    /// The seat of the least number that nobody has taken.
+    /// The seat that has been there for the longest; at first they are there in the order of their numbers.
     pub fn sit(&mut self) -> Result<Sitter<B>, Unseated>
         ensures ok { IfOk result (λ s. Sits (shared_of B.PARTS B.parts_of (λ b. B.operations (B.meaning b)) B.the_kind B.plain self.old) (sat_of B.PARTS B.parts_of (λ b. B.operations (B.meaning b)) B.the_kind B.plain s) (shared_of B.PARTS B.parts_of (λ b. B.operations (B.meaning b)) B.the_kind B.plain self.new)) }
-        ensures err { IfErr result (λ why. (shared_of B.PARTS B.parts_of (λ b. B.operations (B.meaning b)) B.the_kind B.plain self.new ≡ shared_of B.PARTS B.parts_of (λ b. B.operations (B.meaning b)) B.the_kind B.plain self.old) × IsUnseated (shared_of B.PARTS B.parts_of (λ b. B.operations (B.meaning b)) B.the_kind B.plain self.old) why) }
+        ensures out { IfOk result (λ s. IsOut self.new s) }
+        ensures err { IfErr result (λ why. ((shared_of B.PARTS B.parts_of (λ b. B.operations (B.meaning b)) B.the_kind B.plain self.new) ≡ (shared_of B.PARTS B.parts_of (λ b. B.operations (B.meaning b)) B.the_kind B.plain self.old)) × IsUnseated (shared_of B.PARTS B.parts_of (λ b. B.operations (B.meaning b)) B.the_kind B.plain self.old) why) }
     {
         if self.seats.is_empty() {
             return Err(Unseated::NoSeat);
@@ -75,21 +88,67 @@ impl<B: Parted> Opened<B> {
             return Err(Unseated::NoMemory);
         };
         let seat = self.seats.remove(0);
-        Ok(Sitter { board, seat })
+        Ok(Sitter {
+            stamp: self.stamp,
+            board,
+            seat,
+        })
     }
 
-    /// The vector when nobody has a seat any more: the number of its last edit, and its elements. Else the board comes back as it was.
+    /// Takes a seat back, with all that it knows: it may be taken again, and when all are there the board can be closed. A seat of a
+    /// board of another stamp comes back as it was. One of this stamp is this board's.
+    pub fn take_back(&mut self, sitter: Sitter<B>) -> Result<(), Sitter<B>>
+        requires own { sitter.stamp ≡ self.old.stamp → IsOut self.old sitter }
+        ensures ok { OnOk result (IsBack (shared_of B.PARTS B.parts_of (λ b. B.operations (B.meaning b)) B.the_kind B.plain self.old) (sat_of B.PARTS B.parts_of (λ b. B.operations (B.meaning b)) B.the_kind B.plain sitter) (shared_of B.PARTS B.parts_of (λ b. B.operations (B.meaning b)) B.the_kind B.plain self.new)) }
+        ensures err { IfErr result (λ same. (same ≡ sitter) × (sitter.stamp ≢ self.old.stamp) × ((shared_of B.PARTS B.parts_of (λ b. B.operations (B.meaning b)) B.the_kind B.plain self.new) ≡ (shared_of B.PARTS B.parts_of (λ b. B.operations (B.meaning b)) B.the_kind B.plain self.old))) }
+    {
+        if sitter.stamp != self.stamp {
+            return Err(sitter);
+        }
+        let Sitter {
+            stamp: _,
+            board,
+            seat,
+        } = sitter;
+        drop(board);
+        self.seats.push_reserved(seat);
+        Ok(())
+    }
+
+    // Whether all seats are there.
+    fn is_whole(&self) -> bool
+        ensures { result ≡ nat_eq (length self.now.seats.items) (arc_value self.now.board).terms.seats }
+    {
+        self.seats.len() == self.board.seats() as usize
+    }
+
+    /// The vector when all seats are there: the number of its last edit, and its elements. Else, or for want of memory, the board comes
+    /// back as it was.
     pub fn close(self, alloc: Global) -> Result<Closed, (Opened<B>, Unclosed)>
         ensures ok { IfOk result (λ closed. IsClosedShared (shared_of B.PARTS B.parts_of (λ b. B.operations (B.meaning b)) B.the_kind B.plain self) closed) }
-        ensures err { IfErr result (λ r. shared_of B.PARTS B.parts_of (λ b. B.operations (B.meaning b)) B.the_kind B.plain r.0 ≡ shared_of B.PARTS B.parts_of (λ b. B.operations (B.meaning b)) B.the_kind B.plain self) }
+        ensures err { IfErr result (λ r. ((shared_of B.PARTS B.parts_of (λ b. B.operations (B.meaning b)) B.the_kind B.plain r.0) ≡ (shared_of B.PARTS B.parts_of (λ b. B.operations (B.meaning b)) B.the_kind B.plain self)) × IsUnclosed (shared_of B.PARTS B.parts_of (λ b. B.operations (B.meaning b)) B.the_kind B.plain self) r.1) }
     {
-        let Opened { board, seats } = self;
-        let Ok(elements) = Vec::with_capacity(alloc, board.capacity() as usize) else {
-            return Err((Opened { board, seats }, Unclosed::NoMemory));
+        if !self.is_whole() {
+            return Err((self, Unclosed::SeatsOut));
+        }
+        let Ok(elements) = Vec::with_capacity(alloc, self.board.capacity() as usize) else {
+            return Err((self, Unclosed::NoMemory));
         };
+        let Opened {
+            stamp,
+            board,
+            seats,
+        } = self;
         match Arc::try_unwrap(board) {
             Ok(alone) => Ok(alone.close_by(seats, elements)),
-            Err(board) => Err((Opened { board, seats }, Unclosed::SeatsOut)),
+            Err(board) => Err((
+                Opened {
+                    stamp,
+                    board,
+                    seats,
+                },
+                Unclosed::SeatsOut,
+            )),
         }
     }
 }
@@ -97,7 +156,8 @@ impl<B: Parted> Opened<B> {
 impl<B: Parted> Sitter<B> {
     /// Makes a call, and gives what it ends with, a fold as its plain value. An edit is tried so often at most, and once at least.
     pub fn make(&mut self, call: Call, tries: u32) -> Said<Shown>
-        ensures { Makes tries call (sat_of B.PARTS B.parts_of (λ b. B.operations (B.meaning b)) B.the_kind B.plain self.old) result (sat_of B.PARTS B.parts_of (λ b. B.operations (B.meaning b)) B.the_kind B.plain self.new) }
+        ensures makes { Makes tries call (sat_of B.PARTS B.parts_of (λ b. B.operations (B.meaning b)) B.the_kind B.plain self.old) result (sat_of B.PARTS B.parts_of (λ b. B.operations (B.meaning b)) B.the_kind B.plain self.new) }
+        ensures board { arc_value self.new.board ≡ arc_value self.old.board }
     {
         self.board.make_within(&mut self.seat, call, tries.max(1))
     }

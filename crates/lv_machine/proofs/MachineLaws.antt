@@ -27,8 +27,9 @@ use Rattle.lv_machine.specs.declared.tasks.Task.{Task}
 use Rattle.lv_machine.specs.declared.tasks.Task.TheVariants as task
 use Rattle.lv_machine.specs.History.{descriptor_of, Ends}
 use Rattle.lv_machine.specs.Machine.{advanced, goal_of, idle, is_short, move_of, outcome_of, place_of, sees_next, task_after}
-use Rattle.lv_machine.specs.Moves.{Config, IsReachable, MayMove, Move, moved, reached, Shows, start}
-use Rattle.lv_machine.specs.Progress.{Follows, goal_under, IsGoal, IsReached, IsRight, Knows, terms_of}
+use Rattle.lv_machine.specs.declared.moves.Move.{Move}
+use Rattle.lv_machine.specs.Moves.{Config, IsReachable, MayMove, moved, reached, Shows, start}
+use Rattle.lv_machine.specs.Progress.{Follows, goal_under, IsGoal, IsReached, IsRight, Knows, StandsAt, terms_of}
 use Rattle.lv_machine.specs.Ready.{CanAdvance, CanMove}
 use Rattle.lv_machine.specs.Schedules.{WasTold}
 use Rattle.lv_machine.specs.Terms.{AreTerms, blocks_of, Terms}
@@ -161,42 +162,42 @@ module _ {S : Type 0} (o : Operations S) (within : S → ℕ → Type 0) (laws :
     T = terms_of o count parts_of limits r.seats
 
     pub shows_of : Shows T r.config
-    shows_of = reachable_shows T r.config r.terms r.reachable
+    shows_of = reachable_shows T r.config r.stands.terms r.stands.reachable
 
     module _ (a before : ℕ) (t : Task S) (there : slice_get actors a ≡ Some record { look = before; task = Some t }) where
       abbrev pub f : Follows o count parts_of limits r.config a record { look = before; task = Some t }
-      f = r.follow a record { look = before; task = Some t } there
+      f = r.stands.follow a record { look = before; task = Some t } there
 
       look_is : before ≡ descriptor_of f.seen
       look_is = sym f.look ∙ f.shown
 
       pub seated : a < r.seats
-      seated = omega (arith, slice_get_within actors a _ there, r.all_seats)
+      seated = omega (arith, slice_get_within actors a _ there, r.stands.all_seats)
 
       -- the step can be done
       pub take_moves : CanMove (length words) before t
       take_moves =
           subst (λ l. CanMove (length words) l t) (sym look_is)
-          (subst (λ ws. CanMove (length ws) (descriptor_of f.seen) t) r.words_are (can_move o within laws count parts_of whole_of are has limits r.seats r.config f.seen r.terms shows_of f.ends t f.knows))
+          (subst (λ ws. CanMove (length ws) (descriptor_of f.seen) t) r.stands.words_are (can_move o within laws count parts_of whole_of are has limits r.seats r.config f.seen r.stands.terms shows_of f.ends t f.knows))
 
       pub take_advances : CanAdvance within count whole_of t (slice_index words (place_of before t))
       take_advances =
           subst (λ l. CanAdvance within count whole_of t (slice_index words (place_of l t))) (sym look_is)
-          (subst (λ ws. CanAdvance within count whole_of t (slice_index ws (place_of (descriptor_of f.seen) t))) r.words_are (can_advance o within laws count parts_of whole_of are has limits r.seats r.config f.seen r.terms shows_of f.ends t f.knows))
+          (subst (λ ws. CanAdvance within count whole_of t (slice_index ws (place_of (descriptor_of f.seen) t))) r.stands.words_are (can_advance o within laws count parts_of whole_of are has limits r.seats r.config f.seen r.stands.terms shows_of f.ends t f.knows))
 
       -- its move may be made
       pub take_may : MayMove T r.config (move_of a t)
-      take_may = may_move o count parts_of limits r.seats a r.config f.seen r.terms shows_of f.ends t seated f.shown f.knows
+      take_may = may_move o count parts_of limits r.seats a r.config f.seen r.stands.terms shows_of f.ends t seated f.shown f.knows
 
       pub own_follows : (actor : Actor S) → actor ≡ actor_after r.config.words (r.config.looks a) t → Follows o count parts_of limits (moved r.config (move_of a t)) a actor
       own_follows actor is =
-          let step = own r.seats r.config r.terms shows_of a seated f.seen f.ends f.shown t f.knows in
-          let right = right_after r.seats r.config r.terms shows_of a seated f.seen f.ends f.shown t f.knows in
+          let step = own r.seats r.config r.stands.terms shows_of a seated f.seen f.ends f.shown t f.knows in
+          let right = right_after r.seats r.config r.stands.terms shows_of a seated f.seen f.ends f.shown t f.knows in
           subst (Follows o count parts_of limits (moved r.config (move_of a t)) a) (sym is) record {
             seen = step.now;
             ends = step.now_ends;
             look = alone_look r.config a t;
-            shown = shown_after r.seats r.config r.terms shows_of a seated f.seen f.ends f.shown t f.knows;
+            shown = shown_after r.seats r.config r.stands.terms shows_of a seated f.seen f.ends f.shown t f.knows;
             knows = right_knows (moved r.config (move_of a t)).words a (moved r.config (move_of a t)).history f.seen step.now (goal_under o count parts_of limits t) _ right;
           }
 
@@ -210,18 +211,20 @@ module _ {S : Type 0} (o : Operations S) (within : S → ℕ → Type 0) (laws :
       }
 
       pub same_actor : actor_after r.config.words (r.config.looks a) t ≡ actor_after words before t
-      same_actor = ap (λ ws. actor_after ws (r.config.looks a) t) r.words_are ∙ ap (λ l. actor_after words l t) f.look
+      same_actor = ap (λ ws. actor_after ws (r.config.looks a) t) r.stands.words_are ∙ ap (λ l. actor_after words l t) f.look
 
       -- words and actors after the step are those of a state that moves reach
       abbrev pub reached_next : IsReached o count parts_of limits (sees_next words before t).words (slice_set actors a (actor_after words before t))
       reached_next = record {
         config = moved r.config (move_of a t);
         seats = r.seats;
-        all_seats = length-set actors a (actor_after words before t) ∙ r.all_seats;
-        terms = r.terms;
-        reachable = one_more_move r.seats r.config (move_of a t) r.reachable take_may;
-        words_are = alone_words r.config a t ∙ ap (λ ws. (sees_next ws (r.config.looks a) t).words) r.words_are ∙ ap (λ l. (sees_next words l t).words) f.look;
-        follow = follow_next;
+        stands = record {
+          all_seats = length-set actors a (actor_after words before t) ∙ r.stands.all_seats;
+          terms = r.stands.terms;
+          reachable = one_more_move r.seats r.config (move_of a t) r.stands.reachable take_may;
+          words_are = alone_words r.config a t ∙ ap (λ ws. (sees_next ws (r.config.looks a) t).words) r.stands.words_are ∙ ap (λ l. (sees_next words l t).words) f.look;
+          follow = follow_next;
+        };
       }
         where
           follow_next : (b : ℕ) (actor : Actor S) → slice_get (slice_set actors a (actor_after words before t)) b ≡ Some actor → Follows o count parts_of limits (moved r.config (move_of a t)) b actor
@@ -229,26 +232,26 @@ module _ {S : Type 0} (o : Operations S) (within : S → ℕ → Type 0) (laws :
             | inl same ↦
                 let own_is : slice_get (slice_set actors a (actor_after words before t)) a ≡ Some actor = subst (λ d. slice_get (slice_set actors a (actor_after words before t)) d ≡ Some actor) same is in
                 subst (λ d. Follows o count parts_of limits (moved r.config (move_of a t)) d actor) (sym same) (own_follows actor (set_same actors a _ actor own_is ∙ sym same_actor))
-            | inr apart ↦ other_follows b actor apart (r.follow b actor (set_other actors a b _ actor apart is))
+            | inr apart ↦ other_follows b actor apart (r.stands.follow b actor (set_other actors a b _ actor apart is))
           ]
 
       same_advance : advanced o count parts_of whole_of limits (r.config.looks a) t (slice_index r.config.words (place_of (r.config.looks a) t)) ≡ advanced o count parts_of whole_of limits before t (slice_index words (place_of before t))
       same_advance =
-          ap (λ ws. advanced o count parts_of whole_of limits (r.config.looks a) t (slice_index ws (place_of (r.config.looks a) t))) r.words_are
+          ap (λ ws. advanced o count parts_of whole_of limits (r.config.looks a) t (slice_index ws (place_of (r.config.looks a) t))) r.stands.words_are
           ∙ ap (λ l. advanced o count parts_of whole_of limits l t (slice_index words (place_of l t))) f.look
 
       -- where the call has ended, its actor was told what the history makes of it
       pub told_after : (answer : Said S) → outcome_of (advanced o count parts_of whole_of limits before t (slice_index words (place_of before t))) ≡ outcome.Done answer → WasTold o count parts_of limits r.config (moved r.config (move_of a t)) a t answer
       told_after answer done =
-          let step = own r.seats r.config r.terms shows_of a seated f.seen f.ends f.shown t f.knows in
-          let right = right_after r.seats r.config r.terms shows_of a seated f.seen f.ends f.shown t f.knows in
+          let step = own r.seats r.config r.stands.terms shows_of a seated f.seen f.ends f.shown t f.knows in
+          let right = right_after r.seats r.config r.stands.terms shows_of a seated f.seen f.ends f.shown t f.knows in
           record {
             old = f.seen;
             old_ends = f.ends;
             old_shown = f.shown;
             k = step.now;
             ends = step.now_ends;
-            shown = shown_after r.seats r.config r.terms shows_of a seated f.seen f.ends f.shown t f.knows;
+            shown = shown_after r.seats r.config r.stands.terms shows_of a seated f.seen f.ends f.shown t f.knows;
             said = subst (IsRight o count parts_of limits a (moved r.config (move_of a t)).words (moved r.config (move_of a t)).history f.seen step.now (goal_under o count parts_of limits t)) (same_advance ∙ done_is _ answer done) right;
           }
 
@@ -259,27 +262,27 @@ module _ {S : Type 0} (o : Operations S) (within : S → ℕ → Type 0) (laws :
         record {
           config = r.config;
           seats = r.seats;
-          all_seats = length-set actors a x ∙ r.all_seats;
-          terms = r.terms;
-          reachable = r.reachable;
-          words_are = r.words_are;
-          follow = λ b actor is. elim (cases_eq b a) [
-            | inl same ↦
-                let old = r.follow a record { look = look; task = None } there in
-                let own_is = subst (λ d. slice_get (slice_set actors a x) d ≡ Some actor) same is in
-                subst (λ d. Follows o count parts_of limits r.config d actor) (sym same)
-                (subst (Follows o count parts_of limits r.config a) (sym (set_same actors a x actor own_is))
-                record { seen = old.seen; ends = old.ends; look = old.look; shown = old.shown; knows = may })
-            | inr apart ↦ r.follow b actor (set_other actors a b x actor apart is)
-          ];
+          stands = record {
+            all_seats = length-set actors a x ∙ r.stands.all_seats;
+            terms = r.stands.terms;
+            reachable = r.stands.reachable;
+            words_are = r.stands.words_are;
+            follow = λ b actor is. elim (cases_eq b a) [
+              | inl same ↦
+                  let old = r.stands.follow a record { look = look; task = None } there in
+                  let own_is = subst (λ d. slice_get (slice_set actors a x) d ≡ Some actor) same is in
+                  subst (λ d. Follows o count parts_of limits r.config d actor) (sym same)
+                  (subst (Follows o count parts_of limits r.config a) (sym (set_same actors a x actor own_is))
+                  record { seen = old.seen; ends = old.ends; look = old.look; shown = old.shown; knows = may })
+              | inr apart ↦ r.stands.follow b actor (set_other actors a b x actor apart is)
+            ];
+          };
         }
 
   -- the start
-  pub reached_start : (seats : ℕ) → AreTerms (terms_of o count parts_of limits seats) → IsReached o count parts_of limits (descriptor_of [] ∷ replicate (16 * blocks_of limits) 0) (replicate seats idle)
+  pub stands_start : (seats : ℕ) → AreTerms (terms_of o count parts_of limits seats) → StandsAt o count parts_of limits seats (start (terms_of o count parts_of limits seats)) (descriptor_of [] ∷ replicate (16 * blocks_of limits) 0) (replicate seats idle)
   unfolding reached
-  reached_start seats terms = record {
-    config = start (terms_of o count parts_of limits seats);
-    seats = seats;
+  stands_start seats terms = record {
     all_seats = length-replicate seats idle;
     terms = terms;
     reachable = record { moves = []; allowed = tt; reached_is = refl };
@@ -292,3 +295,6 @@ module _ {S : Type 0} (o : Operations S) (within : S → ℕ → Type 0) (laws :
       knows = tt;
     };
   }
+
+  pub reached_start : (seats : ℕ) → AreTerms (terms_of o count parts_of limits seats) → IsReached o count parts_of limits (descriptor_of [] ∷ replicate (16 * blocks_of limits) 0) (replicate seats idle)
+  reached_start seats terms = record { config = start (terms_of o count parts_of limits seats); seats = seats; stands = stands_start seats terms }

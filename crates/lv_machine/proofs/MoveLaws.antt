@@ -17,7 +17,9 @@ use Rattle.lv_edits.proofs.TouchLaws.{touched_by-none}
 use Rattle.lv_machine.specs.declared.entries.Entry.{Entry}
 use Rattle.lv_machine.specs.History.{cell_of, descriptor_of, edits_of, elements_of, Ends, index_written_by, IsLegalHistory, MayFollow}
 use Rattle.lv_machine.specs.Layout.{cell_place, mark_place, part_place, place}
-use Rattle.lv_machine.specs.Moves.{accepted, AreAllowed, completing, Config, IsComplete, looked, MayExchange, MayInstall, MayMove, Move, moved, Look, Exchange, HelpCell, HelpMark, Install, Read, raised, reached, ReachableShows, refused_at, Shows, start, verdict_at}
+use Rattle.lv_machine.specs.declared.moves.Move.{Move}
+use Rattle.lv_machine.specs.declared.moves.Move.TheVariants.{Look, Exchange, HelpCell, HelpMark, Install, Read}
+use Rattle.lv_machine.specs.Moves.{accepted, AreAllowed, completing, Config, IsComplete, looked, MayExchange, MayInstall, MayMove, moved, raised, reached, ReachableShows, refused_at, Shows, start, verdict_at}
 use Rattle.lv_machine.specs.Shows.{block, Fits, FitsPart, FitsPlace, mark_of}
 use Rattle.lv_machine.specs.Terms.{AreTerms, blocks_of, Terms}
 use Rattle.lv_machine.specs.Words.{bits_written, cell_version, descriptor, descriptor_after, edit_of, HasPending, index_of}

@@ -1,5 +1,5 @@
 -- Where each word of the lock-free form lies: the descriptor first, then 16 places for each block.
-use Rattle.std.specs.Prelude.{ℕ, ◌+◌, ◌*◌, ◌/◌, ◌%◌}
+use Rattle.std.specs.Prelude.{ℕ, ◌+◌, ◌-◌, ◌*◌, ◌/◌, ◌%◌}
 use Rattle.lv_geometry.specs.Bounds.{Bounds}
 use Rattle.lv_machine.specs.Terms.{blocks_of}
 
@@ -18,6 +18,13 @@ mark_place b = place b 8
 -- where a part of a block's summary lies
 abbrev pub part_place : ℕ → ℕ → ℕ
 part_place b p = place b (9 + p)
+
+-- the block whose word lies at a place, and which of its words that is
+abbrev pub block_at : ℕ → ℕ
+block_at at = (at - 1) / 16
+
+abbrev pub row_at : ℕ → ℕ
+row_at at = (at - 1) % 16
 
 -- how many words there are
 abbrev pub count_of : Bounds → ℕ

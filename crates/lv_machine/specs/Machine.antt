@@ -27,7 +27,9 @@ use Rattle.lv_machine.specs.declared.tasks.Walk.{Walk}
 use Rattle.lv_machine.specs.declared.actors.Actor.{Actor}
 use Rattle.lv_machine.specs.History.{descriptor_of}
 use Rattle.lv_machine.specs.Layout.{cell_place, mark_place, part_place}
-use Rattle.lv_machine.specs.Moves.{Config, Move, Look, Exchange, HelpCell, HelpMark, Install, Read, moved, verdict_at}
+use Rattle.lv_machine.specs.declared.moves.Move.{Move}
+use Rattle.lv_machine.specs.declared.moves.Move.TheVariants.{Look, Exchange, HelpCell, HelpMark, Install, Read}
+use Rattle.lv_machine.specs.Moves.{Config, moved, verdict_at}
 use Rattle.lv_machine.specs.Terms.{blocks_of}
 use Rattle.lv_machine.specs.Words.{cell_version, edit_of, index_of, part_value, part_version, part_word, signed, size_of, value_of}
 

@@ -7,6 +7,8 @@ use Rattle.lv_geometry.specs.declared.refusals.Refusal.TheVariants.{Empty, Full,
 use Rattle.lv_edits.specs.declared.edit.Edit.{Edit}
 use Rattle.lv_edits.specs.declared.edit.Edit.TheVariants.{Push, Pop, Write, Reserve, Swap, Truncate}
 use Rattle.lv_machine.specs.declared.entries.Entry.{Entry}
+use Rattle.lv_machine.specs.declared.moves.Move.{Move}
+use Rattle.lv_machine.specs.declared.moves.Move.TheVariants.{Look, Exchange, HelpCell, HelpMark, Install, Read}
 use Rattle.lv_machine.specs.History.{descriptor_of, IsLegalHistory, IsShortEdit}
 use Rattle.lv_machine.specs.Layout.{cell_place, mark_place, part_place}
 use Rattle.lv_machine.specs.Shows.{FitsPart, ShowsHistory}
@@ -19,20 +21,19 @@ pub record Config : Type 0 where
   pub history : List Entry
   pub looks : ℕ → ℕ
 
--- one atomic step on one word, by an actor
-pub data Move : Type 0 where
-  -- load of the descriptor; the look becomes what was loaded
-  Look : ℕ → Move
-  -- compare-exchange of the descriptor from the look, for an edit
-  Exchange : ℕ → Edit → Move
-  -- fetch-max of the cell of the look's pending write
-  HelpCell : ℕ → Move
-  -- fetch-max of the mark of that cell's block
-  HelpMark : ℕ → Move
-  -- fetch-max of a part of a block with a word
-  Install : ℕ → ℕ → ℕ → ℕ → Move
-  -- load of a cell, a mark or a part; the split and the join of a seat
-  Read : ℕ → Move
+-- the actor that makes a move
+abbrev pub mover : Move → ℕ
+mover (Look a) = a
+mover (Exchange a edit) = a
+mover (HelpCell a) = a
+mover (HelpMark a) = a
+mover (Install a b p word) = a
+mover (Read a) = a
+
+-- the moves of a list that one actor made
+unfoldable pub made_by : ℕ → List Move → List Move
+made_by a [] = []
+made_by a (m ∷ ms) = if nat_eq (mover m) a then m ∷ made_by a ms else made_by a ms
 
 -- a look becomes another
 abbrev pub look_set : ℕ → ℕ → (ℕ → ℕ) → ℕ → ℕ

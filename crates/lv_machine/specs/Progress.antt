@@ -220,12 +220,16 @@ module _ {S : Type 0} (o : Operations S) (count : ℕ) (parts_of : S → List �
   abbrev pub terms_of : ℕ → Terms
   terms_of seats = record { limits = limits; seats = seats; folding = folding_of o count parts_of }
 
-  -- words and actors are those of a state that moves reach from the start
-  pub record IsReached (words : List ℕ) (actors : List (Actor S)) : Type 0 where
-    pub config : Config
-    pub seats : ℕ
+  -- words and actors are those of a state: moves reach it from the start, and each actor follows it
+  pub record StandsAt (seats : ℕ) (config : Config) (words : List ℕ) (actors : List (Actor S)) : Type 0 where
     pub all_seats : length actors ≡ seats
     pub terms : AreTerms (terms_of seats)
     pub reachable : IsReachable (terms_of seats) config
     pub words_are : config.words ≡ words
     pub follow : (a : ℕ) (actor : Actor S) → slice_get actors a ≡ Some actor → Follows config a actor
+
+  -- words and actors are those of some state
+  pub record IsReached (words : List ℕ) (actors : List (Actor S)) : Type 0 where
+    pub config : Config
+    pub seats : ℕ
+    pub stands : StandsAt seats config words actors

@@ -1,18 +1,69 @@
 -- What is so of every list of events, from the start.
-use Rattle.std.specs.Prelude.{◌≡◌, ◌⊎◌, ℕ, ◌≤◌, Some, List, slice_get}
+use Rattle.std.specs.Prelude.{◌≡◌, ℕ, ◌≤◌, Option, option_map, Some, None, List, [], ◌∷◌, ◌++◌, slice_get, slice_index, nat_eq, IfSome, IfNone, if◌then◌else◌}
 use Rattle.lv_geometry.specs.Bounds.{AreAllowed, Bounds}
+use Rattle.lv_geometry.specs.declared.refusals.Refusal.{Refusal}
 use Rattle.lv_bodies.specs.Body.{Operations}
 use Rattle.lv_machine.specs.declared.entries.Entry.{Entry}
+use Rattle.lv_machine.specs.declared.actors.Actor.{Actor}
 use Rattle.lv_machine.specs.declared.events.Event.{Event}
-use Rattle.lv_machine.specs.declared.events.Event.TheVariants.{Step}
+use Rattle.lv_machine.specs.declared.events.Event.TheVariants.{Call, Step}
 use Rattle.lv_machine.specs.declared.outcomes.Outcome.{Outcome}
-use Rattle.lv_machine.specs.declared.outcomes.Outcome.TheVariants.{Done}
+use Rattle.lv_machine.specs.declared.outcomes.Outcome.TheVariants.{Done, Refused}
 use Rattle.lv_machine.specs.declared.outcomes.Said.{Said}
 use Rattle.lv_machine.specs.declared.tasks.Task.{Task}
+use Rattle.lv_machine.specs.declared.tasks.Task.TheVariants as task
 use Rattle.lv_machine.specs.History.{descriptor_of, Ends}
-use Rattle.lv_machine.specs.Machine.{first_state, machine_run, machine_step, MachineState}
-use Rattle.lv_machine.specs.Moves.{Config, MayMove, Move, moved}
-use Rattle.lv_machine.specs.Progress.{goal_under, IsReached, terms_of, WasSaid}
+use Rattle.lv_machine.specs.Machine.{first_state, machine_run, machine_step, MachineState, move_of}
+use Rattle.lv_machine.specs.declared.moves.Move.{Move}
+use Rattle.lv_machine.specs.Moves.{Config, MayMove, moved}
+use Rattle.lv_machine.specs.Progress.{goal_under, StandsAt, terms_of, WasSaid}
+
+-- the entries that a call of actor a adds to the history by its next step, where it finds a descriptor: one, if the step exchanges the
+-- descriptor and it is the actor's look
+abbrev pub entries_added : {S : Type 0} → ℕ → (look found : ℕ) → Task S → List Entry
+entries_added a look found (task.Exchange edit before) = if nat_eq found look then record { actor = a; edit = edit } ∷ [] else []
+entries_added a look found _ = []
+
+module _ {S : Type 0} where
+  -- the descriptor that an actor saw last; a number that no actor has counts as one that saw no edits
+  abbrev pub look_in : Option (Actor S) → ℕ
+  look_in None = descriptor_of []
+  look_in (Some actor) = actor.look
+
+  -- the call that an actor has under way, if it has one
+  abbrev pub task_in : Option (Actor S) → Option (Task S)
+  task_in None = None
+  task_in (Some actor) = actor.task
+
+  -- the entries that a step of actor a adds to the history where the descriptor is `first`: none without a call under way
+  abbrev pub entries_by : ℕ → (first look : ℕ) → Option (Task S) → List Entry
+  entries_by a first look None = []
+  entries_by a first look (Some t) = entries_added a look first t
+
+module _ {B S : Type 0} where
+  -- the entries that an event adds to the history of a machine: those of a step. A call that begins adds none
+  abbrev pub accepted_by : MachineState B S → Event → List Entry
+  accepted_by m (Call a c) = []
+  accepted_by m (Step a) = entries_by a (slice_index m.words 0) (look_in (slice_get m.actors a)) (task_in (slice_get m.actors a))
+
+  -- the move that an event makes on a machine: a step that of the actor's call under way, by its name. A call that begins makes none
+  abbrev pub move_made : MachineState B S → Event → Option Move
+  move_made m (Call a c) = None
+  move_made m (Step a) = option_map (move_of a) (task_in (slice_get m.actors a))
+
+  -- the state that a machine is in, by a history: the words and the looks are its own
+  abbrev pub config_of : MachineState B S → List Entry → Config
+  config_of m h = record { words = m.words; history = h; looks = λ a. look_in (slice_get m.actors a) }
+
+module _ {B S : Type 0} (o : Operations S) (count : ℕ) (parts_of : S → List ℕ) (whole_of : List ℕ → S) where
+  -- the history of a list of events: the entries that each of them adds, the newest first
+  unfoldable pub accepted_in : MachineState B S → List Event → List Entry
+  accepted_in m [] = []
+  accepted_in m (e ∷ events) = accepted_in (machine_step o count parts_of whole_of m e).0 events ++ accepted_by m e
+
+  -- the state after a list of events
+  abbrev pub config_after : MachineState B S → List Event → Config
+  config_after m events = config_of (machine_run o count parts_of whole_of m events).0 (accepted_in m events)
 
 module _ {S : Type 0} (o : Operations S) (count : ℕ) (parts_of : S → List ℕ) (limits : Bounds) where
   -- a step after which a call has ended told its actor what the history after it makes of what the call is for: `old` is the history
@@ -26,17 +77,29 @@ module _ {S : Type 0} (o : Operations S) (count : ℕ) (parts_of : S → List �
     pub shown : after.looks a ≡ descriptor_of k
     pub said : WasSaid o count parts_of limits a after.history old k (goal_under o count parts_of limits t) answer
 
-  -- an event on a machine whose words and looks are a reachable state makes one move that may be made there, or none; its words and looks
-  -- are a reachable state then; and where a call has ended by a step, its actor was told what the history makes of it
-  pub record IsOneMove {B : Type 0} (m next : MachineState B S) (e : Event) (out : Outcome S) : Type 0 where
-    pub before : IsReached o count parts_of limits m.words m.actors
-    pub after : IsReached o count parts_of limits next.words next.actors
-    pub moves : (after.config ≡ before.config) ⊎ ((move : Move) × MayMove (terms_of o count parts_of limits before.seats) before.config move × (after.config ≡ moved before.config move))
-    pub told : (a look : ℕ) (t : Task S) (answer : Said S) → e ≡ Step a → slice_get m.actors a ≡ Some record { look = look; task = Some t } → out ≡ Done answer → WasTold before.config after.config a t answer
+  -- an event takes a machine from state c to state d. Both are reachable, and each actor's call knows there what it should; where the
+  -- event makes a move, that move may be made in c, and d is c after it; where it makes none, d is c; where it is refused, nothing has
+  -- changed; and where a call has ended by a step, its actor was told what the history makes of it
+  pub record IsOneMove {B : Type 0} (seats : ℕ) (c d : Config) (m next : MachineState B S) (e : Event) (made : Option Move) (out : Outcome S) : Type 0 where
+    pub before : StandsAt o count parts_of limits seats c m.words m.actors
+    pub after : StandsAt o count parts_of limits seats d next.words next.actors
+    pub moves : IfSome made (λ move. MayMove (terms_of o count parts_of limits seats) c move × (d ≡ moved c move))
+    pub stays : IfNone made (d ≡ c)
+    pub refused : (refusal : Refusal) → out ≡ Refused refusal → (d ≡ c) × (next ≡ m)
+    pub told : (a look : ℕ) (t : Task S) (answer : Said S) → e ≡ Step a → slice_get m.actors a ≡ Some record { look = look; task = Some t } → out ≡ Done answer → WasTold c d a t answer
 
--- after any list of events from the start, each further event is one move, or none, and tells what the history makes of it
-abbrev pub EveryEventIsOneMove : {B S : Type 0} → Operations S → ℕ → (S → List ℕ) → (List ℕ → S) → B → Type 0
-EveryEventIsOneMove {B} {S} o count parts_of whole_of body = (limits : Bounds) (actors : ℕ) (events : List Event) (e : Event) →
-    AreAllowed limits.buckets limits.edits → limits.buckets ≤ 9 → actors ≤ 8 →
-    let m : MachineState B S = (machine_run o count parts_of whole_of (first_state body limits actors) events).0 in
-    IsOneMove o count parts_of limits m (machine_step o count parts_of whole_of m e).0 e (machine_step o count parts_of whole_of m e).1
+module _ {B S : Type 0} (o : Operations S) (count : ℕ) (parts_of : S → List ℕ) (whole_of : List ℕ → S) where
+  -- after any list of events from the start, each further event is the move of its name, or none, and tells what the history makes of it.
+  -- The history is that of the list itself
+  abbrev pub EveryEventIsOneMove : B → Type 0
+  EveryEventIsOneMove body = (limits : Bounds) (actors : ℕ) (events : List Event) (e : Event) →
+      AreAllowed limits.buckets limits.edits → limits.buckets ≤ 9 → actors ≤ 8 →
+      let first : MachineState B S = first_state body limits actors in
+      let m = (machine_run o count parts_of whole_of first events).0 in
+      let next = machine_step o count parts_of whole_of m e in
+      IsOneMove o count parts_of limits actors (config_after o count parts_of whole_of first events) (config_after o count parts_of whole_of first (events ++ e ∷ [])) m next.0 e (move_made m e) next.1
+
+-- the history of a list of events is a beginning of that of each longer list
+abbrev pub HistoriesGrow : (B : Type 0) {S : Type 0} → Operations S → ℕ → (S → List ℕ) → (List ℕ → S) → Type 0
+HistoriesGrow B {S} o count parts_of whole_of = (m : MachineState B S) (events more : List Event) →
+    Ends (config_after o count parts_of whole_of m events).history (config_after o count parts_of whole_of m (events ++ more)).history

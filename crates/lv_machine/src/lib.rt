@@ -12,6 +12,7 @@ mod entries;
 mod events;
 mod laws;
 mod machines;
+mod moves;
 mod outcomes;
 mod packing;
 mod schedules;
@@ -22,6 +23,7 @@ pub use entries::Entry;
 pub use events::{Call, Event};
 pub use laws::{descriptors_tell_the_edit, earlier_edits_come_first, reachable_words_show_history};
 pub use machines::Machine;
+pub use moves::Move;
 pub use outcomes::{Outcome, Read, Refreshed, Said, Sized};
 pub use packing::{
     cell_place_of, edit_in, element, fits_short, index_in, look_after, mark_place_of, pack,

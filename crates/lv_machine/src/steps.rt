@@ -1,7 +1,8 @@
 ghost use Rattle.std.specs.Prelude.{◌≡◌, ◌<◌, ◌/◌, max, length, slice_index, slice_set, if◌then◌else◌, nat_eq};
 ghost use Rattle.lv_machine.specs.Machine.{place_of, sees, sees_next};
 ghost use Rattle.lv_machine.specs.Layout.{cell_place, mark_place, part_place};
-ghost use Rattle.lv_machine.specs.Moves.{completing, moved, Exchange};
+ghost use Rattle.lv_machine.specs.declared.moves.Move.TheVariants.{Exchange};
+ghost use Rattle.lv_machine.specs.Moves.{completing, moved};
 ghost use Rattle.lv_machine.specs.Words.{edit_of, index_of, part_word};
 ghost use Rattle.lv_machine.specs.Ready.{CanMove, CanPack};
 

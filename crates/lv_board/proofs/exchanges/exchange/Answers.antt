@@ -1,8 +1,11 @@
-use Rattle.std.proofs.Common.{◌≡◌, ℕ, nat_eq, refl, ◌∙◌, subst, arith}
+use Rattle.std.proofs.Common.{◌≡◌, ℕ, ◌∷◌, nat_eq, refl, ap, ◌∙◌, subst, arith}
 use Rattle.std.specs.Prelude.{MatchBool}
 use Rattle.std.proofs.lemmas.Bool.{eq-eqb, ne_eqb}
+use Rattle.lv_edits.specs.declared.edit.Edit.{Edit}
+use Rattle.lv_machine.specs.declared.moves.Move.TheVariants.{Exchange}
+use Rattle.lv_machine.proofs.EndsLaws.{legal_earlier}
 use Rattle.lv_board.specs.Rule.{folds, terms_of}
-use Rattle.lv_board.proofs.Exchanging.{accepted_as, exchanges_at_key, look_accepted, made_accepted}
+use Rattle.lv_board.proofs.Exchanging.{accepted_as, exchanges_at_key, look_accepted, made_accepted, told_by, told_edit}
 use Rattle.lv_board.proofs.Seating.{based_after, look_found, seat_after}
 use Rattle.lv_board.proofs.exchanges.exchange.Goals as goal
 
@@ -40,6 +43,8 @@ returns-then-found-old g c =
     let won = told_true _ _ c.compare_exchange-found.result c.args.seat.now.look c.if-found-old.true (told.1 c.args.seat.now.terms c.args.seat.now.based) in (
       record { table = c.compare_exchange-found.ensures.0; terms = refl },
       accepted_as (terms_of (folds g.B.Parted.PARTS g.B.Parted.parts_of (λ b. g.B.Body.operations (g.B.Body.meaning b))) c.args.seat.now.terms) c.args.seat.now.token.me.0.actor c.compare_exchange-found.new.seat.me.0.actor c.args.seat.now.look c.args.new c.args.edit c.args.seat.now.looks.shown c.requires.after c.requires.short c.requires.free won,
+      ap (λ v. v.moves) told.0.1 ∙ ap (λ (e : Edit). Exchange c.args.seat.now.token.me.0.actor.number e ∷ c.args.seat.now.token.me.0.moves)
+          (told_edit (terms_of (folds g.B.Parted.PARTS g.B.Parted.parts_of (λ b. g.B.Body.operations (g.B.Body.meaning b))) c.args.seat.now.terms) c.args.seat.now.token.me.0.actor c.compare_exchange-found.new.seat.me.0.actor c.args.seat.now.look c.args.new c.args.edit c.args.seat.now.looks.shown c.requires.after c.requires.short c.requires.free won),
     )
 
 pub invariant_of-seat-2 : goal.invariant_of-seat-2
@@ -57,7 +62,11 @@ invariant_of-seat-2 g c =
 
 pub returns : goal.returns
 returns g c =
-    let told = c.compare_exchange-found.ensures.2 in (
+    let told = c.compare_exchange-found.ensures.2 in
+    let lost = told_false _ _ c.compare_exchange-found.result c.args.seat.now.look c.if-found-old.false (told.1 c.args.seat.now.terms c.args.seat.now.based) in
+    let legal = legal_earlier (terms_of (folds g.B.Parted.PARTS g.B.Parted.parts_of (λ b. g.B.Body.operations (g.B.Body.meaning b))) c.args.seat.now.terms) c.args.seat.now.token.me.0.actor.seen c.compare_exchange-found.new.seat.me.0.actor.seen lost.seen lost.sees.legal in (
       record { table = c.compare_exchange-found.ensures.0; terms = refl },
-      told_false _ _ c.compare_exchange-found.result c.args.seat.now.look c.if-found-old.false (told.1 c.args.seat.now.terms c.args.seat.now.based),
+      lost,
+      ap (λ v. v.moves) told.0.1 ∙ ap (λ (e : Edit). Exchange c.args.seat.now.token.me.0.actor.number e ∷ c.args.seat.now.token.me.0.moves)
+          (told_by (terms_of (folds g.B.Parted.PARTS g.B.Parted.parts_of (λ b. g.B.Body.operations (g.B.Body.meaning b))) c.args.seat.now.terms) c.args.seat.now.token.me.0.actor.seen c.args.seat.now.token.me.0.actor.number c.args.seat.now.look c.args.new c.args.edit lost.sees.terms legal lost.number c.args.seat.now.looks.shown c.requires.after c.requires.short c.requires.free),
     )

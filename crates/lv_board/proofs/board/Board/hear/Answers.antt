@@ -1,4 +1,5 @@
-use Rattle.std.proofs.Common.{ap, ◌∙◌, arith}
+use Rattle.std.proofs.Common.{ap, ◌∙◌, ◌∷◌, arith}
+use Rattle.lv_machine.specs.declared.moves.Move.TheVariants.{Look}
 use Rattle.lv_board.specs.Rule.{folds}
 use Rattle.lv_board.proofs.Calling.{has_looked, quiet_same, quiet_then}
 use Rattle.lv_board.proofs.Keeping.{looks_at_key}
@@ -48,3 +49,8 @@ returns-clause-looked g c =
     let heard = quiet_same c.args.seat.now.token.me.0.actor c.join_seat.new.seat.me.0.actor (ap (λ v. v.actor.number) view) (ap (λ v. v.actor.known) view) (ap (λ v. v.actor.own) view) in
     has_looked (folds g.B.Parted.PARTS g.B.Parted.parts_of (λ b. g.B.Body.operations (g.B.Body.meaning b))) c.args.seat.now.terms c.args.self.now.terms c.args.seat.now.token.me.0.actor c.load-seat.new.seat.me.0.actor c.load-seat.result c.requires.here.terms
     (quiet_then c.args.seat.now.token.me.0.actor c.join_seat.new.seat.me.0.actor c.load-seat.new.seat.me.0.actor heard told.1) (told.2 c.args.seat.now.terms based)
+
+pub returns-clause-moves : goal.returns-clause-moves
+returns-clause-moves g c =
+    let view = ap (λ m. m.0) c.join_seat.ensures.2 in
+    ap (λ v. v.moves) c.load-seat.ensures.2.0.1 ∙ ap (λ v. Look v.actor.number ∷ v.moves) view

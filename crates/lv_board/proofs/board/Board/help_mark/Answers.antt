@@ -34,4 +34,5 @@ returns g c = record {
   stays = record { table = c.fetch_max.ensures.0; terms = refl };
   look = refl;
   actor = ap (λ v. v.actor) c.fetch_max.ensures.2.1;
+  moves = ap (λ v. v.moves) c.fetch_max.ensures.2.1;
 }

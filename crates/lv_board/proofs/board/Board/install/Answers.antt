@@ -1,8 +1,10 @@
-use Rattle.std.proofs.Common.{◌≡◌, ℕ, ◌+◌, List, ◌∷◌, refl, ap, ◌∙◌, arith}
+use Rattle.std.proofs.Common.{◌≡◌, ℕ, ◌+◌, ◌-◌, List, ◌∷◌, refl, sym, ap, ◌∙◌, arith}
+use Rattle.lv_machine.specs.declared.moves.Move.TheVariants.{Install}
+use Rattle.lv_machine.specs.Layout.{block_at, row_at}
 use Rattle.lv_board.specs.declared.actors.Actor.{Actor}
 use Rattle.lv_board.specs.declared.actors.Installed.{Installed}
 use Rattle.lv_board.specs.Rule.{folds}
-use Rattle.lv_board.proofs.Keeping.{installs_at_key}
+use Rattle.lv_board.proofs.Keeping.{install_at, installs_at_key}
 use Rattle.lv_board.proofs.Seating.{based_after, block_among, made_same, same_look, seat_after}
 use Rattle.lv_board.proofs.board.Board.install.Goals as goal
 
@@ -31,11 +33,17 @@ invariant_of-seat g c =
       looks = same_look c.args.seat.now.terms.buckets c.args.seat.now.terms.edits c.args.seat.now.look c.args.seat.now.token.me.0.actor.seen c.fetch_max.new.seat.me.0.actor.seen same c.args.seat.now.looks;
     }
 
-pub returns : goal.returns
-returns g c =
+pub returns-clause-installed : goal.returns-clause-installed
+returns-clause-installed g c =
     let put : ℕ → List Installed = λ at. record { place = at; word = c.args.word } ∷ c.args.seat.now.token.me.0.actor.installed in
     record {
       stays = record { table = c.fetch_max.ensures.0; terms = refl };
       look = refl;
       actor = ap (λ v. v.actor) c.fetch_max.ensures.2.1 ∙ ap (λ at. record (c.args.seat.now.token.me.0.actor) { installed = put at }) c.part_place_of.ensures;
     }
+
+pub returns-clause-moves : goal.returns-clause-moves
+returns-clause-moves g c =
+    ap (λ v. v.moves) c.fetch_max.ensures.2.1
+    ∙ ap (λ at. Install c.args.seat.now.token.me.0.actor.number (block_at at) (row_at at - 9) c.args.word ∷ c.args.seat.now.token.me.0.moves) c.part_place_of.ensures
+    ∙ ap (λ m. m ∷ c.args.seat.now.token.me.0.moves) (sym (install_at c.args.seat.now.token.me.0.actor.number c.args.b c.args.part c.args.word (omega (arith, c.requires.part, g.B.Parted.some.1))))

@@ -1,4 +1,4 @@
-use Rattle.std.proofs.Common.{sym, ◌∙◌, subst, arith}
+use Rattle.std.proofs.Common.{refl, sym, ap, ◌∙◌, subst, arith}
 use mathlib.Core.Option.{none}
 use Rattle.atomic_table.specs.Table.{Allows, step}
 use Rattle.lv_board.specs.Plays.{Looks}
@@ -25,4 +25,14 @@ invariant_of-seat g c =
       slots = told.0.0 ∙ c.args.seat.now.slots;
       made = (told.2 c.args.seat.now.terms c.args.seat.now.based).made;
       looks = look_found (folds g.B.Parted.PARTS g.B.Parted.parts_of (λ b. g.B.Body.operations (g.B.Body.meaning b))) c.args.seat.now.terms c.load-seat.new.seat.me.0.actor c.load-seat.result (told.2 c.args.seat.now.terms c.args.seat.now.based);
+    }
+
+pub returns : goal.returns
+returns g c =
+    let told = c.load-seat.ensures.2 in
+    record {
+      stays = record { table = c.load-seat.ensures.0; terms = refl };
+      quiet = told.1;
+      sees = told.2 c.args.seat.now.terms c.args.seat.now.based;
+      moves = ap (λ v. v.moves) told.0.1;
     }

@@ -1,4 +1,4 @@
-use Rattle.std.proofs.Common.{sym, subst, arith}
+use Rattle.std.proofs.Common.{refl, sym, ap, subst, arith}
 use mathlib.Core.Option.{none}
 use Rattle.atomic_table.specs.Table.{Allows, step}
 use Rattle.lv_board.specs.Plays.{Reads}
@@ -19,3 +19,11 @@ pub invariant_of-seat-clause-made : goal.invariant_of-seat-clause-made
 invariant_of-seat-clause-made g c =
     let told = c.load.ensures.2.1 c.args.seat.now.terms c.args.seat.now.based in
     made_after c.args.seat.now.token.me.0.actor c.load.new.seat.me.0.actor told.quiet c.args.seat.now.made
+
+pub returns : goal.returns
+returns g c = record {
+  stays = record { table = c.load.ensures.0; terms = refl };
+  look = refl;
+  read = c.load.ensures.2.1 c.args.seat.now.terms c.args.seat.now.based;
+  moves = ap (λ v. v.moves) c.load.ensures.2.0.1;
+}

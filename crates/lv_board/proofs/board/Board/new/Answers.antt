@@ -3,6 +3,7 @@ use Rattle.atomic_table.specs.Table.{Me}
 use Rattle.lv_board.specs.declared.actors.Basis.{Basis}
 use Rattle.lv_board.specs.declared.actors.View.{View}
 use Rattle.lv_board.specs.Rule.{dealer_from}
+use Rattle.lv_board.proofs.Ordered.{dealt_order}
 use Rattle.lv_board.proofs.board.Board.new.Goals as goal
 
 pub returns-then-buckets-gt9-clause-allowed : goal.returns-then-buckets-gt9-clause-allowed
@@ -17,6 +18,9 @@ returns-then-buckets-gt9-clause-count g c = tt
 pub returns-then-buckets-gt9-clause-dealt : goal.returns-then-buckets-gt9-clause-dealt
 returns-then-buckets-gt9-clause-dealt g c = tt
 
+pub returns-then-buckets-gt9-clause-order : goal.returns-then-buckets-gt9-clause-order
+returns-then-buckets-gt9-clause-order g c = tt
+
 pub returns-in_default-clause-allowed : goal.returns-in_default-clause-allowed
 returns-in_default-clause-allowed g c = tt
 
@@ -28,6 +32,9 @@ returns-in_default-clause-count g c = tt
 
 pub returns-in_default-clause-dealt : goal.returns-in_default-clause-dealt
 returns-in_default-clause-dealt g c = tt
+
+pub returns-in_default-clause-order : goal.returns-in_default-clause-order
+returns-in_default-clause-order g c = tt
 
 pub returns-in_default-clause-err : goal.returns-in_default-clause-err
 returns-in_default-clause-err g c = inr (record { few_seats = omega (arith, c.if-seats-gt8.false); some_seats = omega (arith, c.if-seats-eq0.false); few_buckets = omega (arith, c.if-buckets-gt9.false, c.buckets.ensures.value) }, refl)
@@ -43,6 +50,9 @@ returns-in_default-lay-clause-count g c = tt
 
 pub returns-in_default-lay-clause-dealt : goal.returns-in_default-lay-clause-dealt
 returns-in_default-lay-clause-dealt g c = tt
+
+pub returns-in_default-lay-clause-order : goal.returns-in_default-lay-clause-order
+returns-in_default-lay-clause-order g c = tt
 
 pub returns-in_default-lay-clause-err : goal.returns-in_default-lay-clause-err
 returns-in_default-lay-clause-err g c = inr (record { few_seats = omega (arith, c.if-seats-gt8.false); some_seats = omega (arith, c.if-seats-eq0.false); few_buckets = omega (arith, c.if-buckets-gt9.false, c.buckets.ensures.value) }, refl)
@@ -74,6 +84,9 @@ returns-clause-count g c = c.deal_all.ensures.count ∙ ap (λ (z : Basis g.row.
 
 pub returns-clause-dealt : goal.returns-clause-dealt
 returns-clause-dealt g c = c.deal_all.ensures.dealt
+
+pub returns-clause-order : goal.returns-clause-order
+returns-clause-order g c = dealt_order _ _ _ c.deal_all.ensures.count c.deal_all.ensures.dealt
 
 pub returns-clause-err : goal.returns-clause-err
 returns-clause-err g c = tt

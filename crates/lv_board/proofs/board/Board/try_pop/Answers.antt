@@ -22,7 +22,7 @@ returns-in-Some-clause-answer g c = (
 pub returns-in-Err-clause-answer : goal.returns-in-Err-clause-answer
 returns-in-Err-clause-answer g c =
     let free = sym (verdict_is (limits_of c.args.self.now.terms) c.look.new.seat.look c.look.new.seat.token.me.0.actor.seen Pop c.look.new.seat.looks.edit c.look.new.seat.looks.size) ∙ sym c.verdict.ensures ∙ c.in_default.is in
-    try_of_untaken (terms_of (folds g.B.Parted.PARTS g.B.Parted.parts_of (λ b. g.B.Body.operations (g.B.Body.meaning b))) c.args.self.now.terms) c.args.seat.now.token.me.0.actor c.look.new.seat.token.me.0.actor c.take_for.new.seat.token.me.0.actor Pop (c.size_in-last.result - 1) c.in-Err.refusal c.look.ensures.looked free c.in-Err.ensures.answer
+    try_of_untaken (terms_of (folds g.B.Parted.PARTS g.B.Parted.parts_of (λ b. g.B.Body.operations (g.B.Body.meaning b))) c.args.self.now.terms) c.args.seat.now.token.me.0.actor c.look.new.seat.token.me.0.actor c.take_for.new.seat.token.me.0.actor Pop (c.size_in-last.result - 1) c.in-Err.refusal tt c.look.ensures.looked free c.in-Err.ensures.answer
 
 pub returns-in-Ok-clause-answer : goal.returns-in-Ok-clause-answer
 returns-in-Ok-clause-answer g c =

@@ -35,7 +35,7 @@ returns-in-Err-clause-answer g c =
     let x = to_z-of_z w64 c.args.value c.ranges.value in
     let free = sym (verdict_is (limits_of c.args.self.now.terms) c.look.new.seat.look c.look.new.seat.token.me.0.actor.seen (Write c.args.index c.args.value) c.look.new.seat.looks.edit c.look.new.seat.looks.size) ∙ ap (λ y. verdict_at (limits_of c.args.self.now.terms) c.look.new.seat.look (Write c.args.index y)) (sym x) ∙ sym c.verdict.ensures ∙ c.in_default.is in
     let untaken = subst (λ y. TakeAnswers (terms_of (folds g.B.Parted.PARTS g.B.Parted.parts_of (λ b. g.B.Body.operations (g.B.Body.meaning b))) c.args.self.now.terms) c.look.new.seat.token.me.0.actor c.take_for.new.seat.token.me.0.actor (Write c.args.index y) c.args.index (Err c.in-Err.refusal)) x c.in-Err.ensures.answer in
-    try_of_untaken (terms_of (folds g.B.Parted.PARTS g.B.Parted.parts_of (λ b. g.B.Body.operations (g.B.Body.meaning b))) c.args.self.now.terms) c.args.seat.now.token.me.0.actor c.look.new.seat.token.me.0.actor c.take_for.new.seat.token.me.0.actor (Write c.args.index c.args.value) c.args.index c.in-Err.refusal c.look.ensures.looked free untaken
+    try_of_untaken (terms_of (folds g.B.Parted.PARTS g.B.Parted.parts_of (λ b. g.B.Body.operations (g.B.Body.meaning b))) c.args.self.now.terms) c.args.seat.now.token.me.0.actor c.look.new.seat.token.me.0.actor c.take_for.new.seat.token.me.0.actor (Write c.args.index c.args.value) c.args.index c.in-Err.refusal tt c.look.ensures.looked free untaken
 
 pub returns-in-Ok-clause-answer : goal.returns-in-Ok-clause-answer
 returns-in-Ok-clause-answer g c =

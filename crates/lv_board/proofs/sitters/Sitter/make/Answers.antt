@@ -1,8 +1,8 @@
 use Rattle.std.proofs.Common.{refl}
 use Rattle.lv_board.proofs.sitters.Sitter.make.Goals as goal
 
-pub returns : goal.returns
-returns g c =
+pub returns-clause-makes : goal.returns-clause-makes
+returns-clause-makes g c =
     let at_board = rw c.deref.ensures at c.make_within.ensures.ends in
     record {
       same = refl;

@@ -1,0 +1,118 @@
+-- Seats of which no two have one number: how many they can be, and what all of them made together.
+use Rattle.std.proofs.Common.{◌≡◌, ◌≢◌, ℕ, ◌+◌, ◌<◌, ◌≤◌, ◌||◌, true, false, nat_eq, List, [], ◌∷◌, ◌++◌, length, map, refl, sym, ap, ◌∙◌, subst, inl, inr, arith}
+use Rattle.std.specs.Prelude.{All, slice_index_or}
+use Rattle.std.proofs.lemmas.Cmp.{nat_eq_equiv}
+use Rattle.std.specs.List.{AllByRecursion, IsDistinct, list_any, remove, sum_by}
+use Rattle.std.proofs.lemmas.Bool.{cases_Bool, eq-eqb, eqb-true, false≢true, ne_eqb}
+use Rattle.std.proofs.lemmas.List.{length-append, length-map, map-append}
+use Rattle.std.proofs.lemmas.List.Elements.{All-cons, All-head, All-nil, All-push, All-tail}
+use Rattle.std.proofs.lemmas.List.Sums.{sum_by-cons}
+use Rattle.std.proofs.lemmas.Map.Keys.{IsDistinct-head, IsDistinct-push, IsDistinct-tail}
+use Rattle.std.proofs.lemmas.Map.Steps.{length-le_from_distinct_below}
+use Rattle.lv_machine.specs.declared.entries.Entry.{Entry}
+use Rattle.lv_machine.specs.History.{IsLegalHistory, own}
+use Rattle.lv_machine.specs.Terms.{Terms}
+use Rattle.lv_board.specs.declared.seats.Seat.{Seat}
+use Rattle.lv_board.specs.Closing.{AreSome}
+use Rattle.lv_board.specs.Tells.{actor_of}
+use Rattle.lv_board.proofs.Advancing.{own-nil, own-other, own-same}
+
+-- a number that is among some is below what they are all below
+among_below : (xs : List ℕ) (n q : ℕ) → All (λ x. x < n) xs → list_any (nat_eq q) xs ≡ true → q < n
+among_below [] n q all any = absurd (false≢true any)
+among_below (x ∷ xs) n q all any = elim (cases_Bool (nat_eq q x)) [
+  | inl same ↦ subst (λ m. m < n) (sym (eqb-true q x same)) (All-head (λ m. m < n) x xs all)
+  | inr other ↦ among_below xs n q (All-tail (λ m. m < n) x xs all) (ap (λ b. b || list_any (nat_eq q) xs) (sym other) ∙ any)
+]
+
+-- numbers below n, no two the same, are at most n
+few_below : (xs : List ℕ) (n : ℕ) → IsDistinct nat_eq xs → All (λ x. x < n) xs → length xs ≤ n
+few_below xs n apart all = length-le_from_distinct_below xs n apart (λ q any. among_below xs n q all any)
+
+-- where they are n, each number below n is among them
+full_has : (xs : List ℕ) (n a : ℕ) → IsDistinct nat_eq xs → All (λ x. x < n) xs → length xs ≡ n → a < n → list_any (nat_eq a) xs ≡ true
+full_has xs n a apart all long less = elim (cases_Bool (list_any (nat_eq a) xs)) [
+  | inl has ↦ has
+  | inr lacks ↦ absurd (omega (arith, long, length-append xs (a ∷ []), few_below (xs ++ a ∷ []) n (IsDistinct-push nat_eq_equiv xs a apart lacks) (All-push (λ x. x < n) xs a all less)))
+]
+
+-- a number that differs from some is not among them
+lacks_by : (xs : List ℕ) (a : ℕ) → AllByRecursion (λ y. nat_eq a y ≡ false) xs → list_any (nat_eq a) xs ≡ false
+lacks_by [] a apart = refl
+lacks_by (x ∷ xs) a (first, rest) = ap (λ b. b || list_any (nat_eq a) xs) first ∙ lacks_by xs a rest
+
+-- an entry counts for its own actor alone, and once
+not_counted : (e : Entry) (h : List Entry) (xs : List ℕ) → list_any (nat_eq e.actor) xs ≡ false → sum_by (λ n. length (own n (e ∷ h))) xs ≡ sum_by (λ n. length (own n h)) xs
+not_counted e h [] lacks = refl
+not_counted e h (x ∷ xs) lacks = elim (cases_Bool (nat_eq e.actor x)) [
+  | inl same ↦ absurd (false≢true (sym lacks ∙ ap (λ b. b || list_any (nat_eq e.actor) xs) same))
+  | inr other ↦
+      let apart : e.actor ≢ x = λ same. false≢true (sym other ∙ eq-eqb e.actor x same) in
+      omega (arith, sum_by-cons (λ n. length (own n (e ∷ h))) x xs, sum_by-cons (λ n. length (own n h)) x xs, ap length (own-other x e h apart), not_counted e h xs (ap (λ b. b || list_any (nat_eq e.actor) xs) (sym other) ∙ lacks))
+]
+
+counted_once : (e : Entry) (h : List Entry) (xs : List ℕ) → IsDistinct nat_eq xs → list_any (nat_eq e.actor) xs ≡ true → sum_by (λ n. length (own n (e ∷ h))) xs ≡ 1 + sum_by (λ n. length (own n h)) xs
+counted_once e h [] apart has = absurd (false≢true has)
+counted_once e h (x ∷ xs) apart has = elim (cases_Bool (nat_eq e.actor x)) [
+  | inl same ↦
+      let here : e.actor ≡ x = eqb-true e.actor x same in
+      let lacks = subst (λ a. list_any (nat_eq a) xs ≡ false) (sym here) (lacks_by xs x (IsDistinct-head nat_eq x xs apart)) in
+      omega (arith, sum_by-cons (λ n. length (own n (e ∷ h))) x xs, sum_by-cons (λ n. length (own n h)) x xs, ap length (own-same x e h here), not_counted e h xs lacks)
+  | inr other ↦
+      let differs : e.actor ≢ x = λ same. false≢true (sym other ∙ eq-eqb e.actor x same) in
+      omega (arith, sum_by-cons (λ n. length (own n (e ∷ h))) x xs, sum_by-cons (λ n. length (own n h)) x xs, ap length (own-other x e h differs), counted_once e h xs (IsDistinct-tail nat_eq x xs apart) (ap (λ b. b || list_any (nat_eq e.actor) xs) (sym other) ∙ has))
+]
+
+none_made : (xs : List ℕ) → sum_by (λ n. length (own n [])) xs ≡ 0
+none_made [] = refl
+none_made (x ∷ xs) = omega (arith, sum_by-cons (λ n. length (own n [])) x xs, ap length (own-nil x), none_made xs)
+
+-- the entries of all actors are all that there are
+pub all_made : (t : Terms) (h : List Entry) (xs : List ℕ) → IsDistinct nat_eq xs → All (λ x. x < t.seats) xs → length xs ≡ t.seats → IsLegalHistory t h → length h ≡ sum_by (λ n. length (own n h)) xs
+all_made t [] xs apart below long legal = sym (none_made xs)
+all_made t (e ∷ h) xs apart below long (legal, next) = omega (arith, all_made t h xs apart below long legal, counted_once e h xs apart (full_has xs t.seats e.actor apart below long next.actor))
+
+module _ {B : Type 0} where
+  numbers_below : (count : ℕ) (seats : List (Seat B)) → All (λ s. (actor_of s).number < count) seats → All (λ n. n < count) (map (λ s. (actor_of s).number) seats)
+  numbers_below count [] all = All-nil (λ n. n < count)
+  numbers_below count (s ∷ seats) all = All-cons (λ n. n < count) (actor_of s).number (map (λ u. (actor_of u).number) seats) (All-head (λ u. (actor_of u).number < count) s seats all) (numbers_below count seats (All-tail (λ u. (actor_of u).number < count) s seats all))
+
+  -- the numbers of some seats
+  pub some_below : (count : ℕ) (seats : List (Seat B)) → AreSome count seats → All (λ n. n < count) (map (λ s. (actor_of s).number) seats)
+  some_below count seats some = numbers_below count seats some.below
+
+  lacks_number : (seats : List (Seat B)) (n : ℕ) → All (λ u. (actor_of u).number ≢ n) seats → list_any (nat_eq n) (map (λ u. (actor_of u).number) seats) ≡ false
+  lacks_number [] n all = refl
+  lacks_number (s ∷ seats) n all =
+      let first : n ≢ (actor_of s).number = λ same. All-head (λ u. (actor_of u).number ≢ n) s seats all (sym same) in
+      ap (λ b. b || list_any (nat_eq n) (map (λ u. (actor_of u).number) seats)) (ne_eqb n (actor_of s).number first) ∙ lacks_number seats n (All-tail (λ u. (actor_of u).number ≢ n) s seats all)
+
+  -- one more seat is there
+  pub some_more : (count : ℕ) (seats : List (Seat B)) (s : Seat B) → AreSome count seats → (actor_of s).number < count → All (λ u. (actor_of u).number ≢ (actor_of s).number) seats → AreSome count (seats ++ s ∷ [])
+  some_more count seats s some less apart = record {
+    below = All-push (λ u. (actor_of u).number < count) seats s some.below less;
+    apart = subst (IsDistinct nat_eq) (sym (map-append (λ u. (actor_of u).number) seats (s ∷ [])))
+        (IsDistinct-push nat_eq_equiv (map (λ u. (actor_of u).number) seats) (actor_of s).number some.apart (lacks_number seats (actor_of s).number apart));
+  }
+
+  -- so there was room for it
+  pub some_few : (count : ℕ) (seats : List (Seat B)) → AreSome count seats → length seats ≤ count
+  some_few count seats some = omega (arith, few_below (map (λ u. (actor_of u).number) seats) count some.apart (some_below count seats some), length-map seats (λ u. (actor_of u).number))
+
+  pub room_for : (count : ℕ) (seats : List (Seat B)) (s : Seat B) → AreSome count seats → (actor_of s).number < count → All (λ u. (actor_of u).number ≢ (actor_of s).number) seats → length seats < count
+  room_for count seats s some less apart = omega (arith, some_few count (seats ++ s ∷ []) (some_more count seats s some less apart), length-append seats (s ∷ []))
+
+  -- the first seat is taken
+  pub first_of : (seats rest : List (Seat B)) (s : Seat B) → 0 < length seats → s ≡ slice_index_or seats 0 s → rest ≡ remove seats 0 → seats ≡ s ∷ rest
+  first_of [] rest s some is are = absurd (omega arith)
+  first_of (u ∷ seats) rest s some is are = ap (λ v. v ∷ seats) (sym is) ∙ ap (λ l. s ∷ l) (sym are)
+
+  others_differ : (n : ℕ) (seats : List (Seat B)) → AllByRecursion (λ y. nat_eq n y ≡ false) (map (λ u. (actor_of u).number) seats) → All (λ u. (actor_of u).number ≢ n) seats
+  others_differ n [] apart = All-nil (λ u. (actor_of u).number ≢ n)
+  others_differ n (s ∷ seats) (first, rest) = All-cons (λ u. (actor_of u).number ≢ n) s seats (λ same. false≢true (sym first ∙ eq-eqb n (actor_of s).number (sym same))) (others_differ n seats rest)
+
+  pub first_apart : (count : ℕ) (s : Seat B) (rest : List (Seat B)) → AreSome count (s ∷ rest) → All (λ u. (actor_of u).number ≢ (actor_of s).number) rest
+  first_apart count s rest some = others_differ (actor_of s).number rest (IsDistinct-head nat_eq (actor_of s).number (map (λ u. (actor_of u).number) rest) some.apart)
+
+  pub some_rest : (count : ℕ) (s : Seat B) (rest : List (Seat B)) → AreSome count (s ∷ rest) → AreSome count rest
+  some_rest count s rest some = record { below = All-tail (λ u. (actor_of u).number < count) s rest some.below; apart = IsDistinct-tail nat_eq (actor_of s).number (map (λ u. (actor_of u).number) rest) some.apart }
