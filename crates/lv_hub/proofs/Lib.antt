@@ -1,9 +1,10 @@
 mod AcceptedLaws
-mod AddingLaws
 mod AskedLaws
 mod OrderLaws
+mod PermitLaws
 mod PrefixLaws
 mod SessionLaws
+mod StepLaws
 mod StretchLaws
 mod ToldLaws
 pub mod TruthLaws

@@ -1,16 +1,56 @@
--- The rule of a hub's history, and what the step that adds to it tells.
-use Rattle.std.specs.Prelude.{ℕ, ◌≡◌, ◌==◌, true, List, [], ◌∷◌, ◌++◌, length, MatchBool}
-use Rattle.logbook.specs.Pages.{Book, Cell, Named, Step, View}
+-- The rule of a book in which histories grow, and what the steps on it tell. An entry is added by a permit, which is spent by that, and
+-- names the permit that takes its place. So a history goes on by its holder alone, whatever others add to the book.
+use Rattle.std.specs.Prelude.{ℕ, ◌≡◌, ◌≢◌, true, List, [], ◌∷◌, ◌++◌, All, nat_eq, if◌then◌else◌}
+use mathlib.Core.List.{IsPrefix}
+use Rattle.logbook.specs.Pages.{Book, Cell, Named, Step, View, cell, may_make}
 use Rattle.lv_edits.specs.declared.edit.Edit.{Edit}
+use Rattle.lv_hub.specs.declared.entries.Entry.{Entry}
 
--- the first word is the length of the history. A book has two words, of which this one leaves the second at 0
-pub record IsKept (cells : List Cell) (log : List Edit) : Type 0 where
-  pub words : cells ≡ (length log, true) ∷ (0, true) ∷ []
+-- which history it is: its book, and the permit by which its first edit is added
+pub record Beginning : Type 0 where
+  pub book : Book
+  pub permit : ℕ
+
+-- the edits of the history that begins with a permit, in order
+abbrev pub edits_by : ℕ → List Entry → List Edit
+edits_by permit [] = []
+edits_by permit (entry ∷ log) = if nat_eq entry.by permit then entry.edit ∷ edits_by entry.next log else edits_by permit log
+
+-- the permit by which the next edit is added to it
+abbrev pub permit_after : ℕ → List Entry → ℕ
+permit_after permit [] = permit
+permit_after permit (entry ∷ log) = if nat_eq entry.by permit then permit_after entry.next log else permit_after permit log
+
+-- a permit's cell is at home once it is spent
+abbrev pub IsSpent : List Cell → ℕ → Type 0
+IsSpent cells permit = (cell cells permit).1 ≡ true
+
+-- nothing was added by a permit
+abbrev pub IsUnspent : ℕ → List Entry → Type 0
+IsUnspent permit log = All (λ entry. entry.by ≢ permit) log
+
+-- the first word is at home, so that steps are made on it; what was added was added by permits that are spent
+pub record IsKept (cells : List Cell) (log : List Entry) : Type 0 where
+  pub first : IsSpent cells 0
+  pub spent : All (λ entry. IsSpent cells entry.by) log
 
 -- the first word of a book
 abbrev pub head_of : Book → Named
 head_of b = record { tracked = true; key = 0; book = b }
 
--- the edit was added to all that had been seen; or the history was longer
-abbrev pub Adds : Step Edit → View Edit ℕ → ℕ → View Edit ℕ → Type 0
-Adds s v found w = MatchBool (found == s.old) (w.0 ≡ v.0 ++ s.ask ∷ []) (length w.0 ≡ found)
+-- a new permit was given, by which nothing was added yet
+pub record Grants (s : Step Entry) (v : View Entry ℕ) (found : ℕ) (w : View Entry ℕ) : Type 0 where
+  pub right : w.1.0.right ≡ may_make
+  pub unspent : IsUnspent w.1.0.key w.0
+
+-- the book was seen as it is, by the holder of a permit that isn't spent
+pub record Shows (s : Step Entry) (v : View Entry ℕ) (found : ℕ) (w : View Entry ℕ) : Type 0 where
+  pub pen : w.1.0 ≡ v.1.0
+  pub unspent : IsUnspent v.1.0.key w.0
+
+-- an entry was added by a permit, which was not spent before
+pub record Adds (s : Step Entry) (v : View Entry ℕ) (found : ℕ) (w : View Entry ℕ) : Type 0 where
+  pub before : List Entry
+  pub seen : IsPrefix v.0 before
+  pub unspent : IsUnspent v.1.0.key before
+  pub added : w.0 ≡ before ++ record { by = v.1.0.key; next = s.ask.next; edit = s.ask.edit } ∷ []

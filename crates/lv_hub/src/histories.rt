@@ -1,17 +1,18 @@
 ghost use Rattle.std.specs.Prelude.{◌≡◌, ◌<◌, ◌^◌, ◌++◌, ◌∷◌, ◌⊎◌, [], length};
 ghost use mathlib.Core.List.{IsPrefix};
-ghost use Rattle.lv_hub.specs.Growing.{head_of};
+ghost use Rattle.logbook.specs.Pages.{may_write};
+ghost use Rattle.lv_hub.specs.Growing.{IsUnspent, head_of};
 
+use crate::entries::Entry;
 use crate::naming::Naming;
-use logbook::{Gain, Offer, Plain, Play, Rule, Seen, Start, Word};
+use logbook::{Gain, Offer, Pen, Plain, Play, Rule, Seen, Start, Word};
 use lv_edits::Edit;
 use std::marker::{Model, PhantomData};
-use std::sync::Wait;
 
-// The rule of a history: its word is its length.
+// The rule of a book.
 pub struct Law;
 
-impl Rule<Edit, u64> for Law {
+impl Rule<Entry, u64> for Law {
     ghost use Rattle.std.specs.Prelude.{[]};
     ghost use base.Fml.{ftrue};
     ghost use Rattle.lv_hub.specs.Growing.{IsKept};
@@ -32,102 +33,212 @@ impl Rule<Edit, u64> for Law {
 // Callers trade nothing.
 pub struct Nothing;
 
-impl Gain<Edit, u64> for Nothing {
+impl Gain<Entry, u64> for Nothing {
     ghost use base.Fml.{ftrue};
 
     ghost after = { λ names about answer. ftrue };
 }
 
+// A step that gives a new permit.
+pub struct Grant;
+
+impl Play<Entry, u64> for Grant {
+    ghost use Rattle.lv_hub.specs.Growing.{Grants};
+
+    ghost then = { Grants };
+}
+
+// A step that shows the book to the holder of a permit.
+pub struct Look;
+
+impl Play<Entry, u64> for Look {
+    ghost use Rattle.lv_hub.specs.Growing.{Shows};
+
+    ghost then = { Shows };
+}
+
+impl Plain<(), Entry, u64> for Look {
+    ghost use Rattle.std.specs.Prelude.{None};
+    ghost use Rattle.lv_edits.specs.declared.edit.Edit.TheVariants.{Pop};
+
+    ghost ask = { λ x. record { by = 0; next = 0; edit = Pop } };
+
+    ghost state = { λ x. None };
+}
+
 // A step that adds an edit.
 pub struct Add;
 
-impl Play<Edit, u64> for Add {
+// The edit, and the permit that takes the place of the one it is added by.
+pub struct Turn {
+    edit: Edit,
+    next: Pen,
+}
+
+impl Play<Entry, u64> for Add {
     ghost use Rattle.lv_hub.specs.Growing.{Adds};
 
     ghost then = { Adds };
 }
 
-impl Plain<Edit, Edit, u64> for Add {
+impl Plain<Turn, Entry, u64> for Add {
     ghost use Rattle.std.specs.Prelude.{None};
 
-    ghost ask = { λ edit. edit };
+    ghost ask = { λ turn. record { by = 0; next = turn.next.nib.key; edit = turn.edit } };
 
-    ghost state = { λ edit. None };
+    ghost state = { λ turn. None };
+}
+
+// A new permit, by which nothing was added up to what is seen then.
+fn take_permit(word: &Word<Entry, u64, Law>, seen: &mut Seen<Entry, u64, Law>) -> Pen
+    requires { word.now ≡ head_of seen.old.book }
+    ensures book { result.book ≡ seen.old.book }
+    ensures right { result.nib.right ≡ may_write }
+    ensures unspent { IsUnspent result.nib.key seen.new.log }
+    ensures same { seen.new.book ≡ seen.old.book }
+{
+    let mut offer: Offer<Entry, u64, Law, Nothing> = seen.plain::<Nothing, (), Look>(&());
+    let mut pen = seen.no_pen();
+    let _ = word.compare_exchange::<Grant, Nothing>(0, 0, seen, &mut offer, &mut pen);
+    let _ = Word::<Entry, u64, Law>::tracked(0, &mut pen);
+    pen
 }
 
 /// An empty history of edits, which has no name yet. It exists in the proofs alone, but for its length.
 pub struct Opened {
-    word: Word<Edit, u64, Law>,
-    seen: Seen<Edit, u64, Law>,
+    word: Word<Entry, u64, Law>,
+    pen: Pen,
+    seen: Seen<Entry, u64, Law>,
 }
 
 impl Model for Opened {
-    ghost use Rattle.std.specs.Prelude.{◌≡◌, []};
-    ghost use Rattle.logbook.specs.Pages.{Book};
-    ghost use Rattle.lv_hub.specs.Growing.{head_of};
+    ghost use Rattle.std.specs.Prelude.{◌≡◌};
+    ghost use Rattle.logbook.specs.Pages.{may_write};
+    ghost use Rattle.lv_hub.specs.Growing.{Beginning, IsUnspent, head_of};
 
-    ghost Value = { Book };
+    ghost Value = { Beginning };
 
-    ghost view = { λ o. o.seen.book };
+    ghost view = { λ o. record { book = o.seen.book; permit = o.pen.nib.key } };
 
-    ghost invariant = { λ o. (o.seen.log ≡ []) × (o.word ≡ head_of o.seen.book) };
+    ghost invariant = { λ o. (o.word ≡ head_of o.seen.book) × (o.pen.book ≡ o.seen.book) × (o.pen.nib.right ≡ may_write) × IsUnspent o.pen.nib.key o.seen.log };
 }
 
 impl Opened {
     /// A new history. Takes no memory.
     pub fn new() -> Opened {
-        let (seen, mut first, _second) = Seen::open(Start::alone(), 0, 0);
-        Opened {
-            word: Word::tracked(0, &mut first),
-            seen,
-        }
+        let (mut seen, mut first, _second) = Seen::open(Start::alone(), 0, 0);
+        let word = Word::tracked(0, &mut first);
+        let pen = take_permit(&word, &mut seen);
+        Opened { word, pen, seen }
     }
 
     /// The history under a name: the right to add to it, and a front that has seen nothing.
     pub fn named<N: Naming>(self) -> (Head<N>, Front<N>)
         requires { self ≡ N.history }
-        ensures { result.1 ≡ [] }
+        ensures head { result.0 ≡ [] }
+        ensures front { result.1 ≡ [] }
     {
-        let Opened { word, seen } = self;
-        (
-            Head {
-                word,
-                of: PhantomData,
-            },
-            Front {
-                edits: 0,
-                seen,
-                of: PhantomData,
-            },
-        )
+        let Opened { word, pen, seen } = self;
+        let head = Head {
+            edits: 0,
+            word,
+            pen,
+            seen,
+            of: PhantomData,
+        };
+        let front = head.front();
+        (head, front)
     }
 }
 
-/// The length of a history, to which edits are added.
+/// A whole history, with the one permit to add to it. Contracts see it as its edits.
 #[derive(Drop)]
 pub struct Head<N: Naming> {
-    word: Word<Edit, u64, Law>,
+    edits: u64,
+    word: Word<Entry, u64, Law>,
+    pen: Pen,
+    seen: Seen<Entry, u64, Law>,
     of: PhantomData<N>,
-    ghost head_is: { word ≡ head_of N.history },
+}
+
+impl<N: Naming> Model for Head<N> {
+    ghost use Rattle.std.specs.Prelude.{◌≡◌, List, length};
+    ghost use Rattle.logbook.specs.Pages.{may_write};
+    ghost use Rattle.lv_edits.specs.declared.edit.Edit.{Edit};
+    ghost use Rattle.lv_hub.specs.Growing.{edits_by, head_of, permit_after};
+
+    ghost Value = { List Edit };
+
+    ghost view = { λ h. edits_by N.history.permit h.seen.log };
+
+    ghost invariant = { λ h. (h.edits ≡ length (edits_by N.history.permit h.seen.log)) × (h.word ≡ head_of N.history.book) × (h.pen.book ≡ N.history.book) × (h.seen.book ≡ N.history.book) × (h.pen.nib.right ≡ may_write) × (h.pen.nib.key ≡ permit_after N.history.permit h.seen.log) };
 }
 
 /// A beginning of a history that was seen. Contracts see it as its edits.
 #[derive(Drop)]
 pub struct Front<N: Naming> {
     edits: u64,
-    seen: Seen<Edit, u64, Law>,
+    seen: Seen<Entry, u64, Law>,
     of: PhantomData<N>,
 }
 
 impl<N: Naming> Model for Front<N> {
     ghost use Rattle.std.specs.Prelude.{◌≡◌, List, length};
     ghost use Rattle.lv_edits.specs.declared.edit.Edit.{Edit};
+    ghost use Rattle.lv_hub.specs.Growing.{edits_by};
 
     ghost Value = { List Edit };
 
-    ghost view = { λ f. f.seen.log };
+    ghost view = { λ f. edits_by N.history.permit f.seen.log };
 
-    ghost invariant = { λ f. (f.edits ≡ length f.seen.log) × (f.seen.book ≡ N.history) };
+    ghost invariant = { λ f. (f.edits ≡ length (edits_by N.history.permit f.seen.log)) × (f.seen.book ≡ N.history.book) };
+}
+
+impl<N: Naming> Head<N> {
+    // All of its edits, as a front.
+    fn front(&self) -> Front<N>
+        ensures { result ≡ self.now }
+    {
+        Front {
+            edits: self.edits,
+            seen: self.seen.again(),
+            of: PhantomData,
+        }
+    }
+
+    /// The same, which a front that is handed in begins: by its permit nobody else has added to the history.
+    pub fn grown(&mut self, front: &Front<N>) -> Front<N>
+        ensures all { result ≡ self.old }
+        ensures begins { IsPrefix front.now self.old }
+        ensures same { self.new ≡ self.old }
+    {
+        let mut both = self.seen.again();
+        both.learn(&front.seen);
+        let mut offer: Offer<Entry, u64, Law, Nothing> = both.plain::<Nothing, (), Look>(&());
+        let _ = self
+            .word
+            .compare_exchange::<Look, Nothing>(0, 0, &mut both, &mut offer, &mut self.pen);
+        self.front()
+    }
+
+    /// Adds an edit, and spends its permit by that. Another takes its place.
+    pub fn append(&mut self, edit: Edit)
+        requires { length self.old < 2 ^ 62 }
+        ensures { self.new ≡ self.old ++ edit ∷ [] }
+    {
+        let mut aside = self.seen.again();
+        let next = take_permit(&self.word, &mut aside);
+        let turn = Turn { edit, next };
+        let mut offer: Offer<Entry, u64, Law, Nothing> = self
+            .seen
+            .plain::<Nothing, Turn, Add>(&turn);
+        let _ = self
+            .word
+            .compare_exchange::<Add, Nothing>(0, 0, &mut self.seen, &mut offer, &mut self.pen);
+        let Turn { edit: _, next } = turn;
+        self.pen = next;
+        self.edits += 1;
+    }
 }
 
 impl<N: Naming> Front<N> {
@@ -155,45 +266,5 @@ impl<N: Naming> Front<N> {
         } else {
             self.again()
         }
-    }
-
-    /// A copy of the whole history, of which this front has seen a beginning. It never returns where the other isn't the whole.
-    pub fn grown<R: Wait>(&self, rt: &R, whole: &Front<N>) -> Front<N>
-        ensures whole { result ≡ whole.now }
-        ensures begins { IsPrefix self.now result }
-    {
-        let mut both = self.seen.again();
-        both.learn(&whole.seen);
-        if whole.edits < self.edits {
-            for _ in rt.forever() {}
-            unreachable!()
-        }
-        whole.again()
-    }
-
-    /// Adds an edit to the whole history. It never returns where this isn't the whole.
-    pub fn append<R: Wait>(&mut self, rt: &R, head: &Head<N>, edit: Edit)
-        requires { length self.old < 2 ^ 62 }
-        ensures { self.new ≡ self.old ++ edit ∷ [] }
-    {
-        let mut offer: Offer<Edit, u64, Law, Nothing> = self
-            .seen
-            .plain::<Nothing, Edit, Add>(&edit);
-        let mut pen = self.seen.no_pen();
-        let edits = self.edits;
-        let found = head
-            .word
-            .compare_exchange::<Add, Nothing>(
-                edits,
-                edits + 1,
-                &mut self.seen,
-                &mut offer,
-                &mut pen,
-            );
-        if found != edits {
-            for _ in rt.forever() {}
-            unreachable!()
-        }
-        self.edits = edits + 1;
     }
 }

@@ -29,10 +29,7 @@ const NAPS: u32 = 8;
 const NAP_MICROSECONDS: u64 = 100;
 
 /// A live vector that threads share. Each of its calls but `new` and `close` waits for the lock, and holds it for one call of
-/// its desk. Its edits are one list, which only grows; contracts see the hub as its body.
-///
-/// A share that is handed in is this hub's. Where another had added to the history of its edits, which nobody can, a call would wait
-/// for ever.
+/// its desk. Its edits are one list, which only grows; contracts see the hub as its body. A share that is handed in is this hub's.
 #[derive(Drop)]
 pub struct Hub<B: Body, N: Means<B>> {
     room: Mutex<Room<B, N>>,
@@ -93,7 +90,7 @@ impl<B: Body, N: Means<B>> Hub<B, N> {
         ensures told { EditTold N.limits share.old.seen share.new.seen edit result }
         ensures counts { Counts (having_seen share.old share.new.seen) result share.new }
     {
-        let (answer, wakes) = self.room.lock(rt).edit(rt, share, edit);
+        let (answer, wakes) = self.room.lock(rt).edit(share, edit);
         if wakes {
             self.bell.notify_one();
         }
@@ -113,8 +110,8 @@ impl<B: Body, N: Means<B>> Hub<B, N> {
         ensures share { share.new ≡ having_seen share.old share.new.seen }
         ensures bad_range { (result ≡ Err Refusal.BadRange) ↔ (hi < lo) }
     {
-        let room = self.room.lock(rt);
-        room.desk.show(rt, share);
+        let mut room = self.room.lock(rt);
+        room.desk.show(share);
         room.desk.live().reduce(lo, hi)
     }
 
@@ -132,7 +129,7 @@ impl<B: Body, N: Means<B>> Hub<B, N> {
         ensures bad_range { (result ≡ Err Refusal.BadRange) ↔ (hi < lo) }
     {
         let mut room = self.room.lock(rt);
-        room.desk.show(rt, share);
+        room.desk.show(share);
         room.desk.ask(lo, hi)
     }
 
@@ -218,8 +215,8 @@ impl<B: Body, N: Means<B>> Hub<B, N> {
         ensures told { StretchTold self.now N.limits share.old.seen share.new.seen lo hi result }
         ensures share { share.new ≡ having_seen share.old share.new.seen }
     {
-        let room = self.room.lock(rt);
-        room.desk.show(rt, share);
+        let mut room = self.room.lock(rt);
+        room.desk.show(share);
         room.desk.live().copy_range(alloc, lo, hi)
     }
 
@@ -295,7 +292,7 @@ impl<B: Body, N: Means<B>> Hub<B, N> {
 
     /// The vector, once all threads are done: the share that is handed in has all parts. Its journal has as many edits as the
     /// share counts, and begins with all that the share has seen. Each of them would be accepted within the greatest limits.
-    pub fn close<R: Wait>(self, rt: &R, share: Share<N>) -> Live<B>
+    pub fn close(self, share: Share<N>) -> Live<B>
         requires { share.parts ≡ N.parts }
         ensures counted { length result.history.journal ≡ share.count }
         ensures vector { IsVector N.limits result.history }
@@ -303,6 +300,6 @@ impl<B: Body, N: Means<B>> Hub<B, N> {
         ensures seen { IsPrefix share.seen result.history.journal }
         ensures accepted { AreAccepted greatest result.history.journal }
     {
-        self.room.into_inner().desk.close(rt, share)
+        self.room.into_inner().desk.close(share)
     }
 }

@@ -2,8 +2,8 @@
 //!
 //! The value in the lock is a desk: a live vector, with the ledger's book of how many edits were accepted. Each thread has a
 //! share, which counts the edits that it made; the shares together count all. A desk's calls are the vector's, and wait for nobody.
-//! Beside the desk lies what was seen of the history of its edits, and each share has seen a beginning of it: so the hub's calls tell
-//! of one list of edits. A call on the hub takes the lock, makes one call of the desk and releases it.
+//! Beside the desk lies the history of its edits, with the one permit to add to it, and each share has seen a beginning of it: so the
+//! hub's calls tell of one list of edits. A call on the hub takes the lock, makes one call of the desk and releases it.
 //!
 //! Workers claim jobs and give their outcomes back; they compute with no lock held. Those that attend sleep where no node wants a
 //! job, until an edit wakes them or they are dismissed. A session answers the lines of a script so. It does not say that a thread gets
@@ -12,6 +12,7 @@
 
 mod attending;
 mod desks;
+mod entries;
 mod gates;
 mod histories;
 mod hubs;

@@ -11,7 +11,7 @@ ghost use Rattle.lv_hub.specs.Counting.{Counts, having_seen};
 ghost use Rattle.lv_hub.specs.Told.{Gives, IsVector, VouchedBy};
 
 use crate::desks::Desk;
-use crate::histories::{Front, Head, Opened};
+use crate::histories::{Head, Opened};
 use crate::naming::Means;
 use crate::shares::Share;
 use lv_bodies::Body;
@@ -23,14 +23,12 @@ use lv_refresh::{Job, Outcome};
 use lv_summary::Accepted;
 use std::alloc::Global;
 use std::marker::Model;
-use std::sync::Wait;
 use std::sync::ledger::Blank;
 
-/// A desk whose edits are the history's, by the body of its name.
+/// A desk whose edits are the history's, with the one permit to add to it, by the body of its name.
 #[derive(Drop)]
 pub struct LoggedDesk<B: Body, N: Means<B>> {
     desk: Desk<B, N>,
-    front: Front<N>,
     head: Head<N>,
 }
 
@@ -43,7 +41,7 @@ impl<B: Body, N: Means<B>> Model for LoggedDesk<B, N> {
 
     ghost view = { λ d. d.desk };
 
-    ghost invariant = { λ d. (d.front ≡ d.desk.history.journal) × (N.body ≡ Some d.desk.body) × AreAccepted greatest d.desk.history.journal };
+    ghost invariant = { λ d. (d.head ≡ d.desk.history.journal) × (N.body ≡ Some d.desk.body) × AreAccepted greatest d.desk.history.journal };
 }
 
 impl<B: Body, N: Means<B>> LoggedDesk<B, N> {
@@ -66,17 +64,12 @@ impl<B: Body, N: Means<B>> LoggedDesk<B, N> {
         ensures share { result.1 ≡ record { parts = parts; count = 0; seen = [] } }
     {
         let (head, front) = opened.named::<N>();
-        let (desk, share) = Desk::new(alloc, limits, body, blank, parts, front.again());
-        (LoggedDesk { desk, front, head }, share)
+        let (desk, share) = Desk::new(alloc, limits, body, blank, parts, front);
+        (LoggedDesk { desk, head }, share)
     }
 
     /// Makes an edit as the desk does, and adds it to the history where it is accepted. The share sees all edits, and its own.
-    pub fn edit<R: Wait>(
-        &mut self,
-        rt: &R,
-        share: &mut Share<N>,
-        edit: Edit,
-    ) -> Result<Receipt, Refusal>
+    pub fn edit(&mut self, share: &mut Share<N>, edit: Edit) -> Result<Receipt, Refusal>
         ensures begins { IsPrefix share.old.seen self.old.history.journal }
         ensures seen { share.new.seen ≡ self.new.history.journal }
         ensures counts { Counts (having_seen share.old share.new.seen) result share.new }
@@ -84,19 +77,20 @@ impl<B: Body, N: Means<B>> LoggedDesk<B, N> {
         ensures refresh { SameRefresh self.old self.new }
         ensures vector { IsVector N.limits self.old.history }
     {
-        share.see(rt, &self.front);
+        share.see(&mut self.head);
         let receipt = self.desk.edit(share, edit)?;
-        self.front.append(rt, &self.head, edit);
-        share.see(rt, &self.front);
+        self.head.append(edit);
+        share.see(&mut self.head);
         Ok(receipt)
     }
 
     /// Lets a share see all edits.
-    pub fn show<R: Wait>(&self, rt: &R, share: &mut Share<N>)
-        ensures begins { IsPrefix share.old.seen self.now.history.journal }
-        ensures seen { share.new ≡ having_seen share.old self.now.history.journal }
+    pub fn show(&mut self, share: &mut Share<N>)
+        ensures begins { IsPrefix share.old.seen self.old.history.journal }
+        ensures seen { share.new ≡ having_seen share.old self.old.history.journal }
+        ensures same { self.new ≡ self.old }
     {
-        share.see(rt, &self.front);
+        share.see(&mut self.head);
     }
 
     /// The fold of a range, as the desk gives it.
@@ -149,7 +143,7 @@ impl<B: Body, N: Means<B>> LoggedDesk<B, N> {
 
     // Its vector, which no thread edits any more, and of whose edits the share has seen a beginning. The share that is handed in has all
     // parts.
-    pub(crate) fn close<R: Wait>(self, rt: &R, share: Share<N>) -> Live<B>
+    pub(crate) fn close(self, share: Share<N>) -> Live<B>
         requires { share.parts ≡ N.parts }
         ensures same { result ≡ self }
         ensures counted { length self.history.journal ≡ share.count }
@@ -158,9 +152,9 @@ impl<B: Body, N: Means<B>> LoggedDesk<B, N> {
         ensures seen { IsPrefix share.seen self.history.journal }
         ensures accepted { AreAccepted greatest self.history.journal }
     {
-        let LoggedDesk { desk, front, .. } = self;
+        let LoggedDesk { desk, mut head } = self;
         let mut share = share;
-        share.see(rt, &front);
+        share.see(&mut head);
         desk.close(share)
     }
 }

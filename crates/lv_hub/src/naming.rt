@@ -1,6 +1,6 @@
 ghost use Rattle.std.specs.Prelude.{None, Option};
 ghost use Rattle.lv_geometry.specs.Bounds.{Bounds};
-ghost use Rattle.logbook.specs.Pages.{Book};
+ghost use Rattle.lv_hub.specs.Growing.{Beginning};
 
 use std::marker::Brand;
 use std::sync::ledger::Ledger;
@@ -11,13 +11,13 @@ pub trait Naming: Ledger {
     // The limits of the hub's vector.
     ghost limits: { Bounds };
     // The history of the hub's edits.
-    ghost history: { Book };
+    ghost history: { Beginning };
 }
 
 impl Naming for Brand {
     ghost limits = { record { buckets = 1; edits = 1 } };
 
-    ghost history = { record { number = 0; log_name = 0; cells_name = 0 } };
+    ghost history = { record { book = record { number = 0; log_name = 0; cells_name = 0 }; permit = 0 } };
 }
 
 /// The same, with the body of the hub's vector.

@@ -15,7 +15,6 @@ use crate::shares::Share;
 use lv_bodies::Body;
 use lv_edits::{Edit, Receipt};
 use lv_geometry::Refusal;
-use std::sync::Wait;
 
 /// What lies under a hub's lock: its desk, whose edits are the history's, and the workers that attend it.
 #[derive(Drop)]
@@ -43,12 +42,7 @@ impl<B: Body, N: Means<B>> Room<B, N> {
 
     /// Makes an edit as the desk does. Says too whether a worker is to be woken, which then counts as awake: where one sleeps, and
     /// the edit may have made a node want a job.
-    pub fn edit<R: Wait>(
-        &mut self,
-        rt: &R,
-        share: &mut Share<N>,
-        edit: Edit,
-    ) -> (Result<Receipt, Refusal>, bool)
+    pub fn edit(&mut self, share: &mut Share<N>, edit: Edit) -> (Result<Receipt, Refusal>, bool)
         ensures begins { IsPrefix share.old.seen self.old.desk.history.journal }
         ensures seen { share.new.seen ≡ self.new.desk.history.journal }
         ensures answer { Answers self.old.desk.history edit result.0 self.new.desk.history }
@@ -59,7 +53,7 @@ impl<B: Body, N: Means<B>> Room<B, N> {
         ensures asleep { self.new.asleep ≡ left_asleep self.old.asleep result.1 }
         ensures dismissed { self.new.dismissed ≡ self.old.dismissed }
     {
-        let answer = self.desk.edit(rt, share, edit);
+        let answer = self.desk.edit(share, edit);
         let wakes = 0 < self.asleep && makes_work(answer);
         if wakes {
             self.asleep -= 1;

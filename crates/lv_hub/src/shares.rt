@@ -2,10 +2,9 @@ ghost use Rattle.std.specs.Prelude.{◌≡◌, ◌+◌, ◌%◌, ◌^◌, ◌<�
 ghost use mathlib.Core.List.{IsPrefix};
 ghost use Rattle.lv_hub.specs.Counting.{AreTogether, ShareState, having_seen};
 
-use crate::histories::Front;
+use crate::histories::{Front, Head};
 use crate::naming::Naming;
 use std::marker::Model;
-use std::sync::Wait;
 use std::sync::ledger::{Book, Share as Token};
 
 /// Some parts of a hub, how many of the edits that were accepted it counts, and the beginning of the hub's edits that it has seen. A
@@ -89,12 +88,13 @@ impl<N: Naming> Share<N> {
         self.count = self.count.wrapping_add(count);
     }
 
-    // Sees all edits. It never returns where these aren't all.
-    pub(crate) fn see<R: Wait>(&mut self, rt: &R, whole: &Front<N>)
-        ensures begins { IsPrefix self.old.seen whole.now }
-        ensures seen { self.new ≡ having_seen self.old whole.now }
+    // Sees all edits.
+    pub(crate) fn see(&mut self, head: &mut Head<N>)
+        ensures begins { IsPrefix self.old.seen head.old }
+        ensures seen { self.new ≡ having_seen self.old head.old }
+        ensures same { head.new ≡ head.old }
     {
-        let front = self.front.grown(rt, whole);
+        let front = head.grown(&self.front);
         self.front = front;
     }
 

@@ -1,5 +1,5 @@
--- Every run adds the edits that it accepts, and each of its answers is true of the edits at its end.
-use Rattle.std.proofs.Common.{◌≡◌, ℕ, Bool, Some, Result, Ok, Err, List, [], ◌∷◌, ◌++◌, length, take, slice_get, refl, sym, ap, ◌∙◌, subst, append_assoc, append-nil}
+-- Every run adds the edits that it accepts, and each of its answers is true of those that were accepted before it.
+use Rattle.std.proofs.Common.{◌≡◌, ℕ, ◌+◌, Bool, Some, Result, Ok, Err, List, [], ◌∷◌, ◌++◌, length, take, slice_get, refl, sym, ap, ◌∙◌, subst, append_assoc, append-nil, length-append}
 use Rattle.std.proofs.Math.Seq.{take-append_seam}
 use Rattle.lv_geometry.specs.Bounds.{Bounds}
 use Rattle.lv_geometry.specs.declared.nodes.Node.{Node}
@@ -20,7 +20,7 @@ use Rattle.lv_live.specs.declared.events.Event.{Event}
 use Rattle.lv_live.specs.declared.events.Event.TheVariants as event
 use Rattle.lv_live.specs.declared.replies.Reply.{Reply}
 use Rattle.lv_live.specs.Step.{EditStep, Reduces, Run, Scans, Step, edit_reply, job_of, reduction_reply, scan_reply}
-use Rattle.lv_live.specs.EveryRun.{AreTrueOf, IsReceiptIn, IsTrueOf, accepted_in, made_by}
+use Rattle.lv_live.specs.EveryRun.{AreTrueOf, IsReceiptAt, IsTrueOf, accepted_in, made_by}
 use Rattle.lv_live.proofs.HonestSteps.{honest_after_step}
 use Rattle.lv_live.proofs.RunLaws.{claimed_edits, delivered_edits}
 
@@ -30,17 +30,16 @@ slice_get-seam [] ys y = refl
 slice_get-seam (x ∷ xs) ys y = slice_get-seam xs ys y
 
 -- an edit behind some edits has its receipt there, whatever comes later
-receipt_behind : (edits rest : List Edit) (edit : Edit) (receipt : Receipt) → receipt ≡ receipt_of edits edit → IsReceiptIn (edits ++ edit ∷ rest) edit receipt
+receipt_behind : (edits rest : List Edit) (edit : Edit) (receipt : Receipt) → receipt ≡ receipt_of edits edit → IsReceiptAt (edits ++ edit ∷ rest) (length edits) edit receipt
 receipt_behind edits rest edit receipt is =
     record {
-      before = length edits;
-      there = slice_get-seam edits rest edit;
+      next = slice_get-seam edits rest edit;
       receipt_there = is ∙ ap (λ edits. receipt_of edits edit) (sym (take-append_seam edits (edit ∷ rest)));
     }
 
--- the first e edits, where there were e edits and others came later
-first_edits : (edits now rest : List Edit) (e : ℕ) → e ≡ length edits → now ≡ edits → take e (now ++ rest) ≡ edits
-first_edits edits now rest e is same = ap (λ e. take e (now ++ rest)) is ∙ ap (λ now. take (length edits) (now ++ rest)) same ∙ take-append_seam edits rest
+-- the first edits, where others came later
+first_edits : (edits now rest : List Edit) → now ≡ edits → take (length edits) (now ++ rest) ≡ edits
+first_edits edits now rest same = ap (λ now. take (length edits) (now ++ rest)) same ∙ take-append_seam edits rest
 
 module _ {S : Type 0} (o : Operations S) (limits : Bounds) where
   -- an edit adds itself where it is accepted
@@ -70,42 +69,48 @@ module _ {S : Type 0} (o : Operations S) (limits : Bounds) where
       ∙ append_assoc r.edits (made_by event answered) (accepted_in events replies)
 
   -- what an edit is answered is true of the edits after it, and of any that go on from there
-  edit_true : (r next : Record) (rest : List Edit) (edit : Edit) (answer : Result Receipt Refusal) → EditStep limits r edit answer next → IsTrueOf o (next.edits ++ rest) (event.Edit edit) (edit_reply answer)
+  edit_true : (r next : Record) (rest : List Edit) (edit : Edit) (answer : Result Receipt Refusal) → EditStep limits r edit answer next → IsTrueOf o (next.edits ++ rest) (length r.edits) (event.Edit edit) (edit_reply answer)
   edit_true r next rest edit (Ok receipt) step =
-      (Ok receipt, refl, subst (λ edits. IsReceiptIn edits edit receipt) (sym (ap (λ edits. edits ++ rest) step.2.edits ∙ append_assoc r.edits (edit ∷ []) rest)) (receipt_behind r.edits rest edit receipt step.1))
+      (Ok receipt, refl, subst (λ edits. IsReceiptAt edits (length r.edits) edit receipt) (sym (ap (λ edits. edits ++ rest) step.2.edits ∙ append_assoc r.edits (edit ∷ []) rest)) (receipt_behind r.edits rest edit receipt step.1))
   edit_true r next rest edit (Err refusal) step = (Err refusal, refl, tt)
 
   -- so is what a reduction is answered
-  reduction_true : (r next : Record) (rest : List Edit) (lo hi : ℕ) (answer : Result (Answer S) Refusal) → Reduces o r lo hi answer → next.edits ≡ r.edits → IsTrueOf o (next.edits ++ rest) (event.Reduce lo hi) (reduction_reply answer)
+  reduction_true : (r next : Record) (rest : List Edit) (lo hi : ℕ) (answer : Result (Answer S) Refusal) → Reduces o r lo hi answer → next.edits ≡ r.edits → IsTrueOf o (next.edits ++ rest) (length r.edits) (event.Reduce lo hi) (reduction_reply answer)
   reduction_true r next rest lo hi (Ok answer) reduces same =
-      (Ok answer, refl, subst (λ edits. IsAnswer o edits lo hi answer) (sym (first_edits r.edits next.edits rest answer.edit reduces.0.edit same)) reduces.0)
+      (Ok answer, refl, record { at = reduces.0.edit; answers = subst (λ edits. IsAnswer o edits lo hi answer) (sym (first_edits r.edits next.edits rest same)) reduces.0 })
   reduction_true r next rest lo hi (Err refusal) reduces same = (Err refusal, refl, tt)
 
   -- and what a scan is
-  scan_true : (r next : Record) (rest : List Edit) (lo hi : ℕ) (inclusive : Bool) (answer : Result (Scan S) Refusal) → Scans o r lo hi inclusive answer → next.edits ≡ r.edits → IsTrueOf o (next.edits ++ rest) (event.Scan lo hi inclusive) (scan_reply answer)
+  scan_true : (r next : Record) (rest : List Edit) (lo hi : ℕ) (inclusive : Bool) (answer : Result (Scan S) Refusal) → Scans o r lo hi inclusive answer → next.edits ≡ r.edits → IsTrueOf o (next.edits ++ rest) (length r.edits) (event.Scan lo hi inclusive) (scan_reply answer)
   scan_true r next rest lo hi inclusive (Ok scan) is same =
-      (Ok scan, refl, subst (λ edits. IsScan edits lo hi (scan_of inclusive o (slice_of edits lo hi)) scan) (sym (first_edits r.edits next.edits rest scan.edit is.edit same)) is)
+      (Ok scan, refl, record { at = is.edit; answers = subst (λ edits. IsScan edits lo hi (scan_of inclusive o (slice_of edits lo hi)) scan) (sym (first_edits r.edits next.edits rest same)) is })
   scan_true r next rest lo hi inclusive (Err refusal) is same = (Err refusal, refl, tt)
 
   -- what a step is answered is true of the edits after it, and of any that go on from there
-  step_true : (r next : Record) (rest : List Edit) (event : Event) (answered : Reply S) → Step o limits r event answered next → IsTrueOf o (next.edits ++ rest) event answered
-  step_true r next rest (event.Edit edit) answered (answer, is, step) = subst (IsTrueOf o (next.edits ++ rest) (event.Edit edit)) (sym is) (edit_true r next rest edit answer step)
+  step_true : (r next : Record) (rest : List Edit) (event : Event) (answered : Reply S) → Step o limits r event answered next → IsTrueOf o (next.edits ++ rest) (length r.edits) event answered
+  step_true r next rest (event.Edit edit) answered (answer, is, step) =
+      subst (IsTrueOf o (next.edits ++ rest) (length r.edits) (event.Edit edit)) (sym is) (edit_true r next rest edit answer step)
   step_true r next rest event.Settle answered step = tt
   step_true r next rest event.Claim answered step = tt
   step_true r next rest (event.Deliver k) answered step = tt
   step_true r next rest event.Forget answered step = tt
   step_true r next rest (event.Reduce lo hi) answered (answer, is, reduces, same) =
-      subst (IsTrueOf o (next.edits ++ rest) (event.Reduce lo hi)) (sym is) (reduction_true r next rest lo hi answer reduces same.edits)
+      subst (IsTrueOf o (next.edits ++ rest) (length r.edits) (event.Reduce lo hi)) (sym is) (reduction_true r next rest lo hi answer reduces same.edits)
   step_true r next rest (event.Scan lo hi inclusive) answered (answer, is, scans, same) =
-      subst (IsTrueOf o (next.edits ++ rest) (event.Scan lo hi inclusive)) (sym is) (scan_true r next rest lo hi inclusive answer scans same.edits)
+      subst (IsTrueOf o (next.edits ++ rest) (length r.edits) (event.Scan lo hi inclusive)) (sym is) (scan_true r next rest lo hi inclusive answer scans same.edits)
 
-  -- each answer of a run is true of the edits at its end
-  pub run_true : (r next : Record) (events : List Event) (replies : List (Reply S)) → Run o limits r events replies next → AreTrueOf o next.edits events replies
-  run_true r next [] replies run = tt
+  -- a step has so many edits before it and those that it made after it
+  step_counts : (r next : Record) (event : Event) (answered : Reply S) → Step o limits r event answered next → length next.edits ≡ length r.edits + length (made_by event answered)
+  step_counts r next event answered step = ap length (step_edits r next event answered step) ∙ length-append r.edits (made_by event answered)
+
+  -- each answer of a run is true of the edits at its end, at those that were accepted before it
+  pub run_true : (r next : Record) (events : List Event) (replies : List (Reply S)) → Run o limits r events replies next → AreTrueOf o next.edits (length r.edits) events replies
+  run_true r next [] [] run = tt
+  run_true r next [] (answered ∷ replies) run = absurd run
   run_true r next (event ∷ events) [] run = absurd run
   run_true r next (event ∷ events) (answered ∷ replies) (mid, step, run) = (
-    subst (λ edits. IsTrueOf o edits event answered) (sym (run_edits mid next events replies run)) (step_true r mid (accepted_in events replies) event answered step),
-    run_true mid next events replies run,
+    subst (λ edits. IsTrueOf o edits (length r.edits) event answered) (sym (run_edits mid next events replies run)) (step_true r mid (accepted_in events replies) event answered step),
+    subst (λ e. AreTrueOf o next.edits e events replies) (step_counts r mid event answered step) (run_true mid next events replies run),
   )
 
   -- legal edits stay so where they are the same

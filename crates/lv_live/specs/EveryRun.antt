@@ -1,5 +1,6 @@
--- What holds of every run, also of one that meets want of memory: which edits it accepted, and that all its answers are true of them.
-use Rattle.std.specs.Prelude.{⊤, ◌≡◌, ℕ, Bool, true, false, Some, Result, IfOk, List, [], ◌∷◌, ◌++◌, take, slice_get, if◌then◌else◌}
+-- What holds of every run, also of one that meets want of memory: which edits it accepted, and that each of its answers is true of
+-- those that were accepted before it.
+use Rattle.std.specs.Prelude.{⊤, ◌≡◌, ℕ, ◌+◌, Bool, true, false, Some, Result, IfOk, List, [], ◌∷◌, ◌++◌, length, take, slice_get, if◌then◌else◌}
 use Rattle.lv_geometry.specs.declared.refusals.Refusal.{Refusal}
 use Rattle.lv_bodies.specs.Body.{Operations}
 use Rattle.lv_edits.specs.declared.edit.Edit.{Edit}
@@ -14,11 +15,20 @@ use Rattle.lv_live.specs.declared.replies.Reply.{Reply}
 use Rattle.lv_live.specs.declared.replies.Reply.TheVariants as reply
 use Rattle.lv_live.specs.Step.{edit_reply, reduction_reply, scan_reply}
 
--- an edit stands in a list of edits, and its receipt is that of the edit after those before it
-pub record IsReceiptIn (edits : List Edit) (edit : Edit) (receipt : Receipt) : Type 0 where
-  pub before : ℕ
-  pub there : slice_get edits before ≡ Some edit
-  pub receipt_there : receipt ≡ receipt_of (take before edits) edit
+-- an edit is the next of a list of edits behind the first e, and its receipt is that of the edit after these
+pub record IsReceiptAt (edits : List Edit) (e : ℕ) (edit : Edit) (receipt : Receipt) : Type 0 where
+  pub next : slice_get edits e ≡ Some edit
+  pub receipt_there : receipt ≡ receipt_of (take e edits) edit
+
+-- a reduction is answered at edit e: it is the plain left fold of its range after the first e of these edits
+pub record IsAnswerAt {S : Type 0} (o : Operations S) (edits : List Edit) (e lo hi : ℕ) (answer : Answer S) : Type 0 where
+  pub at : answer.edit ≡ e
+  pub answers : IsAnswer o (take e edits) lo hi answer
+
+-- a scan is answered at edit e: it has the running folds of its range after the first e of these edits
+pub record IsScanAt {S : Type 0} (o : Operations S) (edits : List Edit) (e lo hi : ℕ) (inclusive : Bool) (scan : Scan S) : Type 0 where
+  pub at : scan.edit ≡ e
+  pub answers : IsScan (take e edits) lo hi (scan_of inclusive o (slice_of (take e edits) lo hi)) scan
 
 module _ {S : Type 0} where
   -- whether an edit was accepted
@@ -49,23 +59,24 @@ module _ {S : Type 0} where
   accepted_in (event ∷ events) [] = []
   accepted_in (event ∷ events) (answered ∷ replies) = made_by event answered ++ accepted_in events replies
 
-  -- what an event is answered is true of a list of edits: an edit's receipt is its own there; a reduction at edit e is the plain
-  -- left fold of its range after the first e, and a scan its running folds. What is refused tells nothing of them.
-  abbrev pub IsTrueOf : Operations S → List Edit → Event → Reply S → Type 0
-  IsTrueOf o edits (event.Edit edit) answered =
-      (answer : Result Receipt Refusal) × (answered ≡ edit_reply answer) × IfOk answer (IsReceiptIn edits edit)
-  IsTrueOf o edits event.Settle answered = ⊤
-  IsTrueOf o edits event.Claim answered = ⊤
-  IsTrueOf o edits (event.Deliver k) answered = ⊤
-  IsTrueOf o edits event.Forget answered = ⊤
-  IsTrueOf o edits (event.Reduce lo hi) answered =
-      (answer : Result (Answer S) Refusal) × (answered ≡ reduction_reply answer) × IfOk answer (λ answer. IsAnswer o (take answer.edit edits) lo hi answer)
-  IsTrueOf o edits (event.Scan lo hi inclusive) answered =
-      (answer : Result (Scan S) Refusal) × (answered ≡ scan_reply answer)
-      × IfOk answer (λ scan. IsScan (take scan.edit edits) lo hi (scan_of inclusive o (slice_of (take scan.edit edits) lo hi)) scan)
+  -- what an event is answered is true of a list of edits, of which the first e were accepted before it: an accepted edit is the next
+  -- of them, with its receipt there; a reduction and a scan are answered at edit e. What is refused tells nothing of them.
+  abbrev pub IsTrueOf : Operations S → List Edit → ℕ → Event → Reply S → Type 0
+  IsTrueOf o edits e (event.Edit edit) answered =
+      (answer : Result Receipt Refusal) × (answered ≡ edit_reply answer) × IfOk answer (IsReceiptAt edits e edit)
+  IsTrueOf o edits e event.Settle answered = ⊤
+  IsTrueOf o edits e event.Claim answered = ⊤
+  IsTrueOf o edits e (event.Deliver k) answered = ⊤
+  IsTrueOf o edits e event.Forget answered = ⊤
+  IsTrueOf o edits e (event.Reduce lo hi) answered =
+      (answer : Result (Answer S) Refusal) × (answered ≡ reduction_reply answer) × IfOk answer (IsAnswerAt o edits e lo hi)
+  IsTrueOf o edits e (event.Scan lo hi inclusive) answered =
+      (answer : Result (Scan S) Refusal) × (answered ≡ scan_reply answer) × IfOk answer (IsScanAt o edits e lo hi inclusive)
 
-  -- so is each answer of a run
-  abbrev pub AreTrueOf : Operations S → List Edit → List Event → List (Reply S) → Type 0
-  AreTrueOf o edits [] replies = ⊤
-  AreTrueOf o edits (event ∷ events) [] = ⊥
-  AreTrueOf o edits (event ∷ events) (answered ∷ replies) = IsTrueOf o edits event answered × AreTrueOf o edits events replies
+  -- so is each answer of a run, before which the first e were accepted: behind an edit that was accepted it is one more
+  abbrev pub AreTrueOf : Operations S → List Edit → ℕ → List Event → List (Reply S) → Type 0
+  AreTrueOf o edits e [] [] = ⊤
+  AreTrueOf o edits e [] (answered ∷ replies) = ⊥
+  AreTrueOf o edits e (event ∷ events) [] = ⊥
+  AreTrueOf o edits e (event ∷ events) (answered ∷ replies) =
+      IsTrueOf o edits e event answered × AreTrueOf o edits (e + length (made_by event answered)) events replies

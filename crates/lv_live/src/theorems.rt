@@ -1,4 +1,4 @@
-ghost use Rattle.std.specs.Prelude.{◌≡◌, ℕ, List, ◌++◌};
+ghost use Rattle.std.specs.Prelude.{◌≡◌, ℕ, List, ◌++◌, length};
 ghost use Rattle.lv_geometry.specs.Bounds.{Bounds};
 ghost use Rattle.lv_geometry.specs.declared.nodes.Node.{Node};
 ghost use Rattle.lv_geometry.specs.declared.refusals.Refusal.{Refusal};
@@ -16,13 +16,14 @@ ghost use Rattle.lv_live.specs.declared.replies.Reply.TheVariants.{Refused};
 use lv_bodies::Body;
 
 /// Every run, also one that meets want of memory, leaves the edits that there were and then those that it accepted, in order; and
-/// each of its answers is true of these: a reduction at edit e is the plain left fold of its range after the first e of them, a
-/// scan its running folds, and a receipt that of its edit.
+/// each of its answers is true of these. Let e be the number of edits accepted before a query, and no other: a reduction is answered
+/// at edit e, and is the plain left fold of its range after the first e edits; a scan has its running folds. An accepted edit is the
+/// next one behind the first e, and its receipt is the one there.
 pub fn every_run_is_true_of_its_edits<B: Body>()
     ensures edits { (m : B.Meaning) (limits : Bounds) (r next : Record) (events : List Event) (replies : List (Reply B.S)) →
         Run (B.operations m) limits r events replies next → next.edits ≡ r.edits ++ accepted_in events replies }
     ensures answers { (m : B.Meaning) (limits : Bounds) (r next : Record) (events : List Event) (replies : List (Reply B.S)) →
-        Run (B.operations m) limits r events replies next → AreTrueOf (B.operations m) next.edits events replies }
+        Run (B.operations m) limits r events replies next → AreTrueOf (B.operations m) next.edits (length r.edits) events replies }
 {}
 
 /// In every run edits and queries are answered by the edits alone: each reduction is the plain left fold of its range, and
