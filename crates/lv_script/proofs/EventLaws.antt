@@ -143,7 +143,7 @@ granted_text s inclusive kind lo hi = scan_text (length s.live.history.journal) 
 -- a scan, answered
 tells_scan : (s : StandingState) (inclusive : Bool) (kind : Kind) (lo hi : ℕ) (jobs : List (Carried Six SixSummary)) → range_refusal s.live.history.journal lo hi ≡ None
     → TellsScan (state_of s jobs) inclusive kind lo hi (granted_text s inclusive kind lo hi) (state_of s jobs)
-tells_scan s inclusive kind lo hi jobs granted = inl (ap (scanned_range_text s.live.history.journal inclusive kind lo hi) (sym granted), unchanged s jobs)
+tells_scan s inclusive kind lo hi jobs granted = (ap (scanned_range_text s.live.history.journal inclusive kind lo hi) (sym granted), unchanged s jobs)
 
 -- a scan that was put whole
 pub scan_put : {T E : Type 0} (result : Result T E) (s : StandingState) (inclusive : Bool) (kind : Kind) (lo hi : ℕ) (written : List ℕ → Type 0) → range_refusal s.live.history.journal lo hi ≡ None

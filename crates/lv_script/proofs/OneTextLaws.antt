@@ -1,9 +1,8 @@
 -- Where memory is never wanted, the lines of a script have one text.
-use Rattle.std.proofs.Common.{◌≡◌, ◌≢◌, ◌⊎◌, ℕ, ◌+◌, Bool, Option, Some, None, Result, Ok, Err, List, [], ◌∷◌, ◌++◌, refl, sym, ap, ap₂, ◌∙◌, subst, inl, inr, append-nil}
+use Rattle.std.proofs.Common.{◌≡◌, ◌≢◌, ◌⊎◌, ℕ, ◌+◌, Option, Some, None, Result, Ok, Err, List, [], ◌∷◌, ◌++◌, refl, sym, ap, ap₂, ◌∙◌, subst, inl, inr, append-nil}
 use Rattle.lv_geometry.specs.Bounds.{Bounds}
 use Rattle.lv_geometry.specs.declared.refusals.Refusal.{Refusal}
 use Rattle.lv_geometry.specs.declared.refusals.Refusal.TheVariants.{NoMemory}
-use Rattle.lv_bodies.specs.declared.kinds.Kind.{Kind}
 use Rattle.lv_bodies.specs.Six.{SixSummary, six_operations}
 use Rattle.lv_edits.specs.declared.edit.Edit.{Edit}
 use Rattle.lv_edits.specs.declared.receipt.Receipt.{Receipt}
@@ -24,7 +23,7 @@ use Rattle.lv_lines.specs.Grammar.{line_of}
 use Rattle.lv_lines.specs.Replies.{Answered}
 use Rattle.lv_lines.specs.Texts.{refused_text}
 use Rattle.lv_script.specs.OneText.{StepWithRoom}
-use Rattle.lv_script.specs.Script.{CommandAnswer, Does, HasQueries, LineAnswer, ScriptState, ScriptStep, Tells, TellsEdit, TellsEvent, TellsScan, TellsUnwatch, TellsWatch, edit_text, notes_text, reply_text}
+use Rattle.lv_script.specs.Script.{CommandAnswer, Does, HasQueries, LineAnswer, ScriptState, ScriptStep, Tells, TellsEdit, TellsEvent, TellsUnwatch, TellsWatch, edit_text, notes_text, reply_text}
 use Rattle.lv_script.specs.Scripted.{Begins}
 
 -- the reply to what was refused for want of memory
@@ -51,12 +50,12 @@ one_list_of_notes old new (q ∷ queries) a b first second =
     ]
 
 -- where the edits are the same there are no notes
-no_notes : (edits : List Edit) (queries : List Query) (notes : List Note) → AreNotes edits edits queries notes → notes ≡ []
+pub no_notes : (edits : List Edit) (queries : List Query) (notes : List Note) → AreNotes edits edits queries notes → notes ≡ []
 no_notes edits [] notes is = is
 no_notes edits (q ∷ queries) notes is = elim is [ inl same ↦ no_notes edits queries notes same.1 | inr changed ↦ absurd (changed.0 refl) ]
 
 -- an edit's reply tells its answer
-edit_reply_tells : (a b : Result Receipt Refusal) → edit_reply {S = SixSummary} a ≡ edit_reply b → a ≡ b
+pub edit_reply_tells : (a b : Result Receipt Refusal) → edit_reply {S = SixSummary} a ≡ edit_reply b → a ≡ b
 edit_reply_tells (Ok receipt) (Ok other) same = cc
 edit_reply_tells (Ok receipt) (Err refusal) same = cc
 edit_reply_tells (Err refusal) (Ok receipt) same = cc
@@ -126,18 +125,6 @@ claim_one old new after text told first second room had =
       | inr refused ↦ absurd (room refused.0)
     ]
 
--- a scan
-scan_one : (old new after : ScriptState) (inclusive : Bool) (kind : Kind) (lo hi : ℕ) (text told : List ℕ) → TellsScan old inclusive kind lo hi text new
-    → TellsScan old inclusive kind lo hi told after → text ≢ refused_text NoMemory → told ≢ refused_text NoMemory → IsOne text told new after
-scan_one old new after inclusive kind lo hi text told first second room had =
-    elim first [
-      | inl is ↦ elim second [
-        | inl was ↦ (is.0 ∙ sym was.0, queries_one old new after old.queries old.queries is.1 was.1 refl)
-        | inr refused ↦ absurd (had refused.1.0)
-      ]
-      | inr refused ↦ absurd (room refused.1.0)
-    ]
-
 -- why a query was refused is told once
 one_reason : (known : Option Refusal) (a b : Refusal) → known ≡ Some a → known ≡ Some b → a ≡ b
 one_reason known a b first second = cc
@@ -195,7 +182,7 @@ command_one old new after command.Size text told first second room had = tells_o
 command_one old new after command.Capacity text told first second room had = tells_one old new after _ text told first second
 command_one old new after (command.Reduce kind lo hi) text told first second room had = tells_one old new after _ text told first second
 command_one old new after (command.Cost lo hi) text told first second room had = event_one old new after (event.Reduce lo hi) text told first second room had
-command_one old new after (command.Scan inclusive kind lo hi) text told first second room had = scan_one old new after inclusive kind lo hi text told first second room had
+command_one old new after (command.Scan inclusive kind lo hi) text told first second room had = tells_one old new after _ text told first second
 command_one old new after command.Claim text told first second room had = claim_one old new after text told first second room had
 command_one old new after (command.Deliver k) text told first second room had = event_one old new after (event.Deliver k) text told first second room had
 command_one old new after command.Forget text told first second room had = event_one old new after event.Forget text told first second room had

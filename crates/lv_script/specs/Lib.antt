@@ -1,4 +1,6 @@
 pub mod OneText
+pub mod PlainRuns
+pub mod PlainScript
 pub mod Schedule
 pub mod Script
 pub mod Scripted

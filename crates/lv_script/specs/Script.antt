@@ -1,6 +1,6 @@
 -- What each line of a script is answered, and what it changes.
-use Rattle.std.specs.Prelude.{◌≡◌, ◌⊎◌, ℕ, ℤ, ◌+◌, Bool, Result, Ok, Err, Option, Some, None, List, [], ◌∷◌, ◌++◌, length, take, map, if◌then◌else◌}
-use Rattle.std.specs.List.{flat_map, range_with_len}
+use Rattle.std.specs.Prelude.{◌≡◌, ◌⊎◌, ℕ, ℤ, Bool, Result, Ok, Err, Option, Some, None, List, [], ◌∷◌, ◌++◌, length}
+use Rattle.std.specs.List.{flat_map}
 use Rattle.lv_geometry.specs.Bounds.{Bounds}
 use Rattle.lv_geometry.specs.declared.refusals.Refusal.{Refusal}
 use Rattle.lv_geometry.specs.declared.refusals.Refusal.TheVariants.{NoMemory, NoSuchName}
@@ -29,6 +29,7 @@ use Rattle.lv_lines.specs.declared.command.Line.{Line}
 use Rattle.lv_lines.specs.declared.command.Line.TheVariants.{Nothing, Bad, Do}
 use Rattle.lv_lines.specs.Grammar.{line_of}
 use Rattle.lv_lines.specs.Texts.{accepted_text, answer_text, bad_text, capacity_text, cost_text, element_text, forgotten_text, idle_text, job_text, named_text, note_text, receipt_text, refused_text, scan_text, settled_text, size_text, unwatched_text, watching_text}
+use Rattle.lv_script.specs.PlainScript.{scan_by}
 
 -- all that a script has seen: its limits, the record of its vector, and its standing queries
 pub record ScriptState : Type 0 where
@@ -92,10 +93,6 @@ abbrev pub reduced_text : List Edit → Kind → ℕ → ℕ → Option Refusal 
 reduced_text edits kind lo hi (Some refusal) = refused_text refusal
 reduced_text edits kind lo hi None = answer_text (length edits) kind (plain_value kind (slice_of edits lo hi))
 
--- what is shown of the beginnings of a list, each with the element at its place, or without it
-abbrev pub scan_by : (List ℤ → Shown) → Bool → List ℤ → List Shown
-scan_by shown inclusive xs = map (λ i. shown (take (if inclusive then i + 1 else i) xs)) (range_with_len 0 (length xs))
-
 -- the values of a kind over the beginnings of a list
 abbrev pub plain_scan : Bool → Kind → List ℤ → List Shown
 plain_scan inclusive kind xs = scan_by (plain_value kind) inclusive xs
@@ -105,11 +102,9 @@ abbrev pub scanned_range_text : List Edit → Bool → Kind → ℕ → ℕ → 
 scanned_range_text edits inclusive kind lo hi (Some refusal) = refused_text refusal
 scanned_range_text edits inclusive kind lo hi None = scan_text (length edits) inclusive kind (plain_scan inclusive kind (slice_of edits lo hi))
 
--- a scan is answered so, or refused for want of memory where nothing else refuses it
+-- a scan is answered so
 abbrev pub TellsScan : ScriptState → Bool → Kind → ℕ → ℕ → List ℕ → ScriptState → Type 0
-TellsScan old inclusive kind lo hi text new =
-    Tells old (scanned_range_text old.seen.edits inclusive kind lo hi (range_refusal old.seen.edits lo hi)) text new
-    ⊎ ((range_refusal old.seen.edits lo hi ≡ None) × Tells old (refused_text NoMemory) text new)
+TellsScan old inclusive kind lo hi text new = Tells old (scanned_range_text old.seen.edits inclusive kind lo hi (range_refusal old.seen.edits lo hi)) text new
 
 -- a query is registered after the others; or it is refused, for want of memory where nothing else refuses it
 abbrev pub TellsWatch : ScriptState → Query → List ℕ → ScriptState → Type 0

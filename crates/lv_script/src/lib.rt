@@ -28,6 +28,8 @@ pub use board_lines::{BoardLine, read_board_line};
 pub use laws::{
     a_front_of_the_input_gives_a_front_of_the_text, a_front_of_the_input_has_its_first_lines,
     a_front_of_the_lines_gives_a_front_of_the_text, a_script_has_one_text,
+    a_script_is_answered_plainly, answers_are_true_of_the_accepted_edits,
+    refresh_lines_change_no_answer, the_tour_in_the_readme,
 };
 pub use lv_lines::{
     Command, Fault, HELD, LINE, Line, Outbox, Responder, converse, print_command, put, put_answer,

@@ -9,7 +9,8 @@ ghost use Rattle.lv_bodies.specs.declared.sixes.Six.{Six};
 ghost use Rattle.lv_reduce.specs.Answer.{range_refusal, slice_of};
 ghost use Rattle.lv_lines.specs.Output.{HasRoom, Puts, PutsFront, SamePlaces};
 ghost use Rattle.lv_lines.specs.Texts.{scan_text, values_text};
-ghost use Rattle.lv_script.specs.Script.{TellsScan, plain_scan, scan_by};
+ghost use Rattle.lv_script.specs.PlainScript.{scan_by};
+ghost use Rattle.lv_script.specs.Script.{TellsScan, plain_scan};
 ghost use Rattle.lv_script.specs.Scripted.{state_of};
 
 use crate::scan_replies::{put_head, put_scanned};

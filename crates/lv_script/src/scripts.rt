@@ -1,8 +1,11 @@
 ghost use Rattle.std.specs.Prelude.{◌≡◌, ◌≤◌, [], List, ℕ, length, OnOk, IfErr};
+ghost use Rattle.std.specs.Io.KnownBytes.{Appends, Consumes, IsAtEnd};
 ghost use Rattle.lv_bodies.specs.Six.{six_operations};
 ghost use Rattle.lv_live.specs.Kept.{IsWorld};
 ghost use Rattle.lv_lines.specs.Output.{HasRoom, Puts, PutsFront, SamePlaces};
 ghost use Rattle.lv_lines.specs.Replies.{Conversed, FailsToReply, Replies};
+ghost use Rattle.lv_script.specs.PlainRuns.{IsPlainText, NeverWants, PlainStep};
+ghost use Rattle.lv_script.specs.PlainScript.{Plain, start};
 ghost use Rattle.lv_script.specs.Script.{LineAnswer, ScriptState, ScriptStep};
 ghost use Rattle.lv_script.specs.Scripted.{Begins, state_of};
 
@@ -27,8 +30,14 @@ pub fn run_script<R: Read, W: Write>(
     reader: &mut R,
     writer: &mut W,
 ) -> Result<(), Fault>
-    ensures { (first : ScriptState) × (last : ScriptState) × Begins limits first × Conversed ScriptStep first last
+    ensures seen { (first : ScriptState) × (last : ScriptState) × Begins limits first × Conversed ScriptStep first last
         (R.remaining reader.old) (R.remaining reader.new) (W.contents writer.old) (W.contents writer.new) result }
+    // Line by line the replies are those of the plain interpreter, which knows edits and standing queries alone.
+    ensures plain { (last : Plain) × Conversed PlainStep (start limits) last
+        (R.remaining reader.old) (R.remaining reader.new) (W.contents writer.old) (W.contents writer.new) result }
+    // At the end of the input all that was written is the plain interpreter's text, unless a line of it tells that memory was wanting.
+    ensures text { OnOk result ((input : List ℕ) × (text : List ℕ) × Consumes (R.remaining reader.old) (R.remaining reader.new) input × IsAtEnd (R.remaining reader.new)
+        × Appends (W.contents writer.old) (W.contents writer.new) text × (NeverWants text → IsPlainText limits input text)) }
 {
     let mut script = Script {
         standing: Standing::new(alloc, limits),

@@ -2,10 +2,12 @@ use Rattle.std.proofs.Common.{ap, map}
 use Rattle.lv_live.specs.State.{node_and_version}
 use Rattle.lv_script.specs.Script.{ScriptState}
 use Rattle.lv_script.specs.Scripted.{state_of}
+use Rattle.lv_script.proofs.PlainRunLaws.{written_plain}
+use Rattle.lv_script.proofs.PlainStepLaws.{conversed_plain}
 use Rattle.lv_script.proofs.scripts.run_script.Goals as goal
 
-pub returns : goal.returns
-returns g c =
+pub returns-clause-seen : goal.returns-clause-seen
+returns-clause-seen g c =
     let first : ScriptState = state_of c.new.result c.new-2.result.jobs in (
       first,
       _,
@@ -19,3 +21,13 @@ returns g c =
       },
       c.converse-ended.ensures,
     )
+
+pub returns-clause-plain : goal.returns-clause-plain
+returns-clause-plain g c =
+    let seen = returns-clause-seen g c in
+    conversed_plain _ seen.0 seen.1 _ _ _ _ _ seen.2 seen.3
+
+pub returns-clause-text : goal.returns-clause-text
+returns-clause-text g c =
+    let plain = returns-clause-plain g c in
+    written_plain _ plain.0 _ _ _ _ _ plain.1

@@ -1,0 +1,97 @@
+-- Scripts as the plain interpreter answers them: line by line, also where memory is wanting, and without the lines of refresh and cost.
+use Rattle.std.specs.Prelude.{◌≡◌, ◌≢◌, ◌⊎◌, ℕ, ◌≤◌, Bool, true, false, IsTrue, None, List, [], ◌∷◌, ◌++◌, length, take, map, All, if◌then◌else◌}
+use Rattle.std.specs.List.{flat_map}
+use Rattle.lv_geometry.specs.Bounds.{Bounds}
+use Rattle.lv_geometry.specs.declared.refusals.Refusal.TheVariants.{NoMemory}
+use Rattle.lv_edits.specs.declared.edit.Edit.{Edit}
+use Rattle.lv_standing.specs.Queries.{Query}
+use Rattle.lv_lines.specs.declared.command.Command.{Command}
+use Rattle.lv_lines.specs.declared.command.Command.TheVariants as command
+use Rattle.lv_lines.specs.declared.command.Command.TheVariants.{Settle, Cost, Claim, Deliver, Forget, Watch}
+use Rattle.lv_lines.specs.declared.command.Line.{Line}
+use Rattle.lv_lines.specs.declared.command.Line.TheVariants.{Nothing, Bad, Do}
+use Rattle.lv_lines.specs.Grammar.{line_of}
+use Rattle.lv_lines.specs.Input.{has_end, lines_of}
+use Rattle.lv_lines.specs.Texts.{bad_text, refused_text, reply_line}
+use Rattle.lv_script.specs.PlainScript.{Plain, plain_after, plain_reply, plain_text, refusal_of, start}
+
+-- ---- line by line
+
+-- no LF stands in it, so it is one line of a reply
+abbrev pub IsOneLine : List ℕ → Type 0
+IsOneLine bytes = has_end bytes ≡ false
+
+-- whether a command may ask for memory that is not there: an edit, or a new query
+abbrev pub may_want : Command → Bool
+may_want (command.Edit e) = true
+may_want (Watch name kind lo hi) = true
+may_want _ = false
+
+-- a command that nothing else refuses was refused for want of memory, and nothing has changed
+abbrev pub MeetsWant : Plain → Line → List ℕ → Plain → Type 0
+MeetsWant old (Do c) text new = IsTrue (may_want c) × (refusal_of old c ≡ None) × (text ≡ refused_text NoMemory) × (new ≡ old)
+MeetsWant old _ text new = ⊥
+
+-- one line of a script, by its bytes and its number: the interpreter's reply and what it keeps then, of something that the line was told;
+-- or want of memory
+abbrev pub PlainStep : Plain → ℕ → List ℕ → List ℕ → Plain → Type 0
+PlainStep old n line text new =
+    (told : List ℕ) × IsOneLine told
+    × (((text ≡ plain_reply told old n (line_of line)) × (new ≡ plain_after old (line_of line))) ⊎ MeetsWant old (line_of line) text new)
+
+-- a text in which no line tells that memory was wanting
+abbrev pub NeverWants : List ℕ → Type 0
+NeverWants text = All (λ line. reply_line line ≢ refused_text NoMemory) (lines_of text)
+
+-- a text is the interpreter's answer to an input, of each line its first 121 bytes, where each line is told something
+abbrev pub IsPlainText : Bounds → List ℕ → List ℕ → Type 0
+IsPlainText limits input text = (told : ℕ → List ℕ) × ((n : ℕ) → IsOneLine (told n)) × (text ≡ plain_text told (start limits) 1 (map (take 121) (lines_of input)))
+
+-- what line n was answered is true of some edits: it is the interpreter's reply after the first so many of them, or `refused 6`
+pub record IsTrueOf (limits : Bounds) (edits : List Edit) (n : ℕ) (line text : List ℕ) : Type 0 where
+  pub many : ℕ
+  pub within : many ≤ length edits
+  pub queries : List Query
+  pub told : List ℕ
+  pub answer : (text ≡ plain_reply told record { limits = limits; edits = take many edits; queries = queries } n (line_of line)) ⊎ (text ≡ refused_text NoMemory)
+
+-- so of a line, in a run that keeps nothing
+abbrev pub TrueStep : Bounds → List Edit → Unit {0} → ℕ → List ℕ → List ℕ → Unit {0} → Type 0
+TrueStep limits edits old n line text new = IsTrueOf limits edits n line text
+
+-- ---- edits and queries alone
+
+-- whether a command is an edit or a query; lines of refresh and of cost are not
+abbrev pub asks : Command → Bool
+asks Settle = false
+asks (Cost lo hi) = false
+asks Claim = false
+asks (Deliver k) = false
+asks Forget = false
+asks _ = true
+
+-- the edit or query that a line is, if it is one
+abbrev pub asked_by : Line → List Command
+asked_by (Do c) = if asks c then c ∷ [] else []
+asked_by _ = []
+
+-- the edits and queries among some lines, in order
+abbrev pub asked_in : List (List ℕ) → List Command
+asked_in lines = flat_map (λ line. asked_by (line_of line)) lines
+
+-- what they are answered, each after those before it: nothing is told
+abbrev pub plain_answers : Plain → List Command → List (List ℕ)
+plain_answers s [] = []
+plain_answers s (c ∷ commands) = plain_reply [] s 0 (Do c) ∷ plain_answers (plain_after s (Do c)) commands
+
+-- of the answers that are still to come, in order, an edit or query takes the first. A line that says nothing is answered by nothing, a bad
+-- one by its number, every other by one line
+abbrev pub Takes : List (List ℕ) → ℕ → Line → List ℕ → List (List ℕ) → Type 0
+Takes old n Nothing text new = (text ≡ []) × (new ≡ old)
+Takes old n Bad text new = (text ≡ bad_text n) × (new ≡ old)
+Takes old n (Do c) text new =
+    (old ≡ (if asks c then text ∷ [] else []) ++ new) × (asks c ≡ false → (told : List ℕ) × IsOneLine told × (text ≡ reply_line told))
+
+-- so of a line by its bytes
+abbrev pub AnswerStep : List (List ℕ) → ℕ → List ℕ → List ℕ → List (List ℕ) → Type 0
+AnswerStep old n line text new = Takes old n (line_of line) text new
