@@ -1,2 +1,2 @@
-pub mod Seats
-mod SoundWriting
+mod Seats
+mod ServedLaws

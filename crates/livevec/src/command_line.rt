@@ -3,7 +3,7 @@
 ghost use Rattle.std.specs.Prelude.{◌≡◌};
 ghost use Rattle.lv_geometry.specs.Bounds.{AreAllowed};
 
-use crate::files::Clash;
+use crate::clashes::Clash;
 use crate::help;
 use crate::serving::Plan;
 use clap::builder::ValueParser;

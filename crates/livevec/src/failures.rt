@@ -1,5 +1,8 @@
 //! What a fault tells: its number, and in words what failed.
 
+ghost use Rattle.std.specs.Prelude.{◌≡◌};
+
+use crate::escaped::Escaped;
 use lv_script::Fault;
 use std::fmt;
 
@@ -28,7 +31,9 @@ impl Failure {
     }
 
     /// A fault on standard input or standard output.
-    pub fn standard(fault: Fault) -> Failure {
+    pub fn standard(fault: Fault) -> Failure
+        ensures { result.fault ≡ fault }
+    {
         Failure {
             fault,
             place: Place::Standard,
@@ -45,10 +50,10 @@ pub struct Told<'a> {
 
 impl<'a> Told<'a> {
     // The file of a number.
-    fn file(&self, number: usize) -> &'a str {
+    fn file(&self, number: usize) -> Escaped<'a> {
         match self.files.get(number) {
-            Some(file) => file,
-            None => "a file",
+            Some(file) => Escaped(file),
+            None => Escaped("a file"),
         }
     }
 }

@@ -1,13 +1,12 @@
-//! The files of sessions: which may stand together, and how they are opened.
+//! The files of sessions, and how they are opened: none is changed before all are found fit.
 
+use crate::clashes::{Clash, REPLIES};
 use crate::failures::{Failure, Place};
+use crate::identities::{Identity, standard_files};
 use lv_script::Fault;
 use std::alloc::Global;
-use std::fmt;
-use std::fs::{File, Files};
-
-/// What ends the name of a file of replies.
-const REPLIES: &str = ".out";
+use std::fs::{File, Files, Metadata, OpenFile, OpenOptions, remove_file, symlink_metadata};
+use std::io::ErrorKind;
 
 /// A session's file, and that of its replies.
 #[derive(Drop)]
@@ -18,87 +17,253 @@ pub struct Streams<F: Drop> {
     pub replies: F,
 }
 
-/// Why files can't be sessions together.
+/// Why the files of sessions aren't opened. Each is as it was before.
 #[derive(Clone, Copy)]
-pub enum Clash<'a> {
-    /// A file is named twice.
-    Twice(&'a str),
-    /// A file would be written as another's replies.
-    Replies(&'a str),
+pub enum Unopened<'a> {
+    /// One can't be opened or made.
+    Failed(Failure),
+    /// One would be written that is read or written otherwise.
+    Clashes(Clash<'a>),
 }
 
-impl fmt::Display for Clash<'_> {
-    fn fmt<W: fmt::Write>(&self, f: &mut fmt::Formatter<W>) -> fmt::Result {
-        match self {
-            Clash::Twice(file) => write!(f, "'{file}' is named twice: name each file once"),
-            Clash::Replies(file) => write!(
-                f,
-                "'{file}' would be overwritten by another file's replies: rename one of the two"
-            ),
-        }
-    }
+// The file of a session and that of its replies, opened and not yet changed.
+#[derive(Drop)]
+struct Opened<F: Drop> {
+    streams: Streams<F>,
+    input: Identity,
+    output: Output,
+    name: String,
 }
 
-/// The first clash among files, if there is one.
-pub fn first_clash<'a>(files: &[&'a str]) -> Option<Clash<'a>> {
-    for (i, file) in files.iter().enumerate() {
-        if let Some(clash) = clash_between(&files[..i], file) {
-            return Some(clash);
-        }
-    }
-    None
+// What is known of a file of replies: which it is, and whether it was made here.
+#[derive(Clone, Copy)]
+struct Output {
+    identity: Identity,
+    is_new: bool,
 }
 
-// How a file clashes with one before it, if it does.
-fn clash_between<'a>(before: &[&'a str], file: &'a str) -> Option<Clash<'a>> {
-    for other in before {
-        if *other == file {
-            return Some(Clash::Twice(file));
-        }
-        if is_reply_of(file, other) {
-            return Some(Clash::Replies(file));
-        }
-        if is_reply_of(other, file) {
-            return Some(Clash::Replies(other));
-        }
-    }
-    None
+// Why a file isn't opened: it is a link where none is followed, or it can't be opened or made.
+#[derive(Clone, Copy)]
+enum Unfit {
+    Link,
+    Failed,
 }
 
-// Whether a name is that of the replies to another.
-fn is_reply_of(name: &str, file: &str) -> bool {
-    name.strip_suffix(REPLIES) == Some(file)
-}
-
-/// Opens each file and makes that of its replies, in order. The first that fails is the fault: `ReadFault` where it can't be
-/// opened, `WriteFault` where its replies can't be made.
-pub fn open_all<R: Files>(
+/// Opens each file and that of its replies, in order. Files of replies are emptied once all are open and each is found to be a
+/// regular file that nothing else here reads or writes, under whatever name; standard streams count.
+///
+/// The first that fails is the fault: `ReadFault` where a file can't be opened or is a directory, `WriteFault` where that of its
+/// replies can't be made, or is there and no regular file. Those that were made here are removed then.
+pub fn open_all<'a, R: Files>(
     rt: &R,
     alloc: Global,
-    files: &[&str],
-) -> Result<Vec<Streams<R::File>>, Failure> {
-    let mut all = Vec::new(alloc);
-    for (number, file) in files.iter().enumerate() {
-        let place = Place::Opening(number);
-        let streams = open(rt, alloc, number, file).map_err(|fault| Failure { fault, place })?;
-        all.push(streams).map_err(|_| Failure::memory())?;
+    files: &[&'a str],
+) -> Result<Vec<Streams<R::File>>, Unopened<'a>> {
+    let (Ok(streams), Ok(mut all)) = (
+        Vec::with_capacity(alloc, files.len()),
+        Vec::with_capacity(alloc, files.len()),
+    ) else {
+        return Err(Unopened::Failed(Failure::memory()));
+    };
+    match open_each(rt, alloc, files, &mut all) {
+        Ok(()) => empty_all(all, streams),
+        Err(unopened) => {
+            remove_new(rt, &all);
+            Err(unopened)
+        }
     }
-    Ok(all)
 }
 
-// Opens the file of a number and makes that of its replies.
-fn open<R: Files>(
+// Opens them in order, and sees that none is written that is read or written otherwise.
+fn open_each<'a, R: Files>(
+    rt: &R,
+    alloc: Global,
+    files: &[&'a str],
+    all: &mut Vec<Opened<R::File>>,
+) -> Result<(), Unopened<'a>> {
+    for (number, file) in files.iter().enumerate() {
+        let opened = open(rt, alloc, number, file)?;
+        if all.push(opened).is_err() {
+            return Err(Unopened::Failed(Failure::memory()));
+        }
+    }
+    let standard = standard_files(rt);
+    for (number, file) in files.iter().enumerate() {
+        if let Some(clash) = clash_of(all, number, &standard, file) {
+            return Err(Unopened::Clashes(clash));
+        }
+    }
+    Ok(())
+}
+
+// Opens the file of a number and that of its replies.
+fn open<'a, R: Files>(
     rt: &R,
     alloc: Global,
     number: usize,
-    file: &str,
-) -> Result<Streams<R::File>, Fault> {
-    let lines = File::open(rt, file).map_err(|_| Fault::ReadFault)?;
-    let name = format!(in alloc; "{file}{REPLIES}").map_err(|_| Fault::NoMemory)?;
-    let replies = File::create(rt, name.as_str()).map_err(|_| Fault::WriteFault)?;
-    Ok(Streams {
-        number,
-        lines,
-        replies,
+    file: &'a str,
+) -> Result<Opened<R::File>, Unopened<'a>> {
+    let Ok((lines, input)) = open_lines(rt, file) else {
+        return Err(failed(number, Fault::ReadFault));
+    };
+    let Ok(name) = format!(in alloc; "{file}{REPLIES}") else {
+        return Err(Unopened::Failed(Failure::memory()));
+    };
+    match open_replies(rt, name.as_str()) {
+        Ok((replies, output)) => Ok(Opened {
+            streams: Streams {
+                number,
+                lines,
+                replies,
+            },
+            input,
+            output,
+            name,
+        }),
+        Err(Unfit::Failed) => Err(failed(number, Fault::WriteFault)),
+        Err(Unfit::Link) => Err(Unopened::Clashes(Clash::Link(file))),
+    }
+}
+
+// That the file of a number, or that of its replies, can't be opened.
+fn failed<'a>(number: usize, fault: Fault) -> Unopened<'a> {
+    let place = Place::Opening(number);
+    Unopened::Failed(Failure { fault, place })
+}
+
+// Opens a file that is read. A directory is none.
+fn open_lines<R: Files>(rt: &R, file: &str) -> Result<(R::File, Identity), Unfit> {
+    let Ok(lines) = File::open(rt, file) else {
+        return Err(Unfit::Failed);
+    };
+    match lines.metadata() {
+        Ok(found) if !found.is_dir() => Ok((lines, Identity::of(&found))),
+        _ => Err(Unfit::Failed),
+    }
+}
+
+// Opens a file of replies as it stands, or makes it. No link is followed, and only a regular file is opened.
+fn open_replies<R: Files>(rt: &R, name: &str) -> Result<(R::File, Output), Unfit> {
+    match symlink_metadata(rt, name) {
+        Ok(found) => open_regular(rt, name, &found),
+        Err(error) if error.kind() == ErrorKind::NotFound => make(rt, name),
+        Err(_) => Err(Unfit::Failed),
+    }
+}
+
+// Opens a file of replies that is there. What is opened must be what was found: a link may have come in between.
+fn open_regular<R: Files>(
+    rt: &R,
+    name: &str,
+    found: &Metadata,
+) -> Result<(R::File, Output), Unfit> {
+    if found.is_symlink() {
+        return Err(Unfit::Link);
+    }
+    if !found.is_file() {
+        return Err(Unfit::Failed);
+    }
+    let Ok(replies) = OpenOptions::new().write(true).open(rt, name) else {
+        return Err(Unfit::Failed);
+    };
+    let output = Output {
+        identity: Identity::of(found),
+        is_new: false,
+    };
+    match replies.metadata() {
+        Ok(opened) if Identity::of(&opened) == output.identity => Ok((replies, output)),
+        Ok(_) => Err(Unfit::Link),
+        Err(_) => Err(Unfit::Failed),
+    }
+}
+
+// Makes a file of replies.
+fn make<R: Files>(rt: &R, name: &str) -> Result<(R::File, Output), Unfit> {
+    let Ok(replies) = File::create_new(rt, name) else {
+        return Err(Unfit::Failed);
+    };
+    match replies.metadata() {
+        Ok(made) => {
+            let output = Output {
+                identity: Identity::of(&made),
+                is_new: true,
+            };
+            Ok((replies, output))
+        }
+        Err(_) => {
+            let _ = remove_file(rt, name);
+            Err(Unfit::Failed)
+        }
+    }
+}
+
+// How the files of a number clash with the others and with the standard streams, if they do.
+fn clash_of<'a, F: Drop>(
+    all: &[Opened<F>],
+    number: usize,
+    standard: &[Option<Identity>; 3],
+    file: &'a str,
+) -> Option<Clash<'a>> {
+    let one = all.get(number)?;
+    let output = Some(one.output.identity);
+    if standard.contains(&output) || is_used(all, number, one.output.identity) {
+        return Some(Clash::Shared(file));
+    }
+    let input = Some(one.input);
+    if standard[1] == input || standard[2] == input {
+        return Some(Clash::Standard(file));
+    }
+    None
+}
+
+// Whether a file is read by a session, or written by one of another number.
+fn is_used<F: Drop>(all: &[Opened<F>], number: usize, output: Identity) -> bool {
+    for (other, opened) in all.iter().enumerate() {
+        if opened.input == output || (other != number && opened.output.identity == output) {
+            return true;
+        }
+    }
+    false
+}
+
+// Empties the files of replies that were there before.
+fn empty_all<'a, F: OpenFile + Drop>(
+    all: Vec<Opened<F>>,
+    mut streams: Vec<Streams<F>>,
+) -> Result<Vec<Streams<F>>, Unopened<'a>> {
+    for opened in all {
+        let one = match empty(opened) {
+            Ok(one) => one,
+            Err(failure) => return Err(Unopened::Failed(failure)),
+        };
+        if streams.push(one).is_err() {
+            return Err(Unopened::Failed(Failure::memory()));
+        }
+    }
+    Ok(streams)
+}
+
+// Empties one of them.
+fn empty<F: OpenFile + Drop>(opened: Opened<F>) -> Result<Streams<F>, Failure> {
+    let Opened {
+        streams,
+        output,
+        ..
+    } = opened;
+    if output.is_new || streams.replies.set_len(0).is_ok() {
+        return Ok(streams);
+    }
+    Err(Failure {
+        fault: Fault::WriteFault,
+        place: Place::Opening(streams.number),
     })
+}
+
+// Removes the files of replies that were made here.
+fn remove_new<R: Files>(rt: &R, all: &[Opened<R::File>]) {
+    for opened in all {
+        if opened.output.is_new {
+            let _ = remove_file(rt, opened.name.as_str());
+        }
+    }
 }

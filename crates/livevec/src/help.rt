@@ -1,7 +1,7 @@
 //! What `--help` and `--version` say.
 
 /// The version of the program, and the logic that it is proved in, as `rt version` tells it. Kits with the same logic prove the same.
-pub const VERSION: &str = "0.1.0 (logic dac8208d650f15bf)";
+pub const VERSION: &str = "0.3.0 (logic dac8208d650f15bf)";
 
 /// What the program is.
 pub const ABOUT: &str =
@@ -14,6 +14,7 @@ Statuses:
   1  a fault, shown on standard error as `livevec: fault N`, with what failed in the next line;
      of an audit: no or bad
   2  a usage fault, told on standard error
+  3  what reads standard output has ended, as `head` does; nothing is told
 Faults: 6 no memory, 13 a read failed or a file can't be opened, 14 a write failed or an output can't be made";
 
 /// What `run` does.
@@ -61,16 +62,17 @@ pub const SERVE: &str =
 
 /// The lines of a session, and its files.
 pub const SESSIONS: &str = "\
-1 to 16 files, each named once, none of them another's FILE.out; a file under two spellings isn't
-noticed. The sessions share one vector.
+1 to 16 files, each named once, none of them another's FILE.out. The sessions share one vector.
 Each knows the lines push, pop, write, reserve, swap, truncate, reduce, inc and exc, as `livevec run
 --help` tells them; any other is answered `bad N`.
 
 Workers sleep while there is nothing to do, and end with the last session. A turn that finds no job
 counts too: for long sessions give workers more of them.
 
-Each FILE is opened and its FILE.out made anew, in order, before a thread starts; the first that
-fails is the fault. The transcript goes to standard output: the journal, then each answered
+Each FILE and its FILE.out are opened, in order, before a thread starts; the first that fails is the
+fault, and every file stays as it was. No FILE.out is emptied before all are open. One that is a
+link, or another name of a file that is read or written here, standard streams included, is a usage
+fault. The transcript goes to standard output: the journal, then each answered
 reduction in the order of edits; `livevec audit` says yes to it. Where a session ends with a fault
 none is written.";
 
@@ -80,8 +82,8 @@ pub const BOARD: &str =
 
 /// The lines of a session at a board, and its files.
 pub const TRIES: &str = "\
-1 to 8 files, each named once, none of them another's FILE.out; a file under two spellings isn't
-noticed. The sessions share one vector of 16-bit elements, with no lock: none ever waits for another.
+1 to 8 files, each named once, none of them another's FILE.out. The sessions share one vector of
+16-bit elements, with no lock: none ever waits for another.
 
 Lines (a reply each; I, B, LO and HI are numbers, X an element, HI is excluded, KIND is that of --body):
   push X              edit E at I
@@ -105,8 +107,10 @@ A line that can't be obeyed is answered `refused N`, and leaves the elements as 
   18 Overtaken: a word of another session's later edit was met: look again, by trying the line again
 The other sessions may have changed what a line that is tried again finds.
 
-Each FILE is opened and its FILE.out made anew, in order, before a thread starts; the first that
-fails is the fault. Of several sessions' faults the first file's is told.";
+Each FILE and its FILE.out are opened, in order, before a thread starts; the first that fails is the
+fault, and every file stays as it was. No FILE.out is emptied before all are open. One that is a
+link, or another name of a file that is read or written here, standard streams included, is a usage
+fault. Of several sessions' faults the first file's is told.";
 
 /// What `schedule` does.
 pub const SCHEDULE: &str =

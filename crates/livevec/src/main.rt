@@ -5,19 +5,29 @@
 ghost use Rattle.std.specs.Prelude.{◌≡◌, ◌≢◌};
 
 mod boards;
+mod clashes;
 mod command_line;
+mod escaped;
 mod failures;
 mod files;
 mod help;
+mod identities;
+mod piped;
 mod serving;
+mod tasks;
+mod usage;
 
+use crate::clashes::first_clash;
 use crate::failures::{Failure, Told};
+use crate::files::{Streams, Unopened};
+use crate::piped::{Piped, null_files};
+use crate::usage::{Misuse, plus_in, unshown_in};
 use clap::error::ErrorKind;
 use clap::{ArgMatches, Error};
 use lv_bodies::Sum;
 use lv_machine::Machine;
 use lv_script::{Fault, Verdict, audit, run_schedule, run_script};
-use std::alloc::Global;
+use std::alloc::{AllocError, Global};
 use std::fs::Files;
 use std::io::{Read, Write};
 use std::process::ExitCode;
@@ -26,9 +36,14 @@ use std::sync::Wait;
 use std::thread::Threads;
 use std::{env, io};
 
+/// The status where what reads standard output has ended.
+const CUT: u8 = 3;
+
 /// Statuses: 0; 1 on a fault, printed on standard error as `livevec: fault N` with a line in words behind it, and of an audit that
-/// says no or bad; 2 on a usage fault, whose text goes to standard error.
+/// says no or bad; 2 on a usage fault, whose text goes to standard error; 3, without a word, where what reads standard output has
+/// ended.
 fn main(rt: HostRuntime) -> ExitCode {
+    let _kept = null_files(&rt);
     match run(&rt) {
         Ok(status) => ExitCode::from(status),
         Err(fault) => ExitCode::from(tell(&rt, Failure::standard(fault), &[])),
@@ -55,12 +70,24 @@ where
     let words = match words_of(rt) {
         Ok(words) => words,
         Err(error) if error.kind() == io::ErrorKind::OutOfMemory => return Err(Fault::NoMemory),
-        Err(_) => return not_text(rt),
+        Err(_) => return Ok(show_misuse(rt, Misuse::NotText)),
     };
     let command = command_line::command(rt.alloc()).map_err(|_| Fault::NoMemory)?;
     match command.try_get_matches_from(words.as_slice()) {
         Ok(matches) => obey(rt, &matches),
-        Err(error) => show(rt, &error),
+        Err(error) => show_unless_unshown(rt, words.as_slice(), &error),
+    }
+}
+
+// Shows what `clap` says, but where a word of the command line would speak for itself in it.
+fn show_unless_unshown<R: Eprint + Print>(
+    rt: &R,
+    words: &[String],
+    error: &Error,
+) -> Result<u8, Fault> {
+    match unshown_in(words) {
+        Some(misuse) => Ok(show_misuse(rt, misuse)),
+        None => show(rt, error),
     }
 }
 
@@ -69,7 +96,7 @@ fn words_of<R: AllocGlobal + Env>(rt: &R) -> io::Result<Vec<String>> {
     Ok(env::args(rt)?.collect(rt.alloc())?)
 }
 
-// Does what a command line asks.
+// Does what a command line asks. Where what reads standard output has ended, so does this, without a word.
 fn obey<R: AllocGlobal + Eprint + Files + Input + Print + Sync + Threads + Wait>(
     rt: &R,
     matches: &ArgMatches<'_>,
@@ -77,25 +104,40 @@ fn obey<R: AllocGlobal + Eprint + Files + Input + Print + Sync + Threads + Wait>
 where
     R::File: Send,
 {
+    let mut writer = Piped::new(io::writer(rt));
+    let ended = answer(rt, matches, &mut writer);
+    if writer.is_cut() { Ok(CUT) } else { ended }
+}
+
+// Does it, writing to what stands for standard output.
+fn answer<R: AllocGlobal + Eprint + Files + Input + Print + Sync + Threads + Wait, W: Write>(
+    rt: &R,
+    matches: &ArgMatches<'_>,
+    writer: &mut Piped<W>,
+) -> Result<u8, Fault>
+where
+    R::File: Send,
+{
     let alloc = rt.alloc();
-    let mut writer = io::writer(rt);
-    if let Some(asked) = matches.subcommand_matches("run") {
-        let limits = command_line::limits(asked);
-        run_script(alloc, limits, &mut rt.reader(), &mut writer)?;
+    let Some((name, asked)) = matches.subcommand() else {
         return Ok(0);
+    };
+    if let Some(misuse) = plus_in(asked) {
+        return Ok(show_misuse(rt, misuse));
     }
-    if let Some(asked) = matches.subcommand_matches("serve") {
-        return serve(rt, asked, &mut writer);
+    match name {
+        "run" => {
+            run_script(alloc, command_line::limits(asked), &mut rt.reader(), writer)?;
+            Ok(0)
+        }
+        "serve" => serve(rt, asked, writer),
+        "board" => board(rt, asked),
+        "schedule" => {
+            schedule(alloc, asked, &mut rt.reader(), writer)?;
+            Ok(0)
+        }
+        _ => Ok(status_of(audit(alloc, &mut rt.reader(), writer)?)),
     }
-    if let Some(asked) = matches.subcommand_matches("board") {
-        return board(rt, asked);
-    }
-    if let Some(asked) = matches.subcommand_matches("schedule") {
-        schedule(alloc, asked, &mut rt.reader(), &mut writer)?;
-        return Ok(0);
-    }
-    let verdict = audit(alloc, &mut rt.reader(), &mut writer)?;
-    Ok(status_of(verdict))
 }
 
 // Answers a schedule, on a new machine. Its options keep to the limits of machines.
@@ -119,36 +161,60 @@ fn schedule<R: Read, W: Write>(
 fn serve<R: AllocGlobal + Eprint + Files + Print + Sync + Threads + Wait, W: Write>(
     rt: &R,
     asked: &ArgMatches<'_>,
-    writer: &mut W,
+    writer: &mut Piped<W>,
 ) -> Result<u8, Fault>
 where
     R::File: Send,
 {
     let alloc = rt.alloc();
     let files = asked.get_strs("files").unwrap_or(&[]);
-    if let Some(clash) = files::first_clash(files) {
-        let error = command_line::serve_error(alloc, clash).map_err(|_| Fault::NoMemory)?;
-        return show(rt, &error);
-    }
     match serve_files(rt, alloc, asked, files, writer) {
         Ok(()) => Ok(0),
-        Err(failure) => Ok(tell(rt, failure, files)),
+        Err(Unopened::Failed(_)) if writer.is_cut() => Ok(CUT),
+        Err(Unopened::Failed(failure)) => Ok(tell(rt, failure, files)),
+        Err(Unopened::Clashes(clash)) => { show_clash(rt, command_line::serve_error(alloc, clash)) }
     }
 }
 
+// Shows that files can't be sessions together.
+fn show_clash<R: Eprint + Print>(rt: &R, error: Result<Error, AllocError>) -> Result<u8, Fault> {
+    let Ok(error) = error else {
+        return Err(Fault::NoMemory);
+    };
+    show(rt, &error)
+}
+
 // Opens the files of sessions and serves them.
-fn serve_files<R: Files + Sync + Threads + Wait, W: Write>(
+fn serve_files<'a, R: Files + Sync + Threads + Wait, W: Write>(
     rt: &R,
     alloc: Global,
     asked: &ArgMatches<'_>,
-    files: &[&str],
+    files: &[&'a str],
     writer: &mut W,
-) -> Result<(), Failure>
+) -> Result<(), Unopened<'a>>
 where
     R::File: Send,
 {
-    let streams = files::open_all(rt, alloc, files)?;
-    serving::serve(rt, alloc, command_line::plan(asked), streams, writer)
+    let streams = open_named(rt, alloc, files)?;
+    match serving::serve(rt, alloc, command_line::plan(asked), streams, writer) {
+        Ok(served) => {
+            drop(served);
+            Ok(())
+        }
+        Err(failure) => Err(Unopened::Failed(failure)),
+    }
+}
+
+// Opens the files of sessions, where their names don't clash.
+fn open_named<'a, R: Files>(
+    rt: &R,
+    alloc: Global,
+    files: &[&'a str],
+) -> Result<Vec<Streams<R::File>>, Unopened<'a>> {
+    match first_clash(files) {
+        Some(clash) => Err(Unopened::Clashes(clash)),
+        None => files::open_all(rt, alloc, files),
+    }
 }
 
 // Holds the sessions that a command line names at a board.
@@ -161,29 +227,29 @@ where
 {
     let alloc = rt.alloc();
     let files = asked.get_strs("files").unwrap_or(&[]);
-    if let Some(clash) = files::first_clash(files) {
-        let error = command_line::board_error(alloc, clash).map_err(|_| Fault::NoMemory)?;
-        return show(rt, &error);
-    }
     match hold_files(rt, alloc, asked, files) {
         Ok(()) => Ok(0),
-        Err(failure) => Ok(tell(rt, failure, files)),
+        Err(Unopened::Failed(failure)) => Ok(tell(rt, failure, files)),
+        Err(Unopened::Clashes(clash)) => { show_clash(rt, command_line::board_error(alloc, clash)) }
     }
 }
 
 // Opens the files of sessions and holds them at a board.
-fn hold_files<R: Files + Sync + Threads>(
+fn hold_files<'a, R: Files + Sync + Threads>(
     rt: &R,
     alloc: Global,
     asked: &ArgMatches<'_>,
-    files: &[&str],
-) -> Result<(), Failure>
+    files: &[&'a str],
+) -> Result<(), Unopened<'a>>
 where
     R::File: Send,
 {
-    let streams = files::open_all(rt, alloc, files)?;
+    let streams = open_named(rt, alloc, files)?;
     let limits = command_line::limits(asked);
-    boards::hold_sessions(rt, alloc, limits, command_line::kind(asked), streams)
+    match boards::hold_sessions(rt, alloc, limits, command_line::kind(asked), streams) {
+        Ok(()) => Ok(()),
+        Err(failure) => Err(Unopened::Failed(failure)),
+    }
 }
 
 // The status that tells of a verdict.
@@ -209,10 +275,10 @@ fn show<R: Eprint + Print>(rt: &R, error: &Error) -> Result<u8, Fault> {
     printed.map(|()| 0).map_err(|_| Fault::WriteFault)
 }
 
-// A word of the command line is no text.
-fn not_text<R: Eprint>(rt: &R) -> Result<u8, Fault> {
-    let _ = rt.eprintln(
-        "error: a word of the command line isn't UTF-8\n\nFor more information, try '--help'.",
-    );
-    Ok(2)
+// Tells on standard error why a word of the command line is refused, and gives the status that it ends with.
+fn show_misuse<R: Eprint>(rt: &R, misuse: Misuse<'_>) -> u8
+    ensures { result ≡ 2 }
+{
+    let _ = eprintln!(rt; "{misuse}");
+    2
 }

@@ -1,11 +1,14 @@
 //! Sessions in threads of their own, with workers beside them, and the transcript of it all.
 
-ghost use Rattle.std.specs.Prelude.{◌≡◌, ◌+◌, ℕ, All, IfOk, List, OnOk, Some, vec_len};
-ghost use Rattle.std.specs.Io.KnownBytes.{Appends};
-ghost use Rattle.lv_transcript.specs.Transcript.{AreAccepted, IsSoundTranscript, IsTrueClaim, greatest};
+ghost use Rattle.std.specs.Prelude.{◌≡◌, ◌+◌, ℕ, All, IfErr, IfOk, List, [], Some, map, vec_len};
+ghost use Rattle.lv_transcript.specs.Transcript.{AreAccepted, IsTrueClaim, greatest};
+ghost use Rattle.livevec.specs.Served.{FailsToServe, Served, Sides};
+ghost use Rattle.livevec.specs.Tasks.{AreAllHeld, AreHeldFrom, IsHeldFrom};
+ghost use Rattle.livevec.specs.Writing.{Writes, WritesClosed};
 
 use crate::failures::{Failure, Place};
 use crate::files::Streams;
+use crate::tasks::{Done, Gathered, Task, share_out, take_back};
 use lv_bodies::Six;
 use lv_edits::Edit;
 use lv_geometry::Limits;
@@ -13,7 +16,7 @@ use lv_hub::{Hub, Means, OpenGate, Opened, Share, attend, in_order, run_session}
 use lv_script::{Claimed, Fault, write_transcript};
 use std::alloc::Global;
 use std::io::{Read, Write};
-use std::marker::{Brand, Model};
+use std::marker::Brand;
 use std::sync::Wait;
 use std::sync::ledger::Blank;
 use std::thread;
@@ -30,44 +33,18 @@ pub struct Plan {
     pub turns: u64,
 }
 
-// A session that is to be held, with its part of the hub.
-#[derive(Drop)]
-struct Task<N: Means<Six>, F: Drop> {
-    share: Share<N>,
-    streams: Streams<F>,
-    ghost one: { share.parts ≡ 1 },
-}
-
-// A session that was held: its part, and the reductions that it was answered, which are true of what it has seen, or its fault.
-#[derive(Drop)]
-struct Done<N: Means<Six>> {
-    share: Share<N>,
-    claims: Result<Vec<Claimed>, Failure>,
-}
-
-impl<N: Means<Six>> Model for Done<N> {
-    ghost use Rattle.std.specs.Prelude.{◌≡◌, All, IfOk};
-    ghost use Rattle.lv_transcript.specs.Transcript.{IsTrueClaim};
-    ghost use Rattle.lv_hub.specs.Counting.{ShareState};
-
-    ghost Value = { ShareState };
-
-    ghost view = { λ d. d.share };
-
-    ghost invariant = { λ d. (d.share.parts ≡ 1) × IfOk d.claims (λ claims. All (IsTrueClaim d.share.seen) claims.items) };
-}
-
 /// Holds a session for each pair of streams, in a thread of its own where one can be made, with workers beside them. Then
-/// writes the transcript: the journal, and the sessions' reductions in the order of their edits. What it writes is a sound
-/// transcript. Where sessions end with faults nothing is written, and the first of them is the fault.
+/// writes the transcript: the journal, and the sessions' reductions in the order of their edits. Gives the streams back, where
+/// each session has answered all its lines. Where sessions end with faults nothing is written, and the first of them is the fault.
 pub fn serve<F: Read + Write + Send + Drop, W: Write, R: Threads + Wait + Sync>(
     rt: &R,
     alloc: Global,
     plan: Plan,
     streams: Vec<Streams<F>>,
     writer: &mut W,
-) -> Result<(), Failure>
-    ensures { OnOk result ((text : List ℕ) × IsSoundTranscript text × Appends (W.contents writer.old) (W.contents writer.new) text) }
+) -> Result<Vec<Streams<F>>, Failure>
+    ensures served { IfOk result (λ done. Served plan.limits (map (λ s. record { lines = F.remaining s.lines; replies = F.contents s.replies }) streams.items) (map (λ s. record { lines = F.remaining s.lines; replies = F.contents s.replies }) done.items) (W.contents writer.old) (W.contents writer.new)) }
+    ensures failed { IfErr result (λ failure. FailsToServe plan.limits (W.contents writer.old) (W.contents writer.new) failure.fault) }
 {
     let parts = streams.len() as u64 + 1;
     serve_as::<Brand, F, W, R>(
@@ -99,7 +76,7 @@ fn serve_as<
     parts: u64,
     opened: Opened,
     body: Six,
-) -> Result<(), Failure>
+) -> Result<Vec<Streams<F>>, Failure>
     requires name { blank.name ≡ N.name }
     requires all { blank.parts ≡ N.parts }
     requires parts { blank.parts ≡ parts }
@@ -107,16 +84,18 @@ fn serve_as<
     requires limits { plan.limits ≡ N.limits }
     requires history { opened ≡ N.history }
     requires body { N.body ≡ Some body }
-    ensures { OnOk result ((text : List ℕ) × IsSoundTranscript text × Appends (W.contents writer.old) (W.contents writer.new) text) }
+    ensures served { IfOk result (λ done. Served plan.limits (map (λ s. record { lines = F.remaining s.lines; replies = F.contents s.replies }) streams.items) (map (λ s. record { lines = F.remaining s.lines; replies = F.contents s.replies }) done.items) (W.contents writer.old) (W.contents writer.new)) }
+    ensures failed { IfErr result (λ failure. FailsToServe plan.limits (W.contents writer.old) (W.contents writer.new) failure.fault) }
 {
     let (hub, mut share) = Hub::<Six, N>::new(alloc, plan.limits, body, blank, parts, opened);
     match serve_all(rt, alloc, plan, &hub, &mut share, streams) {
-        Ok(claims) => {
-            write_closed(rt, alloc, hub, share, claims, writer).map_err(Failure::standard)
-        }
-        Err(fault) => {
+        Ok(Gathered { claims, streams }) => match write_closed(alloc, hub, share, claims, writer) {
+            Ok(()) => Ok(streams),
+            Err(fault) => Err(Failure::standard(fault)),
+        },
+        Err(failure) => {
             drop(hub);
-            Err(fault)
+            Err(failure)
         }
     }
 }
@@ -129,10 +108,12 @@ fn serve_all<N: Means<Six> + Send + Sync, F: Read + Write + Send + Drop, R: Thre
     hub: &Hub<Six, N>,
     share: &mut Share<N>,
     streams: Vec<Streams<F>>,
-) -> Result<Vec<Claimed>, Failure>
+) -> Result<Gathered<F>, Failure>
     requires parts { share.old.parts ≡ vec_len streams + 1 }
-    ensures parts { IfOk result (λ claims. share.new.parts ≡ share.old.parts) }
-    ensures all_true { IfOk result (λ claims. All (IsTrueClaim share.new.seen) claims.items) }
+    requires count { share.old.count ≡ 0 }
+    requires unseen { share.old.seen ≡ [] }
+    ensures parts { IfOk result (λ all. share.new.parts ≡ share.old.parts) }
+    ensures held { IfOk result (λ all. AreAllHeld N.limits share.new (map (λ s. record { lines = F.remaining s.lines; replies = F.contents s.replies }) streams.items) (map (λ s. record { lines = F.remaining s.lines; replies = F.contents s.replies }) all.streams.items) all.claims.items) }
 {
     let tasks = share_out(alloc, share, streams)?;
     let done = hold_all(rt, alloc, plan, hub, tasks)?;
@@ -148,7 +129,7 @@ fn write_in_order<W: Write>(
 ) -> Result<(), Fault>
     requires accepted { AreAccepted greatest journal.now }
     requires all_true { All (IsTrueClaim journal.now) claims.items }
-    ensures { OnOk result ((text : List ℕ) × IsSoundTranscript text × Appends (W.contents writer.old) (W.contents writer.new) text) }
+    ensures { Writes journal.now claims.items (W.contents writer.old) (W.contents writer.new) result }
 {
     let mut claims = claims;
     let Ok(()) = in_order(&mut claims) else {
@@ -159,8 +140,7 @@ fn write_in_order<W: Write>(
 
 // Closes a hub and writes its transcript. A call drops the vector, as one above drops the hub: the proof of a body that does so
 // by itself is long.
-fn write_closed<N: Means<Six>, W: Write, R: Wait>(
-    rt: &R,
+fn write_closed<N: Means<Six>, W: Write>(
     alloc: Global,
     hub: Hub<Six, N>,
     share: Share<N>,
@@ -169,35 +149,12 @@ fn write_closed<N: Means<Six>, W: Write, R: Wait>(
 ) -> Result<(), Fault>
     requires parts { share.parts ≡ N.parts }
     requires all_true { All (IsTrueClaim share.seen) claims.items }
-    ensures { OnOk result ((text : List ℕ) × IsSoundTranscript text × Appends (W.contents writer.old) (W.contents writer.new) text) }
+    ensures { WritesClosed N.limits share claims.items (W.contents writer.old) (W.contents writer.new) result }
 {
-    let live = hub.close(rt, share);
+    let live = hub.close(share);
     let written = write_in_order(alloc, live.journal(), claims, writer);
     drop(live);
     written
-}
-
-// Gives each session a part of the hub.
-fn share_out<N: Means<Six>, F: Drop>(
-    alloc: Global,
-    share: &mut Share<N>,
-    streams: Vec<Streams<F>>,
-) -> Result<Vec<Task<N, F>>, Failure>
-    requires { share.old.parts ≡ vec_len streams + 1 }
-    ensures parts { IfOk result (λ tasks. share.new.parts ≡ 1) }
-    ensures all { IfOk result (λ tasks. vec_len tasks ≡ vec_len streams) }
-{
-    let mut tasks = Vec::new(alloc);
-    for streams in streams {
-        let task = Task {
-            share: share.split(),
-            streams,
-        };
-        if tasks.push(task).is_err() {
-            return Err(Failure::memory());
-        }
-    }
-    Ok(tasks)
 }
 
 // Holds all sessions, with workers beside them, which end when the last session has ended. Where no thread can be made for the
@@ -208,15 +165,15 @@ fn hold_all<N: Means<Six> + Send + Sync, F: Read + Write + Send + Drop, R: Threa
     plan: Plan,
     hub: &Hub<Six, N>,
     tasks: Vec<Task<N, F>>,
-) -> Result<Vec<Done<N>>, Failure>
-    ensures { IfOk result (λ done. vec_len done ≡ vec_len tasks) }
+) -> Result<Vec<Done<N, F>>, Failure>
+    ensures { IfOk result (λ done. AreHeldFrom N.limits tasks.items done.items) }
 {
     let (workers, turns) = (plan.workers, plan.turns);
     let (worked, done) = thread::join(
         rt,
         move || -> Result<(), Failure> { refresh(rt, alloc, hub, workers, turns) },
-        move || -> Result<Vec<Done<N>>, Failure>
-            ensures { IfOk result (λ done. vec_len done ≡ vec_len tasks) }
+        move || -> Result<Vec<Done<N, F>>, Failure>
+            ensures { IfOk result (λ done. AreHeldFrom N.limits tasks.items done.items) }
         {
             let done = hold_each(rt, alloc, hub, tasks);
             hub.dismiss(rt);
@@ -233,11 +190,16 @@ fn hold_each<N: Means<Six> + Send + Sync, F: Read + Write + Send + Drop, R: Thre
     alloc: Global,
     hub: &Hub<Six, N>,
     tasks: Vec<Task<N, F>>,
-) -> Result<Vec<Done<N>>, Failure>
-    ensures { IfOk result (λ done. vec_len done ≡ vec_len tasks) }
+) -> Result<Vec<Done<N, F>>, Failure>
+    ensures { IfOk result (λ done. AreHeldFrom N.limits tasks.items done.items) }
 {
-    let held = |task: Task<N, F>| -> Done<N> { hold(rt, alloc, hub, task) };
-    thread::map_vec(rt, tasks, &held).map_err(|_| Failure::memory())
+    let held = |task: Task<N, F>| -> Done<N, F>
+        ensures { IsHeldFrom N.limits task result }
+    { hold(rt, alloc, hub, task) };
+    match thread::map_vec(rt, tasks, &held) {
+        Ok(done) => Ok(done),
+        Err(_) => Err(Failure::memory()),
+    }
 }
 
 // Holds a session.
@@ -246,7 +208,9 @@ fn hold<N: Means<Six>, F: Read + Write + Drop, R: Wait>(
     alloc: Global,
     hub: &Hub<Six, N>,
     task: Task<N, F>,
-) -> Done<N> {
+) -> Done<N, F>
+    ensures { IsHeldFrom N.limits task result }
+{
     let Task {
         mut share,
         mut streams,
@@ -263,10 +227,12 @@ fn hold<N: Means<Six>, F: Read + Write + Drop, R: Wait>(
     match claims {
         Ok(claims) => Done {
             share,
+            streams,
             claims: Ok(claims),
         },
         Err(fault) => Done {
             share,
+            streams,
             claims: Err(Failure { fault, place }),
         },
     }
@@ -288,26 +254,4 @@ fn refresh<N: Means<Six> + Send + Sync, R: Threads + Wait + Sync>(
         Ok(_) => Ok(()),
         Err(_) => Err(Failure::memory()),
     }
-}
-
-// Takes the parts back, and gathers the reductions in the order of the sessions. The first session's fault is the fault.
-fn take_back<N: Means<Six>>(
-    alloc: Global,
-    share: &mut Share<N>,
-    done: Vec<Done<N>>,
-) -> Result<Vec<Claimed>, Failure>
-    ensures parts { IfOk result (λ claims. share.new.parts ≡ share.old.parts + vec_len done) }
-    ensures all_true { IfOk result (λ claims. All (IsTrueClaim share.new.seen) claims.items) }
-{
-    let mut all = Vec::new(alloc);
-    for session in done {
-        let Done {
-            share: part,
-            claims,
-        } = session;
-        share.join(part);
-        let mut claims = claims?;
-        all.append(&mut claims).map_err(|_| Failure::memory())?;
-    }
-    Ok(all)
 }

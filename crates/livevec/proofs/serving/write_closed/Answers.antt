@@ -1,6 +1,7 @@
 use Rattle.std.proofs.Common.{All, subst, sym}
 use Rattle.lv_transcript.specs.Transcript.{IsTrueClaim}
 use Rattle.lv_hub.proofs.TruthLaws.{all_true_of_more}
+use Rattle.livevec.proofs.ServedLaws.{closed_so}
 use Rattle.livevec.proofs.serving.write_closed.Goals as goal
 
 -- what is true of what the share has seen is true of the journal
@@ -8,3 +9,8 @@ pub write_in_order-written-requires-clause-all_true : goal.write_in_order-writte
 write_in_order-written-requires-clause-all_true g c =
     subst (λ es. All (IsTrueClaim es) c.args.claims.items) (sym c.journal.ensures)
     (all_true_of_more c.args.share.seen c.close-live.result.history.journal c.args.claims.items c.close-live.ensures.seen c.requires.all_true)
+
+pub returns : goal.returns
+returns g c =
+    closed_so g.N.Naming.limits c.args.share c.close-live.result.history c.args.claims.items c.journal.result.now _ _ c.write_in_order-written.result c.journal.ensures
+    c.close-live.ensures.vector c.close-live.ensures.accepted c.close-live.ensures.seen c.close-live.ensures.counted c.write_in_order-written.ensures

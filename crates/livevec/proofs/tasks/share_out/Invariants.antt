@@ -1,0 +1,12 @@
+use Rattle.std.proofs.Common.{◌≡◌, ◌+◌, [], vec_len, length, map}
+use Rattle.livevec.specs.Tasks.{begun_at}
+use Rattle.livevec.proofs.tasks.share_out.Given as goal
+
+abbrev pub invariant-loop-streams : goal.invariant-loop-streams
+invariant-loop-streams g l =
+    (goal.iterator-loop-streams g).can_next l.streams-iterator ×
+    (goal.iterator-loop-streams g).is_finite l.streams-iterator ×
+    (l.tasks.items ≡ map (λ s. begun_at (record { lines = g.F.Read.remaining s.lines; replies = g.F.Write.contents s.replies })) l.yielded) ×
+    (l.share.parts + length l.yielded ≡ vec_len l.fn.streams + 1) ×
+    (l.share.count ≡ l.fn.share.count) ×
+    (l.share.seen ≡ [])

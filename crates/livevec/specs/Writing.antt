@@ -1,0 +1,44 @@
+-- What the transcript of a journal, and of a hub that is closed, comes to.
+use Rattle.std.specs.Prelude.{◌≡◌, ◌⊎◌, ℕ, Option, Result, Ok, Err, List, [], length}
+use Rattle.std.specs.List.Sorted.{IsPermutation}
+use Rattle.std.specs.Io.KnownBytes.{Appends}
+use mathlib.Core.List.{IsPrefix}
+use Rattle.lv_edits.specs.declared.edit.Edit.{Edit}
+use Rattle.lv_transcript.specs.declared.claimed.Claimed.{Claimed}
+use Rattle.lv_lines.specs.declared.fault.Fault.{Fault}
+use Rattle.lv_lines.specs.declared.fault.Fault.TheVariants.{WriteFault}
+use Rattle.lv_geometry.specs.Bounds.{Bounds}
+use Rattle.lv_edits.specs.Kept.{IsLegalInLimits}
+use Rattle.lv_lines.specs.Output.{WritesFront}
+use Rattle.lv_transcript.specs.Transcript.{AreAccepted, AreInOrder, IsSoundTranscript, greatest, transcript_text}
+use Rattle.lv_hub.specs.Counting.{ShareState}
+use Rattle.lv_hub.specs.Session.{KeepTies}
+use Rattle.lv_hub.specs.Told.{history_of}
+
+-- a text is that of a journal and of these claims, once they are in order
+pub record IsTextOf (journal : List Edit) (listed : List Claimed) (text : List ℕ) : Type 0 where
+  pub claims : List Claimed
+  pub text_is : text ≡ transcript_text journal claims
+  pub permutes : IsPermutation listed claims
+  pub ties : KeepTies listed claims
+  pub order : AreInOrder claims
+
+-- that text was written; or nothing; or a write failed, after no more than a front of it
+abbrev pub Writes : {T : Type 0} → List Edit → List Claimed → Option (List ℕ) → Option (List ℕ) → Result T Fault → Type 0
+Writes journal listed contents_old contents_new (Ok _) =
+    (text : List ℕ) × IsTextOf journal listed text × IsSoundTranscript text × Appends contents_old contents_new text
+Writes journal listed contents_old contents_new (Err fault) =
+    (contents_new ≡ contents_old) ⊎ ((fault ≡ WriteFault) × (text : List ℕ) × IsTextOf journal listed text × WritesFront contents_old [] contents_new text)
+
+-- a hub's edits, once it is closed by a share
+pub record IsJournal (limits : Bounds) (share : ShareState) (journal : List Edit) : Type 0 where
+  pub within : IsLegalInLimits (history_of limits journal)
+  pub accepted : AreAccepted greatest journal
+  pub seen : IsPrefix share.seen journal
+  pub counted : length journal ≡ share.count
+
+-- it was so of the journal of a hub
+pub record WritesClosed {T : Type 0} (limits : Bounds) (share : ShareState) (listed : List Claimed) (contents_old contents_new : Option (List ℕ)) (result : Result T Fault) : Type 0 where
+  pub journal : List Edit
+  pub of : IsJournal limits share journal
+  pub written : Writes journal listed contents_old contents_new result

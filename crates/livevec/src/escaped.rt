@@ -1,0 +1,27 @@
+//! Names as messages show them.
+
+use std::fmt;
+
+/// A name from the command line. What would end a line or speak to a terminal is shown by its code, so that no name forges a message.
+#[derive(Clone, Copy)]
+pub struct Escaped<'a>(pub &'a str);
+
+impl fmt::Display for Escaped<'_> {
+    fn fmt<W: fmt::Write>(&self, f: &mut fmt::Formatter<W>) -> fmt::Result {
+        for letter in self.0.chars() {
+            put(f, letter)?;
+        }
+        Ok(())
+    }
+}
+
+// One letter of a name: those of ASCII that can be seen stand for themselves, quotes and backslashes too.
+fn put<W: fmt::Write>(f: &mut fmt::Formatter<W>, letter: char) -> fmt::Result {
+    if letter == ' ' || letter.is_ascii_graphic() {
+        return f.write_char(letter);
+    }
+    for shown in letter.escape_debug() {
+        f.write_char(shown)?;
+    }
+    Ok(())
+}

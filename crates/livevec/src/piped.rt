@@ -1,0 +1,57 @@
+//! Standard streams that may be cut off or missing.
+
+use std::fs::{Files, OpenOptions};
+use std::io;
+use std::io::{ErrorKind, Write};
+
+/// A writer that notes whether what reads its bytes has ended.
+#[derive(Drop)]
+pub struct Piped<W: Write> {
+    writer: W,
+    is_cut: bool,
+}
+
+impl<W: Write> Piped<W> {
+    /// A writer that isn't cut off.
+    pub fn new(writer: W) -> Piped<W> {
+        Piped {
+            writer,
+            is_cut: false,
+        }
+    }
+
+    /// Whether a write has failed because nobody reads any more.
+    pub fn is_cut(&self) -> bool {
+        self.is_cut
+    }
+}
+
+impl<W: Write> Write for Piped<W> {
+    ghost contents = { λ piped. W.contents piped.writer };
+
+    fn write(&mut self, buf: &[u8]) -> io::Result<usize> {
+        let written = self.writer.write(buf);
+        if let Err(error) = &written {
+            self.is_cut = self.is_cut || error.kind() == ErrorKind::BrokenPipe;
+        }
+        written
+    }
+
+    fn flush(&mut self) -> io::Result<()> {
+        self.writer.flush()
+    }
+}
+
+/// Opens the null device as often as there are standard streams. So a standard stream that was closed at the start leads there, and
+/// no file that is opened later is taken for it. The files are kept until the program ends.
+pub fn null_files<R: Files>(rt: &R) -> [io::Result<R::File>; 3] {
+    [null_file(rt), null_file(rt), null_file(rt)]
+}
+
+// The null device, to be read and written.
+fn null_file<R: Files>(rt: &R) -> io::Result<R::File> {
+    OpenOptions::new()
+        .read(true)
+        .write(true)
+        .open(rt, "/dev/null")
+}
