@@ -1,0 +1,15 @@
+"""livevec-dashboard: live charts of a stream of numbers, in a browser.
+
+    livevec-dashboard FILE|-        or  python3 -m livevec_dashboard FILE|-
+
+Each name of the stream has a `livevec.Vector` of its samples. Each number on the page is an answer of that vector, and says after which edit.
+
+| Module | What it does |
+|---|---|
+| `lines` | bytes into names and whole numbers |
+| `stream` | standard input, or a file that is followed |
+| `store` | the vectors, their renewal, and their answers |
+| `views` | what a viewer looks at, and what of it has changed |
+| `server` | the page, the events and the bounds of requests |
+| `page.html` | the page |
+"""

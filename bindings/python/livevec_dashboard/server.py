@@ -1,0 +1,241 @@
+"""The page, its events, and the bounds of requests.
+
+It is Python's own HTTP server, with a thread a connection: it needs nothing installed, and a viewer that is slow blocks its own thread alone.
+
+| Request | Answer |
+|---|---|
+| GET / | the page |
+| GET /events | server-sent events: `hello` with the viewer's key, then one message a frame, which has what changed |
+| POST /view?KEY | takes what that viewer looks at, as JSON |
+"""
+from __future__ import annotations
+
+import base64
+import hashlib
+import http.server
+import ipaddress
+import json
+import os
+import re
+import secrets
+import socket
+import socketserver
+import sys
+import threading
+import time
+from typing import Any, NamedTuple, Optional
+
+from .store import Store
+from .views import BadView, Viewer, view_of
+
+FRAME = 0.1
+"""So many seconds lie between two frames of a viewer at least, unless it looks elsewhere."""
+BEAT = 5.0
+"""After so many seconds without a frame a viewer is told that the server is there."""
+MOST_BODY = 1 << 16
+MOST_LOOKS = 20
+"""A viewer may change its view so often in a second; as many at once."""
+_BACKLOG = 1 << 16
+"""So many bytes the system holds for a viewer that does not read. What it has not taken is not followed by older states, but by the latest."""
+_LOCAL = {"localhost", "127.0.0.1", "[::1]"}
+
+
+class Bounds(NamedTuple):
+    """How much a server takes: viewers, connections at once, and the seconds in which a frame is to be taken, or a part of a request to come."""
+
+    viewers: int = 32
+    connections: int = 96
+    patience: float = 20.0
+
+
+class _Guest:
+    """A viewer as the server knows it."""
+
+    def __init__(self, viewer: Viewer) -> None:
+        self.viewer = viewer
+        self._looks, self._since = float(MOST_LOOKS), time.monotonic()
+
+    def may_look(self) -> bool:
+        """Whether it changes its view no more often than it may."""
+        now = time.monotonic()
+        self._looks = min(self._looks + (now - self._since) * MOST_LOOKS, MOST_LOOKS)
+        self._since = now
+        if self._looks < 1:
+            return False
+        self._looks -= 1
+        return True
+
+
+class Server(http.server.ThreadingHTTPServer):
+    """Serves one store. `title` names the stream, and values are shown divided by 10**digits."""
+
+    daemon_threads = True
+    request_queue_size = 64
+
+    def __init__(self, host: str, port: int, store: Store, *, title: str = "", digits: int = 0, bounds: Bounds = Bounds()) -> None:
+        self.address_family = socket.AF_INET6 if ":" in host else socket.AF_INET
+        self.store, self.title, self.digits, self.bounds = store, title, digits, bounds
+        self.page, self.policy = _page()
+        self.guests: dict[str, _Guest] = {}
+        self.seating = threading.Lock()
+        self._room = threading.BoundedSemaphore(bounds.connections)
+        super().__init__((host, port), Handler)
+        self.local = ipaddress.ip_address(str(self.server_address[0])).is_loopback
+
+    @property
+    def url(self) -> str:
+        host, port = map(str, self.server_address[:2])
+        return f"http://{f'[{host}]' if ':' in host else host}:{port}/"
+
+    def server_bind(self) -> None:
+        # the server above would ask for this machine's name too, which may take seconds
+        socketserver.TCPServer.server_bind(self)
+        self.server_name, self.server_port = map(str, self.server_address[:2])  # type: ignore[assignment]
+
+    def process_request(self, request: Any, client_address: Any) -> None:
+        """Gives a connection its thread, or closes it where there are too many."""
+        if not self._room.acquire(blocking=False):
+            self.shutdown_request(request)
+            return
+        super().process_request(request, client_address)
+
+    def process_request_thread(self, request: Any, client_address: Any) -> None:
+        try:
+            super().process_request_thread(request, client_address)
+        finally:
+            self._room.release()
+
+    def handle_error(self, request: Any, client_address: Any) -> None:
+        """A viewer that goes away in the middle is nothing to speak of; all else is told."""
+        if not isinstance(sys.exc_info()[1], OSError):
+            super().handle_error(request, client_address)
+
+    def seated(self) -> Optional[str]:
+        """The key of a new viewer, if there is room for one."""
+        with self.seating:
+            if len(self.guests) >= self.bounds.viewers:
+                return None
+            key = secrets.token_urlsafe(12)
+            self.guests[key] = _Guest(Viewer(self.store, self.digits))
+            return key
+
+    def left(self, key: str) -> None:
+        with self.seating:
+            del self.guests[key]
+
+
+class Handler(http.server.BaseHTTPRequestHandler):
+    """One connection, which serves one request."""
+
+    server: Server
+
+    def setup(self) -> None:
+        super().setup()
+        self.connection.settimeout(self.server.bounds.patience)
+
+    def version_string(self) -> str:
+        return "livevec-dashboard"
+
+    def log_message(self, *_: Any) -> None:
+        """Requests are not told."""
+
+    def do_GET(self) -> None:
+        if not self._from_here():
+            self._text(403, "this host name is not served")
+        elif self.path == "/":
+            self._reply(200, self.server.page, "text/html; charset=utf-8", {"Content-Security-Policy": self.server.policy})
+        elif self.path == "/events":
+            self._events()
+        else:
+            self._text(404, "there is only the page, at /")
+
+    def do_POST(self) -> None:
+        path, _, key = self.path.partition("?")
+        with self.server.seating:
+            guest = self.server.guests.get(key)
+        length = self.headers.get("Content-Length", "")
+        if not self._from_here() or self.headers.get_content_type() != "application/json":
+            self._text(403, "a page of this server is wanted")
+        elif path != "/view" or guest is None:
+            self._text(404, "there is no such viewer")
+        elif not re.fullmatch("[0-9]{1,6}", length) or int(length) > MOST_BODY:
+            self._text(413, f"a view takes at most {MOST_BODY} bytes")
+        elif not guest.may_look():
+            self._text(429, f"a view may change {MOST_LOOKS} times a second")
+        else:
+            self._look(guest, self.rfile.read(int(length)))
+
+    def _look(self, guest: _Guest, body: bytes) -> None:
+        try:
+            guest.viewer.look(view_of(json.loads(body)))
+        except (BadView, ValueError, RecursionError) as error:
+            self._text(400, str(error) if isinstance(error, BadView) else "JSON is wanted")
+        else:
+            self._reply(204, b"", "text/plain")
+
+    def _from_here(self) -> bool:
+        """Whether a request is for this server, and none that a page from elsewhere makes by way of a browser of this machine."""
+        host = self.headers.get("Host", "")
+        origin = self.headers.get("Origin")
+        name = re.sub(r":[0-9]+\Z", "", host)
+        return (name in _LOCAL or not self.server.local) and origin in (None, f"http://{host}")
+
+    def _events(self) -> None:
+        """Sends frames until the viewer is gone, or takes nothing for too long."""
+        key = self.server.seated()
+        if key is None:
+            self._text(503, "there are as many viewers as there may be")
+            return
+        try:
+            self.connection.setsockopt(socket.SOL_SOCKET, socket.SO_SNDBUF, _BACKLOG)
+            self._head(200, "text/event-stream; charset=utf-8", {})
+            self._send("hello", {"viewer": key, "title": self.server.title, "digits": self.server.digits})
+            self._frames(self.server.guests[key].viewer)
+        except OSError:
+            pass
+        finally:
+            self.server.left(key)
+
+    def _frames(self, viewer: Viewer) -> None:
+        changing, seen = self.server.store.changing, -1
+        while True:
+            began = time.monotonic()
+            with changing:
+                changing.wait_for(lambda: self.server.store.version != seen or viewer.looked.is_set(), BEAT)
+                seen = self.server.store.version
+            frame = viewer.frame()
+            if frame:
+                self._send("message", frame)
+            elif time.monotonic() - began >= BEAT:
+                self._send("beat", {})
+            viewer.looked.wait(FRAME)
+
+    def _send(self, event: str, data: dict[str, Any]) -> None:
+        self.wfile.write(f"event: {event}\ndata: {json.dumps(data, separators=(',', ':'))}\n\n".encode())
+
+    def _text(self, status: int, text: str) -> None:
+        self._reply(status, f"{text}\n".encode(), "text/plain; charset=utf-8")
+
+    def _reply(self, status: int, body: bytes, kind: str, headers: Optional[dict[str, str]] = None) -> None:
+        self._head(status, kind, {"Content-Length": str(len(body)), **(headers or {})})
+        self.wfile.write(body)
+
+    def _head(self, status: int, kind: str, headers: dict[str, str]) -> None:
+        self.send_response(status)
+        for name, value in {"Content-Type": kind, "Cache-Control": "no-store", "X-Content-Type-Options": "nosniff", **headers}.items():
+            self.send_header(name, value)
+        self.end_headers()
+
+
+def _page() -> tuple[bytes, str]:
+    """The page, and the policy under which a browser runs its own script and style and no others."""
+    with open(os.path.join(os.path.dirname(os.path.abspath(__file__)), "page.html"), encoding="utf-8") as file:
+        page = file.read()
+    hashes = {}
+    for tag in ("script", "style"):
+        inside = re.search(f"<{tag}>(.*?)</{tag}>", page, re.DOTALL)
+        assert inside is not None
+        hashes[tag] = base64.b64encode(hashlib.sha256(inside[1].encode()).digest()).decode()
+    policy = (f"default-src 'none'; script-src 'sha256-{hashes['script']}'; style-src 'sha256-{hashes['style']}'; connect-src 'self'; img-src data:; "
+              "base-uri 'none'; form-action 'none'; frame-ancestors 'none'")
+    return page.encode(), policy
