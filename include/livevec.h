@@ -4,15 +4,17 @@
  * Slots. A vector, a job, an outcome, a board and a seat each lie behind a slot. Who calls owes three things, which nobody checks:
  *   - a slot starts as zeros (`livevec_vector v = {0};`), which is 'empty';
  *   - a slot is never copied, and nothing but these functions writes it;
- *   - a slot serves one call at a time. Between calls it may go to another thread, as by a lock, a join or a queue.
+ *   - a slot is freed, or its memory given back, only when no call at it is under way or to come.
+ * A slot serves one call at a time. A call beside another at the same slot is answered LIVEVEC_BUSY, and nothing has happened:
+ * call again, or put a lock round the slot. Calls at different slots run side by side.
  * A function never follows an empty slot: it answers LIVEVEC_NO_HANDLE. Freeing a slot makes it empty.
  *
  * Refusals. Each call tells why it was refused, 0 where it was not. A refused call changes nothing.
  * Each function names its refusals in the order in which they are tried. NULL is for a null pointer, NO_HANDLE for a slot that
- * should hold something and is empty, or holds something else.
+ * should hold something and is empty, or holds something else. Every function may answer BUSY, right after NULL.
  *
  * Memory. It comes from malloc, realloc and free. Want of it is an answer, LIVEVEC_NO_MEMORY, after which nothing has changed.
- * No function waits, prints, ends the process or starts a thread. Call none from a signal handler.
+ * No function waits, prints, ends the process or starts a thread. Call none from a signal handler, as malloc may not be called there.
  *
  * Ranges are of indices from `lo` up to `hi`, `hi` excluded. Edits are numbered 1, 2, 3 and so on; an answer names the last one. */
 #ifndef LIVEVEC_H
@@ -25,6 +27,9 @@
 #ifdef __cplusplus
 extern "C" {
 #endif
+
+/* The version of the library that this header is of. */
+#define LIVEVEC_VERSION "0.3.0"
 
 /* Why a call was refused. */
 typedef enum livevec_refusal {
@@ -53,35 +58,42 @@ typedef enum livevec_refusal {
     LIVEVEC_NULL = 102,        /* a null pointer */
     LIVEVEC_SHORT_BUFFER = 103, /* a buffer shorter than what it should take; `detail` is the wanted length */
     LIVEVEC_IN_USE = 104,      /* a slot that should be empty is full */
-    LIVEVEC_NO_SEAT = 105,     /* as many seats were taken as the board was made for */
-    LIVEVEC_SEATS_OUT = 106    /* a seat of the board is not freed yet */
+    LIVEVEC_NO_SEAT = 105,     /* no seat of the board is there: each was taken, and is not back */
+    LIVEVEC_SEATS_OUT = 106,   /* a seat of the board is not back */
+    LIVEVEC_OTHER_BOARD = 107, /* a seat of another board */
+    LIVEVEC_BUSY = 108         /* another call is under way at the slot. Nothing has happened: try again */
 } livevec_refusal;
 
 /* Slots. All zeros is 'empty'. The fields are the library's own. */
 typedef struct livevec_vector {
     bool full_;
     void *at_;
+    unsigned char busy_;
 } livevec_vector;
 
 typedef struct livevec_job {
     bool full_;
     void *at_;
+    unsigned char busy_;
 } livevec_job;
 
 typedef struct livevec_outcome {
     bool full_;
     void *at_;
+    unsigned char busy_;
 } livevec_outcome;
 
 /* Its slot has the board, and once that is closed, what it came to. */
 typedef struct livevec_board {
     bool full_;
     void *at_;
+    unsigned char busy_;
 } livevec_board;
 
 typedef struct livevec_seat {
     bool full_;
     void *at_;
+    unsigned char busy_;
 } livevec_seat;
 
 /* An automaton of eight states: from state q, an element x leads to next[q][x mod 4], the remainder never negative. */
@@ -205,6 +217,12 @@ typedef struct livevec_renewed {
     uint32_t version; /* the edit that touched the block last */
 } livevec_renewed;
 
+/* The version of the library that is linked, as LIVEVEC_VERSION spells that of this header. */
+const char *livevec_version(void);
+
+/* A refusal in words, as "the limit of edits is reached". Never null: of any other number it is "unknown". */
+const char *livevec_refusal_text(uint32_t refusal);
+
 /* --- A vector --- */
 
 /* Puts a new, empty vector into an empty slot: of at most 1 to 17 buckets (k buckets hold 8 * (2^k - 1) elements, 17 hold
@@ -249,7 +267,8 @@ livevec_verdict livevec_verdict_reserve(livevec_vector *slot, uint32_t elements)
 livevec_verdict livevec_verdict_swap(livevec_vector *slot, uint32_t first, uint32_t second);
 livevec_verdict livevec_verdict_truncate(livevec_vector *slot, uint32_t elements);
 
-/* Pushes elements in order, until one is refused. Those before it stay. Refusals: NULL, and those of livevec_push. */
+/* Pushes elements in order, until one is refused. Those before it stay. A null pointer with length 0 is an empty array, here and
+ * below. Refusals: NULL, and those of livevec_push. */
 livevec_pushed livevec_push_many(livevec_vector *slot, const int64_t *values, size_t length);
 
 /* The elements of a range, into a buffer that takes `length` of them. Where it was refused the buffer is as it was.
@@ -309,8 +328,8 @@ uint32_t livevec_free_outcome(livevec_outcome *outcome);
 
 /* --- A board: one vector for up to eight threads at once, without a lock. No call waits for another thread. ---
  *
- * One thread makes the board and a seat for each thread. Each thread then calls at its own seat, beside all others. When the
- * seats are freed the board can be closed, and its elements read. The caller owes no more than for any slot: a board's slot
+ * One thread makes the board and a seat for each thread. Each thread then calls at its own seat, beside all others. When all
+ * seats are back the board can be closed, and its elements read. The caller owes no more than for any slot: a board's slot
  * and each seat's serve one call at a time. So two threads don't share a seat, but calls at two seats need no lock.
  *
  * All seats' accepted edits are one list, numbered 1, 2, 3 and so on. Elements have 16 bits, from -32768 to 32767.
@@ -327,9 +346,14 @@ uint32_t livevec_free_outcome(livevec_outcome *outcome);
  * Refusals: NULL, IN_USE, BAD_LIMITS (of the kind too), NO_MEMORY. Who calls owes a livevec_free_board. */
 uint32_t livevec_board_new(livevec_board *slot, uint32_t kind, uint32_t buckets, uint32_t edits, uint32_t seats);
 
-/* Puts the board's next seat into an empty slot. A seat that is freed is not dealt again.
- * Refusals: NULL, IN_USE (of the seat's slot), NO_HANDLE (of the board's), NO_MEMORY, NO_SEAT. Who calls owes a livevec_free_seat. */
+/* Puts a seat of the board into an empty slot: the one that has been there for the longest.
+ * Refusals: NULL, IN_USE (of the seat's slot), NO_HANDLE (of the board's), NO_MEMORY, NO_SEAT. Who calls owes a
+ * livevec_board_take_back, or a livevec_free_seat. */
 uint32_t livevec_board_sit(livevec_board *board, livevec_seat *seat);
+
+/* Takes a seat back at its board, and empties the seat's slot. It may be taken again. The close accounts for all its edits.
+ * Refusals: NULL, NO_HANDLE (of either slot), OTHER_BOARD; the seat then stays in its slot. Takes no memory. */
+uint32_t livevec_board_take_back(livevec_board *board, livevec_seat *seat);
 
 /* Puts an element at the end. `place` is its index. Refusals: NULL, NO_HANDLE, TOO_WIDE, WORN, FULL, CONTENDED. */
 livevec_edited livevec_seat_push(livevec_seat *seat, int64_t value, uint32_t tries);
@@ -355,9 +379,9 @@ livevec_reduced livevec_seat_reduce(livevec_seat *seat, uint32_t lo, uint32_t hi
  * Refusals: NULL, NO_HANDLE, OUT_OF_RANGE (not all eight are there), OVERTAKEN. */
 livevec_renewed livevec_seat_refresh(livevec_seat *seat, uint32_t block);
 
-/* Closes a board whose seats are all freed; a seat that was never taken doesn't count. Its slot then holds the elements, and is
- * good for the three calls below and for livevec_free_board. `value` is how many edits were accepted at all seats together.
- * Refusals: NULL, NO_HANDLE (also where it is closed), NO_MEMORY, SEATS_OUT; the board is then as it was. */
+/* Closes a board whose seats are all there: back, or never taken. Its slot then holds the elements, and is good for the three
+ * calls below and for livevec_free_board. `value` is how many edits were accepted at all seats together.
+ * Refusals: NULL, NO_HANDLE (also where it is closed), SEATS_OUT, NO_MEMORY; the board is then as it was. */
 livevec_count livevec_board_close(livevec_board *board);
 
 /* Of a closed board: how many elements there are, and the element at an index.
@@ -367,11 +391,12 @@ livevec_element livevec_closed_get(livevec_board *board, uint32_t index);
 
 /* All elements of a closed board, into a buffer that takes `room` of them. `*count` is how many there are, also where the
  * buffer is too short; it and the buffer are as they were where the call is refused otherwise.
- * Refusals: NULL (of any of the three), NO_HANDLE, SHORT_BUFFER. */
+ * Refusals: NULL (of slot, count, or a buffer with room), NO_HANDLE, SHORT_BUFFER. */
 uint32_t livevec_closed_read(livevec_board *board, int64_t *buffer, size_t room, uint32_t *count);
 
 /* Frees a board, closed or not; frees a seat. The slot is then empty. Board and seats may be freed in any order: a seat whose
- * board was freed stays good. Refusals: NULL, NO_HANDLE. */
+ * board was freed stays good. A seat that is freed is not back, and never will be: its board can't be closed any more, but
+ * freed. Refusals: NULL, NO_HANDLE. */
 uint32_t livevec_free_board(livevec_board *board);
 uint32_t livevec_free_seat(livevec_seat *seat);
 

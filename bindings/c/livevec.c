@@ -2,22 +2,106 @@
  * The last five walk over many elements, a proved call each. This file is C, so no proof covers it. */
 #include "livevec.h"
 
+#include <stdatomic.h>
+
+const char *livevec_version(void)
+{
+    return LIVEVEC_VERSION;
+}
+
+const char *livevec_refusal_text(uint32_t refusal)
+{
+    switch (refusal) {
+    case LIVEVEC_OK: return "not refused";
+    case LIVEVEC_WORN: return "the limit of edits is reached";
+    case LIVEVEC_EMPTY: return "there is nothing to pop";
+    case LIVEVEC_OUT_OF_RANGE: return "out of range: past the end";
+    case LIVEVEC_TOO_LARGE: return "too large: more than the limits allow";
+    case LIVEVEC_FULL: return "full: as many elements as the limits allow";
+    case LIVEVEC_NO_MEMORY: return "no memory";
+    case LIVEVEC_BAD_RANGE: return "a range whose start is past its end";
+    case LIVEVEC_BAD_LIMITS: return "limits outside their ranges";
+    case LIVEVEC_BAD_TABLE: return "a table with an entry above 7";
+    case LIVEVEC_STRANGER: return "an outcome that is not of a job of this vector";
+    case LIVEVEC_TOO_WIDE: return "an element of a board outside -32768 to 32767";
+    case LIVEVEC_CONTENDED: return "contended: another seat's edit came first";
+    case LIVEVEC_OVERTAKEN: return "overtaken: a later edit wrote there";
+    case LIVEVEC_NO_HANDLE: return "an empty slot, or one that holds something else";
+    case LIVEVEC_NULL: return "a null pointer";
+    case LIVEVEC_SHORT_BUFFER: return "a buffer shorter than the values";
+    case LIVEVEC_IN_USE: return "a slot that is full already";
+    case LIVEVEC_NO_SEAT: return "no seat is left";
+    case LIVEVEC_SEATS_OUT: return "seats are out";
+    case LIVEVEC_OTHER_BOARD: return "a seat of another board";
+    case LIVEVEC_BUSY: return "another call is under way at the slot";
+    default: return "unknown";
+    }
+}
+
+/* A slot serves one call at a time: it is entered for a call, and a call that finds it entered does nothing. */
+static bool enter(unsigned char *busy)
+{
+    return !__atomic_exchange_n(busy, 1, __ATOMIC_ACQUIRE);
+}
+
+static void leave(unsigned char *busy)
+{
+    __atomic_store_n(busy, 0, __ATOMIC_RELEASE);
+}
+
+/* Enters two slots, or none. */
+static bool enter_both(unsigned char *first, unsigned char *second)
+{
+    if (!enter(first))
+        return false;
+    if (enter(second))
+        return true;
+    leave(first);
+    return false;
+}
+
+static void leave_both(unsigned char *first, unsigned char *second)
+{
+    leave(second);
+    leave(first);
+}
+
+/* An answer that has a refusal alone, as a number and as a struct. */
+#define AS_NUMBER(answer, number) (number)
+#define AS_STRUCT(answer, number) ((answer){.refusal = (number)})
+
 /* `livevec_NAME` over `livevec_proved_NAME`, an export of crates/livevec_c: what that promises stands in its contract there.
- * `there` says that no pointer is null; `none` is the answer where one is. */
-#define OVER_PROVED(answer, name, parameters, there, arguments, none) \
-    answer livevec_proved_##name parameters;                          \
-    answer livevec_##name parameters                                  \
-    {                                                                 \
-        return there ? livevec_proved_##name arguments : none;        \
+ * `there` says that no pointer is null; `entered` and `left` enter the slots of the call and leave them. */
+#define OVER_PROVED(answer, as, name, parameters, there, entered, left, arguments) \
+    answer livevec_proved_##name parameters;                                       \
+    answer livevec_##name parameters                                               \
+    {                                                                              \
+        if (!(there))                                                              \
+            return as(answer, LIVEVEC_NULL);                                       \
+        if (!entered)                                                              \
+            return as(answer, LIVEVEC_BUSY);                                       \
+        answer told = livevec_proved_##name arguments;                             \
+        left;                                                                      \
+        return told;                                                               \
     }
 
-/* The same, of what answers by its refusal alone, and of what answers more. */
-#define TOLD(name, parameters, there, arguments) OVER_PROVED(uint32_t, name, parameters, there, arguments, LIVEVEC_NULL)
-#define ANSWERED(answer, name, parameters, there, arguments) \
-    OVER_PROVED(answer, name, parameters, there, arguments, (answer){.refusal = LIVEVEC_NULL})
+/* The same at one slot, with a further pointer or not, and at two. */
+#define AT_ONE(answer, as, name, parameters, there, slot, arguments) \
+    OVER_PROVED(answer, as, name, parameters, there, enter(&slot->busy_), leave(&slot->busy_), arguments)
+#define AT_TWO(answer, as, name, parameters, first, second, arguments)                                 \
+    OVER_PROVED(answer, as, name, parameters, first && second, enter_both(&first->busy_, &second->busy_), \
+                leave_both(&first->busy_, &second->busy_), arguments)
+
+/* Of what answers by its refusal alone, and of what answers more. */
+#define TOLD(name, parameters, slot, arguments) AT_ONE(uint32_t, AS_NUMBER, name, parameters, slot, slot, arguments)
+#define ANSWERED(answer, name, parameters, slot, arguments) AT_ONE(answer, AS_STRUCT, name, parameters, slot, slot, arguments)
+#define TOLD_AT_TWO(name, parameters, first, second, arguments) AT_TWO(uint32_t, AS_NUMBER, name, parameters, first, second, arguments)
+#define ANSWERED_AT_TWO(answer, name, parameters, first, second, arguments) \
+    AT_TWO(answer, AS_STRUCT, name, parameters, first, second, arguments)
 
 TOLD(new, (livevec_vector *slot, uint32_t buckets, uint32_t edits), slot, (slot, buckets, edits))
-TOLD(new_with_table, (livevec_vector *slot, uint32_t buckets, uint32_t edits, const livevec_table *table), (slot && table), (slot, buckets, edits, table))
+AT_ONE(uint32_t, AS_NUMBER, new_with_table, (livevec_vector *slot, uint32_t buckets, uint32_t edits, const livevec_table *table), slot && table, slot,
+       (slot, buckets, edits, table))
 ANSWERED(livevec_edited, push, (livevec_vector *slot, int64_t value), slot, (slot, value))
 ANSWERED(livevec_edited, pop, (livevec_vector *slot), slot, (slot))
 ANSWERED(livevec_edited, write, (livevec_vector *slot, uint32_t index, int64_t value), slot, (slot, index, value))
@@ -39,14 +123,14 @@ ANSWERED(livevec_verdict, verdict_swap, (livevec_vector *slot, uint32_t first, u
 ANSWERED(livevec_verdict, verdict_truncate, (livevec_vector *slot, uint32_t elements), slot, (slot, elements))
 
 ANSWERED(livevec_count, refresh, (livevec_vector *slot, uint32_t jobs), slot, (slot, jobs))
-ANSWERED(livevec_claimed, claim, (livevec_vector *slot, livevec_job *job), (slot && job), (slot, job))
-TOLD(run, (livevec_job *job, livevec_outcome *outcome), (job && outcome), (job, outcome))
-ANSWERED(livevec_vetted, vet, (livevec_vector *slot, livevec_outcome *outcome), (slot && outcome), (slot, outcome))
-ANSWERED(livevec_accepted, accept, (livevec_vector *slot, livevec_outcome *outcome), (slot && outcome), (slot, outcome))
+ANSWERED_AT_TWO(livevec_claimed, claim, (livevec_vector *slot, livevec_job *job), slot, job, (slot, job))
+TOLD_AT_TWO(run, (livevec_job *job, livevec_outcome *outcome), job, outcome, (job, outcome))
+ANSWERED_AT_TWO(livevec_vetted, vet, (livevec_vector *slot, livevec_outcome *outcome), slot, outcome, (slot, outcome))
+ANSWERED_AT_TWO(livevec_accepted, accept, (livevec_vector *slot, livevec_outcome *outcome), slot, outcome, (slot, outcome))
 TOLD(forget, (livevec_vector *slot), slot, (slot))
 
-TOLD(board_new, (livevec_board *slot, uint32_t kind, uint32_t buckets, uint32_t edits, uint32_t seats), slot, (slot, kind, buckets, edits, seats))
-TOLD(board_sit, (livevec_board *board, livevec_seat *seat), (board && seat), (board, seat))
+TOLD_AT_TWO(board_sit, (livevec_board *board, livevec_seat *seat), board, seat, (board, seat))
+TOLD_AT_TWO(board_take_back, (livevec_board *board, livevec_seat *seat), board, seat, (board, seat))
 ANSWERED(livevec_edited, seat_push, (livevec_seat *seat, int64_t value, uint32_t tries), seat, (seat, value, tries))
 ANSWERED(livevec_edited, seat_pop, (livevec_seat *seat, uint32_t tries), seat, (seat, tries))
 ANSWERED(livevec_edited, seat_write, (livevec_seat *seat, uint32_t index, int64_t value, uint32_t tries), seat, (seat, index, value, tries))
@@ -58,66 +142,78 @@ ANSWERED(livevec_count, board_close, (livevec_board *board), board, (board))
 ANSWERED(livevec_count, closed_size, (livevec_board *board), board, (board))
 ANSWERED(livevec_element, closed_get, (livevec_board *board, uint32_t index), board, (board, index))
 
+/* Each board has a stamp of its own, which its seats have too: so a seat is told from those of other boards. */
+uint32_t livevec_proved_board_new(livevec_board *slot, uint32_t kind, uint32_t buckets, uint32_t edits, uint32_t seats, uint64_t stamp);
+
+uint32_t livevec_board_new(livevec_board *slot, uint32_t kind, uint32_t buckets, uint32_t edits, uint32_t seats)
+{
+    static _Atomic uint64_t stamps;
+    if (!slot)
+        return LIVEVEC_NULL;
+    if (!enter(&slot->busy_))
+        return LIVEVEC_BUSY;
+    uint32_t told = livevec_proved_board_new(slot, kind, buckets, edits, seats, atomic_fetch_add(&stamps, 1));
+    leave(&slot->busy_);
+    return told;
+}
+
 /* One export frees whatever a slot holds. */
 uint32_t livevec_proved_free(void *slot);
 
-static uint32_t freed(void *slot)
-{
-    return slot ? livevec_proved_free(slot) : LIVEVEC_NULL;
-}
+/* `livevec_NAME` frees what a slot of its type holds. */
+#define FREED(name, type)                           \
+    uint32_t livevec_##name(type *slot)             \
+    {                                               \
+        if (!slot)                                  \
+            return LIVEVEC_NULL;                    \
+        if (!enter(&slot->busy_))                   \
+            return LIVEVEC_BUSY;                    \
+        uint32_t told = livevec_proved_free(slot);  \
+        leave(&slot->busy_);                        \
+        return told;                                \
+    }
 
-uint32_t livevec_free(livevec_vector *slot)
-{
-    return freed(slot);
-}
+FREED(free, livevec_vector)
+FREED(free_job, livevec_job)
+FREED(free_outcome, livevec_outcome)
+FREED(free_board, livevec_board)
+FREED(free_seat, livevec_seat)
 
-uint32_t livevec_free_job(livevec_job *job)
-{
-    return freed(job);
-}
-
-uint32_t livevec_free_outcome(livevec_outcome *outcome)
-{
-    return freed(outcome);
-}
-
-uint32_t livevec_free_board(livevec_board *board)
-{
-    return freed(board);
-}
-
-uint32_t livevec_free_seat(livevec_seat *seat)
-{
-    return freed(seat);
-}
-
-livevec_pushed livevec_push_many(livevec_vector *slot, const int64_t *values, size_t length)
+/* Pushes in order at a slot that is entered, until one is refused. */
+static livevec_pushed push_each(livevec_vector *slot, const int64_t *values, size_t length)
 {
     livevec_pushed answer = {LIVEVEC_OK, 0, 0, 0};
-    if (!slot || !values) {
-        answer.refusal = LIVEVEC_NULL;
-        return answer;
-    }
-    for (size_t i = 0; i < length; i++) {
+    livevec_count size = livevec_proved_size(slot);
+    answer.refusal = size.refusal;
+    for (size_t i = 0; i < length && !answer.refusal; i++) {
         livevec_edited edited = livevec_proved_push(slot, values[i]);
         answer.refusal = edited.refusal;
         answer.detail = edited.detail;
-        if (edited.refusal)
-            break;
-        answer.edit = edited.edit;
-        answer.pushed++;
+        if (!edited.refusal) {
+            answer.edit = edited.edit;
+            answer.pushed++;
+        }
     }
     return answer;
 }
 
-/* What refuses a range of a slot, for a buffer of so many values. */
-static livevec_scanned judge(livevec_vector *slot, uint32_t lo, uint32_t hi, const void *buffer, size_t length)
+livevec_pushed livevec_push_many(livevec_vector *slot, const int64_t *values, size_t length)
+{
+    livevec_pushed answer = {LIVEVEC_NULL, 0, 0, 0};
+    if (!slot || (!values && length))
+        return answer;
+    answer.refusal = LIVEVEC_BUSY;
+    if (!enter(&slot->busy_))
+        return answer;
+    answer = push_each(slot, values, length);
+    leave(&slot->busy_);
+    return answer;
+}
+
+/* What refuses a range of a slot that is entered, for a buffer of so many values. */
+static livevec_scanned judge(livevec_vector *slot, uint32_t lo, uint32_t hi, size_t length)
 {
     livevec_scanned answer = {LIVEVEC_OK, 0, 0, 0};
-    if (!slot || !buffer) {
-        answer.refusal = LIVEVEC_NULL;
-        return answer;
-    }
     livevec_count size = livevec_proved_size(slot);
     if (size.refusal) {
         answer.refusal = size.refusal;
@@ -136,34 +232,30 @@ static livevec_scanned judge(livevec_vector *slot, uint32_t lo, uint32_t hi, con
     return answer;
 }
 
-livevec_scanned livevec_read(livevec_vector *slot, uint32_t lo, uint32_t hi, int64_t *buffer, size_t length)
-{
-    livevec_scanned answer = judge(slot, lo, hi, buffer, length);
-    for (uint32_t i = 0; i < answer.length; i++)
-        buffer[i] = livevec_proved_get(slot, lo + i).value;
-    return answer;
-}
+/* `livevec_NAME` fills a buffer, each place i by `value`. A null buffer takes no values. */
+#define FILLED(name, type, filling)                                                                            \
+    livevec_scanned livevec_##name(livevec_vector *slot, uint32_t lo, uint32_t hi, type *buffer, size_t length) \
+    {                                                                                                          \
+        livevec_scanned answer = {LIVEVEC_NULL, 0, 0, 0};                                                      \
+        if (!slot || (!buffer && length))                                                                      \
+            return answer;                                                                                     \
+        answer.refusal = LIVEVEC_BUSY;                                                                         \
+        if (!enter(&slot->busy_))                                                                              \
+            return answer;                                                                                     \
+        answer = judge(slot, lo, hi, length);                                                                  \
+        for (uint32_t i = 0; i < answer.length; i++)                                                           \
+            buffer[i] = filling;                                                                               \
+        leave(&slot->busy_);                                                                                   \
+        return answer;                                                                                         \
+    }
 
-livevec_scanned livevec_scan_inclusive(livevec_vector *slot, uint32_t lo, uint32_t hi, livevec_values *buffer, size_t length)
-{
-    livevec_scanned answer = judge(slot, lo, hi, buffer, length);
-    for (uint32_t i = 0; i < answer.length; i++)
-        buffer[i] = livevec_proved_ask(slot, lo, lo + i + 1).values;
-    return answer;
-}
+FILLED(read, int64_t, livevec_proved_get(slot, lo + i).value)
+FILLED(scan_inclusive, livevec_values, livevec_proved_ask(slot, lo, lo + i + 1).values)
+FILLED(scan_exclusive, livevec_values, livevec_proved_ask(slot, lo, lo + i).values)
 
-livevec_scanned livevec_scan_exclusive(livevec_vector *slot, uint32_t lo, uint32_t hi, livevec_values *buffer, size_t length)
+/* Reads a closed board whose slot is entered. */
+static uint32_t read_closed(livevec_board *board, int64_t *buffer, size_t room, uint32_t *count)
 {
-    livevec_scanned answer = judge(slot, lo, hi, buffer, length);
-    for (uint32_t i = 0; i < answer.length; i++)
-        buffer[i] = livevec_proved_ask(slot, lo, lo + i).values;
-    return answer;
-}
-
-uint32_t livevec_closed_read(livevec_board *board, int64_t *buffer, size_t room, uint32_t *count)
-{
-    if (!board || !buffer || !count)
-        return LIVEVEC_NULL;
     livevec_count size = livevec_proved_closed_size(board);
     if (size.refusal)
         return size.refusal;
@@ -173,4 +265,15 @@ uint32_t livevec_closed_read(livevec_board *board, int64_t *buffer, size_t room,
     for (uint32_t i = 0; i < size.value; i++)
         buffer[i] = livevec_proved_closed_get(board, i).value;
     return LIVEVEC_OK;
+}
+
+uint32_t livevec_closed_read(livevec_board *board, int64_t *buffer, size_t room, uint32_t *count)
+{
+    if (!board || !count || (!buffer && room))
+        return LIVEVEC_NULL;
+    if (!enter(&board->busy_))
+        return LIVEVEC_BUSY;
+    uint32_t told = read_closed(board, buffer, room, count);
+    leave(&board->busy_);
+    return told;
 }

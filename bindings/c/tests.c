@@ -309,7 +309,7 @@ static void misuse(void)
     IS(livevec_get(NULL, 0).refusal, LIVEVEC_NULL);
     IS(livevec_size(NULL).refusal, LIVEVEC_NULL);
     IS(livevec_reduce(NULL, 0, 0).refusal, LIVEVEC_NULL);
-    IS(livevec_scan_inclusive(&v, 0, 0, NULL, 0).refusal, LIVEVEC_NULL);
+    IS(livevec_scan_inclusive(&v, 0, 0, NULL, 1).refusal, LIVEVEC_NULL);
     IS(livevec_push_many(&v, NULL, 1).refusal, LIVEVEC_NULL);
     IS(livevec_read(NULL, 0, 0, NULL, 0).refusal, LIVEVEC_NULL);
     IS(livevec_claim(&v, NULL).refusal, LIVEVEC_NULL);
@@ -319,8 +319,33 @@ static void misuse(void)
     IS(livevec_free_outcome(NULL), LIVEVEC_NULL);
 }
 
+/* A null pointer with length 0 is an empty array. */
+static void empty_arrays(void)
+{
+    livevec_vector v = empty_vector;
+    IS(livevec_push_many(&v, NULL, 0).refusal, LIVEVEC_NO_HANDLE);
+    IS(livevec_read(&v, 0, 0, NULL, 0).refusal, LIVEVEC_NO_HANDLE);
+    IS(livevec_new(&v, 1, 9), 0);
+    IS(livevec_push_many(&v, NULL, 0).refusal, 0);
+    IS(livevec_push(&v, 7).edit, 1);
+    IS(livevec_read(&v, 1, 1, NULL, 0).edit, 1);
+    IS(livevec_scan_exclusive(&v, 0, 0, NULL, 0).refusal, 0);
+    IS(livevec_scan_exclusive(&v, 0, 1, NULL, 0).refusal, LIVEVEC_SHORT_BUFFER);
+    IS(livevec_free(&v), 0);
+}
+
+/* The library says which it is, and each refusal has words of its own. */
+static void words(void)
+{
+    IS(strcmp(livevec_version(), LIVEVEC_VERSION), 0);
+    IS(strcmp(livevec_refusal_text(LIVEVEC_EMPTY), "there is nothing to pop"), 0);
+    IS(strcmp(livevec_refusal_text(LIVEVEC_BUSY), "another call is under way at the slot"), 0);
+    IS(strcmp(livevec_refusal_text(99), "unknown"), 0);
+}
+
 int main(void)
 {
+    words();
     edits();
     reductions();
     moves();
@@ -328,6 +353,8 @@ int main(void)
     births();
     jobs();
     misuse();
+    empty_arrays();
+    beside();
     boards();
     printf("%d checks, %d failed\n", checks, failures);
     return failures ? EXIT_FAILURE : EXIT_SUCCESS;

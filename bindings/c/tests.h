@@ -12,4 +12,7 @@ void is(const char *file, int line, const char *what, long long got, long long w
 /* The tests of boards and seats. */
 void boards(void);
 
+/* The tests of calls beside one another at one slot. */
+void beside(void);
+
 #endif

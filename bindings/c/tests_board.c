@@ -19,7 +19,7 @@ static void open_with_seat(livevec_board *board, livevec_seat *seat, livevec_kin
 
 static void free_both(livevec_board *board, livevec_seat *seat)
 {
-    IS(livevec_free_seat(seat), LIVEVEC_OK);
+    IS(livevec_board_take_back(board, seat), LIVEVEC_OK);
     IS(livevec_free_board(board), LIVEVEC_OK);
 }
 
@@ -41,7 +41,7 @@ static void births(void)
     IS(livevec_free_board(&b), LIVEVEC_OK);
 }
 
-/* Two seats of two, and no third, not even where one is freed. */
+/* Two seats of two, and no third until one is back; not where one is freed. */
 static void sitting(void)
 {
     livevec_board b = empty_board;
@@ -52,13 +52,40 @@ static void sitting(void)
     IS(livevec_board_sit(&b, &two), LIVEVEC_OK);
     IS(livevec_board_sit(&b, &three), LIVEVEC_NO_SEAT);
     IS(livevec_seat_push(&three, 1, ONCE).refusal, LIVEVEC_NO_HANDLE);
-    IS(livevec_free_seat(&one), LIVEVEC_OK);
+    IS(livevec_board_take_back(&b, &one), LIVEVEC_OK);
+    IS(livevec_board_take_back(&b, &one), LIVEVEC_NO_HANDLE);
+    IS(livevec_seat_push(&one, 1, ONCE).refusal, LIVEVEC_NO_HANDLE);
+    IS(livevec_board_sit(&b, &three), LIVEVEC_OK);
+    IS(livevec_board_sit(&b, &one), LIVEVEC_NO_SEAT);
+    IS(livevec_free_seat(&three), LIVEVEC_OK);
     IS(livevec_board_sit(&b, &three), LIVEVEC_NO_SEAT);
     /* a seat outlives its board */
     IS(livevec_free_board(&b), LIVEVEC_OK);
     IS(livevec_seat_push(&two, 7, ONCE).edit, 1);
     IS(livevec_seat_get(&two, 0).value, 7);
     IS(livevec_free_seat(&two), LIVEVEC_OK);
+}
+
+/* A seat of another board is refused and stays good, whatever the boards' kinds are. */
+static void strangers(void)
+{
+    livevec_board sums = empty_board, others = empty_board, leasts = empty_board;
+    livevec_seat one = empty_seat, two = empty_seat;
+    open_with_seat(&sums, &one, LIVEVEC_SUM, 1, 10);
+    open_with_seat(&others, &two, LIVEVEC_SUM, 1, 10);
+    IS(livevec_board_new(&leasts, LIVEVEC_LEAST, 1, 10, 1), LIVEVEC_OK);
+    IS(livevec_board_take_back(&others, &one), LIVEVEC_OTHER_BOARD);
+    IS(livevec_board_take_back(&leasts, &one), LIVEVEC_OTHER_BOARD);
+    IS(livevec_seat_push(&one, 7, ONCE).edit, 1);
+    IS(livevec_board_close(&others).refusal, LIVEVEC_SEATS_OUT);
+    IS(livevec_board_take_back(&others, &two), LIVEVEC_OK);
+    IS(livevec_board_close(&others).value, 0);
+    IS(livevec_board_take_back(&others, &one), LIVEVEC_NO_HANDLE);
+    IS(livevec_board_take_back(&sums, &one), LIVEVEC_OK);
+    IS(livevec_board_close(&sums).value, 1);
+    IS(livevec_free_board(&sums), LIVEVEC_OK);
+    IS(livevec_free_board(&others), LIVEVEC_OK);
+    IS(livevec_free_board(&leasts), LIVEVEC_OK);
 }
 
 /* Edits at two seats are one list; each refusal of an edit, in order. */
@@ -104,7 +131,7 @@ static void edits(void)
     IS(livevec_seat_pop(&two, ONCE).refusal, LIVEVEC_WORN);
     IS(livevec_seat_push(&two, 32768, ONCE).refusal, LIVEVEC_TOO_WIDE);
     IS(livevec_seat_size(&two).value, 8);
-    IS(livevec_free_seat(&one), LIVEVEC_OK);
+    IS(livevec_board_take_back(&b, &one), LIVEVEC_OK);
     free_both(&b, &two);
 }
 
@@ -182,7 +209,7 @@ static void refreshes(void)
     free_both(&b, &s);
 }
 
-/* A board closes once its seats are freed, one of them never taken. */
+/* A board closes once its seats are back, one of them never taken; and never, once one is freed. */
 static void closes(void)
 {
     livevec_board b = empty_board;
@@ -201,12 +228,13 @@ static void closes(void)
     IS(livevec_seat_push(&s, -12, ONCE).edit, 2);
     IS(livevec_seat_push(&s, 13, ONCE).edit, 3);
     IS(livevec_seat_write(&s, 0, 14, ONCE).edit, 4);
-    IS(livevec_free_seat(&s), LIVEVEC_OK);
+    IS(livevec_board_take_back(&b, &s), LIVEVEC_OK);
     livevec_count closed = livevec_board_close(&b);
     IS(closed.refusal, LIVEVEC_OK);
     IS(closed.value, 4);
     IS(livevec_board_close(&b).refusal, LIVEVEC_NO_HANDLE);
     IS(livevec_board_sit(&b, &s), LIVEVEC_NO_HANDLE);
+    IS(livevec_board_take_back(&b, &s), LIVEVEC_NO_HANDLE);
     IS(livevec_closed_size(&b).value, 3);
     IS(livevec_closed_get(&b, 1).value, -12);
     livevec_element none = livevec_closed_get(&b, 3);
@@ -228,6 +256,11 @@ static void closes(void)
     IS(livevec_board_close(&b).value, 0);
     IS(livevec_closed_read(&b, read, 0, &count), LIVEVEC_OK);
     IS(count, 0);
+    IS(livevec_free_board(&b), LIVEVEC_OK);
+    /* a seat that is freed is gone */
+    open_with_seat(&b, &s, LIVEVEC_LEAST, 1, 1);
+    IS(livevec_free_seat(&s), LIVEVEC_OK);
+    IS(livevec_board_close(&b).refusal, LIVEVEC_SEATS_OUT);
     IS(livevec_free_board(&b), LIVEVEC_OK);
 }
 
@@ -299,7 +332,7 @@ static void want_of_memory(void)
     IS(starved(makes) > 0, true);
     IS(starved(sits) > 0, true);
     IS(livevec_seat_push(&short_seat, 42, ONCE).edit, 1);
-    IS(livevec_free_seat(&short_seat), LIVEVEC_OK);
+    IS(livevec_board_take_back(&short_board, &short_seat), LIVEVEC_OK);
     IS(starved(ends) > 0, true);
     IS(livevec_closed_get(&short_board, 0).value, 42);
     IS(livevec_free_board(&short_board), LIVEVEC_OK);
@@ -313,7 +346,7 @@ static void want_of_memory(void)
     IS(livevec_seat_refresh(&short_seat, 0).refusal, LIVEVEC_OK);
     IS(livevec_seat_reduce(&short_seat, 0, 9).values.sum, 37);
     IS(livevec_seat_pop(&short_seat, ONCE).refusal, LIVEVEC_OK);
-    IS(livevec_free_seat(&short_seat), LIVEVEC_OK);
+    IS(livevec_board_take_back(&short_board, &short_seat), LIVEVEC_OK);
     IS(livevec_free_board(&short_board), LIVEVEC_OK);
     until_failure = 0;
 }
@@ -337,6 +370,7 @@ static void no_board_is_at(livevec_board *slot)
     int64_t buffer[1];
     uint32_t count;
     IS(livevec_board_sit(slot, &s), LIVEVEC_NO_HANDLE);
+    IS(livevec_board_take_back(slot, &s), LIVEVEC_NO_HANDLE);
     IS(livevec_board_close(slot).refusal, LIVEVEC_NO_HANDLE);
     IS(livevec_closed_size(slot).refusal, LIVEVEC_NO_HANDLE);
     IS(livevec_closed_get(slot, 0).refusal, LIVEVEC_NO_HANDLE);
@@ -359,11 +393,13 @@ static void misuse(void)
     open_with_seat(&b, &s, LIVEVEC_SUM, 1, 9);
     no_board_is_at((livevec_board *)(void *)&s);
     no_seat_is_at((livevec_seat *)(void *)&b);
+    IS(livevec_board_take_back((livevec_board *)(void *)&v, &s), LIVEVEC_NO_HANDLE);
+    IS(livevec_board_take_back(&b, (livevec_seat *)(void *)&v), LIVEVEC_NO_HANDLE);
     IS(livevec_push((livevec_vector *)(void *)&b, 1).refusal, LIVEVEC_NO_HANDLE);
     IS(livevec_push((livevec_vector *)(void *)&s, 1).refusal, LIVEVEC_NO_HANDLE);
     IS(livevec_size((livevec_vector *)(void *)&s).refusal, LIVEVEC_NO_HANDLE);
     IS(livevec_seat_push(&s, 1, ONCE).edit, 1);
-    IS(livevec_free_seat(&s), LIVEVEC_OK);
+    IS(livevec_board_take_back(&b, &s), LIVEVEC_OK);
     no_seat_is_at(&s);
     IS(livevec_free_seat(&s), LIVEVEC_NO_HANDLE);
     IS(livevec_board_close(&b).value, 1);
@@ -383,11 +419,13 @@ static void null(void)
     IS(livevec_board_new(NULL, LIVEVEC_SUM, 1, 1, 1), LIVEVEC_NULL);
     IS(livevec_board_sit(NULL, &s), LIVEVEC_NULL);
     IS(livevec_board_sit(&b, NULL), LIVEVEC_NULL);
+    IS(livevec_board_take_back(NULL, &s), LIVEVEC_NULL);
+    IS(livevec_board_take_back(&b, NULL), LIVEVEC_NULL);
     IS(livevec_board_close(NULL).refusal, LIVEVEC_NULL);
     IS(livevec_closed_size(NULL).refusal, LIVEVEC_NULL);
     IS(livevec_closed_get(NULL, 0).refusal, LIVEVEC_NULL);
     IS(livevec_closed_read(NULL, buffer, 1, &count), LIVEVEC_NULL);
-    IS(livevec_closed_read(&b, NULL, 0, &count), LIVEVEC_NULL);
+    IS(livevec_closed_read(&b, NULL, 1, &count), LIVEVEC_NULL);
     IS(livevec_closed_read(&b, buffer, 1, NULL), LIVEVEC_NULL);
     IS(livevec_seat_push(NULL, 1, ONCE).refusal, LIVEVEC_NULL);
     IS(livevec_seat_pop(NULL, ONCE).refusal, LIVEVEC_NULL);
@@ -511,7 +549,7 @@ static void eight_threads(void)
     IS(livevec_seat_push(&workers[7].seat, 0, TRIES).refusal, LIVEVEC_WORN);
     for (int t = 0; t < THREADS; t++) {
         IS(livevec_board_close(&b).refusal, LIVEVEC_SEATS_OUT);
-        IS(livevec_free_seat(&workers[t].seat), LIVEVEC_OK);
+        IS(livevec_board_take_back(&b, &workers[t].seat), LIVEVEC_OK);
     }
     IS(livevec_board_close(&b).value, EDITS);
     IS(livevec_closed_read(&b, elements, THREADS * ROUNDS, &count), LIVEVEC_OK);
@@ -524,6 +562,7 @@ void boards(void)
 {
     births();
     sitting();
+    strangers();
     edits();
     reductions();
     refreshes();

@@ -34,7 +34,7 @@ __all__ = [
     "Vector", "Job", "Outcome", "Scan", "Values", "Reduced", "Delivered", "Became", "Node",
     "Board", "Seat", "Kind", "Told", "Refreshed", "Finished",
     "Refusal", "Worn", "Empty", "OutOfRange", "TooLarge", "Full", "NoMemory", "BadRange", "BadLimits", "BadTable", "Stranger", "Closed",
-    "ShortBuffer", "TooWide", "Outrun", "Contended", "Overtaken", "NoSeat", "SeatsOut",
+    "ShortBuffer", "TooWide", "Outrun", "Contended", "Overtaken", "NoSeat", "SeatsOut", "Busy",
     "MOST_BUCKETS", "MOST_EDITS", "MOST_BOARD_BUCKETS", "MOST_SEATS",
 ]
 
@@ -169,7 +169,7 @@ class ShortBuffer(Refusal, ValueError):
 
 
 class NoSeat(Refusal, RuntimeError):
-    """As many seats were taken as the board was made for."""
+    """Somebody has each of the board's seats."""
 
     number, says = 105, "no seat is left"
 
@@ -180,8 +180,14 @@ class SeatsOut(Refusal, RuntimeError):
     number, says = 106, "seats are out"
 
 
+class Busy(Refusal, RuntimeError):
+    """Another call is under way at the same object."""
+
+    number, says = 108, "another call is under way"
+
+
 _REFUSALS = {it.number: it for it in (Worn, Empty, OutOfRange, TooLarge, Full, NoMemory, BadRange, BadLimits, BadTable, Stranger, TooWide, Contended,
-                                      Overtaken, Closed, ShortBuffer, NoSeat, SeatsOut)}
+                                      Overtaken, Closed, ShortBuffer, NoSeat, SeatsOut, Busy)}
 
 
 def _refuse(number: int, detail: int = 0, pushed: int = 0) -> Refusal:
@@ -195,7 +201,7 @@ def _refuse(number: int, detail: int = 0, pushed: int = 0) -> Refusal:
 
 class _Slot(ctypes.Structure):
     # A slot is never copied: it lies in the object that owns it, and is passed by its address alone.
-    _fields_ = [("full_", ctypes.c_bool), ("at_", ctypes.c_void_p)]
+    _fields_ = [("full_", ctypes.c_bool), ("at_", ctypes.c_void_p), ("busy_", ctypes.c_ubyte)]
 
 
 # Slots of several types, so that ctypes refuses one in the place of another.
@@ -293,7 +299,7 @@ def _lying_in(folders: Iterable[str]) -> Optional[str]:
 
 
 def _known_to_the_system() -> Optional[str]:
-    for name in ("liblivevec.so.0", "liblivevec.so"):
+    for name in ("liblivevec.so.1", "liblivevec.so"):
         try:
             ctypes.PyDLL(name)
         except OSError:
@@ -363,6 +369,7 @@ _verdict_truncate = _call("livevec_verdict_truncate", _Verdict, _slot, _u32)
 _board, _seat = ctypes.POINTER(_BoardSlot), ctypes.POINTER(_SeatSlot)
 _board_new = _call("livevec_board_new", _u32, _board, _u32, _u32, _u32, _u32)
 _board_sit = _call("livevec_board_sit", _u32, _board, _seat)
+_board_take_back = _call("livevec_board_take_back", _u32, _board, _seat)
 _board_close = _call("livevec_board_close", _Count, _board)
 _closed_read = _call("livevec_closed_read", _u32, _board, _pointer, _size, ctypes.POINTER(_u32))
 _free_board = _call("livevec_free_board", _u32, _board)
@@ -525,7 +532,9 @@ class Job(_Handle):
     version: int
 
     def run(self) -> Outcome:
-        """Computes it. It can be run once: then it is Closed."""
+        """Computes it. It can be run once: then it is Closed, as is one that no vector filled in."""
+        if not hasattr(self, "node"):
+            raise _refuse(Closed.number)
         outcome = Outcome(self.node, self.version)
         refusal = _run(self._at, outcome._at)
         if refusal:
@@ -536,6 +545,8 @@ class Job(_Handle):
         _free(self._at)
 
     def __repr__(self) -> str:
+        if not hasattr(self, "node"):
+            return "<livevec.Job of nothing>"
         return f"<livevec.Job of {self.node} at version {self.version}>"
 
 
@@ -1007,8 +1018,8 @@ class Board(_Handle):
             raise _refuse(refusal)
 
     def sit(self) -> Seat:
-        """The next seat. A seat that was closed is not dealt again. Raises NoMemory, NoSeat."""
-        seat = Seat(self.kind)
+        """A seat of the board: one that nobody has yet, or one that was closed. Raises NoMemory, NoSeat."""
+        seat = Seat(self)
         refusal = _board_sit(self._at, seat._at)
         if refusal:
             raise _refuse(refusal)
@@ -1063,11 +1074,12 @@ class Seat(_Handle):
     has not happened: call again, now or after other work.
     """
 
-    __slots__ = ("kind", "_one")
+    __slots__ = ("kind", "_board", "_one")
     _made_of = _SeatSlot
 
-    def __init__(self, kind: Kind) -> None:
-        self.kind = kind
+    def __init__(self, board: Board) -> None:
+        self.kind = board.kind
+        self._board = board
         self._one = threading.Lock()
 
     def push(self, value: int, *, tries: int = _TRIES) -> int:
@@ -1107,8 +1119,8 @@ class Seat(_Handle):
         return Refreshed(did.edit, did.version)
 
     def close(self) -> None:
-        """Hands the seat in. Every later call raises Closed; to close again does nothing."""
-        self._alone(_free_seat)
+        """Gives the seat back to its board. Every later call raises Closed; to close again does nothing."""
+        self._alone(self._go)
 
     def __enter__(self) -> Seat:
         return self
@@ -1116,13 +1128,19 @@ class Seat(_Handle):
     def __exit__(self, *_: object) -> None:
         self.close()
 
-    def __del__(self, _free=_free_seat) -> None:  # type: ignore[no-untyped-def]
-        _free(self._at)
+    def __del__(self) -> None:
+        self._go(self._at)
 
     def __repr__(self) -> str:
         return f"<livevec.Seat of kind {self.kind.name.lower()}{'' if self._slot.full_ else ', closed'}>"
 
     # Within.
+
+    # Calls at a board keep the interpreter's lock, so that its slot serves one at a time. A board that is closed takes no seat back.
+    def _go(self, at, _take_back=_board_take_back, _free=_free_seat):  # type: ignore[no-untyped-def]
+        board = getattr(self, "_board", None)
+        if board is None or _take_back(board._at, at):
+            _free(at)
 
     def _alone(self, call, *arguments: int):  # type: ignore[no-untyped-def]
         """A call while no other is at the slot."""
@@ -1207,10 +1225,16 @@ def _is_plain(view: memoryview) -> bool:
 
 def _as_buffer(values: Iterable[int]) -> memoryview:
     """The elements as 64-bit numbers with a sign, side by side, where they may be written to. While the view lives they can't be resized."""
+    masked = sys.modules.get("numpy.ma")
+    if masked is not None and isinstance(values, masked.MaskedArray):
+        raise TypeError("a masked array may lack elements: hand in its compressed() or filled()")
     try:
         view = memoryview(values)  # type: ignore[arg-type]
     except TypeError:
         return memoryview(array("q", values))
+    except (ValueError, BufferError) as no_buffer:
+        # so numpy says that its dates and durations have no buffer
+        raise TypeError(f"elements are whole numbers: {no_buffer}") from None
     if _is_plain(view):
         return view if view.c_contiguous and not view.readonly else memoryview(array("q", view.tobytes()))
     if view.ndim != 1:

@@ -150,6 +150,11 @@ class Edits(unittest.TestCase):
         self.assertEqual(list(Vector(numpy.arange(6, dtype=">i2"))), [0, 1, 2, 3, 4, 5])
         for values in (numpy.arange(3.0), numpy.zeros((2, 2), dtype=numpy.int64), numpy.int64(3)):
             self.assertRaises(TypeError, Vector, values)
+        days = numpy.array(["2026-01-01"], dtype="datetime64[D]")
+        for values in (days, days - days, numpy.ma.masked_array([1, 2], mask=[False, True])):
+            with self.assertRaises(TypeError):
+                Vector(values)
+        self.assertEqual(list(Vector(numpy.ma.masked_array([1, 2], mask=[False, True]).compressed())), [1])
         held = numpy.asarray(Vector([1, 2]).to_array())
         self.assertEqual((held.dtype, held.tolist()), (numpy.int64, [1, 2]))
         room = numpy.zeros(5, dtype=numpy.int64)
@@ -362,6 +367,12 @@ print(vector.edits)
         for call in (copy.copy, copy.deepcopy, pickle.dumps):
             self.assertRaises(TypeError, call, v)
 
+    def test_a_job_of_nothing_is_shown_and_not_run(self):
+        job = livevec.Job()
+        self.assertEqual(repr(job), "<livevec.Job of nothing>")
+        with self.assertRaises(livevec.Closed):
+            job.run()
+
     def test_jobs_outlive_their_vector(self):
         v = Vector([1] * 8)
         job = v.claim()
@@ -430,6 +441,7 @@ class Boards(unittest.TestCase):
         board = Board(Kind.LEAST, seats=2)
         one, _two = board.sit(), board.sit()
         one.close()
+        _again = board.sit()
         with self.assertRaises(livevec.NoSeat):
             board.sit()
         self.assertEqual((repr(board), repr(one)), ("<livevec.Board of kind least>", "<livevec.Seat of kind least, closed>"))

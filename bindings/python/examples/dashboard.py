@@ -111,32 +111,40 @@ def rows(gauge: Gauge) -> list[Row]:
     return made
 
 
-def drawn(shown: list[Row], width: int = 800, height: int = 320) -> str:
-    """The rows as an SVG picture: the window's band, the mean on it, and the greatest climb in it below as bars."""
+def drawn(shown: list[Row], width: int = 800, height: int = 360) -> str:
+    """The rows as an SVG picture: the window's band with the mean on it, and the greatest climb in it below as bars. Labels stand left of both."""
     low, high = min(row.least for row in shown), max(row.greatest for row in shown)
     tallest = max(row.climb for row in shown) or 1
 
     def x(row: Row) -> int:
-        return 60 + round((row.at - BATCH) * (width - 80) / (READINGS - BATCH))
+        return 90 + round((row.at - BATCH) * (width - 110) / (READINGS - BATCH))
 
     def y(value: float) -> int:
-        return 20 + round((high - value) * 200 / (high - low))
+        return 24 + round((high - value) * 200 / (high - low))
 
     band = [f"{x(row)},{y(row.greatest)}" for row in shown] + [f"{x(row)},{y(row.least)}" for row in reversed(shown)]
     mean = [f"{x(row)},{y(row.mean)}" for row in shown]
     lines = [
         f'<svg xmlns="http://www.w3.org/2000/svg" viewBox="0 0 {width} {height}" font-family="sans-serif" font-size="11">',
         "<title>The last 1,000 readings, and the greatest climb in them</title>",
+        f'<rect width="{width}" height="{height}" fill="#ffffff"/>',
+        f'<path d="M80 24H{width - 12}M80 224H{width - 12}M80 324H{width - 12}" stroke="#d0d7de"/>',
         f'<polygon points="{" ".join(band)}" fill="#cfe2f3"/>',
         f'<polyline points="{" ".join(mean)}" fill="none" stroke="#1c4587" stroke-width="2"/>',
-        f'<text x="4" y="24">{high}</text>',
-        f'<text x="4" y="224">{low}</text>',
+        *label(24, f"{high:,}"), *label(128, "readings", "#1c4587"), *label(224, f"{low:,}"),
+        *label(264, f"{tallest:,}"), *label(294, "climb", "#38761d"), *label(324, "0"),
     ]
     for row in shown:
         tall = round(row.climb * 60 / tallest)
-        lines.append(f'<rect x="{x(row) - 6}" y="{300 - tall}" width="12" height="{tall}" fill="#6aa84f"><title>{row.at}: mean {row.mean:.2f}, '
+        lines.append(f'<rect x="{x(row) - 6}" y="{324 - tall}" width="12" height="{tall}" fill="#6aa84f"><title>{row.at}: mean {row.mean:.2f}, '
                      f"least {row.least}, greatest {row.greatest}, climb {row.climb}</title></rect>")
-    return "\n".join([*lines, f'<text x="4" y="304">climb {tallest}</text>', "</svg>", ""])
+    lines += [f'<text x="{x(row)}" y="344" text-anchor="middle" fill="#57606a">{row.at:,}</text>' for row in shown[3::4]]
+    return "\n".join([*lines, "</svg>", ""])
+
+
+def label(middle: int, text: str, fill: str = "#57606a") -> list[str]:
+    """A text left of the picture, at this height."""
+    return [f'<text x="72" y="{middle + 4}" text-anchor="end" fill="{fill}">{text}</text>']
 
 
 def main() -> None:

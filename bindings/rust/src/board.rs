@@ -59,7 +59,7 @@ impl Board {
         Ok(Board { raw: raw::Board::new(kind as u32, limits.buckets(), limits.edits(), seats)?, kind })
     }
 
-    /// The next seat. A seat that was dropped is not dealt again. Refused with `NoMemory`, `NoSeat`.
+    /// A seat of the board: one that nobody has yet, or one that was dropped. Refused with `NoMemory`, `NoSeat`.
     pub fn sit(&mut self) -> Result<Seat, Refusal> {
         Ok(Seat { raw: self.raw.sit()?, kind: self.kind })
     }
@@ -169,7 +169,7 @@ pub struct Refreshed {
     pub version: u32,
 }
 
-/// A thread's place at a [`Board`]. Seats of one board are used at once on several threads; a drop hands the seat in.
+/// A thread's place at a [`Board`]. Seats of one board are used at once on several threads; a drop gives the seat back to its board.
 ///
 /// An edit is tried at most `tries` times, where 0 counts as 1; the pauses between are of microseconds at most. Reads make one try. What is
 /// refused with `Contended` or `Overtaken` has not happened, and may be called again: see [`Refusal::is_outrun`].

@@ -9,7 +9,9 @@
 use std::alloc::{Layout, alloc};
 use std::cell::UnsafeCell;
 use std::ffi::c_void;
+use std::mem::ManuallyDrop;
 use std::ptr;
+use std::sync::{Arc, Mutex, MutexGuard, PoisonError};
 
 use crate::{Edit, Refusal};
 
@@ -18,12 +20,13 @@ use crate::{Edit, Refusal};
 struct Slot {
     full: bool,
     at: *mut c_void,
+    busy: u8,
 }
 
 impl Slot {
     /// All zeros.
     fn empty() -> UnsafeCell<Slot> {
-        UnsafeCell::new(Slot { full: false, at: ptr::null_mut() })
+        UnsafeCell::new(Slot { full: false, at: ptr::null_mut(), busy: 0 })
     }
 }
 
@@ -162,6 +165,7 @@ unsafe extern "C" {
     fn livevec_verdict_truncate(slot: *mut Slot, elements: u32) -> Verdict;
     fn livevec_board_new(slot: *mut Slot, kind: u32, buckets: u32, edits: u32, seats: u32) -> u32;
     fn livevec_board_sit(board: *mut Slot, seat: *mut Slot) -> u32;
+    fn livevec_board_take_back(board: *mut Slot, seat: *mut Slot) -> u32;
     fn livevec_board_close(board: *mut Slot) -> Count;
     fn livevec_closed_size(board: *mut Slot) -> Count;
     fn livevec_closed_get(board: *mut Slot, index: u32) -> Element;
@@ -431,9 +435,14 @@ pub(crate) struct Outcome {
 // two vectors on two threads could be handed the same outcome.
 unsafe impl Send for Outcome {}
 
+/// The slots of the seats of a board that were dropped. Each goes back before the board's next call: a drop may be on any thread, and the
+/// board's slot serves one call at a time.
+type Dropped = Arc<Mutex<Vec<SeatSlot>>>;
+
 /// A board of C, open or closed. Its slot is full from `new` to the drop.
 pub(crate) struct Board {
     slot: Box<UnsafeCell<Slot>>,
+    dropped: Dropped,
 }
 
 // SAFETY: between calls a slot may go to another thread, says the header. A `Board` that is sent is owned, so no call of it is under way;
@@ -445,21 +454,35 @@ impl Board {
         let slot = boxed(Slot::empty())?;
         // SAFETY: the slot is empty, and lies in its box until it is dropped.
         answered(unsafe { livevec_board_new(slot.get(), kind, buckets, edits, seats) }, 0, ())?;
-        Ok(Board { slot })
+        let board = Board { slot, dropped: Dropped::default() };
+        // room for all seats, so that the drop of one takes no memory
+        let room = held(&board.dropped).try_reserve_exact(seats as usize);
+        room.map_err(|_| Refusal::NoMemory)?;
+        Ok(board)
     }
 
     // For each call below: the slot is full, since `self` was made, and no other call is at it, since `self` is not `Sync` and C never
     // calls back. Which calls an open or a closed board answers C tells by refusal.
 
+    /// Takes back the seats that were dropped.
+    fn gather(&mut self) {
+        for seat in held(&self.dropped).drain(..) {
+            // SAFETY: see above; the seat's slot is full, and nothing else uses it any more.
+            unsafe { livevec_board_take_back(self.slot.get(), seat.0.get()) };
+        }
+    }
+
     pub(crate) fn sit(&mut self) -> Result<Seat, Refusal> {
+        self.gather();
         let slot = boxed(Slot::empty())?;
         // SAFETY: see above; the seat's slot is empty, and lies in its box until it is dropped.
         answered(unsafe { livevec_board_sit(self.slot.get(), slot.get()) }, 0, ())?;
-        Ok(Seat { slot })
+        Ok(Seat { slot: ManuallyDrop::new(SeatSlot(slot)), dropped: self.dropped.clone() })
     }
 
     /// Closes the board, and tells how many edits were accepted.
     pub(crate) fn close(&mut self) -> Result<u32, Refusal> {
+        self.gather();
         // SAFETY: see above.
         let told = unsafe { livevec_board_close(self.slot.get()) };
         answered(told.refusal, 0, told.value)
@@ -493,14 +516,29 @@ impl Drop for Board {
     }
 }
 
-/// A seat of C. Its slot is full from `sit` to the drop.
-pub(crate) struct Seat {
-    slot: Box<UnsafeCell<Slot>>,
+/// What the lock holds, also where a thread panicked that had it: a list of slots is never left half changed.
+fn held(dropped: &Dropped) -> MutexGuard<'_, Vec<SeatSlot>> {
+    dropped.lock().unwrap_or_else(PoisonError::into_inner)
 }
 
-// SAFETY: each seat has a slot of its own, and calls at several seats of a board may run at once on several threads, says the header.
-// A `Seat` that is sent is owned, so no call of it is under way. It is not `Sync`, by its cell.
-unsafe impl Send for Seat {}
+/// The slot of a seat, which is full until the board has the seat back. Else the seat is freed.
+struct SeatSlot(Box<UnsafeCell<Slot>>);
+
+// SAFETY: between calls a slot may go to another thread, says the header. One that is sent is owned, so no call of it is under way.
+unsafe impl Send for SeatSlot {}
+
+impl Drop for SeatSlot {
+    fn drop(&mut self) {
+        // SAFETY: nothing calls the slot any more; where it is empty, C refuses.
+        unsafe { livevec_free_seat(self.0.get()) };
+    }
+}
+
+/// A seat of C. Its slot is full from `sit` to the drop, which hands it to the board.
+pub(crate) struct Seat {
+    slot: ManuallyDrop<SeatSlot>,
+    dropped: Dropped,
+}
 
 impl Seat {
     // For each call below: the slot is full, since `self` was made, and no other call is at it, since `self` is not `Sync` and C never
@@ -508,49 +546,50 @@ impl Seat {
 
     pub(crate) fn push(&mut self, value: i64, tries: u32) -> Result<Edited, Refusal> {
         // SAFETY: see above.
-        let did = unsafe { livevec_seat_push(self.slot.get(), value, tries) };
+        let did = unsafe { livevec_seat_push(self.slot.0.get(), value, tries) };
         answered(did.refusal, did.detail, did)
     }
 
     pub(crate) fn pop(&mut self, tries: u32) -> Result<Edited, Refusal> {
         // SAFETY: see above.
-        let did = unsafe { livevec_seat_pop(self.slot.get(), tries) };
+        let did = unsafe { livevec_seat_pop(self.slot.0.get(), tries) };
         answered(did.refusal, did.detail, did)
     }
 
     pub(crate) fn write(&mut self, index: u32, value: i64, tries: u32) -> Result<Edited, Refusal> {
         // SAFETY: see above.
-        let did = unsafe { livevec_seat_write(self.slot.get(), index, value, tries) };
+        let did = unsafe { livevec_seat_write(self.slot.0.get(), index, value, tries) };
         answered(did.refusal, did.detail, did)
     }
 
     pub(crate) fn get(&self, index: u32) -> Result<i64, Refusal> {
         // SAFETY: see above.
-        let found = unsafe { livevec_seat_get(self.slot.get(), index) };
+        let found = unsafe { livevec_seat_get(self.slot.0.get(), index) };
         answered(found.refusal, found.detail, found.value)
     }
 
     pub(crate) fn size(&self) -> u32 {
         // SAFETY: see above.
-        unsafe { livevec_seat_size(self.slot.get()) }.value
+        unsafe { livevec_seat_size(self.slot.0.get()) }.value
     }
 
     pub(crate) fn reduce(&self, lo: u32, hi: u32) -> Result<Reduced, Refusal> {
         // SAFETY: see above.
-        let did = unsafe { livevec_seat_reduce(self.slot.get(), lo, hi) };
+        let did = unsafe { livevec_seat_reduce(self.slot.0.get(), lo, hi) };
         answered(did.refusal, did.detail, did)
     }
 
     pub(crate) fn refresh(&self, block: u32) -> Result<Renewed, Refusal> {
         // SAFETY: see above.
-        let did = unsafe { livevec_seat_refresh(self.slot.get(), block) };
+        let did = unsafe { livevec_seat_refresh(self.slot.0.get(), block) };
         answered(did.refusal, did.detail, did)
     }
 }
 
 impl Drop for Seat {
     fn drop(&mut self) {
-        // SAFETY: the slot is full, and nothing calls it any more.
-        unsafe { livevec_free_seat(self.slot.get()) };
+        // SAFETY: the slot is taken once, here, and nothing uses the seat any more.
+        let slot = unsafe { ManuallyDrop::take(&mut self.slot) };
+        held(&self.dropped).push(slot);
     }
 }

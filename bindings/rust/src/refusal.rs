@@ -62,10 +62,12 @@ pub enum Refusal {
         /// How many values it should take.
         wanted: u32,
     },
-    /// 105: as many seats were taken as the board was made for.
+    /// 105: somebody has each of the board's seats.
     NoSeat,
     /// 106: a seat of the board is not dropped yet.
     SeatsOut,
+    /// 108: another call is under way at the slot. No value of this crate can be called twice at once.
+    Busy,
     /// Any other number. No call of this crate gives it today.
     Other {
         /// The number.
@@ -93,6 +95,7 @@ impl Refusal {
             103 => Refusal::ShortBuffer { wanted: detail },
             105 => Refusal::NoSeat,
             106 => Refusal::SeatsOut,
+            108 => Refusal::Busy,
             number => Refusal::Other { number },
         }
     }
@@ -116,6 +119,7 @@ impl Refusal {
             Refusal::ShortBuffer { .. } => 103,
             Refusal::NoSeat => 105,
             Refusal::SeatsOut => 106,
+            Refusal::Busy => 108,
             Refusal::Other { number } => number,
         }
     }
@@ -158,6 +162,7 @@ impl fmt::Display for Refusal {
             Refusal::Overtaken { edit } => write!(f, "overtaken: edit {edit} wrote there"),
             Refusal::NoSeat => f.write_str("no seat is left"),
             Refusal::SeatsOut => f.write_str("seats are out"),
+            Refusal::Busy => f.write_str("another call is under way"),
             Refusal::ShortBuffer { wanted } => write!(f, "a buffer shorter than the {wanted} values"),
             Refusal::Other { number } => write!(f, "refused {number}"),
         }

@@ -19,8 +19,9 @@ fn a_board_has_limits_and_seats() {
     let (one, _two) = (board.sit().unwrap(), board.sit().unwrap());
     assert_eq!(board.sit().err(), Some(Refusal::NoSeat));
     drop(one);
+    let again = board.sit().unwrap();
     assert_eq!(board.sit().err(), Some(Refusal::NoSeat));
-    assert_eq!(board.kind(), Kind::Affine);
+    assert_eq!((board.kind(), again.len()), (Kind::Affine, 0));
 }
 
 #[test]

@@ -12,8 +12,8 @@ use Rattle.livevec_c.specs.declared.objects.Object.{Object}
 use Rattle.livevec_c.specs.Kinds.{kept_as}
 use Rattle.livevec_c.specs.Lives.{OpensBoardAt}
 
-pub newly_alike : (limits : Bounds) (seats : ℕ) (t u : List (List ℕ)) (new : Shared) → t ≡ u → IsNewlyShared limits seats (kept_as 1 automaton_parts (automaton_operations t)) kind.Automaton (plain_value_with t kind.Automaton) new → IsNewlyShared limits seats (kept_as 1 automaton_parts (automaton_operations u)) kind.Automaton (plain_value_with u kind.Automaton) new
-newly_alike limits seats t u new same is = subst (λ v. IsNewlyShared limits seats (kept_as 1 automaton_parts (automaton_operations v)) kind.Automaton (plain_value_with v kind.Automaton) new) same is
+pub newly_alike : (limits : Bounds) (seats stamp : ℕ) (t u : List (List ℕ)) (new : Shared) → t ≡ u → IsNewlyShared limits seats stamp (kept_as 1 automaton_parts (automaton_operations t)) kind.Automaton (plain_value_with t kind.Automaton) new → IsNewlyShared limits seats stamp (kept_as 1 automaton_parts (automaton_operations u)) kind.Automaton (plain_value_with u kind.Automaton) new
+newly_alike limits seats stamp t u new same is = subst (λ v. IsNewlyShared limits seats stamp (kept_as 1 automaton_parts (automaton_operations v)) kind.Automaton (plain_value_with v kind.Automaton) new) same is
 
-pub board_alike : (kind : Kind) (k l : Bounds) (seats number : ℕ) (new : Option Object) → k ≡ l → OpensBoardAt kind k seats number new → OpensBoardAt kind l seats number new
-board_alike kind k l seats number new same opens = subst (λ j. OpensBoardAt kind j seats number new) same opens
+pub board_alike : (kind : Kind) (k l : Bounds) (seats stamp number : ℕ) (new : Option Object) → k ≡ l → OpensBoardAt kind k seats stamp number new → OpensBoardAt kind l seats stamp number new
+board_alike kind k l seats stamp number new same opens = subst (λ j. OpensBoardAt kind j seats stamp number new) same opens

@@ -1,5 +1,5 @@
 -- A board and a seat of any of the six kinds: what they are, and what they know.
-use Rattle.std.specs.Prelude.{ℕ, ℤ, Option, List, [], ◌∷◌, slice_get}
+use Rattle.std.specs.Prelude.{◌≡◌, ℕ, ℤ, Option, List, [], ◌∷◌, slice_get}
 use Rattle.lv_bodies.specs.declared.kinds.Kind.{Kind}
 use Rattle.lv_bodies.specs.declared.kinds.Kind.TheVariants as kind
 use Rattle.lv_bodies.specs.AffineMaps.{affine_operations}
@@ -13,7 +13,7 @@ use Rattle.lv_bodies.specs.Sums.{sum_operations}
 use Rattle.lv_bodies.specs.Tables.{automaton_operations}
 use Rattle.lv_machine.specs.Terms.{Folding}
 use Rattle.lv_board.specs.Rule.{folds}
-use Rattle.lv_board.specs.Sharing.{Sat, sat_of, Shared, shared_of}
+use Rattle.lv_board.specs.Sharing.{IsOut, Sat, sat_of, Shared, shared_of}
 use Rattle.livevec_c.specs.declared.kind_boards.KindBoard.{KindBoard}
 use Rattle.livevec_c.specs.declared.kind_boards.KindBoard.TheVariants as boards
 use Rattle.livevec_c.specs.declared.kind_seats.KindSeat.{KindSeat}
@@ -45,7 +45,7 @@ sat_at (seats.Best s) = sat_of 4 best_parts (λ _. best_operations) kind.Best (�
 sat_at (seats.Affine s) = sat_of 2 affine_parts (λ _. affine_operations) kind.Affine (λ _. plain_value kind.Affine) s
 sat_at (seats.Automaton s) = sat_of 1 automaton_parts (λ a. automaton_operations (table_of a)) kind.Automaton (λ a. plain_value_with (table_of a) kind.Automaton) s
 
--- which board it is, and what the seats know that nobody has taken
+-- which board it is, and what the seats know that are there
 abbrev pub shared_at : KindBoard → Shared
 shared_at (boards.Sum o) = shared_of 1 sum_parts (λ _. sum_operations) kind.Sum (λ _. plain_value kind.Sum) o
 shared_at (boards.Least o) = shared_of 1 extreme_parts (λ _. least_operations) kind.Least (λ _. plain_value kind.Least) o
@@ -53,3 +53,17 @@ shared_at (boards.Greatest o) = shared_of 1 extreme_parts (λ _. greatest_operat
 shared_at (boards.Best o) = shared_of 4 best_parts (λ _. best_operations) kind.Best (λ _. plain_value kind.Best) o
 shared_at (boards.Affine o) = shared_of 2 affine_parts (λ _. affine_operations) kind.Affine (λ _. plain_value kind.Affine) o
 shared_at (boards.Automaton o) = shared_of 1 automaton_parts (λ a. automaton_operations (table_of a)) kind.Automaton (λ a. plain_value_with (table_of a) kind.Automaton) o
+
+-- a seat of the board, and none that is there has its number
+abbrev pub IsOutOf : KindBoard → KindSeat → Type 0
+IsOutOf (boards.Sum o) (seats.Sum s) = IsOut o s
+IsOutOf (boards.Least o) (seats.Least s) = IsOut o s
+IsOutOf (boards.Greatest o) (seats.Greatest s) = IsOut o s
+IsOutOf (boards.Best o) (seats.Best s) = IsOut o s
+IsOutOf (boards.Affine o) (seats.Affine s) = IsOut o s
+IsOutOf (boards.Automaton o) (seats.Automaton s) = IsOut o s
+IsOutOf _ _ = ⊥
+
+-- a seat that has the stamp of a board is one of that board's: so it is where each board has a stamp of its own
+abbrev pub HasOwnStamp : KindBoard → KindSeat → Type 0
+HasOwnStamp o s = (sat_at s).stamp ≡ (shared_at o).stamp → IsOutOf o s

@@ -1,5 +1,5 @@
 -- How vectors and boards behind slots begin, and how a board ends.
-use Rattle.std.specs.Prelude.{◌≡◌, ◌⊎◌, ◌<◌, ◌≤◌, ℕ, Option, Some, None, List, [], length, All, Any}
+use Rattle.std.specs.Prelude.{◌≡◌, ◌≢◌, ◌⊎◌, ◌<◌, ◌≤◌, ℕ, Option, Some, None, List, [], length, All, Any}
 use Rattle.lv_geometry.specs.Bounds.{AreAllowed, Bounds}
 use Rattle.lv_geometry.specs.declared.nodes.Node.{Node}
 use Rattle.lv_bodies.specs.declared.kinds.Kind.{Kind}
@@ -8,9 +8,11 @@ use Rattle.lv_bodies.specs.Plain.{plain_value}
 use Rattle.lv_edits.specs.Kept.{IsLegalInLimits}
 use Rattle.lv_live.specs.State.{recorded}
 use Rattle.lv_board.specs.Opening.{MayOpen}
+use Rattle.lv_board.specs.declared.sharing.Unclosed.{Unclosed}
+use Rattle.lv_board.specs.declared.sharing.Unclosed.TheVariants as unclosed
 use Rattle.lv_board.specs.declared.sharing.Unseated.{Unseated}
 use Rattle.lv_board.specs.declared.sharing.Unseated.TheVariants.{NoMemory, NoSeat}
-use Rattle.lv_board.specs.Sharing.{IsClosedShared, IsNewlyShared, Sits}
+use Rattle.lv_board.specs.Sharing.{IsBack, IsClosedShared, IsNewlyShared, IsUnclosed, Sits}
 use Rattle.livevec_c.specs.declared.ended.Ended.{Ended}
 use Rattle.livevec_c.specs.declared.kind_boards.KindBoard.{KindBoard}
 use Rattle.livevec_c.specs.declared.kind_seats.KindSeat.{KindSeat}
@@ -20,7 +22,7 @@ use Rattle.livevec_c.specs.declared.results.Count.{Count}
 use Rattle.livevec_c.specs.declared.results.Element.{Element}
 use Rattle.livevec_c.specs.Answers.{element_by, element_in, no_element}
 use Rattle.livevec_c.specs.Behind.{no_count, State}
-use Rattle.livevec_c.specs.Kinds.{folding_of, kind_at, sat_at, shared_at}
+use Rattle.livevec_c.specs.Kinds.{folding_of, HasOwnStamp, IsOutOf, kind_at, sat_at, shared_at}
 
 -- a vector of these limits and of an automaton of this table, with no edits, no claims and nothing kept
 pub record IsNew (limits : Bounds) (table : List (List ℕ)) (state : State) : Type 0 where
@@ -56,35 +58,35 @@ OpensWith table buckets edits number None new =
 -- ---- boards
 
 -- a slot that was empty holds a new board of a kind, or it is empty, for want of memory or for what was asked
-abbrev pub OpensBoardAt : Kind → Bounds → ℕ → ℕ → Option Object → Type 0
-OpensBoardAt kind limits seats number new =
+abbrev pub OpensBoardAt : Kind → Bounds → ℕ → ℕ → ℕ → Option Object → Type 0
+OpensBoardAt kind limits seats stamp number new =
     ((number ≡ 8) × (¬ MayOpen limits seats) × (new ≡ None))
     ⊎ ((number ≡ 6) × MayOpen limits seats × (new ≡ None))
-    ⊎ ((number ≡ 0) × ((board : KindBoard) × (new ≡ Some (Board board)) × IsNewlyShared limits seats (folding_of kind) kind (plain_value kind) (shared_at board)))
+    ⊎ ((number ≡ 0) × ((board : KindBoard) × (new ≡ Some (Board board)) × IsNewlyShared limits seats stamp (folding_of kind) kind (plain_value kind) (shared_at board)))
 
 -- the same, where what is asked for the kind may be none
-abbrev pub OpensBoardOf : Option Kind → ℕ → ℕ → ℕ → ℕ → Option Object → Type 0
-OpensBoardOf None buckets edits seats number new = (number ≡ 8) × (new ≡ None)
-OpensBoardOf (Some kind) buckets edits seats number new =
+abbrev pub OpensBoardOf : Option Kind → ℕ → ℕ → ℕ → ℕ → ℕ → Option Object → Type 0
+OpensBoardOf None buckets edits seats stamp number new = (number ≡ 8) × (new ≡ None)
+OpensBoardOf (Some kind) buckets edits seats stamp number new =
     ((number ≡ 8) × (¬ AreAllowed buckets edits) × (new ≡ None))
-    ⊎ (AreAllowed buckets edits × OpensBoardAt kind (record { buckets = buckets; edits = edits }) seats number new)
+    ⊎ (AreAllowed buckets edits × OpensBoardAt kind (record { buckets = buckets; edits = edits }) seats stamp number new)
 
 -- a new board for a slot
-abbrev pub OpensBoard : ℕ → ℕ → ℕ → ℕ → ℕ → Option Object → Option Object → Type 0
-OpensBoard kind buckets edits seats number (Some object) new = (number ≡ 104) × (new ≡ Some object)
-OpensBoard kind buckets edits seats number None new = OpensBoardOf (kind_at kind) buckets edits seats number new
+abbrev pub OpensBoard : ℕ → ℕ → ℕ → ℕ → ℕ → ℕ → Option Object → Option Object → Type 0
+OpensBoard kind buckets edits seats stamp number (Some object) new = (number ≡ 104) × (new ≡ Some object)
+OpensBoard kind buckets edits seats stamp number None new = OpensBoardOf (kind_at kind) buckets edits seats stamp number new
 
 -- the number for why nobody sits down
 abbrev pub seatless : Unseated → ℕ
 seatless NoSeat = 105
 seatless NoMemory = 6
 
--- the first of the seats that were there lies behind a slot, or none does: for want of memory, or because all were taken
+-- the first of the seats that were there lies behind a slot, or none does: for want of memory, or because none was there
 abbrev pub SitsBoard : ℕ → KindBoard → KindBoard → Option Object → Type 0
 SitsBoard number old new slot =
     ((number ≡ 6) × (shared_at new ≡ shared_at old) × (slot ≡ None))
     ⊎ ((number ≡ 105) × ((shared_at old).left ≡ []) × (shared_at new ≡ shared_at old) × (slot ≡ None))
-    ⊎ ((number ≡ 0) × ((seat : KindSeat) × (slot ≡ Some (Seat seat)) × Sits (shared_at old) (sat_at seat) (shared_at new)))
+    ⊎ ((number ≡ 0) × ((seat : KindSeat) × (slot ≡ Some (Seat seat)) × Sits (shared_at old) (sat_at seat) (shared_at new) × IsOutOf new seat))
 
 abbrev pub SitsObject : ℕ → Object → Object → Option Object → Type 0
 SitsObject number (Board old) new slot = (board : KindBoard) × (new ≡ Board board) × SitsBoard number old board slot
@@ -99,11 +101,58 @@ abbrev pub SitsDown : ℕ → Option Object → Option Object → Option Object 
 SitsDown number old (Some object) new slot = (number ≡ 104) × (new ≡ old) × (slot ≡ Some object)
 SitsDown number old None new slot = SitsInto number old new slot
 
--- a board was closed, and its slot holds what the vector was; or it is as it was, for want of memory or because a seat is out
+-- a seat was taken back, and its slot is empty; or it is another board's, and all is as it was
+abbrev pub TakesBackAt : ℕ → KindBoard → KindSeat → KindBoard → Option Object → Type 0
+TakesBackAt number old seat new slot =
+    ((number ≡ 0) × IsBack (shared_at old) (sat_at seat) (shared_at new) × (slot ≡ None))
+    ⊎ ((number ≡ 107) × ((sat_at seat).stamp ≢ (shared_at old).stamp) × (shared_at new ≡ shared_at old) × ((same : KindSeat) × (slot ≡ Some (Seat same)) × (sat_at same ≡ sat_at seat)))
+
+abbrev pub TakesBackObject : ℕ → KindBoard → Object → KindBoard → Option Object → Type 0
+TakesBackObject number old (Seat seat) new slot = TakesBackAt number old seat new slot
+TakesBackObject number old other new slot = (number ≡ 101) × (new ≡ old) × (slot ≡ Some other)
+
+-- the same at an object, which is to be a board
+abbrev pub TakesBackBy : ℕ → Object → Object → Object → Option Object → Type 0
+TakesBackBy number (Board old) seat new slot = (board : KindBoard) × (new ≡ Board board) × TakesBackObject number old seat board slot
+TakesBackBy number other seat new slot = (number ≡ 101) × (new ≡ other) × (slot ≡ Some seat)
+
+-- the same at what lies behind the board's slot, and behind the seat's
+abbrev pub TakesBackFrom : ℕ → Option Object → Object → Option Object → Option Object → Type 0
+TakesBackFrom number None seat new slot = (number ≡ 101) × (new ≡ None) × (slot ≡ Some seat)
+TakesBackFrom number (Some old) seat new slot = (object : Object) × (new ≡ Some object) × TakesBackBy number old seat object slot
+
+abbrev pub TakesBack : ℕ → Option Object → Option Object → Option Object → Option Object → Type 0
+TakesBack number old None new slot = (number ≡ 101) × (new ≡ old) × (slot ≡ None)
+TakesBack number old (Some seat) new slot = TakesBackFrom number old seat new slot
+
+-- what who takes a seat back owes: where a board and a seat lie behind the slots, one stamp is of one board
+abbrev pub OwnStampAt : KindBoard → Object → Type 0
+OwnStampAt board (Seat seat) = HasOwnStamp board seat
+OwnStampAt board other = Unit {0}
+
+abbrev pub OwnStampBy : Object → Object → Type 0
+OwnStampBy (Board board) seat = OwnStampAt board seat
+OwnStampBy other seat = Unit {0}
+
+abbrev pub OwnStampFrom : Option Object → Object → Type 0
+OwnStampFrom None seat = Unit {0}
+OwnStampFrom (Some object) seat = OwnStampBy object seat
+
+abbrev pub OwnStamp : Option Object → Option Object → Type 0
+OwnStamp board None = Unit {0}
+OwnStamp board (Some seat) = OwnStampFrom board seat
+
+-- the answer for why a board stays open
+abbrev pub unclosed_for : Unclosed → Count
+unclosed_for unclosed.NoMemory = record { refusal = 6; value = 0 }
+unclosed_for unclosed.SeatsOut = record { refusal = 106; value = 0 }
+
+-- a board was closed, and its slot holds what the vector was; or it is as it was, because a seat isn't there, or for want of memory, which is found
+-- only where all are there
 abbrev pub ClosesBoard : Count → KindBoard → Object → Type 0
 ClosesBoard answer old new =
     ((ended : Ended) × (new ≡ Closed ended) × (answer ≡ record { refusal = 0; value = ended.closed.edit }) × IsClosedShared (shared_at old) ended.closed)
-    ⊎ ((same : KindBoard) × (new ≡ Board same) × (shared_at same ≡ shared_at old) × ((answer ≡ record { refusal = 6; value = 0 }) ⊎ (answer ≡ record { refusal = 106; value = 0 })))
+    ⊎ ((same : KindBoard) × (new ≡ Board same) × (shared_at same ≡ shared_at old) × ((why : Unclosed) × (answer ≡ unclosed_for why) × IsUnclosed (shared_at old) why))
 
 abbrev pub ClosesObject : Count → Object → Object → Type 0
 ClosesObject answer (Board old) new = ClosesBoard answer old new

@@ -1,23 +1,24 @@
-//! Boards that threads share: how one is opened, and how a seat is taken.
-ghost use Rattle.std.specs.Prelude.{◌≡◌, ◌⊎◌, Some, None, IfOk, IfErr};
+//! Boards that threads share: how one is opened, and how a seat is taken and given back.
+ghost use Rattle.std.specs.Prelude.{◌≡◌, ◌≢◌, ◌⊎◌, Some, None, IfOk, IfErr, OnOk};
 ghost use Rattle.lv_bodies.specs.Plain.{plain_value};
 ghost use Rattle.lv_board.specs.Opening.{IsOpeningRefusal};
-ghost use Rattle.lv_board.specs.Sharing.{IsNewlyShared, IsUnseated, Sits};
+ghost use Rattle.lv_board.specs.Sharing.{IsBack, IsNewlyShared, IsUnseated, Sits};
 ghost use Rattle.livevec_c.specs.declared.objects.Object.TheVariants as behind;
-ghost use Rattle.livevec_c.specs.Kinds.{folding_of, kind_at, sat_at, shared_at};
-ghost use Rattle.livevec_c.specs.Lives.{OpensBoard, OpensBoardAt, seatless, SitsBoard, SitsDown, SitsObject};
+ghost use Rattle.livevec_c.specs.Kinds.{folding_of, HasOwnStamp, IsOutOf, kind_at, sat_at, shared_at};
+ghost use Rattle.livevec_c.specs.Lives.{OpensBoard, OpensBoardAt, OwnStamp, OwnStampAt, OwnStampBy, OwnStampFrom, seatless, SitsBoard, SitsDown, SitsObject, TakesBack, TakesBackBy, TakesBackFrom, TakesBackObject};
 
 use crate::jobs::refilled;
 use crate::kind_boards::KindBoard;
 use crate::kind_seats::KindSeat;
 use crate::lifetimes::new_vector;
-use crate::objects::Object;
-use crate::results::{BAD_LIMITS, IN_USE, NO_HANDLE, NO_MEMORY, NO_SEAT};
+use crate::objects::{Object, nothing};
+use crate::results::{BAD_LIMITS, IN_USE, NO_HANDLE, NO_MEMORY, NO_SEAT, OTHER_BOARD};
 use crate::slots::{Slot, is_full, put, take};
 use lv_board::{Opened, Unseated};
 use lv_bodies::{Affine, Automaton, Best, Greatest, Kind, Least, Sum};
 use lv_geometry::{Limits, Refusal};
 use std::alloc::{AllocError, Global};
+use std::mem;
 
 // The kind of a number.
 fn kind_of(number: u32) -> Option<Kind>
@@ -35,32 +36,38 @@ fn kind_of(number: u32) -> Option<Kind>
 }
 
 // A new board of a kind.
-fn open_kind(alloc: Global, kind: Kind, limits: Limits, seats: u32) -> Result<KindBoard, Refusal>
-    ensures ok { IfOk result (λ b. IsNewlyShared limits seats (folding_of kind) kind (plain_value kind) (shared_at b)) }
+fn open_kind(
+    alloc: Global,
+    kind: Kind,
+    limits: Limits,
+    seats: u32,
+    stamp: u64,
+) -> Result<KindBoard, Refusal>
+    ensures ok { IfOk result (λ b. IsNewlyShared limits seats stamp (folding_of kind) kind (plain_value kind) (shared_at b)) }
     ensures err { IfErr result (λ refusal. IsOpeningRefusal limits seats refusal) }
 {
     match kind {
-        Kind::Sum => match Opened::new(alloc, limits, seats, Sum) {
+        Kind::Sum => match Opened::new(alloc, limits, seats, Sum, stamp) {
             Ok(board) => Ok(KindBoard::Sum(board)),
             Err(refusal) => Err(refusal),
         },
-        Kind::Least => match Opened::new(alloc, limits, seats, Least) {
+        Kind::Least => match Opened::new(alloc, limits, seats, Least, stamp) {
             Ok(board) => Ok(KindBoard::Least(board)),
             Err(refusal) => Err(refusal),
         },
-        Kind::Greatest => match Opened::new(alloc, limits, seats, Greatest) {
+        Kind::Greatest => match Opened::new(alloc, limits, seats, Greatest, stamp) {
             Ok(board) => Ok(KindBoard::Greatest(board)),
             Err(refusal) => Err(refusal),
         },
-        Kind::Best => match Opened::new(alloc, limits, seats, Best) {
+        Kind::Best => match Opened::new(alloc, limits, seats, Best, stamp) {
             Ok(board) => Ok(KindBoard::Best(board)),
             Err(refusal) => Err(refusal),
         },
-        Kind::Affine => match Opened::new(alloc, limits, seats, Affine) {
+        Kind::Affine => match Opened::new(alloc, limits, seats, Affine, stamp) {
             Ok(board) => Ok(KindBoard::Affine(board)),
             Err(refusal) => Err(refusal),
         },
-        Kind::Automaton => match Opened::new(alloc, limits, seats, Automaton::program()) {
+        Kind::Automaton => match Opened::new(alloc, limits, seats, Automaton::program(), stamp) {
             Ok(board) => Ok(KindBoard::Automaton(board)),
             Err(refusal) => Err(refusal),
         },
@@ -89,17 +96,24 @@ fn house(alloc: Global, slot: &mut Slot, board: KindBoard) -> u32
 }
 
 // Puts a new board into an empty slot.
-fn open_board(alloc: Global, slot: &mut Slot, kind: Kind, limits: Limits, seats: u32) -> u32
+fn open_board(
+    alloc: Global,
+    slot: &mut Slot,
+    kind: Kind,
+    limits: Limits,
+    seats: u32,
+    stamp: u64,
+) -> u32
     requires { slot.old.raw.inner ≡ None }
-    ensures { OpensBoardAt kind limits seats result slot.new.raw.inner }
+    ensures { OpensBoardAt kind limits seats stamp result slot.new.raw.inner }
 {
-    match open_kind(alloc, kind, limits, seats) {
+    match open_kind(alloc, kind, limits, seats, stamp) {
         Err(refusal) => refusal.number(),
         Ok(board) => house(alloc, slot, board),
     }
 }
 
-/// Puts a new board with so many seats into an empty slot.
+/// Puts a new board with so many seats into an empty slot. Who calls owes each board a stamp of its own.
 #[unsafe(no_mangle)]
 pub extern "C" fn livevec_proved_board_new(
     alloc: Global,
@@ -108,8 +122,9 @@ pub extern "C" fn livevec_proved_board_new(
     buckets: u32,
     edits: u32,
     seats: u32,
+    stamp: u64,
 ) -> u32
-    ensures { OpensBoard kind buckets edits seats result slot.old.raw.inner slot.new.raw.inner }
+    ensures { OpensBoard kind buckets edits seats stamp result slot.old.raw.inner slot.new.raw.inner }
 {
     if is_full(slot) {
         return IN_USE;
@@ -119,13 +134,14 @@ pub extern "C" fn livevec_proved_board_new(
     };
     match Limits::new(buckets, edits) {
         Err(refusal) => refusal.number(),
-        Ok(limits) => open_board(alloc, slot, kind, limits, seats),
+        Ok(limits) => open_board(alloc, slot, kind, limits, seats, stamp),
     }
 }
 
-// The first seat that nobody has taken.
+// The first of the seats that are there.
 fn sit_at(board: &mut KindBoard) -> Result<KindSeat, Unseated>
     ensures ok { IfOk result (λ s. Sits (shared_at board.old) (sat_at s) (shared_at board.new)) }
+    ensures out { IfOk result (λ s. IsOutOf board.new s) }
     ensures err { IfErr result (λ why. (shared_at board.new ≡ shared_at board.old) × IsUnseated (shared_at board.old) why) }
 {
     match board {
@@ -166,7 +182,7 @@ fn unseated(why: Unseated) -> u32
     }
 }
 
-// Puts the first seat that nobody has taken into an empty slot. Room is made before anything changes.
+// Puts the first of the seats that are there into an empty slot. Room is made before anything changes.
 fn sit_board(alloc: Global, board: &mut KindBoard, seat: &mut Slot) -> u32
     requires { seat.old.raw.inner ≡ None }
     ensures { SitsBoard result board.old board.new seat.new.raw.inner }
@@ -194,7 +210,7 @@ fn sit_of(alloc: Global, object: &mut Object, seat: &mut Slot) -> u32
     }
 }
 
-/// Puts the seat of the least number that nobody has taken into an empty slot.
+/// Puts the first of the seats that are there into an empty slot.
 #[unsafe(no_mangle)]
 pub extern "C" fn livevec_proved_board_sit(alloc: Global, board: &mut Slot, seat: &mut Slot) -> u32
     ensures { SitsDown result board.old.raw.inner seat.old.raw.inner board.new.raw.inner seat.new.raw.inner }
@@ -209,5 +225,136 @@ pub extern "C" fn livevec_proved_board_sit(alloc: Global, board: &mut Slot, seat
             put(board, held);
             answer
         }
+    }
+}
+
+// Takes a seat back at its board.
+fn take_at(board: &mut KindBoard, seat: KindSeat) -> Result<(), KindSeat>
+    requires own { HasOwnStamp board.old seat }
+    ensures ok { OnOk result (IsBack (shared_at board.old) (sat_at seat) (shared_at board.new)) }
+    ensures err { IfErr result (λ same. (sat_at same ≡ sat_at seat) × ((sat_at seat).stamp ≢ (shared_at board.old).stamp) × (shared_at board.new ≡ shared_at board.old)) }
+{
+    match seat {
+        KindSeat::Sum(seat) => match board {
+            KindBoard::Sum(board) => match board.take_back(seat) {
+                Ok(()) => Ok(()),
+                Err(seat) => Err(KindSeat::Sum(seat)),
+            },
+            _ => Err(KindSeat::Sum(seat)),
+        },
+        KindSeat::Least(seat) => match board {
+            KindBoard::Least(board) => match board.take_back(seat) {
+                Ok(()) => Ok(()),
+                Err(seat) => Err(KindSeat::Least(seat)),
+            },
+            _ => Err(KindSeat::Least(seat)),
+        },
+        KindSeat::Greatest(seat) => match board {
+            KindBoard::Greatest(board) => match board.take_back(seat) {
+                Ok(()) => Ok(()),
+                Err(seat) => Err(KindSeat::Greatest(seat)),
+            },
+            _ => Err(KindSeat::Greatest(seat)),
+        },
+        KindSeat::Best(seat) => match board {
+            KindBoard::Best(board) => match board.take_back(seat) {
+                Ok(()) => Ok(()),
+                Err(seat) => Err(KindSeat::Best(seat)),
+            },
+            _ => Err(KindSeat::Best(seat)),
+        },
+        KindSeat::Affine(seat) => match board {
+            KindBoard::Affine(board) => match board.take_back(seat) {
+                Ok(()) => Ok(()),
+                Err(seat) => Err(KindSeat::Affine(seat)),
+            },
+            _ => Err(KindSeat::Affine(seat)),
+        },
+        KindSeat::Automaton(seat) => match board {
+            KindBoard::Automaton(board) => match board.take_back(seat) {
+                Ok(()) => Ok(()),
+                Err(seat) => Err(KindSeat::Automaton(seat)),
+            },
+            _ => Err(KindSeat::Automaton(seat)),
+        },
+    }
+}
+
+// Takes back the seat that lay behind a slot, which is empty now, where it is one.
+fn take_back_held(
+    alloc: Global,
+    board: &mut KindBoard,
+    seat: &mut Slot,
+    mut held: Box<Object>,
+) -> u32
+    requires empty { seat.old.raw.inner ≡ None }
+    requires own { OwnStampAt board.old held.value }
+    ensures { TakesBackObject result board.old held.value board.new seat.new.raw.inner }
+{
+    match mem::replace(&mut *held, nothing(alloc)) {
+        Object::Seat(given) => match take_at(board, given) {
+            Ok(()) => {
+                drop(held);
+                0
+            }
+            Err(same) => {
+                put(seat, refilled(held, Object::Seat(same)));
+                OTHER_BOARD
+            }
+        },
+        other => {
+            put(seat, refilled(held, other));
+            NO_HANDLE
+        }
+    }
+}
+
+// The same at an object, where it is a board.
+fn take_back_by(alloc: Global, object: &mut Object, seat: &mut Slot, held: Box<Object>) -> u32
+    requires empty { seat.old.raw.inner ≡ None }
+    requires own { OwnStampBy object.old held.value }
+    ensures { TakesBackBy result object.old held.value object.new seat.new.raw.inner }
+{
+    match object {
+        Object::Board(board) => take_back_held(alloc, board, seat, held),
+        _ => {
+            put(seat, held);
+            NO_HANDLE
+        }
+    }
+}
+
+// The same at what lies behind the board's slot.
+fn take_back_from(alloc: Global, board: &mut Slot, seat: &mut Slot, held: Box<Object>) -> u32
+    requires empty { seat.old.raw.inner ≡ None }
+    requires own { OwnStampFrom board.old.raw.inner held.value }
+    ensures { TakesBackFrom result board.old.raw.inner held.value board.new.raw.inner seat.new.raw.inner }
+{
+    match take(alloc, board) {
+        None => {
+            put(seat, held);
+            NO_HANDLE
+        }
+        Some(mut kept) => {
+            let answer = take_back_by(alloc, &mut kept, seat, held);
+            put(board, kept);
+            answer
+        }
+    }
+}
+
+/// Takes a seat back at its board, and empties the seat's slot. A seat of a board of another stamp stays in its slot.
+#[unsafe(no_mangle)]
+pub extern "C" fn livevec_proved_board_take_back(
+    alloc: Global,
+    board: &mut Slot,
+    seat: &mut Slot,
+) -> u32
+    requires { OwnStamp board.old.raw.inner seat.old.raw.inner }
+    ensures { TakesBack result board.old.raw.inner seat.old.raw.inner board.new.raw.inner seat.new.raw.inner }
+{
+    match take(alloc, seat) {
+        None => NO_HANDLE,
+        Some(held) => take_back_from(alloc, board, seat, held),
     }
 }

@@ -1,25 +1,25 @@
 //! The close of a board, and what it leaves: the vector's elements.
-ghost use Rattle.std.specs.Prelude.{◌≡◌, ◌⊎◌, ◌≤◌, length, IfOk, IfErr};
-ghost use Rattle.lv_board.specs.Sharing.{IsClosedShared};
+ghost use Rattle.std.specs.Prelude.{◌≡◌, ◌≤◌, length, IfOk, IfErr};
+ghost use Rattle.lv_board.specs.Sharing.{IsClosedShared, IsUnclosed};
 ghost use Rattle.livevec_c.specs.declared.objects.Object.TheVariants as behind;
 ghost use Rattle.livevec_c.specs.declared.ended.Ended.{Ended};
 ghost use Rattle.livevec_c.specs.Kinds.{shared_at};
-ghost use Rattle.livevec_c.specs.Lives.{Closes, ClosesBoard, ClosesObject, GetsClosed, GetsClosedObject, SizesClosed, SizesClosedObject};
+ghost use Rattle.livevec_c.specs.Lives.{Closes, ClosesBoard, ClosesObject, GetsClosed, GetsClosedObject, SizesClosed, SizesClosedObject, unclosed_for};
 
 use crate::ended::Ended;
 use crate::kind_boards::KindBoard;
-use crate::objects::{Object, refill};
+use crate::objects::{Object, nothing, refill};
 use crate::reads::{count_answer, missing, uncounted};
 use crate::results::{Count, Element, NO_MEMORY, SEATS_OUT, element_answer};
 use crate::slots::{Slot, put, take};
-use lv_board::{Closed, Elements, Unclosed};
+use lv_board::{Closed, Unclosed};
 use std::alloc::Global;
 use std::mem;
 
-// The vector of a board that nobody has a seat of, or the board again.
+// The vector of a board whose seats are all there, or the board again.
 fn close_kind(alloc: Global, board: KindBoard) -> Result<Closed, (KindBoard, Unclosed)>
     ensures ok { IfOk result (λ closed. IsClosedShared (shared_at board) closed) }
-    ensures err { IfErr result (λ r. shared_at r.0 ≡ shared_at board) }
+    ensures err { IfErr result (λ r. (shared_at r.0 ≡ shared_at board) × IsUnclosed (shared_at board) r.1) }
 {
     match board {
         KindBoard::Sum(board) => match board.close(alloc) {
@@ -60,7 +60,7 @@ fn ended(closed: Closed) -> Ended
 
 // What a close that was refused answers.
 fn unclosed(why: Unclosed) -> Count
-    ensures { ((result ≡ record { refusal = 6; value = 0 }) ⊎ (result ≡ record { refusal = 106; value = 0 })) }
+    ensures { result ≡ unclosed_for why }
 {
     let refusal = match why {
         Unclosed::NoMemory => NO_MEMORY,
@@ -82,17 +82,6 @@ fn close_board(alloc: Global, board: KindBoard) -> (Object, Count)
     }
 }
 
-// An object without memory.
-fn nothing(alloc: Global) -> Object {
-    Object::Closed(Ended {
-        closed: Closed {
-            edit: 0,
-            elements: Elements::from_vec(Vec::new(alloc)),
-        },
-        size: 0,
-    })
-}
-
 // What is left of an object that is closed, if it is a board, and what that answers.
 fn close_object(alloc: Global, object: Object) -> (Object, Count)
     ensures { ClosesObject result.1 object result.0 }
@@ -112,7 +101,7 @@ fn close_of(alloc: Global, object: &mut Object) -> Count
     answer
 }
 
-/// Closes a board that nobody has a seat of any more. Its slot holds what the vector was then.
+/// Closes a board whose seats are all there. Its slot holds what the vector was then.
 #[unsafe(no_mangle)]
 pub extern "C" fn livevec_proved_board_close(alloc: Global, slot: &mut Slot) -> Count
     ensures { Closes result slot.old.raw.inner slot.new.raw.inner }

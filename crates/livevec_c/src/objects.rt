@@ -4,9 +4,11 @@ ghost use Rattle.std.specs.Prelude.{◌≡◌};
 use crate::ended::Ended;
 use crate::kind_boards::KindBoard;
 use crate::kind_seats::KindSeat;
+use lv_board::{Closed, Elements};
 use lv_bodies::SixByTable;
 use lv_live::Live;
 use lv_refresh::{Job, Outcome};
+use std::alloc::Global;
 use std::mem;
 
 /// What a slot holds for C: one of these.
@@ -18,6 +20,17 @@ pub enum Object {
     Board(KindBoard),
     Seat(KindSeat),
     Closed(Ended),
+}
+
+/// An object without memory.
+pub fn nothing(alloc: Global) -> Object {
+    Object::Closed(Ended {
+        closed: Closed {
+            edit: 0,
+            elements: Elements::from_vec(Vec::new(alloc)),
+        },
+        size: 0,
+    })
 }
 
 /// Puts another object in an object's place, which is dropped.

@@ -19,11 +19,14 @@ pub const NO_HANDLE: u32 = 101;
 /// The number for a slot that should be empty and is full.
 pub const IN_USE: u32 = 104;
 
-/// The number for a board of which all seats were taken.
+/// The number for a board of which no seat is there.
 pub const NO_SEAT: u32 = 105;
 
-/// The number for a board that is closed while somebody has a seat.
+/// The number for a board that is closed while a seat isn't there.
 pub const SEATS_OUT: u32 = 106;
+
+/// The number for a seat that is given back to another board than its own.
+pub const OTHER_BOARD: u32 = 107;
 
 /// What an edit answers.
 #[repr(C)]

@@ -1,0 +1,8 @@
+use Rattle.std.proofs.Common.{◌∙◌, Some, ap, inr, refl, sym}
+use Rattle.livevec_c.proofs.boards.take_back_held.Goals as goal
+
+pub returns-in-Err : goal.returns-in-Err
+returns-in-Err c =
+    let err = c.in-Err.ensures.err in
+    rw (sym c.deref_mut.ensures.value ∙ sym c.replace.ensures.value ∙ c.in-Seat.is)
+    (inr (refl, err.1, err.2, (c.in-Err.same, c.put.ensures ∙ ap Some c.refilled.ensures, err.0)))
