@@ -4,6 +4,7 @@ mod desks;
 mod held_jobs;
 mod held_scans;
 mod late_workers;
+mod sessions;
 mod sleepers;
 mod strangers;
 mod strangers_above;

@@ -37,6 +37,8 @@ mod runs;
 #[cfg(test)]
 mod same;
 #[cfg(test)]
+mod scripts;
+#[cfg(test)]
 mod standing;
 #[cfg(test)]
 mod store;

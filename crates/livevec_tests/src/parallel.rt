@@ -2,7 +2,7 @@
 ghost use Rattle.std.specs.Prelude.{◌^◌, ◌≤◌, length, IfOk};
 
 use crate::same::assert_same;
-use lv_bodies::{Best, Body, Pair, Sum};
+use lv_bodies::{Body, Pair, Sum};
 use lv_edits::Edits;
 use lv_geometry::{Limits, Refusal};
 use lv_reduce::{
@@ -216,27 +216,66 @@ impl<'a> Body for Met<'a> {
     ghost equal = { λ s t. Prim.search rules };
 }
 
-// Beside it the best run, whose summaries are wide: a scan of sums alone would be left to one thread.
-type Wide<'a> = Pair<Met<'a>, Best>;
+// Summaries that are wide and say nothing.
+#[derive(Clone, Copy)]
+struct Blank;
+
+impl Body for Blank {
+    ghost use Rattle.livevec_tests.specs.Blank.{blank_laws, blank_operations, IsBlank};
+    ghost use Rattle.lv_bodies.specs.EqualLaws.{exact_numbers};
+
+    type S = [u64; 40];
+
+    ghost Meaning = { Unit {0} };
+
+    ghost meaning = { λ _. tt };
+
+    ghost operations = { λ _. blank_operations };
+
+    ghost is_within = { λ _. IsBlank };
+
+    ghost laws = { λ _. blank_laws };
+
+    fn identity(&self) -> [u64; 40] {
+        [0; 40]
+    }
+
+    fn lift(&self, _x: i64) -> [u64; 40] {
+        [0; 40]
+    }
+
+    fn combine(&self, a: [u64; 40], _b: [u64; 40]) -> [u64; 40] {
+        a
+    }
+
+    fn same(&self, _other: &Blank) -> bool {
+        true
+    }
+
+    ghost equal = { exact_numbers };
+}
+
+// The sum with blanks beside it: sums alone are so few bytes that they would be left to one thread.
+type Wide<'a> = Pair<Met<'a>, Blank>;
 
 // The summary of both.
-type WideSummary = (u64, <Best as Body>::S);
+type WideSummary = (u64, [u64; 40]);
 
 // The body of a meeting.
 fn wide(meeting: &Meeting) -> Wide<'_> {
     Pair {
         first: Met { meeting },
-        second: Best,
+        second: Blank,
     }
 }
 
-// 262,144 elements, of which the first is 1, the last is 2 and all others 0.
+// 65,536 elements, of which the first is 1, the last is 2 and all others 0.
 fn far_apart(alloc: Global) -> Result<Vec<i64>, AllocError>
     ensures { IfOk result (λ xs. length xs.items ≤ 2 ^ 20) }
 {
-    let mut xs = Vec::with_capacity(alloc, 262_144)?;
+    let mut xs = Vec::with_capacity(alloc, 65_536)?;
     xs.push(1)?;
-    for _ in 0..262_142u32 {
+    for _ in 0..65_534u32 {
         xs.push(0)?;
     }
     xs.push(2)?;
@@ -251,9 +290,9 @@ fn meet_in_reduce<R: Threads + Sync + Abort>(
 ) -> Result<(), Refusal> {
     let meeting = Meeting::new();
     let body = wide(&meeting);
-    let answer = par_reduce(rt, alloc, view, &body, 0, 262_144)?;
+    let answer = par_reduce(rt, alloc, view, &body, 0, 65_536)?;
     let seen = (answer.0, answer.1.0, meeting.took_place());
-    assert_same(rt, &seen, &(262_144, 3, true));
+    assert_same(rt, &seen, &(65_536, 3, true));
     Ok(())
 }
 
@@ -266,7 +305,7 @@ fn meet_in_scan<R: Threads + Sync + Abort>(
 ) -> Result<(), Refusal> {
     let meeting = Meeting::new();
     let body = wide(&meeting);
-    let scan = either_scan(rt, alloc, view, &body, 262_144, inclusive)?;
+    let scan = either_scan(rt, alloc, view, &body, 65_536, inclusive)?;
     assert_last(rt, &scan.values, inclusive);
     drop(scan);
     assert_same(rt, &meeting.took_place(), &true);
@@ -301,7 +340,7 @@ fn last_sum(values: &[WideSummary]) -> Option<u64> {
 // Sees that as many values end with the sum of all, or of all but the last.
 fn assert_last(rt: &impl Abort, values: &Values<WideSummary>, inclusive: bool) {
     let last = if inclusive { 3 } else { 1 };
-    assert_same(rt, &values.len(), &262_144);
+    assert_same(rt, &values.len(), &65_536);
     assert_same(rt, &last_sum(values.as_slice()), &Some(last));
 }
 
@@ -330,7 +369,7 @@ fn two_pieces_at_once(rt: HostRuntime) -> Result<(), Fail> {
     let xs = far_apart(rt.alloc())?;
     meet_in_slice(&rt, rt.alloc(), xs.as_slice())?;
     let mut edits = Edits::new(rt.alloc(), Limits::greatest());
-    let table = Summaries::new(rt.alloc(), (0, None));
+    let table = Summaries::new(rt.alloc(), (0, Blank.identity()));
     let met = meet_in_ranges(&rt, rt.alloc(), &mut edits, &table, xs.as_slice());
     drop(table);
     drop(edits);

@@ -3,9 +3,10 @@ ghost use Rattle.std.specs.Prelude.{◌<◌};
 
 use crate::same::assert_same;
 use crate::takers::{Takes, all, writer};
+use lv_bodies::{Kind, Shown};
 use lv_edits::Edit;
 use lv_script::devices::{FailingReader, Failure};
-use lv_script::{Fault, Verdict, audit, write_transcript};
+use lv_script::{Claimed, Fault, Verdict, audit, write_transcript};
 use std::alloc::{AllocError, Global};
 use std::process::Abort;
 use std::test::Fail;
@@ -13,7 +14,7 @@ use std::test::Fail;
 // A transcript of two edits and one claim.
 const SOUND: &str = "livevec 1\nj push 5\nj push -7\na 2 sum 0 2 18446744073709551614\nend\n";
 
-// Writes a transcript of a push and a pop, and compares how that ends and what was written.
+// Writes a transcript of a push, a pop and the sum between them, and compares how that ends and what was written.
 fn check_transcript(
     rt: &impl Abort,
     alloc: Global,
@@ -23,7 +24,14 @@ fn check_transcript(
 ) -> Result<(), AllocError> {
     let mut writer = writer(alloc, takes)?;
     let edits = [Edit::Push(5), Edit::Pop];
-    let ended = write_transcript(alloc, &edits, &[], &mut writer);
+    let claim = Claimed {
+        edit: 1,
+        kind: Kind::Sum,
+        lo: 0,
+        hi: 1,
+        value: Shown::Sum(5),
+    };
+    let ended = write_transcript(alloc, &edits, &[claim], &mut writer);
     assert_same(rt, &(ended, writer.taken.as_slice()), &(end, text));
     drop(writer);
     Ok(())
@@ -31,9 +39,9 @@ fn check_transcript(
 
 #[test]
 fn a_writer_fails_under_a_transcript(rt: HostRuntime) -> Result<(), Fail> {
-    let text: &[u8] = b"livevec 1\nj push 5\nj pop\nend\n";
+    let text: &[u8] = b"livevec 1\nj push 5\nj pop\na 1 sum 0 1 5\nend\n";
     for failure in [Failure::Refuses, Failure::Stalls] {
-        for left in [0, 5, 12, 28] {
+        for left in 0..text.len() {
             let takes = (3, left, failure);
             let end = Err(Fault::WriteFault);
             check_transcript(&rt, rt.alloc(), takes, end, &text[..left])?;

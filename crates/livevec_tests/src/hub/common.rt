@@ -31,15 +31,11 @@ pub(crate) fn push_all<B: Body, N: Means<B>, R: Wait + Abort>(
 }
 
 // How many edits a share of all parts counts, and how many the journal of its hub has, which is closed.
-pub(crate) fn counts_at_close<N: Means<Sum>, R: Wait>(
-    rt: &R,
-    hub: Hub<Sum, N>,
-    share: Share<N>,
-) -> (u64, usize)
+pub(crate) fn counts_at_close<N: Means<Sum>>(hub: Hub<Sum, N>, share: Share<N>) -> (u64, usize)
     requires { share.parts ≡ N.parts }
 {
     let counted = share.count();
-    let live = hub.close(rt, share);
+    let live = hub.close(share);
     let edits = live.journal().len();
     drop(live);
     (counted, edits)

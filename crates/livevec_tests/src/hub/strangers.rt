@@ -174,7 +174,7 @@ fn one_hub_of_two<N: Means<Sum>, R: Threads + Wait + Abort + Sync>(
 {
     let (hub, mut share) = Hub::<Sum, N>::new(alloc, limits, body, blank, 1, opened);
     let seen = assert_strangers(rt, alloc, &hub, &mut share, strange);
-    let counts = counts_at_close(rt, hub, share);
+    let counts = counts_at_close(hub, share);
     seen?;
     assert_same(rt, &counts, &(9, 9));
     Ok(())

@@ -62,7 +62,7 @@ fn total<N: Means<Sum> + Send + Sync, R: Threads + Wait + Abort + Sync>(
 {
     let (hub, share) = Hub::<Sum, N>::new(alloc, limits, body, blank, 2, opened);
     let share = push_from_two(rt, &hub, share);
-    assert_same(rt, &counts_at_close(rt, hub, share), &(1000, 1000));
+    assert_same(rt, &counts_at_close(hub, share), &(1000, 1000));
 }
 
 #[test]
@@ -121,7 +121,7 @@ fn nine_pushes<N: Means<Sum>, R: Wait + Abort>(
 {
     let (hub, mut share) = Hub::<Sum, N>::new(alloc, limits, body, blank, 1, opened);
     push_nine(rt, &hub, &mut share);
-    assert_same(rt, &counts_at_close(rt, hub, share), &(9, 9));
+    assert_same(rt, &counts_at_close(hub, share), &(9, 9));
 }
 
 // To be run with each allocation failing in turn, too.

@@ -1,5 +1,5 @@
-//! Calls that may want memory, one a run: `starved LAYER ROW` makes the call of that row and says what it came to. Without such a
-//! row it says nothing. tools/soak_memory refuses the call's requests for memory in turn.
+//! Calls that may want memory: `starved LAYER ROW` makes the call of that row and says what it came to. Without such a row it says
+//! nothing, and without words it makes each call once. tools/soak_memory refuses each request for memory of each call in turn.
 #![tactic(auto)]
 
 mod boards;
@@ -27,14 +27,51 @@ fn main(rt: HostRuntime) -> ExitCode {
     }
 }
 
-// Makes the call that the command line names, and says what it came to.
+/// Where the calls lie. Each layer has fewer rows than `ROWS`.
+const LAYERS: [&str; 8] = [
+    "Edits",
+    "Edits::apply",
+    "Live::apply",
+    "Standing::edit",
+    "Desk::edit",
+    "Hub::edit",
+    "scans",
+    "wholes",
+];
+
+const ROWS: u32 = 16;
+
+// Makes the call that the command line names, or each.
 fn said<R: AllocGlobal + Env + Eprint + Print + Sync + Threads + Wait>(rt: &R) -> io::Result<()> {
     let words: Vec<String> = env::args(rt)?.collect(rt.alloc())?;
-    if let [_, layer, row] = words.as_slice()
-        && let Ok(number) = row.as_str().parse::<u32>()
-        && let Some((name, told)) = called(rt, rt.alloc(), layer.as_str(), number)
-    {
-        println!(rt; "{name}: {told:?}")?;
+    match words.as_slice() {
+        [_, layer, row] => match row.as_str().parse::<u32>() {
+            Ok(number) => say(rt, rt.alloc(), layer.as_str(), number),
+            Err(_) => Ok(()),
+        },
+        _ => say_all(rt, rt.alloc()),
+    }
+}
+
+// Makes each call, and says what it came to.
+fn say_all<R: Eprint + Print + Sync + Threads + Wait>(rt: &R, alloc: Global) -> io::Result<()> {
+    for layer in LAYERS {
+        for number in 0..ROWS {
+            say(rt, alloc, layer, number)?;
+        }
+    }
+    Ok(())
+}
+
+// Makes the call of a layer's row, and says what it came to. Says nothing where there is no such row.
+fn say<R: Eprint + Print + Sync + Threads + Wait>(
+    rt: &R,
+    alloc: Global,
+    layer: &str,
+    number: u32,
+) -> io::Result<()> {
+    if let Some((name, told)) = called(rt, alloc, layer, number) {
+        println!(rt; "{layer}, {name}: {told:?}")?;
     }
     Ok(())
 }

@@ -1,0 +1,11 @@
+use Rattle.std.proofs.Common.{Some}
+use Rattle.livevec_tests.proofs.hub.sessions.check.Given as goal
+
+abbrev pub ghosts-hold_alone-N-Ledger : goal.ghosts-hold_alone-N-Ledger
+ghosts-hold_alone-N-Ledger g a = record { name = a.blank.name; parts = a.blank.parts }
+
+abbrev pub ghosts-hold_alone-N-Naming : goal.ghosts-hold_alone-N-Naming
+ghosts-hold_alone-N-Naming g a = record { limits = a.limits; history = a.opened }
+
+abbrev pub ghosts-hold_alone-N-Means : goal.ghosts-hold_alone-N-Means
+ghosts-hold_alone-N-Means g a = record { body = Some a.body }

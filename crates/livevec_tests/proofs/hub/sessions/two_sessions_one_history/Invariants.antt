@@ -1,0 +1,11 @@
+use Rattle.std.proofs.Common.{Some}
+use Rattle.livevec_tests.proofs.hub.sessions.two_sessions_one_history.Given as goal
+
+abbrev pub ghosts-one_history-N-Ledger : goal.ghosts-one_history-N-Ledger
+ghosts-one_history-N-Ledger g a = record { name = a.blank.name; parts = a.blank.parts }
+
+abbrev pub ghosts-one_history-N-Naming : goal.ghosts-one_history-N-Naming
+ghosts-one_history-N-Naming g a = record { limits = a.limits; history = a.opened }
+
+abbrev pub ghosts-one_history-N-Means : goal.ghosts-one_history-N-Means
+ghosts-one_history-N-Means g a = record { body = Some a.body }
