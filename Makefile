@@ -1,117 +1,137 @@
-# try: builds without proofs, at once, and runs `livevec $(DO)` where $(FILES) lie.  build: proves, then builds.  run: runs what build made.
-# test: the gate, the rows and the examples, and whether the bench's programs still fit. wrong, plant: wrong bodies outside the gate, of $(CRATE) or of all crates, into docs/.
-# lib: the archive for C, build/liblivevec.a.  test-c: its tests, also under sanitizers and valgrind.  so: liblivevec.so of the archive in $(LIB).
-# install, uninstall: the program, header, archive, shared object and pkg-config file, below $(PREFIX).  install-lib: all of these but the program.
-# What was built before is installed as it is, and nothing is proved again.
-# test-bindings: Rust, Python and what was installed.  bench-bindings: what a call from C, Rust or Python costs.
-# bench: figures beside plain Rust, bench-board: those of the board.  soak: hard use by lines, sessions, a board, strange bytes, kills and refused memory.  fmt, clean: as ever.
+VERSION := $(shell cat VERSION)
 PROGRAM = crates/livevec/out/livevec
 DO = run
-FILES =
 CRATE =
+FEED =
+WITH =
 PREFIX = /usr/local
 LIBDIR = $(PREFIX)/lib
 CC = cc
 LIB = build
 SO = $(LIB)
 # what programs that are linked with liblivevec.so ask for: another number where they would no longer run
-SONAME = liblivevec.so.0
+SONAME = liblivevec.so.1
 # tells the system's loader what was installed, where that is allowed and nothing is only staged
 LDCONFIG = ldconfig
 
 # one target after the other: two would prove the same crates
 .NOTPARALLEL:
-.PHONY: try build lib so install install-program install-lib whole-paths uninstall run test test-c test-bindings wrong plant bench bench-board bench-bindings soak fmt clean
+.PHONY: help try build run test check lib so test-c test-bindings dist install install-program install-lib whole-paths uninstall wrong plant soak bench bench-board bench-bindings dashboard fmt clean
 
-try:
-	@command -v rt > /dev/null || { echo "rt, the command of Rattle's kit, is not on the path" >&2; exit 1; }
-	@cd crates/livevec && log=$$(mktemp) && trap 'rm -f '$$log EXIT && \
-	{ rt try --seconds 600 $(foreach file,$(FILES),--data $(notdir $(file))=$(abspath $(file))) -- $(DO) 2> $$log || { cat $$log >&2; exit 1; }; }
+help: ## lists what can be made
+	@sed -n 's/^\([a-z-]*\):.*## \(.*\)/\1|\2/p' Makefile | awk -F '|' '{ printf "make %-15s %s\n", $$1, $$2 }'
 
-build:
+try: ## runs `livevec run`, or what DO=.. says, without proofs; built once for the sources
+	@tools/unproved
+	@build/unproved/livevec $(DO)
+
+build: ## proves the program, then builds it
 	@tools/build
 
-run: $(PROGRAM)
+run: $(PROGRAM) ## runs the proved program on the lines that are typed
 	@$(PROGRAM) run
 
 $(PROGRAM):
 	@$(MAKE) -s build >&2
 
-lib:
+test: ## the gate: proofs, wrong bodies, tests, rows, examples, pages; with CRATE=.. that crate and those below
+ifeq ($(CRATE),)
+	@tools/check_pages
+	@tools/timed test "proves all crates, tries the wrong bodies, runs tests and examples" "18 to 60 min at first, 5 where nothing has changed" tools/gate
+	@tools/tried gate
+	@tools/timed soak_memory "refuses each request for memory in turn" "under 2 min" tools/soak_memory
+	@tools/timed examples "runs rows, examples and the pieces of README.md" "some 2 min" examples/check
+	@tools/timed fits "compiles the bench's programs, whether they fit" "some 3 min" bench/check
+else
+	@tools/timed test-$(CRATE) "proves $(CRATE) and what lies below it, tries their wrong bodies" "1 to 30 min, by how high the crate stands" tools/gate $(CRATE)
+endif
+
+check: ## proves one crate, CRATE=.., and tells the time of each function
+	@[ -d "crates/$(CRATE)/src" ] && [ -n "$(CRATE)" ] || { echo "usage: make check CRATE=NAME, with NAME one of" $$(ls crates) >&2; exit 2; }
+	@tools/timed check-$(CRATE) "proves what changed in $(CRATE), and what lies below it" "1 to 15 min at first, by how high the crate stands" tools/check_crate $(CRATE)
+
+lib: ## proves the exports for C, then makes build/liblivevec.a
 	@CC="$(CC)" tools/c_library
 
 build/liblivevec.a:
 	@$(MAKE) -s lib >&2
 
-so: $(SO)/liblivevec.so
+so: $(SO)/liblivevec.so ## makes build/liblivevec.so of the archive
 
 $(SO)/liblivevec.so: $(LIB)/liblivevec.a bindings/exports.map
 	@mkdir -p $(SO)
 	@$(CC) -shared -o $@ -Wl,--whole-archive $< -Wl,--no-whole-archive -Wl,--version-script=bindings/exports.map -Wl,-soname,$(SONAME) -Wl,-z,defs
 	@ln -sf liblivevec.so $(SO)/$(SONAME)
 
-install: install-program install-lib
+test-c: build/liblivevec.a ## tests the library for C, also under sanitizers and valgrind
+	@tools/timed test-c "tests the library for C, plainly, under sanitizers and under valgrind" "some 2 min" env CC="$(CC)" bindings/c/check
+
+dashboard: so ## serves live charts of FEED=.., or of this machine, in a browser; WITH=.. are more options
+	@export LIVEVEC_LIB="$(abspath $(SO))/liblivevec.so" PYTHONPATH=bindings/python; \
+	if [ -n "$(FEED)" ]; then exec python3 -m livevec_dashboard "$(FEED)" $(WITH); \
+	else examples/machine_load.py | python3 -m livevec_dashboard - --title "this machine" $(WITH); fi
+
+test-bindings: ## tests Rust, Python and what was installed
+	@tools/timed test-bindings "tests Rust, Python and what is installed" "some 2 min" bindings/check
+
+dist: build lib so ## packs what was proved and built into build/livevec-VERSION-PLATFORM.tar.gz
+	@tools/dist
+
+install: install-program install-lib ## installs program, library and header below PREFIX, as they were built
 
 whole-paths:
 	@case "$(PREFIX) $(LIBDIR)" in /*\ /*) ;; *) echo "PREFIX and LIBDIR are whole paths, from / on" >&2; exit 1;; esac
 
-install-program: whole-paths $(PROGRAM)
+install-program: whole-paths $(PROGRAM) ## installs the program alone
 	@install -d "$(DESTDIR)$(PREFIX)/bin"
 	@install -m 755 $(PROGRAM) "$(DESTDIR)$(PREFIX)/bin/livevec"
 
-install-lib: whole-paths $(LIB)/liblivevec.a $(SO)/liblivevec.so
-	@install -d "$(DESTDIR)$(PREFIX)/include" "$(DESTDIR)$(LIBDIR)/pkgconfig"
-	@install -m 644 include/livevec.h "$(DESTDIR)$(PREFIX)/include/livevec.h"
+install-lib: whole-paths $(LIB)/liblivevec.a $(SO)/liblivevec.so ## installs all but the program
+	@install -d "$(DESTDIR)$(PREFIX)/include" "$(DESTDIR)$(LIBDIR)/pkgconfig" "$(DESTDIR)$(LIBDIR)/cmake/livevec"
+	@install -m 644 include/livevec.h include/livevec.hpp "$(DESTDIR)$(PREFIX)/include"
 	@install -m 644 $(LIB)/liblivevec.a "$(DESTDIR)$(LIBDIR)/liblivevec.a"
 	@install -m 755 $(SO)/liblivevec.so "$(DESTDIR)$(LIBDIR)/$(SONAME)"
 	@ln -sf $(SONAME) "$(DESTDIR)$(LIBDIR)/liblivevec.so"
-	@sed 's|@PREFIX@|$(PREFIX)|; s|@LIBDIR@|$(LIBDIR)|; s|^libdir=$(PREFIX)/|libdir=$${prefix}/|' bindings/c/livevec.pc.in > "$(DESTDIR)$(LIBDIR)/pkgconfig/livevec.pc"
-	@chmod 644 "$(DESTDIR)$(LIBDIR)/pkgconfig/livevec.pc"
+	@sed 's|@VERSION@|$(VERSION)|; s|@PREFIX@|$(PREFIX)|; s|@LIBDIR@|$(LIBDIR)|; s|^libdir=$(PREFIX)/|libdir=$${prefix}/|' bindings/c/livevec.pc.in > "$(DESTDIR)$(LIBDIR)/pkgconfig/livevec.pc"
+	@sed 's|@VERSION@|$(VERSION)|; s|@PREFIX@|$(PREFIX)|; s|@LIBDIR@|$(LIBDIR)|' bindings/c/livevecConfig.cmake.in > "$(DESTDIR)$(LIBDIR)/cmake/livevec/livevecConfig.cmake"
+	@chmod 644 "$(DESTDIR)$(LIBDIR)/pkgconfig/livevec.pc" "$(DESTDIR)$(LIBDIR)/cmake/livevec/livevecConfig.cmake"
 	@[ -n "$(DESTDIR)" ] || $(LDCONFIG) 2> /dev/null || true
 
 # its folders go too where they have nothing else: the place was livevec's own then
-uninstall: whole-paths
-	@rm -f "$(DESTDIR)$(PREFIX)/bin/livevec" "$(DESTDIR)$(PREFIX)/include/livevec.h" "$(DESTDIR)$(LIBDIR)/liblivevec.a"
+uninstall: whole-paths ## takes away what was installed below PREFIX
+	@rm -f "$(DESTDIR)$(PREFIX)/bin/livevec" "$(DESTDIR)$(PREFIX)/include/livevec.h" "$(DESTDIR)$(PREFIX)/include/livevec.hpp" "$(DESTDIR)$(LIBDIR)/liblivevec.a"
 	@rm -f "$(DESTDIR)$(LIBDIR)/$(SONAME)" "$(DESTDIR)$(LIBDIR)/liblivevec.so" "$(DESTDIR)$(LIBDIR)/pkgconfig/livevec.pc"
+	@rm -f "$(DESTDIR)$(LIBDIR)/cmake/livevec/livevecConfig.cmake"
+	@rmdir "$(DESTDIR)$(LIBDIR)/cmake/livevec" "$(DESTDIR)$(LIBDIR)/cmake" 2> /dev/null || true
 	@[ -n "$(DESTDIR)" ] || $(LDCONFIG) 2> /dev/null || true
 	@top="$(DESTDIR)$(PREFIX)" lib="$(DESTDIR)$(LIBDIR)"; \
 	if [ -d "$$top" ] && [ -z "$$(find "$$top" -mindepth 1 ! -path "$$top/bin" ! -path "$$top/include" ! -path "$$lib" ! -path "$$lib/pkgconfig")" ]; then \
 		for folder in "$$lib/pkgconfig" "$$lib" "$$top/include" "$$top/bin" "$$top"; do rmdir "$$folder" 2> /dev/null || true; done; \
 	fi
 
-test-c: build/liblivevec.a
-	@CC="$(CC)" bindings/c/check
+wrong: ## tries the wrong bodies that stand outside the gate, of CRATE=.. or of all
+	@tools/timed wrong-tests-$(CRATE) "tries wrong bodies that a test refuses" "1 to 10 min" tools/tried tests $(CRATE)
+	@tools/timed wrong-$(CRATE) "tries wrong bodies, a crate at a time" "1 to 60 min a crate" tools/tried wrong $(CRATE)
 
-test-bindings:
-	@bindings/check
+plant: ## looks for wrong bodies that contracts let through, of CRATE=.. or of all
+	@tools/timed plant-$(CRATE) "plants wrong bodies, a crate at a time" "up to 60 min a crate" tools/tried plant $(CRATE)
 
-test:
-	tools/gate
-	examples/check
-	bench/check
+soak: ## hard use: millions of lines, many threads, strange bytes, kills, refused memory
+	@tools/timed soak "tries hard use, part by part" "4 to 10 min, once its programs are proved" tools/soak
 
-wrong:
-	tools/tried wrong $(CRATE)
-
-plant:
-	tools/tried plant $(CRATE)
-
-bench: build
-	@bench/run
+bench: build ## times it beside plain Rust, and makes the tables and the picture of the pages
+	@tools/timed bench "times livevec beside plain Rust, a line for each pair" "some 15 min, once its program is proved" bench/run
 	@bench/table
 	@bench/picture
 
-bench-board:
-	@bench/run-board
+bench-board: ## times the board beside a lock
+	@tools/timed bench-board "times the board beside a lock, a line for each pair" "some 5 min, once its program is proved" bench/run-board
 
-bench-bindings:
-	@bench/bindings
+bench-bindings: ## times calls from C, Rust and Python
+	@tools/timed bench-bindings "times calls from C, Rust and Python" "some 2 min" bench/bindings
 
-soak:
-	@tools/soak
+fmt: ## formats each crate
+	@for crate in crates/*/; do echo "formats $$crate"; (cd $$crate && rt fmt); done
 
-fmt:
-	@for crate in crates/*/; do (cd $$crate && rt fmt); done
-
-clean:
+clean: ## removes what was built, and what checks kept here
 	@rm -rf crates/*/out bench/out build

@@ -37,7 +37,6 @@ static void *count(void *given)
         while (outrun(refusal));
     if (refusal)
         wrong = true;
-    livevec_free_seat(&mine->seat);
     return NULL;
 }
 
@@ -54,7 +53,6 @@ static void *watch(void *given)
             wrong = true;
         before = now.values.sum;
     }
-    livevec_free_seat(seat);
     return NULL;
 }
 
@@ -91,6 +89,11 @@ int main(void)
             return EXIT_FAILURE;
     for (int i = 0; i <= COUNTERS; i++)
         pthread_join(threads[i], NULL);
+    for (int i = 0; i < COUNTERS; i++)
+        if (livevec_board_take_back(&board, &counters[i].seat))
+            return EXIT_FAILURE;
+    if (livevec_board_take_back(&board, &watcher))
+        return EXIT_FAILURE;
     show(&board);
     printf("the sums %s\n", wrong ? "went wrong" : "never fell, up to 80000");
     return livevec_free_board(&board) ? EXIT_FAILURE : EXIT_SUCCESS;
