@@ -1,13 +1,14 @@
 -- What a live vector keeps through each of its changes.
-use Rattle.std.proofs.Common.{◌≡◌, ℕ, ◌+◌, ◌-◌, ◌*◌, ◌^◌, ◌≤◌, true, ◌&&◌, cond, Some, None, option_map, List, [], ◌∷◌, ◌++◌, length, nat_eq, if◌then◌else◌, refl, subst, sym, ap, ◌∙◌, inl, inr, arith}
+use Rattle.std.proofs.Common.{◌≡◌, ℕ, ◌+◌, ◌-◌, ◌*◌, ◌/◌, ◌^◌, ◌≤◌, true, ◌&&◌, cond, Some, None, option_map, List, [], ◌∷◌, ◌++◌, length, nat_eq, if◌then◌else◌, refl, subst, sym, ap, ◌∙◌, inl, inr, arith}
 use Rattle.std.specs.Prelude.{ℤ}
-use Rattle.std.specs.List.{list_any}
+use Rattle.std.specs.List.{AllByRecursion, list_any}
 use Rattle.std.proofs.lemmas.List.{length-set, length-take, length_push}
 use Rattle.std.proofs.lemmas.List.Edits.{length-swap}
 use Rattle.std.proofs.lemmas.Option.{cond_some, same_Some}
-use Rattle.std.proofs.lemmas.Bool.{and_parts, cases_Bool, le-leb, leb-true}
+use Rattle.std.proofs.lemmas.Bool.{and_from, and_parts, cases_Bool, cases_lt, eq-eqb, eqb-true, false≢true, le-leb, leb-true, or_cases}
 use Rattle.lv_geometry.specs.declared.nodes.Node.{Node}
-use Rattle.lv_geometry.specs.Nodes.{covers, is_below, is_node, parent, same_node}
+use Rattle.lv_geometry.specs.Nodes.{covers, is_below, is_node, over, parent, same_node}
+use Rattle.lv_geometry.proofs.NodeLaws.{level_of_node}
 use Rattle.lv_bodies.specs.Body.{Operations, fold_of}
 use Rattle.lv_edits.specs.declared.edit.Edit.{Edit}
 use Rattle.lv_edits.specs.declared.edit.Edit.TheVariants.{Push, Pop, Write, Reserve, Swap, Truncate}
@@ -27,8 +28,8 @@ use Rattle.lv_refresh.specs.Claimed.{AreHints, ClaimTable, claim_blocks, claimed
 use Rattle.lv_refresh.specs.Delivery.{delivery_of}
 use Rattle.lv_refresh.specs.Record.{SameRecord}
 use Rattle.lv_refresh.proofs.HonestyLaws.{whole_of_wanted}
-use Rattle.lv_refresh.proofs.RecordLaws.{same_version}
-use Rattle.lv_refresh.proofs.WantLaws.{wants_before_edit, wants_before_install, wants_job-same}
+use Rattle.lv_refresh.proofs.RecordLaws.{kept_past, same_version}
+use Rattle.lv_refresh.proofs.WantLaws.{calm_after_edit, wants_before_edit, wants_before_install, wants_job-same}
 use Rattle.lv_live.specs.Follows.{ClaimsAlike, ClaimsFollow, HaveRows, TableFollows}
 use Rattle.lv_live.specs.Kept.{IsLive}
 use Rattle.lv_live.specs.State.{LiveState, recorded}
@@ -51,6 +52,18 @@ room_after xs ys (Truncate k) indices blocks made written room rows =
 -- what is kept stays under an edit
 pub kept_followed : {S : Type 0} (t u : Table S) (indices : List ℕ) (edit size : ℕ) → TableFollows t u indices edit size → (n : Node) → kept_in u n ≡ kept_in t n
 kept_followed t u indices edit size (mid, touch, sized) n = sized.kept n ∙ touch.kept n
+
+-- a block that has one of some indices is hinted where the block of each is
+block_hinted : (c : ClaimTable) (indices : List ℕ) (n : Node) → n.level ≡ 1 → AllByRecursion (λ i. is_hinted c (over 1 i) ≡ true) indices → list_any (covers n) indices ≡ true → is_hinted c n ≡ true
+block_hinted c [] n block hinted covered = absurd (false≢true covered)
+block_hinted c (i ∷ rest) n block hinted covered =
+    elim (or_cases (covers n i) (list_any (covers n) rest) covered) [
+      | inl here ↦
+          let number : n.number ≡ i / 8 ^ 1 = sym (eqb-true _ _ here) ∙ ap (λ level. i / 8 ^ level) block in
+          let one : n ≡ over 1 i = same_node-eq n (over 1 i) (and_from _ _ (eq-eqb n.level 1 block) (eq-eqb n.number (i / 8 ^ 1) number)) in
+          ap (is_hinted c) one ∙ hinted.0
+      | inr later ↦ block_hinted c rest n block hinted.1 later
+    ]
 
 module _ {S : Type 0} (o : Operations S) where
   -- tables that answer alike, with claims that answer alike, have the same record
@@ -86,15 +99,20 @@ module _ {S : Type 0} (o : Operations S) where
   agrees_followed es e ys t u indices legal possible written agrees (mid, touch, sized) =
       agrees_after_touches o es e ys t mid u legal possible agrees (subst (λ is. TouchesEach t mid is (length es + 1)) (sym written) touch) sized
 
-  -- every node that wants a job after an edit is hinted
+  -- every node that wants a job after an edit is hinted: of those that it touched, only blocks may want one
   hints_followed : (es : List Edit) (e : Edit) (ys : List ℤ) (t u : Table S) (c d : ClaimTable) (indices : List ℕ) → replayed es ≡ Some (list_of es) → applied (list_of es) e ≡ Some ys → indices_written (list_of es) e ≡ indices
-      → TableFollows t u indices (length es + 1) (length ys) → ClaimsFollow c d indices → AreHints (record_of es t c) c → AreHints (record_of (es ++ e ∷ []) u d) d
-  hints_followed es e ys t u c d indices legal possible written follows claims hints n wants =
+      → Agrees o es t → TableFollows t u indices (length es + 1) (length ys) → ClaimsFollow c d indices → AreHints (record_of es t c) c → AreHints (record_of (es ++ e ∷ []) u d) d
+  hints_followed es e ys t u c d indices legal possible written agrees follows claims hints n wants =
       let next = record_of (es ++ e ∷ []) u d in
       let same : SameRecord (record (record_of es t c) { edits = es ++ e ∷ [] }) next =
       record { edits = refl; issued = refl; claimed = claims.alike.claimed; kept = λ n. ap (option_map (λ kept. kept.0)) (kept_followed t u indices (length es + 1) (length ys) follows n) } in
       elim (cases_Bool (touches (list_of es) e n)) [
-        | inl touched ↦ claims.touched n (and_parts _ _ (whole_of_wanted next n wants)).0 (ap (list_any (covers n)) (sym written) ∙ touched)
+        | inl touched ↦ elim (cases_lt 1 n.level) [
+          | inl above ↦ absurd (calm_after_edit (record_of es t c) next e (kept_past o es t c agrees) same n above touched wants)
+          | inr low ↦
+              let some = (level_of_node n (and_parts _ _ (whole_of_wanted next n wants)).0).0 in
+              block_hinted d indices n (omega arith) claims.blocks (ap (list_any (covers n)) (sym written) ∙ touched)
+        ]
         | inr untouched ↦ claims.alike.hints n (hints n (wants_before_edit (record_of es t c) next e ys legal possible same n untouched wants))
       ]
 
@@ -113,7 +131,7 @@ module _ {S : Type 0} (o : Operations S) where
       record {
         limits = limits;
         agrees = rw journal (agrees_followed es e able.0 s.table t indices legal able.1 written live.agrees followed);
-        hints = rw journal (hints_followed es e able.0 s.table t s.claims c indices legal able.1 written followed claims live.hints);
+        hints = rw journal (hints_followed es e able.0 s.table t s.claims c indices legal able.1 written live.agrees followed claims live.hints);
         grown = omega (arith, followed.2.size_is, room_after (list_of es) able.0 e indices (claim_blocks s.claims) able.1 written (omega (arith, live.grown, live.agrees.size)) rows, claims.alike.more);
       }
 

@@ -1,8 +1,8 @@
 -- How the table of summaries and the claims follow an edit.
 use Rattle.std.specs.Prelude.{◌≡◌, ◌/◌, ◌<◌, ◌≤◌, ℕ, true, List, [], ◌∷◌}
-use Rattle.std.specs.List.{AllByRecursion, list_any}
+use Rattle.std.specs.List.{AllByRecursion}
 use Rattle.lv_geometry.specs.declared.nodes.Node.{Node}
-use Rattle.lv_geometry.specs.Nodes.{covers, is_node}
+use Rattle.lv_geometry.specs.Nodes.{over}
 use Rattle.lv_summary.specs.Changes.{HasSize, TouchesEach}
 use Rattle.lv_summary.specs.Table.{Table}
 use Rattle.lv_refresh.specs.Claimed.{ClaimTable, claim_blocks, claimed_in, is_hinted}
@@ -33,7 +33,7 @@ HaveRows blocks indices = AllByRecursion (λ i. i / 8 < blocks) indices
 abbrev pub TableFollows : {S : Type 0} → Table S → Table S → List ℕ → ℕ → ℕ → Type 0
 TableFollows old new indices edit size = (mid : Table _) × TouchesEach old mid indices edit × HasSize mid new size
 
--- the claims after such an edit: every node that has one of the indices is hinted
+-- the claims after such an edit: the block of each index is hinted
 pub record ClaimsFollow (old new : ClaimTable) (indices : List ℕ) : Type 0 where
   pub alike : ClaimsAlike old new
-  pub touched : (n : Node) → is_node n ≡ true → list_any (covers n) indices ≡ true → is_hinted new n ≡ true
+  pub blocks : AllByRecursion (λ i. is_hinted new (over 1 i) ≡ true) indices

@@ -1,56 +1,16 @@
--- What hints make of claims: at the nodes of an index, and at one node.
-use Rattle.std.proofs.Common.{◌≡◌, ◌≢◌, ℕ, ◌/◌, ◌^◌, ◌<◌, ◌≤◌, ◌&&◌, ◌||◌, length, nat_eq, refl, sym, ap, ◌∙◌, inl, inr, arith}
-use Rattle.std.proofs.lemmas.Bool.{and_parts, cases_Bool, cases_eq, eq-eqb, eqb-true, ne_eqb}
+-- What a hint at one node makes of claims.
+use Rattle.std.proofs.Common.{◌≡◌, ◌≢◌, ℕ, ◌<◌, ◌≤◌, ◌&&◌, ◌||◌, length, nat_eq, refl, sym, ap, ◌∙◌, inl, inr, arith}
+use Rattle.std.proofs.lemmas.Bool.{and_parts, and_right, cases_Bool, cases_eq, eq-eqb, eqb-true, ne_eqb}
 use Rattle.lv_geometry.specs.declared.levels.Levels.{Levels}
 use Rattle.lv_geometry.specs.declared.nodes.Node.{Node}
 use Rattle.lv_geometry.specs.Levels.{thing_at, with_thing}
-use Rattle.lv_geometry.specs.Nodes.{covers, is_node, same_node}
+use Rattle.lv_geometry.specs.Nodes.{is_node, over, same_node}
 use Rattle.lv_geometry.proofs.NodeLaws.{at_each_level, level_of_node}
-use Rattle.lv_refresh.specs.Claimed.{ClaimTable, claim_blocks, claimed_in, is_hinted}
+use Rattle.lv_summary.proofs.TableLaws.{node_of_same}
+use Rattle.lv_refresh.specs.Claimed.{ClaimTable, is_hinted}
 use Rattle.lv_refresh.specs.Inner.{AreClaims, ClaimLevelState, HintsAt, HintsNode, claims_of}
 use Rattle.lv_refresh.specs.Marks.{is_marked}
 use Rattle.lv_refresh.proofs.RowLaws.{AreClaims-same, claim_blocks-same, claimed_in-same, is_hinted-inside, is_hinted-outside, rows_at}
-
--- two numbers are equal either way round
-nat_eq-sym : (a b : ℕ) → nat_eq a b ≡ nat_eq b a
-nat_eq-sym a b =
-    elim (cases_eq a b) [
-      | inl same ↦ eq-eqb a b same ∙ sym (eq-eqb b a (sym same))
-      | inr other ↦ ne_eqb a b other ∙ sym (ne_eqb b a (λ same. other (sym same)))
-    ]
-
--- the node of an index is hinted at on every level
-abbrev pub HintsIndex : ClaimTable → ClaimTable → ℕ → Type 0
-HintsIndex old new i = (level : ℕ) → 1 ≤ level → level ≤ 6 → HintsAt (rows_at old level) (rows_at new level) (i / 8 ^ level)
-
-module _ (old new : ClaimTable) (i : ℕ) (hinted : HintsIndex old new i) where
-  -- hints leave the claims
-  pub claimed_in-touched : (n : Node) → claimed_in new n ≡ claimed_in old n
-  claimed_in-touched = claimed_in-same old new (λ level low high. (hinted level low high).claimed)
-
-  -- they leave the blocks
-  pub claim_blocks-touched : claim_blocks new ≡ claim_blocks old
-  claim_blocks-touched = claim_blocks-same old new (λ level low high. ap length (hinted level low high).claimed)
-
-  -- and claims are kept as they must be
-  pub AreClaims-touched : AreClaims old → AreClaims new
-  AreClaims-touched claims =
-      AreClaims-same old new claims (λ level low high. ap length (hinted level low high).claimed) (λ level low high. (hinted level low high).room)
-
-  -- the nodes that have the index are hinted at
-  pub is_hinted-touched : (n : Node) → is_hinted new n ≡ (is_node n && covers n i) || is_hinted old n
-  is_hinted-touched n =
-      elim (cases_Bool (is_node n)) [
-        | inl member ↦
-            let level = level_of_node n member in
-            is_hinted-inside new n member
-            ∙ (hinted n.level level.0 level.1).hints n.number
-            ∙ ap (λ has. has || is_marked (rows_at old n.level).hints n.number) (nat_eq-sym n.number (i / 8 ^ n.level))
-            ∙ ap (λ hint. covers n i || hint) (sym (is_hinted-inside old n member))
-            ∙ ap (λ inside. (inside && covers n i) || is_hinted old n) (sym member)
-        | inr stranger ↦
-            is_hinted-outside new n stranger ∙ sym (is_hinted-outside old n stranger) ∙ ap (λ inside. (inside && covers n i) || is_hinted old n) (sym stranger)
-      ]
 
 -- one number is hinted at on one level, and the other levels are as they were
 pub record HintsLevel (old new : ClaimTable) (k number level : ℕ) : Type 0 where
@@ -126,6 +86,18 @@ module _ (old new : ClaimTable) (k number : ℕ) (hinted : (level : ℕ) → 1 �
         ];
         blocks = claim_blocks-same old new (λ level low high. ap length (stamps_stay level low high));
       }
+
+-- a hint at the block of an index is at a node of the table
+pub block_hinted : (old new : ClaimTable) (i : ℕ) → HintsNode old new (over 1 i) → (n : Node) → is_hinted new n ≡ same_node n (over 1 i) || is_hinted old n
+block_hinted old new i hinted n =
+    elim (cases_Bool (same_node n (over 1 i))) [
+      | inl same ↦
+          hinted.hints n ∙ ap (λ member. (member && same_node n (over 1 i)) || is_hinted old n) (node_of_same n (over 1 i) same refl)
+      | inr other ↦
+          hinted.hints n
+          ∙ ap (λ block. block || is_hinted old n) (and_right (is_node n) (same_node n (over 1 i)) other)
+          ∙ ap (λ block. block || is_hinted old n) (sym other)
+    ]
 
 -- a node above the six levels needs no hint
 pub HintsNode-above : (c : ClaimTable) (node : Node) → 6 < node.level → HintsNode c c node

@@ -5,6 +5,7 @@ mod HintLaws
 mod JoinLaws
 mod MarkLaws
 mod NextLaws
+mod OverLaws
 mod PickLaws
 mod RowLaws
 mod TurnLaws

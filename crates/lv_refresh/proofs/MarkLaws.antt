@@ -1,13 +1,12 @@
 -- What a change of one word makes of the marks, and where the least mark is.
-use Rattle.std.proofs.Common.{◌≡◌, ◌≢◌, ℕ, ◌+◌, ◌-◌, ◌*◌, ◌/◌, ◌%◌, ◌^◌, ◌<◌, ◌≤◌, true, false, ◌&&◌, ◌||◌, not, List, length, get_or, set, sum, nat_eq, replicate, sym, ap, ◌∙◌, inl, inr, arith}
+use Rattle.std.proofs.Common.{◌≡◌, ◌≢◌, ℕ, ◌+◌, ◌-◌, ◌*◌, ◌/◌, ◌%◌, ◌^◌, ◌<◌, ◌≤◌, Bool, true, false, ◌&&◌, ◌||◌, not, List, [], ◌∷◌, length, get_or, set, sum, nat_eq, nat_lt, replicate, refl, subst, sym, ap, ◌∙◌, inl, inr, arith}
 use Rattle.std.specs.Int.{bit_at, bit_not, trailing_zeros, w64}
 use Rattle.std.specs.Prelude.{bit_and, bit_or}
-use Rattle.std.proofs.lemmas.Bool.{cases_eq, cases_lt, eq-eqb, ne_eqb, true≢false}
-use Rattle.std.proofs.lemmas.List.{get_or-replicate, get_or-set_other, get_or-set_same, get_or_past}
+use Rattle.std.proofs.lemmas.Bool.{cases_eq, cases_lt, eq-eqb, le-ltb, lt-ltb, ne_eqb, true≢false}
+use Rattle.std.proofs.lemmas.List.{get_or-replicate, get_or-set_other, get_or-set_same}
 use Rattle.std.proofs.lemmas.List.Sums.{sum_by-set}
 use Rattle.std.proofs.lemmas.Nat.{and_le_l}
 use Rattle.std.proofs.lemmas.Nat.Bits.{bit_at-trailing_zeros, bit_at-zero, bit_at_clear_other, bit_at_clear_same, bit_at_ones, bit_at_set_other, bit_at_set_same}
-use Rattle.lv_refresh.specs.Inner.{AreMarks}
 use Rattle.lv_refresh.specs.Marks.{is_marked}
 
 -- two numbers are one where their words and their bits are
@@ -89,20 +88,12 @@ is_marked-ones n j inside =
     marked_by _ j (2 ^ 64 - 1) (get_or-replicate n (j / 64) (2 ^ 64 - 1) 0 inside) ∙ ap (λ b. nat_eq b 1) (bit_at_ones 64 (j % 64) (omega arith))
 
 -- a word that is 0 has no mark
-unmarked_word : (words : List ℕ) (j : ℕ) → get_or words (j / 64) 0 ≡ 0 → is_marked words j ≡ false
+pub unmarked_word : (words : List ℕ) (j : ℕ) → get_or words (j / 64) 0 ≡ 0 → is_marked words j ≡ false
 unmarked_word words j none = marked_by words j 0 none ∙ ap (λ b. nat_eq b 1) (bit_at-zero (j % 64))
 
--- there is no mark where the words before the last are passed
-pub none_marked : (words : List ℕ) (first j : ℕ) → AreMarks words first → length words ≤ first → is_marked words j ≡ false
-none_marked words first j marks all =
-    unmarked_word words j (elim (cases_lt (j / 64) (length words)) [
-      | inl inside ↦ marks.none (j / 64) (omega arith)
-      | inr past ↦ get_or_past words (j / 64) 0 past
-    ])
-
 -- the least mark is the lowest bit of the first word that is not 0
-pub least_marked : (words : List ℕ) (first word : ℕ) → AreMarks words first → word ≡ get_or words first 0 → 0 < word → word < 2 ^ 64 → (is_marked words (first * 64 + trailing_zeros w64 word) ≡ true) × ((j : ℕ) → j < first * 64 + trailing_zeros w64 word → is_marked words j ≡ false)
-least_marked words first word marks is some small =
+pub least_marked : (words : List ℕ) (first word : ℕ) → ((k : ℕ) → k < first → get_or words k 0 ≡ 0) → word ≡ get_or words first 0 → 0 < word → word < 2 ^ 64 → (is_marked words (first * 64 + trailing_zeros w64 word) ≡ true) × ((j : ℕ) → j < first * 64 + trailing_zeros w64 word → is_marked words j ≡ false)
+least_marked words first word none is some small =
     let zeros = bit_at-trailing_zeros w64 word some small in
     let bit = trailing_zeros w64 word in
     let below : bit < 64 = zeros.0 in
@@ -110,13 +101,34 @@ least_marked words first word marks is some small =
     let place : (first * 64 + bit) % 64 ≡ bit = omega arith in (
       marked_by words (first * 64 + bit) word (ap (λ k. get_or words k 0) at ∙ sym is) ∙ ap (λ b. nat_eq (bit_at word b) 1) place ∙ ap (λ b. nat_eq b 1) zeros.1,
       λ j before. elim (cases_lt (j / 64) first) [
-        | inl earlier ↦ unmarked_word words j (marks.none (j / 64) earlier)
+        | inl earlier ↦ unmarked_word words j (none (j / 64) earlier)
         | inr there ↦
             let word_is : j / 64 ≡ first = omega arith in
             marked_by words j word (ap (λ k. get_or words k 0) word_is ∙ sym is) ∙ ap (λ b. nat_eq b 1) (zeros.2 (j % 64) (omega arith))
       ],
     )
 
+-- the least mark of one word is its lowest bit
+pub least_of_word : (word : ℕ) → 0 < word → word < 2 ^ 64 → (is_marked (word ∷ []) (trailing_zeros w64 word) ≡ true) × ((j : ℕ) → j < trailing_zeros w64 word → is_marked (word ∷ []) j ≡ false)
+least_of_word word some small =
+    let bit = trailing_zeros w64 word in
+    let alone : 0 * 64 + bit ≡ bit = omega arith in
+    subst (λ n. (is_marked (word ∷ []) n ≡ true) × ((j : ℕ) → j < n → is_marked (word ∷ []) j ≡ false)) alone
+    (least_marked (word ∷ []) 0 word (λ k none. absurd (omega arith)) refl some small)
+
 -- a number that there is room for has a word
 pub word_inside : (words : List ℕ) (i : ℕ) → i < 64 * length words → i / 64 < length words
 word_inside words i room = omega arith
+
+-- the numbers below the next one are those below a number, and it
+pub below_next : (j i : ℕ) (marked : Bool) → nat_eq j i || (nat_lt j i || marked) ≡ nat_lt j (i + 1) || marked
+below_next j i marked =
+    elim (cases_eq j i) [
+      | inl same ↦ ap (λ here. here || (nat_lt j i || marked)) (eq-eqb j i same) ∙ ap (λ below. below || marked) (sym (lt-ltb j (i + 1) (omega arith)))
+      | inr other ↦
+          let alike : nat_lt j i ≡ nat_lt j (i + 1) = elim (cases_lt j i) [
+            | inl below ↦ lt-ltb j i below ∙ sym (lt-ltb j (i + 1) (omega arith))
+            | inr past ↦ le-ltb j i past ∙ sym (le-ltb j (i + 1) (omega arith))
+          ] in
+          ap (λ here. here || (nat_lt j i || marked)) (ne_eqb j i other) ∙ ap (λ below. below || marked) alike
+    ]

@@ -63,12 +63,12 @@ module _ {S : Type 0} (t : Table S) (level : ℕ) where
       ]
 
   -- where no node is hinted at, none wants a job
-  pub Passes-from : (old seen new : ClaimRows) → seen.claimed ≡ old.claimed → length seen.hints ≡ length old.hints → ((k : ℕ) → wants_at t level seen k ≡ true → is_marked seen.hints k ≡ true) → new ≡ seen → ((k : ℕ) → is_marked seen.hints k ≡ false) → Passes t level old new
-  Passes-from old seen new claimed room hints same none =
+  pub Passes-from : (old seen : ClaimRows) → seen.claimed ≡ old.claimed → length seen.hints ≡ length old.hints → ((k : ℕ) → wants_at t level seen k ≡ true → is_marked seen.hints k ≡ true) → ((k : ℕ) → is_marked seen.hints k ≡ false) → Passes t level old seen
+  Passes-from old seen claimed room hints none =
       record {
         none = λ k. sym (wants_at-same old seen k (ap (λ stamps. get_or stamps k 0) claimed)) ∙ false_from_ne_true (wants_at t level seen k) (λ wants. true≢false (sym (hints k wants) ∙ none k));
-        claimed = ap (λ rows. rows.claimed) same ∙ claimed;
-        room = ap (λ rows. length rows.hints) same ∙ room;
+        claimed = claimed;
+        room = room;
       }
 
   -- the least node that is hinted at is picked where it wants a job

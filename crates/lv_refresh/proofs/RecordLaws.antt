@@ -1,7 +1,8 @@
 -- Which nodes are fresh by the record, where a table agrees with its edits.
-use Rattle.std.proofs.Common.{◌≡◌, ℕ, Bool, ◌&&◌, Option, Some, None, option_map, List, length, refl, sym, ap, ◌∙◌, inl, inr}
+use Rattle.std.proofs.Common.{◌≡◌, ℕ, ◌≤◌, Bool, ◌&&◌, Option, Some, None, option_map, List, length, refl, sym, ap, ◌∙◌, inl, inr, arith}
 use Rattle.std.specs.List.{list_all, range_with_len}
 use Rattle.std.proofs.lemmas.Bool.{cases_Bool}
+use Rattle.std.proofs.lemmas.Option.{none-some, same_Some}
 use Rattle.lv_geometry.specs.declared.nodes.Node.{Node}
 use Rattle.lv_geometry.specs.Nodes.{child, is_below, is_node}
 use Rattle.lv_bodies.specs.Body.{Operations}
@@ -20,7 +21,16 @@ pub same_version : {S : Type 0} (v : ℕ) (kept : Option (ℕ × S)) → has_ver
 same_version v None = refl
 same_version v (Some kept) = refl
 
+-- the version of what is kept is one that it is kept at
+version_of_kept : {S : Type 0} (kept : Option (ℕ × S)) (most : ℕ) → ((version : ℕ) (s : S) → kept ≡ Some (version, s) → version ≤ most) → (v : ℕ) → option_map (λ kept. kept.0) kept ≡ Some v → v ≤ most
+version_of_kept None most past v is = absurd (none-some v is)
+version_of_kept (Some kept) most past v is = omega (arith, past kept.0 kept.1 refl, same_Some kept.0 v is)
+
 module _ {S : Type 0} (o : Operations S) where
+  -- no version that is kept is of an edit to come, where a table agrees
+  pub kept_past : (es : List Edit) (t : Table S) (c : ClaimTable) → Agrees o es t → (n : Node) (v : ℕ) → (record_of es t c).kept n ≡ Some v → v ≤ length es
+  kept_past es t c agrees n = version_of_kept (kept_in t n) (length es) (agrees.versions n)
+
   -- the nodes that are fresh in a table that agrees are those that are fresh by the record
   pub fresh_agrees : (es : List Edit) (t : Table S) (c : ClaimTable) → Agrees o es t → (n : Node) → fresh_in t n ≡ is_fresh (record_of es t c) n
   fresh_agrees es t c agrees n =

@@ -1,16 +1,18 @@
--- Which nodes may begin to want a job: those that an edit touched, the parent of one whose summary was installed, and any
+-- Which nodes may begin to want a job: the blocks that an edit touched, the parent of one whose summary was installed, and any
 -- whole node when claims are forgotten.
-use Rattle.std.proofs.Common.{◌≡◌, ◌⊎◌, ℕ, ◌+◌, ◌-◌, ◌*◌, ◌/◌, ◌<◌, Bool, true, false, ◌&&◌, ◌||◌, not, Some, List, [], ◌∷◌, ◌++◌, nat_eq, if◌then◌else◌, refl, sym, ap, ◌∙◌, inl, inr, arith}
+use Rattle.std.proofs.Common.{◌≡◌, ◌⊎◌, ℕ, ◌+◌, ◌-◌, ◌*◌, ◌/◌, ◌<◌, ◌^◌, ◌≤◌, Bool, true, false, ◌&&◌, ◌||◌, not, Option, None, Some, List, [], ◌∷◌, ◌++◌, length, nat_eq, if◌then◌else◌, refl, sym, ap, ◌∙◌, inl, inr, arith}
 use Rattle.std.specs.Prelude.{ℤ}
-use Rattle.std.proofs.lemmas.Bool.{and_from, and_parts, cases_Bool, cond-false, cond-true, eq-eqb, eqb-false, eqb-true, leb-true, not-true, or_left, true≢false}
+use Rattle.std.specs.List.{list_any}
+use Rattle.std.proofs.Math.Nat.{div-div-eq-div-mul, mul_comm}
+use Rattle.std.proofs.lemmas.Bool.{and_from, and_parts, and_right, cases_Bool, cond-false, cond-true, eq-eqb, eqb-false, eqb-true, leb-true, ne_eqb, not-true, or_cases, or_left, or_right, true≢false}
 use Rattle.lv_geometry.specs.declared.nodes.Node.{Node}
-use Rattle.lv_geometry.specs.Nodes.{child, is_node, parent, same_node}
+use Rattle.lv_geometry.specs.Nodes.{child, covers, is_node, parent, same_node}
 use Rattle.lv_edits.specs.declared.edit.Edit.{Edit}
 use Rattle.lv_edits.specs.History.{applied, list_of, replayed}
-use Rattle.lv_edits.specs.Touch.{is_whole, touched_by, touches}
+use Rattle.lv_edits.specs.Touch.{indices_written, is_whole, touched_by, touches}
 use Rattle.lv_edits.proofs.TouchLaws.{touched_by-snoc, touches_parent, untouched_keeps}
 use Rattle.lv_summary.proofs.TableLaws.{same_node-eq, same_node-self}
-use Rattle.lv_refresh.proofs.HonestyLaws.{children_fresh_from, each_child_fresh}
+use Rattle.lv_refresh.proofs.HonestyLaws.{child_width, children_fresh_from, each_child_fresh}
 use Rattle.lv_refresh.specs.Claim.{children_fresh, wants_job}
 use Rattle.lv_refresh.specs.Record.{Record, SameRecord, is_fresh, is_version}
 
@@ -94,6 +96,48 @@ module _ (r next : Record) (e : Edit) (ys : List ℤ) (legal : replayed r.edits 
               sym (fresh_before (child n k) apart (and_parts _ _ fresh).0) ∙ fresh)) w.children
         ];
       }
+
+-- the child of a node that has one of its indices
+child_over : (n : Node) (i : ℕ) → 1 < n.level → covers n i ≡ true → (k : ℕ) × (k < 8) × (covers (child n k) i ≡ true)
+child_over n i above covered =
+    let width = 8 ^ (n.level - 1) in
+    let wide : 8 ^ n.level ≡ width * 8 = child_width n above ∙ mul_comm 8 width in
+    let eighth : i / width / 8 ≡ n.number = div-div-eq-div-mul i width 8 ∙ ap (λ w. i / w) (sym wide) ∙ eqb-true _ _ covered in
+    let k = i / width - 8 * n.number in
+    (k, omega arith, eq-eqb (i / width) (8 * n.number + k) (omega arith))
+
+-- some child of a node has one of some indices where the node has one
+some_child_covers : (n : Node) (indices : List ℕ) → 1 < n.level → list_any (covers n) indices ≡ true → (k : ℕ) × (k < 8) × (list_any (covers (child n k)) indices ≡ true)
+some_child_covers n [] above covered = absurd (true≢false (sym covered))
+some_child_covers n (i ∷ rest) above covered =
+    elim (or_cases (covers n i) (list_any (covers n) rest) covered) [
+      | inl here ↦
+          let at = child_over n i above here in
+          (at.0, at.1, or_left _ _ at.2)
+      | inr later ↦
+          let at = some_child_covers n rest above later in
+          (at.0, at.1, or_right _ _ at.2)
+    ]
+
+-- what is kept is not of the edit to come, where it is of none later than the last
+not_of_next : (kept : Option ℕ) (last : ℕ) → ((v : ℕ) → kept ≡ Some v → v ≤ last) → is_version (last + 1) kept ≡ false
+not_of_next None last past = refl
+not_of_next (Some v) last past = ne_eqb v (last + 1) (λ same. omega (arith, past v refl, same))
+
+module _ (r next : Record) (e : Edit) (past : (m : Node) (v : ℕ) → r.kept m ≡ Some v → v ≤ length r.edits) (same : SameRecord (record r { edits = r.edits ++ e ∷ [] }) next) where
+  -- a node that an edit touched is not fresh after it
+  stale_after_edit : (n : Node) → touches (list_of r.edits) e n ≡ true → is_fresh next n ≡ false
+  stale_after_edit n touched =
+      let now : touched_by next.edits n ≡ length r.edits + 1 = ap (λ edits. touched_by edits n) same.edits ∙ touched_by-snoc r.edits e n ∙ cond-true _ _ _ touched in
+      and_right _ _ (ap (λ v. is_version v (next.kept n)) now ∙ ap (is_version (length r.edits + 1)) (same.kept n) ∙ not_of_next (r.kept n) (length r.edits) (past n))
+
+  -- so a node above the first level that it touched wants no job, since it touched one of the node's children
+  pub calm_after_edit : (n : Node) → 1 < n.level → touches (list_of r.edits) e n ≡ true → wants_job next n ≡ true → ⊥
+  calm_after_edit n above touched wants =
+      let at = some_child_covers n (indices_written (list_of r.edits) e) above touched in
+      let high : nat_eq n.level 1 ≡ false = ne_eqb n.level 1 (λ low. omega (arith, low, above)) in
+      let all : children_fresh next n ≡ true = ap (λ low. low || children_fresh next n) (sym high) ∙ (wants_parts next n wants).children in
+      true≢false (sym (each_child_fresh next n all at.0 at.1) ∙ stale_after_edit (child n at.0) at.2)
 
 -- a node that isn't another's parent has not the other as a child
 child_besides : (n m : Node) (k : ℕ) → 1 < n.level → k < 8 → same_node n (parent m) ≡ false → same_node (child n k) m ≡ false

@@ -17,10 +17,20 @@ use Rattle.lv_refresh.specs.Contents.{in_order}
 use Rattle.lv_refresh.specs.Marks.{is_marked}
 use Rattle.lv_refresh.specs.Record.{is_version}
 
--- there are few enough words for numbers of 32 bits, and none before the first has a mark
-pub record AreMarks (words : List ℕ) (first : ℕ) : Type 0 where
+-- marks over words: the words that have a mark are those that are marked
+abbrev pub AreOver : List ℕ → List ℕ → Type 0
+AreOver over words = (k : ℕ) → is_marked over k ≡ not (nat_eq (slice_index words k) 0)
+
+-- one word has a mark for each of some words that has one, so there are at most 64 of them
+pub record AreFewMarks (words : List ℕ) (over : ℕ) : Type 0 where
+  pub few : length words ≤ 64
+  pub over_is : AreOver (over ∷ []) words
+
+-- there are words with room for a mark for each of some words that has one, and few enough words for numbers below 131,072
+pub record AreMarks (words over : List ℕ) : Type 0 where
   pub few : length words ≤ 2048
-  pub none : (k : ℕ) → k < first → slice_index words k ≡ 0
+  pub room : length words ≤ 64 * length over
+  pub over_is : AreOver over words
 
 -- one level of claims: its rows, and for how many of them it has memory
 pub record ClaimLevelState : Type 0 where

@@ -1,6 +1,6 @@
 ghost use Rattle.std.specs.Prelude.{◌≡◌, ℕ, ◌+◌, ◌*◌, ◌/◌, ◌^◌, ◌<◌, ◌≤◌, ◌&&◌, ◌||◌, Bool, true, false, None, Some, option_map, length, IfSome, IfNone, OnOk, OnErr, IfErr, if◌then◌else◌};
 ghost use Rattle.lv_geometry.specs.Levels.{thing_at};
-ghost use Rattle.lv_geometry.specs.Nodes.{covers, is_below, is_node, parent, same_node};
+ghost use Rattle.lv_geometry.specs.Nodes.{is_below, is_node, over, parent, same_node};
 ghost use Rattle.lv_bodies.specs.Body.{fold_of};
 ghost use Rattle.lv_edits.specs.Touch.{elements_under};
 ghost use Rattle.lv_known.specs.Agrees.{Agrees};
@@ -83,20 +83,16 @@ impl Claims {
         self.levels.level_1.rows() as u32
     }
 
-    /// Hears that an edit touched index `i`, so that every node that has it may want a job.
+    /// Hears that an edit touched index `i`, so that its block may want a job. No node above can, before the summary of its
+    /// child is installed again.
     #[inline]
     pub fn touch(&mut self, i: u32)
         requires { i / 8 < claim_blocks self.old }
         ensures claimed { (n : Node) → claimed_in self.new n ≡ claimed_in self.old n }
-        ensures hints { (n : Node) → is_hinted self.new n ≡ ((is_node n && covers n i) || is_hinted self.old n) }
+        ensures hints { (n : Node) → is_hinted self.new n ≡ (same_node n (over 1 i) || is_hinted self.old n) }
         ensures blocks { claim_blocks self.new ≡ claim_blocks self.old }
     {
         self.levels.level_1.hint(i / 8);
-        self.levels.level_2.hint(i / 64);
-        self.levels.level_3.hint(i / 512);
-        self.levels.level_4.hint(i / 4096);
-        self.levels.level_5.hint(i / 32768);
-        self.levels.level_6.hint(i / 262144);
     }
 
     /// Hears that a summary was installed for a node, so that its parent may want a job.

@@ -88,10 +88,9 @@ impl Level {
 
     /// The least node that is hinted at.
     #[inline(always)]
-    pub fn first_hint(&mut self) -> Option<u32>
-        ensures rows { self.new.rows ≡ self.old.rows }
-        ensures some { IfSome result (λ number. IsFirstHint self.old.rows number) }
-        ensures none { IfNone result ((k : ℕ) → is_marked self.old.rows.hints k ≡ false) }
+    pub fn first_hint(&self) -> Option<u32>
+        ensures some { IfSome result (λ number. IsFirstHint self.now.rows number) }
+        ensures none { IfNone result ((k : ℕ) → is_marked self.now.rows.hints k ≡ false) }
     {
         self.hints.least()
     }

@@ -10,6 +10,7 @@ mod block_jobs;
 mod claims;
 mod computing;
 mod contents;
+mod few_marks;
 mod gathering;
 mod jobs;
 mod level;

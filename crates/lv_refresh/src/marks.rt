@@ -1,28 +1,30 @@
+//! A set of small numbers, whose least is found in three steps: the words that have a mark are a set of few numbers.
 ghost use Rattle.std.specs.Prelude.{◌≡◌, ℕ, ◌*◌, ◌<◌, ◌≤◌, ◌&&◌, ◌||◌, not, true, false, [], length, sum, nat_eq, OnOk, IfErr, IfSome, IfNone};
 ghost use Rattle.lv_refresh.specs.Marks.{is_marked};
 
+use crate::few_marks::FewMarks;
 use lv_geometry::Refusal;
 use std::alloc::Global;
 use std::marker::Model;
 
-/// A set of small numbers, 64 a word, whose least one is found fast.
+/// A set of numbers below 131,072, 64 a word.
 #[derive(Drop)]
 pub struct Marks {
     words: Vec<u64>,
-    // No word before this one has a mark.
-    first: usize,
+    // The words that have a mark.
+    over: FewMarks,
 }
 
 impl Model for Marks {
-    ghost use Rattle.std.specs.Prelude.{◌*◌, vec_capacity};
+    ghost use Rattle.std.specs.Prelude.{◌*◌, min, vec_capacity};
     ghost use Rattle.lv_refresh.specs.Inner.{AreMarks};
     ghost use Rattle.lv_refresh.specs.Marks.{MarksState};
 
     ghost Value = { MarksState };
 
-    ghost view = { λ a. record { words = a.words.items; capacity = 64 * vec_capacity a.words } };
+    ghost view = { λ a. record { words = a.words.items; capacity = 64 * min (vec_capacity a.words) a.over.capacity } };
 
-    ghost invariant = { λ a. AreMarks a.words.items a.first };
+    ghost invariant = { λ a. AreMarks a.words.items a.over.words };
 }
 
 impl Marks {
@@ -32,7 +34,7 @@ impl Marks {
     {
         Marks {
             words: Vec::new(alloc),
-            first: 0,
+            over: FewMarks::new(alloc),
         }
     }
 
@@ -42,9 +44,10 @@ impl Marks {
         ensures ok { OnOk result (marks ≤ self.new.capacity) }
         ensures err { IfErr result (λ refusal. refusal ≡ Refusal.NoMemory) }
     {
-        let words = marks.div_ceil(64) as usize;
-        let more = words.saturating_sub(self.words.len());
-        self.words.reserve(more).map_err(|_| Refusal::NoMemory)
+        let words = marks.div_ceil(64);
+        let more = (words as usize).saturating_sub(self.words.len());
+        self.words.reserve(more).map_err(|_| Refusal::NoMemory)?;
+        self.over.reserve(words)
     }
 
     /// Makes room for the numbers below `marks`. None of the new ones is marked.
@@ -59,6 +62,7 @@ impl Marks {
         let Ok(()) = self.words.resize(words, 0) else {
             unreachable!()
         };
+        self.over.grow(marks.div_ceil(64));
     }
 
     /// Marks a number.
@@ -68,9 +72,8 @@ impl Marks {
         ensures marks { (j : ℕ) → is_marked self.new.words j ≡ (nat_eq j i || is_marked self.old.words j) }
         ensures room { length self.new.words ≡ length self.old.words }
     {
-        let word = i as usize / 64;
-        self.words[word] |= 1 << (i % 64);
-        self.first = self.first.min(word);
+        self.words[i as usize / 64] |= 1 << (i % 64);
+        self.over.set(i / 64);
     }
 
     /// Takes the mark of a number away.
@@ -81,7 +84,11 @@ impl Marks {
         ensures room { length self.new.words ≡ length self.old.words }
         ensures lighter { is_marked self.old.words i ≡ true → sum self.new.words < sum self.old.words }
     {
-        self.words[i as usize / 64] &= !(1 << (i % 64));
+        let rest = self.words[i as usize / 64] & !(1 << (i % 64));
+        self.words[i as usize / 64] = rest;
+        if rest == 0 {
+            self.over.clear(i / 64);
+        }
     }
 
     /// Marks every number that there is room for.
@@ -90,26 +97,21 @@ impl Marks {
         ensures room { length self.new.words ≡ length self.old.words }
     {
         self.words.fill(u64::MAX);
-        self.first = 0;
+        self.over.set_below(self.words.len() as u32);
     }
 
-    /// The least number that is marked. Words without a mark are passed once.
+    /// The least number that is marked.
     #[inline(always)]
-    pub fn least(&mut self) -> Option<u32>
-        ensures same { self.new ≡ self.old }
-        ensures marked { IfSome result (λ i. is_marked self.old.words i ≡ true) }
-        ensures room { IfSome result (λ i. i < 64 * length self.old.words) }
-        ensures least { IfSome result (λ i. (j : ℕ) → j < i → is_marked self.old.words j ≡ false) }
-        ensures none { IfNone result ((j : ℕ) → is_marked self.old.words j ≡ false) }
+    pub fn least(&self) -> Option<u32>
+        ensures marked { IfSome result (λ i. is_marked self.now.words i ≡ true) }
+        ensures room { IfSome result (λ i. i < 64 * length self.now.words) }
+        ensures least { IfSome result (λ i. (j : ℕ) → j < i → is_marked self.now.words j ≡ false) }
+        ensures none { IfNone result ((j : ℕ) → is_marked self.now.words j ≡ false) }
     {
-        while self.first < self.words.len() {
-            let word = self.words[self.first];
-            if word != 0 {
-                return Some(self.first as u32 * 64 + word.trailing_zeros());
-            }
-            self.first += 1;
-        }
-        None
+        let Some(word) = self.over.least() else {
+            return None;
+        };
+        Some(word * 64 + self.words[word as usize].trailing_zeros())
     }
 
     /// Whether a number is marked.

@@ -1,25 +1,23 @@
-use Rattle.std.proofs.Common.{◌≡◌, ap, get_or, ◌∙◌, sym}
+use Rattle.std.proofs.Common.{◌≡◌, get_or, ◌∙◌, sym}
 use Rattle.lv_refresh.specs.Claimed.{version_of}
 use Rattle.lv_refresh.proofs.PickLaws.{Passes-from, Picks-from, hints_after, row_of_wanted}
 use Rattle.lv_refresh.proofs.claims.next_of.Goals as goal
 
 pub claim-requires-clause-inside : goal.claim-requires-clause-inside
 claim-requires-clause-inside g c =
-    let stamps : c.unhint.new.self.rows.claimed ≡ c.args.rows.now.rows.claimed = c.unhint.ensures.claimed ∙ ap (λ rows. rows.claimed) c.first_hint.ensures.rows ∙ c.loop-number.invariant.claimed in
+    let stamps : c.unhint.new.self.rows.claimed ≡ c.args.rows.now.rows.claimed = c.unhint.ensures.claimed ∙ c.loop-number.invariant.claimed in
     rw stamps (row_of_wanted c.args.table.now (version_of (get_or c.unhint.new.self.rows.claimed c.in-Some.number 0)) c.args.level c.in-Some.number c.args.rows.now.rows (sym c.wants.ensures ∙ c.if-wants.true) c.requires.rows_enough)
 
 pub returns-then-wants : goal.returns-then-wants
 returns-then-wants g c =
-    let seen = c.loop-number.rows.rows in
-    let away = rw c.first_hint.ensures.rows at c.unhint.ensures in
     let wants = sym c.wants.ensures ∙ c.if-wants.true in
     let inside = row_of_wanted c.args.table.now (version_of (get_or c.unhint.new.self.rows.claimed c.in-Some.number 0)) c.args.level c.in-Some.number c.args.rows.now.rows wants c.requires.rows_enough in
-    Picks-from c.args.table.now c.args.level c.args.rows.now.rows seen c.unhint.new.self.rows c.claim.new.self.rows c.in-Some.number c.touched-version.result
-    c.loop-number.invariant.claimed c.loop-number.invariant.room c.loop-number.invariant.hints c.in-Some.ensures.some away c.claim.ensures inside wants c.touched-version.ensures.value
+    Picks-from c.args.table.now c.args.level c.args.rows.now.rows c.loop-number.rows.rows c.unhint.new.self.rows c.claim.new.self.rows c.in-Some.number c.touched-version.result
+    c.loop-number.invariant.claimed c.loop-number.invariant.room c.loop-number.invariant.hints c.in-Some.ensures.some c.unhint.ensures c.claim.ensures inside wants c.touched-version.ensures.value
 
 pub loop-number-preserved : goal.loop-number-preserved
 loop-number-preserved g c =
-    let away = rw c.first_hint.ensures.rows at c.unhint.ensures in
+    let away = c.unhint.ensures in
     record {
       claimed = away.claimed ∙ c.loop-number.invariant.claimed;
       room = away.room ∙ c.loop-number.invariant.room;
@@ -28,5 +26,5 @@ loop-number-preserved g c =
 
 pub returns : goal.returns
 returns g c =
-    Passes-from c.args.table.now c.args.level c.args.rows.now.rows c.loop-number.rows.rows c.first_hint.new.self.rows
-    c.loop-number.invariant.claimed c.loop-number.invariant.room c.loop-number.invariant.hints c.first_hint.ensures.rows c.in_default.ensures.none
+    Passes-from c.args.table.now c.args.level c.args.rows.now.rows c.loop-number.rows.rows
+    c.loop-number.invariant.claimed c.loop-number.invariant.room c.loop-number.invariant.hints c.in_default.ensures.none

@@ -1,20 +1,32 @@
 use Rattle.std.proofs.Common.{◌<◌, ◌^◌, arith}
 use Rattle.std.proofs.lemmas.List.{get_or_read}
-use Rattle.lv_refresh.proofs.MarkLaws.{least_marked}
+use Rattle.std.proofs.lemmas.Nat.{trailing_le}
+use Rattle.lv_refresh.proofs.OverLaws.{least_below, marked_inside}
 use Rattle.lv_refresh.proofs.marks.Marks.least.Goals as goal
 
-pub returns-then-word-ne0-clause-marked : goal.returns-then-word-ne0-clause-marked
-returns-then-word-ne0-clause-marked c =
-    let words = c.loop-self.self-inside.words.items in
-    let first = c.loop-self.self-inside.first in
-    let small : c.index-word.result.now < 2 ^ 64 = omega arith in
-    rw (← c.self.view_is, ← c.loop-self.invariant.same)
-    (least_marked words first c.index-word.result.now c.loop-self.invariant.marks (get_or_read words first _ (omega arith) c.index-word.ensures 0) (omega arith) small).0
+pub overflow_add-result : goal.overflow_add-result
+overflow_add-result c =
+    let words = c.self.inside.words.items in
+    let inside = marked_inside c.self.inside.over.words words c.in-Some.word c.self.invariant.over_is c.in-Some.ensures.marked in
+    omega (arith, inside, c.self.invariant.few, trailing_le 64 c.index.result.now)
 
-pub returns-then-word-ne0-clause-least : goal.returns-then-word-ne0-clause-least
-returns-then-word-ne0-clause-least c =
-    let words = c.loop-self.self-inside.words.items in
-    let first = c.loop-self.self-inside.first in
-    let small : c.index-word.result.now < 2 ^ 64 = omega arith in
-    rw (← c.self.view_is, ← c.loop-self.invariant.same)
-    (least_marked words first c.index-word.result.now c.loop-self.invariant.marks (get_or_read words first _ (omega arith) c.index-word.ensures 0) (omega arith) small).1
+pub returns-clause-marked : goal.returns-clause-marked
+returns-clause-marked c =
+    let words = c.self.inside.words.items in
+    let inside = marked_inside c.self.inside.over.words words c.in-Some.word c.self.invariant.over_is c.in-Some.ensures.marked in
+    let small : c.index.result.now < 2 ^ 64 = omega arith in
+    rw (← c.self.view_is) (least_below c.self.inside.over.words words c.self.invariant.over_is c.in-Some.word c.index.result.now c.in-Some.ensures.marked c.in-Some.ensures.least (get_or_read words _ _ inside c.index.ensures 0) small).marked
+
+pub returns-clause-room : goal.returns-clause-room
+returns-clause-room c =
+    let words = c.self.inside.words.items in
+    let inside = marked_inside c.self.inside.over.words words c.in-Some.word c.self.invariant.over_is c.in-Some.ensures.marked in
+    let small : c.index.result.now < 2 ^ 64 = omega arith in
+    rw (← c.self.view_is) (least_below c.self.inside.over.words words c.self.invariant.over_is c.in-Some.word c.index.result.now c.in-Some.ensures.marked c.in-Some.ensures.least (get_or_read words _ _ inside c.index.ensures 0) small).room
+
+pub returns-clause-least : goal.returns-clause-least
+returns-clause-least c =
+    let words = c.self.inside.words.items in
+    let inside = marked_inside c.self.inside.over.words words c.in-Some.word c.self.invariant.over_is c.in-Some.ensures.marked in
+    let small : c.index.result.now < 2 ^ 64 = omega arith in
+    rw (← c.self.view_is) (least_below c.self.inside.over.words words c.self.invariant.over_is c.in-Some.word c.index.result.now c.in-Some.ensures.marked c.in-Some.ensures.least (get_or_read words _ _ inside c.index.ensures 0) small).least

@@ -1,6 +1,13 @@
 use Rattle.std.proofs.lemmas.List.{get_or_read}
 use Rattle.lv_refresh.proofs.MarkLaws.{is_marked-set, word_inside}
+use Rattle.lv_refresh.proofs.OverLaws.{AreMarks-set}
 use Rattle.lv_refresh.proofs.marks.Marks.set.Goals as goal
+
+pub invariant_of-self : goal.invariant_of-self
+invariant_of-self c =
+    let words = c.self.inside.words.items in
+    let inside = word_inside words c.args.i (rw (← c.self.view_is) at c.requires) in
+    AreMarks-set words c.self.inside.over.words c.self.invariant c.set.new.self.words c.args.i c.index_mut.result.now inside c.set.ensures.room c.set.ensures.marks
 
 pub returns-clause-marks : goal.returns-clause-marks
 returns-clause-marks c =
