@@ -2,7 +2,7 @@
 ghost use Rattle.std.specs.Prelude.{◌^◌, ◌≤◌, length, IfOk};
 
 use crate::same::assert_same;
-use lv_bodies::{Body, Pair, Sum};
+use lv_bodies::{Body, Sum};
 use lv_edits::Edits;
 use lv_geometry::{Limits, Refusal};
 use lv_reduce::{
@@ -216,59 +216,6 @@ impl<'a> Body for Met<'a> {
     ghost equal = { λ s t. Prim.search rules };
 }
 
-// Summaries that are wide and say nothing.
-#[derive(Clone, Copy)]
-struct Blank;
-
-impl Body for Blank {
-    ghost use Rattle.livevec_tests.specs.Blank.{blank_laws, blank_operations, IsBlank};
-    ghost use Rattle.lv_bodies.specs.EqualLaws.{exact_numbers};
-
-    type S = [u64; 40];
-
-    ghost Meaning = { Unit {0} };
-
-    ghost meaning = { λ _. tt };
-
-    ghost operations = { λ _. blank_operations };
-
-    ghost is_within = { λ _. IsBlank };
-
-    ghost laws = { λ _. blank_laws };
-
-    fn identity(&self) -> [u64; 40] {
-        [0; 40]
-    }
-
-    fn lift(&self, _x: i64) -> [u64; 40] {
-        [0; 40]
-    }
-
-    fn combine(&self, a: [u64; 40], _b: [u64; 40]) -> [u64; 40] {
-        a
-    }
-
-    fn same(&self, _other: &Blank) -> bool {
-        true
-    }
-
-    ghost equal = { exact_numbers };
-}
-
-// The sum with blanks beside it: sums alone are so few bytes that they would be left to one thread.
-type Wide<'a> = Pair<Met<'a>, Blank>;
-
-// The summary of both.
-type WideSummary = (u64, [u64; 40]);
-
-// The body of a meeting.
-fn wide(meeting: &Meeting) -> Wide<'_> {
-    Pair {
-        first: Met { meeting },
-        second: Blank,
-    }
-}
-
 // 65,536 elements, of which the first is 1, the last is 2 and all others 0.
 fn far_apart(alloc: Global) -> Result<Vec<i64>, AllocError>
     ensures { IfOk result (λ xs. length xs.items ≤ 2 ^ 20) }
@@ -286,13 +233,12 @@ fn far_apart(alloc: Global) -> Result<Vec<i64>, AllocError>
 fn meet_in_reduce<R: Threads + Sync + Abort>(
     rt: &R,
     alloc: Global,
-    view: View<'_, WideSummary>,
+    view: View<'_, u64>,
 ) -> Result<(), Refusal> {
     let meeting = Meeting::new();
-    let body = wide(&meeting);
-    let answer = par_reduce(rt, alloc, view, &body, 0, 65_536)?;
-    let seen = (answer.0, answer.1.0, meeting.took_place());
-    assert_same(rt, &seen, &(65_536, 3, true));
+    let body = Met { meeting: &meeting };
+    let (edit, sum) = par_reduce(rt, alloc, view, &body, 0, 65_536)?;
+    assert_same(rt, &(edit, sum, meeting.took_place()), &(65_536, 3, true));
     Ok(())
 }
 
@@ -300,11 +246,11 @@ fn meet_in_reduce<R: Threads + Sync + Abort>(
 fn meet_in_scan<R: Threads + Sync + Abort>(
     rt: &R,
     alloc: Global,
-    view: View<'_, WideSummary>,
+    view: View<'_, u64>,
     inclusive: bool,
 ) -> Result<(), Refusal> {
     let meeting = Meeting::new();
-    let body = wide(&meeting);
+    let body = Met { meeting: &meeting };
     let scan = either_scan(rt, alloc, view, &body, 65_536, inclusive)?;
     assert_last(rt, &scan.values, inclusive);
     drop(scan);
@@ -321,7 +267,7 @@ fn meet_in_slice<R: Threads + Sync + Abort>(
     requires { length xs.now ≤ 2 ^ 20 }
 {
     let meeting = Meeting::new();
-    let body = wide(&meeting);
+    let body = Met { meeting: &meeting };
     let values = par_scan_slice(rt, alloc, &body, xs, true)?;
     assert_last(rt, &values, true);
     drop(values);
@@ -329,19 +275,11 @@ fn meet_in_slice<R: Threads + Sync + Abort>(
     Ok(())
 }
 
-// The sum in the last of some values.
-fn last_sum(values: &[WideSummary]) -> Option<u64> {
-    match values.last() {
-        Some(value) => Some(value.0),
-        None => None,
-    }
-}
-
 // Sees that as many values end with the sum of all, or of all but the last.
-fn assert_last(rt: &impl Abort, values: &Values<WideSummary>, inclusive: bool) {
+fn assert_last(rt: &impl Abort, values: &Values<u64>, inclusive: bool) {
     let last = if inclusive { 3 } else { 1 };
     assert_same(rt, &values.len(), &65_536);
-    assert_same(rt, &last_sum(values.as_slice()), &Some(last));
+    assert_same(rt, &values.as_slice().last().copied(), &Some(last));
 }
 
 // Pushes the elements, and has the three calls that take a range meet over them.
@@ -349,7 +287,7 @@ fn meet_in_ranges<R: Threads + Sync + Abort>(
     rt: &R,
     alloc: Global,
     edits: &mut Edits,
-    table: &Summaries<WideSummary>,
+    table: &Summaries<u64>,
     xs: &[i64],
 ) -> Result<(), Refusal> {
     for x in xs {
@@ -369,7 +307,7 @@ fn two_pieces_at_once(rt: HostRuntime) -> Result<(), Fail> {
     let xs = far_apart(rt.alloc())?;
     meet_in_slice(&rt, rt.alloc(), xs.as_slice())?;
     let mut edits = Edits::new(rt.alloc(), Limits::greatest());
-    let table = Summaries::new(rt.alloc(), (0, Blank.identity()));
+    let table = Summaries::new(rt.alloc(), 0);
     let met = meet_in_ranges(&rt, rt.alloc(), &mut edits, &table, xs.as_slice());
     drop(table);
     drop(edits);

@@ -13,6 +13,10 @@ use std::mem::size_of_val;
 use std::thread;
 use std::thread::Threads;
 
+/// From how many elements on a row has two parts, however narrow its summaries are: nobody but the caller knows how long a `lift`
+/// takes. Where it takes no time, that costs the start of a thread.
+const WORTH_TWO: u32 = 1 << 16;
+
 /// How many bytes of summaries make a part that is worth a thread where they are folded. A thread takes about 10 microseconds to
 /// start and to end, and the second level of halves 15 more; a sum takes 20 microseconds for so many bytes, a best run 25. So two
 /// parts pay from 2 MiB on, and four from 4 MiB on. More parts than processors only cost. The affine map and the automaton take
@@ -25,13 +29,14 @@ pub const LEAST_FOLD: usize = 1 << 20;
 pub const LEAST_SCAN: usize = 1 << 23;
 
 /// How often a row of so many elements is halved: until a part's summaries have fewer bytes than twice the least that is worth a
-/// thread, or until there are as many parts as processors.
+/// thread, but once where the row is worth two parts; or until there are as many parts as processors.
 pub fn halvings<R: Threads, B: Body>(rt: &R, body: &B, len: u32, least: usize) -> u32
     requires { 0 < least }
     ensures { result < 64 }
 {
     let size = size_of_val(&body.identity());
-    let parts = size.saturating_mul(len as usize) / least;
+    let two = if len < WORTH_TWO { 1 } else { 2 };
+    let parts = (size.saturating_mul(len as usize) / least).max(two);
     parts.min(current_num_threads(rt)).max(1).ilog2()
 }
 
