@@ -11,10 +11,19 @@ pub struct Row {
     pub receipt: Receipt,
 }
 
-/// The row of a number.
+/// The row of a number: those that open a bucket come first.
 pub fn row_of(number: u32) -> Option<Row> {
-    let (name, pushes, edit, receipt) = match number {
-        0 => (
+    if number < 3 {
+        opening_row(number)
+    } else {
+        row_after_eight(number)
+    }
+}
+
+// The row of an edit that opens a bucket.
+fn opening_row(number: u32) -> Option<Row> {
+    match number {
+        0 => row_with(
             "reserve 56 from nothing",
             0,
             Edit::Reserve(56),
@@ -23,28 +32,33 @@ pub fn row_of(number: u32) -> Option<Row> {
                 capacity: 56,
             },
         ),
-        1 => (
+        1 => row_with(
             "the first push",
             0,
             Edit::Push(1),
             Receipt::Pushed { edit: 1, index: 0 },
         ),
-        2 => (
+        2 => row_with(
             "the push that opens the second bucket",
             8,
             Edit::Push(1),
             Receipt::Pushed { edit: 9, index: 8 },
         ),
-        3 => ("a pop", 8, Edit::Pop, Receipt::Popped { edit: 9, value: 1 }),
+        _ => None,
+    }
+}
+
+// The row of an edit of eight elements that opens none.
+fn row_after_eight(number: u32) -> Option<Row> {
+    let (name, edit, receipt) = match number {
+        3 => ("a pop", Edit::Pop, Receipt::Popped { edit: 9, value: 1 }),
         4 => (
             "a write",
-            8,
             Edit::Write { index: 3, value: 9 },
             Receipt::Written { edit: 9, before: 1 },
         ),
         5 => (
             "a swap",
-            8,
             Edit::Swap {
                 first: 0,
                 second: 7,
@@ -57,7 +71,6 @@ pub fn row_of(number: u32) -> Option<Row> {
         ),
         6 => (
             "a truncate",
-            8,
             Edit::Truncate(3),
             Receipt::Truncated {
                 edit: 9,
@@ -66,6 +79,10 @@ pub fn row_of(number: u32) -> Option<Row> {
         ),
         _ => return None,
     };
+    row_with(name, 8, edit, receipt)
+}
+
+fn row_with(name: &'static str, pushes: u32, edit: Edit, receipt: Receipt) -> Option<Row> {
     Some(Row {
         name,
         pushes,
