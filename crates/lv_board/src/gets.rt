@@ -10,8 +10,9 @@ ghost use Rattle.lv_board.specs.Stands.{IsReady};
 ghost use Rattle.lv_board.specs.Tells.{actor_of, IsAt, IsCellTaken, Stays};
 
 use crate::board::Board;
+use crate::loads::load_cell;
 use crate::seats::Seat;
-use crate::words::{cell_place_of, edit_in, element, size_in, value_in, version_in};
+use crate::words::{edit_in, size_in};
 use lv_bodies::Parted;
 use lv_geometry::Refusal;
 use lv_machine::Read;
@@ -24,14 +25,7 @@ impl<B: Parted> Board<B> {
         requires within { i < capacity_of self.now.terms.buckets }
         ensures { IsCellTaken (terms_of (folds B.PARTS B.parts_of (λ b. B.operations (B.meaning b))) self.now.terms) i result seat.old seat.new }
     {
-        let cell = self.load_word(seat, cell_place_of(i));
-        let version = version_in(cell);
-        if version > u64::from(edit_in(seat.look)) {
-            return Err(Refusal::Overtaken {
-                edit: version as u32,
-            });
-        }
-        Ok(element(value_in(cell)))
+        load_cell(&self.table, seat, i)
     }
 
     /// The element at index `i`. Refused with `OutOfRange`, or with `Overtaken` where a later edit wrote there since the look. The

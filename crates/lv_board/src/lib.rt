@@ -8,6 +8,8 @@ mod calls;
 mod closing;
 mod exchanges;
 mod gets;
+mod installs;
+mod loads;
 mod looks;
 mod marks;
 mod meetings;

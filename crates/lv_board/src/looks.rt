@@ -1,9 +1,10 @@
 //! Looks at the descriptor alone.
 ghost use Rattle.std.specs.Prelude.{◌≡◌, length};
+ghost use Rattle.lv_machine.specs.declared.moves.Move.{Move};
 ghost use Rattle.lv_machine.specs.History.{elements_of};
 ghost use Rattle.lv_board.specs.Calls.{HasLooked};
 ghost use Rattle.lv_board.specs.Rule.{folds, terms_of};
-ghost use Rattle.lv_board.specs.Tells.{actor_of, IsAt, Stays};
+ghost use Rattle.lv_board.specs.Tells.{actor_of, HasMoved, IsAt, Stays};
 
 use crate::board::Board;
 use crate::seats::Seat;
@@ -26,6 +27,7 @@ impl<B: Parted> Board<B> {
         ensures looked { HasLooked (terms_of (folds B.PARTS B.parts_of (λ b. B.operations (B.meaning b))) self.now.terms) (actor_of seat.old) (actor_of seat.new) }
         ensures edit { result.edit ≡ length (actor_of seat.new).seen }
         ensures size { result.size ≡ length (elements_of (actor_of seat.new).seen) }
+        ensures moves { HasMoved Move.Look seat.old seat.new }
     {
         self.load_descriptor(seat);
         Look {
@@ -41,6 +43,7 @@ impl<B: Parted> Board<B> {
         ensures looked { HasLooked (terms_of (folds B.PARTS B.parts_of (λ b. B.operations (B.meaning b))) self.now.terms) (actor_of seat.old) (actor_of seat.new) }
         ensures edit { result.edit ≡ length (actor_of seat.new).seen }
         ensures size { result.size ≡ length (elements_of (actor_of seat.new).seen) }
+        ensures moves { HasMoved Move.Look seat.old seat.new }
     {
         let Look { edit, size } = self.look(seat);
         Sized { edit, size }

@@ -11,9 +11,9 @@ ghost use Rattle.lv_board.specs.Stands.{IsReady};
 ghost use Rattle.lv_board.specs.Tells.{actor_of, HasMovedPart, IsAt, IsInstalled, IsMarkTaken};
 
 use crate::board::Board;
-use crate::plays::Install;
+use crate::installs::install;
 use crate::seats::Seat;
-use crate::words::{edit_in, mark_place_of, part_place_of};
+use crate::words::{edit_in, mark_place_of};
 use lv_bodies::Parted;
 use lv_geometry::Refusal;
 
@@ -42,8 +42,6 @@ impl<B: Parted> Board<B> {
         ensures installed { IsInstalled (part_place b part) word seat.old seat.new }
         ensures moves { HasMovedPart b part word seat.old seat.new }
     {
-        self.table
-            .shared
-            .fetch_max::<Install>(&mut seat.token, part_place_of(b, part), word);
+        install(&self.table, seat, b, part, word);
     }
 }

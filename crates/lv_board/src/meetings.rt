@@ -62,6 +62,8 @@ impl<B: Parted> Board<B> {
         ensures told { Ends (actor_of first.new).seen (actor_of second.new).seen }
         ensures first_edit { result.first ≡ length (actor_of first.new).seen }
         ensures second_edit { result.second ≡ length (actor_of second.new).seen }
+        ensures first_moves { HasMoved Look first.old first.new }
+        ensures second_moves { HasMoved Look second.old second.new }
     {
         self.load_descriptor(first);
         let note = self.tell(first);

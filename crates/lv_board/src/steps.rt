@@ -1,4 +1,4 @@
-//! The atomic steps of a seat, each on one word; the exchange, by which an edit is made, stands in `exchanges`.
+//! The atomic steps of a seat, each on one word. `exchanges`, `installs` and `loads` have those that a table alone serves.
 ghost use Rattle.std.specs.Prelude.{◌<◌};
 ghost use Rattle.lv_machine.specs.Layout.{count_of};
 ghost use Rattle.lv_machine.specs.Words.{HasPending};
@@ -7,7 +7,8 @@ ghost use Rattle.lv_board.specs.Stands.{limits_of};
 ghost use Rattle.lv_board.specs.Tells.{IsAt, IsCellHelped, IsHelped, IsLoaded, IsMarkHelped, IsWordLoaded};
 
 use crate::board::Board;
-use crate::plays::{HelpCell, HelpMark, LoadDescriptor, LoadWord};
+use crate::loads::{load_descriptor, load_word};
+use crate::plays::{HelpCell, HelpMark};
 use crate::seats::Seat;
 use crate::words::{cell_place_of, edit_in, index_in, mark_place_of, pack_cell, value_in};
 use lv_bodies::Parted;
@@ -18,10 +19,7 @@ impl<B: Parted> Board<B> {
         requires { IsAt self.now.table.shared.table_id self.now.terms seat.old }
         ensures { IsLoaded (folds B.PARTS B.parts_of (λ b. B.operations (B.meaning b))) seat.old seat.new }
     {
-        seat.look = self
-            .table
-            .shared
-            .load::<LoadDescriptor<B>>(&mut seat.token, 0);
+        load_descriptor(&self.table, seat);
     }
 
     // Another word.
@@ -30,7 +28,7 @@ impl<B: Parted> Board<B> {
         requires within { at < count_of (limits_of self.now.terms) }
         ensures { IsWordLoaded (folds B.PARTS B.parts_of (λ b. B.operations (B.meaning b))) at result seat.old seat.new }
     {
-        self.table.shared.load::<LoadWord<B>>(&mut seat.token, at)
+        load_word(&self.table, seat, at)
     }
 
     // Completes the cell of the look's pending write.

@@ -1,49 +1,24 @@
-use Rattle.std.proofs.Common.{◌≡◌, ℕ, ◌+◌, ◌-◌, List, ◌∷◌, refl, sym, ap, ◌∙◌, arith}
-use Rattle.lv_machine.specs.declared.moves.Move.TheVariants.{Install}
-use Rattle.lv_machine.specs.Layout.{block_at, row_at}
-use Rattle.lv_board.specs.declared.actors.Actor.{Actor}
-use Rattle.lv_board.specs.declared.actors.Installed.{Installed}
-use Rattle.lv_board.specs.Rule.{folds}
-use Rattle.lv_board.proofs.Keeping.{install_at, installs_at_key}
-use Rattle.lv_board.proofs.Seating.{based_after, block_among, made_same, same_look, seat_after}
+use Rattle.std.proofs.Common.{◌≡◌, ◌*◌, ◌<◌, sym, ap, ◌∙◌, subst}
+use Rattle.lv_edits.specs.Touch.{elements_under}
+use Rattle.lv_geometry.specs.Cells.{capacity_of}
+use Rattle.lv_machine.specs.History.{edits_of}
+use Rattle.lv_machine.specs.Layout.{count_of}
+use Rattle.lv_machine.specs.Shows.{block, mark_of}
+use Rattle.lv_machine.specs.Words.{part_word}
+use Rattle.lv_board.specs.Rule.{folds, terms_of}
+use Rattle.lv_board.specs.Stands.{limits_of}
 use Rattle.lv_board.proofs.board.Board.install.Goals as goal
 
-pub part_place_of-requires : goal.part_place_of-requires
-part_place_of-requires g c = omega (arith, c.requires.part, g.B.Parted.some.1)
+pub install-requires-clause-key : goal.install-requires-clause-key
+install-requires-clause-key g c = λ _ _. c.args.self.now.key ∙ sym c.requires.here.terms
 
-pub fetch_max-requires : goal.fetch_max-requires
-fetch_max-requires g c = (
-  c.requires.here.at,
-  block_among c.args.self.now.terms c.args.self.now.terms c.args.self.now.table.shared.table_id.words c.part_place_of.result c.args.b (9 + c.args.part) refl c.args.self.now.count c.requires.within (omega (arith, c.requires.part, g.B.Parted.some.1)) c.part_place_of.ensures,
-  installs_at_key (folds g.B.Parted.PARTS g.B.Parted.parts_of (λ b. g.B.Body.operations (g.B.Body.meaning b))) c.args.self.now.terms c.args.self.now.table.shared.key c.args.self.now.key c.args.self.now.table.shared.table_id.slots c.args.seat.now.token.id c.args.seat.now.token.me c.args.seat.now.sits c.args.b c.args.part c.part_place_of.result c.args.word (omega (arith, c.requires.within)) c.requires.part c.requires.whole c.requires.word c.part_place_of.ensures,
-)
+pub install-requires-clause-count : goal.install-requires-clause-count
+install-requires-clause-count g c = λ _ _. c.args.self.now.count ∙ ap (λ z. count_of (limits_of z)) (sym c.requires.here.terms)
 
-pub invariant_of-seat : goal.invariant_of-seat
-invariant_of-seat g c =
-    let told = c.fetch_max.ensures.2 in
-    let put : Installed = record { place = c.part_place_of.result; word = c.args.word } in
-    let x : Actor = record (c.args.seat.now.token.me.0.actor) { installed = put ∷ c.args.seat.now.token.me.0.actor.installed } in
-    let same : c.fetch_max.new.seat.me.0.actor.seen ≡ c.args.seat.now.token.me.0.actor.seen = ap (λ v. v.actor.seen) told.1 in
-    record {
-      basis = c.args.seat.now.basis;
-      sits = seat_after c.args.seat.now.token.me.0 c.fetch_max.new.seat.me.0 x told.1 c.args.seat.now.sits;
-      based = based_after c.args.seat.now.token.me.0 c.fetch_max.new.seat.me.0 c.args.seat.now.terms x told.1 c.args.seat.now.based;
-      slots = told.0 ∙ c.args.seat.now.slots;
-      made = made_same c.args.seat.now.token.me.0.actor c.fetch_max.new.seat.me.0.actor (ap (λ v. v.actor.number) told.1) (ap (λ v. v.actor.known) told.1) (ap (λ v. v.actor.own) told.1) c.args.seat.now.made;
-      looks = same_look c.args.seat.now.terms.buckets c.args.seat.now.terms.edits c.args.seat.now.look c.args.seat.now.token.me.0.actor.seen c.fetch_max.new.seat.me.0.actor.seen same c.args.seat.now.looks;
-    }
+pub install-requires-clause-within : goal.install-requires-clause-within
+install-requires-clause-within g c = λ _ _. subst (λ z. 8 * c.args.b < capacity_of z.buckets) (sym c.requires.here.terms) c.requires.within
 
-pub returns-clause-installed : goal.returns-clause-installed
-returns-clause-installed g c =
-    let put : ℕ → List Installed = λ at. record { place = at; word = c.args.word } ∷ c.args.seat.now.token.me.0.actor.installed in
-    record {
-      stays = record { table = c.fetch_max.ensures.0; terms = refl };
-      look = refl;
-      actor = ap (λ v. v.actor) c.fetch_max.ensures.2.1 ∙ ap (λ at. record (c.args.seat.now.token.me.0.actor) { installed = put at }) c.part_place_of.ensures;
-    }
-
-pub returns-clause-moves : goal.returns-clause-moves
-returns-clause-moves g c =
-    ap (λ v. v.moves) c.fetch_max.ensures.2.1
-    ∙ ap (λ at. Install c.args.seat.now.token.me.0.actor.number (block_at at) (row_at at - 9) c.args.word ∷ c.args.seat.now.token.me.0.moves) c.part_place_of.ensures
-    ∙ ap (λ m. m ∷ c.args.seat.now.token.me.0.moves) (sym (install_at c.args.seat.now.token.me.0.actor.number c.args.b c.args.part c.args.word (omega (arith, c.requires.part, g.B.Parted.some.1))))
+pub install-requires-clause-word : goal.install-requires-clause-word
+install-requires-clause-word g c = λ _ _.
+    let h = c.args.seat.now.token.me.0.actor.seen in
+    subst (λ z. c.args.word ≡ part_word (mark_of c.args.b h) ((terms_of (folds g.B.Parted.PARTS g.B.Parted.parts_of (λ b. g.B.Body.operations (g.B.Body.meaning b))) z).folding.part c.args.part (elements_under (edits_of h) (block c.args.b)))) (sym c.requires.here.terms) c.requires.word

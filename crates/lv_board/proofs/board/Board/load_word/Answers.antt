@@ -1,29 +1,13 @@
-use Rattle.std.proofs.Common.{refl, sym, ap, subst, arith}
-use mathlib.Core.Option.{none}
-use Rattle.atomic_table.specs.Table.{Allows, step}
-use Rattle.lv_board.specs.Plays.{Reads}
-use Rattle.lv_board.specs.Rule.{folds, Holds}
-use Rattle.lv_board.proofs.Keeping.{reads_allowed}
-use Rattle.lv_board.proofs.Seating.{made_after}
+use Rattle.std.proofs.Common.{◌<◌, sym, ap, ◌∙◌, subst}
+use Rattle.lv_machine.specs.Layout.{count_of}
+use Rattle.lv_board.specs.Stands.{limits_of}
 use Rattle.lv_board.proofs.board.Board.load_word.Goals as goal
 
-pub load-requires : goal.load-requires
-load-requires g c = (
-  c.requires.here.at,
-  omega (arith, c.args.self.now.count, c.requires.within),
-  subst (λ k. Allows (Holds (folds g.B.Parted.PARTS g.B.Parted.parts_of (λ b. g.B.Body.operations (g.B.Body.meaning b))) k) c.args.self.now.table.shared.table_id.slots c.args.seat.now.token.id c.args.seat.now.token.me c.args.at (λ n. n) (Reads (folds g.B.Parted.PARTS g.B.Parted.parts_of (λ b. g.B.Body.operations (g.B.Body.meaning b))) (step c.args.self.now.table.shared.table_id.slots c.args.at 0 0 none) c.args.seat.now.token.me)) (sym c.args.self.now.key)
-      (reads_allowed (folds g.B.Parted.PARTS g.B.Parted.parts_of (λ b. g.B.Body.operations (g.B.Body.meaning b))) c.args.self.now.terms _ _ _ _ c.args.seat.now.sits),
-)
+pub load_word-requires-clause-key : goal.load_word-requires-clause-key
+load_word-requires-clause-key g c = λ _ _. c.args.self.now.key ∙ sym c.requires.here.terms
 
-pub invariant_of-seat-clause-made : goal.invariant_of-seat-clause-made
-invariant_of-seat-clause-made g c =
-    let told = c.load.ensures.2.1 c.args.seat.now.terms c.args.seat.now.based in
-    made_after c.args.seat.now.token.me.0.actor c.load.new.seat.me.0.actor told.quiet c.args.seat.now.made
+pub load_word-requires-clause-count : goal.load_word-requires-clause-count
+load_word-requires-clause-count g c = λ _ _. c.args.self.now.count ∙ ap (λ z. count_of (limits_of z)) (sym c.requires.here.terms)
 
-pub returns : goal.returns
-returns g c = record {
-  stays = record { table = c.load.ensures.0; terms = refl };
-  look = refl;
-  read = c.load.ensures.2.1 c.args.seat.now.terms c.args.seat.now.based;
-  moves = ap (λ v. v.moves) c.load.ensures.2.0.1;
-}
+pub load_word-requires-clause-within : goal.load_word-requires-clause-within
+load_word-requires-clause-within g c = λ _ _. subst (λ z. c.args.at < count_of (limits_of z)) (sym c.requires.here.terms) c.requires.within

@@ -15,3 +15,6 @@ returns-clause-told g c =
     let known = ap (λ m. m.0.actor.known) c.tell-note.ensures.note in
     let all = c.load_descriptor.ensures.sees.all in
     subst (λ h. Ends h c.hear.new.seat.token.me.0.actor.seen) (known ∙ sym all ∙ ap (λ a. a.seen) (sym c.tell-note.ensures.same.actor)) c.hear.ensures.told
+
+pub returns-clause-first_moves : goal.returns-clause-first_moves
+returns-clause-first_moves g c = c.tell-note.ensures.moves ∙ c.load_descriptor.ensures.moves
