@@ -8,10 +8,13 @@
  * A slot serves one call at a time. A call beside another at the same slot is answered LIVEVEC_BUSY, and nothing has happened:
  * call again, or put a lock round the slot. Calls at different slots run side by side.
  * A function never follows an empty slot: it answers LIVEVEC_NO_HANDLE. Freeing a slot makes it empty.
+ * No slot is passed by a pointer to const, also where a call changes nothing: a call enters its slot by an exchange of the byte
+ * `busy_` and leaves it by a store, so the slot is written to. Arrays and tables that are only read are const.
  *
  * Refusals. Each call tells why it was refused, 0 where it was not. A refused call changes nothing.
  * Each function names its refusals in the order in which they are tried. NULL is for a null pointer, NO_HANDLE for a slot that
  * should hold something and is empty, or holds something else. Every function may answer BUSY, right after NULL.
+ * Compilers warn where an answer is dropped (LIVEVEC_MUST_USE), but not of what frees, and not of what only saves reads.
  *
  * Memory. It comes from malloc, realloc and free. Want of it is an answer, LIVEVEC_NO_MEMORY, after which nothing has changed.
  * No function waits, prints, ends the process or starts a thread. Call none from a signal handler, as malloc may not be called there.
@@ -30,6 +33,18 @@ extern "C" {
 
 /* The version of the library that this header is of. */
 #define LIVEVEC_VERSION "0.3.0"
+
+/* Has a compiler warn where an answer is dropped; gcc does so in C also behind a cast to void. A program that means to drop
+ * answers defines it as nothing before it includes this header. */
+#ifndef LIVEVEC_MUST_USE
+#if defined(__cplusplus) ? __cplusplus >= 201703L : defined(__STDC_VERSION__) && __STDC_VERSION__ >= 202311L
+#define LIVEVEC_MUST_USE [[nodiscard]]
+#elif defined(__GNUC__)
+#define LIVEVEC_MUST_USE __attribute__((warn_unused_result))
+#else
+#define LIVEVEC_MUST_USE
+#endif
+#endif
 
 /* Why a call was refused. */
 typedef enum livevec_refusal {
@@ -218,84 +233,87 @@ typedef struct livevec_renewed {
 } livevec_renewed;
 
 /* The version of the library that is linked, as LIVEVEC_VERSION spells that of this header. */
-const char *livevec_version(void);
+LIVEVEC_MUST_USE const char *livevec_version(void);
 
 /* A refusal in words, as "the limit of edits is reached". Never null: of any other number it is "unknown". */
-const char *livevec_refusal_text(uint32_t refusal);
+LIVEVEC_MUST_USE const char *livevec_refusal_text(uint32_t refusal);
 
 /* --- A vector --- */
 
 /* Puts a new, empty vector into an empty slot: of at most 1 to 17 buckets (k buckets hold 8 * (2^k - 1) elements, 17 hold
  * 1,048,568) and 1 to 16,777,215 edits. Its automaton leads from q by x to (2 * q + x mod 4) mod 8.
  * Refusals: NULL, IN_USE, BAD_LIMITS, NO_MEMORY. Who calls owes a livevec_free. */
-uint32_t livevec_new(livevec_vector *slot, uint32_t buckets, uint32_t edits);
+LIVEVEC_MUST_USE uint32_t livevec_new(livevec_vector *slot, uint32_t buckets, uint32_t edits);
 
 /* The same, with an automaton of a table of the caller's, which is copied. Refusals: NULL, IN_USE, BAD_LIMITS, BAD_TABLE, NO_MEMORY. */
-uint32_t livevec_new_with_table(livevec_vector *slot, uint32_t buckets, uint32_t edits, const livevec_table *table);
+LIVEVEC_MUST_USE uint32_t livevec_new_with_table(livevec_vector *slot, uint32_t buckets, uint32_t edits,
+                                                 const livevec_table *table);
 
 /* Frees a vector and empties its slot. Its jobs and outcomes stay good for nothing but to be freed. Refusals: NULL, NO_HANDLE. */
 uint32_t livevec_free(livevec_vector *slot);
 
 /* Puts an element at the end. `place` is its index. Refusals: NULL, NO_HANDLE, WORN, FULL, NO_MEMORY. */
-livevec_edited livevec_push(livevec_vector *slot, int64_t value);
+LIVEVEC_MUST_USE livevec_edited livevec_push(livevec_vector *slot, int64_t value);
 
 /* Drops the last element. `value` is that element. Refusals: NULL, NO_HANDLE, WORN, EMPTY, NO_MEMORY. */
-livevec_edited livevec_pop(livevec_vector *slot);
+LIVEVEC_MUST_USE livevec_edited livevec_pop(livevec_vector *slot);
 
 /* Overwrites the element at an index. `value` is the element before. Refusals: NULL, NO_HANDLE, WORN, OUT_OF_RANGE, NO_MEMORY. */
-livevec_edited livevec_write(livevec_vector *slot, uint32_t index, int64_t value);
+LIVEVEC_MUST_USE livevec_edited livevec_write(livevec_vector *slot, uint32_t index, int64_t value);
 
 /* Makes room for so many elements in all. `place` is how many now fit. Refusals: NULL, NO_HANDLE, WORN, TOO_LARGE, NO_MEMORY. */
-livevec_edited livevec_reserve(livevec_vector *slot, uint32_t elements);
+LIVEVEC_MUST_USE livevec_edited livevec_reserve(livevec_vector *slot, uint32_t elements);
 
 /* The element at an index. Refusals: NULL, NO_HANDLE, OUT_OF_RANGE. */
-livevec_element livevec_get(livevec_vector *slot, uint32_t index);
+LIVEVEC_MUST_USE livevec_element livevec_get(livevec_vector *slot, uint32_t index);
 
 /* Exchanges the elements at two indices, which may be one. `value` is the element at the first index now.
  * Refusals: NULL, NO_HANDLE, WORN, OUT_OF_RANGE, NO_MEMORY. */
-livevec_edited livevec_swap(livevec_vector *slot, uint32_t first, uint32_t second);
+LIVEVEC_MUST_USE livevec_edited livevec_swap(livevec_vector *slot, uint32_t first, uint32_t second);
 
 /* Keeps so many elements, the first ones, and drops the others. `place` is how many were dropped.
  * Refusals: NULL, NO_HANDLE, WORN, OUT_OF_RANGE, NO_MEMORY. */
-livevec_edited livevec_truncate(livevec_vector *slot, uint32_t elements);
+LIVEVEC_MUST_USE livevec_edited livevec_truncate(livevec_vector *slot, uint32_t elements);
 
 /* Why that very edit would be refused, want of memory apart; nothing is changed. Refusals: those of the edit but NO_MEMORY. */
-livevec_verdict livevec_verdict_push(livevec_vector *slot, int64_t value);
-livevec_verdict livevec_verdict_pop(livevec_vector *slot);
-livevec_verdict livevec_verdict_write(livevec_vector *slot, uint32_t index, int64_t value);
-livevec_verdict livevec_verdict_reserve(livevec_vector *slot, uint32_t elements);
-livevec_verdict livevec_verdict_swap(livevec_vector *slot, uint32_t first, uint32_t second);
-livevec_verdict livevec_verdict_truncate(livevec_vector *slot, uint32_t elements);
+LIVEVEC_MUST_USE livevec_verdict livevec_verdict_push(livevec_vector *slot, int64_t value);
+LIVEVEC_MUST_USE livevec_verdict livevec_verdict_pop(livevec_vector *slot);
+LIVEVEC_MUST_USE livevec_verdict livevec_verdict_write(livevec_vector *slot, uint32_t index, int64_t value);
+LIVEVEC_MUST_USE livevec_verdict livevec_verdict_reserve(livevec_vector *slot, uint32_t elements);
+LIVEVEC_MUST_USE livevec_verdict livevec_verdict_swap(livevec_vector *slot, uint32_t first, uint32_t second);
+LIVEVEC_MUST_USE livevec_verdict livevec_verdict_truncate(livevec_vector *slot, uint32_t elements);
 
 /* Pushes elements in order, until one is refused. Those before it stay. A null pointer with length 0 is an empty array, here and
  * below. Refusals: NULL, and those of livevec_push. */
-livevec_pushed livevec_push_many(livevec_vector *slot, const int64_t *values, size_t length);
+LIVEVEC_MUST_USE livevec_pushed livevec_push_many(livevec_vector *slot, const int64_t *values, size_t length);
 
 /* The elements of a range, into a buffer that takes `length` of them. Where it was refused the buffer is as it was.
  * Refusals: NULL, NO_HANDLE, BAD_RANGE, OUT_OF_RANGE, SHORT_BUFFER. */
-livevec_scanned livevec_read(livevec_vector *slot, uint32_t lo, uint32_t hi, int64_t *buffer, size_t length);
+LIVEVEC_MUST_USE livevec_scanned livevec_read(livevec_vector *slot, uint32_t lo, uint32_t hi, int64_t *buffer, size_t length);
 
 /* How many elements there are; how many fit into the memory that is held; how many edits were accepted.
  * Refusals: NULL, NO_HANDLE. */
-livevec_count livevec_size(livevec_vector *slot);
-livevec_count livevec_capacity(livevec_vector *slot);
-livevec_count livevec_edits(livevec_vector *slot);
+LIVEVEC_MUST_USE livevec_count livevec_size(livevec_vector *slot);
+LIVEVEC_MUST_USE livevec_count livevec_capacity(livevec_vector *slot);
+LIVEVEC_MUST_USE livevec_count livevec_edits(livevec_vector *slot);
 
 /* --- Reductions --- */
 
 /* The plain values of the elements of a range, by each of the six kinds at once. Takes no memory, changes nothing.
  * Refusals: NULL, NO_HANDLE, BAD_RANGE, OUT_OF_RANGE. */
-livevec_reduced livevec_reduce(livevec_vector *slot, uint32_t lo, uint32_t hi);
+LIVEVEC_MUST_USE livevec_reduced livevec_reduce(livevec_vector *slot, uint32_t lo, uint32_t hi);
 
 /* The same, and keeps what it computes for it: a range that was asked for costs at most 14 cells and 84 summaries until an
  * edit touches it. Takes no memory, changes no answer. Refusals: NULL, NO_HANDLE, BAD_RANGE, OUT_OF_RANGE. */
-livevec_reduced livevec_ask(livevec_vector *slot, uint32_t lo, uint32_t hi);
+LIVEVEC_MUST_USE livevec_reduced livevec_ask(livevec_vector *slot, uint32_t lo, uint32_t hi);
 
 /* The running values of a range: buffer[i] has those of the elements from lo up to lo + i, that one included, or excluded.
  * Writes hi - lo values; `length` is how many the buffer takes. Where it was refused the buffer is as it was. Each value is
  * an answer of livevec_ask. Refusals: NULL, NO_HANDLE, BAD_RANGE, OUT_OF_RANGE, SHORT_BUFFER. */
-livevec_scanned livevec_scan_inclusive(livevec_vector *slot, uint32_t lo, uint32_t hi, livevec_values *buffer, size_t length);
-livevec_scanned livevec_scan_exclusive(livevec_vector *slot, uint32_t lo, uint32_t hi, livevec_values *buffer, size_t length);
+LIVEVEC_MUST_USE livevec_scanned livevec_scan_inclusive(livevec_vector *slot, uint32_t lo, uint32_t hi, livevec_values *buffer,
+                                                        size_t length);
+LIVEVEC_MUST_USE livevec_scanned livevec_scan_exclusive(livevec_vector *slot, uint32_t lo, uint32_t hi, livevec_values *buffer,
+                                                        size_t length);
 
 /* --- Refresh: summaries are computed so that reductions read less. No answer changes by it. --- */
 
@@ -305,15 +323,15 @@ livevec_count livevec_refresh(livevec_vector *slot, uint32_t jobs);
 
 /* Puts a job for the least node that wants one into an empty slot, if there is one. It holds nothing of the vector.
  * Refusals: NULL, IN_USE (of the job's slot), NO_HANDLE, NO_MEMORY. Who calls owes a livevec_run or a livevec_free_job. */
-livevec_claimed livevec_claim(livevec_vector *slot, livevec_job *job);
+LIVEVEC_MUST_USE livevec_claimed livevec_claim(livevec_vector *slot, livevec_job *job);
 
 /* Computes a job, on any thread, beside any call on the vector. The job's slot is then empty, and the outcome's is full.
  * Takes no memory. Refusals: NULL, IN_USE (of the outcome's slot), NO_HANDLE (of the job's). Who calls owes a livevec_free_outcome. */
-uint32_t livevec_run(livevec_job *job, livevec_outcome *outcome);
+LIVEVEC_MUST_USE uint32_t livevec_run(livevec_job *job, livevec_outcome *outcome);
 
 /* Whether an outcome would be accepted: yes for every outcome of a job that this vector handed out, however late.
  * Refusals: NULL, NO_HANDLE (of either slot). */
-livevec_vetted livevec_vet(livevec_vector *slot, livevec_outcome *outcome);
+LIVEVEC_MUST_USE livevec_vetted livevec_vet(livevec_vector *slot, livevec_outcome *outcome);
 
 /* Takes an outcome in, if vet says yes. The outcome stays as it is, and may be delivered again. Takes no memory.
  * Refusals: NULL, NO_HANDLE (of either slot), STRANGER. */
@@ -344,36 +362,36 @@ uint32_t livevec_free_outcome(livevec_outcome *outcome);
 /* Puts a new board into an empty slot: of a livevec_kind, 1 to 9 buckets (k hold 8 * (2^k - 1) elements, 9 hold 4,088), 1 to
  * 16,777,215 edits and 1 to 8 seats. It takes all its memory now. An automaton leads from q by x to (2 * q + x mod 4) mod 8.
  * Refusals: NULL, IN_USE, BAD_LIMITS (of the kind too), NO_MEMORY. Who calls owes a livevec_free_board. */
-uint32_t livevec_board_new(livevec_board *slot, uint32_t kind, uint32_t buckets, uint32_t edits, uint32_t seats);
+LIVEVEC_MUST_USE uint32_t livevec_board_new(livevec_board *slot, uint32_t kind, uint32_t buckets, uint32_t edits, uint32_t seats);
 
 /* Puts a seat of the board into an empty slot: the one that has been there for the longest.
  * Refusals: NULL, IN_USE (of the seat's slot), NO_HANDLE (of the board's), NO_MEMORY, NO_SEAT. Who calls owes a
  * livevec_board_take_back, or a livevec_free_seat. */
-uint32_t livevec_board_sit(livevec_board *board, livevec_seat *seat);
+LIVEVEC_MUST_USE uint32_t livevec_board_sit(livevec_board *board, livevec_seat *seat);
 
 /* Takes a seat back at its board, and empties the seat's slot. It may be taken again. The close accounts for all its edits.
  * Refusals: NULL, NO_HANDLE (of either slot), OTHER_BOARD; the seat then stays in its slot. Takes no memory. */
-uint32_t livevec_board_take_back(livevec_board *board, livevec_seat *seat);
+LIVEVEC_MUST_USE uint32_t livevec_board_take_back(livevec_board *board, livevec_seat *seat);
 
 /* Puts an element at the end. `place` is its index. Refusals: NULL, NO_HANDLE, TOO_WIDE, WORN, FULL, CONTENDED. */
-livevec_edited livevec_seat_push(livevec_seat *seat, int64_t value, uint32_t tries);
+LIVEVEC_MUST_USE livevec_edited livevec_seat_push(livevec_seat *seat, int64_t value, uint32_t tries);
 
 /* Drops the last element. `value` is that element. Refusals: NULL, NO_HANDLE, WORN, EMPTY, CONTENDED, OVERTAKEN. */
-livevec_edited livevec_seat_pop(livevec_seat *seat, uint32_t tries);
+LIVEVEC_MUST_USE livevec_edited livevec_seat_pop(livevec_seat *seat, uint32_t tries);
 
 /* Overwrites the element at an index. `value` is the element before.
  * Refusals: NULL, NO_HANDLE, TOO_WIDE, WORN, OUT_OF_RANGE, CONTENDED, OVERTAKEN. */
-livevec_edited livevec_seat_write(livevec_seat *seat, uint32_t index, int64_t value, uint32_t tries);
+LIVEVEC_MUST_USE livevec_edited livevec_seat_write(livevec_seat *seat, uint32_t index, int64_t value, uint32_t tries);
 
 /* The element at an index. Refusals: NULL, NO_HANDLE, OUT_OF_RANGE, OVERTAKEN. */
-livevec_element livevec_seat_get(livevec_seat *seat, uint32_t index);
+LIVEVEC_MUST_USE livevec_element livevec_seat_get(livevec_seat *seat, uint32_t index);
 
 /* How many elements there are. Refusals: NULL, NO_HANDLE. */
-livevec_count livevec_seat_size(livevec_seat *seat);
+LIVEVEC_MUST_USE livevec_count livevec_seat_size(livevec_seat *seat);
 
 /* The plain value of the elements of a range, all as they were after one edit. Of `values` only those of the board's kind are
  * told, and `any`; the others are 0. Refusals: NULL, NO_HANDLE, BAD_RANGE, OUT_OF_RANGE, OVERTAKEN. */
-livevec_reduced livevec_seat_reduce(livevec_seat *seat, uint32_t lo, uint32_t hi);
+LIVEVEC_MUST_USE livevec_reduced livevec_seat_reduce(livevec_seat *seat, uint32_t lo, uint32_t hi);
 
 /* Computes the summary of a block, the eight elements from index 8 * block on, so that reductions read less. No answer changes.
  * Refusals: NULL, NO_HANDLE, OUT_OF_RANGE (not all eight are there), OVERTAKEN. */
@@ -382,17 +400,17 @@ livevec_renewed livevec_seat_refresh(livevec_seat *seat, uint32_t block);
 /* Closes a board whose seats are all there: back, or never taken. Its slot then holds the elements, and is good for the three
  * calls below and for livevec_free_board. `value` is how many edits were accepted at all seats together.
  * Refusals: NULL, NO_HANDLE (also where it is closed), SEATS_OUT, NO_MEMORY; the board is then as it was. */
-livevec_count livevec_board_close(livevec_board *board);
+LIVEVEC_MUST_USE livevec_count livevec_board_close(livevec_board *board);
 
 /* Of a closed board: how many elements there are, and the element at an index.
  * Refusals: NULL, NO_HANDLE (also where it is not closed), and OUT_OF_RANGE of an index. */
-livevec_count livevec_closed_size(livevec_board *board);
-livevec_element livevec_closed_get(livevec_board *board, uint32_t index);
+LIVEVEC_MUST_USE livevec_count livevec_closed_size(livevec_board *board);
+LIVEVEC_MUST_USE livevec_element livevec_closed_get(livevec_board *board, uint32_t index);
 
 /* All elements of a closed board, into a buffer that takes `room` of them. `*count` is how many there are, also where the
  * buffer is too short; it and the buffer are as they were where the call is refused otherwise.
  * Refusals: NULL (of slot, count, or a buffer with room), NO_HANDLE, SHORT_BUFFER. */
-uint32_t livevec_closed_read(livevec_board *board, int64_t *buffer, size_t room, uint32_t *count);
+LIVEVEC_MUST_USE uint32_t livevec_closed_read(livevec_board *board, int64_t *buffer, size_t room, uint32_t *count);
 
 /* Frees a board, closed or not; frees a seat. The slot is then empty. Board and seats may be freed in any order: a seat whose
  * board was freed stays good. A seat that is freed is not back, and never will be: its board can't be closed any more, but

@@ -1,90 +1,42 @@
 /* livevec for C++17: livevec.h by move-only classes that free what they own. What a call refuses is thrown as livevec::refused, and
- * nothing has changed then. Header only; link what livevec.h links.
+ * nothing has changed then. Header only; link what livevec.h links. The board and its seats stand in livevec_board.hpp, and what all
+ * classes share in livevec_base.hpp; this header brings both.
  *
  * An object serves one call at a time: a call beside another at the same object is refused with LIVEVEC_BUSY. Put a mutex round it where
  * threads share one. A job may be run by any thread, beside any call at its vector. A call at an object that was moved from is
- * refused with LIVEVEC_NULL. Ranges are of indices from `lo` up to `hi`, `hi` excluded. */
+ * refused with LIVEVEC_NULL. Ranges are of indices from `lo` up to `hi`, `hi` excluded.
+ *
+ * A call that is const changes no element and no later answer. It isn't one that threads may make side by side.
+ *
+ * Elements go in by a view: whatever has data() and size() of std::int64_t makes one, as std::vector, std::array, an array and
+ * std::span do, and so do a list in braces and two iterators. They come out as a copy, in a std::vector or in a buffer that is handed
+ * in. begin() makes one copy, and the iterators go through it: later edits change nothing of what they show, and no reference leads
+ * into the vector itself. */
 #ifndef LIVEVEC_HPP
 #define LIVEVEC_HPP
 
-#include "livevec.h"
+#include "livevec_base.hpp"
+#include "livevec_board.hpp"
 
 #include <cstddef>
 #include <cstdint>
 #include <initializer_list>
-#include <memory>
+#include <iterator>
 #include <optional>
-#include <stdexcept>
 #include <utility>
 #include <vector>
 
 namespace livevec {
 
-/* Why a call was refused: a livevec_refusal, and its detail (a size, a limit, an edit or a length; 0 where there is none). */
-class refused : public std::runtime_error {
-  public:
-    explicit refused(std::uint32_t number, std::uint32_t detail = 0)
-        : std::runtime_error(livevec_refusal_text(number)), number_(number), detail_(detail)
-    {
-    }
-    std::uint32_t number() const noexcept { return number_; }
-    std::uint32_t detail() const noexcept { return detail_; }
-
-  private:
-    std::uint32_t number_, detail_;
-};
-
-namespace inner {
-
-inline void check(std::uint32_t number, std::uint32_t detail = 0)
-{
-    if (number != LIVEVEC_OK)
-        throw refused(number, detail);
-}
-
-/* An answer that was not refused. */
-template <class Answer> Answer checked(Answer answer)
-{
-    check(answer.refusal, answer.detail);
-    return answer;
-}
-
-inline std::uint32_t counted(livevec_count count)
-{
-    check(count.refusal);
-    return count.value;
-}
-
-/* Owns a slot, which stays where it is: a slot is never copied, so that what moves is a pointer to it. */
-template <class Slot, std::uint32_t (*Free)(Slot *)> class owned {
-  public:
-    Slot *slot() const noexcept { return slot_.get(); }
-
-  protected:
-    owned() : slot_(new Slot{}) {}
-
-  private:
-    struct freed {
-        void operator()(Slot *slot) const noexcept
-        {
-            Free(slot);
-            delete slot;
-        }
-    };
-    std::unique_ptr<Slot, freed> slot_;
-};
-
-} // namespace inner
-
 /* What a job came to. It may be delivered any number of times, at any time. */
-class outcome : public inner::owned<livevec_outcome, livevec_free_outcome> {
+class [[nodiscard]] outcome : public inner::owned<livevec_outcome, livevec_free_outcome> {
   private:
     friend class job;
     outcome() = default;
 };
 
 /* A node's summary that is still to be computed. It holds nothing of its vector. */
-class job : public inner::owned<livevec_job, livevec_free_job> {
+class [[nodiscard]] job : public inner::owned<livevec_job, livevec_free_job> {
   public:
     /* Computes it, once: then it is empty. */
     outcome run()
@@ -102,56 +54,132 @@ class job : public inner::owned<livevec_job, livevec_free_job> {
 /* A growable vector of 64-bit numbers that answers reductions of any range. */
 class vector : public inner::owned<livevec_vector, livevec_free> {
   public:
+    using value_type = std::int64_t;
+    using size_type = std::uint32_t;
+    using iterator = element_iterator;
+    using const_iterator = element_iterator;
+
     /* An empty one: of 1 to 17 buckets (k hold 8 * (2^k - 1) elements) and 1 to 16,777,215 edits. */
-    explicit vector(std::uint32_t buckets = 17, std::uint32_t edits = 16777215) { inner::check(livevec_new(slot(), buckets, edits)); }
+    explicit vector(std::uint32_t buckets = 17, std::uint32_t edits = 16777215) : limits_{buckets, edits}
+    {
+        inner::check(livevec_new(slot(), buckets, edits));
+    }
 
     /* One with an automaton of this table. */
-    explicit vector(const livevec_table &table, std::uint32_t buckets = 17, std::uint32_t edits = 16777215)
+    explicit vector(const livevec_table &table, std::uint32_t buckets = 17, std::uint32_t edits = 16777215) : limits_{buckets, edits}, table_(table)
     {
         inner::check(livevec_new_with_table(slot(), buckets, edits, &table));
     }
 
-    vector(std::initializer_list<std::int64_t> elements) : vector() { push_many(elements.begin(), elements.size()); }
+    /* One with elements, which are pushed. Where one is refused nothing is left. */
+    vector(std::initializer_list<std::int64_t> elements) : vector() { push_many(elements); }
+    explicit vector(array_view elements, std::uint32_t buckets = 17, std::uint32_t edits = 16777215) : vector(buckets, edits) { push_many(elements); }
+    template <class Iterator, class = typename std::iterator_traits<Iterator>::iterator_category> vector(Iterator first, Iterator last) : vector()
+    {
+        push_many(first, last);
+    }
 
-    /* Edits. Each that is accepted has the next number, and `edits` is the last one. */
+    /* One of its own with the same elements, limits and table. Its edits are the pushes of its elements, so that their numbers begin anew. */
+    [[nodiscard]] vector clone() const
+    {
+        vector made = table_ ? vector(*table_, limits_.buckets, limits_.edits) : vector(limits_.buckets, limits_.edits);
+        made.push_many(elements());
+        return made;
+    }
+
+    /* Edits. Each that is accepted has the next number, and `edits` is the last one. `clear` drops all elements by one edit. */
     std::uint32_t push(std::int64_t value) { return inner::checked(livevec_push(slot(), value)).place; }
+    void push_back(std::int64_t value) { push(value); }
     std::int64_t pop() { return inner::checked(livevec_pop(slot())).value; }
     std::int64_t write(std::uint32_t index, std::int64_t value) { return inner::checked(livevec_write(slot(), index, value)).value; }
     void swap_elements(std::uint32_t first, std::uint32_t second) { inner::checked(livevec_swap(slot(), first, second)); }
     std::uint32_t truncate(std::uint32_t elements) { return inner::checked(livevec_truncate(slot(), elements)).place; }
+    void clear() { truncate(0); }
     std::uint32_t reserve(std::uint32_t elements) { return inner::checked(livevec_reserve(slot(), elements)).place; }
 
-    /* Pushes in order until one is refused: those before it stay. */
-    void push_many(const std::int64_t *values, std::size_t length) { inner::checked(livevec_push_many(slot(), values, length)); }
-    void push_many(const std::vector<std::int64_t> &values) { push_many(values.data(), values.size()); }
+    /* Pushes in order until one is refused: then `stopped` is thrown, and those before it stay. Iterators are gone through before
+     * anything is pushed. */
+    void push_many(const std::int64_t *values, std::size_t length)
+    {
+        livevec_pushed pushed = livevec_push_many(slot(), values, length);
+        if (pushed.refusal)
+            throw stopped(pushed);
+    }
+    void push_many(array_view values) { push_many(values.data(), values.size()); }
+    void push_many(std::initializer_list<std::int64_t> values) { push_many(values.begin(), values.size()); }
+    template <class Iterator, class = typename std::iterator_traits<Iterator>::iterator_category> void push_many(Iterator first, Iterator last)
+    {
+        static_assert(inner::gives_elements<Iterator>, "elements are whole numbers that fit 64 bits with a sign");
+        std::vector<std::int64_t> values(first, last);
+        push_many(values.data(), values.size());
+    }
 
-    std::int64_t operator[](std::uint32_t index) const { return inner::checked(livevec_get(slot(), index)).value; }
-    std::uint32_t size() const { return inner::counted(livevec_size(slot())); }
-    std::uint32_t capacity() const { return inner::counted(livevec_capacity(slot())); }
-    std::uint32_t edits() const { return inner::counted(livevec_edits(slot())); }
-    bool empty() const { return size() == 0; }
+    /* Why that very edit would be refused, want of memory apart: a livevec_refusal, 0 where it would be accepted, with its detail. */
+    [[nodiscard]] livevec_verdict verdict_push(std::int64_t value) const { return inner::judged(livevec_verdict_push(slot(), value)); }
+    [[nodiscard]] livevec_verdict verdict_pop() const { return inner::judged(livevec_verdict_pop(slot())); }
+    [[nodiscard]] livevec_verdict verdict_write(std::uint32_t index, std::int64_t value) const
+    {
+        return inner::judged(livevec_verdict_write(slot(), index, value));
+    }
+    [[nodiscard]] livevec_verdict verdict_reserve(std::uint32_t elements) const { return inner::judged(livevec_verdict_reserve(slot(), elements)); }
+    [[nodiscard]] livevec_verdict verdict_swap(std::uint32_t first, std::uint32_t second) const
+    {
+        return inner::judged(livevec_verdict_swap(slot(), first, second));
+    }
+    [[nodiscard]] livevec_verdict verdict_truncate(std::uint32_t elements) const { return inner::judged(livevec_verdict_truncate(slot(), elements)); }
 
-    /* The elements of a range. */
-    std::vector<std::int64_t> read(std::uint32_t lo, std::uint32_t hi) const
+    [[nodiscard]] std::int64_t operator[](std::uint32_t index) const { return inner::checked(livevec_get(slot(), index)).value; }
+    [[nodiscard]] std::uint32_t size() const { return inner::counted(livevec_size(slot())); }
+    [[nodiscard]] std::uint32_t capacity() const { return inner::counted(livevec_capacity(slot())); }
+    [[nodiscard]] std::uint32_t edits() const { return inner::counted(livevec_edits(slot())); }
+    [[nodiscard]] bool empty() const { return size() == 0; }
+
+    /* The elements of a range; all of them; those of a range into the front of a buffer, and how many they are. */
+    [[nodiscard]] std::vector<std::int64_t> read(std::uint32_t lo, std::uint32_t hi) const
     {
         std::vector<std::int64_t> elements(lo < hi && hi <= size() ? hi - lo : 0);
         inner::checked(livevec_read(slot(), lo, hi, elements.data(), elements.size()));
         return elements;
     }
+    [[nodiscard]] std::vector<std::int64_t> elements() const { return read(0, size()); }
+    std::uint32_t read_into(std::uint32_t lo, std::uint32_t hi, buffer_view buffer) const
+    {
+        return inner::checked(livevec_read(slot(), lo, hi, buffer.data(), buffer.size())).length;
+    }
+
+    /* Through a copy of the elements as they are now. */
+    [[nodiscard]] const_iterator begin() const { return const_iterator(elements()); }
+    [[nodiscard]] const_iterator end() const noexcept { return const_iterator(); }
+
+    /* Whether two vectors have the same elements. */
+    friend bool operator==(const vector &a, const vector &b) { return a.size() == b.size() && a.elements() == b.elements(); }
+    friend bool operator!=(const vector &a, const vector &b) { return !(a == b); }
 
     /* The values of a range by all six kinds, and the edit after which they are so. `ask` keeps what it computes. */
-    livevec_reduced reduce(std::uint32_t lo, std::uint32_t hi) const { return inner::checked(livevec_reduce(slot(), lo, hi)); }
-    livevec_reduced ask(std::uint32_t lo, std::uint32_t hi) { return inner::checked(livevec_ask(slot(), lo, hi)); }
+    [[nodiscard]] livevec_reduced reduce(std::uint32_t lo, std::uint32_t hi) const { return inner::checked(livevec_reduce(slot(), lo, hi)); }
+    livevec_reduced ask(std::uint32_t lo, std::uint32_t hi) const { return inner::checked(livevec_ask(slot(), lo, hi)); }
 
-    /* One value of a range, by `ask`. The sum is modulo 2^64. */
-    std::uint64_t sum(std::uint32_t lo, std::uint32_t hi) { return ask(lo, hi).values.sum; }
-    std::optional<std::int64_t> least(std::uint32_t lo, std::uint32_t hi) { return some(ask(lo, hi).values, &livevec_values::least); }
-    std::optional<std::int64_t> greatest(std::uint32_t lo, std::uint32_t hi) { return some(ask(lo, hi).values, &livevec_values::greatest); }
+    /* One value of a range, by `ask`. The sum is modulo 2^64; a best run's total is exact. Of an empty range there is none but a sum. */
+    [[nodiscard]] std::uint64_t sum(std::uint32_t lo, std::uint32_t hi) const { return ask(lo, hi).values.sum; }
+    [[nodiscard]] std::optional<std::int64_t> least(std::uint32_t lo, std::uint32_t hi) const { return some(ask(lo, hi).values, &livevec_values::least); }
+    [[nodiscard]] std::optional<std::int64_t> greatest(std::uint32_t lo, std::uint32_t hi) const
+    {
+        return some(ask(lo, hi).values, &livevec_values::greatest);
+    }
+    [[nodiscard]] std::optional<int128> best(std::uint32_t lo, std::uint32_t hi) const
+    {
+        const livevec_values values = ask(lo, hi).values;
+        return values.any ? std::optional<int128>(int128(values.best_high) * (int128(1) << 64) + values.best_low) : std::nullopt;
+    }
+
+    /* The values of each beginning of a range, the element itself included, or excluded. */
+    [[nodiscard]] std::vector<livevec_values> scan_inclusive(std::uint32_t lo, std::uint32_t hi) const { return scan(livevec_scan_inclusive, lo, hi); }
+    [[nodiscard]] std::vector<livevec_values> scan_exclusive(std::uint32_t lo, std::uint32_t hi) const { return scan(livevec_scan_exclusive, lo, hi); }
 
     /* Refresh. No answer changes by it. */
     std::uint32_t refresh(std::uint32_t jobs) { return inner::counted(livevec_refresh(slot(), jobs)); }
     void forget() { inner::check(livevec_forget(slot())); }
-    bool vets(const outcome &made) const
+    [[nodiscard]] bool vets(const outcome &made) const
     {
         livevec_vetted vetted = livevec_vet(slot(), made.slot());
         inner::check(vetted.refusal);
@@ -164,7 +192,7 @@ class vector : public inner::owned<livevec_vector, livevec_free> {
         return static_cast<livevec_became>(accepted.became);
     }
     /* A job for the least node that wants one, if there is one. */
-    std::optional<job> claim()
+    [[nodiscard]] std::optional<job> claim()
     {
         job made;
         livevec_claimed claimed = livevec_claim(slot(), made.slot());
@@ -179,6 +207,19 @@ class vector : public inner::owned<livevec_vector, livevec_free> {
     {
         return values.any ? std::optional<std::int64_t>(values.*which) : std::nullopt;
     }
+
+    template <class Call> std::vector<livevec_values> scan(Call call, std::uint32_t lo, std::uint32_t hi) const
+    {
+        std::vector<livevec_values> values(lo < hi && hi <= size() ? hi - lo : 0);
+        inner::checked(call(slot(), lo, hi, values.data(), values.size()));
+        return values;
+    }
+
+    /* What a clone is made by. */
+    struct {
+        std::uint32_t buckets, edits;
+    } limits_;
+    std::optional<livevec_table> table_;
 };
 
 } // namespace livevec

@@ -1,5 +1,7 @@
 /* Exports that may want memory: `exports ROW` makes the call of that row, and says what it came to. Without such a row it says nothing.
  * tools/soak_memory refuses the call's requests for memory in turn. */
+/* what a row begins from is looked at as a whole */
+#define LIVEVEC_MUST_USE
 #include "livevec.h"
 
 #include <stdio.h>

@@ -1,12 +1,22 @@
 /* livevec.hpp from outside. Expected values are worked out by hand. */
 #include "livevec.hpp"
 
+#include <algorithm>
+#include <array>
 #include <cstdint>
 #include <cstdio>
 #include <cstdlib>
+#include <iterator>
+#include <list>
+#include <numeric>
 #include <optional>
 #include <string>
 #include <thread>
+#include <type_traits>
+#include <vector>
+
+using livevec::refused;
+using numbers = std::vector<std::int64_t>;
 
 /* What a call was refused with, 0 where it went through. */
 template <class Call> static std::uint32_t refusal_of(Call call)
@@ -28,8 +38,158 @@ static void is(bool holds, const char *what)
 }
 #define IS(what) is(what, #what)
 
+/* Each class is moved alone, and gives up nothing by it. */
+template <class Owner> constexpr bool is_moved_alone =
+    !std::is_copy_constructible_v<Owner> && !std::is_copy_assignable_v<Owner> && std::is_nothrow_move_constructible_v<Owner> &&
+    std::is_nothrow_move_assignable_v<Owner>;
+static_assert(is_moved_alone<livevec::vector> && is_moved_alone<livevec::job> && is_moved_alone<livevec::outcome>);
+static_assert(is_moved_alone<livevec::board> && is_moved_alone<livevec::seat> && is_moved_alone<livevec::closed>);
+
+static void goes_in_and_comes_out()
+{
+    const numbers row{4, -6, 9};
+    const std::list<short> shorts{1, -2};
+    livevec::vector all(row);
+    all.push_many(std::array<std::int64_t, 2>{5, 6});
+    all.push_many({0, 2});
+    all.push_many(shorts.begin(), shorts.end());
+    IS((all.elements() == numbers{4, -6, 9, 5, 6, 0, 2, 1, -2}));
+    IS((livevec::vector(shorts.begin(), shorts.end()) == livevec::vector{1, -2}));
+    std::fill_n(std::back_inserter(all), 2, 7);
+    std::int64_t room[4] = {0, 0, 0, 8};
+    IS(all.read_into(8, 11, room) == 3 && room[0] == -2 && room[2] == 7 && room[3] == 8);
+    try {
+        all.read_into(0, 5, room);
+        IS(false);
+    } catch (const refused &refused) {
+        IS(refused.number() == LIVEVEC_SHORT_BUFFER && refused.detail() == 5);
+    }
+    all.push_many(livevec::array_view());
+    IS(refusal_of([&] { all.push_many(nullptr, 1); }) == LIVEVEC_NULL);
+
+    livevec::vector small(row, 1, 100);
+    try {
+        small.push_many(row);
+        small.push_many(row);
+        IS(false);
+    } catch (const livevec::stopped &stopped) {
+        IS(stopped.number() == LIVEVEC_FULL && stopped.pushed() == 2);
+    }
+    IS((small.elements() == numbers{4, -6, 9, 4, -6, 9, 4, -6}));
+}
+
+static void goes_through_a_copy()
+{
+    livevec::vector all{3, 1, 2};
+    numbers seen;
+    for (std::int64_t element : all) {
+        seen.push_back(element);
+        all.push(9);
+    }
+    IS((seen == numbers{3, 1, 2}) && all.size() == 6);
+    IS(std::accumulate(all.begin(), all.end(), std::int64_t{0}) == 33 && std::count(all.begin(), all.end(), 9) == 3);
+    auto at = all.begin();
+    const auto again = at++;
+    all.clear();
+    IS(*at == 1 && *again == 3 && at != again && ++at != all.end());
+    IS(all.begin() == all.end() && all.empty() && all.edits() == 7);
+}
+
+static void is_cloned_and_compared()
+{
+    livevec_table table = {};
+    table.next[0][3] = 1;
+    livevec::vector first(table, 1, 9);
+    first.push_many({3, 0});
+    first.write(1, 7);
+    livevec::vector second = first.clone();
+    IS(first == second && second.edits() == 2 && second.reduce(0, 1).values.automaton[0] == 1);
+    second.push(1);
+    IS(first != second && first.size() == 2);
+    second.push_many(numbers(5));
+    IS(second.verdict_push(1).refusal == LIVEVEC_FULL && second.verdict_pop().refusal == LIVEVEC_OK);
+    second.pop();
+    IS(second.verdict_pop().refusal == LIVEVEC_WORN);
+    IS(first.verdict_write(2, 0).refusal == LIVEVEC_OUT_OF_RANGE && first.verdict_write(2, 0).detail == 2);
+    IS(first.verdict_reserve(9).refusal == LIVEVEC_TOO_LARGE && first.verdict_swap(0, 1).refusal == LIVEVEC_OK && first.verdict_truncate(3).detail == 2);
+    livevec::vector gone = std::move(first);
+    IS(refusal_of([&] { (void)first.verdict_pop(); }) == LIVEVEC_NULL && refusal_of([&] { (void)first.clone(); }) == LIVEVEC_NULL);
+}
+
+static void is_scanned()
+{
+    const livevec::vector all{3, -5, 4};
+    const auto including = all.scan_inclusive(0, 3), excluding = all.scan_exclusive(1, 3);
+    IS(including.size() == 3 && including[1].least == -5 && including[2].sum == 2 && excluding.size() == 2 && !excluding[0].any);
+    IS(refusal_of([&] { (void)all.scan_inclusive(0, 4); }) == LIVEVEC_OUT_OF_RANGE);
+    const std::int64_t most = INT64_MAX;
+    IS(*livevec::vector({most, most, -1}).best(0, 3) == 2 * livevec::int128(most) && *livevec::vector({-4, -4}).best(0, 2) == -4);
+    IS(!all.best(1, 1));
+}
+
+static void sits_at_a_board()
+{
+    livevec::board board(LIVEVEC_LEAST, 2, 1, 100);
+    livevec::seat one = board.sit();
+    std::optional<livevec::seat> two = board.sit();
+    IS(refusal_of([&] { (void)board.sit(); }) == LIVEVEC_NO_SEAT);
+    IS(one.push(-7) == 0 && two->push(12) == 1 && one.write(0, 5) == -7 && two->size() == 2 && (*two)[1] == 12);
+    const livevec_reduced least = one.reduce(0, 2);
+    IS(least.edit == 3 && least.values.any && least.values.least == 5);
+    IS(refusal_of([&] { one.push(40000); }) == LIVEVEC_TOO_WIDE && refusal_of([&] { one.refresh(0); }) == LIVEVEC_OUT_OF_RANGE);
+    IS(refusal_of([&] { (void)board.close(); }) == LIVEVEC_SEATS_OUT);
+    IS(refused(LIVEVEC_CONTENDED).is_outrun() && refused(LIVEVEC_OVERTAKEN).is_outrun() && !refused(LIVEVEC_FULL).is_outrun());
+    // a seat comes back from whatever thread, and may be taken again
+    std::thread([&] { two.reset(); }).join();
+    two = board.sit();
+    IS(two->pop() == 12 && two->push(3) == 1);
+    livevec::seat moved = std::move(one);
+    IS(refusal_of([&] { one.pop(); }) == LIVEVEC_NULL);
+    moved.close();
+    moved.close();
+    two.reset();
+    const livevec::closed closed = board.close();
+    IS(closed.edits() == 5 && closed.size() == 2 && closed[0] == 5 && (closed.elements() == numbers{5, 3}));
+    IS(std::count(closed.begin(), closed.end(), 3) == 1 && refusal_of([&] { (void)closed[2]; }) == LIVEVEC_OUT_OF_RANGE);
+    std::int64_t room[1];
+    IS(refusal_of([&] { closed.read_into(room); }) == LIVEVEC_SHORT_BUFFER);
+    IS(refusal_of([&] { (void)board.sit(); }) == LIVEVEC_NULL);
+    IS(refusal_of([] { livevec::board(LIVEVEC_SUM, 9); }) == LIVEVEC_BAD_LIMITS);
+}
+
+/* Four threads count, and let their seats go as they end; one seat outlives its board. */
+static void threads_share_a_board()
+{
+    std::optional<livevec::board> board(std::in_place, LIVEVEC_SUM, 4u);
+    std::vector<std::thread> threads;
+    for (int number = 0; number < 4; number++)
+        threads.emplace_back([seat = board->sit()]() mutable {
+            for (int event = 1; event <= 100;)
+                event += refusal_of([&] { seat.push(event); }) == 0;
+        });
+    for (std::thread &thread : threads)
+        thread.join();
+    threads.clear();
+    livevec::seat last = board->sit();
+    IS(last.size() == 400 && last.reduce(0, 400).values.sum == 4 * 5050);
+    last.close();
+    const livevec::closed closed = board->close();
+    IS(closed.edits() == 400 && std::accumulate(closed.begin(), closed.end(), std::int64_t{0}) == 4 * 5050);
+    board.emplace(LIVEVEC_SUM, 1u);
+    last = board->sit();
+    board.reset();
+    IS(last.push(1) == 0);
+}
+
 int main()
 {
+    goes_in_and_comes_out();
+    goes_through_a_copy();
+    is_cloned_and_compared();
+    is_scanned();
+    sits_at_a_board();
+    threads_share_a_board();
+
     livevec::vector prices{300, 120, 500, 80};
     IS(prices.write(0, 180) == 300);
     IS(prices.sum(0, 4) == 880 && prices.least(0, 2) == 120 && prices.edits() == 5);
@@ -38,8 +198,8 @@ int main()
     IS(!prices.least(2, 2));
     prices.swap_elements(0, 3);
     IS(prices[0] == 80 && prices.truncate(1) == 3 && prices.size() == 1);
-    IS(refusal_of([&] { prices.read(1, 3); }) == LIVEVEC_OUT_OF_RANGE);
-    IS(refusal_of([&] { prices.read(3, 1); }) == LIVEVEC_BAD_RANGE);
+    IS(refusal_of([&] { (void)prices.read(1, 3); }) == LIVEVEC_OUT_OF_RANGE);
+    IS(refusal_of([&] { (void)prices.read(3, 1); }) == LIVEVEC_BAD_RANGE);
     IS(refusal_of([] { livevec::vector(18); }) == LIVEVEC_BAD_LIMITS);
     try {
         prices.write(9, 1);
@@ -59,7 +219,7 @@ int main()
     std::optional<livevec::outcome> outcome;
     std::thread worker([&] { outcome = job->run(); });
     worker.join();
-    IS(refusal_of([&] { job->run(); }) == LIVEVEC_NO_HANDLE);
+    IS(refusal_of([&] { (void)job->run(); }) == LIVEVEC_NO_HANDLE);
     IS(eight.vets(*outcome));
     IS(eight.deliver(*outcome) == LIVEVEC_INSTALLED && eight.deliver(*outcome) == LIVEVEC_HELD);
     eight.write(0, 9);

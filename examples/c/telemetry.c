@@ -44,7 +44,8 @@ static void *work(void *unused)
         }
         mine->state = RUNNING;
         pthread_mutex_unlock(&lock);
-        livevec_run(&mine->job, &mine->outcome); /* with no lock held */
+        if (livevec_run(&mine->job, &mine->outcome)) /* with no lock held */
+            exit(EXIT_FAILURE);
         pthread_mutex_lock(&lock);
         mine->state = DONE;
         pthread_cond_broadcast(&changed);
@@ -118,7 +119,8 @@ int main(void)
     printf("%u summaries computed\n", refresh(&readings));
     show(&readings, 0, READINGS);
     show(&readings, 8, 24);
-    livevec_write(&readings, 100, -1000000);
+    if (livevec_write(&readings, 100, -1000000).refusal)
+        return EXIT_FAILURE;
     printf("%u summaries computed\n", refresh(&readings));
     show(&readings, 0, READINGS);
 

@@ -1,0 +1,183 @@
+/* The board of livevec.h for C++17: one vector of 16-bit numbers that up to eight threads edit and reduce at once, without a lock. Include
+ * livevec.hpp, which says what holds for all its classes.
+ *
+ * One thread makes the board and a seat for each thread. A seat serves one thread at a time, and no call at it waits for another seat.
+ * What another seat's edit outran is refused with LIVEVEC_CONTENDED or LIVEVEC_OVERTAKEN (`is_outrun`), and has not happened: call again.
+ * Exceptions cost some microseconds: where many calls are outrun, livevec_seat_push and the like at `slot()` answer without one. */
+#ifndef LIVEVEC_BOARD_HPP
+#define LIVEVEC_BOARD_HPP
+
+#include "livevec_base.hpp"
+
+#include <algorithm>
+#include <cstdint>
+#include <memory>
+#include <mutex>
+#include <utility>
+#include <vector>
+
+namespace livevec {
+
+namespace inner {
+
+using held_seat = std::unique_ptr<livevec_seat, freed<livevec_seat, livevec_free_seat>>;
+
+/* The seats of a board that were let go, on whatever thread. The board takes them back at its next call, for its slot serves one
+ * call at a time. Those that it never took back are freed with the last of them. */
+class lobby {
+  public:
+    /* Room for all seats, so that none that is let go takes memory. */
+    explicit lobby(std::uint32_t seats) { waiting_.reserve(std::min(seats, 8u)); }
+
+    void enter(livevec_seat *seat) noexcept
+    {
+        std::lock_guard<std::mutex> held(lock_);
+        waiting_.emplace_back(seat);
+    }
+
+    /* Each goes back, but where a call beside this one is at the board. */
+    void go_back(livevec_board *board)
+    {
+        std::lock_guard<std::mutex> held(lock_);
+        auto is_done = [&](const held_seat &seat) { return livevec_board_take_back(board, seat.get()) != LIVEVEC_BUSY; };
+        waiting_.erase(std::remove_if(waiting_.begin(), waiting_.end(), is_done), waiting_.end());
+    }
+
+  private:
+    std::mutex lock_;
+    std::vector<held_seat> waiting_;
+};
+
+/* Lets a seat go. */
+struct let_go {
+    std::shared_ptr<lobby> at;
+    void operator()(livevec_seat *seat) const noexcept { at->enter(seat); }
+};
+
+} // namespace inner
+
+/* A thread's place at a board, made by `board::sit`. Its end gives the seat back. It stays good where the board ends first. An edit is
+ * tried at most `tries` times, and once at least; the other calls make one try. */
+class [[nodiscard]] seat {
+  public:
+    livevec_seat *slot() const noexcept { return slot_.get(); }
+    livevec_kind kind() const noexcept { return kind_; }
+
+    std::uint32_t push(std::int64_t value, std::uint32_t tries = 1000) { return inner::checked(livevec_seat_push(slot(), value, tries)).place; }
+    std::int64_t pop(std::uint32_t tries = 1000) { return inner::checked(livevec_seat_pop(slot(), tries)).value; }
+    std::int64_t write(std::uint32_t index, std::int64_t value, std::uint32_t tries = 1000)
+    {
+        return inner::checked(livevec_seat_write(slot(), index, value, tries)).value;
+    }
+
+    [[nodiscard]] std::int64_t operator[](std::uint32_t index) const { return inner::checked(livevec_seat_get(slot(), index)).value; }
+    /* How many elements there are. Another seat may change it at once. */
+    [[nodiscard]] std::uint32_t size() const { return inner::counted(livevec_seat_size(slot())); }
+
+    /* The value of a range by the board's kind, all as it was after one edit. Of the values only those of that kind are told, and `any`. */
+    [[nodiscard]] livevec_reduced reduce(std::uint32_t lo, std::uint32_t hi) const { return inner::checked(livevec_seat_reduce(slot(), lo, hi)); }
+
+    /* Computes the summary of a block, the eight elements from index 8 * block on, so that reductions read less. */
+    livevec_renewed refresh(std::uint32_t block) { return inner::checked(livevec_seat_refresh(slot(), block)); }
+
+    /* Gives the seat back now. Every later call is refused with LIVEVEC_NULL. */
+    void close() noexcept { slot_.reset(); }
+
+  private:
+    friend class board;
+    seat(inner::held_seat held, std::shared_ptr<inner::lobby> lobby, livevec_kind kind)
+        : slot_(held.release(), inner::let_go{std::move(lobby)}), kind_(kind)
+    {
+    }
+
+    std::unique_ptr<livevec_seat, inner::let_go> slot_;
+    livevec_kind kind_;
+};
+
+/* What a closed board came to. */
+class [[nodiscard]] closed {
+  public:
+    using value_type = std::int64_t;
+    using size_type = std::uint32_t;
+    using iterator = element_iterator;
+    using const_iterator = element_iterator;
+
+    livevec_board *slot() const noexcept { return slot_.get(); }
+    /* How many edits were accepted at all seats together. */
+    std::uint32_t edits() const noexcept { return edits_; }
+    [[nodiscard]] std::uint32_t size() const { return inner::counted(livevec_closed_size(slot())); }
+    [[nodiscard]] bool empty() const { return size() == 0; }
+    [[nodiscard]] std::int64_t operator[](std::uint32_t index) const { return inner::checked(livevec_closed_get(slot(), index)).value; }
+
+    /* All elements; the same into the front of a buffer, and how many they are. */
+    [[nodiscard]] std::vector<std::int64_t> elements() const
+    {
+        std::vector<std::int64_t> elements(size());
+        read_into(elements);
+        return elements;
+    }
+    std::uint32_t read_into(buffer_view buffer) const
+    {
+        std::uint32_t count = 0;
+        std::uint32_t refusal = livevec_closed_read(slot(), buffer.data(), buffer.size(), &count);
+        inner::check(refusal, count);
+        return count;
+    }
+
+    /* Through a copy of the elements. */
+    [[nodiscard]] const_iterator begin() const { return const_iterator(elements()); }
+    [[nodiscard]] const_iterator end() const noexcept { return const_iterator(); }
+
+  private:
+    friend class board;
+    using held_board = std::unique_ptr<livevec_board, inner::freed<livevec_board, livevec_free_board>>;
+    closed(held_board held, std::uint32_t edits) : slot_(std::move(held)), edits_(edits) {}
+
+    held_board slot_;
+    std::uint32_t edits_;
+};
+
+/* A board. It takes all its memory at the start. */
+class board : public inner::owned<livevec_board, livevec_free_board> {
+  public:
+    /* Of a kind, 1 to 8 seats, 1 to 9 buckets (k hold 8 * (2^k - 1) elements, 9 hold 4,088) and 1 to 16,777,215 edits. */
+    explicit board(livevec_kind kind, std::uint32_t seats = 8, std::uint32_t buckets = 9, std::uint32_t edits = 16777215)
+        : lobby_(std::make_shared<inner::lobby>(seats)), kind_(kind)
+    {
+        inner::check(livevec_board_new(slot(), kind, buckets, edits, seats));
+    }
+
+    livevec_kind kind() const noexcept { return kind_; }
+
+    /* A seat: one that nobody has yet, or one that came back. */
+    seat sit()
+    {
+        gather();
+        inner::held_seat held(new livevec_seat{});
+        inner::check(livevec_board_sit(slot(), held.get()));
+        return seat(std::move(held), lobby_, kind_);
+    }
+
+    /* Closes a board whose seats are all back, and gives what it came to; the board is then as one that was moved from. Where it is refused
+     * the board is as it was. */
+    closed close()
+    {
+        gather();
+        std::uint32_t edits = inner::counted(livevec_board_close(slot()));
+        return closed(std::move(slot_), edits);
+    }
+
+  private:
+    void gather()
+    {
+        if (slot())
+            lobby_->go_back(slot());
+    }
+
+    std::shared_ptr<inner::lobby> lobby_;
+    livevec_kind kind_;
+};
+
+} // namespace livevec
+
+#endif
