@@ -1,8 +1,7 @@
 use std::fmt;
-use std::ops::RangeBounds;
 
 use crate::values::ends;
-use crate::{Limits, Popped, Pushed, Refusal, Values, Written, raw};
+use crate::{Indices, Limits, Popped, Pushed, Refusal, Values, Written, raw};
 
 /// A growable vector of elements of 16 bits that up to eight threads edit and reduce at once, without a lock.
 ///
@@ -218,7 +217,7 @@ impl Seat {
 
     /// The value of a range by the board's kind, of the elements as they were after one edit. An open end is that of the size just before.
     /// Refused with `BadRange`, `OutOfRange`, `Overtaken`.
-    pub fn reduce(&self, range: impl RangeBounds<u32>) -> Result<Told, Refusal> {
+    pub fn reduce(&self, range: impl Indices) -> Result<Told, Refusal> {
         let (lo, hi) = ends(range, || self.len());
         let raw = self.raw.reduce(lo, hi)?;
         let value = Value::of(self.kind, Values::of_raw(raw.values));

@@ -21,16 +21,26 @@
 #![deny(unsafe_code)]
 
 mod board;
+mod elements;
+mod indices;
+mod kinds;
+mod like_vec;
 #[allow(unsafe_code)]
 mod raw;
 mod refusal;
 mod values;
 mod vector;
 
+/// The version of the library and of this crate.
+pub const VERSION: &str = env!("CARGO_PKG_VERSION");
+
 pub use board::{Board, Closed, Kind, NotClosed, Refreshed, Seat, Told, Value};
+pub use elements::{Elements, IntoElements, Through};
+pub use indices::Indices;
+pub use kinds::UnknownKind;
 pub use refusal::Refusal;
 pub use values::{Accepted, Edit, Limits, Node, Popped, Pushed, Reduced, Reserved, Stopped, Swapped, Truncated, Values, Written};
-pub use vector::{Beginnings, Elements, Job, Outcome, Scan, Vector};
+pub use vector::{Beginnings, Job, Outcome, Scan, Vector};
 
 /// The program on the crate's page runs as one of the tests.
 #[cfg(doctest)]

@@ -1,8 +1,7 @@
 use std::fmt;
-use std::ops::{Bound, RangeBounds};
 
-use crate::Refusal;
 use crate::raw::SixValues;
+use crate::{Indices, Refusal};
 
 /// How many buckets and edits a vector or a board may come to have.
 ///
@@ -254,17 +253,15 @@ pub enum Accepted {
     },
 }
 
-/// The start and the end of a range of indices, where `size` is the end of one that is open.
-pub(crate) fn ends(range: impl RangeBounds<u32>, size: impl FnOnce() -> u32) -> (u32, u32) {
-    let lo = match range.start_bound() {
-        Bound::Included(&lo) => lo,
-        Bound::Excluded(&before) => before.saturating_add(1),
-        Bound::Unbounded => 0,
-    };
-    let hi = match range.end_bound() {
-        Bound::Included(&last) => last.saturating_add(1),
-        Bound::Excluded(&hi) => hi,
-        Bound::Unbounded => size(),
-    };
-    (lo, hi)
+/// The start and the end of a range of indices, where `size` is the end of one that is open. What C can't be given it is given as a range that
+/// it refuses alike.
+pub(crate) fn ends(range: impl Indices, size: impl FnOnce() -> u32) -> (u32, u32) {
+    let (lo, hi) = range.ends();
+    let lo = lo.unwrap_or(0);
+    let hi = hi.unwrap_or_else(|| i128::from(size()));
+    match (u32::try_from(lo), u32::try_from(hi)) {
+        (Ok(lo), Ok(hi)) => (lo, hi),
+        _ if lo > hi => (1, 0),
+        _ => (0, u32::MAX),
+    }
 }

@@ -1,7 +1,8 @@
 use std::fmt;
 use std::iter::FusedIterator;
-use std::ops::RangeBounds;
 
+use crate::elements::Elements;
+use crate::indices::Indices;
 use crate::values::ends;
 use crate::{Accepted, Edit, Limits, Node, Popped, Pushed, Reduced, Refusal, Reserved, Stopped, Swapped, Truncated, Values, Written, raw};
 
@@ -26,6 +27,10 @@ use crate::{Accepted, Edit, Limits, Node, Popped, Pushed, Reduced, Refusal, Rese
 /// # }
 /// ```
 ///
+/// What `std`'s `Vec` has and this can't: `Default` and `Clone`, for memory may be wanting and they can't say so ([`new`](Vector::new) and
+/// [`try_clone`](Vector::try_clone) can); `Index`, for it lends the element itself, and the library gives elements by value alone
+/// ([`get`](Vector::get)). `Extend` and `FromIterator` are there, and panic where an element is refused; nothing else here panics.
+///
 /// Threads: a `Vector` may be sent to another thread. It can't be shared by `&`, for a question keeps what it computed. Put it into a
 /// `Mutex`, or hand the work out as [`Job`]s.
 ///
@@ -34,7 +39,10 @@ use crate::{Accepted, Edit, Limits, Node, Popped, Pushed, Reduced, Refusal, Rese
 /// shared(livevec::Vector::new().unwrap());
 /// ```
 pub struct Vector {
-    raw: raw::Vector,
+    pub(crate) raw: raw::Vector,
+    // what a clone is made by
+    pub(crate) limits: Limits,
+    pub(crate) table: Option<[[u8; 4]; 8]>,
 }
 
 impl Vector {
@@ -45,7 +53,7 @@ impl Vector {
 
     /// A vector of limits of its own. Refused with `NoMemory` alone.
     pub fn with_limits(limits: Limits) -> Result<Vector, Refusal> {
-        Ok(Vector { raw: raw::Vector::new(limits.buckets(), limits.edits())? })
+        Ok(Vector { raw: raw::Vector::new(limits.buckets(), limits.edits())?, limits, table: None })
     }
 
     /// A vector whose automaton goes by this table: from state `q`, an element `x` leads to `table[q][x mod 4]`, the remainder never negative.
@@ -68,7 +76,7 @@ impl Vector {
     /// # }
     /// ```
     pub fn with_table(limits: Limits, table: &[[u8; 4]; 8]) -> Result<Vector, Refusal> {
-        Ok(Vector { raw: raw::Vector::with_table(limits.buckets(), limits.edits(), table)? })
+        Ok(Vector { raw: raw::Vector::with_table(limits.buckets(), limits.edits(), table)?, limits, table: Some(*table) })
     }
 
     /// Puts an element at the end. Refused with `Worn`, `Full`, `NoMemory`, in this order.
@@ -182,34 +190,34 @@ impl Vector {
 
     /// All six values of a range. What is computed is kept, so that the same question costs at most 98 reads until an edit touches it.
     /// Refused with `BadRange`, `OutOfRange`, in this order.
-    pub fn ask(&self, range: impl RangeBounds<u32>) -> Result<Reduced, Refusal> {
+    pub fn ask(&self, range: impl Indices) -> Result<Reduced, Refusal> {
         let (lo, hi) = ends(range, || self.len());
         self.raw.ask(lo, hi).map(Reduced::of)
     }
 
     /// All six values of a range, as [`ask`](Vector::ask) gives them, but nothing is kept.
-    pub fn reduce(&self, range: impl RangeBounds<u32>) -> Result<Reduced, Refusal> {
+    pub fn reduce(&self, range: impl Indices) -> Result<Reduced, Refusal> {
         let (lo, hi) = ends(range, || self.len());
         self.raw.reduce(lo, hi).map(Reduced::of)
     }
 
     /// The sum, which wraps where it does not fit an `i64`. Asks, and is refused as [`ask`](Vector::ask) is.
-    pub fn sum(&self, range: impl RangeBounds<u32>) -> Result<i64, Refusal> {
+    pub fn sum(&self, range: impl Indices) -> Result<i64, Refusal> {
         Ok(self.ask(range)?.values.sum)
     }
 
     /// The least element; none of an empty range. Asks, and is refused as [`ask`](Vector::ask) is.
-    pub fn least(&self, range: impl RangeBounds<u32>) -> Result<Option<i64>, Refusal> {
+    pub fn least(&self, range: impl Indices) -> Result<Option<i64>, Refusal> {
         Ok(self.ask(range)?.values.least)
     }
 
     /// The greatest element; none of an empty range. Asks, and is refused as [`ask`](Vector::ask) is.
-    pub fn greatest(&self, range: impl RangeBounds<u32>) -> Result<Option<i64>, Refusal> {
+    pub fn greatest(&self, range: impl Indices) -> Result<Option<i64>, Refusal> {
         Ok(self.ask(range)?.values.greatest)
     }
 
     /// The greatest total of one or more neighbours; none of an empty range. Asks, and is refused as [`ask`](Vector::ask) is.
-    pub fn best(&self, range: impl RangeBounds<u32>) -> Result<Option<i128>, Refusal> {
+    pub fn best(&self, range: impl Indices) -> Result<Option<i128>, Refusal> {
         Ok(self.ask(range)?.values.best)
     }
 
@@ -226,13 +234,13 @@ impl Vector {
     /// # Ok(())
     /// # }
     /// ```
-    pub fn scan_inclusive(&self, range: impl RangeBounds<u32>) -> Result<Scan, Refusal> {
+    pub fn scan_inclusive(&self, range: impl Indices) -> Result<Scan, Refusal> {
         let (lo, hi) = ends(range, || self.len());
         self.raw.scan(lo, hi, true).map(|(edit, values)| Scan { edit, values })
     }
 
     /// The values of each beginning of a range, the element itself excluded. Refused as [`scan_inclusive`](Vector::scan_inclusive) is.
-    pub fn scan_exclusive(&self, range: impl RangeBounds<u32>) -> Result<Scan, Refusal> {
+    pub fn scan_exclusive(&self, range: impl Indices) -> Result<Scan, Refusal> {
         let (lo, hi) = ends(range, || self.len());
         self.raw.scan(lo, hi, false).map(|(edit, values)| Scan { edit, values })
     }
@@ -260,7 +268,7 @@ impl Vector {
     }
 
     /// The elements of a range. Refused with `BadRange`, `OutOfRange`, in this order.
-    pub fn elements(&self, range: impl RangeBounds<u32>) -> Result<Elements<'_>, Refusal> {
+    pub fn elements(&self, range: impl Indices) -> Result<Elements<'_>, Refusal> {
         let (lo, hi) = ends(range, || self.len());
         if lo > hi {
             return Err(Refusal::BadRange);
@@ -274,7 +282,7 @@ impl Vector {
 
     /// Fills the front of a buffer with the elements of a range, and gives that front.
     /// Refused with `BadRange`, `OutOfRange`, then `ShortBuffer`.
-    pub fn read_into<'a>(&self, range: impl RangeBounds<u32>, buffer: &'a mut [i64]) -> Result<&'a mut [i64], Refusal> {
+    pub fn read_into<'a>(&self, range: impl Indices, buffer: &'a mut [i64]) -> Result<&'a mut [i64], Refusal> {
         let (lo, hi) = ends(range, || self.len());
         let length = self.raw.read(lo, hi, buffer)?;
         Ok(&mut buffer[..length])
@@ -316,15 +324,6 @@ impl Vector {
 impl fmt::Debug for Vector {
     fn fmt(&self, f: &mut fmt::Formatter<'_>) -> fmt::Result {
         f.debug_struct("Vector").field("len", &self.len()).field("edits", &self.edits()).finish_non_exhaustive()
-    }
-}
-
-impl<'a> IntoIterator for &'a Vector {
-    type Item = i64;
-    type IntoIter = Elements<'a>;
-
-    fn into_iter(self) -> Elements<'a> {
-        self.iter()
     }
 }
 
@@ -487,75 +486,3 @@ impl DoubleEndedIterator for Beginnings<'_> {
 
 impl ExactSizeIterator for Beginnings<'_> {}
 impl FusedIterator for Beginnings<'_> {}
-
-// So many elements are read by one call.
-const AT_ONCE: u32 = 128;
-
-/// The elements of a range of a [`Vector`], which can't be edited meanwhile.
-pub struct Elements<'a> {
-    vector: &'a Vector,
-    // what is still to be given: those of `read` from `given` on up to `filled`, then lo..hi
-    lo: u32,
-    hi: u32,
-    read: [i64; AT_ONCE as usize],
-    given: usize,
-    filled: usize,
-}
-
-impl<'a> Elements<'a> {
-    // The range lies within the vector.
-    fn new(vector: &'a Vector, lo: u32, hi: u32) -> Elements<'a> {
-        Elements { vector, lo, hi, read: [0; AT_ONCE as usize], given: 0, filled: 0 }
-    }
-
-    fn fill(&mut self) {
-        let upto = self.hi.min(self.lo + AT_ONCE);
-        self.given = 0;
-        self.filled = self.vector.raw.read(self.lo, upto, &mut self.read).expect("the range lies within the vector");
-        self.lo = upto;
-    }
-}
-
-impl fmt::Debug for Elements<'_> {
-    fn fmt(&self, f: &mut fmt::Formatter<'_>) -> fmt::Result {
-        f.debug_struct("Elements").field("len", &self.len()).finish_non_exhaustive()
-    }
-}
-
-impl Iterator for Elements<'_> {
-    type Item = i64;
-
-    fn next(&mut self) -> Option<i64> {
-        if self.given == self.filled {
-            if self.lo == self.hi {
-                return None;
-            }
-            self.fill();
-        }
-        let value = self.read[self.given];
-        self.given += 1;
-        Some(value)
-    }
-
-    fn size_hint(&self) -> (usize, Option<usize>) {
-        let left = self.filled - self.given + (self.hi - self.lo) as usize;
-        (left, Some(left))
-    }
-}
-
-impl DoubleEndedIterator for Elements<'_> {
-    fn next_back(&mut self) -> Option<i64> {
-        if self.lo < self.hi {
-            self.hi -= 1;
-            return Some(self.vector.raw.get(self.hi).expect("the range lies within the vector"));
-        }
-        if self.given == self.filled {
-            return None;
-        }
-        self.filled -= 1;
-        Some(self.read[self.filled])
-    }
-}
-
-impl ExactSizeIterator for Elements<'_> {}
-impl FusedIterator for Elements<'_> {}

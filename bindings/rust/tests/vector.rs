@@ -105,6 +105,89 @@ fn ranges_are_read_as_rust_writes_them() {
 }
 
 #[test]
+fn ranges_are_of_each_type_of_index() {
+    use std::ops::Bound::{Excluded, Included, Unbounded};
+    let vector = of(&[1, 20, 300]);
+    let (one, two): (usize, u32) = (1, 2);
+    assert_eq!((vector.sum(one..), vector.sum(..two), vector.sum(..=one), vector.sum(1..=2)), (Ok(320), Ok(21), Ok(21), Ok(320)));
+    assert_eq!(vector.sum((Excluded(0), Included(one))), Ok(20));
+    assert_eq!(vector.sum((Unbounded, Excluded(two))), Ok(21));
+    let past = Refusal::OutOfRange { size: 3 };
+    assert_eq!((vector.sum(..=usize::MAX), vector.sum(0..1_usize << 32), vector.sum(-1..2)), (Err(past), Err(past), Err(past)));
+    #[allow(clippy::reversed_empty_ranges)]
+    let reversed = [vector.sum(usize::MAX..2), vector.sum(-1..-2), vector.sum(usize::MAX..usize::MAX - 1)];
+    assert_eq!(reversed, [Err(Refusal::BadRange); 3]);
+    assert_eq!(vector.elements(one..).unwrap().collect::<Vec<_>>(), [20, 300]);
+}
+
+#[test]
+fn it_is_made_of_elements_and_into_them() {
+    let plain = vec![5, -6, i64::MAX];
+    let made = [
+        Vector::try_from(&plain[..]),
+        Vector::try_from([5, -6, i64::MAX]),
+        Vector::try_from(&[5, -6, i64::MAX]),
+        Vector::try_from(plain.clone()),
+        Vector::try_from_iter(plain.iter().copied()),
+        Ok(plain.iter().collect()),
+        Ok(plain.iter().copied().collect()),
+    ];
+    for vector in made {
+        let vector = vector.unwrap();
+        assert_eq!((vector.to_vec().as_ref(), vector.edits()), (Ok(&plain), 3));
+        assert!(vector.into_iter().rev().eq([i64::MAX, -6, 5]));
+    }
+    let mut vector = of(&[1]);
+    vector.extend(&plain);
+    vector.extend(2..=3);
+    assert_eq!(vector, [1, 5, -6, i64::MAX, 2, 3]);
+    // a vector that is used up gives its elements from both ends, over what is read at once
+    let mut elements = of(&(0..300).collect::<Vec<i64>>()).into_iter();
+    assert_eq!((elements.next(), elements.next_back(), elements.len()), (Some(0), Some(299), 298));
+    assert!(elements.eq(1..299));
+    assert_eq!(of(&[]).to_vec(), Ok(vec![]));
+}
+
+#[test]
+fn what_has_no_room_is_refused_or_panics() {
+    assert_eq!(Vector::try_from(vec![0; 1_048_569]).err(), Some(Refusal::Full));
+    assert_eq!(Vector::try_from_iter(std::iter::repeat(0)).err(), Some(Refusal::Full));
+    let mut small = Vector::with_limits(Limits::new(1, 100).unwrap()).unwrap();
+    let told = std::panic::catch_unwind(std::panic::AssertUnwindSafe(|| small.extend(0..10))).unwrap_err();
+    assert_eq!(told.downcast_ref::<String>().unwrap(), "8 pushed, then full: there are as many elements as the limits allow");
+    assert_eq!(small, [0, 1, 2, 3, 4, 5, 6, 7]);
+}
+
+#[test]
+fn a_clone_has_elements_limits_and_table() {
+    let mut table = [[0; 4]; 8];
+    table[0][3] = 1;
+    let mut first = Vector::with_table(Limits::new(1, 9).unwrap(), &table).unwrap();
+    first.extend_from_slice(&[3, 0]).unwrap();
+    first.write(1, 7).unwrap();
+    let mut second = first.try_clone().unwrap();
+    assert_eq!((&second, second.edits(), second.reduce(..1).unwrap().values.automaton[0]), (&first, 2, 1));
+    second.push(1).unwrap();
+    assert!(second != first && first == vec![3, 7] && first != [3] && first != [3, 8]);
+    assert_eq!(second.reserve(9), Err(Refusal::TooLarge { limit: 8 }));
+    assert_eq!(second.clear(), Ok(Truncated { edit: 4, dropped: 3 }));
+    assert!(second.is_empty() && second == of(&[]));
+    second.extend(0..5);
+    assert_eq!(second.clear(), Err(Refusal::Worn));
+}
+
+#[test]
+fn kinds_have_names() {
+    use livevec::{Kind, UnknownKind};
+    let names = ["sum", "least", "greatest", "best", "affine", "automaton"];
+    assert_eq!(Kind::ALL.map(|kind| kind.to_string()), names);
+    assert_eq!(names.map(str::parse), Kind::ALL.map(Ok::<Kind, UnknownKind>));
+    for wrong in ["", "Sum", " sum", "sum ", "sums", "summe"] {
+        assert!(wrong.parse::<Kind>().is_err());
+    }
+}
+
+#[test]
 fn six_values_of_one_range() {
     let vector = of(&[5, -3, 4, -10, 2]);
     let all = vector.reduce(..).unwrap();
