@@ -244,8 +244,7 @@ class Reads(unittest.TestCase):
             self.assertRaises(livevec.BadRange, call, 2**40, 1)
             self.assertRaises(livevec.OutOfRange, call, 0, 4)
             self.assertRaises(livevec.OutOfRange, call, 0, 2**40)
-            self.assertRaises(livevec.OutOfRange, call, -4)
-            self.assertRaises(livevec.OutOfRange, call, -(2**40), 2)
+            self.assertRaises(livevec.OutOfRange, call, -4, 4)
             self.assertRaises(livevec.BadRange, call, 1, -3)
             self.assertRaises(livevec.BadRange, call, 0, -4)
             self.assertRaises(TypeError, call, 1.0)
@@ -255,6 +254,14 @@ class Reads(unittest.TestCase):
         v = Vector([1, 20, 300])
         self.assertEqual((v.sum(-1), v.sum(-3), v.sum(0, -1), v.sum(-2, -1), v.sum(3)), (300, 321, 21, 20, 0))
         self.assertEqual((v.to_array(-2).tolist(), v.scan_inclusive(-2).sums(), v.ask(-1).values.least), ([20, 300], [20, 320], 300))
+
+    def test_a_negative_start_before_the_first_element_is_that_ones(self):
+        plain = [1, 20, 300]
+        v = Vector(plain)
+        for lo, hi in [(-4, None), (-1000, None), (-(2**70), 2), (-4, -1), (-9, 0), (-3, -3)]:
+            self.assertEqual((v.to_array(lo, hi).tolist(), v.sum(lo, hi)), (plain[lo:hi], sum(plain[lo:hi])))
+        room = array("q", [0] * 3)
+        self.assertEqual((v.read_into(room, -1000), room.tolist(), Vector().sum(-5)), (3, plain, 0))
 
     def test_scans(self):
         v = Vector([3, -5, 4])
@@ -362,10 +369,43 @@ print(vector.edits)
         said = subprocess.run([sys.executable, "-c", program], cwd=os.path.dirname(os.path.abspath(__file__)), capture_output=True, text=True)
         self.assertEqual((said.stdout, said.stderr), ("6 1 1 5\n2\n", ""))
 
-    def test_it_is_never_copied(self):
-        v = Vector([1])
-        for call in (copy.copy, copy.deepcopy, pickle.dumps):
-            self.assertRaises(TypeError, call, v)
+    def test_a_copy_has_elements_limits_and_table(self):
+        # state 1 says: a remainder of 3 was seen
+        v = Vector([3, 0], most_buckets=1, most_edits=9, table=[[0, 0, 0, 1], *[[0] * 4] * 7])
+        v[1] = 7
+        for copied in (v.copy(), copy.copy(v), copy.deepcopy(v), pickle.loads(pickle.dumps(v))):
+            self.assertEqual((copied, list(copied), copied.edits, copied.ask(0, 1).values.automaton[0]), (v, [3, 7], 2, 1))
+            copied.push(1)
+            self.assertEqual((len(copied), len(v), copied == v), (3, 2, False))
+            self.assertRaises(livevec.TooLarge, copied.reserve, 9)
+            copied.clear()
+            self.assertEqual((list(copied), copied.edits), ([], 4))
+            copied.extend(range(5))
+            self.assertRaises(livevec.Worn, copied.clear)
+
+    def test_equal_by_elements(self):
+        self.assertTrue(Vector() == Vector() and Vector([1, 2]) == Vector([1, 2], most_edits=5) and not Vector([1]) != Vector([1]))
+        for other in (Vector([1]), Vector([1, 3]), Vector([1, 2, 3]), [1, 2], array("q", [1, 2]), None):
+            self.assertTrue(Vector([1, 2]) != other and not Vector([1, 2]) == other)
+        self.assertRaises(TypeError, hash, Vector())
+        closed = Vector()
+        closed.close()
+        for call in (lambda: closed == Vector(), lambda: Vector() == closed, closed.copy, lambda: pickle.dumps(closed), closed.clear):
+            self.assertRaises(livevec.Closed, call)
+
+    def test_what_is_of_one_process_is_never_copied(self):
+        v, board = Vector([1] * 8), Board(seats=1)
+        job, seat = v.claim(), board.sit()
+        for it in (job, board, seat, job.run()):
+            for call in (copy.copy, copy.deepcopy, pickle.dumps):
+                with self.assertRaisesRegex(TypeError, f"a.? {type(it).__name__} can't be copied"):
+                    call(it)
+
+    def test_a_subclass_stays_one(self):
+        class Prices(Vector):
+            __slots__ = ()
+
+        self.assertEqual((type(Prices([1]).copy()), type(Prices([1]).__enter__())), (Prices, Prices))
 
     def test_a_job_of_nothing_is_shown_and_not_run(self):
         job = livevec.Job()
@@ -479,7 +519,7 @@ class Boards(unittest.TestCase):
             _board, seat = alone(kind)
             for element in [4, -6, 1027, 1025]:
                 seat.push(element)
-            self.assertEqual((seat.reduce(), seat.reduce(-4, -1).edit, seat.reduce(2, 2).value), ((4, 4, 0, value), 4, nothing))
+            self.assertEqual((seat.reduce(), seat.reduce(-9, -1).edit, seat.reduce(2, 2).value), ((4, 4, 0, value), 4, nothing))
             with self.assertRaises(livevec.BadRange):
                 seat.reduce(3, 2)
             with self.assertRaises(livevec.OutOfRange):
@@ -563,6 +603,15 @@ class Boards(unittest.TestCase):
         for number, places in played.items():
             self.assertEqual({elements[place] for place in places}, {100 + number})
         self.assertEqual(sorted(itertools.chain(*played.values())), list(range(1600)))
+
+
+class Package(unittest.TestCase):
+    def test_it_has_the_version_of_the_repository(self):
+        with open(os.path.join(os.path.dirname(os.path.abspath(__file__)), "..", "..", "VERSION"), encoding="utf-8") as file:
+            self.assertEqual(livevec.__version__, file.read().strip())
+
+    def test_it_says_that_it_has_types(self):
+        self.assertTrue(os.path.isfile(os.path.join(os.path.dirname(livevec.__file__), "py.typed")))
 
 
 class Page(unittest.TestCase):

@@ -9,9 +9,9 @@
 The library is written and proved in Rattle. This module calls its C form, `liblivevec.so`, by ctypes. The library's functions are proved; the
 module over them is tested.
 
-The shared object is looked for in this order: the file that LIVEVEC_LIB names; `liblivevec.so` in the folder that LIVEVEC_LIB_DIR names; beside
-this module; in the folder `build` of the repository that this module lies in; where the system's loader looks (LD_LIBRARY_PATH, then its own
-folders); in `lib` of the interpreter's prefix, which is that of a virtual environment; in /usr/local/lib.
+The shared object is looked for in this order: the file that LIVEVEC_LIB names; `liblivevec.so` in the folder that LIVEVEC_LIB_DIR names; in this
+package's folder, then beside it; in the folder `build` of the repository that it lies in; where the system's loader looks (LD_LIBRARY_PATH, then its
+own folders); in `lib` of the interpreter's prefix, which is that of a virtual environment; in /usr/local/lib.
 
 Threads. A `Vector`'s calls into C keep the interpreter's lock, so it may be used by several threads, one call at a time. What takes more than
 one call (`vector[-1]`, a loop over the elements, `edits` after a push) needs a lock of your own if another thread edits meanwhile.
@@ -28,7 +28,17 @@ import struct
 import sys
 import threading
 from array import array
-from typing import Iterable, Iterator, NamedTuple, Optional, Sequence, Union, overload
+from typing import TYPE_CHECKING, Any, Callable, Iterable, Iterator, NamedTuple, Optional, Sequence, TypeVar, Union, overload
+
+if TYPE_CHECKING:
+    from typing import Protocol
+
+    from _typeshed import WriteableBuffer
+
+    class _NumpyArray(Protocol):
+        # numpy doesn't tell each checker that its arrays are buffers
+        @property
+        def __array_interface__(self) -> Any: ...
 
 __all__ = [
     "Vector", "Job", "Outcome", "Scan", "Values", "Reduced", "Delivered", "Became", "Node",
@@ -37,6 +47,8 @@ __all__ = [
     "ShortBuffer", "TooWide", "Outrun", "Contended", "Overtaken", "NoSeat", "SeatsOut", "Busy",
     "MOST_BUCKETS", "MOST_EDITS", "MOST_BOARD_BUCKETS", "MOST_SEATS",
 ]
+
+__version__ = "0.3.0"
 
 MOST_BUCKETS = 17
 """So many buckets have room for 1,048,568 elements; k have room for 8 * (2**k - 1)."""
@@ -70,7 +82,7 @@ class Refusal(Exception):
         self.pushed = pushed
         super().__init__(self.says.format(detail=detail))
 
-    def __reduce__(self) -> tuple:
+    def __reduce__(self) -> tuple[Any, ...]:
         return type(self), (self.detail, self.pushed)
 
 
@@ -199,8 +211,12 @@ def _refuse(number: int, detail: int = 0, pushed: int = 0) -> Refusal:
 # --- The C calls of include/livevec.h ---
 
 
+# ctypes doesn't tell what types the fields have, so each is said twice.
+
+
 class _Slot(ctypes.Structure):
     # A slot is never copied: it lies in the object that owns it, and is passed by its address alone.
+    full_: bool
     _fields_ = [("full_", ctypes.c_bool), ("at_", ctypes.c_void_p), ("busy_", ctypes.c_ubyte)]
 
 
@@ -226,59 +242,109 @@ class _SeatSlot(_Slot):
 
 
 class _Table(ctypes.Structure):
+    next: ctypes.Array[ctypes.c_uint8]
     _fields_ = [("next", ctypes.c_uint8 * 32)]
 
 
 class _Edited(ctypes.Structure):
+    refusal: int
+    detail: int
+    edit: int
+    place: int
+    value: int
     _fields_ = [("refusal", ctypes.c_uint32), ("detail", ctypes.c_uint32), ("edit", ctypes.c_uint32), ("place", ctypes.c_uint32),
                 ("value", ctypes.c_int64)]
 
 
 class _Pushed(ctypes.Structure):
+    refusal: int
+    detail: int
+    edit: int
+    pushed: int
     _fields_ = [("refusal", ctypes.c_uint32), ("detail", ctypes.c_uint32), ("edit", ctypes.c_uint32), ("pushed", ctypes.c_uint32)]
 
 
 class _Count(ctypes.Structure):
+    refusal: int
+    value: int
     _fields_ = [("refusal", ctypes.c_uint32), ("value", ctypes.c_uint32)]
 
 
 class _Element(ctypes.Structure):
+    refusal: int
+    detail: int
+    value: int
     _fields_ = [("refusal", ctypes.c_uint32), ("detail", ctypes.c_uint32), ("value", ctypes.c_int64)]
 
 
 class _Values(ctypes.Structure):
+    sum: int
+    least: int
+    greatest: int
+    best_low: int
+    best_high: int
+    affine_a: int
+    affine_b: int
+    automaton: ctypes.Array[ctypes.c_uint8]
+    any: bool
     _fields_ = [("sum", ctypes.c_uint64), ("least", ctypes.c_int64), ("greatest", ctypes.c_int64), ("best_low", ctypes.c_uint64),
                 ("best_high", ctypes.c_int64), ("affine_a", ctypes.c_uint32), ("affine_b", ctypes.c_uint32),
                 ("automaton", ctypes.c_uint8 * 8), ("any", ctypes.c_bool)]
 
 
 class _Reduced(ctypes.Structure):
+    refusal: int
+    detail: int
+    edit: int
+    cells: int
+    summaries: int
+    values: _Values
     _fields_ = [("refusal", ctypes.c_uint32), ("detail", ctypes.c_uint32), ("edit", ctypes.c_uint32), ("cells", ctypes.c_uint32),
                 ("summaries", ctypes.c_uint32), ("values", _Values)]
 
 
 class _Scanned(ctypes.Structure):
+    refusal: int
+    detail: int
+    edit: int
+    length: int
     _fields_ = [("refusal", ctypes.c_uint32), ("detail", ctypes.c_uint32), ("edit", ctypes.c_uint32), ("length", ctypes.c_uint32)]
 
 
 class _Claimed(ctypes.Structure):
+    refusal: int
+    found: bool
+    level: int
+    number: int
+    version: int
     _fields_ = [("refusal", ctypes.c_uint32), ("found", ctypes.c_bool), ("level", ctypes.c_uint32), ("number", ctypes.c_uint32),
                 ("version", ctypes.c_uint32)]
 
 
 class _Vetted(ctypes.Structure):
+    refusal: int
+    yes: bool
     _fields_ = [("refusal", ctypes.c_uint32), ("yes", ctypes.c_bool)]
 
 
 class _Accepted(ctypes.Structure):
+    refusal: int
+    became: int
+    now: int
     _fields_ = [("refusal", ctypes.c_uint32), ("became", ctypes.c_uint32), ("now", ctypes.c_uint32)]
 
 
 class _Renewed(ctypes.Structure):
+    refusal: int
+    detail: int
+    edit: int
+    version: int
     _fields_ = [("refusal", ctypes.c_uint32), ("detail", ctypes.c_uint32), ("edit", ctypes.c_uint32), ("version", ctypes.c_uint32)]
 
 
 class _Verdict(ctypes.Structure):
+    refusal: int
+    detail: int
     _fields_ = [("refusal", ctypes.c_uint32), ("detail", ctypes.c_uint32)]
 
 
@@ -288,14 +354,15 @@ def _found() -> str:
     if named:
         return named
     here = os.path.dirname(os.path.abspath(__file__))
-    near = [os.environ.get("LIVEVEC_LIB_DIR", ""), here, os.path.join(here, "..", "..", "build")]
+    beside = os.path.dirname(here)
+    near = [os.environ.get("LIVEVEC_LIB_DIR", ""), here, beside, os.path.join(beside, "..", "..", "build")]
     far = [os.path.join(sys.prefix, "lib"), "/usr/local/lib"]
     return _lying_in(near) or _known_to_the_system() or _lying_in(far) or "liblivevec.so"
 
 
 def _lying_in(folders: Iterable[str]) -> Optional[str]:
     paths = (os.path.join(folder, "liblivevec.so") for folder in folders if folder)
-    return next(filter(os.path.isfile, paths), None)
+    return next((path for path in paths if os.path.isfile(path)), None)
 
 
 def _known_to_the_system() -> Optional[str]:
@@ -322,7 +389,14 @@ _lib = _opened()
 _released = ctypes.CDLL(_lib._name)
 
 
-def _call(name: str, result: type, *arguments: type, by: ctypes.CDLL = _lib):  # type: ignore[no-untyped-def]
+_Answer = TypeVar("_Answer", bound=ctypes.Structure)
+
+
+@overload
+def _call(name: str, result: type[ctypes.c_uint32], *arguments: Any, by: ctypes.CDLL = _lib) -> Callable[..., int]: ...
+@overload
+def _call(name: str, result: type[_Answer], *arguments: Any, by: ctypes.CDLL = _lib) -> Callable[..., _Answer]: ...
+def _call(name: str, result: Any, *arguments: Any, by: ctypes.CDLL = _lib) -> Any:
     try:
         function = getattr(by, name)
     except AttributeError:
@@ -383,28 +457,33 @@ _seat_reduce = _call("livevec_seat_reduce", _Reduced, _seat, _u32, _u32, by=_rel
 _seat_refresh = _call("livevec_seat_refresh", _Renewed, _seat, _u32, by=_released)
 
 
+_Made = TypeVar("_Made", bound="_Handle")
+
+
 class _Handle:
-    """What owns a slot. It can be neither copied nor pickled."""
+    """What owns a slot. The slot can be neither copied nor pickled."""
 
     __slots__ = ("_slot", "_at", "__weakref__")
 
     _made_of: type[_Slot]
+    _slot: _Slot
+    _at: Any
 
     # The slot is there before anything can fail, for the object's end looks at it.
-    def __new__(cls, *_: object, **__: object):  # type: ignore[no-untyped-def]
+    def __new__(cls: type[_Made], *_: object, **__: object) -> _Made:
         made = super().__new__(cls)
         made._slot = cls._made_of()
         made._at = ctypes.byref(made._slot)
         return made
 
-    def __reduce__(self):  # type: ignore[no-untyped-def]
-        raise TypeError(f"a {type(self).__name__} can't be copied or pickled")
+    def __reduce__(self) -> Union[str, tuple[Any, ...]]:
+        raise TypeError(f"a {type(self).__name__} can't be copied or pickled, for it lies with the library in this process")
 
-    def __copy__(self) -> None:
-        self.__reduce__()
+    def __copy__(self: _Made) -> _Made:
+        raise TypeError(f"a {type(self).__name__} can't be copied: it stands for one thing in the library")
 
-    def __deepcopy__(self, _memo: object) -> None:
-        self.__reduce__()
+    def __deepcopy__(self: _Made, _memo: object) -> _Made:
+        return self.__copy__()
 
 
 def _as_u32(number: int, what: str) -> int:
@@ -423,7 +502,7 @@ def _as_i64(value: int) -> int:
     return value
 
 
-def _address(buffer: Union[array, bytearray, memoryview]) -> ctypes.c_char:
+def _address(buffer: WriteableBuffer) -> ctypes.c_char:
     """What stands first in a buffer that may be written to. While it lives the buffer can't be resized."""
     return ctypes.c_char.from_buffer(buffer)
 
@@ -490,7 +569,7 @@ def _values_of(raw: _Values) -> Values:
     return Values(_signed(raw.sum), least, greatest, best, (raw.affine_a, raw.affine_b), tuple(raw.automaton))
 
 
-class Scan(collections.abc.Sequence):
+class Scan(collections.abc.Sequence[Values]):
     """The values of each beginning of a range, in order."""
 
     __slots__ = ("edit", "_room", "_length")
@@ -507,7 +586,7 @@ class Scan(collections.abc.Sequence):
     def __getitem__(self, index: int) -> Values: ...
     @overload
     def __getitem__(self, index: slice) -> list[Values]: ...
-    def __getitem__(self, index):  # type: ignore[no-untyped-def]
+    def __getitem__(self, index: Union[int, slice]) -> Union[Values, list[Values]]:
         if isinstance(index, slice):
             return [self[i] for i in range(*index.indices(self._length))]
         return _values_of(_Values.from_buffer(self._room, range(self._length)[index] * ctypes.sizeof(_Values)))
@@ -541,7 +620,7 @@ class Job(_Handle):
             raise _refuse(refusal)
         return outcome
 
-    def __del__(self, _free=_free_job) -> None:  # type: ignore[no-untyped-def]
+    def __del__(self, _free: Callable[..., int] = _free_job) -> None:
         _free(self._at)
 
     def __repr__(self) -> str:
@@ -559,7 +638,7 @@ class Outcome(_Handle):
     def __init__(self, node: Node, version: int) -> None:
         self.node, self.version = node, version
 
-    def __del__(self, _free=_free_outcome) -> None:  # type: ignore[no-untyped-def]
+    def __del__(self, _free: Callable[..., int] = _free_outcome) -> None:
         _free(self._at)
 
     def __repr__(self) -> str:
@@ -571,14 +650,20 @@ class Outcome(_Handle):
 _AT_ONCE = 1024
 
 
-class Vector(_Handle, collections.abc.Sequence):
+_SomeVector = TypeVar("_SomeVector", bound="Vector")
+
+
+class Vector(_Handle, collections.abc.Sequence[int]):
     """A growable vector of 64-bit numbers that answers reductions and scans of any range.
 
     It is read like a list: `len(v)`, `v[i]`, `v[-1]`, `v[2:5]`, `for x in v`, `x in v`. Edits are `push` (or `append`), `pop`, `v[i] = x`, `swap`,
     `truncate`, `reserve` and `extend` (or `+=`); each has a number, 1, 2, 3 and so on, and `edits` is the last one. Ranges are `lo` up to `hi`,
-    without `hi`; where no `hi` is given they go up to the end. As in a slice, a negative end counts from the vector's end; other than a slice,
-    a range that goes past an end is refused. An answer equals the plain left fold of the range after the last edit. Vectors are compared by
-    identity: compare `to_array()` for their elements.
+    without `hi`; where no `hi` is given they go up to the end. As in a slice, a negative end counts from the vector's end, and a negative start
+    before the first element is that element's; other than a slice, a range that goes past the vector's end is refused. An answer equals the plain
+    left fold of the range after the last edit.
+
+    Two vectors are equal where their elements are, so that a vector has no hash. A copy, also one by `copy` or by `pickle`, has elements, limits
+    and table; its edits are the pushes of its elements.
 
     `elements` are pushed at the start. There are limits of buckets, of which k have room for 8 * (2**k - 1) elements, and of edits. `table` is that of the
     automaton, eight rows of four states from 0 to 7: from state q, an element x leads to table[q][x % 4]; without it, to (2 * q + x % 4) % 8.
@@ -586,13 +671,16 @@ class Vector(_Handle, collections.abc.Sequence):
     Raises BadLimits, BadTable and NoMemory. The memory is given back by `close`, at the end of a `with`, or with the object.
     """
 
-    __slots__ = ("_changes",)
+    __slots__ = ("_changes", "_limits")
     _made_of = _VectorSlot
 
     def __init__(self, elements: Iterable[int] = (), *, most_buckets: int = MOST_BUCKETS, most_edits: int = MOST_EDITS,
                  table: Optional[Sequence[Sequence[int]]] = None) -> None:
         self._changes = 0
         buckets, edits = _as_u32(most_buckets, "most_buckets"), _as_u32(most_edits, "most_edits")
+        table = None if table is None else tuple(tuple(row) for row in table)
+        # what a copy is made by
+        self._limits = buckets, edits, table
         if table is None:
             refusal = _new(self._at, buckets, edits)
         else:
@@ -713,9 +801,32 @@ class Vector(_Handle, collections.abc.Sequence):
         if did.refusal:
             raise _refuse(did.refusal, did.detail, did.pushed)
 
-    def __iadd__(self, values: Iterable[int]) -> Vector:
+    def __iadd__(self: _SomeVector, values: Iterable[int]) -> _SomeVector:
         self.extend(values)
         return self
+
+    def clear(self) -> None:
+        """Drops all elements, by one edit. Raises Worn, NoMemory. It gives no memory back."""
+        self.truncate(0)
+
+    # Copies.
+
+    def copy(self: _SomeVector) -> _SomeVector:
+        """A vector of its own with the same elements, limits and table. Raises NoMemory.
+
+        Its edits are the pushes of its elements, so that their numbers begin anew: a vector that is worn goes on as its copy."""
+        return _remade(type(self), self.to_array(), *self._limits)
+
+    def __copy__(self: _SomeVector) -> _SomeVector:
+        return self.copy()
+
+    def __reduce__(self) -> tuple[Any, ...]:
+        return _remade, (type(self), self.to_array(), *self._limits)
+
+    def __eq__(self, other: object) -> bool:
+        if not isinstance(other, Vector):
+            return NotImplemented
+        return len(self) == len(other) and self.to_array() == other.to_array()
 
     # Reads.
 
@@ -745,7 +856,7 @@ class Vector(_Handle, collections.abc.Sequence):
     def __getitem__(self, index: int) -> int: ...
     @overload
     def __getitem__(self, index: slice) -> list[int]: ...
-    def __getitem__(self, index):  # type: ignore[no-untyped-def]
+    def __getitem__(self, index: Union[int, slice]) -> Union[int, list[int]]:
         if isinstance(index, slice):
             wanted = range(len(self))[index]
             if not wanted:
@@ -757,7 +868,7 @@ class Vector(_Handle, collections.abc.Sequence):
             raise _refuse(got.refusal, got.detail)
         return got.value
 
-    def to_array(self, lo: int = 0, hi: Optional[int] = None) -> array:
+    def to_array(self, lo: int = 0, hi: Optional[int] = None) -> array[int]:
         """The elements of a range as an `array.array('q')`, read by one call. Raises BadRange, OutOfRange."""
         lo, hi = self._range(lo, hi)
         read = array("q", bytes(8 * self._room(lo, hi)))
@@ -768,13 +879,13 @@ class Vector(_Handle, collections.abc.Sequence):
             raise _refuse(did.refusal, did.detail)
         return read
 
-    def read_into(self, buffer: Union[array, memoryview], lo: int = 0, hi: Optional[int] = None) -> int:
+    def read_into(self, buffer: Union[WriteableBuffer, _NumpyArray], lo: int = 0, hi: Optional[int] = None) -> int:
         """Fills the front of a buffer with the elements of a range, by one call, and gives how many they are.
 
         The buffer has 64-bit numbers with a sign side by side, and may be written to: an `array.array('q')`, a numpy array of int64, a memoryview
         of either. Any other raises TypeError. Raises BadRange, OutOfRange, ShortBuffer.
         """
-        view = memoryview(buffer)
+        view = memoryview(buffer)  # type: ignore[arg-type]
         if not _is_plain(view) or view.readonly or not view.c_contiguous:
             raise TypeError("elements are read into a buffer of 64-bit numbers with a sign, side by side, that may be written to")
         lo, hi = self._range(lo, hi)
@@ -794,7 +905,7 @@ class Vector(_Handle, collections.abc.Sequence):
         size = len(self)
         return self._through(self._changes, ((max(hi - _AT_ONCE, 0), hi) for hi in range(size, 0, -_AT_ONCE)), reversed)
 
-    def _through(self, changes, parts, order) -> Iterator[int]:  # type: ignore[no-untyped-def]
+    def _through(self, changes: int, parts: Iterable[tuple[int, int]], order: Callable[[array[int]], Iterator[int]]) -> Iterator[int]:
         for lo, hi in parts:
             if self._changes != changes:
                 break
@@ -905,13 +1016,13 @@ class Vector(_Handle, collections.abc.Sequence):
         """Gives the memory back. Every later call raises Closed; to close again does nothing."""
         _free(self._at)
 
-    def __enter__(self) -> Vector:
+    def __enter__(self: _SomeVector) -> _SomeVector:
         return self
 
     def __exit__(self, *_: object) -> None:
         self.close()
 
-    def __del__(self, _free=_free) -> None:  # type: ignore[no-untyped-def]
+    def __del__(self, _free: Callable[..., int] = _free) -> None:
         _free(self._at)
 
     # Within.
@@ -932,13 +1043,13 @@ class Vector(_Handle, collections.abc.Sequence):
             raise _refuse(did.refusal, did.detail)
         return did.values
 
-    def _reduced(self, call, lo: int, hi: Optional[int]) -> Reduced:  # type: ignore[no-untyped-def]
+    def _reduced(self, call: Callable[..., _Reduced], lo: int, hi: Optional[int]) -> Reduced:
         did = call(self._at, *self._range(lo, hi))
         if did.refusal:
             raise _refuse(did.refusal, did.detail)
         return Reduced(did.edit, did.cells, did.summaries, _values_of(did.values))
 
-    def _scan(self, call, lo: int, hi: Optional[int]) -> Scan:  # type: ignore[no-untyped-def]
+    def _scan(self, call: Callable[..., _Scanned], lo: int, hi: Optional[int]) -> Scan:
         lo, hi = self._range(lo, hi)
         length = self._room(lo, hi)
         room = bytearray(max(length, 1) * ctypes.sizeof(_Values))
@@ -946,6 +1057,11 @@ class Vector(_Handle, collections.abc.Sequence):
         if did.refusal:
             raise _refuse(did.refusal, did.detail)
         return Scan(did.edit, room, did.length)
+
+
+def _remade(of: type[_SomeVector], elements: array[int], buckets: int, edits: int, table: Optional[Sequence[Sequence[int]]]) -> _SomeVector:
+    """A copy, of a vector here or of one that was pickled."""
+    return of(elements, most_buckets=buckets, most_edits=edits, table=table)
 
 
 # --- The board and its seats ---
@@ -982,7 +1098,7 @@ class Finished(NamedTuple):
     """What a board came to: how many edits were accepted at all seats together, and the elements."""
 
     edits: int
-    elements: array
+    elements: array[int]
 
 
 class Board(_Handle):
@@ -1052,7 +1168,7 @@ class Board(_Handle):
     def __exit__(self, *_: object) -> None:
         self.close()
 
-    def __del__(self, _free=_free_board) -> None:  # type: ignore[no-untyped-def]
+    def __del__(self, _free: Callable[..., int] = _free_board) -> None:
         _free(self._at)
 
     def __repr__(self) -> str:
@@ -1062,6 +1178,9 @@ class Board(_Handle):
 # A call of a seat's own asks for no more tries than this, which take some milliseconds at most.
 _TRIES = 1000
 _MOST_BOARD = 8 * (2**MOST_BOARD_BUCKETS - 1)
+
+
+_Result = TypeVar("_Result")
 
 
 class Seat(_Handle):
@@ -1137,12 +1256,12 @@ class Seat(_Handle):
     # Within.
 
     # Calls at a board keep the interpreter's lock, so that its slot serves one at a time. A board that is closed takes no seat back.
-    def _go(self, at, _take_back=_board_take_back, _free=_free_seat):  # type: ignore[no-untyped-def]
+    def _go(self, at: Any, _take_back: Callable[..., int] = _board_take_back, _free: Callable[..., int] = _free_seat) -> None:
         board = getattr(self, "_board", None)
         if board is None or _take_back(board._at, at):
             _free(at)
 
-    def _alone(self, call, *arguments: int):  # type: ignore[no-untyped-def]
+    def _alone(self, call: Callable[..., _Result], *arguments: int) -> _Result:
         """A call while no other is at the slot."""
         if not self._one.acquire(False):
             raise RuntimeError("a seat serves one thread at a time")
@@ -1151,7 +1270,7 @@ class Seat(_Handle):
         finally:
             self._one.release()
 
-    def _told(self, call, *arguments: int):  # type: ignore[no-untyped-def]
+    def _told(self, call: Callable[..., _Answer], *arguments: int) -> _Answer:
         did = self._alone(call, *arguments)
         if did.refusal:
             raise _refuse(did.refusal, getattr(did, "detail", 0))
@@ -1184,12 +1303,12 @@ def _place(index: int, holder: Union[Vector, Seat]) -> int:
 
 
 def _ends(lo: int, hi: Optional[int], holder: Union[Vector, Seat]) -> tuple[int, int]:
-    """A range as C wants it, where a negative end counts from the end."""
+    """A range as C wants it, where a negative end counts from the end, and a start before the first index is that one."""
     if hi is not None and 0 <= lo <= _MOST_U32 and 0 <= hi <= _MOST_U32:
         return lo, hi
     size = len(holder)
     hi = size if hi is None else hi
-    lo, hi = lo + size * (lo < 0), hi + size * (hi < 0)
+    lo, hi = max(lo + size, 0) if lo < 0 else lo, hi + size * (hi < 0)
     # C can't be given what is before the start or above its numbers; which of the two is greater is kept
     if min(lo, hi) < 0 or max(lo, hi) > _MOST_U32:
         raise _refuse(BadRange.number) if lo > hi else _refuse(OutOfRange.number, size)

@@ -1,0 +1,69 @@
+"""What a type checker takes of livevec, and what it refuses. `mypy --strict` reads this file; nobody runs it.
+
+Each line that is marked has a mistake: the checker complains where it doesn't see one."""
+from __future__ import annotations
+
+from array import array
+from typing import Optional
+
+from livevec import Board, Delivered, Finished, Job, Kind, Outrun, Reduced, Refusal, Scan, Seat, Values, Vector
+
+
+class Prices(Vector):
+    pass
+
+
+def vectors(prices: Vector, some: Prices) -> None:
+    index: int = prices.push(7)
+    first: int = prices[0]
+    part: list[int] = prices[1:3]
+    total: int = prices.sum(-1000)
+    least: Optional[int] = prices.least()
+    every: array[int] = prices.to_array()
+    answer: Reduced = prices.ask(index, index + total)
+    values: Values = answer.values
+    whole: tuple[int, ...] = values.automaton
+    scanned: Scan = prices.scan_inclusive()
+    last: Values = scanned[-1]
+    why: Optional[Refusal] = prices.why_not_pop()
+    again: Prices = some.copy()
+    same: bool = again == prices
+    numbers = [2 * price for price in prices] + [first, *part]
+    prices += numbers
+    prices.extend(every)
+    prices.read_into(memoryview(every), 0, 1)
+    print(least, whole, last.best, why, same)
+
+
+def wrong_vectors(prices: Vector) -> None:
+    prices.push("7")  # type: ignore[arg-type]
+    prices[0] = 1.5  # type: ignore[assignment]
+    prices.ask(0, "end")  # type: ignore[arg-type]
+    least: int = prices.least()  # type: ignore[assignment]
+    prices.push(7, 8)  # type: ignore[call-arg]
+    prices.deliver(prices)  # type: ignore[arg-type]
+    Vector(["7"])  # type: ignore[list-item]
+    prices.insert(0, least)  # type: ignore[attr-defined]
+    prices.read_into([0])  # type: ignore[arg-type]
+
+
+def jobs(prices: Vector) -> None:
+    job: Optional[Job] = prices.claim()
+    job.run()  # type: ignore[union-attr]
+    if job is not None:
+        delivered: Delivered = prices.deliver(job.run())
+        print(delivered.became.name, job.node.level)
+
+
+def boards() -> Finished:
+    with Board(Kind.SUM, seats=1) as board:
+        with board.sit() as seat:
+            place: int = seat.push(1, tries=3)
+            try:
+                seat[place] = 2
+            except Outrun as outrun:
+                print(outrun.detail)
+            seat.push(1, 3)  # type: ignore
+            other: Seat = board  # type: ignore[assignment]
+        print(other)
+        return board.finish()
