@@ -238,7 +238,9 @@ fn fill_levels(levels: &mut Levels<Level>, rows: &Levels<u32>)
 }
 
 // The least node of a level that wants a job, and the number of the edit that touched it last, which is claimed with it.
-// Each hint is taken away once it was looked at: its node wants no job then, or none any longer.
+// Each hint is taken away once it was looked at: its node wants no job then, or none any longer. It is made anew for each level,
+// so that none is picked by its number.
+#[inline(always)]
 fn next_of<S: Copy>(rows: &mut Level, level: u32, table: &Summaries<S>) -> Option<(Node, u32)>
     requires { CanServe table.now level rows.old.rows }
     ensures { GivesNext table.now level rows.old.rows rows.new.rows result }

@@ -60,8 +60,45 @@ fn fold_block<B: Body>(cells: &Edits, _table: &Summaries<B::S>, body: &B, block:
     fold_slice(body, &elements)
 }
 
-// The join of the summaries of a whole node's children, from left to right.
+// The join of the summaries of a whole node's children, from left to right. It is made anew for each level, so that the children's
+// rows are not picked by a number eight times.
 fn join_children<B: Body>(cells: &Edits, table: &Summaries<B::S>, body: &B, node: Node) -> B::S
+    requires agrees { Agrees (B.operations (B.meaning body.now)) cells.now.journal table.now }
+    requires whole { whole_in table.now node ≡ true }
+    requires above { 1 < node.level }
+    requires ready { IsReady table.now node }
+    ensures { result ≡ fold_of (B.operations (B.meaning body.now)) (elements_under cells.now.journal node) }
+{
+    if node.level == 2 {
+        return join_each_child(cells, table, body, on_level(node, 2));
+    }
+    if node.level == 3 {
+        return join_each_child(cells, table, body, on_level(node, 3));
+    }
+    if node.level == 4 {
+        return join_each_child(cells, table, body, on_level(node, 4));
+    }
+    if node.level == 5 {
+        return join_each_child(cells, table, body, on_level(node, 5));
+    }
+    join_each_child(cells, table, body, node)
+}
+
+// A node itself, whose level is known where this is written.
+#[inline(always)]
+fn on_level(node: Node, level: u32) -> Node
+    requires { node.level ≡ level }
+    ensures { result ≡ node }
+{
+    Node {
+        level,
+        number: node.number,
+    }
+}
+
+// What `join_children` gives.
+#[inline(always)]
+fn join_each_child<B: Body>(cells: &Edits, table: &Summaries<B::S>, body: &B, node: Node) -> B::S
     requires agrees { Agrees (B.operations (B.meaning body.now)) cells.now.journal table.now }
     requires whole { whole_in table.now node ≡ true }
     requires above { 1 < node.level }

@@ -50,6 +50,7 @@ fn four_children_of<S: Copy>(table: &Summaries<S>, node: Node, first: u32) -> Op
 }
 
 /// Whether the eight children of a whole node are fresh.
+#[inline(always)]
 pub fn are_children_fresh<S: Copy>(table: &Summaries<S>, node: Node) -> bool
     requires whole { whole_in table.now node ≡ true }
     requires above { 1 < node.level }

@@ -4,7 +4,7 @@ use Rattle.lv_summary.specs.Table.{entry_in}
 use Rattle.lv_known.proofs.FoldableLaws.{can_fold}
 use Rattle.lv_refresh.proofs.ComputeLaws.{child_has_entry, joins_all, joins_can, joins_more, joins_none}
 use Rattle.lv_refresh.proofs.GatherLaws.{children_fit}
-use Rattle.lv_refresh.proofs.computing.join_children.Goals as goal
+use Rattle.lv_refresh.proofs.computing.join_each_child.Goals as goal
 
 pub loop-k-init : goal.loop-k-init
 loop-k-init g c =
