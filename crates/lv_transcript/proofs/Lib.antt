@@ -7,3 +7,5 @@ pub mod SoundTranscripts
 pub mod TranscriptBytes
 pub mod AuditedTranscripts
 pub mod ReplayLemmas
+pub mod BlockLaws
+pub mod KeptLaws

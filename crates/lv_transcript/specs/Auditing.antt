@@ -184,6 +184,13 @@ ClaimBecomes number journal last question value (stages.Bad n) reached = (n ≡ 
 ClaimBecomes number journal last question value stages.NoMemory reached = Unit {0}
 ClaimBecomes number journal last question value _ reached = ⊥
 
+-- what became of the answer of line n on the list after its edit: it is right, or isn't, or there was no memory
+abbrev pub AnswerBecomes : ℕ → List ℤ → Question → List ℕ → Stage → Type 0
+AnswerBecomes number xs question value stages.Claims = IsAnswer xs question value
+AnswerBecomes number xs question value (stages.No n) = (n ≡ number) × (IsAnswer xs question value → ⊥)
+AnswerBecomes number xs question value stages.NoMemory = Unit {0}
+AnswerBecomes number xs question value _ = ⊥
+
 -- the verdict of an audit that has come to this stage: of one that hasn't come to the end it is bad
 abbrev pub IsVerdictAt : Stage → Verdict → Type 0
 IsVerdictAt stages.End verdict = verdict ≡ verdicts.Yes

@@ -1,2 +1,3 @@
 pub mod Auditing
+pub mod Blocks
 pub mod Transcript

@@ -1,12 +1,15 @@
 ghost use Rattle.std.specs.Prelude.{◌≡◌, ◌↔◌, ℕ, ◌^◌, ◌≤◌, ◌++◌, ◌⊎◌, [], IfOk, MatchResult, IsTrue, length, take, vec_capacity};
 ghost use Rattle.lv_lines.specs.Output.{HasRoom};
+ghost use Rattle.lv_lines.specs.Texts.{shown_text};
 ghost use Rattle.lv_edits.specs.History.{list_of};
 ghost use Rattle.lv_lines.specs.declared.replies.TheConstants.{LINE};
-ghost use Rattle.lv_transcript.specs.Auditing.{AuditState, start_state, state_of, Audits, AuditStep, ClaimBecomes, EditBecomes, Becomes, FirstBecomes, IsAnswer, IsVerdictAt, MayEnd, Takes, TakesEdit, TakesLater};
+ghost use Rattle.lv_transcript.specs.Auditing.{AnswerBecomes, AuditState, start_state, state_of, Audits, AuditStep, ClaimBecomes, EditBecomes, Becomes, FirstBecomes, IsVerdictAt, MayEnd, Takes, TakesEdit, TakesLater};
+ghost use Rattle.lv_transcript.specs.Blocks.{AreKept};
 ghost use Rattle.lv_transcript.specs.Transcript.{greatest, verdict_text, Audited};
 
-use crate::plain_ranges::{Replay, plain_value_of};
+use crate::plain_ranges::Replay;
 use crate::transcript_lines::{Question, read_claim, read_edit};
+use lv_bodies::Shown;
 use lv_edits::{Edit, Edits};
 use lv_geometry::Limits;
 use lv_lines::{
@@ -28,8 +31,8 @@ pub enum Verdict {
 
 /// Audits a transcript: reads it to its end, and writes the verdict as a line.
 ///
-/// Each edit is made anew, and each claim's value is the left fold of the elements of its range, one by one. Memory
-/// grows with the journal, and not with the text. Nothing is written where a read fails, which is `ReadFault`, where the
+/// Each edit is made anew, and each claim's value is the left fold of the elements of its range: it is joined from folds of blocks
+/// of 1,024 elements, which are kept until an edit touches them. Memory grows with the journal, and not with the text. Nothing is written where a read fails, which is `ReadFault`, where the
 /// input has more than 2^30 bytes, which is `TooLong`, and where there is no memory, which is `NoMemory`. A failed
 /// write, and one that takes no byte, is `WriteFault`.
 pub fn audit<R: Read, W: Write>(
@@ -103,6 +106,7 @@ struct Auditor {
     // No list on the way was longer than a fold may be.
     ghost few: { (n : ℕ) → length (list_of (take n edits.journal)) ≤ 2 ^ 20 },
     ghost room: { LINE ≤ vec_capacity text },
+    ghost kept: { AreKept replay.folds replay.list.items },
 }
 
 impl Responder for Auditor {
@@ -238,7 +242,23 @@ impl Auditor {
         {
             return Stage::NoMemory;
         }
-        if is_answer(self.replay.list.as_slice(), question, value, &mut self.text) {
+        self.judge(number, question, value)
+    }
+
+    // The stage behind a claim, on the list after its edit.
+    fn judge(&mut self, number: u32, question: Question, value: &[u8]) -> Stage
+        ensures answer { AnswerBecomes number self.old.replay.list.items question value.now result }
+        ensures edits { self.new.edits ≡ self.old.edits }
+        ensures reached { self.new.replay.edit ≡ self.old.replay.edit }
+    {
+        let (lo, hi) = (question.lo as usize, question.hi as usize);
+        if lo > hi || hi > self.replay.list.len() {
+            return Stage::No(number);
+        }
+        let Ok(shown) = self.replay.value(question.kind, lo, hi) else {
+            return Stage::NoMemory;
+        };
+        if is_text_of(shown, value, &mut self.text) {
             return Stage::Claims;
         }
         Stage::No(number)
@@ -255,18 +275,13 @@ fn first_stage(number: u32, line: &[u8]) -> Stage
     Stage::Bad(number)
 }
 
-// Whether a range lies in the list, and its value is this text.
-fn is_answer(list: &[i64], question: Question, value: &[u8], text: &mut Vec<u8>) -> bool
-    requires few { length list.now ≤ 2 ^ 20 }
-    requires room { LINE ≤ vec_capacity text.old }
-    ensures answer { IsTrue result ↔ IsAnswer list.now question value.now }
+// Whether bytes are the text of a value. It is put into `text`, in place of what is there.
+fn is_text_of(shown: Shown, value: &[u8], text: &mut Vec<u8>) -> bool
+    requires { LINE ≤ vec_capacity text.old }
+    ensures answer { IsTrue result ↔ (value.now ≡ shown_text shown) }
     ensures room { LINE ≤ vec_capacity text.new }
 {
-    let (lo, hi) = (question.lo as usize, question.hi as usize);
-    if lo > hi || hi > list.len() {
-        return false;
-    }
     text.clear();
-    put_shown(text, plain_value_of(question.kind, &list[lo..hi]));
+    put_shown(text, shown);
     text.as_slice() == value
 }

@@ -1,12 +1,14 @@
 //! Transcripts and their auditor.
 //!
 //! A transcript is a journal and the reductions that were answered, as text. `write_transcript` writes it; `audit`
-//! answers yes exactly where the bytes are a transcript whose every line is true. It folds plain slices to see it: of the
-//! vector it uses the verdicts on edits alone.
+//! answers yes exactly where the bytes are a transcript whose every line is true. It folds blocks of the plain list, which it
+//! keeps until an edit touches them: of the vector it uses the verdicts on edits alone.
 #![tactic(auto)]
 
 mod auditor;
+mod block_folds;
 mod claimed;
+mod kind_folds;
 mod plain_ranges;
 mod transcript_lines;
 mod transcripts;

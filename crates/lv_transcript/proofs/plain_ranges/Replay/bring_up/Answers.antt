@@ -5,10 +5,13 @@ use Rattle.lv_edits.specs.History.{applied}
 use Rattle.lv_transcript.proofs.ReplayLemmas.{next_list}
 use Rattle.lv_transcript.proofs.plain_ranges.Replay.bring_up.Goals as goal
 
-pub make-requires : goal.make-requires
-make-requires c =
+pub make-requires-clause-possible : goal.make-requires-clause-possible
+make-requires-clause-possible c =
     let next = next_list c.args.journal.now c.loop-i.i (Push (pos 0)) (omega (arith, c.requires.within)) c.requires.legal in
-    record { possible = rw (c.loop-i.invariant.list, next) refl }
+    rw (c.loop-i.invariant.list, next) refl
+
+pub make-requires-clause-kept : goal.make-requires-clause-kept
+make-requires-clause-kept c = c.loop-i.invariant.kept
 
 pub loop-i-preserved : goal.loop-i-preserved
 loop-i-preserved c =
@@ -17,4 +20,5 @@ loop-i-preserved c =
     record {
       reached = refl;
       list = same_Some _ _ (sym c.in_ok-make.ensures.ok ∙ ap (λ xs. applied xs edit) c.loop-i.invariant.list ∙ next);
+      kept = c.in_ok-make.ensures.kept;
     }

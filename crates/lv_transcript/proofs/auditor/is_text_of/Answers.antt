@@ -2,7 +2,7 @@ use Rattle.std.proofs.Common.{◌≡◌, ℕ, List, ◌++◌, Bool, IsTrue, nat_
 use Rattle.std.specs.Cmp.Lexicographic.{pointwise}
 use Rattle.lv_bodies.specs.EqualLaws.{exact_numbers}
 use Rattle.lv_lines.specs.Texts.{shown_text}
-use Rattle.lv_transcript.proofs.auditor.is_answer.Goals as goal
+use Rattle.lv_transcript.proofs.auditor.is_text_of.Goals as goal
 
 -- bytes that are compared with a text are right where they are the same
 is_right : (same : Bool) (text value right : List ℕ) → same ≡ pointwise nat_eq text value → text ≡ right → (IsTrue same → value ≡ right) × (value ≡ right → IsTrue same)
@@ -13,8 +13,5 @@ is_right same text value right told is = (
 
 pub returns-clause-answer : goal.returns-clause-answer
 returns-clause-answer c =
-    let put = c.as_slice.ensures.value ∙ c.put_shown.ensures.text ∙ ap (λ held. held ++ shown_text c.plain_value_of.result) c.clear.ensures.items ∙ ap shown_text c.plain_value_of.ensures in
-    let right = is_right c.eq.result c.as_slice.result.now c.args.value.now _ c.eq.ensures put in (
-      (λ yes. record { range = c.if-lo-hi.false; end = c.if-hi-list.false; right = right.0 yes }),
-      (λ answer. right.1 answer.right),
-    )
+    let put = c.as_slice.ensures.value ∙ c.put_shown.ensures.text ∙ ap (λ held. held ++ shown_text c.args.shown) c.clear.ensures.items in
+    is_right c.eq.result c.as_slice.result.now c.args.value.now _ c.eq.ensures put
