@@ -14,6 +14,7 @@ use Rattle.lv_geometry.specs.Nodes.{same_node}
 use Rattle.lv_refresh.specs.Claim.{IsNextJob}
 use Rattle.lv_refresh.specs.Delivery.{delivery_of}
 use Rattle.lv_refresh.specs.Record.{Record, SameRecord, is_fresh}
+use Rattle.lv_reduce.specs.declared.costs.Reads.{Reads}
 use Rattle.lv_reduce.specs.declared.reductions.Answer.{Answer}
 use Rattle.lv_reduce.specs.declared.scans.Scan.{Scan}
 use Rattle.lv_reduce.specs.Answer.{IsAnswer, IsScan, IsScanRefusal, range_refusal, scan_of, slice_of}
@@ -93,6 +94,11 @@ after_delivery r (Some job) = after_accepted r job.0 job.1 (delivery_of r job.0 
 abbrev pub Reduces : {S : Type 0} → Operations S → Record → ℕ → ℕ → Result (Answer S) Refusal → Type 0
 Reduces o r lo hi (Ok answer) = IsAnswer o r.edits lo hi answer × IsCost (is_fresh r) lo hi answer.cells_read answer.summaries_read
 Reduces o r lo hi (Err refusal) = range_refusal r.edits lo hi ≡ Some refusal
+
+-- so many reads are those that a reduction makes over a range, or the range is refused
+abbrev pub Costs : Record → ℕ → ℕ → Result Reads Refusal → Type 0
+Costs r lo hi (Ok reads) = (range_refusal r.edits lo hi ≡ None) × IsCost (is_fresh r) lo hi reads.cells reads.summaries
+Costs r lo hi (Err refusal) = range_refusal r.edits lo hi ≡ Some refusal
 
 -- a scan is the running folds of its range at the last edit
 abbrev pub Scans : {S : Type 0} → Operations S → Record → ℕ → ℕ → Bool → Result (Scan S) Refusal → Type 0

@@ -17,7 +17,7 @@ ghost use Rattle.lv_reduce.specs.Cost.{IsFew};
 ghost use Rattle.lv_reduce.specs.Stretch.{IsStretch};
 ghost use Rattle.lv_live.specs.Kept.{IsLive};
 ghost use Rattle.lv_live.specs.State.{HasClaim, HasDelivery, HasNoClaims, Remembers, SameLive, SameRefresh, node_and_version, recorded};
-ghost use Rattle.lv_live.specs.Step.{Reduces, Scans};
+ghost use Rattle.lv_live.specs.Step.{Costs, Reduces, Scans};
 ghost use Rattle.lv_live.specs.Turns.{TakesTurn, TakesTurns};
 
 use crate::following::{follow, make_room, touched_indices};
@@ -25,7 +25,7 @@ use crate::vouching::stands_here;
 use lv_bodies::Body;
 use lv_edits::{Edit, Edits, Receipt};
 use lv_geometry::{Limits, Refusal};
-use lv_reduce::{Answer, Scan, Stretch, View};
+use lv_reduce::{Answer, Reads, Scan, Stretch, View};
 use lv_refresh::{Claims, Job, Outcome};
 use lv_summary::{Accepted, Summaries};
 use std::alloc::Global;
@@ -161,6 +161,16 @@ impl<B: Body> Live<B> {
         ensures few { IfOk result (λ answer. IsFew (is_fresh (recorded self.now)) lo hi answer.cells_read answer.summaries_read) }
     {
         lv_reduce::reduce(self.view(), &self.body, lo, hi)
+    }
+
+    /// How many cells and summaries `reduce` reads for the elements from index `lo` up to `hi`, which is counted without reading them.
+    /// Refused with `BadRange`, then `OutOfRange`. Takes no memory.
+    pub fn cost(&self, lo: u32, hi: u32) -> Result<Reads, Refusal>
+        ensures { Costs (recorded self.now) lo hi result }
+    {
+        // The summaries agree with the journal.
+        let _ = &self.table;
+        lv_reduce::cost(self.view(), lo, hi)
     }
 
     /// What `reduce` answers, keeping what is computed for it: so a range that was asked for costs at most 14 cells and 84 summaries

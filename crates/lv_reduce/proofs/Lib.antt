@@ -1,4 +1,5 @@
 mod AskLaws
+mod BlockWalks
 mod Bounds
 mod Counting
 mod GreatestLaws

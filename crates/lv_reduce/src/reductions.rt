@@ -34,9 +34,9 @@ impl<S: Copy> Clone for Answer<S> {
 
 // The summary of a fresh node, and the node's level.
 #[derive(Copy)]
-struct Piece<S> {
-    level: u32,
-    summary: S,
+pub struct Piece<S> {
+    pub level: u32,
+    pub summary: S,
 }
 
 impl<S: Copy> Clone for Piece<S> {
@@ -109,7 +109,7 @@ pub fn reduce<B: Body>(
 
 // The greatest fresh node that begins at index `at` and ends at or before `hi`, or none.
 #[inline]
-fn greatest_fresh<S: Copy>(table: &Summaries<S>, at: u32, hi: u32) -> Option<Piece<S>>
+pub fn greatest_fresh<S: Copy>(table: &Summaries<S>, at: u32, hi: u32) -> Option<Piece<S>>
     requires { at < hi }
     ensures some { IfSome result (λ piece. IsGreatestFresh table.now at hi piece.level piece.summary) }
     ensures none { IfNone result (NoneFresh (fresh_in table.now) at hi 0) }

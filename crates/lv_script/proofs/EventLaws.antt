@@ -7,7 +7,7 @@ use Rattle.lv_geometry.specs.declared.refusals.Refusal.TheVariants.{NoJob}
 use Rattle.lv_bodies.specs.declared.kinds.Kind.{Kind}
 use Rattle.lv_bodies.specs.declared.kinds.Shown.{Shown}
 use Rattle.lv_bodies.specs.declared.sixes.Six.{Six}
-use Rattle.lv_bodies.specs.Body.{CanFold}
+use Rattle.lv_bodies.specs.Body.{CanFold, fold_of}
 use Rattle.lv_bodies.specs.Plain.{plain_value}
 use Rattle.lv_bodies.specs.Six.{SixSummary, six_operations}
 use Rattle.lv_edits.specs.declared.edit.Edit.{Edit}
@@ -19,12 +19,13 @@ use Rattle.lv_edits.specs.Verdict.{Accepts, Refuses}
 use Rattle.lv_refresh.specs.Carried.{Carried}
 use Rattle.lv_refresh.specs.Claim.{IsNextJob}
 use Rattle.lv_refresh.specs.Delivery.{delivery_of}
+use Rattle.lv_reduce.specs.declared.costs.Reads.{Reads}
 use Rattle.lv_reduce.specs.declared.reductions.Answer.{Answer}
 use Rattle.lv_reduce.specs.Answer.{range_refusal, slice_of}
 use Rattle.lv_live.specs.declared.events.Event.TheVariants as event
 use Rattle.lv_live.specs.declared.replies.Reply.TheVariants as reply
 use Rattle.lv_live.specs.State.{HasClaim, HasDelivery, HasNoClaims, SameLive, SameRefresh, job_at, jobs_with, node_and_version, recorded}
-use Rattle.lv_live.specs.Step.{Reduces, claim_reply, reduction_reply}
+use Rattle.lv_live.specs.Step.{Costs, Reduces, claim_reply, reduction_reply}
 use Rattle.lv_live.proofs.WorldLaws.{step_claim, step_delivery, step_edit, step_forget, step_no_job, step_reduction, step_settle}
 use Rattle.lv_standing.specs.declared.notes.Note.{Note}
 use Rattle.lv_standing.specs.Queries.{AreNotes, Query}
@@ -34,7 +35,7 @@ use Rattle.lv_lines.specs.declared.fault.Fault.TheVariants.{WriteFault}
 use Rattle.lv_lines.specs.Output.{Writes, WritesFront}
 use Rattle.lv_lines.specs.Replies.{FailsToReply, Replies}
 use Rattle.lv_lines.proofs.OutputLemmas.{Writes-trans, WritesFront-after}
-use Rattle.lv_lines.specs.Texts.{answer_text, refused_text, scan_text}
+use Rattle.lv_lines.specs.Texts.{answer_text, cost_text, refused_text, scan_text}
 use Rattle.lv_script.specs.Script.{HasQueries, Tells, TellsEdit, TellsEvent, TellsScan, edit_text, notes_text, plain_scan, reduced_text, reply_text, scanned_range_text}
 use Rattle.lv_script.specs.Scripted.{state_of}
 
@@ -93,6 +94,14 @@ pub tells_reads : (s : StandingState) (lo hi : ℕ) (answer : Result (Answer Six
     → TellsEvent (state_of s jobs) (event.Reduce lo hi) (reply_text (reduction_reply answer)) (state_of s jobs)
 tells_reads s lo hi answer jobs is =
     record { answered = reduction_reply answer; does = record { step = step_reduction six_operations s.live lo hi answer jobs is; limits = refl; queries = refl }; text_is = refl }
+
+-- the same, counted alone
+pub tells_cost : (s : StandingState) (lo hi : ℕ) (reads : Reads) (jobs : List (Carried Six SixSummary)) → Costs (recorded s.live) lo hi (Ok reads)
+    → TellsEvent (state_of s jobs) (event.Reduce lo hi) (cost_text reads.cells reads.summaries) (state_of s jobs)
+tells_cost s lo hi reads jobs is =
+    let edits = s.live.history.journal in
+    let answer : Answer SixSummary = record { edit = length edits; value = fold_of six_operations (slice_of edits lo hi); cells_read = reads.cells; summaries_read = reads.summaries } in
+    tells_reads s lo hi (Ok answer) jobs (record { granted = is.0; edit = refl; value = refl }, is.1)
 
 -- an edit that was accepted, with its notes
 pub tells_accepted : (old new : StandingState) (e : Edit) (receipt : Receipt) (notes : List Note) (jobs : List (Carried Six SixSummary)) → SameRefresh old.live new.live → Accepts old.live.history e receipt new.live.history → new.queries ≡ old.queries

@@ -3,13 +3,12 @@ ghost use Rattle.lv_bodies.specs.Six.{SixSummary, six_operations};
 ghost use Rattle.lv_bodies.specs.declared.sixes.Six.{Six};
 ghost use Rattle.lv_edits.specs.Capacity.{capacity_after};
 ghost use Rattle.lv_edits.specs.History.{list_of};
-ghost use Rattle.lv_edits.specs.Kept.{IsLegalInLimits};
 ghost use Rattle.lv_edits.specs.Verdict.{element_at};
 ghost use Rattle.lv_refresh.specs.Carried.{Carried};
 ghost use Rattle.lv_reduce.specs.Answer.{range_refusal};
 ghost use Rattle.lv_live.specs.Kept.{IsWorld};
 ghost use Rattle.lv_live.specs.State.{SameLive, recorded};
-ghost use Rattle.lv_live.specs.Step.{Reduces};
+ghost use Rattle.lv_live.specs.Step.{Costs};
 ghost use Rattle.lv_live.specs.declared.events.Event.TheVariants as event;
 ghost use Rattle.lv_standing.specs.Queries.{query_of};
 ghost use Rattle.lv_lines.specs.Output.{HasRoom, KeepsRoom, Puts, PutsFront, SamePlaces};
@@ -20,7 +19,7 @@ ghost use Rattle.lv_script.specs.Scripted.{state_of};
 use crate::refresh_replies::{put_accepted, put_cost, put_forgotten, put_idle, put_job};
 use crate::scans::{Asked, answer_scan};
 use crate::watch_replies::{put_named, put_notes, put_unwatched, put_watching};
-use lv_bodies::{Body, Kind, Six, SixSummary};
+use lv_bodies::{Body, Kind, Six};
 use lv_edits::Edit;
 use lv_geometry::{Node, Refusal};
 use lv_lines::{
@@ -28,7 +27,7 @@ use lv_lines::{
     put_size, put_value,
 };
 use lv_live::{Issued, Live};
-use lv_reduce::Answer;
+use lv_reduce::Reads;
 use lv_refresh::Job;
 use lv_standing::{Name, Standing};
 use std::alloc::Global;
@@ -192,18 +191,16 @@ fn put_reads(standing: &Standing, lo: u32, hi: u32, held: &mut Vec<u8>)
         × (held.new.items ≡ held.old.items ++ reply) }
     ensures room { KeepsRoom held.old held.new }
 {
-    match reduce(standing, lo, hi) {
-        Ok(answer) => put_cost(held, answer.cells_read, answer.summaries_read),
+    match reads_of(standing, lo, hi) {
+        Ok(reads) => put_cost(held, reads.cells, reads.summaries),
         Err(refusal) => put_refusal(held, refusal),
     }
 }
 
-// A reduction of all six bodies.
-fn reduce(standing: &Standing, lo: u32, hi: u32) -> Result<Answer<SixSummary>, Refusal>
-    ensures answer { Reduces six_operations (recorded standing.now.live) lo hi result }
-    ensures limits { IsLegalInLimits standing.now.live.history }
+fn reads_of(standing: &Standing, lo: u32, hi: u32) -> Result<Reads, Refusal>
+    ensures { Costs (recorded standing.now.live) lo hi result }
 {
-    standing.live().reduce(lo, hi)
+    standing.live().cost(lo, hi)
 }
 
 // Claims a job, once there is room to keep it.

@@ -1,0 +1,4 @@
+use Rattle.lv_script.proofs.answers.reads_of.Goals as goal
+
+pub returns : goal.returns
+returns c = rw c.live.ensures.value at c.cost.ensures
