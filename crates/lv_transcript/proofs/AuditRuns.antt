@@ -14,7 +14,7 @@ use Rattle.lv_transcript.proofs.AuditLines.{edit_line-injective, no_edit_later, 
 -- ---- one line
 
 -- an audit that has stopped takes none
-stopped_takes_none : (old new : AuditState) (line : List ℕ) → is_stopped old.stage ≡ true → Takes old line new → ⊥
+pub stopped_takes_none : (old new : AuditState) (line : List ℕ) → is_stopped old.stage ≡ true → Takes old line new → ⊥
 stopped_takes_none old new line stopped taken =
     let at_stage = λ (s : Stage) (at : old.stage ≡ s) (going : is_stopped s ≡ false). true≢false (sym stopped ∙ ap is_stopped at ∙ going) in
     let at_end = λ (at : MayEnd old.stage). elim at as (λ _. ⊥) [ inl e ↦ at_stage Edits e refl | inr e ↦ at_stage Claims e refl ] in
@@ -41,7 +41,7 @@ same_later old a b line (inr p) (inl q) = absurd (not_last (question_of q.claim)
 same_later old a b line (inr p) (inr q) = p.next ∙ sym q.next
 
 -- a line is taken in one way
-same_way : (old a b : AuditState) (line : List ℕ) → TakesFirst old line a ⊎ TakesEdit old line a ⊎ TakesLater old line a → TakesFirst old line b ⊎ TakesEdit old line b ⊎ TakesLater old line b → a ≡ b
+pub same_way : (old a b : AuditState) (line : List ℕ) → TakesFirst old line a ⊎ TakesEdit old line a ⊎ TakesLater old line a → TakesFirst old line b ⊎ TakesEdit old line b ⊎ TakesLater old line b → a ≡ b
 same_way old a b line (inl p) (inl q) = p.next ∙ sym q.next
 same_way old a b line (inl p) (inr (inl q)) = absurd (cc (p.at, q.at))
 same_way old a b line (inl p) (inr (inr (inl q))) = absurd (not_start old.stage p.at q.at)
@@ -89,7 +89,7 @@ stays old n (line ∷ lines) text new stopped a =
     ]
 
 -- a fault of a line is one
-fault_of_line : (n : ℕ) (line : List ℕ) (stage : Stage) → IsFaultOf n line stage → is_fault stage ≡ true
+pub fault_of_line : (n : ℕ) (line : List ℕ) (stage : Stage) → IsFaultOf n line stage → is_fault stage ≡ true
 fault_of_line n line (No k) fault = refl
 fault_of_line n line (Bad k) fault = refl
 fault_of_line n line NoMemory fault = absurd fault
@@ -99,7 +99,7 @@ fault_of_line n line Claims fault = absurd fault
 fault_of_line n line End fault = absurd fault
 
 -- a fault stops it
-fault_stops : (stage : Stage) → is_fault stage ≡ true → is_stopped stage ≡ true
+pub fault_stops : (stage : Stage) → is_fault stage ≡ true → is_stopped stage ≡ true
 fault_stops (No n) fault = refl
 fault_stops (Bad n) fault = refl
 fault_stops NoMemory fault = refl
@@ -142,7 +142,7 @@ taken_or_none old n (line ∷ lines) text new end a runs =
     ]
 
 -- a line that is taken leads to no fault
-taken_is_none : (old new : AuditState) (line : List ℕ) (k : ℕ) → Takes old line new → new.stage ≡ No k → ⊥
+pub taken_is_none : (old new : AuditState) (line : List ℕ) (k : ℕ) → Takes old line new → new.stage ≡ No k → ⊥
 taken_is_none old new line k taken at =
     elim taken.1 as (λ _. ⊥) [
       | inl t ↦ absurd (cc (ap (λ s. s.stage) t.next, at))
@@ -152,7 +152,7 @@ taken_is_none old new line k taken at =
     ]
 
 -- the line that a fault names as false, where there is one more before it
-one_more : (lines : List (List ℕ)) (line : List ℕ) (k n : ℕ) → IsNamed lines k (n + 1) → IsNamed (line ∷ lines) k n
+pub one_more : (lines : List (List ℕ)) (line : List ℕ) (k n : ℕ) → IsNamed lines k (n + 1) → IsNamed (line ∷ lines) k n
 one_more lines line k n named = record {
   front = line ∷ named.front;
   line = named.line;

@@ -25,7 +25,7 @@ use Rattle.lv_transcript.proofs.SoundTranscripts.{in_order_of_rise, sound_lines}
 use Rattle.lv_transcript.proofs.TranscriptBytes.{AreEnded, IsUnended, bytes_of_lines, first_of_short, lines_of_text, lines_of_unended_text, short_of_first, unended_printable}
 
 -- an edit whose numbers have their bits carries an element
-carries_of_fits : (e : Edit) → IsEdit e → CarriesElement e
+pub carries_of_fits : (e : Edit) → IsEdit e → CarriesElement e
 carries_of_fits (Push x) fits = fits
 carries_of_fits Pop fits = tt
 carries_of_fits (Write i x) fits = fits.1

@@ -9,3 +9,6 @@ pub mod AuditedTranscripts
 pub mod ReplayLemmas
 pub mod BlockLaws
 pub mod KeptLaws
+pub mod FrontRuns
+pub mod FrontEntries
+pub mod FrontAudits

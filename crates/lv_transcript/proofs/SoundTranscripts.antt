@@ -36,7 +36,7 @@ abbrev pub IsWithin : List Edit → Type 0
 IsWithin journal = IsLegalInLimits record { limits = greatest; journal = journal }
 
 -- no edits are
-within_none : IsWithin []
+pub within_none : IsWithin []
 within_none = IsLegalInLimits-empty greatest record { some_buckets = lit≤ tt; few_buckets = lit≤ tt; some_edits = lit≤ tt; few_edits = lit≤ tt }
 
 -- one more edit that is accepted
@@ -44,7 +44,7 @@ within_more : (journal : List Edit) (e : Edit) → IsWithin journal → verdict_
 within_more journal e within free carried = IsLegalInLimits-snoc record { limits = greatest; journal = journal } e within free carried
 
 -- the numbers of an accepted edit have their bits
-accepted_fits : (journal : List Edit) (e : Edit) → IsWithin journal → verdict_of greatest journal e ≡ None → CarriesElement e → IsEdit e
+pub accepted_fits : (journal : List Edit) (e : Edit) → IsWithin journal → verdict_of greatest journal e ≡ None → CarriesElement e → IsEdit e
 accepted_fits journal (Push x) within free carried = carried
 accepted_fits journal Pop within free carried = tt
 accepted_fits journal (Write i x) within free carried =
@@ -58,7 +58,7 @@ accepted_fits journal (Truncate n) within free carried =
     omega (arith, within.few, unrefused_truncate greatest (list_of journal) n (not_refused greatest journal (Truncate n) free).1)
 
 -- each beginning of accepted edits is within the limits
-beginnings_within : (before edits : List Edit) (k : ℕ) → IsWithin before → AreAcceptedAfter greatest before edits → All CarriesElement edits → IsWithin (before ++ take k edits)
+pub beginnings_within : (before edits : List Edit) (k : ℕ) → IsWithin before → AreAcceptedAfter greatest before edits → All CarriesElement edits → IsWithin (before ++ take k edits)
 beginnings_within before edits zero within accepted carry = rw (append-nil before) within
 beginnings_within before [] (suc k) within accepted carry = rw (append-nil before) within
 beginnings_within before (e ∷ edits) (suc k) within accepted carry =
@@ -153,7 +153,7 @@ pub record IsPlainClaim (claim : Claimed) : Type 0 where
   pub line : IsLine (claim_line claim)
 
 -- each true claim is one, where each beginning of the journal is within the limits
-plain_claim : (edits : List Edit) → ((k : ℕ) → IsWithin (take k edits)) → (claim : Claimed) → IsTrueClaim edits claim → IsPlainClaim claim
+pub plain_claim : (edits : List Edit) → ((k : ℕ) → IsWithin (take k edits)) → (claim : Claimed) → IsTrueClaim edits claim → IsPlainClaim claim
 plain_claim edits beginnings claim holds =
     let all : IsWithin edits = subst (λ (js : List Edit). IsWithin js) (take_all (length edits) edits (omega arith)) (beginnings (length edits)) in
     let then = beginnings claim.edit in

@@ -1,3 +1,4 @@
 pub mod Auditing
 pub mod Blocks
+pub mod Fronts
 pub mod Transcript

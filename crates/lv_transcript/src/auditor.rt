@@ -5,6 +5,7 @@ ghost use Rattle.lv_edits.specs.History.{list_of};
 ghost use Rattle.lv_lines.specs.declared.replies.TheConstants.{LINE};
 ghost use Rattle.lv_transcript.specs.Auditing.{AnswerBecomes, AuditState, start_state, state_of, Audits, AuditStep, ClaimBecomes, EditBecomes, Becomes, FirstBecomes, IsVerdictAt, MayEnd, Takes, TakesEdit, TakesLater};
 ghost use Rattle.lv_transcript.specs.Blocks.{AreKept};
+ghost use Rattle.lv_transcript.specs.Fronts.{open_again};
 ghost use Rattle.lv_transcript.specs.Transcript.{greatest, verdict_text, Audited};
 
 use crate::plain_ranges::Replay;
@@ -73,7 +74,7 @@ fn put_verdict(held: &mut Vec<u8>, verdict: Verdict)
 
 /// What comes next in an audit, or what it found.
 #[derive(Clone, Copy)]
-enum Stage {
+pub(crate) enum Stage {
     /// The first line.
     Start,
     /// Edits, claims, or the last line.
@@ -92,12 +93,12 @@ enum Stage {
 
 /// Reads the lines of a transcript, and keeps the first fault that it finds.
 #[derive(Drop)]
-struct Auditor {
-    stage: Stage,
+pub(crate) struct Auditor {
+    pub(crate) stage: Stage,
     lines: u32,
     // All edits so far, and the list after those up to the last claim.
-    edits: Edits,
-    replay: Replay,
+    pub(crate) edits: Edits,
+    pub(crate) replay: Replay,
     // The text of the line that is read, or of its value.
     text: Vec<u8>,
     ghost limits: { edits.limits ≡ greatest },
@@ -129,7 +130,7 @@ impl Responder for Auditor {
 
 impl Auditor {
     // Before the first line.
-    fn new(alloc: Global) -> Result<Auditor, AllocError>
+    pub(crate) fn new(alloc: Global) -> Result<Auditor, AllocError>
         ensures { IfOk result (λ a. state_of a.stage a.edits a.replay.edit ≡ start_state) }
     {
         Ok(Auditor {
@@ -157,7 +158,7 @@ impl Auditor {
     }
 
     // Takes a line, or finds the first fault.
-    fn take_line(&mut self, number: u32, line: &[u8])
+    pub(crate) fn take_line(&mut self, number: u32, line: &[u8])
         ensures { Audits (state_of self.old.stage self.old.edits self.old.replay.edit) number line.now (state_of self.new.stage self.new.edits self.new.replay.edit) }
     {
         self.lines = number;
@@ -166,6 +167,17 @@ impl Auditor {
             Stage::Start | Stage::Edits | Stage::Claims | Stage::End => {
                 self.stage = self.next_stage(number, line);
             }
+        }
+    }
+
+    // Lets an edit come behind a claim.
+    pub(crate) fn reopen(&mut self)
+        ensures stage { self.new.stage ≡ open_again self.old.stage }
+        ensures edits { self.new.edits ≡ self.old.edits }
+        ensures replay { self.new.replay ≡ self.old.replay }
+    {
+        if let Stage::Claims = self.stage {
+            self.stage = Stage::Edits;
         }
     }
 

@@ -8,11 +8,14 @@
 mod auditor;
 mod block_folds;
 mod claimed;
+mod fronts;
 mod kind_folds;
 mod plain_ranges;
 mod transcript_lines;
 mod transcripts;
+mod whole_lines;
 
 pub use auditor::{Verdict, audit};
 pub use claimed::Claimed;
+pub use fronts::{FoundFront, FrontVerdict, audit_front, read_front};
 pub use transcripts::write_transcript;

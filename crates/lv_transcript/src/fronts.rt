@@ -1,0 +1,178 @@
+// The audit of a front of a transcript: edits and answers in the order of time, as far as they were written.
+ghost use Rattle.std.specs.Prelude.{◌≡◌, ◌++◌, IfOk, MatchResult, length};
+ghost use Rattle.lv_lines.specs.Output.{HasRoom};
+ghost use Rattle.lv_lines.specs.declared.replies.TheConstants.{LINE};
+ghost use Rattle.lv_transcript.specs.Fronts.{FrontAudited, FrontState, FrontStep, IsFoundAt, ReadsFront, front_at, front_start, front_text};
+
+use crate::auditor::{Auditor, Stage};
+use crate::whole_lines::WholeLines;
+use lv_edits::Edits;
+use lv_lines::{Fault, LINE, Outbox, Responder, converse, put, put_bad, put_number, write_whole};
+use std::alloc::{AllocError, Global};
+use std::io;
+use std::io::{Read, Write};
+
+/// What an audit says of a front of a transcript.
+#[derive(Clone, Copy, Debug, PartialEq, Eq)]
+pub enum FrontVerdict {
+    /// It is one, with so many edits and answers.
+    Front {
+        /// How many edits were accepted.
+        edits: u32,
+        /// How many answers are true.
+        answers: u32,
+    },
+    /// The line of this number is the first fault: it has the right form, and is false.
+    No(u32),
+    /// The line of this number is the first fault: it is not of the form that may stand there.
+    Bad(u32),
+}
+
+/// What was found of an input: the verdict, and the edits that were read.
+#[derive(Drop)]
+pub struct FoundFront {
+    /// Whether it is a front.
+    pub verdict: FrontVerdict,
+    /// Its edits, up to the first fault.
+    pub edits: Edits,
+}
+
+/// Audits a front of a transcript: reads it to its end, and writes the verdict as a line.
+///
+/// A front has whole lines of a transcript from the first on; edits and answers may stand in the order of time, each answer behind
+/// the edits that it is true of. What stands behind the last LF doesn't count. Faults are those of `audit`.
+pub fn audit_front<R: Read + Drop, W: Write>(
+    alloc: Global,
+    reader: R,
+    writer: &mut W,
+) -> Result<FrontVerdict, Fault>
+    ensures { FrontAudited (R.remaining reader) (W.contents writer.old) (W.contents writer.new) result }
+{
+    let Ok(mut held) = Vec::with_capacity(alloc, LINE) else {
+        return Err(Fault::NoMemory);
+    };
+    let found = read_front(alloc, reader)?;
+    let verdict = found.verdict;
+    drop(found);
+    put_front(&mut held, verdict);
+    write_whole(writer, held.as_slice())?;
+    Ok(verdict)
+}
+
+// Puts the line of a verdict behind what is held.
+fn put_front(held: &mut Vec<u8>, verdict: FrontVerdict)
+    requires { HasRoom held.old LINE }
+    ensures { held.new.items ≡ held.old.items ++ front_text verdict }
+{
+    match verdict {
+        FrontVerdict::Front { edits, answers } => put_counts(held, edits, answers),
+        FrontVerdict::No(line) => {
+            put(held, b"no ");
+            put_number(held, line.into());
+            put(held, b"\n");
+        }
+        FrontVerdict::Bad(line) => put_bad(held, line),
+    }
+}
+
+// Puts the line of a front with so many edits and answers.
+fn put_counts(held: &mut Vec<u8>, edits: u32, answers: u32)
+    requires { HasRoom held.old LINE }
+    ensures { held.new.items ≡ held.old.items ++ front_text (FrontVerdict.Front edits answers) }
+{
+    put(held, b"front ");
+    put_number(held, edits.into());
+    put(held, b" edits ");
+    put_number(held, answers.into());
+    put(held, b" answers\n");
+}
+
+/// Reads an input to its end as a front of a transcript. Faults are those of `audit`, but that nothing is written.
+pub fn read_front<R: Read + Drop>(alloc: Global, reader: R) -> Result<FoundFront, Fault>
+    ensures { ReadsFront (R.remaining reader) result }
+{
+    let Ok(mut auditor) = FrontAuditor::new(alloc) else {
+        return Err(Fault::NoMemory);
+    };
+    let mut whole = WholeLines::new(reader);
+    match converse(alloc, &mut auditor, &mut whole, &mut io::sink()) {
+        Err(Fault::ReadFault) if whole.is_at_end() => auditor.found(),
+        Err(fault) => Err(fault),
+        // Never: the reader fails at its end.
+        Ok(()) => Err(Fault::ReadFault),
+    }
+}
+
+/// Reads the lines of a front, and keeps the first fault that it finds.
+#[derive(Drop)]
+struct FrontAuditor {
+    auditor: Auditor,
+    // How many lines there were.
+    lines: u32,
+}
+
+impl Responder for FrontAuditor {
+    ghost State = { FrontState };
+
+    ghost state = { λ a. front_at a.auditor.stage a.auditor.edits a.auditor.replay.edit a.lines };
+
+    ghost step = { FrontStep };
+
+    fn respond<W: Write>(
+        &mut self,
+        number: u32,
+        line: &[u8],
+        _outbox: &mut Outbox<'_, W>,
+    ) -> Result<(), Fault> {
+        self.auditor.take_line(number, line);
+        self.auditor.reopen();
+        self.lines = number;
+        Ok(())
+    }
+}
+
+impl FrontAuditor {
+    // Before the first line.
+    fn new(alloc: Global) -> Result<FrontAuditor, AllocError>
+        ensures { IfOk result (λ a. front_at a.auditor.stage a.auditor.edits a.auditor.replay.edit a.lines ≡ front_start) }
+    {
+        Ok(FrontAuditor {
+            auditor: Auditor::new(alloc)?,
+            lines: 0,
+        })
+    }
+
+    // What was found, once all lines were read.
+    fn found(self) -> Result<FoundFront, Fault>
+        ensures { MatchResult result (λ found. (found.edits ≡ self.auditor.edits)
+            × IsFoundAt self.auditor.stage self.lines (length self.auditor.edits.journal) found.verdict) (λ fault. fault ≡ Fault.NoMemory) }
+    {
+        let verdict = self.verdict()?;
+        let Auditor { edits, .. } = self.auditor;
+        Ok(FoundFront { verdict, edits })
+    }
+
+    // The verdict.
+    fn verdict(&self) -> Result<FrontVerdict, Fault>
+        ensures { MatchResult result (IsFoundAt self.now.auditor.stage self.now.lines (length self.now.auditor.edits.journal)) (λ fault. fault ≡ Fault.NoMemory) }
+    {
+        let edits = self.auditor.edits.edit();
+        match self.auditor.stage {
+            Stage::Start => Ok(front_of(0, 0)),
+            Stage::Edits | Stage::Claims => {
+                Ok(front_of(edits, self.lines.saturating_sub(1).saturating_sub(edits)))
+            }
+            Stage::End => Ok(front_of(edits, self.lines.saturating_sub(2).saturating_sub(edits))),
+            Stage::No(line) => Ok(FrontVerdict::No(line)),
+            Stage::Bad(line) => Ok(FrontVerdict::Bad(line)),
+            Stage::NoMemory => Err(Fault::NoMemory),
+        }
+    }
+}
+
+// A front with so many edits and answers.
+fn front_of(edits: u32, answers: u32) -> FrontVerdict
+    ensures { result ≡ FrontVerdict.Front edits answers }
+{
+    FrontVerdict::Front { edits, answers }
+}
