@@ -6,3 +6,4 @@ pub mod WholeLaws
 pub mod ScanLemmas
 pub mod EventLaws
 pub mod Playing
+pub mod RestoredLaws

@@ -40,7 +40,7 @@ use Rattle.lv_script.proofs.OneLineLaws.{claim_line, cost_line, delivery_line, r
 use Rattle.lv_script.proofs.OneTextLaws.{edit_reply_tells, no_notes}
 
 -- what the interpreter keeps of all that a script has seen
-abbrev plain_of : ScriptState → Plain
+abbrev pub plain_of : ScriptState → Plain
 plain_of s = record { limits = s.limits; edits = s.seen.edits; queries = s.queries }
 
 -- ---- notes
@@ -228,7 +228,7 @@ line_plain old new n Bad text t = ([], refl, inl (t.0, has_queries old new old.q
 line_plain old new n (Do c) text t = command_plain old new n c text t
 
 -- a line moves what the interpreter keeps by a step of its own
-step_plain : (s : ScriptState) (p : Plain) (n : ℕ) (line text : List ℕ) (u : ScriptState) → p ≡ plain_of s → ScriptStep s n line text u → (q : Plain) × (q ≡ plain_of u) × PlainStep p n line text q
+pub step_plain : (s : ScriptState) (p : Plain) (n : ℕ) (line text : List ℕ) (u : ScriptState) → p ≡ plain_of s → ScriptStep s n line text u → (q : Plain) × (q ≡ plain_of u) × PlainStep p n line text q
 unfolding ScriptStep
 step_plain s p n line text u is step = (plain_of u, refl, subst (λ p. PlainStep p n line text (plain_of u)) (sym is) (line_plain s u n (line_of line) text step))
 

@@ -4,6 +4,7 @@ use Rattle.lv_geometry.specs.Bounds.{Bounds}
 use Rattle.lv_geometry.specs.declared.nodes.Node.{Node}
 use Rattle.lv_bodies.specs.Six.{SixSummary}
 use Rattle.lv_bodies.specs.declared.sixes.Six.{Six}
+use Rattle.lv_edits.specs.declared.edit.Edit.{Edit}
 use Rattle.lv_refresh.specs.Carried.{Carried}
 use Rattle.lv_live.specs.State.{with_issued}
 use Rattle.lv_standing.specs.Standings.{StandingState}
@@ -22,6 +23,15 @@ state_of s jobs = record { limits = s.live.history.limits; seen = with_issued s.
 pub record Begins (limits : Bounds) (s : ScriptState) : Type 0 where
   pub limits_are : s.limits ≡ limits
   pub edits : s.seen.edits ≡ []
+  pub issued : s.seen.issued ≡ []
+  pub claimed : (n : Node) → s.seen.claimed n ≡ None
+  pub kept : (n : Node) → s.seen.kept n ≡ None
+  pub queries : s.queries ≡ []
+
+-- or with these edits, and nothing else
+pub record BeginsAfter (limits : Bounds) (edits : List Edit) (s : ScriptState) : Type 0 where
+  pub limits_are : s.limits ≡ limits
+  pub edits_are : s.seen.edits ≡ edits
   pub issued : s.seen.issued ≡ []
   pub claimed : (n : Node) → s.seen.claimed n ≡ None
   pub kept : (n : Node) → s.seen.kept n ≡ None

@@ -16,6 +16,7 @@ pub mod devices;
 mod laws;
 mod plain_calls;
 mod refresh_replies;
+mod restored;
 mod scan_replies;
 mod scans;
 mod schedule_lines;
@@ -35,7 +36,10 @@ pub use lv_lines::{
     Command, Fault, HELD, LINE, Line, Outbox, Responder, converse, print_command, put, put_answer,
     put_bad, put_element, put_number, put_receipt, put_refusal, put_wide, read_line,
 };
-pub use lv_transcript::{Claimed, Verdict, audit, write_transcript};
+pub use lv_transcript::{
+    Claimed, FrontVerdict, Verdict, audit, audit_front, read_front, write_transcript,
+};
+pub use restored::{Unrestored, restore_script, resume_script};
 pub use scan_replies::put_scan;
 pub use scans::Asked;
 pub use schedule_replies::{put_said, said_shown};

@@ -1,6 +1,7 @@
 ghost use Rattle.std.specs.Prelude.{◌≡◌, ◌≤◌, [], List, ℕ, length, OnOk, IfErr};
 ghost use Rattle.std.specs.Io.KnownBytes.{Appends, Consumes, IsAtEnd};
 ghost use Rattle.lv_bodies.specs.Six.{six_operations};
+ghost use Rattle.lv_edits.specs.Kept.{IsLegalInLimits};
 ghost use Rattle.lv_live.specs.Kept.{IsWorld};
 ghost use Rattle.lv_lines.specs.Output.{HasRoom, Puts, PutsFront, SamePlaces};
 ghost use Rattle.lv_lines.specs.Replies.{Conversed, FailsToReply, Replies};
@@ -39,8 +40,22 @@ pub fn run_script<R: Read, W: Write>(
     ensures text { OnOk result ((input : List ℕ) × (text : List ℕ) × Consumes (R.remaining reader.old) (R.remaining reader.new) input × IsAtEnd (R.remaining reader.new)
         × Appends (W.contents writer.old) (W.contents writer.new) text × (NeverWants text → IsPlainText limits input text)) }
 {
+    answer_script(alloc, Standing::new(alloc, limits), reader, writer)
+}
+
+// Answers a script by a vector with standing queries, of which no job was claimed.
+pub(crate) fn answer_script<R: Read, W: Write>(
+    alloc: Global,
+    standing: Standing,
+    reader: &mut R,
+    writer: &mut W,
+) -> Result<(), Fault>
+    requires { IsLegalInLimits standing.live.history }
+    ensures { (last : ScriptState) × Conversed ScriptStep (state_of standing []) last
+        (R.remaining reader.old) (R.remaining reader.new) (W.contents writer.old) (W.contents writer.new) result }
+{
     let mut script = Script {
-        standing: Standing::new(alloc, limits),
+        standing,
         issued: Issued::new(alloc),
         alloc,
     };

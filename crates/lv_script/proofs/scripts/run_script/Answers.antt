@@ -1,5 +1,4 @@
-use Rattle.std.proofs.Common.{ap, map}
-use Rattle.lv_live.specs.State.{node_and_version}
+use Rattle.std.proofs.Common.{[], ap, refl}
 use Rattle.lv_script.specs.Script.{ScriptState}
 use Rattle.lv_script.specs.Scripted.{state_of}
 use Rattle.lv_script.proofs.PlainRunLaws.{written_plain}
@@ -8,18 +7,18 @@ use Rattle.lv_script.proofs.scripts.run_script.Goals as goal
 
 pub returns-clause-seen : goal.returns-clause-seen
 returns-clause-seen g c =
-    let first : ScriptState = state_of c.new.result c.new-2.result.jobs in (
+    let first : ScriptState = state_of c.new.result [] in (
       first,
-      _,
+      c.answer_script.ensures.0,
       record {
         limits_are = ap (λ h. h.limits) c.new.ensures.history;
         edits = ap (λ h. h.journal) c.new.ensures.history;
-        issued = ap (map node_and_version) c.new-2.ensures;
+        issued = refl;
         claimed = c.new.ensures.unclaimed;
         kept = c.new.ensures.nothing_kept;
         queries = c.new.ensures.queries;
       },
-      c.converse-ended.ensures,
+      c.answer_script.ensures.1,
     )
 
 pub returns-clause-plain : goal.returns-clause-plain

@@ -1,0 +1,67 @@
+-- A script that goes on from edits is answered as the plain interpreter answers it from these on.
+use Rattle.std.proofs.Common.{◌≡◌, ℕ, zero, suc, ◌+◌, ◌<◌, None, Option, Result, Ok, Err, OnOk, List, [], ◌∷◌, ◌++◌, length, take, get_or, refl, sym, ap, ◌∙◌, subst, arith, lit≤, append_assoc, append-nil}
+use Rattle.std.specs.Io.KnownBytes.{Appends, Consumes, IsAtEnd}
+use Rattle.std.proofs.KnownBytes.{Consumes-nil}
+use Rattle.std.proofs.lemmas.List.{take_more}
+use Rattle.lv_geometry.specs.Bounds.{Bounds}
+use Rattle.lv_edits.specs.declared.edit.Edit.{Edit}
+use Rattle.lv_edits.specs.History.{History, with_edit}
+use Rattle.lv_edits.specs.Verdict.{verdict_of}
+use Rattle.lv_lines.specs.declared.fault.Fault.{Fault}
+use Rattle.lv_lines.specs.declared.fault.Fault.TheVariants.{NoMemory}
+use Rattle.lv_lines.specs.Replies.{Conversed}
+use Rattle.lv_lines.proofs.Conversing.{conversed_as}
+use Rattle.lv_transcript.specs.Transcript.{AreAcceptedAfter}
+use Rattle.lv_script.specs.PlainRuns.{NeverWants, PlainStep}
+use Rattle.lv_script.specs.PlainScript.{Plain}
+use Rattle.lv_script.specs.Restored.{AnswersAfter, IsPlainTextAfter, start_after}
+use Rattle.lv_script.specs.Script.{ScriptState, ScriptStep}
+use Rattle.lv_script.specs.Scripted.{BeginsAfter}
+use Rattle.lv_script.proofs.PlainRunLaws.{room_text}
+use Rattle.lv_script.proofs.PlainStepLaws.{plain_of, step_plain}
+
+module _ (limits : Bounds) (edits : List Edit) where
+  -- such a script begins as the interpreter does
+  begins_after : (s : ScriptState) → BeginsAfter limits edits s → start_after limits edits ≡ plain_of s
+  begins_after s b = λ i. record { limits = sym b.limits_are i; edits = sym b.edits_are i; queries = sym b.queries i }
+
+  -- what a conversation wrote that came to the end of its input
+  written_after : {T : Type 0} (last : Plain) (a b k l : Option (List ℕ)) (result : Result T Fault) → Conversed PlainStep (start_after limits edits) last a b k l result
+      → OnOk result ((input : List ℕ) × (text : List ℕ) × Consumes a b input × IsAtEnd b × Appends k l text × (NeverWants text → IsPlainTextAfter limits edits input text))
+  written_after last a b k l (Ok done) c =
+      let all = c.ends.2 in
+      (c.seen, all.text, c.read, c.ends.0, all.written, λ never. room_text (start_after limits edits) last 1 _ all.text all.answered never)
+  written_after last a b k l (Err fault) c = tt
+
+  -- a script's conversation from these edits on
+  pub answers_after : {T : Type 0} (first last : ScriptState) (a b k l : Option (List ℕ)) (result : Result T Fault) → BeginsAfter limits edits first → Conversed ScriptStep first last a b k l result
+      → AnswersAfter limits edits a b k l result
+  answers_after first last a b k l result begins c =
+      let came = conversed_as (λ s p. p ≡ plain_of s) (record { moves = step_plain }) first (start_after limits edits) last a b k l result (begins_after first begins) c in
+      record { seen = (first, last, begins, c); plain = (came.0, came.2); text = written_after came.0 a b k l result came.2 }
+
+  -- it never began, for want of memory
+  pub answers_none : {T : Type 0} (a k : Option (List ℕ)) → AnswersAfter {T = T} limits edits a a k k (Err NoMemory)
+  answers_none {T} a k =
+      let first : ScriptState = record { limits = limits; seen = record { edits = edits; issued = []; claimed = λ n. None; kept = λ n. None }; queries = [] } in
+      answers_after {T = T} first first a a k k (Err NoMemory) record { limits_are = refl; edits_are = refl; issued = refl; claimed = λ n. refl; kept = λ n. refl; queries = refl }
+      record { seen = []; read = Consumes-nil a; few = lit≤ tt; ends = (refl, refl, refl) }
+
+-- ---- edits that are made one after the other
+
+-- each of them is accepted after those before it
+pub accepted_at : (limits : Bounds) (before edits : List Edit) (i : ℕ) (d : Edit) → AreAcceptedAfter limits before edits → i < length edits → verdict_of limits (before ++ take i edits) (get_or edits i d) ≡ None
+accepted_at limits before [] i d accepted within = absurd (omega arith)
+accepted_at limits before (e ∷ edits) zero d accepted within = subst (λ (js : List Edit). verdict_of limits js e ≡ None) (sym (append-nil before)) accepted.0
+accepted_at limits before (e ∷ edits) (suc i) d accepted within =
+    subst (λ (js : List Edit). verdict_of limits js (get_or edits i d) ≡ None) (append_assoc before (e ∷ []) (take i edits)) (accepted_at limits (before ++ e ∷ []) edits i d accepted.1 (omega arith))
+
+-- a history with edits behind its journal
+abbrev pub with_edits : History → List Edit → History
+with_edits h edits = record h { journal = h.journal ++ edits }
+
+-- with one more
+pub with_more : (h : History) (edits : List Edit) (i : ℕ) (d : Edit) → i < length edits → with_edit (with_edits h (take i edits)) (get_or edits i d) ≡ with_edits h (take (i + 1) edits)
+with_more h edits i d within =
+    ap (λ (js : List Edit). record h { journal = js })
+    (append_assoc h.journal (take i edits) (get_or edits i d ∷ []) ∙ ap (λ (js : List Edit). h.journal ++ js) (sym (take_more edits i d within)))

@@ -1,0 +1,70 @@
+-- Scripts that go on from edits that were made before, as those of a transcript's front.
+use Rattle.std.specs.Prelude.{◌≡◌, ℕ, ◌+◌, ◌^◌, ◌≤◌, List, [], length, take, map, Option, Result, Ok, Err, OnOk}
+use Rattle.std.specs.Io.KnownBytes.{Appends, Consumes, IsAtEnd}
+use Rattle.lv_geometry.specs.Bounds.{Bounds}
+use Rattle.lv_edits.specs.declared.edit.Edit.{Edit}
+use Rattle.lv_lines.specs.declared.fault.Fault.{Fault}
+use Rattle.lv_lines.specs.Input.{lines_of}
+use Rattle.lv_lines.specs.Replies.{Conversed}
+use Rattle.lv_transcript.specs.declared.fronts.FrontVerdict.{FrontVerdict}
+use Rattle.lv_transcript.specs.declared.fronts.FrontVerdict.TheVariants as verdicts
+use Rattle.lv_transcript.specs.Fronts.{FrontFound, IsRightOfFront, ReadingEnds}
+use Rattle.lv_transcript.specs.Transcript.{IsWhole, greatest}
+use Rattle.lv_script.specs.declared.restored.Unrestored.{Unrestored}
+use Rattle.lv_script.specs.declared.restored.Unrestored.TheVariants as unrestored
+use Rattle.lv_script.specs.PlainRuns.{IsOneLine, NeverWants, PlainStep}
+use Rattle.lv_script.specs.PlainScript.{Plain, plain_text}
+use Rattle.lv_script.specs.Script.{ScriptState, ScriptStep}
+use Rattle.lv_script.specs.Scripted.{BeginsAfter}
+
+-- the plain interpreter begins with these edits and no queries
+abbrev pub start_after : Bounds → List Edit → Plain
+start_after limits edits = record { limits = limits; edits = edits; queries = [] }
+
+-- a text is that interpreter's answer to an input, of each line its first 121 bytes, where each line is told something
+abbrev pub IsPlainTextAfter : Bounds → List Edit → List ℕ → List ℕ → Type 0
+IsPlainTextAfter limits edits input text =
+    (told : ℕ → List ℕ) × ((n : ℕ) → IsOneLine (told n)) × (text ≡ plain_text told (start_after limits edits) 1 (map (take 121) (lines_of input)))
+
+-- a script was answered from these edits on. Line by line the replies are the plain interpreter's; at the end of the input all that was written is its
+-- text, unless a line of it tells that memory was wanting
+pub record AnswersAfter {T : Type 0} (limits : Bounds) (edits : List Edit) (remaining_old remaining_new contents_old contents_new : Option (List ℕ)) (result : Result T Fault) : Type 0 where
+  pub seen :
+      (first : ScriptState) × (last : ScriptState) × BeginsAfter limits edits first × Conversed ScriptStep first last remaining_old remaining_new contents_old contents_new result
+  pub plain : (last : Plain) × Conversed PlainStep (start_after limits edits) last remaining_old remaining_new contents_old contents_new result
+  pub text :
+      OnOk result (
+      (input : List ℕ) × (text : List ℕ) × Consumes remaining_old remaining_new input × IsAtEnd remaining_new × Appends contents_old contents_new text
+      × (NeverWants text → IsPlainTextAfter limits edits input text)
+      )
+
+-- nothing was read and nothing written
+abbrev pub Untouched : Option (List ℕ) → Option (List ℕ) → Option (List ℕ) → Option (List ℕ) → Type 0
+Untouched remaining_old remaining_new contents_old contents_new = (remaining_new ≡ remaining_old) × (contents_new ≡ contents_old)
+
+-- a script that ended well
+abbrev pub script_ended : Result (Unit {0}) Fault
+script_ended = Ok tt
+
+-- how a restoration ended, by the bytes of the front that were seen: they are a front, and a script was answered from its edits on, to its end or to
+-- a fault; or they are none, or could not be read, and nothing was answered
+abbrev pub RestoreEnds : Option (List ℕ) → List ℕ → Option (List ℕ) → Option (List ℕ) → Option (List ℕ) → Option (List ℕ) → Result FrontVerdict Unrestored → Type 0
+RestoreEnds rest seen remaining_old remaining_new contents_old contents_new (Ok (verdicts.Front edits answers)) =
+    IsWhole seen rest
+    × ((journal : List Edit) × FrontFound seen journal edits answers × AnswersAfter greatest journal remaining_old remaining_new contents_old contents_new script_ended)
+RestoreEnds rest seen remaining_old remaining_new contents_old contents_new (Ok verdict) =
+    IsWhole seen rest × ((journal : List Edit) × IsRightOfFront seen journal verdict) × Untouched remaining_old remaining_new contents_old contents_new
+RestoreEnds rest seen remaining_old remaining_new contents_old contents_new (Err (unrestored.Script fault)) =
+    IsWhole seen rest
+    × ((journal : List Edit) × (edits : ℕ) × (answers : ℕ) × FrontFound seen journal edits answers
+    × AnswersAfter {T = Unit {0}} greatest journal remaining_old remaining_new contents_old contents_new (Err fault))
+RestoreEnds rest seen remaining_old remaining_new contents_old contents_new (Err (unrestored.Front fault)) =
+    ReadingEnds rest seen (Err fault) × Untouched remaining_old remaining_new contents_old contents_new
+
+-- a front was read, of at most 2 ^ 30 + 1 bytes, and what became of it
+pub record Restored (front remaining_old remaining_new contents_old contents_new : Option (List ℕ)) (result : Result FrontVerdict Unrestored) : Type 0 where
+  pub rest : Option (List ℕ)
+  pub seen : List ℕ
+  pub read : Consumes front rest seen
+  pub few : length seen ≤ 2 ^ 30 + 1
+  pub ends : RestoreEnds rest seen remaining_old remaining_new contents_old contents_new result

@@ -1,0 +1,135 @@
+// Scripts that go on from the edits of a transcript's front.
+ghost use Rattle.std.specs.Prelude.{◌≡◌, ℕ, ◌++◌, List, Option, None, Ok, IfErr, OnOk};
+ghost use Rattle.lv_edits.specs.Kept.{IsLegalInLimits};
+ghost use Rattle.lv_edits.specs.History.{with_edit};
+ghost use Rattle.lv_edits.specs.Verdict.{verdict_of};
+ghost use Rattle.lv_live.specs.State.{SameRefresh};
+ghost use Rattle.lv_transcript.specs.Fronts.{ReadingEnds};
+ghost use Rattle.lv_transcript.specs.Transcript.{AreAccepted, AreAcceptedAfter, greatest};
+ghost use Rattle.lv_script.specs.Restored.{AnswersAfter, RestoreEnds, Restored};
+
+use crate::scripts::answer_script;
+use lv_edits::{Edit, Edits};
+use lv_geometry::{Limits, Refusal};
+use lv_lines::Fault;
+use lv_standing::Standing;
+use lv_transcript::{FoundFront, FrontVerdict, read_front};
+use std::alloc::Global;
+use std::io::{Read, Write};
+
+/// Why a script was not answered to its end after a front.
+#[derive(Clone, Copy, Debug, PartialEq, Eq)]
+pub enum Unrestored {
+    /// The front could not be read, and nothing was answered.
+    Front(Fault),
+    /// The script ended so.
+    Script(Fault),
+}
+
+/// Makes the edits of a transcript's front anew, then answers a script as `run_script` does, from these edits on. Where the bytes
+/// are no front, which the verdict says, nothing is read of the script, and nothing answered.
+pub fn restore_script<F: Read + Drop, R: Read, W: Write>(
+    alloc: Global,
+    front: F,
+    reader: &mut R,
+    writer: &mut W,
+) -> Result<FrontVerdict, Unrestored>
+    ensures { Restored (F.remaining front) (R.remaining reader.old) (R.remaining reader.new) (W.contents writer.old) (W.contents writer.new) result }
+{
+    match read_front(alloc, front) {
+        Ok(found) => resume_found(alloc, found, reader, writer),
+        Err(fault) => Err(Unrestored::Front(fault)),
+    }
+}
+
+/// Answers a script as `run_script` does, on a vector that begins with these edits. They are made before anything is read: where
+/// there is no memory for them, that is the fault.
+pub fn resume_script<R: Read, W: Write>(
+    alloc: Global,
+    limits: Limits,
+    edits: &[Edit],
+    reader: &mut R,
+    writer: &mut W,
+) -> Result<(), Fault>
+    requires { AreAccepted limits edits.now }
+    ensures { AnswersAfter limits edits.now (R.remaining reader.old) (R.remaining reader.new) (W.contents writer.old) (W.contents writer.new) result }
+{
+    let mut standing = Standing::new(alloc, limits);
+    match make_all(alloc, &mut standing, edits) {
+        Ok(()) => answer_script(alloc, standing, reader, writer),
+        Err(_) => {
+            drop(standing);
+            Err(Fault::NoMemory)
+        }
+    }
+}
+
+// Makes edits that are accepted one after the other, unless memory is wanting.
+fn make_all(alloc: Global, standing: &mut Standing, edits: &[Edit]) -> Result<(), Refusal>
+    requires accepted { AreAcceptedAfter standing.old.live.history.limits standing.old.live.history.journal edits.now }
+    requires limits { IsLegalInLimits standing.old.live.history }
+    ensures edits { OnOk result (standing.new.live.history ≡ record standing.old.live.history { journal = standing.old.live.history.journal ++ edits.now }) }
+    ensures memory { IfErr result (λ refusal. refusal ≡ Refusal.NoMemory) }
+    ensures refresh { SameRefresh standing.old.live standing.new.live }
+    ensures queries { standing.new.queries ≡ standing.old.queries }
+    ensures limits { IsLegalInLimits standing.new.live.history }
+{
+    for edit in edits {
+        make(alloc, standing, *edit)?;
+    }
+    Ok(())
+}
+
+// Makes an edit that is accepted, unless memory is wanting. No query tells of it.
+fn make(alloc: Global, standing: &mut Standing, edit: Edit) -> Result<(), Refusal>
+    requires accepted { verdict_of standing.old.live.history.limits standing.old.live.history.journal edit ≡ None }
+    ensures edits { OnOk result (standing.new.live.history ≡ with_edit standing.old.live.history edit) }
+    ensures memory { IfErr result (λ refusal. refusal ≡ Refusal.NoMemory) }
+    ensures refresh { SameRefresh standing.old.live standing.new.live }
+    ensures queries { standing.new.queries ≡ standing.old.queries }
+    ensures limits { IsLegalInLimits standing.new.live.history }
+{
+    match standing.edit(alloc, edit) {
+        Ok(_) => Ok(()),
+        Err(refusal) => Err(refusal),
+    }
+}
+
+// Answers a script from the edits of what was found on, where that is a front.
+fn resume_found<R: Read, W: Write>(
+    alloc: Global,
+    found: FoundFront,
+    reader: &mut R,
+    writer: &mut W,
+) -> Result<FrontVerdict, Unrestored>
+    requires { (rest : Option (List ℕ)) × (seen : List ℕ) × ReadingEnds rest seen (Ok found) }
+    ensures { (rest : Option (List ℕ)) (seen : List ℕ) → ReadingEnds rest seen (Ok found)
+        → RestoreEnds rest seen (R.remaining reader.old) (R.remaining reader.new) (W.contents writer.old) (W.contents writer.new) result }
+{
+    let FoundFront { verdict, edits } = found;
+    match verdict {
+        FrontVerdict::Front { .. } => match resume_edits(alloc, edits, reader, writer) {
+            Ok(()) => Ok(verdict),
+            Err(fault) => Err(Unrestored::Script(fault)),
+        },
+        FrontVerdict::No(_) | FrontVerdict::Bad(_) => {
+            drop(edits);
+            Ok(verdict)
+        }
+    }
+}
+
+// Answers a script from these edits on.
+fn resume_edits<R: Read, W: Write>(
+    alloc: Global,
+    edits: Edits,
+    reader: &mut R,
+    writer: &mut W,
+) -> Result<(), Fault>
+    requires { AreAccepted greatest edits.journal }
+    ensures { AnswersAfter greatest edits.journal (R.remaining reader.old) (R.remaining reader.new) (W.contents writer.old) (W.contents writer.new) result }
+{
+    let ended = resume_script(alloc, Limits::greatest(), edits.journal(), reader, writer);
+    drop(edits);
+    ended
+}
