@@ -1,0 +1,10 @@
+pub mod Back
+pub mod Grouping
+pub mod InOrder
+pub mod Possible
+pub mod Present
+pub mod ReadBack
+pub mod Short
+pub mod Spelled
+pub mod TwoJoined
+pub mod Written

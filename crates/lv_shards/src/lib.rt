@@ -1,0 +1,24 @@
+//! Summaries that travel: of a shard's elements, by each of the six kinds, in an order that their joins keep.
+//!
+//! The model of a `ShardSummary` is what it says: a count, an edit, the six summaries and a table. Its contracts speak of the
+//! lists that it is the summary of. It knows of no vector, takes no memory, and sends nothing.
+#![tactic(auto)]
+
+mod bytes;
+mod filled;
+mod joins;
+mod laws;
+mod numbers;
+mod reading;
+mod refusals;
+mod shard;
+mod sixfold;
+
+pub use joins::join_all;
+pub use laws::{
+    joins_may_be_grouped, shards_come_to_the_fold_of_all, the_empty_summary_changes_nothing,
+};
+pub use numbers::SUMMARY_BYTES;
+pub use refusals::{JoinRefusal, ReadRefusal};
+pub use shard::ShardSummary;
+pub use sixfold::{Each, Leads};
