@@ -70,7 +70,7 @@ map_back m a b n h e f = same_lines (record { a = a % 2 ^ 32; b = b % 2 ^ 32 }) 
 -- ---- states
 
 -- states are bytes
-state_fits : (states : List ℕ) (n : ℕ) → IsStateMap states n → (i : ℕ) → get_or states i 0 < 8
+pub state_fits : (states : List ℕ) (n : ℕ) → IsStateMap states n → (i : ℕ) → get_or states i 0 < 8
 state_fits states n h i =
     elim (cases_lt i (length states)) [
       | inl below ↦ h.states i 0 below

@@ -6,5 +6,7 @@ pub mod Present
 pub mod ReadBack
 pub mod Short
 pub mod Spelled
+pub mod Tables
+pub mod TooLong
 pub mod TwoJoined
 pub mod Written

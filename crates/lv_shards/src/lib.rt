@@ -5,6 +5,7 @@
 #![tactic(auto)]
 
 mod bytes;
+mod extending;
 mod filled;
 mod joins;
 mod laws;
