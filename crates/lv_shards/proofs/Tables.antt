@@ -1,13 +1,12 @@
 -- A table from what it leads to: for each state a row, and the same operations.
-use Rattle.std.proofs.Common.{◌≡◌, ℕ, ℤ, zero, suc, pos, negsuc, ◌+◌, ◌%◌, ◌<◌, ◌≤◌, List, [], ◌∷◌, ◌++◌, length, map, get_or, slice_index, refl, sym, ap, ◌∙◌, subst, arith, inl, inr}
+use Rattle.std.proofs.Common.{◌≡◌, ℕ, ℤ, zero, suc, pos, negsuc, ◌<◌, ◌≤◌, List, [], ◌∷◌, length, map, get_or, slice_index, refl, sym, ap, ◌∙◌, arith}
 use Rattle.std.specs.Prelude.{All, IsTrue, fold}
 use Rattle.std.specs.List.{range_with_len}
 use Rattle.std.proofs.lemmas.List.Elements.{All-map}
-use Rattle.lv_bodies.specs.Body.{fold_of}
 use Rattle.lv_bodies.specs.ElementLaws.{All-range}
 use Rattle.lv_bodies.specs.Plain.{remainder}
 use Rattle.lv_bodies.specs.Six.{SixSummary, six_operations_by}
-use Rattle.lv_bodies.specs.Tables.{IsStateMap, column_of, is_table}
+use Rattle.lv_bodies.specs.Tables.{column_of, is_table}
 use Rattle.lv_shards.specs.Summaries.{AreLeads, IsSummaryOf, Summary, leads_of, rows_of}
 use Rattle.lv_shards.proofs.Back.{four_are, row_at, state_fits}
 

@@ -1,8 +1,8 @@
 -- When two summaries of one automaton are too long together.
-use Rattle.std.proofs.Common.{◌≡◌, ◌⊎◌, ℕ, ◌+◌, ◌^◌, ◌<◌, ◌≤◌, true, Result, Ok, Err, refl, sym, ap, ◌∙◌, subst, arith, inl, inr}
+use Rattle.std.proofs.Common.{◌≡◌, ◌⊎◌, ℕ, ◌+◌, ◌^◌, ◌<◌, ◌≤◌, true, Result, refl, sym, subst, arith, inl, inr}
 use Rattle.std.specs.Prelude.{◌↔◌, IsErrOf}
 use Rattle.std.proofs.lemmas.Bool.{cases_lt}
-use Rattle.lv_shards.specs.Summaries.{Summary, join_of, joined, same_leads}
+use Rattle.lv_shards.specs.Summaries.{Summary, join_of, same_leads}
 use Rattle.lv_shards.specs.declared.refusals.JoinRefusal.{JoinRefusal}
 use Rattle.lv_shards.specs.declared.refusals.JoinRefusal.TheVariants.{OtherTable, TooLong}
 use Rattle.lv_shards.proofs.TwoJoined.{are_joined, exact_leads, too_long}
