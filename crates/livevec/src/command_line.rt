@@ -5,6 +5,7 @@ ghost use Rattle.lv_geometry.specs.Bounds.{AreAllowed};
 
 use crate::clashes::Clash;
 use crate::help;
+use crate::modes::{AUDIT, Argument, BOARD, KINDS, Mode, Number, RESTORE, RUN, SCHEDULE, SERVE};
 use crate::serving::Plan;
 use clap::builder::ValueParser;
 use clap::error::ErrorKind;
@@ -13,141 +14,11 @@ use lv_bodies::Kind;
 use lv_geometry::Limits;
 use std::alloc::{AllocError, Global};
 
-// An option whose value is a number: its name, what it says, its least and greatest number, and the one where it is not given.
-#[derive(Clone, Copy)]
-struct Number {
-    name: &'static str,
-    says: &'static str,
-    least: i64,
-    most: i64,
-    usual: &'static str,
-}
-
-const BUCKETS: Number = Number {
-    name: "buckets",
-    says: "At most how many buckets, 1 to 17: N hold 8 * (2^N - 1) elements",
-    least: 1,
-    most: 17,
-    usual: "17",
-};
-
-const FEW_BUCKETS: Number = Number {
-    name: "buckets",
-    says: "At most how many buckets, 1 to 9: N hold 8 * (2^N - 1) elements",
-    least: 1,
-    most: 9,
-    usual: "9",
-};
-
-const EDITS: Number = Number {
-    name: "edits",
-    says: "At most how many edits, 1 to 16777215",
-    least: 1,
-    most: 16_777_215,
-    usual: "16777215",
-};
-
-const ACTORS: Number = Number {
-    name: "actors",
-    says: "How many actors there are, 1 to 8, with the numbers from 0 on",
-    least: 1,
-    most: 8,
-    usual: "2",
-};
-
-const WORKERS: Number = Number {
-    name: "workers",
-    says: "How many workers refresh the vector beside the sessions, 0 to 8",
-    least: 0,
-    most: 8,
-    usual: "1",
-};
-
-const TURNS: Number = Number {
-    name: "turns",
-    says: "How many turns each worker takes, a claim each, 0 to 1000000",
-    least: 0,
-    most: 1_000_000,
-    usual: "1000",
-};
-
-// The names of the kinds.
-const KINDS: [&str; 6] = ["sum", "least", "greatest", "best", "affine", "automaton"];
-
-// What a command takes.
-#[derive(Clone, Copy)]
-enum Argument {
-    // An option whose value is a number.
-    Number(Number),
-    // The option that says the kind of a board's body.
-    Body,
-    // The files of sessions, at most so many.
-    Files(usize),
-}
-
-// A command: its name, what it says, what stands at the end of its help, and what it takes, in order.
-#[derive(Clone, Copy)]
-struct Mode {
-    name: &'static str,
-    about: &'static str,
-    after_help: &'static str,
-    arguments: &'static [Argument],
-}
-
-const RUN: Mode = Mode {
-    name: "run",
-    about: help::RUN,
-    after_help: help::LINES,
-    arguments: &[Argument::Number(BUCKETS), Argument::Number(EDITS)],
-};
-
-const SERVE: Mode = Mode {
-    name: "serve",
-    about: help::SERVE,
-    after_help: help::SESSIONS,
-    arguments: &[
-        Argument::Number(WORKERS),
-        Argument::Number(TURNS),
-        Argument::Number(BUCKETS),
-        Argument::Number(EDITS),
-        Argument::Files(16),
-    ],
-};
-
-const BOARD: Mode = Mode {
-    name: "board",
-    about: help::BOARD,
-    after_help: help::TRIES,
-    arguments: &[
-        Argument::Body,
-        Argument::Number(FEW_BUCKETS),
-        Argument::Number(EDITS),
-        Argument::Files(8),
-    ],
-};
-
-const SCHEDULE: Mode = Mode {
-    name: "schedule",
-    about: help::SCHEDULE,
-    after_help: help::EVENTS,
-    arguments: &[
-        Argument::Number(ACTORS),
-        Argument::Number(FEW_BUCKETS),
-        Argument::Number(EDITS),
-    ],
-};
-
-const AUDIT: Mode = Mode {
-    name: "audit",
-    about: help::AUDIT,
-    after_help: help::VERDICTS,
-    arguments: &[],
-};
-
 /// The command line of the program.
 pub fn command<'a>(alloc: Global) -> Result<Command<'a>, AllocError> {
     let command = with_command(heading(alloc), command_of(alloc, &RUN));
     let command = with_command(command, command_of(alloc, &SERVE));
+    let command = with_command(command, command_of(alloc, &RESTORE));
     let command = with_command(command, command_of(alloc, &BOARD));
     let command = with_command(command, command_of(alloc, &SCHEDULE));
     with_command(command, command_of(alloc, &AUDIT))
@@ -199,6 +70,8 @@ fn arg_of<'a>(alloc: Global, argument: &Argument) -> Arg<'a> {
         Argument::Number(number) => number_arg(alloc, number),
         Argument::Body => body(alloc),
         Argument::Files(most) => files(alloc, *most),
+        Argument::Flag(name, says) => flag(alloc, name, says),
+        Argument::Front => front(alloc),
     }
 }
 
@@ -259,9 +132,14 @@ pub fn kind(matches: &ArgMatches<'_>) -> Kind {
     }
 }
 
-/// That files can't be sessions of `serve` together.
+/// That files can't be those of `serve` together.
 pub fn serve_error(alloc: Global, clash: Clash<'_>) -> Result<Error, AllocError> {
     error_of(alloc, &SERVE, "livevec serve", clash)
+}
+
+/// That a file can't be that of `restore`.
+pub fn restore_error(alloc: Global, clash: Clash<'_>) -> Result<Error, AllocError> {
+    error_of(alloc, &RESTORE, "livevec restore", clash)
 }
 
 /// That files can't be sessions of `board` together.
@@ -318,4 +196,18 @@ fn files<'a>(alloc: Global, most: usize) -> Arg<'a> {
         .required(true)
         .action(ArgAction::Append)
         .num_args(1..=most)
+}
+
+fn front<'a>(alloc: Global) -> Arg<'a> {
+    Arg::new(alloc, "front")
+        .value_name("FILE")
+        .help("A transcript, or a front of one")
+        .required(true)
+}
+
+fn flag<'a>(alloc: Global, name: &'static str, says: &'static str) -> Arg<'a> {
+    Arg::new(alloc, name)
+        .long(name)
+        .help(says)
+        .action(ArgAction::SetTrue)
 }

@@ -15,6 +15,10 @@ pub enum Place {
     Opening(usize),
     /// In the session of the file of this number.
     Session(usize),
+    /// At the line of this number of a transcript, which is false.
+    False(u32),
+    /// At the line of this number of a transcript, which is not of the form that may stand there.
+    Misspelt(u32),
 }
 
 /// A fault, and where it came up.
@@ -76,25 +80,45 @@ impl Told<'_> {
             Place::Standard => f.write_str("standard input can't be read"),
             Place::Opening(number) => write!(f, "'{}' can't be opened", self.file(number)),
             Place::Session(number) => write!(f, "'{}' can't be read", self.file(number)),
+            Place::False(line) => self.tell_line(f, line, "is false"),
+            Place::Misspelt(line) => self.tell_line(
+                f,
+                line,
+                "is not of a form that may stand there",
+            ),
         }
+    }
+
+    // What is wrong with a line of a transcript.
+    fn tell_line<W: fmt::Write>(
+        &self,
+        f: &mut fmt::Formatter<W>,
+        line: u32,
+        wrong: &str,
+    ) -> fmt::Result {
+        write!(
+            f,
+            "'{}' is no front of a transcript: line {line} {wrong}",
+            self.file(0)
+        )
     }
 
     // What is too long.
     fn tell_length<W: fmt::Write>(&self, f: &mut fmt::Formatter<W>) -> fmt::Result {
         match self.failure.place {
-            Place::Standard => f.write_str("standard input has more than 2^30 bytes"),
             Place::Opening(number) | Place::Session(number) => {
                 write!(f, "'{}' has more than 2^30 bytes", self.file(number))
             }
+            _ => f.write_str("standard input has more than 2^30 bytes"),
         }
     }
 
     // What couldn't be written.
     fn tell_write<W: fmt::Write>(&self, f: &mut fmt::Formatter<W>) -> fmt::Result {
         match self.failure.place {
-            Place::Standard => f.write_str("standard output can't be written"),
             Place::Opening(number) => write!(f, "'{}.out' can't be made", self.file(number)),
             Place::Session(number) => write!(f, "'{}.out' can't be written", self.file(number)),
+            _ => f.write_str("standard output can't be written"),
         }
     }
 }

@@ -26,6 +26,17 @@ pub enum Unopened<'a> {
     Clashes(Clash<'a>),
 }
 
+/// Opens the file of a transcript's front, which no standard stream may write.
+pub fn open_front<'a, R: Files>(rt: &R, file: &'a str) -> Result<R::File, Unopened<'a>> {
+    let Ok((front, input)) = open_lines(rt, file) else {
+        return Err(failed(0, Fault::ReadFault));
+    };
+    if is_written(&standard_files(rt), input) {
+        return Err(Unopened::Clashes(Clash::Standard(file)));
+    }
+    Ok(front)
+}
+
 // The file of a session and that of its replies, opened and not yet changed.
 #[derive(Drop)]
 struct Opened<F: Drop> {
@@ -209,11 +220,15 @@ fn clash_of<'a, F: Drop>(
     if standard.contains(&output) || is_used(all, number, one.output.identity) {
         return Some(Clash::Shared(file));
     }
-    let input = Some(one.input);
-    if standard[1] == input || standard[2] == input {
+    if is_written(standard, one.input) {
         return Some(Clash::Standard(file));
     }
     None
+}
+
+// Whether standard output or standard error goes into a file that is read.
+fn is_written(standard: &[Option<Identity>; 3], input: Identity) -> bool {
+    standard[1] == Some(input) || standard[2] == Some(input)
 }
 
 // Whether a file is read by a session, or written by one of another number.

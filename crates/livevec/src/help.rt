@@ -10,7 +10,7 @@ pub const ABOUT: &str =
 /// What its statuses mean.
 pub const STATUSES: &str = "\
 Statuses:
-  0  done; of an audit: yes
+  0  done; of an audit: yes, or a front
   1  a fault, shown on standard error as `livevec: fault N`, with what failed in the next line;
      of an audit: no or bad
   2  a usage fault, told on standard error
@@ -75,6 +75,17 @@ link, or another name of a file that is read or written here, standard streams i
 fault. The transcript goes to standard output: the journal, then each answered
 reduction in the order of edits; `livevec audit` says yes to it. Where a session ends with a fault
 none is written.";
+
+/// What `restore` does.
+pub const RESTORE: &str =
+    "Plays the transcript FILE, or a front of one, then answers a script as `run` does";
+
+/// What a front is, and what is refused.
+pub const RESTORED: &str = "\
+FILE is a transcript, or as much of one as was written: whole lines from the first on, edits and answers
+also in the order of time; what stands behind the last line end doesn't count. Its edits are made anew, and
+those of the script are numbered after them. Where a line of FILE is false or misspelt, that is the
+fault, and nothing is answered. FILE is read alone: no output may go there.";
 
 /// What `board` does.
 pub const BOARD: &str =
@@ -170,4 +181,8 @@ pub const AUDIT: &str = "Says whether a transcript on standard input is sound";
 /// What its verdicts mean.
 pub const VERDICTS: &str = "\
 Writes `yes` (status 0), `no N` where line N is false, or `bad N` where it is not of the form of a
-transcript (status 1).";
+transcript (status 1).
+
+With --front it writes `front N edits M answers` (status 0) of as much of a transcript as was written: whole
+lines from the first on. An answer may stand before edits that are later than its own. What stands
+behind the last line end doesn't count. A line that is false or misspelt is told as above.";

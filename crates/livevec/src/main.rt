@@ -2,8 +2,6 @@
 //! nothing else.
 #![tactic(auto)]
 
-ghost use Rattle.std.specs.Prelude.{◌≡◌, ◌≢◌};
-
 mod boards;
 mod clashes;
 mod command_line;
@@ -12,22 +10,27 @@ mod failures;
 mod files;
 mod help;
 mod identities;
+mod modes;
 mod piped;
+mod restoring;
 mod serving;
 mod tasks;
+mod telling;
 mod usage;
 
 use crate::clashes::first_clash;
-use crate::failures::{Failure, Told};
+use crate::failures::Failure;
 use crate::files::{Streams, Unopened};
 use crate::piped::{Piped, null_files};
+use crate::telling::{
+    CUT, show, show_clash, show_misuse, status_of, status_of_front, status_told, tell,
+};
 use crate::usage::{Misuse, plus_in, unshown_in};
-use clap::error::ErrorKind;
 use clap::{ArgMatches, Error};
 use lv_bodies::Sum;
 use lv_machine::Machine;
-use lv_script::{Fault, Verdict, audit, run_schedule, run_script};
-use std::alloc::{AllocError, Global};
+use lv_script::{Fault, audit, audit_front, run_schedule, run_script};
+use std::alloc::Global;
 use std::fs::Files;
 use std::io::{Read, Write};
 use std::process::ExitCode;
@@ -35,9 +38,6 @@ use std::rt::Env;
 use std::sync::Wait;
 use std::thread::Threads;
 use std::{env, io};
-
-/// The status where what reads standard output has ended.
-const CUT: u8 = 3;
 
 /// Statuses: 0; 1 on a fault, printed on standard error as `livevec: fault N` with a line in words behind it, and of an audit that
 /// says no or bad; 2 on a usage fault, whose text goes to standard error; 3, without a word, where what reads standard output has
@@ -48,16 +48,6 @@ fn main(rt: HostRuntime) -> ExitCode {
         Ok(status) => ExitCode::from(status),
         Err(fault) => ExitCode::from(tell(&rt, Failure::standard(fault), &[])),
     }
-}
-
-// Tells of a failure on standard error, and gives the status that it ends with.
-fn tell<R: Eprint>(rt: &R, failure: Failure, files: &[&str]) -> u8
-    ensures { result ≡ 1 }
-{
-    let told = Told { failure, files };
-    let _ = eprintln!(rt; "livevec: {}", failure.fault);
-    let _ = eprintln!(rt; "{told}");
-    1
 }
 
 // Reads the command line and does what it asks.
@@ -131,12 +121,27 @@ where
             Ok(0)
         }
         "serve" => serve(rt, asked, writer),
+        "restore" => restore(rt, asked, writer),
         "board" => board(rt, asked),
         "schedule" => {
             schedule(alloc, asked, &mut rt.reader(), writer)?;
             Ok(0)
         }
-        _ => Ok(status_of(audit(alloc, &mut rt.reader(), writer)?)),
+        _ => audit_input(rt, asked, writer),
+    }
+}
+
+// Audits a transcript, or a front of one.
+fn audit_input<R: AllocGlobal + Input, W: Write>(
+    rt: &R,
+    asked: &ArgMatches<'_>,
+    writer: &mut W,
+) -> Result<u8, Fault> {
+    let alloc = rt.alloc();
+    if asked.get_flag("front") {
+        Ok(status_of_front(audit_front(alloc, rt.reader(), writer)?))
+    } else {
+        Ok(status_of(audit(alloc, &mut rt.reader(), writer)?))
     }
 }
 
@@ -169,19 +174,25 @@ where
     let alloc = rt.alloc();
     let files = asked.get_strs("files").unwrap_or(&[]);
     match serve_files(rt, alloc, asked, files, writer) {
-        Ok(()) => Ok(0),
-        Err(Unopened::Failed(_)) if writer.is_cut() => Ok(CUT),
-        Err(Unopened::Failed(failure)) => Ok(tell(rt, failure, files)),
         Err(Unopened::Clashes(clash)) => { show_clash(rt, command_line::serve_error(alloc, clash)) }
+        ended => Ok(status_told(rt, files, writer.is_cut(), ended)),
     }
 }
 
-// Shows that files can't be sessions together.
-fn show_clash<R: Eprint + Print>(rt: &R, error: Result<Error, AllocError>) -> Result<u8, Fault> {
-    let Ok(error) = error else {
-        return Err(Fault::NoMemory);
-    };
-    show(rt, &error)
+// Restores a vector from the file that a command line names, and answers a script.
+fn restore<R: AllocGlobal + Eprint + Files + Input + Print, W: Write>(
+    rt: &R,
+    asked: &ArgMatches<'_>,
+    writer: &mut Piped<W>,
+) -> Result<u8, Fault> {
+    let alloc = rt.alloc();
+    let file = asked.get_str("front").unwrap_or("");
+    match restoring::restore(rt, alloc, file, &mut rt.reader(), writer) {
+        Err(Unopened::Clashes(clash)) => {
+            show_clash(rt, command_line::restore_error(alloc, clash))
+        }
+        ended => Ok(status_told(rt, &[file], writer.is_cut(), ended)),
+    }
 }
 
 // Opens the files of sessions and serves them.
@@ -228,9 +239,8 @@ where
     let alloc = rt.alloc();
     let files = asked.get_strs("files").unwrap_or(&[]);
     match hold_files(rt, alloc, asked, files) {
-        Ok(()) => Ok(0),
-        Err(Unopened::Failed(failure)) => Ok(tell(rt, failure, files)),
         Err(Unopened::Clashes(clash)) => { show_clash(rt, command_line::board_error(alloc, clash)) }
+        ended => Ok(status_told(rt, files, false, ended)),
     }
 }
 
@@ -250,35 +260,4 @@ where
         Ok(()) => Ok(()),
         Err(failure) => Err(Unopened::Failed(failure)),
     }
-}
-
-// The status that tells of a verdict.
-fn status_of(verdict: Verdict) -> u8
-    ensures sound { verdict ≡ Verdict.Yes → result ≡ 0 }
-    ensures unsound { verdict ≢ Verdict.Yes → result ≡ 1 }
-{
-    match verdict {
-        Verdict::Yes => 0,
-        Verdict::No(_) | Verdict::Bad(_) => 1,
-    }
-}
-
-// Shows help on standard output, or what is wrong with the command line on standard error.
-fn show<R: Eprint + Print>(rt: &R, error: &Error) -> Result<u8, Fault> {
-    if error.kind() == ErrorKind::OutOfMemory {
-        return Err(Fault::NoMemory);
-    }
-    let printed = error.print(rt);
-    if error.use_stderr() {
-        return Ok(2);
-    }
-    printed.map(|()| 0).map_err(|_| Fault::WriteFault)
-}
-
-// Tells on standard error why a word of the command line is refused, and gives the status that it ends with.
-fn show_misuse<R: Eprint>(rt: &R, misuse: Misuse<'_>) -> u8
-    ensures { result ≡ 2 }
-{
-    let _ = eprintln!(rt; "{misuse}");
-    2
 }

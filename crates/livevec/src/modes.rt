@@ -1,0 +1,154 @@
+//! The commands of the program, and what each of them takes.
+
+use crate::help;
+
+/// An option whose value is a number: its name, what it says, its least and greatest number, and the one where it is not given.
+#[derive(Clone, Copy)]
+pub struct Number {
+    pub name: &'static str,
+    pub says: &'static str,
+    pub least: i64,
+    pub most: i64,
+    pub usual: &'static str,
+}
+
+const BUCKETS: Number = Number {
+    name: "buckets",
+    says: "At most how many buckets, 1 to 17: N hold 8 * (2^N - 1) elements",
+    least: 1,
+    most: 17,
+    usual: "17",
+};
+
+const FEW_BUCKETS: Number = Number {
+    name: "buckets",
+    says: "At most how many buckets, 1 to 9: N hold 8 * (2^N - 1) elements",
+    least: 1,
+    most: 9,
+    usual: "9",
+};
+
+const EDITS: Number = Number {
+    name: "edits",
+    says: "At most how many edits, 1 to 16777215",
+    least: 1,
+    most: 16_777_215,
+    usual: "16777215",
+};
+
+const ACTORS: Number = Number {
+    name: "actors",
+    says: "How many actors there are, 1 to 8, with the numbers from 0 on",
+    least: 1,
+    most: 8,
+    usual: "2",
+};
+
+const WORKERS: Number = Number {
+    name: "workers",
+    says: "How many workers refresh the vector beside the sessions, 0 to 8",
+    least: 0,
+    most: 8,
+    usual: "1",
+};
+
+const TURNS: Number = Number {
+    name: "turns",
+    says: "How many turns each worker takes, a claim each, 0 to 1000000",
+    least: 0,
+    most: 1_000_000,
+    usual: "1000",
+};
+
+/// The names of the kinds.
+pub const KINDS: [&str; 6] = ["sum", "least", "greatest", "best", "affine", "automaton"];
+
+/// What a command takes.
+#[derive(Clone, Copy)]
+pub enum Argument {
+    /// An option whose value is a number.
+    Number(Number),
+    /// The option that says the kind of a board's body.
+    Body,
+    /// The files of sessions, at most so many.
+    Files(usize),
+    /// An option without a value: its name, and what it says.
+    Flag(&'static str, &'static str),
+    /// The file of a transcript's front.
+    Front,
+}
+
+/// A command: its name, what it says, what stands at the end of its help, and what it takes, in order.
+#[derive(Clone, Copy)]
+pub struct Mode {
+    pub name: &'static str,
+    pub about: &'static str,
+    pub after_help: &'static str,
+    pub arguments: &'static [Argument],
+}
+
+/// `run`.
+pub const RUN: Mode = Mode {
+    name: "run",
+    about: help::RUN,
+    after_help: help::LINES,
+    arguments: &[Argument::Number(BUCKETS), Argument::Number(EDITS)],
+};
+
+/// `serve`.
+pub const SERVE: Mode = Mode {
+    name: "serve",
+    about: help::SERVE,
+    after_help: help::SESSIONS,
+    arguments: &[
+        Argument::Number(WORKERS),
+        Argument::Number(TURNS),
+        Argument::Number(BUCKETS),
+        Argument::Number(EDITS),
+        Argument::Files(16),
+    ],
+};
+
+/// `restore`.
+pub const RESTORE: Mode = Mode {
+    name: "restore",
+    about: help::RESTORE,
+    after_help: help::RESTORED,
+    arguments: &[Argument::Front],
+};
+
+/// `board`.
+pub const BOARD: Mode = Mode {
+    name: "board",
+    about: help::BOARD,
+    after_help: help::TRIES,
+    arguments: &[
+        Argument::Body,
+        Argument::Number(FEW_BUCKETS),
+        Argument::Number(EDITS),
+        Argument::Files(8),
+    ],
+};
+
+/// `schedule`.
+pub const SCHEDULE: Mode = Mode {
+    name: "schedule",
+    about: help::SCHEDULE,
+    after_help: help::EVENTS,
+    arguments: &[
+        Argument::Number(ACTORS),
+        Argument::Number(FEW_BUCKETS),
+        Argument::Number(EDITS),
+    ],
+};
+
+/// `audit`.
+pub const AUDIT: Mode = Mode {
+    name: "audit",
+    about: help::AUDIT,
+    after_help: help::VERDICTS,
+    arguments: &[Argument::Flag(
+        "front",
+        "Audits a front: as much of a transcript as was written, in the order of time",
+    )],
+};
