@@ -4,6 +4,7 @@
 //! The library's calls are proved, the crate over them is tested.
 //!
 //! A [`Vector`] is one thread's at a time. A [`Board`] is for several at once, without a lock, of elements of 16 bits.
+//! A [`Summary`] is what a list comes to, as bytes that travel between processes and machines, and are joined there.
 //!
 //! ```
 //! use livevec::Vector;
@@ -28,6 +29,7 @@ mod like_vec;
 #[allow(unsafe_code)]
 mod raw;
 mod refusal;
+mod summary;
 mod values;
 mod vector;
 
@@ -39,6 +41,7 @@ pub use elements::{Elements, IntoElements, Through};
 pub use indices::Indices;
 pub use kinds::UnknownKind;
 pub use refusal::Refusal;
+pub use summary::Summary;
 pub use values::{Accepted, Edit, Limits, Node, Popped, Pushed, Reduced, Reserved, Stopped, Swapped, Truncated, Values, Written};
 pub use vector::{Beginnings, Job, Outcome, Scan, Vector};
 

@@ -85,6 +85,32 @@ pub(crate) struct Reduced {
     pub(crate) values: SixValues,
 }
 
+/// The bytes of a summary that travels: `livevec_summary` has them and nothing else.
+pub(crate) type SummaryBytes = [u8; 184];
+
+#[repr(C)]
+struct Summarised {
+    refusal: u32,
+    detail: u32,
+    summary: SummaryBytes,
+}
+
+impl Summarised {
+    fn answered(self) -> Result<SummaryBytes, Refusal> {
+        answered(self.refusal, self.detail, self.summary)
+    }
+}
+
+#[repr(C)]
+pub(crate) struct Opened {
+    refusal: u32,
+    pub(crate) edit: u32,
+    pub(crate) count: u64,
+    pub(crate) values: SixValues,
+    pub(crate) table: [[u8; 4]; 8],
+    pub(crate) at_edit: bool,
+}
+
 #[repr(C)]
 struct Scanned {
     refusal: u32,
@@ -147,6 +173,12 @@ unsafe extern "C" {
     fn livevec_edits(slot: *mut Slot) -> Count;
     fn livevec_reduce(slot: *mut Slot, lo: u32, hi: u32) -> Reduced;
     fn livevec_ask(slot: *mut Slot, lo: u32, hi: u32) -> Reduced;
+    fn livevec_summary_empty() -> Summarised;
+    fn livevec_summary_empty_with_table(table: *const [[u8; 4]; 8]) -> Summarised;
+    fn livevec_summary_of(slot: *mut Slot, lo: u32, hi: u32) -> Summarised;
+    fn livevec_summary_extend(summary: *const SummaryBytes, values: *const i64, length: usize) -> Summarised;
+    fn livevec_summary_join(left: *const SummaryBytes, right: *const SummaryBytes) -> Summarised;
+    fn livevec_summary_values(summary: *const SummaryBytes) -> Opened;
     fn livevec_scan_inclusive(slot: *mut Slot, lo: u32, hi: u32, buffer: *mut SixValues, length: usize) -> Scanned;
     fn livevec_scan_exclusive(slot: *mut Slot, lo: u32, hi: u32, buffer: *mut SixValues, length: usize) -> Scanned;
     fn livevec_refresh(slot: *mut Slot, jobs: u32) -> Count;
@@ -209,6 +241,35 @@ fn roomy<T>(length: usize) -> Result<Vec<T>, Refusal> {
     let mut buffer = Vec::new();
     buffer.try_reserve_exact(length).map_err(|_| Refusal::NoMemory)?;
     Ok(buffer)
+}
+
+// Summaries are plain bytes. C reads what it is given during the call alone, and keeps nothing of it.
+
+pub(crate) fn summary_of_nothing() -> SummaryBytes {
+    // SAFETY: the call takes nothing.
+    unsafe { livevec_summary_empty() }.summary
+}
+
+pub(crate) fn summary_of_nothing_with_table(table: &[[u8; 4]; 8]) -> Result<SummaryBytes, Refusal> {
+    // SAFETY: see above; the table has 32 bytes as in C.
+    unsafe { livevec_summary_empty_with_table(table) }.answered()
+}
+
+pub(crate) fn extended(summary: &SummaryBytes, values: &[i64]) -> Result<SummaryBytes, Refusal> {
+    // SAFETY: see above; so many elements are read from a slice that has them.
+    unsafe { livevec_summary_extend(summary, values.as_ptr(), values.len()) }.answered()
+}
+
+pub(crate) fn joined(left: &SummaryBytes, right: &SummaryBytes) -> Result<SummaryBytes, Refusal> {
+    // SAFETY: see above.
+    unsafe { livevec_summary_join(left, right) }.answered()
+}
+
+/// What the bytes of a summary say, where they are sound.
+pub(crate) fn opened(summary: &SummaryBytes) -> Result<Opened, Refusal> {
+    // SAFETY: see above.
+    let told = unsafe { livevec_summary_values(summary) };
+    answered(told.refusal, 0, told)
 }
 
 /// A vector of C. Its slot is full from `new` to the drop.
@@ -336,6 +397,11 @@ impl Vector {
         // SAFETY: see above.
         let did = unsafe { livevec_ask(self.slot.get(), lo, hi) };
         answered(did.refusal, did.detail, did)
+    }
+
+    pub(crate) fn summary(&self, lo: u32, hi: u32) -> Result<SummaryBytes, Refusal> {
+        // SAFETY: see above.
+        unsafe { livevec_summary_of(self.slot.get(), lo, hi) }.answered()
     }
 
     /// The edit and the values of a scan.

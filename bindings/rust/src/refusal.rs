@@ -68,6 +68,14 @@ pub enum Refusal {
     SeatsOut,
     /// 108: another call is under way at the slot. No value of this crate can be called twice at once.
     Busy,
+    /// 109: bytes of a summary of another version of the layout, or of no summary at all.
+    OtherVersion,
+    /// 110: bytes of a summary that were changed, or that no elements have.
+    Damaged,
+    /// 111: two summaries by automata of two tables.
+    OtherTable,
+    /// 112: summaries of more than 2^62 elements together.
+    TooLong,
     /// Any other number. No call of this crate gives it today.
     Other {
         /// The number.
@@ -96,6 +104,10 @@ impl Refusal {
             105 => Refusal::NoSeat,
             106 => Refusal::SeatsOut,
             108 => Refusal::Busy,
+            109 => Refusal::OtherVersion,
+            110 => Refusal::Damaged,
+            111 => Refusal::OtherTable,
+            112 => Refusal::TooLong,
             number => Refusal::Other { number },
         }
     }
@@ -120,6 +132,10 @@ impl Refusal {
             Refusal::NoSeat => 105,
             Refusal::SeatsOut => 106,
             Refusal::Busy => 108,
+            Refusal::OtherVersion => 109,
+            Refusal::Damaged => 110,
+            Refusal::OtherTable => 111,
+            Refusal::TooLong => 112,
             Refusal::Other { number } => number,
         }
     }
@@ -163,6 +179,10 @@ impl fmt::Display for Refusal {
             Refusal::NoSeat => f.write_str("no seat is left"),
             Refusal::SeatsOut => f.write_str("seats are out"),
             Refusal::Busy => f.write_str("another call is under way"),
+            Refusal::OtherVersion => f.write_str("a summary of another version, or none"),
+            Refusal::Damaged => f.write_str("a damaged summary"),
+            Refusal::OtherTable => f.write_str("summaries by two tables"),
+            Refusal::TooLong => f.write_str("more elements than summaries may have"),
             Refusal::ShortBuffer { wanted } => write!(f, "a buffer shorter than the {wanted} values"),
             Refusal::Other { number } => write!(f, "refused {number}"),
         }

@@ -4,7 +4,9 @@ use std::iter::FusedIterator;
 use crate::elements::Elements;
 use crate::indices::Indices;
 use crate::values::ends;
-use crate::{Accepted, Edit, Limits, Node, Popped, Pushed, Reduced, Refusal, Reserved, Stopped, Swapped, Truncated, Values, Written, raw};
+use crate::{
+    Accepted, Edit, Limits, Node, Popped, Pushed, Reduced, Refusal, Reserved, Stopped, Summary, Swapped, Truncated, Values, Written, raw,
+};
 
 /// A growable vector of `i64` that answers reductions and scans of any range.
 ///
@@ -199,6 +201,13 @@ impl Vector {
     pub fn reduce(&self, range: impl Indices) -> Result<Reduced, Refusal> {
         let (lo, hi) = ends(range, || self.len());
         self.raw.reduce(lo, hi).map(Reduced::of)
+    }
+
+    /// What the elements of a range come to after the last edit, as bytes that travel: see [`Summary`]. Nothing is kept of it here.
+    /// Refused with `BadRange`, `OutOfRange`, in this order.
+    pub fn summary(&self, range: impl RangeBounds<u32>) -> Result<Summary, Refusal> {
+        let (lo, hi) = ends(range, || self.len());
+        self.raw.summary(lo, hi).map(Summary::of_raw)
     }
 
     /// The sum, which wraps where it does not fit an `i64`. Asks, and is refused as [`ask`](Vector::ask) is.
