@@ -16,6 +16,8 @@ own folders); in `lib` of the interpreter's prefix, which is that of a virtual e
 Threads. A `Vector`'s calls into C keep the interpreter's lock, so it may be used by several threads, one call at a time. What takes more than
 one call (`vector[-1]`, a loop over the elements, `edits` after a push) needs a lock of your own if another thread edits meanwhile.
 A `Board` is for threads: each has a `Seat`, whose calls into C release the interpreter's lock and wait for no other thread.
+
+Machines. A `Summary` is what a list comes to, as bytes that travel; `livevec_mpi`, a module beside this one, joins those of MPI's ranks.
 """
 from __future__ import annotations
 
@@ -41,11 +43,11 @@ if TYPE_CHECKING:
         def __array_interface__(self) -> Any: ...
 
 __all__ = [
-    "Vector", "Job", "Outcome", "Scan", "Values", "Reduced", "Delivered", "Became", "Node",
+    "Vector", "Job", "Outcome", "Scan", "Summary", "Values", "Reduced", "Delivered", "Became", "Node",
     "Board", "Seat", "Kind", "Told", "Refreshed", "Finished",
     "Refusal", "Worn", "Empty", "OutOfRange", "TooLarge", "Full", "NoMemory", "BadRange", "BadLimits", "BadTable", "Stranger", "Closed",
-    "ShortBuffer", "TooWide", "Outrun", "Contended", "Overtaken", "NoSeat", "SeatsOut", "Busy",
-    "MOST_BUCKETS", "MOST_EDITS", "MOST_BOARD_BUCKETS", "MOST_SEATS",
+    "ShortBuffer", "TooWide", "Outrun", "Contended", "Overtaken", "NoSeat", "SeatsOut", "Busy", "OtherVersion", "Damaged", "OtherTable", "TooLong",
+    "MOST_BUCKETS", "MOST_EDITS", "MOST_BOARD_BUCKETS", "MOST_SEATS", "SUMMARY_BYTES",
 ]
 
 __version__ = "0.3.0"
@@ -56,6 +58,8 @@ MOST_EDITS = 16_777_215
 MOST_BOARD_BUCKETS = 9
 """So many buckets of a board have room for 4,088 elements."""
 MOST_SEATS = 8
+SUMMARY_BYTES = 184
+"""So many bytes has a summary that travels."""
 
 _LEAST_I64, _MOST_I64, _MOST_U32 = -(1 << 63), (1 << 63) - 1, (1 << 32) - 1
 
@@ -198,8 +202,32 @@ class Busy(Refusal, RuntimeError):
     number, says = 108, "another call is under way"
 
 
+class OtherVersion(Refusal, ValueError):
+    """Bytes of a summary of another version of the layout, or of no summary at all."""
+
+    number, says = 109, "a summary of another version, or none"
+
+
+class Damaged(Refusal, ValueError):
+    """Bytes of a summary that were changed, or that no elements have."""
+
+    number, says = 110, "a damaged summary"
+
+
+class OtherTable(Refusal, ValueError):
+    """Two summaries by automata of two tables."""
+
+    number, says = 111, "summaries by two tables"
+
+
+class TooLong(Refusal, OverflowError):
+    """Summaries of more than 2**62 elements together."""
+
+    number, says = 112, "more elements than summaries may have"
+
+
 _REFUSALS = {it.number: it for it in (Worn, Empty, OutOfRange, TooLarge, Full, NoMemory, BadRange, BadLimits, BadTable, Stranger, TooWide, Contended,
-                                      Overtaken, Closed, ShortBuffer, NoSeat, SeatsOut, Busy)}
+                                      Overtaken, Closed, ShortBuffer, NoSeat, SeatsOut, Busy, OtherVersion, Damaged, OtherTable, TooLong)}
 
 
 def _refuse(number: int, detail: int = 0, pushed: int = 0) -> Refusal:
@@ -309,6 +337,15 @@ class _Scanned(ctypes.Structure):
     edit: int
     length: int
     _fields_ = [("refusal", ctypes.c_uint32), ("detail", ctypes.c_uint32), ("edit", ctypes.c_uint32), ("length", ctypes.c_uint32)]
+
+
+class _Summarised(ctypes.Structure):
+    _fields_ = [("refusal", ctypes.c_uint32), ("detail", ctypes.c_uint32), ("summary", ctypes.c_uint8 * SUMMARY_BYTES)]
+
+
+class _Opened(ctypes.Structure):
+    _fields_ = [("refusal", ctypes.c_uint32), ("edit", ctypes.c_uint32), ("count", ctypes.c_uint64), ("values", _Values), ("table", _Table),
+                ("at_edit", ctypes.c_bool)]
 
 
 class _Claimed(ctypes.Structure):
@@ -426,6 +463,14 @@ _reduce = _call("livevec_reduce", _Reduced, _slot, _u32, _u32)
 _ask = _call("livevec_ask", _Reduced, _slot, _u32, _u32)
 _scan_inclusive = _call("livevec_scan_inclusive", _Scanned, _slot, _u32, _u32, _pointer, _size)
 _scan_exclusive = _call("livevec_scan_exclusive", _Scanned, _slot, _u32, _u32, _pointer, _size)
+# a summary's bytes are read during the call alone
+_sealed = ctypes.c_char_p
+_summary_empty = _call("livevec_summary_empty", _Summarised)
+_summary_empty_with_table = _call("livevec_summary_empty_with_table", _Summarised, ctypes.POINTER(_Table))
+_summary_of = _call("livevec_summary_of", _Summarised, _slot, _u32, _u32)
+_summary_extend = _call("livevec_summary_extend", _Summarised, _sealed, _pointer, _size)
+_summary_join = _call("livevec_summary_join", _Summarised, _sealed, _sealed)
+_summary_values = _call("livevec_summary_values", _Opened, _sealed)
 _refresh = _call("livevec_refresh", _Count, _slot, _u32)
 _claim = _call("livevec_claim", _Claimed, _slot, _job)
 _run = _call("livevec_run", _u32, _job, _outcome)
@@ -597,6 +642,123 @@ class Scan(collections.abc.Sequence[Values]):
 
     def __repr__(self) -> str:
         return f"<livevec.Scan of {self._length} at edit {self.edit}>"
+
+
+# --- Summaries that travel ---
+
+
+class Summary:
+    """What a list of elements comes to by each of the six kinds, as plain bytes that travel: between threads, processes and machines.
+
+        >>> from livevec import Summary, Vector
+        >>> here, there = Vector([5, -3]), Vector([4, -10, 2])
+        >>> sent = bytes(there.summary())
+        >>> both = here.summary().join(Summary.from_bytes(sent))
+        >>> both.count, both.values.sum, both.values.best
+        (5, -2, 6)
+
+    The summary of a list is joined of those of its parts, left and right kept, in any grouping. There is no `+`, for a join may be refused, and
+    left is not right. A summary is never changed, holds nothing of a vector, and may be copied and pickled: it goes by its bytes, which are
+    looked at where they come in. Two are equal where their bytes are: of one count, one table, one edit and the same values.
+
+    `Summary(elements)` is that of elements that lie in no vector, by the automaton of a table as `Vector` takes it; without any it is that of no
+    elements. Joined with another on either side that one changes nothing of it but that its edit is no longer told.
+
+    Raises BadTable, and what `Vector.extend` raises of elements that are none.
+    """
+
+    __slots__ = ("_bytes",)
+    _bytes: bytes
+
+    def __init__(self, elements: Iterable[int] = (), *, table: Optional[Sequence[Sequence[int]]] = None) -> None:
+        nothing = _summary_empty() if table is None else _summary_empty_with_table(ctypes.byref(_table_of(table)))
+        self._bytes = _extended(_bytes_of(nothing), elements)
+
+    @classmethod
+    def from_bytes(cls, sent: Union[bytes, bytearray, memoryview]) -> Summary:
+        """The summary of such bytes, from wherever they come. Raises OtherVersion, also where they are not SUMMARY_BYTES many, then Damaged."""
+        made = cls.__new__(cls)
+        made._bytes = memoryview(sent).tobytes()
+        if len(made._bytes) != SUMMARY_BYTES:
+            raise _refuse(OtherVersion.number)
+        made._opened()
+        return made
+
+    @classmethod
+    def _of(cls, did: _Summarised) -> Summary:
+        made = cls.__new__(cls)
+        made._bytes = _bytes_of(did)
+        return made
+
+    def join(self, right: Summary) -> Summary:
+        """The summary of these elements, and then those of `right`. Its edit is not told. Raises OtherTable, then TooLong."""
+        if not isinstance(right, Summary):
+            raise TypeError(f"a Summary is wanted, not a {type(right).__name__}")
+        return Summary._of(_summary_join(self._bytes, right._bytes))
+
+    def extended(self, elements: Iterable[int]) -> Summary:
+        """The summary of these elements, and then others, which `Vector.extend` would take. Its edit is not told. Raises TooLong."""
+        made = Summary.__new__(Summary)
+        made._bytes = _extended(self._bytes, elements)
+        return made
+
+    @property
+    def values(self) -> Values:
+        """The values of the elements."""
+        return _values_of(self._opened().values)
+
+    @property
+    def count(self) -> int:
+        """How many elements it is of."""
+        return self._opened().count
+
+    @property
+    def edit(self) -> Optional[int]:
+        """After which edit its vector had these elements; None where it doesn't come from one vector alone."""
+        told = self._opened()
+        return told.edit if told.at_edit else None
+
+    @property
+    def table(self) -> tuple[tuple[int, ...], ...]:
+        """The table of its automaton, eight rows of four states."""
+        states = tuple(self._opened().table.next)
+        return tuple(states[at:at + 4] for at in range(0, 32, 4))
+
+    def __bytes__(self) -> bytes:
+        """Its bytes, which are the same on every machine."""
+        return self._bytes
+
+    def __eq__(self, other: object) -> bool:
+        return self._bytes == other._bytes if isinstance(other, Summary) else NotImplemented
+
+    def __hash__(self) -> int:
+        return hash(self._bytes)
+
+    def __reduce__(self) -> tuple:
+        return Summary.from_bytes, (self._bytes,)
+
+    def __repr__(self) -> str:
+        edit = self.edit
+        return f"<livevec.Summary of {self.count}{'' if edit is None else f' at edit {edit}'}>"
+
+    def _opened(self) -> _Opened:
+        told = _summary_values(self._bytes)
+        if told.refusal:
+            raise _refuse(told.refusal)
+        return told
+
+
+def _bytes_of(did: _Summarised) -> bytes:
+    if did.refusal:
+        raise _refuse(did.refusal, did.detail)
+    return bytes(did.summary)
+
+
+def _extended(summary: bytes, elements: Iterable[int]) -> bytes:
+    buffer = _as_buffer(elements)
+    # an address is needed also where there is nothing to read
+    first = ctypes.byref(_address(buffer if len(buffer) else array("q", [0])))
+    return _bytes_of(_summary_extend(summary, first, len(buffer)))
 
 
 # --- Jobs and outcomes ---
@@ -963,6 +1125,10 @@ class Vector(_Handle, collections.abc.Sequence[int]):
         """The greatest total of one or more neighbours; None of an empty range. Asks, and raises as `ask` does."""
         values = self._asked(lo, hi)
         return (values.best_high << 64) + values.best_low if values.any else None
+
+    def summary(self, lo: int = 0, hi: Optional[int] = None) -> Summary:
+        """What the elements of a range come to after the last edit, as bytes that travel. Raises BadRange, then OutOfRange."""
+        return Summary._of(_summary_of(self._at, *self._range(lo, hi)))
 
     def scan_inclusive(self, lo: int = 0, hi: Optional[int] = None) -> Scan:
         """The values of each beginning of a range, the element itself included. Raises BadRange, OutOfRange, MemoryError."""
