@@ -73,8 +73,8 @@ dashboard: so ## serves live charts of FEED=.., or of this machine, in a browser
 	if [ -n "$(FEED)" ]; then exec python3 -m livevec_dashboard "$(FEED)" $(WITH); \
 	else examples/machine_load.py | python3 -m livevec_dashboard - --title "this machine" $(WITH); fi
 
-test-bindings: ## tests Rust, Python and what was installed
-	@tools/timed test-bindings "tests Rust, Python and what is installed" "some 2 min" bindings/check
+test-bindings: ## tests Rust, Python, MPI, Dask and what was installed
+	@tools/timed test-bindings "tests Rust, Python, MPI, Dask and what is installed" "some 4 min" bindings/check
 
 dist: build lib so ## packs what was proved and built into build/livevec-VERSION-PLATFORM.tar.gz
 	@tools/dist

@@ -1,5 +1,6 @@
 /* Tests of livevec_mpi.h, run by any number of ranks: `mpirun -np N tests_mpi`. Expected values are worked out by plain loops over the elements of
- * all ranks. `tests_mpi killed` ends its last rank by a signal before it hands anything in: no rank may print an answer then. */
+ * all ranks. `tests_mpi killed` ends its last rank by a signal before it hands anything in, and `tests_mpi left` by leaving: no rank may print an
+ * answer then. */
 #include "livevec_mpi.h"
 
 #include <signal.h>
@@ -211,7 +212,7 @@ int main(int argc, char **argv)
     CHECK(livevec_mpi_begin(&mpi) == MPI_SUCCESS);
     fill();
     if (argc > 1 && rank == ranks - 1)
-        raise(SIGKILL);
+        strcmp(argv[1], "killed") ? exit(EXIT_SUCCESS) : (void)raise(SIGKILL);
     all_ranks_are_joined_in_their_order();
     each_range_is_told_to_all();
     running_values_go_on_from_rank_to_rank();
