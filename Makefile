@@ -18,7 +18,7 @@ LDCONFIG = ldconfig
 
 # one target after the other: two would prove the same crates
 .NOTPARALLEL:
-.PHONY: help try build run test check lib so test-c test-bindings dist install install-program install-lib whole-paths uninstall wrong plant soak bench bench-board bench-bindings dashboard fmt clean
+.PHONY: help try build run test check lib so test-c test-bindings dist install install-program install-lib whole-paths uninstall wrong plant soak bench bench-board bench-bindings bench-engines dashboard fmt clean
 
 help: ## lists what can be made
 	@sed -n 's/^\([a-z-]*\):.*## \(.*\)/\1|\2/p' Makefile | awk -F '|' '{ printf "make %-15s %s\n", $$1, $$2 }'
@@ -133,6 +133,9 @@ bench-board: ## times the board beside a lock
 
 bench-bindings: ## times calls from C, Rust and Python
 	@tools/timed bench-bindings "times calls from C, Rust and Python" "some 2 min" bench/bindings
+
+bench-engines: ## times MPI over several processes beside plain loops and MPI's own sum
+	@tools/timed bench-engines "times MPI over 1, 2 and 4 processes beside plain loops and MPI_SUM" "some 2 min" bench/engines
 
 fmt: ## formats each crate
 	@for crate in crates/*/; do echo "formats $$crate"; (cd $$crate && rt fmt); done

@@ -1,4 +1,4 @@
-//! Summaries from outside. Expected values are worked out by hand from the rules, and bytes from the layout of docs/formats.md.
+//! Summaries from outside. Expected values are worked out by hand from the rules, and bytes from the layout in docs/engines.md.
 
 use std::thread;
 
