@@ -5,15 +5,13 @@
  * first, are the whole list. What travels is a livevec_summary of each, and MPI joins them by livevec_summary_join, left and right
  * kept. That join is proved; this header is tested.
  *
- * Refusals. A rank hands in what livevec_summary_of answered, refused or not, and so never leaves the others waiting. A refusal
- * travels in the summary's place, as bytes that every function of livevec.h refuses with OTHER_VERSION, and each join keeps it. So an
- * answer that has a refusal in it is that refusal, at every rank that is told it, and never a wrong number.
+ * A rank hands in what livevec_summary_of answered, refused or not, and so never leaves the others waiting. A refusal travels in the
+ * summary's place, as bytes that every function of livevec.h refuses with OTHER_VERSION, and each join keeps it. So every rank that
+ * is told an answer with a refusal in it is told that refusal, and never a wrong number. MPI's own errors are told apart: MPI ends
+ * the program at one, unless the communicator was told to return it (MPI_Comm_set_errhandler). A rank that dies ends all, by mpirun.
  *
- * MPI's own errors are told apart: `error` is what MPI answered. MPI ends the program at an error, unless the communicator was told
- * to return it (MPI_Comm_set_errhandler). A rank that dies ends the others by mpirun.
- *
- * Who calls owes what MPI asks: a function that takes a communicator is called by all its ranks, with the same root and the same
- * range, between MPI_Init and MPI_Finalize. */
+ * A function that takes a communicator is called by all its ranks, with the same root and the same range, between MPI_Init and
+ * MPI_Finalize. */
 #ifndef LIVEVEC_MPI_H
 #define LIVEVEC_MPI_H
 
@@ -134,67 +132,20 @@ static inline int livevec_mpi_end(livevec_mpi *mpi)
     return first != MPI_SUCCESS ? first : second;
 }
 
-/* Makes the datatype and the operation, once after MPI_Init. Answers MPI's error, or MPI_SUCCESS; then a livevec_mpi_end is owed. */
+/* Makes the datatype and the operation, once after MPI_Init. Answers MPI's error, or MPI_SUCCESS. A livevec_mpi_end is owed then. */
 static inline int livevec_mpi_begin(livevec_mpi *mpi)
 {
     int error;
-    mpi->join = MPI_OP_NULL;
-    mpi->summary = MPI_DATATYPE_NULL;
+    mpi->summary = MPI_DATATYPE_NULL, mpi->join = MPI_OP_NULL;
     error = MPI_Type_contiguous(LIVEVEC_SUMMARY_BYTES, MPI_BYTE, &mpi->summary);
     if (error == MPI_SUCCESS)
         error = MPI_Type_commit(&mpi->summary);
     if (error == MPI_SUCCESS)
         error = MPI_Op_create(livevec_mpi_join_, 0, &mpi->join);
-    if (error != MPI_SUCCESS)
-        livevec_mpi_end(mpi);
     return error;
 }
 
-/* --- Over the ranks --- */
-
-/* The summary of all ranks' elements in the order of the ranks, told to the rank `root`. The others are told their own refusal, if
- * there is one, and else an answer whose summary is none.
- * Refusals: those of `mine` at any rank, and those of livevec_summary_join; the first one in the order of the ranks, or one of a join. */
-static inline livevec_mpi_answer livevec_mpi_reduce(const livevec_mpi *mpi, livevec_summarised mine, int root, MPI_Comm comm)
-{
-    livevec_summary sent = livevec_mpi_handed_in_(mine, comm), came;
-    int rank = -1, error = MPI_Comm_rank(comm, &rank);
-    if (error == MPI_SUCCESS)
-        error = MPI_Reduce(&sent, &came, 1, mpi->summary, mpi->join, root, comm);
-    if (error == MPI_SUCCESS && rank != root)
-        return livevec_mpi_no_(error, mine.refusal, mine.detail, mine.refusal ? rank : -1);
-    return livevec_mpi_came_(error, &came);
-}
-
-/* The same, told to all ranks. */
-static inline livevec_mpi_answer livevec_mpi_allreduce(const livevec_mpi *mpi, livevec_summarised mine, MPI_Comm comm)
-{
-    livevec_summary sent = livevec_mpi_handed_in_(mine, comm), came;
-    int error = MPI_Allreduce(&sent, &came, 1, mpi->summary, mpi->join, comm);
-    return livevec_mpi_came_(error, &came);
-}
-
-/* The summary of no elements, by the automaton of `mine`. */
-static inline livevec_summary livevec_mpi_nothing_(const livevec_summary *mine)
-{
-    livevec_opened opened = livevec_summary_values(mine);
-    return opened.refusal ? *mine : livevec_summary_empty_with_table(&opened.table).summary;
-}
-
-/* The summary of the elements of all ranks before this one: at rank 0 that of no elements. With it livevec_mpi_running gives the
- * running values of this rank's own elements. Refusals: as of livevec_mpi_reduce, at the ranks from this one back. */
-static inline livevec_mpi_answer livevec_mpi_exscan(const livevec_mpi *mpi, livevec_summarised mine, MPI_Comm comm)
-{
-    livevec_summary sent = livevec_mpi_handed_in_(mine, comm), came;
-    int rank = -1, error = MPI_Comm_rank(comm, &rank);
-    if (error == MPI_SUCCESS)
-        error = MPI_Exscan(&sent, &came, 1, mpi->summary, mpi->join, comm);
-    if (error == MPI_SUCCESS && rank == 0)
-        came = livevec_mpi_nothing_(&sent); /* MPI leaves it as it was there */
-    if (error == MPI_SUCCESS && rank > 0 && mine.refusal && !livevec_mpi_is_refused_(&came))
-        came = sent;
-    return livevec_mpi_came_(error, &came);
-}
+/* --- At one rank alone --- */
 
 /* How many elements some vectors have together, or why that can't be told. */
 static inline uint32_t livevec_mpi_size_(livevec_vector *vectors, size_t count, uint64_t *size)
@@ -216,37 +167,6 @@ static inline uint64_t livevec_mpi_within_(uint64_t place, uint64_t start, uint6
 {
     return place < start ? 0 : place - start < size ? place - start : size;
 }
-
-static inline livevec_summarised livevec_mpi_over(livevec_vector *vectors, size_t count, uint64_t lo, uint64_t hi);
-
-/* The summary of a range of the whole list, told to all ranks. Each rank has so many vectors, whose elements end to end are its own.
- * Refusals: BAD_RANGE; those of livevec_mpi_over at any rank, and of livevec_summary_join; OUT_OF_RANGE where the ranks have fewer
- * elements than `hi`. */
-static inline livevec_mpi_answer livevec_mpi_range(const livevec_mpi *mpi, livevec_vector *vectors, size_t count, uint64_t lo, uint64_t hi, MPI_Comm comm)
-{
-    uint64_t size, start = 0;
-    livevec_summarised mine;
-    livevec_mpi_answer answer;
-    uint32_t refusal = livevec_mpi_size_(vectors, count, &size);
-    int rank = -1, error = MPI_Comm_rank(comm, &rank);
-    if (lo > hi)
-        return livevec_mpi_no_(MPI_SUCCESS, LIVEVEC_BAD_RANGE, 0, -1);
-    if (error == MPI_SUCCESS)
-        error = MPI_Exscan(&size, &start, 1, MPI_UINT64_T, MPI_SUM, comm);
-    if (error != MPI_SUCCESS)
-        return livevec_mpi_no_(error, LIVEVEC_OK, 0, -1);
-    start = rank == 0 ? 0 : start;
-    memset(&mine, 0, sizeof mine);
-    mine.refusal = refusal;
-    if (!refusal)
-        mine = livevec_mpi_over(vectors, count, livevec_mpi_within_(lo, start, size), livevec_mpi_within_(hi, start, size));
-    answer = livevec_mpi_allreduce(mpi, mine, comm);
-    if (answer.error == MPI_SUCCESS && !answer.refusal && livevec_summary_values(&answer.summary).count != hi - lo)
-        return livevec_mpi_no_(MPI_SUCCESS, LIVEVEC_OUT_OF_RANGE, 0, -1);
-    return answer;
-}
-
-/* --- At one rank alone --- */
 
 /* The summary of a range of the elements of some vectors, end to end. Of no vectors that is the one of livevec_summary_empty: where
  * automata have tables of their own, each rank needs a vector with that table, if an empty one.
@@ -306,6 +226,73 @@ static inline livevec_summarised livevec_mpi_running(const livevec_summary *befo
         buffer[i - lo] = livevec_summary_values(&all.summary).values;
     }
     return all;
+}
+
+/* --- Over the ranks --- */
+
+/* The summary of all ranks' elements in the order of the ranks, told to the rank `root`. The others are told their own refusal, if
+ * there is one, and else an answer whose summary is none.
+ * Refusals: those of `mine` at any rank, and those of livevec_summary_join; the first one in the order of the ranks, or one of a join. */
+static inline livevec_mpi_answer livevec_mpi_reduce(const livevec_mpi *mpi, livevec_summarised mine, int root, MPI_Comm comm)
+{
+    livevec_summary sent = livevec_mpi_handed_in_(mine, comm), came;
+    int rank = -1, error = MPI_Comm_rank(comm, &rank);
+    if (error == MPI_SUCCESS)
+        error = MPI_Reduce(&sent, &came, 1, mpi->summary, mpi->join, root, comm);
+    if (error == MPI_SUCCESS && rank != root)
+        return livevec_mpi_no_(error, mine.refusal, mine.detail, mine.refusal ? rank : -1);
+    return livevec_mpi_came_(error, &came);
+}
+
+/* The same, told to all ranks. */
+static inline livevec_mpi_answer livevec_mpi_allreduce(const livevec_mpi *mpi, livevec_summarised mine, MPI_Comm comm)
+{
+    livevec_summary sent = livevec_mpi_handed_in_(mine, comm), came;
+    int error = MPI_Allreduce(&sent, &came, 1, mpi->summary, mpi->join, comm);
+    return livevec_mpi_came_(error, &came);
+}
+
+/* The summary of the elements of all ranks before this one: at rank 0 that of no elements. With it livevec_mpi_running gives the
+ * running values of this rank's own elements. Refusals: as of livevec_mpi_reduce, at the ranks from this one back. */
+static inline livevec_mpi_answer livevec_mpi_exscan(const livevec_mpi *mpi, livevec_summarised mine, MPI_Comm comm)
+{
+    livevec_summary sent = livevec_mpi_handed_in_(mine, comm), came;
+    livevec_opened own = livevec_summary_values(&sent);
+    int rank = -1, error = MPI_Comm_rank(comm, &rank);
+    if (error == MPI_SUCCESS)
+        error = MPI_Exscan(&sent, &came, 1, mpi->summary, mpi->join, comm);
+    if (error == MPI_SUCCESS && rank == 0) /* where MPI leaves it as it was */
+        came = own.refusal ? sent : livevec_summary_empty_with_table(&own.table).summary;
+    if (error == MPI_SUCCESS && mine.refusal && !livevec_mpi_is_refused_(&came))
+        came = sent;
+    return livevec_mpi_came_(error, &came);
+}
+
+/* The summary of a range of the whole list, told to all ranks. Each rank has so many vectors, whose elements end to end are its own.
+ * Refusals: BAD_RANGE; those of livevec_mpi_over at any rank, and of livevec_summary_join; OUT_OF_RANGE where the ranks have fewer
+ * elements than `hi`. */
+static inline livevec_mpi_answer livevec_mpi_range(const livevec_mpi *mpi, livevec_vector *vectors, size_t count, uint64_t lo, uint64_t hi, MPI_Comm comm)
+{
+    uint64_t size, start = 0;
+    livevec_summarised mine;
+    livevec_mpi_answer answer;
+    uint32_t refusal = livevec_mpi_size_(vectors, count, &size);
+    int rank = -1, error = MPI_Comm_rank(comm, &rank);
+    if (lo > hi)
+        return livevec_mpi_no_(MPI_SUCCESS, LIVEVEC_BAD_RANGE, 0, -1);
+    if (error == MPI_SUCCESS)
+        error = MPI_Exscan(&size, &start, 1, MPI_UINT64_T, MPI_SUM, comm);
+    if (error != MPI_SUCCESS)
+        return livevec_mpi_no_(error, LIVEVEC_OK, 0, -1);
+    start = rank == 0 ? 0 : start;
+    memset(&mine, 0, sizeof mine);
+    mine.refusal = refusal;
+    if (!refusal)
+        mine = livevec_mpi_over(vectors, count, livevec_mpi_within_(lo, start, size), livevec_mpi_within_(hi, start, size));
+    answer = livevec_mpi_allreduce(mpi, mine, comm);
+    if (answer.error == MPI_SUCCESS && !answer.refusal && livevec_summary_values(&answer.summary).count != hi - lo)
+        return livevec_mpi_no_(MPI_SUCCESS, LIVEVEC_OUT_OF_RANGE, 0, -1);
+    return answer;
 }
 
 #ifdef __cplusplus
