@@ -24,24 +24,19 @@ class Running:
     """The running values as they are shown: at the places, and all of them in one number."""
 
     def __init__(self, samples):
-        self.samples, self.all = samples, 0
-        self.places = {samples * (which + 1) // PLACES: (0, 0) for which in range(PLACES)}
+        self.sums, self.bests, self.all = [0] * PLACES, [0] * PLACES, 0
+        self.places = [samples * (which + 1) // PLACES for which in range(PLACES)]
+        self.at = set(self.places)
 
     def take(self, index, total, best):
         """Takes in the running values up to `index`, that one included."""
-        self.all += (2 * index + 1) * total + (2 * index + 3) * best
-        if index + 1 in self.places:
-            self.places[index + 1] = total, best
-
-    def add(self, other):
-        """Takes in those of another share of the samples."""
-        self.all += other.all
-        for place, (total, best) in other.places.items():
-            mine = self.places[place]
-            self.places[place] = mine[0] + total, mine[1] + best
+        self.all = (self.all + (2 * index + 1) * total + (2 * index + 3) * best) % 2**64
+        if index + 1 in self.at:
+            for which in range(PLACES):
+                if self.places[which] == index + 1:
+                    self.sums[which], self.bests[which] = total, best
 
     def show(self):
-        for which in range(PLACES):
-            place = self.samples * (which + 1) // PLACES
-            print("up to {}: sum {}, best run {}".format(place, *self.places[place]))
-        print(f"all running values: {self.all % 2**64}")
+        for place, total, best in zip(self.places, self.sums, self.bests):
+            print(f"up to {place}: sum {total}, best run {best}")
+        print(f"all running values: {self.all}")

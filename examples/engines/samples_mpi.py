@@ -6,6 +6,7 @@ As many samples go to each rank as its weight among all asks for, one weight for
 """
 import itertools
 import sys
+from array import array
 
 from mpi4py import MPI
 
@@ -34,16 +35,22 @@ def ask_all(vectors, samples):
         say(shown(lo, hi, livevec_mpi.ranged(COMM, vectors, lo, hi).values))
 
 
+def summed(code, numbers):
+    """At rank 0 the sums of what each rank has. Each place of the running values is one rank's, and zero at the others."""
+    mine, kind = array(code, numbers), {"q": MPI.INT64_T, "Q": MPI.UINT64_T}[code]
+    came = array(code, bytes(8 * len(numbers)))
+    COMM.Reduce([mine, kind], [came, kind], op=MPI.SUM)
+    return list(came)
+
+
 def run_all(vectors, samples, first, end):
     """All ranks' running values, each rank's from what stands before it."""
     before = livevec_mpi.exscan(COMM, lambda: livevec_mpi.over(vectors, 0, end - first))
     mine = Running(samples)
     for index, values in enumerate(livevec_mpi.running(before, itertools.chain(*vectors)), start=first):
         mine.take(index, values.sum, values.best)
-    shares = COMM.gather(mine)
+    mine.sums, mine.bests, (mine.all,) = summed("q", mine.sums), summed("q", mine.bests), summed("Q", [mine.all])
     if COMM.rank == 0:
-        for share in shares[1:]:
-            mine.add(share)
         mine.show()
 
 
