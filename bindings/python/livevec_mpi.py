@@ -21,7 +21,7 @@ from __future__ import annotations
 import operator
 import struct
 from array import array
-from typing import Callable, Iterable, Iterator, Optional, Sequence, Union
+from typing import Any, Callable, Iterable, Iterator, Optional, Sequence, Union
 
 from mpi4py import MPI
 
@@ -41,7 +41,7 @@ class NoAnswer(livevec.Refusal):
         self.number, self.refusal, self.rank = refusal.number, refusal, rank
         self.args = (f"{'a join' if rank is None else f'rank {rank}'}: {refusal}",)
 
-    def __reduce__(self) -> tuple:
+    def __reduce__(self) -> tuple[Any, ...]:
         return NoAnswer, (self.refusal, self.rank)
 
 
@@ -56,7 +56,7 @@ def _sealed(refusal: livevec.Refusal, rank: Optional[int]) -> bytes:
 
 def _is_sealed(sent: bytes) -> bool:
     version, number, _, _ = _REFUSED.unpack(sent)
-    return version == 0 and number != 0
+    return bool(version == 0 and number != 0)
 
 
 def _opened(sent: bytes) -> Summary:
@@ -163,7 +163,7 @@ def ranged(comm: MPI.Intracomm, vectors: Sequence[Vector], lo: int, hi: int) -> 
     return told
 
 
-def _before(comm: MPI.Intracomm, sizes: array) -> int:
+def _before(comm: MPI.Intracomm, sizes: array[int]) -> int:
     """How many elements the ranks before this one have."""
     came = array("Q", [0])
     comm.Exscan([sizes, MPI.UINT64_T], [came, MPI.UINT64_T], op=MPI.SUM)
@@ -190,7 +190,8 @@ def over(vectors: Sequence[Vector], lo: int, hi: int) -> Summary:
     Of no vectors that is `Summary()`: where automata have tables of their own, each rank needs a vector with that table, if an empty one.
     Raises BadRange, OutOfRange, and what `Vector.summary` and `Summary.join` raise."""
     _check(lo, hi)
-    whole, start = None, 0
+    whole: Optional[Summary] = None
+    start = 0
     for vector in vectors:
         size = len(vector)
         first, last = _within(lo, start, size), _within(hi, start, size)

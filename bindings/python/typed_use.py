@@ -6,7 +6,7 @@ from __future__ import annotations
 from array import array
 from typing import Optional
 
-from livevec import Board, Delivered, Finished, Job, Kind, Outrun, Reduced, Refusal, Scan, Seat, Values, Vector
+from livevec import Board, Delivered, Finished, Job, Kind, Outrun, Reduced, Refusal, Scan, Seat, Summary, Values, Vector
 
 
 class Prices(Vector):
@@ -45,6 +45,18 @@ def wrong_vectors(prices: Vector) -> None:
     Vector(["7"])  # type: ignore[list-item]
     prices.insert(0, least)  # type: ignore[attr-defined]
     prices.read_into([0])  # type: ignore[arg-type]
+
+
+def summaries(prices: Vector, sent: bytes) -> Summary:
+    part: Summary = prices.summary(-10)
+    edit: Optional[int] = part.edit
+    total: int = part.values.sum + part.count
+    rows: tuple[tuple[int, ...], ...] = part.table
+    prices + part  # type: ignore[operator]
+    part.join(sent)  # type: ignore[arg-type]
+    Summary.from_bytes(5)  # type: ignore[arg-type]
+    print(edit, total, rows, bytes(part))
+    return Summary([1], table=rows).join(Summary.from_bytes(sent)).extended(prices)
 
 
 def jobs(prices: Vector) -> None:

@@ -340,10 +340,19 @@ class _Scanned(ctypes.Structure):
 
 
 class _Summarised(ctypes.Structure):
+    refusal: int
+    detail: int
+    summary: ctypes.Array[ctypes.c_uint8]
     _fields_ = [("refusal", ctypes.c_uint32), ("detail", ctypes.c_uint32), ("summary", ctypes.c_uint8 * SUMMARY_BYTES)]
 
 
 class _Opened(ctypes.Structure):
+    refusal: int
+    edit: int
+    count: int
+    values: _Values
+    table: _Table
+    at_edit: bool
     _fields_ = [("refusal", ctypes.c_uint32), ("edit", ctypes.c_uint32), ("count", ctypes.c_uint64), ("values", _Values), ("table", _Table),
                 ("at_edit", ctypes.c_bool)]
 
@@ -729,12 +738,14 @@ class Summary:
         return self._bytes
 
     def __eq__(self, other: object) -> bool:
-        return self._bytes == other._bytes if isinstance(other, Summary) else NotImplemented
+        if not isinstance(other, Summary):
+            return NotImplemented
+        return self._bytes == other._bytes
 
     def __hash__(self) -> int:
         return hash(self._bytes)
 
-    def __reduce__(self) -> tuple:
+    def __reduce__(self) -> tuple[Any, ...]:
         return Summary.from_bytes, (self._bytes,)
 
     def __repr__(self) -> str:
