@@ -133,7 +133,7 @@ static inline int livevec_mpi_end(livevec_mpi *mpi)
 }
 
 /* Makes the datatype and the operation, once after MPI_Init. Answers MPI's error, or MPI_SUCCESS. A livevec_mpi_end is owed then. */
-static inline int livevec_mpi_begin(livevec_mpi *mpi)
+LIVEVEC_MUST_USE static inline int livevec_mpi_begin(livevec_mpi *mpi)
 {
     int error;
     mpi->summary = MPI_DATATYPE_NULL, mpi->join = MPI_OP_NULL;
@@ -171,7 +171,7 @@ static inline uint64_t livevec_mpi_within_(uint64_t place, uint64_t start, uint6
 /* The summary of a range of the elements of some vectors, end to end. Of no vectors that is the one of livevec_summary_empty: where
  * automata have tables of their own, each rank needs a vector with that table, if an empty one.
  * Refusals: NULL, BAD_RANGE, those of livevec_size, livevec_summary_of and livevec_summary_join, OUT_OF_RANGE. */
-static inline livevec_summarised livevec_mpi_over(livevec_vector *vectors, size_t count, uint64_t lo, uint64_t hi)
+LIVEVEC_MUST_USE static inline livevec_summarised livevec_mpi_over(livevec_vector *vectors, size_t count, uint64_t lo, uint64_t hi)
 {
     livevec_summarised all = livevec_summary_empty(), none, part;
     uint64_t start = 0, size;
@@ -216,7 +216,7 @@ static inline livevec_summarised livevec_mpi_judged_(const livevec_summary *befo
  * buffer takes. Answers the summary of all of them together, which is `before` for the rank's next vector. Each value is one of
  * livevec_summary_extend. Refusals: NULL, NO_HANDLE, BAD_RANGE, OUT_OF_RANGE, SHORT_BUFFER, OTHER_VERSION, DAMAGED, TOO_LONG; but
  * for TOO_LONG the buffer is then as it was. */
-static inline livevec_summarised livevec_mpi_running(const livevec_summary *before, livevec_vector *slot, uint32_t lo, uint32_t hi,
+LIVEVEC_MUST_USE static inline livevec_summarised livevec_mpi_running(const livevec_summary *before, livevec_vector *slot, uint32_t lo, uint32_t hi,
                                                      livevec_values *buffer, size_t length)
 {
     livevec_summarised all = livevec_mpi_judged_(before, slot, lo, hi, buffer != NULL, length);
@@ -233,7 +233,7 @@ static inline livevec_summarised livevec_mpi_running(const livevec_summary *befo
 /* The summary of all ranks' elements in the order of the ranks, told to the rank `root`. The others are told their own refusal, if
  * there is one, and else an answer whose summary is none.
  * Refusals: those of `mine` at any rank, and those of livevec_summary_join; the first one in the order of the ranks, or one of a join. */
-static inline livevec_mpi_answer livevec_mpi_reduce(const livevec_mpi *mpi, livevec_summarised mine, int root, MPI_Comm comm)
+LIVEVEC_MUST_USE static inline livevec_mpi_answer livevec_mpi_reduce(const livevec_mpi *mpi, livevec_summarised mine, int root, MPI_Comm comm)
 {
     livevec_summary sent = livevec_mpi_handed_in_(mine, comm), came;
     int rank = -1, error = MPI_Comm_rank(comm, &rank);
@@ -245,7 +245,7 @@ static inline livevec_mpi_answer livevec_mpi_reduce(const livevec_mpi *mpi, live
 }
 
 /* The same, told to all ranks. */
-static inline livevec_mpi_answer livevec_mpi_allreduce(const livevec_mpi *mpi, livevec_summarised mine, MPI_Comm comm)
+LIVEVEC_MUST_USE static inline livevec_mpi_answer livevec_mpi_allreduce(const livevec_mpi *mpi, livevec_summarised mine, MPI_Comm comm)
 {
     livevec_summary sent = livevec_mpi_handed_in_(mine, comm), came;
     int error = MPI_Allreduce(&sent, &came, 1, mpi->summary, mpi->join, comm);
@@ -254,7 +254,7 @@ static inline livevec_mpi_answer livevec_mpi_allreduce(const livevec_mpi *mpi, l
 
 /* The summary of the elements of all ranks before this one: at rank 0 that of no elements. With it livevec_mpi_running gives the
  * running values of this rank's own elements. Refusals: as of livevec_mpi_reduce, at the ranks from this one back. */
-static inline livevec_mpi_answer livevec_mpi_exscan(const livevec_mpi *mpi, livevec_summarised mine, MPI_Comm comm)
+LIVEVEC_MUST_USE static inline livevec_mpi_answer livevec_mpi_exscan(const livevec_mpi *mpi, livevec_summarised mine, MPI_Comm comm)
 {
     livevec_summary sent = livevec_mpi_handed_in_(mine, comm), came;
     livevec_opened own = livevec_summary_values(&sent);
@@ -271,7 +271,7 @@ static inline livevec_mpi_answer livevec_mpi_exscan(const livevec_mpi *mpi, live
 /* The summary of a range of the whole list, told to all ranks. Each rank has so many vectors, whose elements end to end are its own.
  * Refusals: BAD_RANGE; those of livevec_mpi_over at any rank, and of livevec_summary_join; OUT_OF_RANGE where the ranks have fewer
  * elements than `hi`. */
-static inline livevec_mpi_answer livevec_mpi_range(const livevec_mpi *mpi, livevec_vector *vectors, size_t count, uint64_t lo, uint64_t hi, MPI_Comm comm)
+LIVEVEC_MUST_USE static inline livevec_mpi_answer livevec_mpi_range(const livevec_mpi *mpi, livevec_vector *vectors, size_t count, uint64_t lo, uint64_t hi, MPI_Comm comm)
 {
     uint64_t size, start = 0;
     livevec_summarised mine;

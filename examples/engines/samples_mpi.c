@@ -128,10 +128,10 @@ static void run_all(void)
 
 int main(int argc, char **argv)
 {
-    MPI_Init(&argc, &argv);
+    if (MPI_Init(&argc, &argv) != MPI_SUCCESS || livevec_mpi_begin(&mpi) != MPI_SUCCESS)
+        return EXIT_FAILURE;
     MPI_Comm_rank(MPI_COMM_WORLD, &rank);
     MPI_Comm_size(MPI_COMM_WORLD, &ranks);
-    livevec_mpi_begin(&mpi);
     samples = argc > 1 ? number(argv[1]) : samples;
     in_a_vector = argc > 2 ? number(argv[2]) : in_a_vector;
     must(in_a_vector < 1 || in_a_vector > MOST || (argc > 3 && argc != 3 + ranks) ? LIVEVEC_BAD_LIMITS : LIVEVEC_OK, "the command line");
