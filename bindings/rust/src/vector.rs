@@ -205,7 +205,7 @@ impl Vector {
 
     /// What the elements of a range come to after the last edit, as bytes that travel: see [`Summary`]. Nothing is kept of it here.
     /// Refused with `BadRange`, `OutOfRange`, in this order.
-    pub fn summary(&self, range: impl RangeBounds<u32>) -> Result<Summary, Refusal> {
+    pub fn summary(&self, range: impl Indices) -> Result<Summary, Refusal> {
         let (lo, hi) = ends(range, || self.len());
         self.raw.summary(lo, hi).map(Summary::of_raw)
     }
