@@ -6,3 +6,4 @@ pub mod SpreadFolds
 pub mod Programs
 pub mod Seatless
 pub mod Others
+pub mod Summing

@@ -6,3 +6,4 @@ pub mod Working
 pub mod Plainly
 pub mod Kinds
 pub mod Seats
+pub mod Summed

@@ -16,5 +16,6 @@ mod results;
 mod said;
 mod seats;
 mod slots;
+mod summaries;
 mod vectors;
 mod verdicts;

@@ -6,12 +6,16 @@ use lv_bodies::{RunTotals, SixSummary};
 use lv_edits::Receipt;
 use lv_geometry::Refusal;
 use lv_reduce::Answer;
+use lv_shards::Each;
 
 /// The number for want of memory, as the library has it.
 pub const NO_MEMORY: u32 = 6;
 
 /// The number for limits outside their ranges, as the library has it.
 pub const BAD_LIMITS: u32 = 8;
+
+/// The number for an automaton's table with an entry above 7, as the library has it.
+pub const BAD_TABLE: u32 = 9;
 
 /// The number for a slot that should be full and is empty.
 pub const NO_HANDLE: u32 = 101;
@@ -201,7 +205,14 @@ fn total_halves(totals: Option<RunTotals>) -> (u64, i64)
 pub fn plain_values(summary: SixSummary) -> PlainValues
     ensures { result ≡ spread summary }
 {
-    let (sum, (least, (greatest, (best, (affine, automaton))))) = summary.each();
+    each_values(summary.each())
+}
+
+/// The same, where the six are apart.
+pub fn each_values(each: Each) -> PlainValues
+    ensures { result ≡ spread each }
+{
+    let (sum, (least, (greatest, (best, (affine, automaton))))) = each;
     let (best_low, best_high) = total_halves(best);
     PlainValues {
         sum,

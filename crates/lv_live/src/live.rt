@@ -313,6 +313,14 @@ impl<B: Body> Live<B> {
         accepted
     }
 
+    /// The body by which it reduces.
+    #[inline(always)]
+    pub fn body(&self) -> B
+        ensures { result ≡ self.now.body }
+    {
+        self.body
+    }
+
     /// Says what every vector keeps, to a caller who sees no invariant: it is a live one. Computes nothing.
     #[inline(always)]
     pub fn keeps(&self)
