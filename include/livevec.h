@@ -76,7 +76,11 @@ typedef enum livevec_refusal {
     LIVEVEC_NO_SEAT = 105,     /* no seat of the board is there: each was taken, and is not back */
     LIVEVEC_SEATS_OUT = 106,   /* a seat of the board is not back */
     LIVEVEC_OTHER_BOARD = 107, /* a seat of another board */
-    LIVEVEC_BUSY = 108         /* another call is under way at the slot. Nothing has happened: try again */
+    LIVEVEC_BUSY = 108,        /* another call is under way at the slot. Nothing has happened: try again */
+    LIVEVEC_OTHER_VERSION = 109, /* a summary whose bytes are of another version of the layout, or no summary at all */
+    LIVEVEC_DAMAGED = 110,     /* a summary whose bytes were changed, or that no elements have */
+    LIVEVEC_OTHER_TABLE = 111, /* two summaries by automata of two tables */
+    LIVEVEC_TOO_LONG = 112     /* summaries of more than 2^62 elements together */
 } livevec_refusal;
 
 /* Slots. All zeros is 'empty'. The fields are the library's own. */
@@ -163,6 +167,33 @@ typedef struct livevec_reduced {
     uint32_t summaries; /* how many summaries were read for it */
     livevec_values values;
 } livevec_reduced;
+
+/* How many bytes a summary has, in each version of the library that has its layout. */
+#define LIVEVEC_SUMMARY_BYTES 184
+
+/* A summary that travels: what a list of elements comes to by each of the six kinds, how many elements there are, by which
+ * automaton, and after which edit of which a vector had them. It is plain bytes, the same on every machine (docs/formats.md has
+ * their places), without a pointer: it may be copied, sent, kept in a file and read by another process. Zeros are no summary. */
+typedef struct livevec_summary {
+    uint8_t bytes[LIVEVEC_SUMMARY_BYTES];
+} livevec_summary;
+
+/* What answers by a summary. Where it was refused, all but `refusal` and `detail` is 0. */
+typedef struct livevec_summarised {
+    uint32_t refusal;
+    uint32_t detail; /* of LIVEVEC_OUT_OF_RANGE the size, else 0 */
+    livevec_summary summary;
+} livevec_summarised;
+
+/* What a summary says. Where it was refused, all but `refusal` is 0. */
+typedef struct livevec_opened {
+    uint32_t refusal;
+    uint32_t edit;         /* after which edit the vector had these elements; 0 where `at_edit` is false */
+    uint64_t count;        /* how many elements it is of */
+    livevec_values values; /* their plain values */
+    livevec_table table;   /* the table of the automaton */
+    bool at_edit;          /* whether it comes from a range of one vector */
+} livevec_opened;
 
 /* What a scan answers. */
 typedef struct livevec_scanned {
@@ -314,6 +345,36 @@ LIVEVEC_MUST_USE livevec_scanned livevec_scan_inclusive(livevec_vector *slot, ui
                                                         size_t length);
 LIVEVEC_MUST_USE livevec_scanned livevec_scan_exclusive(livevec_vector *slot, uint32_t lo, uint32_t hi, livevec_values *buffer,
                                                         size_t length);
+
+/* --- Summaries that travel: of shards in several threads, processes or machines, joined in the order of their elements. They
+ * hold nothing of a vector, and but for livevec_summary_of no call needs a slot or answers BUSY. No call takes memory. Joins
+ * may be taken in any grouping, left and right kept: all come to the summary of all elements end to end. --- */
+
+/* The summary of no elements, by the automaton of livevec_new. Joined with another on either side it changes nothing of it but
+ * that the edit is no longer told. Refusals: none. */
+LIVEVEC_MUST_USE livevec_summarised livevec_summary_empty(void);
+
+/* The same, by an automaton of a table of the caller's, which is copied. Refusals: NULL, BAD_TABLE. */
+LIVEVEC_MUST_USE livevec_summarised livevec_summary_empty_with_table(const livevec_table *table);
+
+/* The summary of the elements of a range of a vector, by its automaton, after its last edit. Changes nothing.
+ * Refusals: NULL, NO_HANDLE, BAD_RANGE, OUT_OF_RANGE. */
+LIVEVEC_MUST_USE livevec_summarised livevec_summary_of(livevec_vector *slot, uint32_t lo, uint32_t hi);
+
+/* The summary of the elements of a summary, and then those of an array. A null pointer with length 0 is an empty array. Its
+ * edit is not told. Refusals: NULL (of either pointer), OTHER_VERSION, DAMAGED, TOO_LONG. */
+LIVEVEC_MUST_USE livevec_summarised livevec_summary_extend(const livevec_summary *summary, const int64_t *values, size_t length);
+
+/* The summary of an array, by the automaton of livevec_new: that of no elements, extended. Refusals: NULL, TOO_LONG. */
+LIVEVEC_MUST_USE livevec_summarised livevec_summary_of_elements(const int64_t *values, size_t length);
+
+/* The summary of the elements of `left`, and then those of `right`, which may be one. Its edit is not told.
+ * Refusals: NULL, OTHER_VERSION and DAMAGED (of left, and then of right), OTHER_TABLE, TOO_LONG. */
+LIVEVEC_MUST_USE livevec_summarised livevec_summary_join(const livevec_summary *left, const livevec_summary *right);
+
+/* What a summary says: the plain values of its elements, their count, its edit and its table.
+ * Refusals: NULL, OTHER_VERSION, DAMAGED. */
+LIVEVEC_MUST_USE livevec_opened livevec_summary_values(const livevec_summary *summary);
 
 /* --- Refresh: summaries are computed so that reductions read less. No answer changes by it. --- */
 

@@ -1,6 +1,6 @@
 /* livevec for C++17: livevec.h by move-only classes that free what they own. What a call refuses is thrown as livevec::refused, and
- * nothing has changed then. Header only; link what livevec.h links. The board and its seats stand in livevec_board.hpp, and what all
- * classes share in livevec_base.hpp; this header brings both.
+ * nothing has changed then. Header only; link what livevec.h links. The board and its seats stand in livevec_board.hpp, summaries
+ * that travel in livevec_summary.hpp, and what all classes share in livevec_base.hpp; this header brings them all.
  *
  * An object serves one call at a time: a call beside another at the same object is refused with LIVEVEC_BUSY. Put a mutex round it where
  * threads share one. A job may be run by any thread, beside any call at its vector. A call at an object that was moved from is
@@ -17,6 +17,7 @@
 
 #include "livevec_base.hpp"
 #include "livevec_board.hpp"
+#include "livevec_summary.hpp"
 
 #include <cstddef>
 #include <cstdint>
@@ -171,6 +172,9 @@ class vector : public inner::owned<livevec_vector, livevec_free> {
         const livevec_values values = ask(lo, hi).values;
         return values.any ? std::optional<int128>(int128(values.best_high) * (int128(1) << 64) + values.best_low) : std::nullopt;
     }
+
+    /* The summary of a range, which holds nothing of the vector and may travel. */
+    summary summarise(std::uint32_t lo, std::uint32_t hi) const { return summary(summary::made(livevec_summary_of(slot(), lo, hi))); }
 
     /* The values of each beginning of a range, the element itself included, or excluded. */
     [[nodiscard]] std::vector<livevec_values> scan_inclusive(std::uint32_t lo, std::uint32_t hi) const { return scan(livevec_scan_inclusive, lo, hi); }

@@ -1,8 +1,10 @@
 /* The functions of livevec.h: each answers LIVEVEC_NULL where a pointer is null, and else calls the proved export of its name.
- * The last five walk over many elements, a proved call each. This file is C, so no proof covers it. */
+ * The last five walk over many elements, a proved call each,
+ * and two of summaries, a proved call for up to 1,024. This file is C, so no proof covers it. */
 #include "livevec.h"
 
 #include <stdatomic.h>
+#include <string.h>
 
 const char *livevec_version(void)
 {
@@ -34,6 +36,10 @@ const char *livevec_refusal_text(uint32_t refusal)
     case LIVEVEC_SEATS_OUT: return "seats are out";
     case LIVEVEC_OTHER_BOARD: return "a seat of another board";
     case LIVEVEC_BUSY: return "another call is under way at the slot";
+    case LIVEVEC_OTHER_VERSION: return "a summary of another version, or none";
+    case LIVEVEC_DAMAGED: return "a damaged summary";
+    case LIVEVEC_OTHER_TABLE: return "summaries by two tables";
+    case LIVEVEC_TOO_LONG: return "more elements than summaries may have";
     default: return "unknown";
     }
 }
@@ -114,6 +120,7 @@ ANSWERED(livevec_count, capacity, (livevec_vector *slot), slot, (slot))
 ANSWERED(livevec_count, edits, (livevec_vector *slot), slot, (slot))
 ANSWERED(livevec_reduced, reduce, (livevec_vector *slot, uint32_t lo, uint32_t hi), slot, (slot, lo, hi))
 ANSWERED(livevec_reduced, ask, (livevec_vector *slot, uint32_t lo, uint32_t hi), slot, (slot, lo, hi))
+ANSWERED(livevec_summarised, summary_of, (livevec_vector *slot, uint32_t lo, uint32_t hi), slot, (slot, lo, hi))
 
 ANSWERED(livevec_verdict, verdict_push, (livevec_vector *slot, int64_t value), slot, (slot, value))
 ANSWERED(livevec_verdict, verdict_pop, (livevec_vector *slot), slot, (slot))
@@ -141,6 +148,47 @@ ANSWERED(livevec_renewed, seat_refresh, (livevec_seat *seat, uint32_t block), se
 ANSWERED(livevec_count, board_close, (livevec_board *board), board, (board))
 ANSWERED(livevec_count, closed_size, (livevec_board *board), board, (board))
 ANSWERED(livevec_element, closed_get, (livevec_board *board, uint32_t index), board, (board, index))
+
+/* The same of summaries, which are bytes of the caller's and no slots. */
+#define OF_BYTES(answer, name, parameters, there, arguments) \
+    OVER_PROVED(answer, AS_STRUCT, name, parameters, there, true, (void)0, arguments)
+
+OF_BYTES(livevec_summarised, summary_empty, (void), true, ())
+OF_BYTES(livevec_summarised, summary_empty_with_table, (const livevec_table *table), table, (table))
+OF_BYTES(livevec_summarised, summary_join, (const livevec_summary *left, const livevec_summary *right), left && right, (left, right))
+OF_BYTES(livevec_opened, summary_values, (const livevec_summary *summary), summary, (summary))
+
+/* The proved export takes some elements at once. */
+#define CHUNK 1024
+typedef struct chunk {
+    int64_t values[CHUNK];
+} chunk;
+livevec_summarised livevec_proved_summary_extend(const livevec_summary *summary, const chunk *next, uint32_t length);
+
+livevec_summarised livevec_summary_extend(const livevec_summary *summary, const int64_t *values, size_t length)
+{
+    livevec_summarised answer = {.refusal = LIVEVEC_NULL};
+    if (!summary || (!values && length))
+        return answer;
+    chunk next = {{0}};
+    livevec_summary so_far = *summary;
+    size_t done = 0;
+    do {
+        size_t many = length - done < CHUNK ? length - done : CHUNK;
+        if (many)
+            memcpy(next.values, values + done, many * sizeof *values);
+        answer = livevec_proved_summary_extend(&so_far, &next, (uint32_t)many);
+        so_far = answer.summary;
+        done += many;
+    } while (done < length && !answer.refusal);
+    return answer;
+}
+
+livevec_summarised livevec_summary_of_elements(const int64_t *values, size_t length)
+{
+    livevec_summarised empty = livevec_proved_summary_empty();
+    return livevec_summary_extend(&empty.summary, values, length);
+}
 
 /* Each board has a stamp of its own, which its seats have too: so a seat is told from those of other boards. */
 uint32_t livevec_proved_board_new(livevec_board *slot, uint32_t kind, uint32_t buckets, uint32_t edits, uint32_t seats, uint64_t stamp);

@@ -355,6 +355,7 @@ int main(void)
     misuse();
     empty_arrays();
     beside();
+    summaries();
     boards();
     printf("%d checks, %d failed\n", checks, failures);
     return failures ? EXIT_FAILURE : EXIT_SUCCESS;

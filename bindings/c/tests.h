@@ -15,4 +15,7 @@ void boards(void);
 /* The tests of calls beside one another at one slot. */
 void beside(void);
 
+/* The tests of summaries that travel. */
+void summaries(void);
+
 #endif
