@@ -172,7 +172,7 @@ typedef struct livevec_reduced {
 #define LIVEVEC_SUMMARY_BYTES 184
 
 /* A summary that travels: what a list of elements comes to by each of the six kinds, how many elements there are, by which
- * automaton, and after which edit of which a vector had them. It is plain bytes, the same on every machine (docs/formats.md has
+ * automaton, and after which edit of which a vector had them. It is plain bytes, the same on every machine (docs/engines.md has
  * their places), without a pointer: it may be copied, sent, kept in a file and read by another process. Zeros are no summary. */
 typedef struct livevec_summary {
     uint8_t bytes[LIVEVEC_SUMMARY_BYTES];
