@@ -226,9 +226,9 @@ Learns-at {S} {old} {new} sound size n k s whole at changed =
     }
 
 -- every level was filled up, so that there are rows for all indices of so many blocks
-abbrev pub HasRowsFilled : {S : Type 0} → Table S → Table S → ℕ → S → Type 0
-HasRowsFilled old new more blank =
-    (level : ℕ) → 1 ≤ level → level ≤ 6 → (n : ℕ) × (rows_at new level ≡ filled (rows_at old level) n blank) × (8 * more ≤ n * 8 ^ level)
+abbrev pub HasRowsFilled : {S : Type 0} → Table S → Table S → ℕ → Type 0
+HasRowsFilled {S} old new more =
+    (level : ℕ) → 1 ≤ level → level ≤ 6 → (n : ℕ) × (blank : S) × (rows_at new level ≡ filled (rows_at old level) n blank) × (8 * more ≤ n * 8 ^ level)
 
 -- the rows of a level of six
 rows_at-thing : {S : Type 0} (size : ℕ) (of : Levels (LevelState S)) (level : ℕ) → 1 ≤ level → level ≤ 6 → rows_at (table_of size of) level ≡ (thing_at of level).rows
@@ -246,15 +246,16 @@ table_of-same size old new same =
     cc
 
 -- levels that are filled up to the rows that so many blocks need
-pub HasRowsFilled-levels : {S : Type 0} (size : ℕ) (old more new : Levels (LevelState S)) (rows : Levels ℕ) (blocks : ℕ) (blank : S)
-    → HaveSameRows old more → AreFilled more new rows blank → ((level : ℕ) → 1 ≤ level → level ≤ 6 → 8 * blocks ≤ thing_at rows level * 8 ^ level)
-    → HasRowsFilled (table_of size old) (table_of size new) blocks blank
-HasRowsFilled-levels size old more new rows blocks blank same fills covers =
+pub HasRowsFilled-levels : {S : Type 0} (size : ℕ) (old more new : Levels (LevelState S)) (rows : Levels ℕ) (blocks : ℕ)
+    → HaveSameRows old more → AreFilled more new rows → ((level : ℕ) → 1 ≤ level → level ≤ 6 → 8 * blocks ≤ thing_at rows level * 8 ^ level)
+    → HasRowsFilled (table_of size old) (table_of size new) blocks
+HasRowsFilled-levels size old more new rows blocks same fills covers =
     λ level low high. (
       thing_at rows level,
+      (thing_at more level).blank,
       rows_at-thing size new level low high
           ∙ fills level low high
-          ∙ ap (λ r. filled r (thing_at rows level) blank) (same level low high ∙ sym (rows_at-thing size old level low high)),
+          ∙ ap (λ r. filled r (thing_at rows level) (thing_at more level).blank) (same level low high ∙ sym (rows_at-thing size old level low high)),
       covers level low high,
     )
 
@@ -272,23 +273,23 @@ pub blocks_in_enough : {S : Type 0} (old new : Table S) (more : ℕ) (blank : S)
 blocks_in_enough old new more blank first = omega (arith, blocks_in-filled old new more blank first)
 
 -- a sound table stays so when rows are added
-pub IsSound-filled : {S : Type 0} {old new : Table S} → IsSound old → new.size ≡ old.size → (more : ℕ) (blank : S) → more ≤ 131071 → rows_at new 1 ≡ filled (rows_at old 1) more blank → HasRowsFilled old new more blank → IsSound new
+pub IsSound-filled : {S : Type 0} {old new : Table S} → IsSound old → new.size ≡ old.size → (more : ℕ) (blank : S) → more ≤ 131071 → rows_at new 1 ≡ filled (rows_at old 1) more blank → HasRowsFilled old new more → IsSound new
 IsSound-filled {S} {old} {new} sound size more blank few first rows =
     IsSound-by_rows new (blocks_in old + (more - blocks_in old)) (blocks_in-filled old new more blank first) (omega (arith, sound.few)) (omega (arith, sound.size))
     (λ level low high.
     let added = rows level low high in
-    rw added.1 (IsLevel-filled (blocks_in old) more level (rows_at old level) added.0 blank added.2 (sound.levels level low high)))
+    rw added.2 (IsLevel-filled (blocks_in old) more level (rows_at old level) added.0 added.1 added.3 (sound.levels level low high)))
 
 -- adding rows changes no answer
-pub AnswersAlike-by_rows : {S : Type 0} {old new : Table S} → IsSound old → new.size ≡ old.size → (more : ℕ) (blank : S) → HasRowsFilled old new more blank → AnswersAlike old new
-AnswersAlike-by_rows {S} {old} {new} sound size more blank rows =
+pub AnswersAlike-by_rows : {S : Type 0} {old new : Table S} → IsSound old → new.size ≡ old.size → (more : ℕ) → HasRowsFilled old new more → AnswersAlike old new
+AnswersAlike-by_rows {S} {old} {new} sound size more rows =
     record {
       size = size;
       touched = λ m. elim (cases_Bool (is_node m)) [
         | inl member ↦
             let level = level_of_node m member in
             let added = rows m.level level.0 level.1 in
-            touched_in-inside new m member ∙ ap (λ r. touched_at r m.number) added.1 ∙ touched_at-filled (rows_for old m) added.0 blank m.number ∙ sym (touched_in-inside old m member)
+            touched_in-inside new m member ∙ ap (λ r. touched_at r m.number) added.2 ∙ touched_at-filled (rows_for old m) added.0 added.1 m.number ∙ sym (touched_in-inside old m member)
         | inr stranger ↦ touched_in-outside new m stranger ∙ sym (touched_in-outside old m stranger)
       ];
       kept = λ m. elim (cases_Bool (is_node m)) [
@@ -296,7 +297,7 @@ AnswersAlike-by_rows {S} {old} {new} sound size more blank rows =
             let level = level_of_node m member in
             let added = rows m.level level.0 level.1 in
             let even = sound.levels m.level level.0 level.1 in
-            kept_in-inside new m member ∙ ap (λ r. kept_at r m.number) added.1 ∙ kept_at-filled (rows_for old m) added.0 blank m.number (even.kept ∙ sym even.stamps) ∙ sym (kept_in-inside old m member)
+            kept_in-inside new m member ∙ ap (λ r. kept_at r m.number) added.2 ∙ kept_at-filled (rows_for old m) added.0 added.1 m.number (even.kept ∙ sym even.stamps) ∙ sym (kept_in-inside old m member)
         | inr stranger ↦ kept_in-outside new m stranger ∙ sym (kept_in-outside old m stranger)
       ];
       computed = λ m. elim (cases_Bool (is_node m)) [
@@ -304,7 +305,7 @@ AnswersAlike-by_rows {S} {old} {new} sound size more blank rows =
             let level = level_of_node m member in
             let added = rows m.level level.0 level.1 in
             let even = sound.levels m.level level.0 level.1 in
-            computed_in-inside new m member ∙ ap (λ r. computed_at r m.number) added.1 ∙ computed_at-filled (rows_for old m) added.0 blank m.number (even.kept ∙ sym even.computed) ∙ sym (computed_in-inside old m member)
+            computed_in-inside new m member ∙ ap (λ r. computed_at r m.number) added.2 ∙ computed_at-filled (rows_for old m) added.0 added.1 m.number (even.kept ∙ sym even.computed) ∙ sym (computed_in-inside old m member)
         | inr stranger ↦ computed_in-outside new m stranger ∙ sym (computed_in-outside old m stranger)
       ];
     }

@@ -1,4 +1,5 @@
 mod Changes
+mod LateLaws
 mod LevelLaws
 mod NodeRows
 pub mod TableLaws

@@ -7,10 +7,17 @@ use Rattle.lv_geometry.specs.Levels.{thing_at}
 use Rattle.lv_geometry.specs.Nodes.{is_node}
 use Rattle.lv_summary.specs.Table.{Rows, Table, blocks_in, no_rows, rows_for, whole_in}
 
--- one level: its rows, and for how many of them it has memory
+-- one level: its rows, for how many of them it has memory, and what a blank row has for a summary
 pub record LevelState (S : Type 0) : Type 0 where
   pub rows : Rows S
   pub capacity : ℕ
+  pub blank : S
+
+-- a list, blank past what was written of it: its items, for how many of them it has memory, and its blank
+pub record LateRowsState (S : Type 0) : Type 0 where
+  pub items : List S
+  pub capacity : ℕ
+  pub blank : S
 
 -- a list that is made n long with copies of x, where it is shorter
 abbrev pub lengthened : {A : Type 0} → List A → ℕ → A → List A
@@ -34,10 +41,10 @@ HaveSameRows old new = (level : ℕ) → 1 ≤ level → level ≤ 6 → (thing_
 abbrev pub HaveRoom : {S : Type 0} → Levels (LevelState S) → Levels ℕ → Type 0
 HaveRoom of rows = (level : ℕ) → 1 ≤ level → level ≤ 6 → thing_at rows level ≤ (thing_at of level).capacity
 
--- each of six levels has further rows, so many in all
-abbrev pub AreFilled : {S : Type 0} → Levels (LevelState S) → Levels (LevelState S) → Levels ℕ → S → Type 0
-AreFilled old new rows blank =
-    (level : ℕ) → 1 ≤ level → level ≤ 6 → (thing_at new level).rows ≡ filled (thing_at old level).rows (thing_at rows level) blank
+-- each of six levels has further rows, so many in all, with its own blank
+abbrev pub AreFilled : {S : Type 0} → Levels (LevelState S) → Levels (LevelState S) → Levels ℕ → Type 0
+AreFilled old new rows =
+    (level : ℕ) → 1 ≤ level → level ≤ 6 → (thing_at new level).rows ≡ filled (thing_at old level).rows (thing_at rows level) (thing_at old level).blank
 
 -- rows after an edit that touched the node of a number
 abbrev pub with_touch : {S : Type 0} → Rows S → ℕ → ℕ → Rows S

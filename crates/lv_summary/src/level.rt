@@ -2,6 +2,7 @@ ghost use Rattle.std.specs.Prelude.{◌≡◌, ◌+◌, ◌-◌, ◌<◌, ◌≤
 ghost use Rattle.lv_summary.specs.Inner.{filled, with_kept, with_learnt, with_touch};
 ghost use Rattle.lv_summary.specs.Table.{no_rows};
 
+use crate::late_rows::LateRows;
 use lv_geometry::Refusal;
 use std::alloc::Global;
 use std::marker::Model;
@@ -12,7 +13,7 @@ pub struct Level<S> {
     touched: Vec<u32>,
     stamps: Vec<u32>,
     computed: Vec<u32>,
-    kept: Vec<S>,
+    kept: LateRows<S>,
 }
 
 impl<S> Model for Level<S> {
@@ -21,19 +22,20 @@ impl<S> Model for Level<S> {
 
     ghost Value = { LevelState S };
 
-    ghost view = { λ a. record { rows = record { touched = a.touched.items; stamps = a.stamps.items; computed = a.computed.items; kept = a.kept.items }; capacity = min (min (vec_capacity a.touched) (vec_capacity a.stamps)) (min (vec_capacity a.computed) (vec_capacity a.kept)) } };
+    ghost view = { λ a. record { rows = record { touched = a.touched.items; stamps = a.stamps.items; computed = a.computed.items; kept = a.kept.items }; capacity = min (min (vec_capacity a.touched) (vec_capacity a.stamps)) (min (vec_capacity a.computed) a.kept.capacity); blank = a.kept.blank } };
 }
 
 impl<S: Copy> Level<S> {
-    /// A level with no rows. Takes no memory.
-    pub fn new(alloc: Global) -> Level<S>
-        ensures { result.rows ≡ no_rows }
+    /// A level with no rows, whose blank rows have `blank` for a summary. Takes no memory.
+    pub fn new(alloc: Global, blank: S) -> Level<S>
+        ensures rows { result.rows ≡ no_rows }
+        ensures blank { result.blank ≡ blank }
     {
         Level {
             touched: Vec::new(alloc),
             stamps: Vec::new(alloc),
             computed: Vec::new(alloc),
-            kept: Vec::new(alloc),
+            kept: LateRows::new(alloc, blank),
         }
     }
 
@@ -47,6 +49,7 @@ impl<S: Copy> Level<S> {
     /// Makes memory for so many rows in all.
     pub fn reserve(&mut self, rows: u32) -> Result<(), Refusal>
         ensures rows { self.new.rows ≡ self.old.rows }
+        ensures blank { self.new.blank ≡ self.old.blank }
         ensures ok { OnOk result (rows ≤ self.new.capacity) }
         ensures err { IfErr result (λ refusal. refusal ≡ Refusal.NoMemory) }
     {
@@ -54,7 +57,7 @@ impl<S: Copy> Level<S> {
         if make_room(&mut self.touched, rows)
             && make_room(&mut self.stamps, rows)
             && make_room(&mut self.computed, rows)
-            && make_room(&mut self.kept, rows)
+            && self.kept.reserve(rows)
         {
             Ok(())
         } else {
@@ -63,14 +66,14 @@ impl<S: Copy> Level<S> {
     }
 
     /// Adds blank rows, so that there are so many in all, where there are fewer.
-    pub fn fill(&mut self, rows: u32, blank: S)
+    pub fn fill(&mut self, rows: u32)
         requires { rows ≤ self.old.capacity }
-        ensures { self.new.rows ≡ filled self.old.rows rows blank }
+        ensures { self.new.rows ≡ filled self.old.rows rows self.old.blank }
     {
         lengthen(&mut self.touched, rows as usize, 0);
         lengthen(&mut self.stamps, rows as usize, 0);
         lengthen(&mut self.computed, rows as usize, 0);
-        lengthen(&mut self.kept, rows as usize, blank);
+        self.kept.fill(rows as usize);
     }
 
     /// Notes the edit that touched a node last.
@@ -131,7 +134,7 @@ impl<S: Copy> Level<S> {
         requires { number < length self.now.rows.kept }
         ensures { slice_get self.now.rows.kept number ≡ Some result }
     {
-        self.kept[number as usize]
+        self.kept.at(number as usize)
     }
 
     /// Puts a summary of a version in the row of a node.
@@ -142,7 +145,7 @@ impl<S: Copy> Level<S> {
         ensures { self.new.rows ≡ with_kept self.old.rows number version s }
     {
         self.stamps[number as usize] = version + 1;
-        self.kept[number as usize] = s;
+        self.kept.set(number as usize, s);
     }
 
     /// Puts a summary that was computed at its touched number in the row of a node.
@@ -155,7 +158,7 @@ impl<S: Copy> Level<S> {
     {
         let number = number as usize;
         self.computed[number] = self.touched[number] + 1;
-        self.kept[number] = s;
+        self.kept.set(number, s);
     }
 }
 

@@ -7,6 +7,7 @@
 
 mod accepted;
 mod delivery;
+mod late_rows;
 mod level;
 mod summaries;
 

@@ -14,7 +14,6 @@ use std::marker::Model;
 #[derive(Drop)]
 pub struct Summaries<S> {
     levels: Levels<Level<S>>,
-    blank: S,
     size: u32,
 }
 
@@ -41,14 +40,13 @@ impl<S: Copy> Summaries<S> {
     {
         Summaries {
             levels: Levels {
-                level_1: Level::new(alloc),
-                level_2: Level::new(alloc),
-                level_3: Level::new(alloc),
-                level_4: Level::new(alloc),
-                level_5: Level::new(alloc),
-                level_6: Level::new(alloc),
+                level_1: Level::new(alloc, blank),
+                level_2: Level::new(alloc, blank),
+                level_3: Level::new(alloc, blank),
+                level_4: Level::new(alloc, blank),
+                level_5: Level::new(alloc, blank),
+                level_6: Level::new(alloc, blank),
             },
-            blank,
             size: 0,
         }
     }
@@ -64,7 +62,7 @@ impl<S: Copy> Summaries<S> {
     {
         let rows = rows_of(blocks);
         reserve_levels(&mut self.levels, &rows)?;
-        fill_levels(&mut self.levels, &rows, self.blank);
+        fill_levels(&mut self.levels, &rows);
         Ok(())
     }
 
@@ -199,11 +197,11 @@ fn reserve_levels<S: Copy>(levels: &mut Levels<Level<S>>, rows: &Levels<u32>) ->
 }
 
 // Adds blank rows on each level, so that there are so many in all, where there are fewer.
-fn fill_levels<S: Copy>(levels: &mut Levels<Level<S>>, rows: &Levels<u32>, blank: S)
+fn fill_levels<S: Copy>(levels: &mut Levels<Level<S>>, rows: &Levels<u32>)
     requires { HaveRoom levels.old rows.now }
-    ensures { AreFilled levels.old levels.new rows.now blank }
+    ensures { AreFilled levels.old levels.new rows.now }
 {
     for level in 1..=6 {
-        levels.at_mut(level).fill(*rows.at(level), blank);
+        levels.at_mut(level).fill(*rows.at(level));
     }
 }

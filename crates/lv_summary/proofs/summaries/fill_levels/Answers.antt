@@ -7,11 +7,11 @@ use Rattle.lv_summary.proofs.summaries.fill_levels.Goals as goal
 pub loop-level-preserved : goal.loop-level-preserved
 loop-level-preserved g c =
     record {
-      filled = λ k low below. each_thing (λ k level. k < c.loop-level.level + 1 → level.rows ≡ filled (thing_at c.args.levels.now k).rows (thing_at c.args.rows.now k) c.args.blank) c.loop-level.levels c.loop-level.level c.fill.new.self c.loop-level.auto.level c.loop-level-test.true
+      filled = λ k low below. each_thing (λ k level. k < c.loop-level.level + 1 → level.rows ≡ filled (thing_at c.args.levels.now k).rows (thing_at c.args.rows.now k) (thing_at c.args.levels.now k).blank) c.loop-level.levels c.loop-level.level c.fill.new.self c.loop-level.auto.level c.loop-level-test.true
           (λ _.
           c.fill.ensures
-          ∙ ap (λ level. filled level.rows c.at.result.now c.args.blank) (c.at_mut.ensures.thing ∙ c.loop-level.invariant.left c.loop-level.level (omega arith) c.loop-level-test.true)
-          ∙ ap (λ n. filled (thing_at c.args.levels.now c.loop-level.level).rows n c.args.blank) c.at.ensures)
+          ∙ ap (λ level. filled level.rows c.at.result.now level.blank) (c.at_mut.ensures.thing ∙ c.loop-level.invariant.left c.loop-level.level (omega arith) c.loop-level-test.true)
+          ∙ ap (λ n. filled (thing_at c.args.levels.now c.loop-level.level).rows n (thing_at c.args.levels.now c.loop-level.level).blank) c.at.ensures)
           (λ k low high other below. c.loop-level.invariant.filled k low (omega arith))
           k low (omega arith) below;
       left = λ k later most.

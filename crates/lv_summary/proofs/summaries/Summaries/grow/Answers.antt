@@ -6,15 +6,15 @@ use Rattle.lv_summary.proofs.summaries.Summaries.grow.Given.{Over}
 use Rattle.lv_summary.proofs.summaries.Summaries.grow.Goals as goal
 
 -- every level is filled up to the rows that its indices need
-rows_filled : (g : Over) (c : goal.After-fill_levels g) → HasRowsFilled (table_of c.self.inside.size c.self.inside.levels) (table_of c.self.inside.size c.fill_levels.new.levels) c.args.blocks c.self.inside.blank
+rows_filled : (g : Over) (c : goal.After-fill_levels g) → HasRowsFilled (table_of c.self.inside.size c.self.inside.levels) (table_of c.self.inside.size c.fill_levels.new.levels) c.args.blocks
 rows_filled g c =
-    HasRowsFilled-levels c.self.inside.size c.self.inside.levels c.reserve_levels.new.levels c.fill_levels.new.levels c.rows_of-rows.result c.args.blocks c.self.inside.blank
+    HasRowsFilled-levels c.self.inside.size c.self.inside.levels c.reserve_levels.new.levels c.fill_levels.new.levels c.rows_of-rows.result c.args.blocks
     c.in_ok-reserve_levels.ensures.rows c.fill_levels.ensures c.rows_of-rows.ensures.covers
 
 -- the first level is filled up to a row for each block
-first_filled : (g : Over) (c : goal.After-fill_levels g) → c.fill_levels.new.levels.level_1.rows ≡ filled c.self.inside.levels.level_1.rows c.args.blocks c.self.inside.blank
+first_filled : (g : Over) (c : goal.After-fill_levels g) → c.fill_levels.new.levels.level_1.rows ≡ filled c.self.inside.levels.level_1.rows c.args.blocks c.reserve_levels.new.levels.level_1.blank
 first_filled g c =
-    let blank = c.self.inside.blank in
+    let blank = c.reserve_levels.new.levels.level_1.blank in
     c.fill_levels.ensures 1 (omega arith) (omega arith)
     ∙ ap (λ rows. filled rows c.rows_of-rows.result.level_1 blank) (c.in_ok-reserve_levels.ensures.rows 1 (omega arith) (omega arith))
     ∙ ap (λ n. filled c.self.inside.levels.level_1.rows n blank) c.rows_of-rows.ensures.blocks
@@ -30,15 +30,15 @@ returns-in_err-reserve_levels g c =
 
 pub invariant_of-self-2 : goal.invariant_of-self-2
 invariant_of-self-2 g c =
-    IsSound-filled c.self.invariant refl c.args.blocks c.self.inside.blank c.requires (first_filled g c) (rows_filled g c)
+    IsSound-filled c.self.invariant refl c.args.blocks c.reserve_levels.new.levels.level_1.blank c.requires (first_filled g c) (rows_filled g c)
 
 pub returns-clause-alike : goal.returns-clause-alike
-returns-clause-alike g c = rw (← c.self.view_is) (AnswersAlike-by_rows c.self.invariant refl c.args.blocks c.self.inside.blank (rows_filled g c))
+returns-clause-alike g c = rw (← c.self.view_is) (AnswersAlike-by_rows c.self.invariant refl c.args.blocks (rows_filled g c))
 
 pub returns-clause-more : goal.returns-clause-more
-returns-clause-more g c = rw (← c.self.view_is) (blocks_in_more _ _ c.args.blocks c.self.inside.blank (first_filled g c))
+returns-clause-more g c = rw (← c.self.view_is) (blocks_in_more _ _ c.args.blocks c.reserve_levels.new.levels.level_1.blank (first_filled g c))
 
 pub returns-clause-ok : goal.returns-clause-ok
 returns-clause-ok g c =
     let old = table_of c.self.inside.size c.self.inside.levels in
-    blocks_in_enough old _ c.args.blocks c.self.inside.blank (first_filled g c)
+    blocks_in_enough old _ c.args.blocks c.reserve_levels.new.levels.level_1.blank (first_filled g c)

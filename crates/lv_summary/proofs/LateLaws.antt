@@ -1,0 +1,34 @@
+-- A list that is blank past what was written of it.
+use Rattle.std.proofs.Common.{◌≡◌, ℕ, ◌+◌, ◌-◌, ◌<◌, ◌≤◌, max, Some, List, length, replicate, get_or, set, slice_get, ◌++◌, sym, ap, ◌∙◌, arith}
+use Rattle.std.proofs.lemmas.List.{append_assoc, length-set, replicate-append-replicate, set-append_left}
+use Rattle.std.proofs.lemmas.Option.{slice_get-get_or}
+use Rattle.lv_summary.specs.Inner.{lengthened}
+use Rattle.lv_summary.proofs.LevelLaws.{get_or-lengthened, length-lengthened}
+
+-- a list that is made longer twice has the greater length
+pub lengthened_twice : {A : Type 0} (xs : List A) (m n : ℕ) (x : A) → length xs ≤ m → lengthened (lengthened xs m x) n x ≡ lengthened xs (max m n) x
+lengthened_twice xs m n x within =
+    let long : length (lengthened xs m x) ≡ m = omega (arith, length-lengthened xs m x) in
+    let both : m - length xs + (n - m) ≡ max m n - length xs = omega (arith, within) in
+    ap (λ k. lengthened xs m x ++ replicate (n - k) x) long
+    ∙ append_assoc xs (replicate (m - length xs) x) (replicate (n - m) x)
+    ∙ ap (λ ys. xs ++ ys) (replicate-append-replicate (m - length xs) (n - m) x)
+    ∙ ap (λ k. xs ++ replicate k x) both
+
+-- what is there at a number: what was written, or else the blank
+pub read_late : {A : Type 0} (front : List A) (count : ℕ) (blank : A) (number : ℕ) → number < length (lengthened front count blank) → slice_get (lengthened front count blank) number ≡ Some (get_or front number blank)
+read_late front count blank number inside =
+    slice_get-get_or (lengthened front count blank) number blank inside ∙ ap Some (get_or-lengthened front count blank number)
+
+-- an item that is put into the front is put into the list
+pub set_early : {A : Type 0} (front : List A) (count : ℕ) (blank : A) (number : ℕ) (x : A) → number < length front → lengthened (set front number x) count blank ≡ set (lengthened front count blank) number x
+set_early front count blank number x inside =
+    ap (λ k. set front number x ++ replicate (count - k) blank) (length-set front number x)
+    ∙ sym (set-append_left front (replicate (count - length front) blank) number x inside)
+
+-- so is one that is put behind the front, once blanks were written up to it
+pub set_late : {A : Type 0} (front : List A) (count : ℕ) (blank : A) (number : ℕ) (x : A) → length front ≤ number → number < count → lengthened (set (lengthened front (number + 1) blank) number x) count blank ≡ set (lengthened front count blank) number x
+set_late front count blank number x behind inside =
+    let greater : max (number + 1) count ≡ count = omega (arith, inside) in
+    set_early (lengthened front (number + 1) blank) count blank number x (omega (arith, length-lengthened front (number + 1) blank))
+    ∙ ap (λ ys. set ys number x) (lengthened_twice front (number + 1) count blank (omega (arith, behind)) ∙ ap (λ k. lengthened front k blank) greater)
