@@ -17,6 +17,7 @@ mod vouching;
 mod worlds;
 
 pub use events::Event;
+pub use following::{Touched, touched_indices};
 pub use issued::Issued;
 pub use live::Live;
 pub use replies::Reply;

@@ -329,8 +329,9 @@ impl<B: Body> Live<B> {
         let _ = &self.body;
     }
 
-    // What a query reads.
-    fn view(&self) -> View<'_, B::S>
+    /// What a query reads: the elements, and the summaries that are kept for them.
+    #[inline(always)]
+    pub fn view(&self) -> View<'_, B::S>
         ensures cells { result.cells.now ≡ self.now.history }
         ensures table { result.table.now ≡ self.now.table }
     {

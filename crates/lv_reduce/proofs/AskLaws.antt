@@ -28,7 +28,7 @@ abbrev pub any_node : Node → Bool
 any_node = λ n. true
 
 -- where a level is the greatest that fits, no greater node is left out
-none_greater_fits : (at hi level : ℕ) → ((l : ℕ) → l ≤ 6 → Fits at hi l → l ≤ level) → NoneFresh any_node at hi level
+pub none_greater_fits : (at hi level : ℕ) → ((l : ℕ) → l ≤ 6 → Fits at hi l → l ≤ level) → NoneFresh any_node at hi level
 none_greater_fits at hi level greatest above past few fits = absurd (omega (arith, greatest above few fits))
 
 -- where a walk that asks stands: the table learnt, the value is the fold of what is before, the tops before are known, and the reads
@@ -53,7 +53,7 @@ node_whole t at hi level low high fits inside =
     (le-leb _ _ (omega (arith, fits.ends)))
 
 -- the elements of such a node are those from the index on
-node_elements : (edits : List Edit) (at level : ℕ) → at % 8 ^ level ≡ 0 → elements_under edits (over level at) ≡ slice_range (list_of edits) at (at + 8 ^ level)
+pub node_elements : (edits : List Edit) (at level : ℕ) → at % 8 ^ level ≡ 0 → elements_under edits (over level at) ≡ slice_range (list_of edits) at (at + 8 ^ level)
 node_elements edits at level aligned =
     node_slice edits (over level at) ∙ ap (λ from. slice_range (list_of edits) from (from + 8 ^ level)) (first_of_aligned level at aligned)
 

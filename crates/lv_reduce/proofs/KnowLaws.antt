@@ -150,7 +150,7 @@ node_slice edits n =
     ap (λ size. take size (drop (n.number * 8 ^ n.level) (list_of edits))) wide
 
 -- a child's stretch is one of eight of the node's
-child_first : (n : Node) (k : ℕ) → 1 ≤ n.level → (child n k).number * 8 ^ (child n k).level ≡ n.number * 8 ^ n.level + k * 8 ^ (n.level - 1)
+pub child_first : (n : Node) (k : ℕ) → 1 ≤ n.level → (child n k).number * 8 ^ (child n k).level ≡ n.number * 8 ^ n.level + k * 8 ^ (n.level - 1)
 child_first n k low =
     let wide : n.number * 8 ^ n.level ≡ n.number * (8 * 8 ^ (n.level - 1)) = ap (λ w. n.number * w) (eight_widths n.level low) in
     omega arith

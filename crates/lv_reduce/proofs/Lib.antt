@@ -1,4 +1,4 @@
-mod AskLaws
+pub mod AskLaws
 mod BlockWalks
 mod Bounds
 mod Counting
@@ -9,6 +9,6 @@ pub mod PieceLaws
 mod PieceSums
 mod RunLaws
 pub mod ScanLaws
-mod UsedLaws
-mod Walk
+pub mod UsedLaws
+pub mod Walk
 mod Zeros
