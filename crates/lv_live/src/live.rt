@@ -262,12 +262,8 @@ impl<B: Body> Live<B> {
         ensures same { result ≡ false → HasClaim self.old self.new None }
         ensures remembers { Remembers self.old self.new }
     {
-        let Some(done) = self.claims.compute(&self.cells, &self.table, &self.body) else {
-            return false;
-        };
-        let _ = self.table.install(done.node, done.version, done.summary);
-        self.claims.hint_parent(done.node);
-        true
+        self.claims
+            .refresh_next(&self.cells, &mut self.table, &self.body)
     }
 
     /// Forgets all claims. Jobs that were handed out stay good. Takes no memory.

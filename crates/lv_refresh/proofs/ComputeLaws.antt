@@ -1,25 +1,29 @@
 -- The summaries of a node's children, joined one after another where they lie.
-use Rattle.std.proofs.Common.{◌≡◌, ℕ, ℤ, ◌+◌, ◌-◌, ◌*◌, ◌^◌, ◌<◌, Bool, true, false, ◌&&◌, ◌||◌, not, Option, Some, None, List, [], ◌++◌, length, take, drop, nat_eq, subst, sym, ap, ◌∙◌, arith}
+use Rattle.std.proofs.Common.{◌≡◌, ℕ, ℤ, ◌+◌, ◌-◌, ◌*◌, ◌^◌, ◌<◌, Bool, true, false, ◌&&◌, ◌||◌, not, Some, List, [], ◌++◌, length, take, drop, nat_eq, subst, sym, ap, ◌∙◌, arith}
 use Rattle.std.proofs.Math.Seq.{take-add}
-use Rattle.std.proofs.lemmas.Bool.{and_parts, ne_eqb, true≢false}
+use Rattle.std.proofs.lemmas.Bool.{and_from, and_parts, cond-false, ne_eqb, not-true, or_left, or_right}
 use Rattle.std.proofs.lemmas.List.{drop-drop, length-append}
 use Rattle.lv_geometry.specs.declared.nodes.Node.{Node}
 use Rattle.lv_geometry.specs.Elements.{IsElement}
-use Rattle.lv_geometry.specs.Nodes.{child}
+use Rattle.lv_geometry.specs.Nodes.{child, is_node, parent, same_node}
 use Rattle.lv_bodies.specs.Body.{BodyLaws, CanFold, CanJoin, Operations, fold_of}
 use Rattle.lv_bodies.specs.FoldLaws.{fold_of-append, fold_of-within}
 use Rattle.lv_edits.specs.declared.edit.Edit.{Edit}
 use Rattle.lv_edits.specs.History.{list_of}
 use Rattle.lv_edits.specs.Touch.{elements_under}
 use Rattle.lv_known.specs.Agrees.{Agrees}
-use Rattle.lv_summary.specs.Table.{Table, entry_in, fresh_in, touched_in, whole_in}
+use Rattle.lv_summary.specs.declared.accepted.Accepted.TheVariants.{Installed}
+use Rattle.lv_summary.specs.Changes.{Keeps}
+use Rattle.lv_summary.specs.Table.{Table, delivery_in, entry_in, fresh_in, touched_in, whole_in}
 use Rattle.lv_known.proofs.AgreesLaws.{entry_folds}
 use Rattle.lv_known.proofs.FoldableLaws.{part_can_fold}
-use Rattle.lv_summary.proofs.TableLaws.{entry_of_fresh}
-use Rattle.lv_refresh.specs.Claimed.{ClaimTable, claimed_in, record_of}
-use Rattle.lv_refresh.specs.Inner.{IsReady, ServesNode, children_fresh_in}
+use Rattle.lv_summary.proofs.TableLaws.{delivery_in-current, same_node-self}
+use Rattle.lv_refresh.specs.Claimed.{AreHints, ClaimTable, claimed_in, record_of}
+use Rattle.lv_refresh.specs.Inner.{HintsNode, IsReady, ServesNode, children_fresh_in, wants_in}
 use Rattle.lv_refresh.specs.Record.{is_version}
+use Rattle.lv_refresh.specs.Refreshed.{RefreshesNext}
 use Rattle.lv_refresh.proofs.HonestyLaws.{child_width, each_child_fresh, parts_of_all}
+use Rattle.lv_refresh.proofs.NextLaws.{IsNextJob-served, wants_agrees}
 use Rattle.lv_refresh.proofs.PickLaws.{whole_of_wants}
 use Rattle.lv_refresh.proofs.RecordLaws.{children_agree, fresh_agrees}
 
@@ -34,6 +38,32 @@ ready_served t old new job served above =
 -- and whole
 pub whole_served : {S : Type 0} (t : Table S) (old new : ClaimTable) (job : Node × ℕ) → ServesNode t old new job → whole_in t job.0 ≡ true
 whole_served t old new job served = whole_of_wants t (claimed_in old job.0) job.0 served.wants
+
+-- and not fresh, so that a summary of the version that it was touched by last is due
+pub due_served : {S : Type 0} (t : Table S) (old new : ClaimTable) (n : Node) (v : ℕ) → ServesNode t old new (n, v) → delivery_in t n v ≡ Installed
+due_served t old new n v served =
+    let first = and_parts (whole_in t n && not (fresh_in t n) && not (is_version (touched_in t n) (claimed_in old n))) (nat_eq n.level 1 || children_fresh_in t n) served.wants in
+    let second = and_parts (whole_in t n && not (fresh_in t n)) (not (is_version (touched_in t n) (claimed_in old n))) first.0 in
+    let third = and_parts (whole_in t n) (not (fresh_in t n)) second.0 in
+    delivery_in-current t n v third.0 (sym served.version) ∙ cond-false (fresh_in t n) _ _ (not-true (fresh_in t n) third.1)
+
+module _ {S : Type 0} (o : Operations S) (edits : List Edit) (t : Table S) (agrees : Agrees o edits t) (old mid new : ClaimTable) (n : Node) (v : ℕ) (served : ServesNode t old mid (n, v)) (hinted : HintsNode mid new (parent n)) where
+  -- once the parent of the node that was picked is hinted at too, each node that wants a job still is
+  pub hints_refreshed : AreHints (record_of edits t new) new
+  hints_refreshed m wants =
+      hinted.hints m ∙ or_right _ _ (served.hints m (ap (λ claimed. wants_in t claimed m) (sym (hinted.claimed m)) ∙ sym (wants_agrees o edits t agrees new m) ∙ wants))
+
+  -- and the node was refreshed, where the fold of its elements is kept
+  pub refreshes : (u : Table S) → Keeps t u n v (fold_of o (elements_under edits n)) → RefreshesNext o edits t u old new
+  refreshes u keeps =
+      record {
+        node = n;
+        version = v;
+        next = IsNextJob-served o edits t agrees old mid (Some (n, v)) served;
+        keeps = keeps;
+        claimed = λ m. hinted.claimed m ∙ served.claimed m;
+        above = λ inside. hinted.hints (parent n) ∙ or_left _ _ (and_from _ _ inside (same_node-self (parent n)));
+      }
 
 -- the elements of the first k children of a node
 abbrev pub front : List Edit → Node → ℕ → List ℤ
@@ -67,18 +97,12 @@ pub joins_all : {S : Type 0} (o : Operations S) (edits : List Edit) (n : Node) (
 joins_all o edits n s above joined =
     joined ∙ ap (λ m. fold_of o (take m (drop (n.number * 8 ^ n.level) (list_of edits)))) (sym (child_width n above))
 
--- whether there is one
-abbrev is_there : {S : Type 0} → Option S → Bool
-is_there None = false
-is_there (Some s) = true
-
 module _ {S : Type 0} (o : Operations S) (edits : List Edit) (t : Table S) (agrees : Agrees o edits t) where
-  -- no child of a node that is ready lacks its summary
-  pub child_has_entry : (n : Node) (k : ℕ) → 1 < n.level → IsReady t n → k < 8 → entry_in t (child n k) ≡ None → ⊥
-  child_has_entry n k above ready small none =
+  -- each child of a node that is ready is fresh
+  pub child_is_fresh : (n : Node) (k : ℕ) → 1 < n.level → IsReady t n → k < 8 → fresh_in t (child n k) ≡ true
+  child_is_fresh n k above ready small =
       let c : ClaimTable = record { levels = [] } in
-      let fresh : fresh_in t (child n k) ≡ true = fresh_agrees o edits t c agrees (child n k) ∙ each_child_fresh (record_of edits t c) n (sym (children_agree o edits t c agrees n) ∙ ready above) k small in
-      true≢false (ap is_there (sym (entry_of_fresh t (child n k) fresh).1 ∙ none))
+      fresh_agrees o edits t c agrees (child n k) ∙ each_child_fresh (record_of edits t c) n (sym (children_agree o edits t c agrees n) ∙ ready above) k small
 
   module _ (within : S → ℕ → Type 0) (laws : BodyLaws o within) (can : CanFold (list_of edits)) where
     -- the first children's elements can be folded

@@ -7,3 +7,4 @@ pub mod Honesty
 pub mod Inner
 pub mod Marks
 pub mod Record
+pub mod Refreshed

@@ -8,14 +8,15 @@ ghost use Rattle.lv_summary.specs.Table.{whole_in};
 ghost use Rattle.lv_refresh.specs.Claim.{IsNextJob};
 ghost use Rattle.lv_refresh.specs.Claimed.{AreHints, claim_blocks, claimed_in, is_hinted, record_of};
 ghost use Rattle.lv_refresh.specs.Honesty.{Stands};
+ghost use Rattle.lv_refresh.specs.Refreshed.{RefreshesNext};
 ghost use Rattle.lv_refresh.specs.Inner.{AreFilled, CanServe, GivesNext, HaveRoom, HaveSameRows, HintsNode, HintsWants, IsJobOf, ServesNext, children_fresh_in};
 
-use crate::computing::{Computed, summary_of};
+use crate::computing::refresh_node;
 use crate::contents::Contents;
 use crate::gathering::children_of;
 use crate::jobs::{Job, JobOf};
 use crate::level::Level;
-use crate::wants::wants;
+use crate::wants::wanted;
 use lv_bodies::Body;
 use lv_edits::Edits;
 use lv_geometry::{Levels, Node, Refusal, rows_of};
@@ -159,36 +160,35 @@ impl Claims {
         }
     }
 
-    /// The summary of the least node that wants a job, computed where its contents lie. The node is claimed with it, as `claim` would,
-    /// and no job is made; none where no node wants one. Takes no memory, and looks only at nodes that are hinted at.
-    pub fn compute<B: Body>(
+    /// Refreshes the least node that wants a job: claims it, as `claim` would, keeps its summary, computed where its contents lie, and
+    /// hints at its parent. Tells whether a node wanted one. Takes no memory, and looks only at nodes that are hinted at.
+    #[inline(always)]
+    pub fn refresh_next<B: Body>(
         &mut self,
         cells: &Edits,
-        table: &Summaries<B::S>,
+        table: &mut Summaries<B::S>,
         body: &B,
-    ) -> Option<Computed<B::S>>
-        requires agrees { Agrees (B.operations (B.meaning body.now)) cells.now.journal table.now }
-        requires hints { AreHints (record_of cells.now.journal table.now self.old) self.old }
-        requires grown { table.now.size ≤ 8 * claim_blocks self.old }
-        ensures next { IsNextJob (record_of cells.now.journal table.now self.old) (option_map (λ done. (done.node, done.version)) result) }
-        ensures claimed { IfSome result (λ done. (n : Node) → claimed_in self.new n ≡ (if same_node n done.node then Some done.version else claimed_in self.old n)) }
-        ensures idle { IfNone result ((n : Node) → claimed_in self.new n ≡ claimed_in self.old n) }
-        ensures hints { AreHints (record_of cells.now.journal table.now self.new) self.new }
-        ensures summary { IfSome result (λ done. done.summary ≡ fold_of (B.operations (B.meaning body.now)) (elements_under cells.now.journal done.node)) }
+    ) -> bool
+        requires agrees { Agrees (B.operations (B.meaning body.now)) cells.now.journal table.old }
+        requires hints { AreHints (record_of cells.now.journal table.old self.old) self.old }
+        requires grown { table.old.size ≤ 8 * claim_blocks self.old }
+        ensures refreshed { result ≡ true → RefreshesNext (B.operations (B.meaning body.now)) cells.now.journal table.old table.new self.old self.new }
+        ensures idle { result ≡ false → IsNextJob (record_of cells.now.journal table.old self.old) None }
+        ensures claimed { result ≡ false → (n : Node) → claimed_in self.new n ≡ claimed_in self.old n }
+        ensures same { result ≡ false → table.new ≡ table.old }
+        ensures hints { AreHints (record_of cells.now.journal table.old self.new) self.new }
         ensures blocks { claim_blocks self.new ≡ claim_blocks self.old }
     {
-        match self.next(table) {
-            Some((node, version)) => Some(Computed {
-                node,
-                version,
-                summary: summary_of(cells, table, body, node),
-            }),
-            None => None,
-        }
+        let Some((node, version)) = self.next(table) else {
+            return false;
+        };
+        refresh_node(self, cells, table, body, node, version);
+        true
     }
 
     // The least node that wants a job, and the number of the edit that touched it last, which is claimed with it. It hands
     // out no job, since jobs are wide.
+    #[inline(always)]
     fn next<S: Copy>(&mut self, table: &Summaries<S>) -> Option<(Node, u32)>
         requires hints { HintsWants table.now self.old }
         requires grown { table.now.size ≤ 8 * claim_blocks self.old }
@@ -248,8 +248,7 @@ fn next_of<S: Copy>(rows: &mut Level, level: u32, table: &Summaries<S>) -> Optio
     while let Some(number) = rows.first_hint() {
         let node = Node { level, number };
         rows.unhint(number);
-        if wants(rows, table, node) {
-            let version = table.touched(node);
+        if let Some(version) = wanted(rows, table, node) {
             rows.claim(number, version);
             return Some((node, version));
         }

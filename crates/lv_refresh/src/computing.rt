@@ -1,87 +1,54 @@
 ghost use Rattle.std.specs.Prelude.{◌≡◌, ◌+◌, ◌*◌, ◌<◌, true};
+ghost use Rattle.lv_geometry.specs.Nodes.{is_below, parent};
 ghost use Rattle.lv_bodies.specs.Body.{fold_of};
 ghost use Rattle.lv_edits.specs.Touch.{elements_under};
 ghost use Rattle.lv_known.specs.Agrees.{Agrees};
-ghost use Rattle.lv_summary.specs.Table.{whole_in};
-ghost use Rattle.lv_refresh.specs.Inner.{IsReady};
+ghost use Rattle.lv_summary.specs.declared.accepted.Accepted.TheVariants.{Installed};
+ghost use Rattle.lv_summary.specs.Changes.{Keeps};
+ghost use Rattle.lv_summary.specs.Table.{delivery_in, whole_in};
+ghost use Rattle.lv_refresh.specs.Claimed.{claim_blocks};
+ghost use Rattle.lv_refresh.specs.Inner.{HintsNode, IsReady};
 
+use crate::claims::Claims;
 use lv_bodies::{Body, fold_slice};
 use lv_edits::Edits;
 use lv_geometry::Node;
 use lv_summary::Summaries;
-use std::alloc::AllocError;
 
-/// A node that was claimed at a version, and its summary then.
-#[derive(Debug, PartialEq, Eq)]
-pub struct Computed<S> {
-    pub node: Node,
-    pub version: u32,
-    pub summary: S,
-}
-
-impl<S: Copy> Clone for Computed<S> {
-    ghost use Rattle.std.specs.Prelude.{◌≡◌, ⊤};
-
-    ghost is_clone = { λ x y. y ≡ x };
-
-    ghost is_infallible = { λ _. ⊤ };
-
-    fn clone(&self) -> Result<Computed<S>, AllocError> {
-        Ok(*self)
-    }
-}
-
-impl<S: Copy> Copy for Computed<S> {}
-
-/// The fold of a whole node's elements, computed where its contents lie: from the elements of a block, and above from the
-/// summaries of the children, which are fresh.
+/// Keeps the fold of the elements of a node that is due, and hints at its parent. It is made anew for each level, so that no row is
+/// picked by the number of its level.
 #[inline(always)]
-pub fn summary_of<B: Body>(cells: &Edits, table: &Summaries<B::S>, body: &B, node: Node) -> B::S
-    requires agrees { Agrees (B.operations (B.meaning body.now)) cells.now.journal table.now }
-    requires whole { whole_in table.now node ≡ true }
-    requires ready { IsReady table.now node }
-    ensures { result ≡ fold_of (B.operations (B.meaning body.now)) (elements_under cells.now.journal node) }
+pub fn refresh_node<B: Body>(
+    claims: &mut Claims,
+    cells: &Edits,
+    table: &mut Summaries<B::S>,
+    body: &B,
+    node: Node,
+    version: u32,
+)
+    requires agrees { Agrees (B.operations (B.meaning body.now)) cells.now.journal table.old }
+    requires due { delivery_in table.old node version ≡ Installed }
+    requires ready { IsReady table.old node }
+    requires inside { is_below node (8 * claim_blocks claims.old) ≡ true }
+    ensures keeps { Keeps table.old table.new node version (fold_of (B.operations (B.meaning body.now)) (elements_under cells.now.journal node)) }
+    ensures hinted { HintsNode claims.old claims.new (parent node) }
 {
     if node.level == 1 {
-        fold_block(cells, table, body, node)
-    } else {
-        join_children(cells, table, body, node)
+        return refresh_at(claims, cells, table, body, on_level(node, 1), version);
     }
-}
-
-// The fold of the elements of a whole block. The table only says that it is whole.
-fn fold_block<B: Body>(cells: &Edits, _table: &Summaries<B::S>, body: &B, block: Node) -> B::S
-    requires agrees { Agrees (B.operations (B.meaning body.now)) cells.now.journal _table.now }
-    requires whole { whole_in _table.now block ≡ true }
-    requires level { block.level ≡ 1 }
-    ensures { result ≡ fold_of (B.operations (B.meaning body.now)) (elements_under cells.now.journal block) }
-{
-    let elements = cells.block(block.number);
-    fold_slice(body, &elements)
-}
-
-// The join of the summaries of a whole node's children, from left to right. It is made anew for each level, so that the children's
-// rows are not picked by a number eight times.
-fn join_children<B: Body>(cells: &Edits, table: &Summaries<B::S>, body: &B, node: Node) -> B::S
-    requires agrees { Agrees (B.operations (B.meaning body.now)) cells.now.journal table.now }
-    requires whole { whole_in table.now node ≡ true }
-    requires above { 1 < node.level }
-    requires ready { IsReady table.now node }
-    ensures { result ≡ fold_of (B.operations (B.meaning body.now)) (elements_under cells.now.journal node) }
-{
     if node.level == 2 {
-        return join_each_child(cells, table, body, on_level(node, 2));
+        return refresh_at(claims, cells, table, body, on_level(node, 2), version);
     }
     if node.level == 3 {
-        return join_each_child(cells, table, body, on_level(node, 3));
+        return refresh_at(claims, cells, table, body, on_level(node, 3), version);
     }
     if node.level == 4 {
-        return join_each_child(cells, table, body, on_level(node, 4));
+        return refresh_at(claims, cells, table, body, on_level(node, 4), version);
     }
     if node.level == 5 {
-        return join_each_child(cells, table, body, on_level(node, 5));
+        return refresh_at(claims, cells, table, body, on_level(node, 5), version);
     }
-    join_each_child(cells, table, body, node)
+    refresh_at(claims, cells, table, body, node, version)
 }
 
 // A node itself, whose level is known where this is written.
@@ -96,9 +63,67 @@ fn on_level(node: Node, level: u32) -> Node
     }
 }
 
-// What `join_children` gives.
+// What `refresh_node` does.
 #[inline(always)]
-fn join_each_child<B: Body>(cells: &Edits, table: &Summaries<B::S>, body: &B, node: Node) -> B::S
+fn refresh_at<B: Body>(
+    claims: &mut Claims,
+    cells: &Edits,
+    table: &mut Summaries<B::S>,
+    body: &B,
+    node: Node,
+    version: u32,
+)
+    requires agrees { Agrees (B.operations (B.meaning body.now)) cells.now.journal table.old }
+    requires due { delivery_in table.old node version ≡ Installed }
+    requires ready { IsReady table.old node }
+    requires inside { is_below node (8 * claim_blocks claims.old) ≡ true }
+    ensures keeps { Keeps table.old table.new node version (fold_of (B.operations (B.meaning body.now)) (elements_under cells.now.journal node)) }
+    ensures hinted { HintsNode claims.old claims.new (parent node) }
+{
+    let summary = summary_of(cells, table, body, node);
+    table.install_due(node, version, summary);
+    claims.hint_parent(node);
+}
+
+// The fold of a whole node's elements, computed where its contents lie: from the elements of a block, and above from the summaries of
+// the children, which are fresh.
+#[inline(always)]
+fn summary_of<B: Body>(cells: &Edits, table: &Summaries<B::S>, body: &B, node: Node) -> B::S
+    requires agrees { Agrees (B.operations (B.meaning body.now)) cells.now.journal table.now }
+    requires whole { whole_in table.now node ≡ true }
+    requires ready { IsReady table.now node }
+    ensures { result ≡ fold_of (B.operations (B.meaning body.now)) (elements_under cells.now.journal node) }
+{
+    if node.level == 1 {
+        fold_block(cells, table, body, node)
+    } else {
+        join_children(cells, table, body, node)
+    }
+}
+
+// The fold of the elements of a whole block, where they lie unless a write is pending among them. The table only says that it is
+// whole.
+#[inline(always)]
+fn fold_block<B: Body>(cells: &Edits, _table: &Summaries<B::S>, body: &B, block: Node) -> B::S
+    requires agrees { Agrees (B.operations (B.meaning body.now)) cells.now.journal _table.now }
+    requires whole { whole_in _table.now block ≡ true }
+    requires level { block.level ≡ 1 }
+    ensures { result ≡ fold_of (B.operations (B.meaning body.now)) (elements_under cells.now.journal block) }
+{
+    // The elements are few enough for a fold, and their indices are of 32 bits.
+    let _size = cells.size();
+    let first = 8 * block.number;
+    let elements = cells.stretch(first, first + 8);
+    if elements.len() == 8 {
+        return fold_slice(body, elements);
+    }
+    let elements = cells.block(block.number);
+    fold_slice(body, &elements)
+}
+
+// The join of the summaries of a whole node's children, from left to right.
+#[inline(always)]
+fn join_children<B: Body>(cells: &Edits, table: &Summaries<B::S>, body: &B, node: Node) -> B::S
     requires agrees { Agrees (B.operations (B.meaning body.now)) cells.now.journal table.now }
     requires whole { whole_in table.now node ≡ true }
     requires above { 1 < node.level }
@@ -109,10 +134,7 @@ fn join_each_child<B: Body>(cells: &Edits, table: &Summaries<B::S>, body: &B, no
     let _size = cells.size();
     let mut sum = body.identity();
     for k in 0..8 {
-        let Some(summary) = table.entry(node.child(k)) else {
-            unreachable!()
-        };
-        sum = body.combine(sum, summary);
+        sum = body.combine(sum, table.summary(node.child(k)));
     }
     sum
 }

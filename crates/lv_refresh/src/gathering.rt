@@ -48,29 +48,3 @@ fn four_children_of<S: Copy>(table: &Summaries<S>, node: Node, first: u32) -> Op
         table.entry(node.child(first + 3))?,
     ))
 }
-
-/// Whether the eight children of a whole node are fresh.
-#[inline(always)]
-pub fn are_children_fresh<S: Copy>(table: &Summaries<S>, node: Node) -> bool
-    requires whole { whole_in table.now node ≡ true }
-    requires above { 1 < node.level }
-    ensures { result ≡ children_fresh_in table.now node }
-{
-    are_four_fresh(table, node, 0) && are_four_fresh(table, node, 4)
-}
-
-// Whether four of the children of a whole node, from one on, are fresh.
-#[inline(always)]
-fn are_four_fresh<S: Copy>(table: &Summaries<S>, node: Node, first: u32) -> bool
-    requires whole { whole_in table.now node ≡ true }
-    requires above { 1 < node.level }
-    requires few { first ≤ 4 }
-    ensures { result ≡ four_fresh_in table.now node first }
-{
-    // The size tells that the children's numbers are of 32 bits.
-    let _size = table.size();
-    table.fresh(node.child(first))
-        && table.fresh(node.child(first + 1))
-        && table.fresh(node.child(first + 2))
-        && table.fresh(node.child(first + 3))
-}

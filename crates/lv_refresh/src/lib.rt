@@ -2,8 +2,8 @@
 //!
 //! `Claims` hands out jobs, the least node first; a `Job` is run anywhere, and gives an `Outcome` of the same node,
 //! version, contents and body. Which job comes next is stated on a record of all that the vector has seen, and a job's
-//! contents are those of its node then. Where a job is done at once, `Claims::compute` makes none: it claims the node and gives
-//! its summary. It installs nothing, and knows nothing of who runs a job, or when.
+//! contents are those of its node then. Where a job is done at once, `Claims::refresh_next` makes none: it claims the node and
+//! keeps its summary. It knows nothing of who runs a job, or when.
 #![tactic(auto)]
 
 mod block_jobs;
@@ -20,7 +20,6 @@ mod wants;
 
 pub use block_jobs::BlockJob;
 pub use claims::Claims;
-pub use computing::Computed;
 pub use contents::{Contents, Eight};
 pub use gathering::children_of;
 pub use jobs::{Job, JobOf};

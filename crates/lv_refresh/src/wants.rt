@@ -1,25 +1,32 @@
-ghost use Rattle.std.specs.Prelude.{◌≡◌, slice_index};
+ghost use Rattle.std.specs.Prelude.{◌≡◌, ◌≤◌, true, false, slice_index, IfSome, IfNone};
+ghost use Rattle.lv_summary.specs.Table.{touched_in};
 ghost use Rattle.lv_refresh.specs.Claimed.{version_of};
 ghost use Rattle.lv_refresh.specs.Inner.{wants_in};
 
-use crate::gathering::are_children_fresh;
 use crate::level::Level;
 use lv_geometry::Node;
 use lv_summary::Summaries;
 
-/// Whether a node wants a job. `rows` are those of its level.
+/// The number of the edit that touched a node last, where the node wants a job; none where it wants none. `rows` are those of its
+/// level.
 #[inline(always)]
-pub fn wants<S: Copy>(rows: &Level, table: &Summaries<S>, node: Node) -> bool
-    ensures { result ≡ wants_in table.now (version_of (slice_index rows.now.rows.claimed node.number)) node }
+pub fn wanted<S: Copy>(rows: &Level, table: &Summaries<S>, node: Node) -> Option<u32>
+    ensures some { IfSome result (λ version. (wants_in table.now (version_of (slice_index rows.now.rows.claimed node.number)) node ≡ true)
+        × (version ≡ touched_in table.now node)) }
+    ensures none { IfNone result (wants_in table.now (version_of (slice_index rows.now.rows.claimed node.number)) node ≡ false) }
+    ensures bound { IfSome result (λ version. version ≤ 16777215) }
 {
-    if !table.whole(node) {
-        return false;
+    let Some(version) = table.due(node) else {
+        return None;
+    };
+    if rows.is_claimed(node.number, version) {
+        return None;
     }
-    if table.fresh(node) {
-        return false;
+    if node.level == 1 {
+        return Some(version);
     }
-    if rows.is_claimed(node.number, table.touched(node)) {
-        return false;
+    if table.children_fresh(node) {
+        return Some(version);
     }
-    node.level == 1 || are_children_fresh(table, node)
+    None
 }

@@ -1,4 +1,5 @@
 mod Changes
+mod ChildLaws
 mod LateLaws
 mod LevelLaws
 mod NodeRows

@@ -1,4 +1,5 @@
-ghost use Rattle.std.specs.Prelude.{◌≡◌, ◌+◌, ◌-◌, ◌<◌, ◌≤◌, ◌++◌, ◌==◌, ◌||◌, length, replicate, true, slice_index, slice_get, Some, OnOk, IfErr, vec_len, vec_capacity};
+ghost use Rattle.std.specs.Prelude.{◌≡◌, ℕ, ◌+◌, ◌-◌, ◌<◌, ◌≤◌, ◌++◌, ◌==◌, ◌||◌, length, replicate, true, false, slice_index, slice_get, Some, OnOk, IfErr, IfSome, IfNone, vec_len, vec_capacity};
+ghost use Rattle.std.specs.List.{list_all, range_with_len};
 ghost use Rattle.lv_summary.specs.Inner.{filled, with_kept, with_learnt, with_touch};
 ghost use Rattle.lv_summary.specs.Table.{no_rows};
 
@@ -138,6 +139,7 @@ impl<S: Copy> Level<S> {
     }
 
     /// Puts a summary of a version in the row of a node.
+    #[inline(always)]
     pub fn keep(&mut self, number: u32, version: u32, s: S)
         requires stamps { number < length self.old.rows.stamps }
         requires kept { number < length self.old.rows.kept }
@@ -159,6 +161,42 @@ impl<S: Copy> Level<S> {
         let number = number as usize;
         self.computed[number] = self.touched[number] + 1;
         self.kept.set(number, s);
+    }
+
+    /// The number of the last edit that touched a node; none where what was delivered for the node has it.
+    #[inline(always)]
+    pub fn due(&self, number: u32) -> Option<u32>
+        requires touched { number < length self.now.rows.touched }
+        requires stamps { number < length self.now.rows.stamps }
+        requires edit { slice_index self.now.rows.touched number ≤ 16777215 }
+        ensures some { IfSome result (λ edit. (edit ≡ slice_index self.now.rows.touched number)
+            × ((slice_index self.now.rows.stamps number == slice_index self.now.rows.touched number + 1) ≡ false)) }
+        ensures none { IfNone result ((slice_index self.now.rows.stamps number == slice_index self.now.rows.touched number + 1) ≡ true) }
+    {
+        let number = number as usize;
+        let edit = self.touched[number];
+        if self.stamps[number] == edit + 1 {
+            None
+        } else {
+            Some(edit)
+        }
+    }
+
+    /// Whether what was delivered for each of eight neighbours, from one on, has the number of the edit that touched it last. All
+    /// are looked at, since a processor compares several at once.
+    #[inline(always)]
+    pub fn are_current(&self, first: u32) -> bool
+        requires touched { first + 8 ≤ length self.now.rows.touched }
+        requires stamps { first + 8 ≤ length self.now.rows.stamps }
+        requires edits { (k : ℕ) → k < 8 → slice_index self.now.rows.touched (first + k) ≤ 16777215 }
+        ensures { result ≡ list_all (λ k. slice_index self.now.rows.stamps (first + k) == slice_index self.now.rows.touched (first + k) + 1) (range_with_len 0 8) }
+    {
+        let first = first as usize;
+        let mut current = true;
+        for k in 0..8 {
+            current &= self.stamps[first + k] == self.touched[first + k] + 1;
+        }
+        current
     }
 }
 

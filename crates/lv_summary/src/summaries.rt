@@ -1,6 +1,9 @@
-ghost use Rattle.std.specs.Prelude.{◌≡◌, ◌/◌, ◌*◌, ◌<◌, ◌≤◌, true, option_map, None, OnOk, OnErr, IfErr};
+ghost use Rattle.std.specs.Prelude.{◌≡◌, ◌/◌, ◌*◌, ◌<◌, ◌≤◌, ◌&&◌, not, true, false, option_map, Some, None, OnOk, OnErr, IfErr, IfSome, IfNone};
+ghost use Rattle.std.specs.List.{list_all, range_with_len};
+ghost use Rattle.lv_geometry.specs.Nodes.{child};
+ghost use Rattle.lv_summary.specs.declared.accepted.Accepted.TheVariants.{Installed};
 ghost use Rattle.lv_summary.specs.Inner.{AreFilled, HaveRoom, HaveSameRows};
-ghost use Rattle.lv_summary.specs.Changes.{AfterDelivery, AnswersAlike, HasSize, Learns, Touches};
+ghost use Rattle.lv_summary.specs.Changes.{AfterDelivery, AnswersAlike, HasSize, Keeps, Learns, Touches};
 ghost use Rattle.lv_summary.specs.Table.{blocks_in, computed_in, delivery_in, entry_in, fresh_in, kept_in, known_entry_in, touched_in, whole_in};
 
 use crate::accepted::Accepted;
@@ -144,6 +147,38 @@ impl<S: Copy> Summaries<S> {
         }
     }
 
+    /// The number of the edit that touched a whole node last, where what is kept for the node is of another; none where it isn't.
+    #[inline(always)]
+    pub fn due(&self, node: Node) -> Option<u32>
+        ensures some { IfSome result (λ edit. (whole_in self.now node ≡ true) × (fresh_in self.now node ≡ false) × (edit ≡ touched_in self.now node)) }
+        ensures none { IfNone result ((whole_in self.now node && not (fresh_in self.now node)) ≡ false) }
+        ensures bound { IfSome result (λ edit. edit ≤ 16777215) }
+    {
+        match whole_level(&self.levels, self.size, node) {
+            Some(level) => level.due(node.number),
+            None => None,
+        }
+    }
+
+    /// Whether the eight children of a whole node are fresh.
+    #[inline(always)]
+    pub fn children_fresh(&self, node: Node) -> bool
+        requires whole { whole_in self.now node ≡ true }
+        requires above { 1 < node.level }
+        ensures { result ≡ list_all (λ k. fresh_in self.now (child node k)) (range_with_len 0 8) }
+    {
+        self.levels.at(node.level - 1).are_current(8 * node.number)
+    }
+
+    /// The summary of a fresh node.
+    #[inline(always)]
+    pub fn summary(&self, node: Node) -> S
+        requires { fresh_in self.now node ≡ true }
+        ensures { entry_in self.now node ≡ Some result }
+    {
+        self.levels.at(node.level).kept(node.number)
+    }
+
     /// The summary of a node, where it is known: it is fresh, or was computed since it was touched last.
     #[inline(always)]
     pub fn known(&self, node: Node) -> Option<S>
@@ -172,6 +207,15 @@ impl<S: Copy> Summaries<S> {
         ensures after { AfterDelivery self.old self.new node version s result }
     {
         deliver(&mut self.levels, self.size, node, version, s)
+    }
+
+    /// Installs a summary that is known to be due, as `install` would.
+    #[inline(always)]
+    pub fn install_due(&mut self, node: Node, version: u32, s: S)
+        requires { delivery_in self.old node version ≡ Installed }
+        ensures { Keeps self.old self.new node version s }
+    {
+        self.levels.at_mut(node.level).keep(node.number, version, s);
     }
 
     /// Keeps a summary that who asks computed for a whole node, so that the node is known until it is touched again. What was

@@ -1,4 +1,4 @@
-use Rattle.std.proofs.Common.{◌≡◌, get_or, ◌∙◌, sym}
+use Rattle.std.proofs.Common.{◌≡◌, get_or, ◌∙◌}
 use Rattle.lv_refresh.specs.Claimed.{version_of}
 use Rattle.lv_refresh.proofs.PickLaws.{Passes-from, Picks-from, hints_after, row_of_wanted}
 use Rattle.lv_refresh.proofs.claims.next_of.Goals as goal
@@ -6,14 +6,14 @@ use Rattle.lv_refresh.proofs.claims.next_of.Goals as goal
 pub claim-requires-clause-inside : goal.claim-requires-clause-inside
 claim-requires-clause-inside g c =
     let stamps : c.unhint.new.self.rows.claimed ≡ c.args.rows.now.rows.claimed = c.unhint.ensures.claimed ∙ c.loop-number.invariant.claimed in
-    rw stamps (row_of_wanted c.args.table.now (version_of (get_or c.unhint.new.self.rows.claimed c.in-Some.number 0)) c.args.level c.in-Some.number c.args.rows.now.rows (sym c.wants.ensures ∙ c.if-wants.true) c.requires.rows_enough)
+    rw stamps (row_of_wanted c.args.table.now (version_of (get_or c.unhint.new.self.rows.claimed c.in-Some.number 0)) c.args.level c.in-Some.number c.args.rows.now.rows c.in-Some-wanted.ensures.some.0 c.requires.rows_enough)
 
-pub returns-then-wants : goal.returns-then-wants
-returns-then-wants g c =
-    let wants = sym c.wants.ensures ∙ c.if-wants.true in
+pub returns-in-Some-wanted : goal.returns-in-Some-wanted
+returns-in-Some-wanted g c =
+    let wants = c.in-Some-wanted.ensures.some.0 in
     let inside = row_of_wanted c.args.table.now (version_of (get_or c.unhint.new.self.rows.claimed c.in-Some.number 0)) c.args.level c.in-Some.number c.args.rows.now.rows wants c.requires.rows_enough in
-    Picks-from c.args.table.now c.args.level c.args.rows.now.rows c.loop-number.rows.rows c.unhint.new.self.rows c.claim.new.self.rows c.in-Some.number c.touched-version.result
-    c.loop-number.invariant.claimed c.loop-number.invariant.room c.loop-number.invariant.hints c.in-Some.ensures.some c.unhint.ensures c.claim.ensures inside wants c.touched-version.ensures.value
+    Picks-from c.args.table.now c.args.level c.args.rows.now.rows c.loop-number.rows.rows c.unhint.new.self.rows c.claim.new.self.rows c.in-Some.number c.in-Some-wanted.version
+    c.loop-number.invariant.claimed c.loop-number.invariant.room c.loop-number.invariant.hints c.in-Some.ensures.some c.unhint.ensures c.claim.ensures inside wants c.in-Some-wanted.ensures.some.1
 
 pub loop-number-preserved : goal.loop-number-preserved
 loop-number-preserved g c =
@@ -21,7 +21,7 @@ loop-number-preserved g c =
     record {
       claimed = away.claimed ∙ c.loop-number.invariant.claimed;
       room = away.room ∙ c.loop-number.invariant.room;
-      hints = hints_after c.args.table.now c.args.level c.loop-number.rows.rows c.unhint.new.self.rows c.in-Some.number away c.loop-number.invariant.hints (sym c.wants.ensures ∙ c.if-wants.false);
+      hints = hints_after c.args.table.now c.args.level c.loop-number.rows.rows c.unhint.new.self.rows c.in-Some.number away c.loop-number.invariant.hints c.in_default-wanted.ensures.none;
     }
 
 pub returns : goal.returns

@@ -1,29 +1,25 @@
-use Rattle.lv_live.proofs.TurnLaws.{live_taken, not_taken, turn_taken}
-use Rattle.lv_live.proofs.RememberLaws.{known_after_delivery}
+use Rattle.lv_live.proofs.TurnLaws.{live_turned, not_taken, remembers_turned, turn_taken}
 use Rattle.lv_live.proofs.live.Live.take_turn.Goals as goal
 
-pub returns-in_default-clause-idle : goal.returns-in_default-clause-idle
-returns-in_default-clause-idle g c = λ none. rw (← c.self.view_is) c.in_default.ensures.next
+pub returns-clause-idle : goal.returns-clause-idle
+returns-clause-idle g c = λ none. rw (← c.self.view_is) (c.refresh_next.ensures.idle none)
 
-pub returns-in_default-clause-same : goal.returns-in_default-clause-same
-returns-in_default-clause-same g c = λ none. rw (← c.self.view_is) (not_taken _ c.compute.new.self c.in_default.ensures.idle)
+pub returns-clause-same : goal.returns-clause-same
+returns-clause-same g c = λ none. rw (← c.self.view_is) (not_taken _ c.refresh_next.new.table c.refresh_next.new.self (c.refresh_next.ensures.same none) (c.refresh_next.ensures.claimed none))
 
-pub invariant_of-self-2 : goal.invariant_of-self-2
-invariant_of-self-2 g c =
-    live_taken (g.B.Body.operations (g.B.Body.meaning c.self.inside.body)) (g.B.Body.is_within (g.B.Body.meaning c.self.inside.body)) (g.B.Body.laws c.self.inside.body) _ c.self.invariant c.compute.new.self c.in-Some.done.node c.in-Some.done.version
-    record { next = c.in-Some.ensures.next; claimed = c.in-Some.ensures.claimed; hints = c.in-Some.ensures.hints; blocks = c.in-Some.ensures.blocks }
-    c.install.new.self c.hint_parent.new.self c.in-Some.done.summary c.install.result c.install.ensures.answer c.install.ensures.after
-    record { claimed = c.hint_parent.ensures.claimed; hints = c.hint_parent.ensures.hints; blocks = c.hint_parent.ensures.blocks }
-    c.in-Some.ensures.summary
+pub invariant_of-self : goal.invariant_of-self
+invariant_of-self g c =
+    live_turned (g.B.Body.operations (g.B.Body.meaning c.self.inside.body)) (g.B.Body.is_within (g.B.Body.meaning c.self.inside.body)) (g.B.Body.laws c.self.inside.body) _ c.self.invariant c.refresh_next.new.table c.refresh_next.new.self
+    c.refresh_next.ensures.hints c.refresh_next.ensures.blocks c.refresh_next.result c.refresh_next.ensures.refreshed c.refresh_next.ensures.same
 
 pub returns-clause-turn : goal.returns-clause-turn
 returns-clause-turn g c = λ took.
     rw (← c.self.view_is) (
-    turn_taken (g.B.Body.operations (g.B.Body.meaning c.self.inside.body)) (g.B.Body.is_within (g.B.Body.meaning c.self.inside.body)) (g.B.Body.laws c.self.inside.body) _ c.self.invariant c.compute.new.self c.in-Some.done.node c.in-Some.done.version
-    record { next = c.in-Some.ensures.next; claimed = c.in-Some.ensures.claimed; hints = c.in-Some.ensures.hints; blocks = c.in-Some.ensures.blocks }
-    c.install.new.self c.hint_parent.new.self c.in-Some.done.summary c.install.result c.install.ensures.answer c.install.ensures.after
-    record { claimed = c.hint_parent.ensures.claimed; hints = c.hint_parent.ensures.hints; blocks = c.hint_parent.ensures.blocks })
+    turn_taken (g.B.Body.operations (g.B.Body.meaning c.self.inside.body)) (g.B.Body.is_within (g.B.Body.meaning c.self.inside.body)) (g.B.Body.laws c.self.inside.body) _ c.self.invariant c.refresh_next.new.table c.refresh_next.new.self
+    c.refresh_next.ensures.hints c.refresh_next.ensures.blocks (c.refresh_next.ensures.refreshed took))
 
 pub returns-clause-remembers : goal.returns-clause-remembers
 returns-clause-remembers g c =
-    rw (← c.self.view_is) (λ n known whole touched. known_after_delivery _ c.install.new.self _ _ _ _ c.install.ensures.answer c.install.ensures.after n known)
+    rw (← c.self.view_is) (
+    remembers_turned (g.B.Body.operations (g.B.Body.meaning c.self.inside.body)) (g.B.Body.is_within (g.B.Body.meaning c.self.inside.body)) (g.B.Body.laws c.self.inside.body) _ c.self.invariant c.refresh_next.new.table c.refresh_next.new.self
+    c.refresh_next.ensures.hints c.refresh_next.ensures.blocks c.refresh_next.result c.refresh_next.ensures.refreshed c.refresh_next.ensures.same)

@@ -1,10 +1,10 @@
 use Rattle.std.proofs.Common.{◌≡◌, sym, ap, ◌∙◌, arith}
 use Rattle.std.proofs.lemmas.Bool.{and_parts}
-use Rattle.lv_summary.specs.Table.{entry_in}
+use Rattle.lv_summary.specs.Table.{entry_in, fresh_in}
 use Rattle.lv_known.proofs.FoldableLaws.{can_fold}
-use Rattle.lv_refresh.proofs.ComputeLaws.{child_has_entry, joins_all, joins_can, joins_more, joins_none}
+use Rattle.lv_refresh.proofs.ComputeLaws.{child_is_fresh, joins_all, joins_can, joins_more, joins_none}
 use Rattle.lv_refresh.proofs.GatherLaws.{children_fit}
-use Rattle.lv_refresh.proofs.computing.join_each_child.Goals as goal
+use Rattle.lv_refresh.proofs.computing.join_children.Goals as goal
 
 pub loop-k-init : goal.loop-k-init
 loop-k-init g c =
@@ -14,24 +14,24 @@ pub child-requires-clause-fits : goal.child-requires-clause-fits
 child-requires-clause-fits g c =
     omega (arith, children_fit c.args.node c.args.table.now.size (and_parts _ _ c.requires.whole).1 c.requires.above, c.requires.agrees.size, c.size-size.ensures.limits.few)
 
-pub unreachable-requires : goal.unreachable-requires
-unreachable-requires g c =
-    child_has_entry (g.B.Body.operations (g.B.Body.meaning c.args.body.now)) c.args.cells.now.journal c.args.table.now c.requires.agrees c.args.node c.loop-k.k c.requires.above c.requires.ready c.loop-k-test.true
-    (sym (ap (entry_in c.args.table.now) c.child.ensures) ∙ sym c.entry.ensures ∙ c.in_default.is)
+pub summary-requires : goal.summary-requires
+summary-requires g c =
+    ap (fresh_in c.args.table.now) c.child.ensures
+    ∙ child_is_fresh (g.B.Body.operations (g.B.Body.meaning c.args.body.now)) c.args.cells.now.journal c.args.table.now c.requires.agrees c.args.node c.loop-k.k c.requires.above c.requires.ready c.loop-k-test.true
 
 pub combine-sum-requires : goal.combine-sum-requires
 combine-sum-requires g c =
     joins_can (g.B.Body.operations (g.B.Body.meaning c.args.body.now)) c.args.cells.now.journal c.args.table.now c.requires.agrees
     (g.B.Body.is_within (g.B.Body.meaning c.args.body.now)) (g.B.Body.laws c.args.body.now) (can_fold c.args.cells.now c.size-size.ensures.limits)
-    c.args.node c.loop-k.k c.loop-k.sum c.in-Some.summary c.requires.above c.loop-k.invariant
-    (sym (ap (entry_in c.args.table.now) c.child.ensures) ∙ sym c.entry.ensures ∙ c.in-Some.is)
+    c.args.node c.loop-k.k c.loop-k.sum c.summary.result c.requires.above c.loop-k.invariant
+    (sym (ap (entry_in c.args.table.now) c.child.ensures) ∙ c.summary.ensures)
 
 pub loop-k-preserved : goal.loop-k-preserved
 loop-k-preserved g c =
     joins_more (g.B.Body.operations (g.B.Body.meaning c.args.body.now)) c.args.cells.now.journal c.args.table.now c.requires.agrees
     (g.B.Body.is_within (g.B.Body.meaning c.args.body.now)) (g.B.Body.laws c.args.body.now) (can_fold c.args.cells.now c.size-size.ensures.limits)
-    c.args.node c.loop-k.k c.loop-k.sum c.in-Some.summary c.combine-sum.result c.requires.above c.loop-k.invariant
-    (sym (ap (entry_in c.args.table.now) c.child.ensures) ∙ sym c.entry.ensures ∙ c.in-Some.is) c.combine-sum.ensures
+    c.args.node c.loop-k.k c.loop-k.sum c.summary.result c.combine-sum.result c.requires.above c.loop-k.invariant
+    (sym (ap (entry_in c.args.table.now) c.child.ensures) ∙ c.summary.ensures) c.combine-sum.ensures
 
 pub returns : goal.returns
 returns g c =

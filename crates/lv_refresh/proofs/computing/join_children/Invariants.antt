@@ -1,5 +1,5 @@
 use Rattle.lv_refresh.proofs.ComputeLaws.{Joins}
-use Rattle.lv_refresh.proofs.computing.join_each_child.Given as goal
+use Rattle.lv_refresh.proofs.computing.join_children.Given as goal
 
 -- the summaries of the first k children were joined
 abbrev pub invariant-loop-k : goal.invariant-loop-k
