@@ -1,10 +1,11 @@
 -- What more bytes add to the lines of an input.
-use Rattle.std.proofs.Common.{◌≡◌, ◌<◌, get_or, position, Option, Some, ℕ, suc, zero, ◌+◌, ◌-◌, ◌≤◌, ◌==◌, Bool, true, false, List, [], ◌∷◌, ◌++◌, length, take, drop, map, refl, sym, ap, ◌∙◌, inl, inr, arith, append_assoc, append-nil}
+use Rattle.std.proofs.Common.{◌≡◌, ◌<◌, get_or, position, Option, None, Some, ℕ, suc, zero, ◌+◌, ◌-◌, ◌≤◌, ◌==◌, Bool, true, false, List, [], ◌∷◌, ◌++◌, length, take, drop, map, refl, sym, ap, ◌∙◌, inl, inr, arith, append_assoc, append-nil}
 use Rattle.std.proofs.lemmas.List.{length-take, take-append-drop, drop_more, get_or-take}
 use Rattle.std.proofs.lemmas.List.Quantifiers.{position-Some}
-use Rattle.std.proofs.lemmas.List.Sums.{fails_before_first}
+use Rattle.std.proofs.lemmas.List.Sums.{fails_before_first, position_or_len_is}
 use Rattle.std.specs.List.{position_or_len}
-use Rattle.std.proofs.lemmas.Bool.{cases_Bool, cases_lt, eqb-true, lt-ltb}
+use Rattle.memchr.specs.Find.{IsFirstByte, is_byte}
+use Rattle.std.proofs.lemmas.Bool.{cases_Bool, cases_lt, eqb-true, false_from_ne_true, le-ltb, lt-ltb}
 use Rattle.std.proofs.Math.Seq.{take-append-add}
 use Rattle.lv_lines.specs.Input.{begun_with, put_before, lines_of, whole_lines_of, has_end, unended_of, last_line}
 
@@ -272,6 +273,18 @@ has_end-from_position xs r search_is missing =
       | inl below ↦ absurd (missing (position_or_len test xs) (search_is ∙ rw (lt-ltb _ _ below) refl))
       | inr past ↦ has_end-none xs (λ k below. fails_before_first test xs k 0 (omega arith))
     ]
+
+-- what a search of bytes gives is the place of the first
+pub position-first : (a : ℕ) (xs : List ℕ) (r : Option ℕ) → IsFirstByte (is_byte a) xs r → r ≡ position (λ byte. byte == a) xs
+position-first a xs None nowhere =
+    let test = is_byte a in
+    let none = position_or_len_is test xs (length xs) 0 (omega arith) (λ k below. false_from_ne_true _ (nowhere k (omega arith) below)) (λ below. absurd (omega arith)) in
+    rw (none, le-ltb (length xs) (length xs) (omega arith)) refl
+position-first a xs (Some i) found =
+    let test = is_byte a in
+    let inside = found.0.high in
+    let first = position_or_len_is test xs i 0 (omega arith) (λ k below. false_from_ne_true _ (found.0.before k (omega arith) below)) (λ _. found.1) in
+    rw (first, lt-ltb i (length xs) inside) refl
 
 -- the first LF stands at this index
 pub record EndsAt (bytes : List ℕ) (end : ℕ) : Type 0 where

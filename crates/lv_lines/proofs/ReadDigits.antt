@@ -7,6 +7,7 @@ use Rattle.std.proofs.lemmas.Bool.{cases_Bool, le-ltb, lt-ltb, ltb-true, ltb-fal
 use Rattle.std.specs.Option.{SomeIff}
 use Rattle.std.specs.Result.{OkIff, result_ok}
 use Rattle.std.proofs.lemmas.Option.{none-some, cond_some}
+use Rattle.std.proofs.Math.Nat.{pow-le-pow_right}
 use Rattle.std.proofs.lemmas.Int.{ints}
 use Rattle.std.proofs.lemmas.List.{drop_more}
 use Rattle.lv_geometry.specs.Elements.{IsElement}
@@ -43,6 +44,13 @@ overflow n i digits read within digit so_far large =
     let step = numeral_from-digit n (get_or digits i 0) (drop (i + 1) digits) digit in
     ap (allowed fits_64) (sym so_far ∙ ap (numeral_from n) (drop_more digits i 0 within) ∙ step)
     ∙ too_large _ (drop (i + 1) digits) large
+
+-- the value of fewer than 19 digits has room for one more
+pub room_for_digit : (n i : ℕ) → n < 10 ^ i → i < 19 → n < 10 ^ 18
+room_for_digit n i few below =
+    let some : 0 < 10 = omega arith in
+    let order : i ≤ 18 = omega arith in
+    omega (arith, few, pow-le-pow_right some order)
 
 -- what is not allowed fails the test
 pub fails_test : {X : Type 0} (test : X → Bool) (x : X) → allowed test (Some x) ≡ None → test x ≡ false

@@ -19,6 +19,7 @@ mod progress;
 mod replies;
 mod responder;
 mod sender;
+mod tail;
 mod words;
 
 pub use command::{Command, Line};

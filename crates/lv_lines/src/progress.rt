@@ -8,6 +8,7 @@ use crate::fault::Fault;
 use crate::outbox::Outbox;
 use crate::responder::Responder;
 use arrayvec::ArrayVec;
+use memchr::memchr;
 use std::io::Write;
 
 const LF: u8 = 10;
@@ -152,7 +153,7 @@ impl Progress {
 fn end_of_line(bytes: &[u8]) -> Option<usize>
     ensures { result ≡ position (λ byte. byte == 10) bytes.now }
 {
-    bytes.iter().position(|byte| *byte == LF)
+    memchr(LF, bytes)
 }
 
 // The first bytes, at most `most`.

@@ -6,6 +6,7 @@ ghost use Rattle.lv_lines.specs.Words.{spaced};
 ghost use Rattle.lv_lines.specs.Texts.{answer_text, bad_text, capacity_text, receipt_text, refused_text, reply_line, settled_text, size_text, shown_text, element_text, value_text};
 
 use crate::sender::{put, put_element, put_number, put_wide};
+use crate::tail::Tail;
 use crate::words::kind_name;
 use lv_bodies::{Kind, Shown};
 use lv_edits::Receipt;
@@ -36,53 +37,54 @@ pub fn put_receipt(held: &mut Vec<u8>, receipt: Receipt)
 }
 
 // A line of an edit, a word, and a count behind it.
+#[inline(always)]
 fn put_counted(held: &mut Vec<u8>, edit: u32, word: &[u8], count: u32)
-    requires { HasRoom held.old (46 + length word.now) }
+    requires room { HasRoom held.old 80 }
+    requires short { length word.now ≤ 20 }
     ensures text { held.new.items ≡ held.old.items ++ reply_line (codes "edit " ++ decimal edit ++ word.now ++ decimal count) }
-    ensures len { vec_len held.new ≤ vec_len held.old + 46 + length word.now }
+    ensures len { vec_len held.new ≤ vec_len held.old + 80 }
     ensures room { KeepsRoom held.old held.new }
 {
-    put_edit(held, edit, word);
-    put_number(held, count.into());
-    put(held, b"\n");
+    let mut line = Tail::new();
+    line.put_number(count.into());
+    line.put(word);
+    line.put_number(edit.into());
+    line.put(b"edit ");
+    put(held, line.as_bytes());
 }
 
 // A line of an edit, a word, and an element behind it.
+#[inline(always)]
 fn put_valued(held: &mut Vec<u8>, edit: u32, word: &[u8], x: i64)
-    requires { HasRoom held.old (46 + length word.now) }
+    requires room { HasRoom held.old 80 }
+    requires short { length word.now ≤ 20 }
     ensures text { held.new.items ≡ held.old.items ++ reply_line (codes "edit " ++ decimal edit ++ word.now ++ signed_decimal x) }
-    ensures len { vec_len held.new ≤ vec_len held.old + 46 + length word.now }
+    ensures len { vec_len held.new ≤ vec_len held.old + 80 }
     ensures room { KeepsRoom held.old held.new }
 {
-    put_edit(held, edit, word);
-    put_element(held, x);
-    put(held, b"\n");
+    let mut line = Tail::new();
+    line.put_element(x);
+    line.put(word);
+    line.put_number(edit.into());
+    line.put(b"edit ");
+    put(held, line.as_bytes());
 }
 
 // A line of a swap: the elements that stand at its two indices after it.
 fn put_swapped(held: &mut Vec<u8>, edit: u32, first: i64, second: i64)
-    requires { HasRoom held.old 72 }
+    requires { HasRoom held.old 80 }
     ensures text { held.new.items ≡ held.old.items ++ receipt_text (receipt.Swapped edit first second) }
-    ensures len { vec_len held.new ≤ vec_len held.old + 72 }
+    ensures len { vec_len held.new ≤ vec_len held.old + 80 }
     ensures room { KeepsRoom held.old held.new }
 {
-    put_edit(held, edit, b" now ");
-    put_element(held, first);
-    put(held, b" ");
-    put_element(held, second);
-    put(held, b"\n");
-}
-
-// The number of an edit, and the word that comes behind it.
-fn put_edit(held: &mut Vec<u8>, edit: u32, word: &[u8])
-    requires { HasRoom held.old (25 + length word.now) }
-    ensures text { held.new.items ≡ held.old.items ++ (codes "edit " ++ decimal edit ++ word.now) }
-    ensures len { vec_len held.new ≤ vec_len held.old + 25 + length word.now }
-    ensures room { KeepsRoom held.old held.new }
-{
-    put(held, b"edit ");
-    put_number(held, edit.into());
-    put(held, word);
+    let mut line = Tail::new();
+    line.put_element(second);
+    line.put(b" ");
+    line.put_element(first);
+    line.put(b" now ");
+    line.put_number(edit.into());
+    line.put(b"edit ");
+    put(held, line.as_bytes());
 }
 
 /// A refusal, by its number.
@@ -124,9 +126,10 @@ pub fn put_value(held: &mut Vec<u8>, value: Result<i64, Refusal>)
 {
     match value {
         Ok(x) => {
-            put(held, b"value ");
-            put_element(held, x);
-            put(held, b"\n");
+            let mut line = Tail::new();
+            line.put_element(x);
+            line.put(b"value ");
+            put(held, line.as_bytes());
         }
         Err(refusal) => put_refusal(held, refusal),
     }
@@ -138,11 +141,12 @@ pub fn put_size(held: &mut Vec<u8>, size: u32, edit: u32)
     ensures text { held.new.items ≡ held.old.items ++ size_text size edit }
     ensures room { KeepsRoom held.old held.new }
 {
-    put(held, b"size ");
-    put_number(held, size.into());
-    put(held, b" edit ");
-    put_number(held, edit.into());
-    put(held, b"\n");
+    let mut line = Tail::new();
+    line.put_number(edit.into());
+    line.put(b" edit ");
+    line.put_number(size.into());
+    line.put(b"size ");
+    put(held, line.as_bytes());
 }
 
 /// How many elements the open buckets hold.

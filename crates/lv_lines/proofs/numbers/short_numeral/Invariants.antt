@@ -1,0 +1,11 @@
+use Rattle.std.proofs.Common.{◌≡◌, ◌^◌, ◌<◌, drop}
+use Rattle.lv_lines.specs.Numbers.{numeral_in}
+use Rattle.lv_lines.proofs.ReadDigits.{numeral_from}
+use Rattle.lv_lines.proofs.numbers.short_numeral.Given as goal
+
+-- what is read and what is left give what all give
+abbrev pub invariant-loop-digit : goal.invariant-loop-digit
+invariant-loop-digit l = record {
+  read : numeral_from l.value (drop l.digit-index l.digits) ≡ numeral_in l.digits;
+  few : l.value < 10 ^ l.digit-index;
+}
