@@ -1,0 +1,7 @@
+pub mod AnswerLaws
+mod AskByLaws
+mod BitLaws
+pub mod KeptLaws
+pub mod KindLaws
+mod KnowByLaws
+pub mod ValueLaws

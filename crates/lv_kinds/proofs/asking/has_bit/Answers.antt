@@ -1,0 +1,5 @@
+use Rattle.lv_kinds.proofs.BitLaws.{bit_is_shared}
+use Rattle.lv_kinds.proofs.asking.has_bit.Goals as goal
+
+pub returns : goal.returns
+returns g c = bit_is_shared c.args.byte c.mask.result g.K.OfSix.bit c.mask.ensures

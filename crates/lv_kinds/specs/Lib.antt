@@ -1,0 +1,6 @@
+pub mod Asked
+pub mod Inner
+pub mod KindSummaries
+pub mod Kinds
+pub mod NodeRows
+pub mod OfSixLaws

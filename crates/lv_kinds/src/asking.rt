@@ -1,0 +1,186 @@
+ghost use Rattle.std.specs.Prelude.{◌≡◌, ℕ, ◌*◌, ◌^◌, ◌<◌, ◌≤◌, true, Some, nat_eq, OnErr, IfOk, IfErr, IfSome, IfNone};
+ghost use Rattle.std.specs.Int.{bit_at};
+ghost use Rattle.std.specs.Int.Bits.{bit_or};
+ghost use Rattle.lv_geometry.specs.Nodes.{child, is_below, is_node};
+ghost use Rattle.lv_bodies.specs.Body.{fold_of};
+ghost use Rattle.lv_edits.specs.Touch.{elements_under, is_whole};
+ghost use Rattle.lv_summary.specs.Table.{fresh_in};
+ghost use Rattle.lv_reduce.specs.Answer.{IsAnswerPair, range_refusal};
+ghost use Rattle.lv_reduce.specs.Asked.{AreTopsKnown};
+ghost use Rattle.lv_kinds.specs.Asked.{ArePartsFolds, CanAskBy, KnowsBy, LearnsBy};
+ghost use Rattle.lv_kinds.specs.Kinds.{AreFolds, is_flagged};
+ghost use Rattle.lv_kinds.specs.NodeRows.{PutsValue, value_at};
+
+use crate::node_rows::{NodeRows, value_of};
+use crate::of_six::OfSix;
+use lv_bodies::{SixSummary, fold_more, fold_slice};
+use lv_geometry::{Node, Refusal, width};
+use lv_reduce::{View, greatest_level, join, refusal_of};
+
+/// The fold by one kind of the elements from index `lo` up to `hi`, with the number of the last edit; what is computed for it is kept
+/// in the kind's rows. Refused with `BadRange`, then `OutOfRange`: nothing has changed then. Takes no memory.
+pub fn ask_by<K: OfSix>(
+    view: View<'_, SixSummary>,
+    body: &K,
+    flags: &mut NodeRows<u8>,
+    rows: &mut NodeRows<K::S>,
+    lo: u32,
+    hi: u32,
+) -> Result<(u32, K::S), Refusal>
+    requires parts { ArePartsFolds (K.operations (K.meaning body.now)) K.part_in view.cells.now.journal view.table.now }
+    requires can { CanAskBy (K.operations (K.meaning body.now)) view.cells.now.journal K.bit flags.old rows.old }
+    ensures ok { IfOk result (λ answer. IsAnswerPair (K.operations (K.meaning body.now)) view.entry.cells.now.journal lo hi answer) }
+    ensures err { IfErr result (λ refusal. range_refusal view.entry.cells.now.journal lo hi ≡ Some refusal) }
+    ensures flags_unchanged { OnErr result (flags.new ≡ flags.old) }
+    ensures rows_unchanged { OnErr result (rows.new ≡ rows.old) }
+    ensures folds { AreFolds (K.operations (K.meaning body.now)) view.entry.cells.now.journal flags.new K.bit rows.new }
+    ensures learns { LearnsBy K.bit flags.old flags.new rows.old rows.new }
+    ensures kept { IfOk result (λ _. AreTopsKnown (is_flagged flags.new K.bit) lo hi) }
+{
+    if let Some(refusal) = refusal_of(view.cells, lo, hi) {
+        return Err(refusal);
+    }
+    let mut value = body.identity();
+    let mut at = lo;
+    while at < hi {
+        let level = greatest_level(at, hi);
+        if level == 0 {
+            value = fold_more(body, value, view.cells.read(at));
+            at += 1;
+        } else {
+            let summary = know(view, body, flags, rows, Node::over(level, at));
+            value = join(body, value, summary);
+            at += width(level);
+        }
+    }
+    Ok((view.cells.edit(), value))
+}
+
+// The summary of a whole node by one kind: what is kept, or else what is computed, which is kept then.
+#[inline(always)]
+fn know<K: OfSix>(
+    view: View<'_, SixSummary>,
+    body: &K,
+    flags: &mut NodeRows<u8>,
+    rows: &mut NodeRows<K::S>,
+    node: Node,
+) -> K::S
+    requires parts { ArePartsFolds (K.operations (K.meaning body.now)) K.part_in view.cells.now.journal view.table.now }
+    requires can { CanAskBy (K.operations (K.meaning body.now)) view.cells.now.journal K.bit flags.old rows.old }
+    requires whole { is_whole view.cells.now.journal node ≡ true }
+    ensures { KnowsBy (K.operations (K.meaning body.now)) view.entry.cells.now.journal K.bit node result flags.old flags.new rows.old rows.new }
+{
+    if has_bit::<K>(flags.at(node)) {
+        return rows.at(node);
+    }
+    learn(view, body, flags, rows, node)
+}
+
+// The same, computed and kept: what is found for the node alone, or else the join of its eight children, which are made known
+// first. It stays out of the walk, so that a walk over what is kept is short.
+#[inline(never)]
+fn learn<K: OfSix>(
+    view: View<'_, SixSummary>,
+    body: &K,
+    flags: &mut NodeRows<u8>,
+    rows: &mut NodeRows<K::S>,
+    node: Node,
+) -> K::S
+    requires parts { ArePartsFolds (K.operations (K.meaning body.now)) K.part_in view.cells.now.journal view.table.now }
+    requires can { CanAskBy (K.operations (K.meaning body.now)) view.cells.now.journal K.bit flags.old rows.old }
+    requires whole { is_whole view.cells.now.journal node ≡ true }
+    ensures { KnowsBy (K.operations (K.meaning body.now)) view.entry.cells.now.journal K.bit node result flags.old flags.new rows.old rows.new }
+{
+    if let Some(summary) = found(view, body, node) {
+        keep::<K>(flags, rows, node, summary);
+        return summary;
+    }
+    // The node's number is small, since the elements are few.
+    let _size = view.cells.size();
+    let known = flags.children(node);
+    for k in 0..8 {
+        if !has_bit::<K>(known[k as usize]) {
+            learn(view, body, flags, rows, node.child(k));
+        }
+    }
+    let summary = join_children(view, body, rows, node);
+    keep::<K>(flags, rows, node, summary);
+    summary
+}
+
+// The summary of a whole node without its children: of a fresh one its part of what was delivered, of another block the fold of its
+// elements.
+fn found<K: OfSix>(view: View<'_, SixSummary>, body: &K, node: Node) -> Option<K::S>
+    requires parts { ArePartsFolds (K.operations (K.meaning body.now)) K.part_in view.cells.now.journal view.table.now }
+    requires whole { is_whole view.cells.now.journal node ≡ true }
+    ensures some { IfSome result (λ s. s ≡ fold_of (K.operations (K.meaning body.now)) (elements_under view.entry.cells.now.journal node)) }
+    ensures none { IfNone result (1 < node.level) }
+{
+    if view.table.fresh(node) {
+        return Some(part_of_entry(view, body, node));
+    }
+    if node.level > 1 {
+        return None;
+    }
+    let elements = view.cells.block(node.number);
+    Some(fold_slice(body, &elements))
+}
+
+// The kind's part of what was delivered for a fresh node. It has a function of its own, since summaries of all six are wide.
+#[inline(never)]
+fn part_of_entry<K: OfSix>(view: View<'_, SixSummary>, body: &K, node: Node) -> K::S
+    requires parts { ArePartsFolds (K.operations (K.meaning body.now)) K.part_in view.cells.now.journal view.table.now }
+    requires fresh { fresh_in view.table.now node ≡ true }
+    ensures { result ≡ fold_of (K.operations (K.meaning body.now)) (elements_under view.entry.cells.now.journal node) }
+{
+    let Some(six) = view.table.entry(node) else {
+        unreachable!()
+    };
+    K::part(six)
+}
+
+// The join of what is kept of the eight children of a whole node, from left to right.
+#[inline(always)]
+fn join_children<K: OfSix>(
+    view: View<'_, SixSummary>,
+    body: &K,
+    rows: &NodeRows<K::S>,
+    node: Node,
+) -> K::S
+    requires whole { is_whole view.cells.now.journal node ≡ true }
+    requires above { 1 < node.level }
+    requires folds { (k : ℕ) → k < 8 → value_at rows.now (child node k) ≡ fold_of (K.operations (K.meaning body.now)) (elements_under view.cells.now.journal (child node k)) }
+    ensures { result ≡ fold_of (K.operations (K.meaning body.now)) (elements_under view.entry.cells.now.journal node) }
+{
+    // The elements are few enough for a fold.
+    let _size = view.cells.size();
+    let written = rows.written_below(node);
+    let blank = rows.blank();
+    let mut sum = value_of(written, 0, blank);
+    for k in 1..8 {
+        sum = join(body, sum, value_of(written, k, blank));
+    }
+    sum
+}
+
+// Keeps a summary of a node, and sets its bit.
+#[inline(always)]
+fn keep<K: OfSix>(flags: &mut NodeRows<u8>, rows: &mut NodeRows<K::S>, node: Node, summary: K::S)
+    requires member { is_node node ≡ true }
+    requires flags_room { is_below node (8 * flags.old.blocks) ≡ true }
+    requires rows_room { is_below node (8 * rows.old.blocks) ≡ true }
+    ensures flag { PutsValue flags.old flags.new node (bit_or (value_at flags.old node) (2 ^ K.bit)) }
+    ensures row { PutsValue rows.old rows.new node summary }
+{
+    let byte = flags.at(node);
+    flags.put(node, byte | K::mask());
+    rows.put(node, summary);
+}
+
+// Whether a byte has the kind's bit.
+#[inline(always)]
+fn has_bit<K: OfSix>(byte: u8) -> bool
+    ensures { result ≡ nat_eq (bit_at byte K.bit) 1 }
+{
+    byte & K::mask() != 0
+}

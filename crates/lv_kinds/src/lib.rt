@@ -1,0 +1,17 @@
+//! Summaries by one kind: what a vector was asked by a kind is kept by that kind, until an edit touches it.
+//!
+//! Beside the table of a vector, whose summaries are of all six kinds and come from refresh, stand a byte for each node and a row
+//! for each kind. A bit of the byte says that the row of its kind is the fold of the node's elements. A question by a kind computes
+//! and keeps that kind alone, an edit clears six bytes, and a row is written when it is first wanted.
+#![tactic(auto)]
+
+mod asking;
+mod kind_summaries;
+mod kinds;
+mod node_rows;
+mod of_six;
+
+pub use kind_summaries::KindSummary;
+pub use kinds::{KindAnswer, Kinds};
+pub use node_rows::NodeRows;
+pub use of_six::OfSix;
