@@ -12,16 +12,18 @@ use Rattle.std.proofs.lemmas.List.Filters.{length-filter_more}
 use Rattle.std.proofs.lemmas.Option.{get_or_from_slice_get, slice_get_within}
 use Rattle.indexmap.specs.IndexMap.{set_value_at}
 use Rattle.lv_geometry.specs.declared.refusals.Refusal.TheVariants.{BadRange, NameTaken, TooMany}
+use Rattle.lv_bodies.specs.Body.{fold_of}
+use Rattle.lv_bodies.specs.Six.{six_operations}
 use Rattle.lv_edits.specs.declared.edit.Edit.{Edit}
 use Rattle.lv_edits.specs.History.{list_of}
 use Rattle.lv_standing.specs.declared.changes.Changed.{Changed}
 use Rattle.lv_standing.specs.declared.watches.Watch.{Watch}
 use Rattle.lv_standing.specs.Queries.{Query, name_refusal, query_of, watch_refusal, without_query}
-use Rattle.lv_standing.specs.Inner.{asked, has_changed, refreshed, six_of}
-use Rattle.lv_standing.specs.Kinds.{kind_of}
+use Rattle.lv_standing.specs.Inner.{asked, has_changed, refreshed}
+use Rattle.lv_kinds.specs.KindSummaries.{kind_of}
 use Rattle.lv_standing.specs.Standings.{IsCurrent, queries_of, query_at}
 use Rattle.lv_standing.proofs.KeptNames.{same_name}
-use Rattle.lv_standing.proofs.KindLaws.{kind_of_part, summary_is_current}
+use Rattle.lv_kinds.proofs.KindLaws.{kind_of_part, summary_is_current}
 
 -- a test says yes or no
 either_way : (b : Bool) → (b ≡ true) ⊎ (b ≡ false)
@@ -218,6 +220,6 @@ all_refreshed edits (e ∷ entries) = (summary_is_current (kind_of e.1.summary) 
 pub queries_refreshed : (edits : List Edit) (entries : List (List ℕ × Watch)) → queries_of (map (refreshed edits) entries) ≡ queries_of entries
 queries_refreshed edits [] = refl
 queries_refreshed edits (e ∷ entries) =
-    let kind = kind_of_part (kind_of e.1.summary) (six_of edits e.1.lo e.1.hi) in
+    let kind = kind_of_part (kind_of e.1.summary) (fold_of six_operations (slice_range (list_of edits) e.1.lo e.1.hi)) in
     ap (λ k. record { name = e.0; kind = k; lo = e.1.lo; hi = e.1.hi } ∷ queries_of (map (refreshed edits) entries)) kind
     ∙ ap (λ qs. query_at e ∷ qs) (queries_refreshed edits entries)

@@ -1,16 +1,13 @@
 -- What the code of standing queries passes on from one to the next: which indices an edit changed, and what that makes of the entries.
-use Rattle.std.specs.Prelude.{◌≡◌, ◌≢◌, ◌⊎◌, ◌≤◌, ℕ, ℤ, Bool, ◌&&◌, ◌||◌, max, min, Option, Some, None, false, List, [], ◌∷◌, ◌-◌, length, filter, nat_eq, nat_le, nat_lt, if◌then◌else◌, ◌++◌, slice_get}
+use Rattle.std.specs.Prelude.{◌≡◌, ◌≢◌, ◌⊎◌, ◌≤◌, ℕ, ℤ, Bool, ◌&&◌, ◌||◌, max, min, Option, Some, None, false, List, [], ◌∷◌, ◌+◌, ◌-◌, length, filter, nat_eq, nat_le, nat_lt, if◌then◌else◌, ◌++◌, slice_get}
 use Rattle.std.specs.List.{slice_range}
 use Rattle.indexmap.specs.IndexMap.{set_value_at}
-use Rattle.lv_bodies.specs.Body.{fold_of}
-use Rattle.lv_bodies.specs.Six.{SixSummary, six_operations}
 use Rattle.lv_bodies.specs.declared.kinds.Shown.{Shown}
 use Rattle.lv_edits.specs.declared.edit.Edit.{Edit}
 use Rattle.lv_edits.specs.declared.edit.Edit.TheVariants.{Push, Pop, Write, Reserve, Swap, Truncate}
 use Rattle.lv_edits.specs.History.{list_of}
 use Rattle.lv_standing.specs.declared.changes.Changed.{Changed}
 use Rattle.lv_standing.specs.declared.changes.Changed.TheVariants.{Nothing, One, Two, Between}
-use Rattle.lv_standing.specs.declared.watches.OfRange.{OfRange}
 use Rattle.lv_standing.specs.declared.watches.Watch.{Watch}
 use Rattle.lv_standing.specs.declared.notes.Note.{Note}
 use Rattle.lv_standing.specs.Queries.{AreNotes}
@@ -20,14 +17,6 @@ use Rattle.lv_standing.specs.Standings.{query_at, summary_at}
 abbrev pub refreshed : List Edit → List ℕ × Watch → List ℕ × Watch
 refreshed edits entry = (entry.0, record entry.1 { summary = summary_at edits entry.1 })
 
--- what all six make of the elements that a range has after some edits
-abbrev pub six_of : List Edit → ℕ → ℕ → SixSummary
-six_of edits lo hi = fold_of six_operations (slice_range (list_of edits) lo hi)
-
--- it is what all six make of its range
-abbrev pub IsOfRange : List Edit → OfRange → Type 0
-IsOfRange edits range = range.six ≡ six_of edits range.lo range.hi
-
 -- the indices whose elements an edit of a vector of this size changes, brings or drops
 abbrev pub changed_by : ℕ → Edit → Changed
 changed_by size (Push x) = One size
@@ -36,6 +25,15 @@ changed_by size (Write i x) = One i
 changed_by size (Reserve n) = Nothing
 changed_by size (Swap i j) = if nat_eq i j then Nothing else Two i j
 changed_by size (Truncate n) = Between n size
+
+-- how many elements a vector of this size has after an edit that it accepts
+abbrev pub size_after : ℕ → Edit → ℕ
+size_after size (Push x) = size + 1
+size_after size Pop = size - 1
+size_after size (Write i x) = size
+size_after size (Reserve n) = size
+size_after size (Swap i j) = size
+size_after size (Truncate n) = n
 
 -- the element that an edit brings at the end, if it brings one
 abbrev pub pushed_by : Edit → Option ℤ

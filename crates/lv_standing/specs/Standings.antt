@@ -1,21 +1,27 @@
 -- What a vector with standing queries holds.
-use Rattle.std.specs.Prelude.{◌≡◌, ◌≤◌, ℕ, List, length, map}
+use Rattle.std.specs.Prelude.{◌≡◌, ◌≤◌, ℕ, ℤ, true, false, List, length, map}
 use Rattle.std.specs.List.{AllByRecursion, slice_range}
+use Rattle.lv_geometry.specs.declared.nodes.Node.{Node}
+use Rattle.lv_bodies.specs.declared.kinds.Kind.{Kind}
 use Rattle.lv_bodies.specs.declared.sixes.Six.{Six}
+use Rattle.lv_bodies.specs.Plain.{program_table}
 use Rattle.lv_bodies.specs.Six.{SixSummary}
 use Rattle.lv_edits.specs.declared.edit.Edit.{Edit}
 use Rattle.lv_edits.specs.History.{list_of}
 use Rattle.lv_edits.specs.Kept.{IsLegalInLimits}
+use Rattle.lv_edits.specs.Touch.{touches}
 use Rattle.lv_live.specs.State.{LiveState}
-use Rattle.lv_standing.specs.declared.kinds.KindSummary.{KindSummary}
+use Rattle.lv_kinds.specs.declared.kind_summaries.KindSummary.{KindSummary}
+use Rattle.lv_kinds.specs.Kinds.{AreKept, KindsState, is_kept_by}
+use Rattle.lv_kinds.specs.KindSummaries.{kind_of, summary_of}
 use Rattle.lv_standing.specs.declared.watches.Watch.{Watch}
-use Rattle.lv_standing.specs.Kinds.{kind_of, summary_of}
 use Rattle.lv_standing.specs.Queries.{Query}
 
--- a live vector of all six bodies, and its standing queries in order of registration
+-- a live vector of all six bodies, its standing queries in order of registration, and what it keeps by kind of what it was asked
 pub record StandingState : Type 0 where
   pub live : LiveState Six SixSummary
   pub queries : List Query
+  pub kinds : KindsState
 
 -- the query that a name and its watch stand for
 abbrev pub query_at : List ℕ × Watch → Query
@@ -33,8 +39,18 @@ summary_at edits watch = summary_of (kind_of watch.summary) (slice_range (list_o
 abbrev pub IsCurrent : List Edit → List ℕ × Watch → Type 0
 IsCurrent edits entry = entry.1.summary ≡ summary_at edits entry.1
 
--- the vector is within its limits, there are at most 64 queries, and each watch keeps the summary of its range at the last edit
-pub record IsStanding (live : LiveState Six SixSummary) (entries : List (List ℕ × Watch)) : Type 0 where
+-- each summary that was kept by its kind still is
+abbrev pub StillKept : KindsState → KindsState → Type 0
+StillKept old new = (k : Kind) (n : Node) → is_kept_by old k n ≡ true → is_kept_by new k n ≡ true
+
+-- so is each whose node an edit of a list doesn't touch
+abbrev pub KeptUntouched : List ℤ → Edit → KindsState → KindsState → Type 0
+KeptUntouched xs edit old new = (k : Kind) (n : Node) → touches xs edit n ≡ false → is_kept_by old k n ≡ true → is_kept_by new k n ≡ true
+
+-- the vector is within its limits, there are at most 64 queries, each watch keeps the summary of its range at the last edit, and
+-- what is kept by kind is true of the vector
+pub record IsStanding (live : LiveState Six SixSummary) (entries : List (List ℕ × Watch)) (kinds : KindsState) : Type 0 where
   pub limits : IsLegalInLimits live.history
   pub few : length entries ≤ 64
   pub current : AllByRecursion (IsCurrent live.history.journal) entries
+  pub kept : AreKept program_table live.history.journal kinds

@@ -1,5 +1,5 @@
-ghost use Rattle.std.specs.Prelude.{◌≡◌};
-ghost use Rattle.lv_standing.specs.Inner.{changed_by, pushed_by};
+ghost use Rattle.std.specs.Prelude.{◌≡◌, ◌≤◌};
+ghost use Rattle.lv_standing.specs.Inner.{changed_by, pushed_by, size_after};
 
 use lv_edits::Edit;
 
@@ -30,6 +30,19 @@ pub fn changed_by(edit: &Edit, size: u32) -> Changed
             }
         }
         Edit::Truncate(count) => Changed::Between(*count, size),
+    }
+}
+
+/// How many elements a vector of this size has after an edit that it accepts.
+pub fn size_after(edit: &Edit, size: u32) -> u32
+    requires { size ≤ 1048568 }
+    ensures { result ≡ size_after size edit.now }
+{
+    match edit {
+        Edit::Push(_) => size + 1,
+        Edit::Pop => size.saturating_sub(1),
+        Edit::Truncate(count) => *count,
+        Edit::Write { .. } | Edit::Reserve(_) | Edit::Swap { .. } => size,
     }
 }
 

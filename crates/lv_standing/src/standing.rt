@@ -1,6 +1,7 @@
-ghost use Rattle.std.specs.Prelude.{◌≡◌, ◌↔◌, ◌⊎◌, ◌≤◌, None, Some, IsTrue, IsSome, IfSome, IfOk, IfErr, OnOk, OnErr, List, [], ◌∷◌, ◌++◌, length, option_map};
+ghost use Rattle.std.specs.Prelude.{◌≡◌, ◌↔◌, ◌⊎◌, ◌+◌, ◌≤◌, None, Some, IsTrue, IsSome, IfSome, IfOk, IfErr, OnOk, OnErr, List, [], ◌∷◌, ◌++◌, length, option_map};
 ghost use Rattle.lv_geometry.specs.declared.nodes.Node.{Node};
 ghost use Rattle.lv_bodies.specs.Six.{six_operations};
+ghost use Rattle.lv_edits.specs.History.{list_of};
 ghost use Rattle.lv_edits.specs.Kept.{IsLegalInLimits};
 ghost use Rattle.lv_edits.specs.Verdict.{Accepts, IsRefusal, Refuses};
 ghost use Rattle.lv_summary.specs.Changes.{OnlyLearns};
@@ -11,18 +12,22 @@ ghost use Rattle.lv_refresh.specs.Claim.{IsNextJob};
 ghost use Rattle.lv_refresh.specs.Delivery.{delivery_of};
 ghost use Rattle.lv_refresh.specs.Honesty.{IsHonest, Vouched};
 ghost use Rattle.lv_live.specs.State.{HasClaim, HasDelivery, HasNoClaims, SameLive, SameRefresh, node_and_version, recorded};
+ghost use Rattle.lv_kinds.specs.Kinds.{is_kept_by};
+ghost use Rattle.lv_standing.specs.Standings.{KeptUntouched, StillKept};
 ghost use Rattle.lv_standing.specs.Queries.{AreNotes, Query, query_of, watch_answer, watch_refusal, without_query, IsValue};
 
+use crate::asking::{ask_by_kind, ask_inside};
 use crate::changes::{changed_by, pushed_by};
-use crate::kinds::KindSummary;
+use crate::making::make;
 use crate::names::Name;
 use crate::notes::{Answered, Note};
 use crate::values::{SHORT, folded};
-use crate::watches::{Watch, ask, count_asked, tell};
+use crate::watches::{Watch, count_asked, tell};
 use indexmap::IndexMap;
-use lv_bodies::{Body, Kind, Six, SixSummary, face};
+use lv_bodies::{Body, Kind, Six, SixSummary};
 use lv_edits::{Edit, Receipt};
 use lv_geometry::{Limits, Refusal};
+use lv_kinds::Kinds;
 use lv_live::Live;
 use lv_reduce::Answer;
 use lv_refresh::{Job, Outcome};
@@ -30,11 +35,12 @@ use lv_summary::Accepted;
 use std::alloc::Global;
 use std::marker::Model;
 
-/// A live vector of all six bodies, with standing queries by name.
+/// A live vector of all six bodies, with standing queries by name. What it is asked by a kind is kept by that kind.
 #[derive(Drop)]
 pub struct Standing {
     live: Live<Six>,
     watches: IndexMap<Name, Watch>,
+    kinds: Kinds,
 }
 
 impl Model for Standing {
@@ -42,9 +48,9 @@ impl Model for Standing {
 
     ghost Value = { StandingState };
 
-    ghost view = { λ a. record { live = a.live; queries = queries_of a.watches.entries } };
+    ghost view = { λ a. record { live = a.live; queries = queries_of a.watches.entries; kinds = a.kinds } };
 
-    ghost invariant = { λ a. IsStanding a.live a.watches.entries };
+    ghost invariant = { λ a. IsStanding a.live a.watches.entries a.kinds };
 }
 
 impl Standing {
@@ -59,17 +65,19 @@ impl Standing {
         Standing {
             live: Live::new(alloc, limits, Six),
             watches: IndexMap::new(alloc),
+            kinds: Kinds::new(alloc),
         }
     }
 
     /// Registers a query. Refused with `BadRange`, `NameTaken`, `TooMany`, then `NoMemory`. The range may reach past the end:
-    /// what of it exists is asked.
+    /// what of it exists is asked, by the query's kind, and what is computed for it is kept by that kind.
     pub fn watch(&mut self, name: Name, kind: Kind, lo: u32, hi: u32) -> Result<(), Refusal>
         ensures ok { OnOk result ((watch_refusal self.old.queries name lo hi ≡ None)
             × (self.new.queries ≡ self.old.queries ++ record { name = name; kind = kind; lo = lo; hi = hi } ∷ [])) }
         ensures err { IfErr result (λ refusal. IsRefusal (watch_refusal self.old.queries name lo hi) refusal) }
         ensures unchanged { OnErr result (self.new.queries ≡ self.old.queries) }
         ensures live { self.new.live ≡ self.old.live }
+        ensures remembers { StillKept self.old.kinds self.new.kinds }
     {
         if lo > hi {
             return Err(Refusal::BadRange);
@@ -80,7 +88,7 @@ impl Standing {
         if self.watches.len() >= 64 {
             return Err(Refusal::TooMany);
         }
-        let summary = KindSummary::of(kind, ask(&self.live, lo, hi));
+        let summary = ask_inside(&self.live, &mut self.kinds, kind, lo, hi);
         let watch = Watch { lo, hi, summary };
         let Ok(_) = self.watches.insert(name, watch) else {
             return Err(Refusal::NoMemory);
@@ -119,7 +127,8 @@ impl Standing {
     }
 
     /// Makes an edit, and tells of each query whose answer it changed, in order of registration, with the answer after. Refused
-    /// as the vector's verdict says, then with `NoMemory`: the room for the notes is made before the edit.
+    /// as the vector's verdict says, then with `NoMemory`: the room for the notes, and for what may be kept by kind, is made before
+    /// the edit. What is kept by kind of a node that the edit doesn't touch stays.
     pub fn edit(&mut self, alloc: Global, edit: Edit) -> Result<(Receipt, Vec<Note>), Refusal>
         ensures ok { IfOk result (λ told. Accepts self.old.live.history edit told.0 self.new.live.history) }
         ensures err { IfErr result (λ refusal. Refuses self.old.live.history edit refusal self.new.live.history) }
@@ -128,6 +137,7 @@ impl Standing {
         ensures limits { IsLegalInLimits self.new.live.history }
         ensures refresh { SameRefresh self.old.live self.new.live }
         ensures queries { self.new.queries ≡ self.old.queries }
+        ensures remembers { IfOk result (λ _. KeptUntouched (list_of self.old.live.history.journal) edit self.old.kinds self.new.kinds) }
     {
         if let Some(refusal) = self.live.verdict(&edit) {
             return Err(refusal);
@@ -136,9 +146,10 @@ impl Standing {
         let Ok(mut notes) = Vec::with_capacity(alloc, count_asked(&self.watches, changed)) else {
             return Err(Refusal::NoMemory);
         };
-        let receipt = self.live.make(edit)?;
+        let receipt = make(&mut self.live, &mut self.kinds, edit)?;
         tell(
-            &mut self.live,
+            &self.live,
+            &mut self.kinds,
             &mut self.watches,
             changed,
             pushed_by(&edit),
@@ -163,8 +174,8 @@ impl Standing {
     }
 
     /// The value of a kind over the elements from index `lo` up to `hi`. A short range is folded by that kind alone, where its
-    /// elements lie; of a longer one what is computed is kept, as `ask` does. Refused with `BadRange`, then `OutOfRange`. Takes no
-    /// memory.
+    /// elements lie; of a longer one what is computed is kept by that kind, until an edit touches it. Refused with `BadRange`, then
+    /// `OutOfRange`. Takes no memory.
     pub fn value(&mut self, kind: Kind, lo: u32, hi: u32) -> Result<Answered, Refusal>
         ensures ok { IfOk result (λ answered. IsValue self.old.live.history.journal kind lo hi answered) }
         ensures err { IfErr result (λ refusal. range_refusal self.old.live.history.journal lo hi ≡ Some refusal) }
@@ -172,14 +183,17 @@ impl Standing {
         ensures learns { OnlyLearns self.old.live.table self.new.live.table }
         ensures queries { self.new.queries ≡ self.old.queries }
         ensures limits { IsLegalInLimits self.new.live.history }
+        ensures same { self.new.live ≡ self.old.live }
+        ensures remembers { StillKept self.old.kinds self.new.kinds }
+        ensures known { IfOk result (λ _. (hi ≤ lo + 64) ⊎ AreTopsKnown (is_kept_by self.new.kinds kind) lo hi) }
     {
         if hi.saturating_sub(lo) <= SHORT {
             return folded(&self.live, kind, lo, hi);
         }
-        let answer = self.live.ask(lo, hi)?;
+        let answer = ask_by_kind(&self.live, &mut self.kinds, kind, lo, hi)?;
         Ok(Answered {
             edit: answer.edit,
-            value: face(kind, answer.value),
+            value: answer.summary.shown(),
         })
     }
 

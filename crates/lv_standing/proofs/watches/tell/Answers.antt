@@ -1,11 +1,9 @@
-use Rattle.std.proofs.Common.{◌≡◌, ◌∙◌, IfSome, ◌+◌, ap, sym, arith, length, drop, vec_capacity, ◌<◌}
-use Rattle.lv_edits.specs.Kept.{IsLegalInLimits}
-use Rattle.lv_standing.specs.Inner.{IsOfRange, IsPushed, SameElsewhere, asked}
+use Rattle.std.proofs.Common.{◌≡◌, ◌∙◌, ◌+◌, ap, sym, arith, length, drop, vec_capacity, ◌<◌}
+use Rattle.lv_standing.specs.Inner.{asked}
 use Rattle.lv_standing.specs.Standings.{IsCurrent}
 use Rattle.lv_geometry.proofs.Ranges.{there_is}
 use Rattle.lv_standing.proofs.EntryLaws.{all_at, asked_more, rest_is}
 use Rattle.lv_standing.proofs.NoteLaws.{as_before, as_long, told_entries, told_notes, told_room}
-use Rattle.lv_standing.proofs.SameLaws.{same_live-along}
 use Rattle.lv_standing.proofs.watches.tell.Goals as goal
 
 pub tell_one-requires : goal.tell_one-requires
@@ -14,25 +12,20 @@ tell_one-requires g c =
     let all = c.args.watches.now.entries in
     let inside : c.loop-i.i < length all = omega (arith, c.len-i-end.ensures.len) in
     let same : length c.loop-i.watches.entries ≡ length all = as_long new all c.loop-i.watches.entries c.loop-i.i inside c.loop-i.invariant.entries in
-    let kept = as_before new all c.loop-i.watches.entries c.loop-i.i inside c.loop-i.invariant.entries in
-    let still = c.loop-i.invariant.live.history in
-    let limits : IsLegalInLimits c.loop-i.live.history = rw still c.requires.0 in
-    let elsewhere : SameElsewhere c.args.changed g.old c.loop-i.live.history.journal = rw still c.requires.1.1.0 in
-    let pushed : IfSome c.args.pushed (IsPushed c.args.changed g.old c.loop-i.live.history.journal) = rw still c.requires.1.1.1.0 in
-    let last : IfSome c.loop-i.last (IsOfRange c.loop-i.live.history.journal) = rw still c.loop-i.invariant.last in (
-      limits,
+    let kept = as_before new all c.loop-i.watches.entries c.loop-i.i inside c.loop-i.invariant.entries in (
+      c.requires.0,
       (
-        c.requires.1.0,
+        c.loop-i.invariant.kept,
         (
-          elsewhere,
+          c.requires.1.1.0,
           (
-            pushed,
+            c.requires.1.1.1.0,
             (
-              last,
+              c.requires.1.1.1.1.0,
               (
                 omega (arith, inside, same),
                 (
-                  (λ e at. all_at (IsCurrent g.old) all c.loop-i.i e c.requires.1.1.1.1.0 (sym kept ∙ at)),
+                  (λ e at. all_at (IsCurrent g.old) all c.loop-i.i e c.requires.1.1.1.1.1.0 (sym kept ∙ at)),
                   (λ e at. omega (arith, c.loop-i.invariant.room, c.loop-i.notes.ok.0, asked_more c.args.changed e (drop (c.loop-i.i + 1) all), ap (λ es. length (asked c.args.changed es)) (rest_is all c.loop-i.i e (sym kept ∙ at)))),
                 ),
               ),
@@ -49,12 +42,12 @@ loop-i-preserved g c =
     let inside : c.loop-i.i < length all = omega (arith, c.len-i-end.ensures.len) in
     let there = there_is all c.loop-i.i inside in
     let kept = as_before new all c.loop-i.watches.entries c.loop-i.i inside c.loop-i.invariant.entries in
-    let told = rw c.loop-i.invariant.live.history at (c.tell_one.ensures.told there.0 (kept ∙ there.1)) in
+    let told = c.tell_one.ensures.told there.0 (kept ∙ there.1) in
     record {
-      live = same_live-along c.args.live.now c.loop-i.live c.tell_one.new.live c.loop-i.invariant.live c.tell_one.ensures.live;
+      kept = c.tell_one.ensures.kept;
+      remembers = λ k n was. c.tell_one.ensures.remembers k n (c.loop-i.invariant.remembers k n was);
       entries = told_entries g.old new c.args.changed all c.loop-i.watches.entries c.tell_one.new.watches.entries c.loop-i.i c.loop-i.notes.items c.tell_one.new.notes.items there.0 there.1 inside c.loop-i.invariant.entries told;
       notes = told_notes g.old new c.args.changed all c.loop-i.watches.entries c.tell_one.new.watches.entries c.loop-i.i c.loop-i.notes.items c.tell_one.new.notes.items there.0 there.1 inside c.loop-i.invariant.entries told c.loop-i.invariant.notes;
-      last = rw (← c.loop-i.invariant.live.history) c.tell_one.ensures.last;
       room = told_room g.old new c.args.changed all c.loop-i.watches.entries c.tell_one.new.watches.entries c.loop-i.i c.loop-i.notes.items c.tell_one.new.notes.items there.0 there.1 inside c.loop-i.invariant.entries told (vec_capacity c.tell_one.new.notes)
           (omega (arith, c.tell_one.ensures.capacity, c.loop-i.invariant.room));
     }

@@ -12,8 +12,11 @@ summary_after-summary-requires g c =
     let inside : has_changed e.1.lo e.1.hi c.args.changed ≡ true = search rules in (
       c.requires.0,
       (
-        c.requires.1.1.1.1.1.1.0 e c.watch_at-name.ensures,
-        (pushed_inside g.old c.args.live.now.history.journal c.args.changed c.args.pushed e.1.lo e.1.hi inside c.requires.1.1.1.0, c.requires.1.1.1.1.0),
+        c.requires.1.0,
+        (
+          c.requires.1.1.1.1.1.1.0 e c.watch_at-name.ensures,
+          pushed_inside g.old c.args.live.now.history.journal c.args.changed c.args.pushed e.1.lo e.1.hi inside c.requires.1.1.1.1.0,
+        ),
       ),
     )
 
@@ -24,7 +27,7 @@ returns-then-not-has_changed-clause-told g c = λ e at.
     let same : here ≡ e = cc in
     let apart : has_changed here.1.lo here.1.hi c.args.changed ≡ false = search rules in
     subst (IsToldAt c.args.changed g.old c.args.live.now.history.journal c.args.watches.now.entries c.args.watches.now.entries c.args.i c.args.notes.now.items c.args.notes.now.items) same
-    (told_nothing g.old c.args.live.now.history.journal c.args.changed c.args.watches.now.entries c.args.i c.args.notes.now.items here c.watch_at-name.ensures apart c.requires.1.1.0
+    (told_nothing g.old c.args.live.now.history.journal c.args.changed c.args.watches.now.entries c.args.i c.args.notes.now.items here c.watch_at-name.ensures apart c.requires.1.1.1.0
     (c.requires.1.1.1.1.1.1.0 here c.watch_at-name.ensures))
 
 pub returns-clause-told : goal.returns-clause-told
@@ -37,7 +40,7 @@ returns-clause-told g c = λ e at.
     subst (IsToldAt c.args.changed g.old c.args.live.now.history.journal c.args.watches.now.entries c.keep.new.watches.entries c.args.i c.args.notes.now.items c.note_change.new.notes.items) same
     (told_change g.old c.args.live.now.history.journal c.args.changed c.args.watches.now.entries c.args.i c.args.notes.now.items here c.watch_at-name.ensures
     c.note_change.new.notes.items c.summary_after-summary.result
-    (part_can_fold _ here.1.lo (list_of g.old) c.requires.1.0)
+    (part_can_fold _ here.1.lo (list_of g.old) c.requires.1.1.0)
     (range_can_fold c.args.live.now.history here.1.lo here.1.hi c.requires.0)
     inside
     (c.requires.1.1.1.1.1.1.0 here c.watch_at-name.ensures)

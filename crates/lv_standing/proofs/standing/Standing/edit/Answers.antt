@@ -30,24 +30,27 @@ pushed_after old new edit changed x grown is by pushed =
 pub tell-requires : goal.tell-requires
 tell-requires c =
     let before = c.self.inside.live.history in
-    let after = c.make.new.self.history in
+    let after = c.make.new.live.history in
     let grown = c.in_ok-receipt.ensures.answer.journal in
     let back = was before after c.args.edit grown in
     let changed : c.changed_by-changed.result ≡ changed_by (length (list_of before.journal)) c.args.edit = c.changed_by-changed.ensures ∙ ap (λ n. changed_by n c.args.edit) c.size.ensures in
     let pushed = push_is_last before c.args.edit c.self.invariant.limits.legal c.in_ok-receipt.ensures.answer.verdict in (
       c.make.ensures.limits,
       (
-        subst (λ js. CanFold (list_of js)) (sym back) (can_fold before c.self.invariant.limits),
+        c.make.ensures.kept,
         (
-          (λ lo hi apart.
-              ap (λ (h : History). slice_range (list_of h.journal) lo hi) grown
-              ∙ edit_elsewhere before c.args.edit lo hi c.self.invariant.limits.legal c.in_ok-receipt.ensures.answer.verdict (sym (ap (has_changed lo hi) changed) ∙ apart)
-              ∙ ap (λ js. slice_range (list_of js) lo hi) (sym back)),
+          subst (λ js. CanFold (list_of js)) (sym back) (can_fold before c.self.invariant.limits),
           (
-            pushed_after before after c.args.edit c.changed_by-changed.result c.pushed_by.result grown changed c.pushed_by.ensures pushed,
+            (λ lo hi apart.
+                ap (λ (h : History). slice_range (list_of h.journal) lo hi) grown
+                ∙ edit_elsewhere before c.args.edit lo hi c.self.invariant.limits.legal c.in_ok-receipt.ensures.answer.verdict (sym (ap (has_changed lo hi) changed) ∙ apart)
+                ∙ ap (λ js. slice_range (list_of js) lo hi) (sym back)),
             (
-              subst (λ js. AllByRecursion (IsCurrent js) c.self.inside.watches.entries) (sym back) c.self.invariant.current,
-              (c.in-Ok.ensures.items, omega (arith, c.count_asked.ensures, c.in-Ok.ensures.capacity)),
+              pushed_after before after c.args.edit c.changed_by-changed.result c.pushed_by.result grown changed c.pushed_by.ensures pushed,
+              (
+                subst (λ js. AllByRecursion (IsCurrent js) c.self.inside.watches.entries) (sym back) c.self.invariant.current,
+                (c.in-Ok.ensures.items, omega (arith, c.count_asked.ensures, c.in-Ok.ensures.capacity)),
+              ),
             ),
           ),
         ),
@@ -56,9 +59,10 @@ tell-requires c =
 
 pub invariant_of-self-2 : goal.invariant_of-self-2
 invariant_of-self-2 c = record {
-  limits = rw c.tell.ensures.live.history c.make.ensures.limits;
-  few = omega (arith, ap length c.tell.ensures.entries, length-map c.self.inside.watches.entries (refreshed c.make.new.self.history.journal), c.self.invariant.few);
-  current = rw c.tell.ensures.live.history (subst (AllByRecursion (IsCurrent c.make.new.self.history.journal)) (sym c.tell.ensures.entries) (all_refreshed c.make.new.self.history.journal c.self.inside.watches.entries));
+  limits = c.make.ensures.limits;
+  few = omega (arith, ap length c.tell.ensures.entries, length-map c.self.inside.watches.entries (refreshed c.make.new.live.history.journal), c.self.invariant.few);
+  current = subst (AllByRecursion (IsCurrent c.make.new.live.history.journal)) (sym c.tell.ensures.entries) (all_refreshed c.make.new.live.history.journal c.self.inside.watches.entries);
+  kept = c.tell.ensures.kept;
 }
 
 pub returns-clause-few : goal.returns-clause-few
@@ -66,4 +70,7 @@ returns-clause-few c =
     omega (arith, few_notes _ _ (queries_of c.self.inside.watches.entries) c.tell.new.notes.items c.tell.ensures.notes, length-map c.self.inside.watches.entries query_at, c.self.invariant.few)
 
 pub returns-clause-queries : goal.returns-clause-queries
-returns-clause-queries c = rw (← c.self.view_is) (ap queries_of c.tell.ensures.entries ∙ queries_refreshed c.make.new.self.history.journal c.self.inside.watches.entries)
+returns-clause-queries c = rw (← c.self.view_is) (ap queries_of c.tell.ensures.entries ∙ queries_refreshed c.make.new.live.history.journal c.self.inside.watches.entries)
+
+pub returns-clause-remembers : goal.returns-clause-remembers
+returns-clause-remembers c = rw (← c.self.view_is) (λ k n apart was. c.tell.ensures.remembers k n (c.make.ensures.remembers k n apart was))

@@ -15,6 +15,7 @@ invariant_of-self-2 c = record {
   few = omega (arith, c.in-Some.ensures.len, c.self.invariant.few);
   current = subst (AllByRecursion (IsCurrent c.self.inside.live.history.journal)) (sym c.in-Some.ensures.entries)
       (all_removed (IsCurrent c.self.inside.live.history.journal) (bytes_eq c.args.name) c.self.inside.watches.entries c.self.invariant.current);
+  kept = c.self.invariant.kept;
 }
 
 pub returns-clause-ok : goal.returns-clause-ok

@@ -1,0 +1,4 @@
+use Rattle.lv_standing.proofs.making.make.Given as goal
+
+abbrev pub ghost-follow : goal.ghost-follow
+ghost-follow g a = g.before

@@ -1,0 +1,12 @@
+use Rattle.std.proofs.Common.{arith}
+use Rattle.lv_bodies.specs.Plain.{program_table}
+use Rattle.lv_standing.proofs.standing.Standing.new.Goals as goal
+
+pub invariant_of-result : goal.invariant_of-result
+invariant_of-result c =
+    rw (c.new-2.ensures.empty) record {
+      limits = c.new.ensures.limits;
+      few = omega arith;
+      current = tt;
+      kept = rw (c.new.ensures.history) (c.new-3.ensures.kept program_table);
+    }

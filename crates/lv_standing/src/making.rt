@@ -1,0 +1,38 @@
+ghost use Rattle.std.specs.Prelude.{◌≡◌, None, OnOk};
+ghost use Rattle.lv_bodies.specs.Plain.{program_table};
+ghost use Rattle.lv_edits.specs.History.{History, list_of};
+ghost use Rattle.lv_edits.specs.Kept.{IsLegalInLimits};
+ghost use Rattle.lv_edits.specs.Verdict.{Answers, verdict_of};
+ghost use Rattle.lv_live.specs.State.{SameRefresh};
+ghost use Rattle.lv_kinds.specs.Kinds.{AreKept};
+ghost use Rattle.lv_standing.specs.Standings.{KeptUntouched};
+
+use crate::changes::size_after;
+use lv_bodies::Six;
+use lv_edits::{Edit, Receipt};
+use lv_geometry::Refusal;
+use lv_kinds::Kinds;
+use lv_live::Live;
+
+/// Makes an edit that a vector's verdict allows, and tells what is kept by kind of it. Refused with `NoMemory`: the room for what may
+/// be kept is made before the edit.
+pub fn make(live: &mut Live<Six>, kinds: &mut Kinds, edit: Edit) -> Result<Receipt, Refusal>
+    ghost before: { History }
+    requires history { live.old.history ≡ before }
+    requires limits { IsLegalInLimits before }
+    requires verdict { verdict_of before.limits before.journal edit ≡ None }
+    requires kept { AreKept program_table before.journal kinds.old }
+    ensures answer { Answers before edit result live.new.history }
+    ensures limits { IsLegalInLimits live.new.history }
+    ensures refresh { SameRefresh live.old live.new }
+    ensures kept { AreKept program_table live.new.history.journal kinds.new }
+    ensures remembers { KeptUntouched (list_of before.journal) edit kinds.old kinds.new }
+{
+    let size = live.size();
+    let Ok(()) = kinds.make_room(size_after(&edit, size)) else {
+        return Err(Refusal::NoMemory);
+    };
+    let receipt = live.make(edit)?;
+    kinds.follow(&edit, size);
+    Ok(receipt)
+}
