@@ -245,6 +245,25 @@ impl<B: Body> Live<B> {
         ensures idle { result < jobs → IsNextJob (recorded self.new) None }
         ensures remembers { Remembers self.old self.new }
     {
+        self.complete();
+        self.take_turns(jobs)
+    }
+
+    // Completes what is pending, so that elements are folded where they lie.
+    fn complete(&mut self)
+        ensures { self.new ≡ self.old }
+    {
+        self.cells.settle();
+    }
+
+    // Takes turns, at most so many, while a node wants a job.
+    #[inline(always)]
+    fn take_turns(&mut self, jobs: u32) -> u32
+        ensures turns { TakesTurns (B.operations (B.meaning self.old.body)) self.old self.new result }
+        ensures most { result ≤ jobs }
+        ensures idle { result < jobs → IsNextJob (recorded self.new) None }
+        ensures remembers { Remembers self.old self.new }
+    {
         for done in 0..jobs {
             if !self.take_turn() {
                 return done;

@@ -98,10 +98,11 @@ impl Level {
     /// Whether a node is claimed at a version.
     #[inline(always)]
     pub fn is_claimed(&self, number: u32, version: u32) -> bool
-        requires { version ≤ 16777215 }
+        requires inside { number < length self.now.rows.claimed }
+        requires version { version ≤ 16777215 }
         ensures { result ≡ is_version version (version_of (slice_index self.now.rows.claimed number)) }
     {
-        self.claimed.get(number as usize).copied().unwrap_or(0) == version + 1
+        self.claimed[number as usize] == version + 1
     }
 
     /// Notes that a node was claimed at a version.

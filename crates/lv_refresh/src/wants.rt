@@ -1,4 +1,4 @@
-ghost use Rattle.std.specs.Prelude.{◌≡◌, ◌≤◌, true, false, slice_index, IfSome, IfNone};
+ghost use Rattle.std.specs.Prelude.{◌≡◌, ◌*◌, ◌^◌, ◌≤◌, length, true, false, slice_index, IfSome, IfNone};
 ghost use Rattle.lv_summary.specs.Table.{touched_in};
 ghost use Rattle.lv_refresh.specs.Claimed.{version_of};
 ghost use Rattle.lv_refresh.specs.Inner.{wants_in};
@@ -11,6 +11,7 @@ use lv_summary::Summaries;
 /// level.
 #[inline(always)]
 pub fn wanted<S: Copy>(rows: &Level, table: &Summaries<S>, node: Node) -> Option<u32>
+    requires { table.now.size ≤ length rows.now.rows.claimed * 8 ^ node.level }
     ensures some { IfSome result (λ version. (wants_in table.now (version_of (slice_index rows.now.rows.claimed node.number)) node ≡ true)
         × (version ≡ touched_in table.now node)) }
     ensures none { IfNone result (wants_in table.now (version_of (slice_index rows.now.rows.claimed node.number)) node ≡ false) }

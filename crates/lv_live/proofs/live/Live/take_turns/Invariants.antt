@@ -1,6 +1,6 @@
 use Rattle.lv_live.specs.State.{Remembers}
 use Rattle.lv_live.specs.Turns.{TakesTurns}
-use Rattle.lv_live.proofs.live.Live.refresh.Given as goal
+use Rattle.lv_live.proofs.live.Live.take_turns.Given as goal
 
 -- so many turns were taken, and all that was known still is
 abbrev pub invariant-loop-done : goal.invariant-loop-done
