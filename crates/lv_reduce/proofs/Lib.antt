@@ -9,6 +9,7 @@ pub mod PieceLaws
 mod PieceSums
 mod RunLaws
 pub mod ScanLaws
+mod TwoLaws
 pub mod UsedLaws
 pub mod Walk
 mod Zeros

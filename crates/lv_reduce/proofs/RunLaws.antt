@@ -49,13 +49,13 @@ take_nil (suc n) = refl
 
 module _ {S : Type 0} (o : Operations S) where
   -- with one element more a scan from a summary has at its end what it reaches with that element, or without it
-  scan_from-push : (inclusive : Bool) (s : S) (xs : List ℤ) (x : ℤ) → scan_from inclusive o s (xs ++ x ∷ []) ≡ scan_from inclusive o s xs ++ (if inclusive then o.join (reached o s xs) (o.lift x) else reached o s xs) ∷ []
+  pub scan_from-push : (inclusive : Bool) (s : S) (xs : List ℤ) (x : ℤ) → scan_from inclusive o s (xs ++ x ∷ []) ≡ scan_from inclusive o s xs ++ (if inclusive then o.join (reached o s xs) (o.lift x) else reached o s xs) ∷ []
   scan_from-push inclusive s [] x = refl
   scan_from-push inclusive s (y ∷ xs) x =
       ap (λ ys. (if inclusive then o.join s (o.lift y) else s) ∷ ys) (scan_from-push inclusive (o.join s (o.lift y)) xs x)
 
   -- so has a scan from the identity
-  scan_of-push : (inclusive : Bool) (xs : List ℤ) (x : ℤ) → scan_of inclusive o (xs ++ x ∷ []) ≡ scan_of inclusive o xs ++ (if inclusive then fold_of o (xs ++ x ∷ []) else fold_of o xs) ∷ []
+  pub scan_of-push : (inclusive : Bool) (xs : List ℤ) (x : ℤ) → scan_of inclusive o (xs ++ x ∷ []) ≡ scan_of inclusive o xs ++ (if inclusive then fold_of o (xs ++ x ∷ []) else fold_of o xs) ∷ []
   scan_of-push true xs x = inclusive_scan-push o xs x
   scan_of-push false xs x = exclusive_scan-push o xs x
 

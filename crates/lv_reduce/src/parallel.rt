@@ -5,12 +5,13 @@ ghost use Rattle.lv_reduce.specs.Answer.{IsScan, IsScanRefusal, IsAnswerPair, sc
 
 mod halves;
 mod slices;
+mod twos;
 
 use crate::rows::{Part, Row};
 use crate::scans::{Scan, running_folds};
 use crate::values::Values;
 use crate::views::{View, refusal_of, run_at};
-use halves::{LEAST_FOLD, LEAST_SCAN, fold_halved, halvings};
+use halves::{LEAST_FOLD, LEAST_SCAN, fold_halved, parts_for};
 use lv_bodies::Body;
 use lv_edits::Edits;
 use lv_geometry::Refusal;
@@ -36,9 +37,9 @@ pub fn par_reduce<R: Threads + Sync, B: Body>(
     if let Some(refusal) = refusal_of(view.cells, lo, hi) {
         return Err(refusal);
     }
-    let depth = halvings(rt, body, hi - lo, LEAST_FOLD);
+    let parts = parts_for(rt, body, hi - lo, LEAST_FOLD);
     let row = Row::Cells(view.cells);
-    let value = fold_halved(rt, Part { row, lo, hi }, body, depth);
+    let value = fold_halved(rt, Part { row, lo, hi }, body, parts);
     Ok((view.cells.edit(), value))
 }
 
@@ -124,15 +125,15 @@ fn scan_range<R: Threads + Sync, B: Body>(
         (scan_of inclusive (B.operations (B.meaning body.now)) (slice_of view.entry.cells.now.journal lo hi)) scan) }
     ensures err { IfErr result (λ refusal. IsScanRefusal view.entry.cells.now.journal lo hi refusal) }
 {
-    let depth = halvings(rt, body, hi.saturating_sub(lo), LEAST_SCAN);
-    if depth == 0 {
+    let parts = parts_for(rt, body, hi.saturating_sub(lo), LEAST_SCAN);
+    if parts < 2 {
         return running_folds(alloc, view, body, lo, hi, inclusive);
     }
     if let Some(refusal) = refusal_of(view.cells, lo, hi) {
         return Err(refusal);
     }
     let row = Row::Cells(view.cells);
-    let Ok(values) = scan_part(rt, alloc, Part { row, lo, hi }, body, inclusive, depth) else {
+    let Ok(values) = scan_part(rt, alloc, Part { row, lo, hi }, body, inclusive, parts) else {
         return Err(Refusal::NoMemory);
     };
     Ok(Scan {

@@ -28,49 +28,62 @@ pub const LEAST_FOLD: usize = 1 << 20;
 /// lose where summaries are few.
 pub const LEAST_SCAN: usize = 1 << 23;
 
-/// How often a row of so many elements is halved: until a part's summaries have fewer bytes than twice the least that is worth a
-/// thread, but once where the row is worth two parts; or until there are as many parts as processors.
-pub fn halvings<R: Threads, B: Body>(rt: &R, body: &B, len: u32, least: usize) -> u32
+/// Into how many parts a row of so many elements is cut: as many as have the least number of bytes of summaries that is worth a thread,
+/// and two where the row is worth two. More than two are at most one for each processor but one: where the machine has other work, all
+/// wait for the thread that gets no processor. Only for more than two is it asked how many processors there are, which takes 20
+/// microseconds.
+pub fn parts_for<R: Threads, B: Body>(rt: &R, body: &B, len: u32, least: usize) -> usize
     requires { 0 < least }
-    ensures { result < 64 }
+    ensures { 0 < result }
 {
-    let size = size_of_val(&body.identity());
     let two = if len < WORTH_TWO { 1 } else { 2 };
-    let parts = (size.saturating_mul(len as usize) / least).max(two);
-    parts.min(current_num_threads(rt)).max(1).ilog2()
+    let parts = size_of_val(&body.identity()).saturating_mul(len as usize) / least;
+    if parts <= two {
+        return two;
+    }
+    parts.min(current_num_threads(rt) - 1).max(two)
 }
 
-/// The fold of the elements of a part of a row, which is halved so often.
-pub fn fold_halved<R: Threads + Sync, B: Body>(rt: &R, part: Part<'_>, body: &B, depth: u32) -> B::S
+/// The fold of the elements of a part of a row, by so many threads, of which each has a part of it.
+pub fn fold_halved<R: Threads + Sync, B: Body>(
+    rt: &R,
+    part: Part<'_>,
+    body: &B,
+    parts: usize,
+) -> B::S
     requires part { IsPart part }
     ensures { result ≡ fold_of (B.operations (B.meaning body.now)) (elements_of part.entry) }
 {
     let Part { row, lo, hi } = part;
-    if depth == 0 {
+    if parts < 2 {
         return fold_range(row, body, lo, hi);
     }
-    let mid = middle(lo, hi);
+    let low = parts / 2;
+    let high = parts - low;
+    let mid = cut(lo, hi, low, parts);
     let (first, second) = (Part { row, lo, hi: mid }, Part { row, lo: mid, hi });
     let (front, back) = thread::join(
         rt,
         || -> B::S
-            requires { IsSync R.row × IsSync B.row × (0 < depth) × IsPart first }
+            requires { IsSync R.row × IsSync B.row × (0 < low) × IsPart first }
             ensures { result ≡ fold_of (B.operations (B.meaning body.entry.now)) (elements_of first.entry) }
-        { fold_halved(rt, first, body, depth - 1) },
+        { fold_halved(rt, first, body, low) },
         || -> B::S
-            requires { IsSync R.row × IsSync B.row × (0 < depth) × IsPart second }
+            requires { IsSync R.row × IsSync B.row × (0 < high) × IsPart second }
             ensures { result ≡ fold_of (B.operations (B.meaning body.entry.now)) (elements_of second.entry) }
-        { fold_halved(rt, second, body, depth - 1) },
+        { fold_halved(rt, second, body, high) },
     );
     join(body, front, back)
 }
 
-// About the middle of a range, where a block begins if one does in its first half.
-fn middle(lo: u32, hi: u32) -> u32
+/// Where the first few of so many parts of a range end, where a block begins if one does in them.
+pub fn cut(lo: u32, hi: u32, few: usize, parts: usize) -> u32
     requires order { lo ≤ hi }
-    requires few { hi ≤ 2 ^ 20 }
+    requires some { 0 < parts }
     ensures low { lo ≤ result }
     ensures high { result ≤ hi }
 {
-    ((lo + hi) / 16 * 8).max(lo)
+    let wide = ((hi - lo) as usize / parts).saturating_mul(few);
+    let end = wide.saturating_add(lo as usize) / 8 * 8;
+    end.max(lo as usize).min(hi as usize) as u32
 }

@@ -8,7 +8,8 @@ ghost use Rattle.lv_reduce.specs.Answer.{scan_of, slice_of};
 ghost use Rattle.lv_reduce.specs.Rows.{IsPart, elements_of};
 ghost use Rattle.lv_reduce.specs.Running.{AreBefore, AreOfPieces, CanGoOn, IsPiece, reached, scan_from};
 
-use crate::parallel::halves::{LEAST_SCAN, halvings};
+use crate::parallel::halves::{LEAST_SCAN, parts_for};
+use crate::parallel::twos::scan_by_two;
 use crate::reductions::join;
 use crate::rows::{Part, Row, fold_range};
 use crate::scans::push_folds;
@@ -31,8 +32,8 @@ pub fn scan_slice<R: Threads + Sync, B: Body>(
     ensures { IfOk result (λ values. values.items ≡ scan_of inclusive (B.operations (B.meaning body.now)) xs.now) }
 {
     let len = xs.len() as u32;
-    let depth = halvings(rt, body, len, LEAST_SCAN);
-    if depth == 0 {
+    let parts = parts_for(rt, body, len, LEAST_SCAN);
+    if parts < 2 {
         return scan_alone(alloc, body, xs, inclusive);
     }
     tell_elements(xs);
@@ -41,25 +42,45 @@ pub fn scan_slice<R: Threads + Sync, B: Body>(
         lo: 0,
         hi: len,
     };
-    scan_part(rt, alloc, part, body, inclusive, depth)
+    scan_part(rt, alloc, part, body, inclusive, parts)
 }
 
-/// One of the two scans of a part of a row, in pieces, of which each is folded and then scanned where it lies by a thread of its
-/// own. The part is halved so often.
+/// One of the two scans of a part of a row, by so many threads.
 pub fn scan_part<R: Threads + Sync, B: Body>(
     rt: &R,
     alloc: Global,
     part: Part<'_>,
     body: &B,
     inclusive: bool,
-    depth: u32,
+    parts: usize,
 ) -> Result<Vec<B::S>, AllocError>
     requires part { IsPart part }
-    requires depth { depth < 64 }
+    requires some { 0 < parts }
+    ensures { IfOk result (λ values. values.items ≡ scan_of inclusive (B.operations (B.meaning body.now)) (elements_of part.entry)) }
+{
+    if parts == 2 {
+        scan_by_two(rt, alloc, part, body, inclusive)
+    } else {
+        scan_by_pieces(rt, alloc, part, body, inclusive, parts)
+    }
+}
+
+// One of the two scans of a part of a row, in so many pieces, of which each is folded and then scanned where it lies by a thread of
+// its own.
+fn scan_by_pieces<R: Threads + Sync, B: Body>(
+    rt: &R,
+    alloc: Global,
+    part: Part<'_>,
+    body: &B,
+    inclusive: bool,
+    parts: usize,
+) -> Result<Vec<B::S>, AllocError>
+    requires part { IsPart part }
+    requires some { 0 < parts }
     ensures { IfOk result (λ values. values.items ≡ scan_of inclusive (B.operations (B.meaning body.now)) (elements_of part.entry)) }
 {
     let len = (part.hi - part.lo) as usize;
-    let size = (len >> depth) + 1;
+    let size = len / parts + 1;
     let befores = befores_of(rt, alloc, part, body, size)?;
     let mut values = Vec::with_capacity(alloc, len)?;
     values.resize(len, body.identity())?;

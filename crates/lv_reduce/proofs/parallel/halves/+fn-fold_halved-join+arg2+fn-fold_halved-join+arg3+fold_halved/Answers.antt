@@ -7,14 +7,14 @@ pub join-requires-after_bounds : goal.join-requires-after_bounds
 join-requires-after_bounds g t c κs within =
     let meaning = g.B.Body.meaning c.args.body.now in
     slices_can_join (g.B.Body.operations meaning) (g.B.Body.is_within meaning) (g.B.Body.laws c.args.body.now) (elements_in c.args.part.row) c.requires.part.can
-    c.args.part.lo c.middle-mid.result c.args.part.hi c.middle-mid.ensures.low c.middle-mid.ensures.high c.requires.part.inside
+    c.args.part.lo c.cut-mid.result c.args.part.hi c.cut-mid.ensures.low c.cut-mid.ensures.high c.requires.part.inside
     c.join-front.result.0 c.join-front.result.1 c.join-front.ensures.first c.join-front.ensures.second
 
 pub returns : goal.returns
 returns g t c =
     let meaning = g.B.Body.meaning c.args.body.now in
     slice-joined (g.B.Body.operations meaning) (g.B.Body.is_within meaning) (g.B.Body.laws c.args.body.now) (elements_in c.args.part.row) c.requires.part.can
-    c.args.part.lo c.middle-mid.result c.args.part.hi c.middle-mid.ensures.low c.middle-mid.ensures.high c.requires.part.inside
+    c.args.part.lo c.cut-mid.result c.args.part.hi c.cut-mid.ensures.low c.cut-mid.ensures.high c.requires.part.inside
     c.join-front.result.0 c.join-front.result.1 c.join.result c.join-front.ensures.first c.join-front.ensures.second c.join.ensures.value
 
 -- what a closure asks is what this call of it asks
