@@ -124,7 +124,7 @@ soak: ## hard use: millions of lines, many threads, strange bytes, kills, refuse
 	@tools/timed soak "tries hard use, part by part" "4 to 10 min, once its programs are proved" tools/soak
 
 bench: build ## times it beside plain Rust, and makes the tables and the picture of the pages
-	@tools/timed bench "times livevec beside plain Rust, a line for each pair" "some 15 min, once its program is proved" bench/run
+	@tools/timed bench "times livevec beside plain Rust, a line for each pair" "some 15 min, once its two programs are proved" bench/run
 	@bench/table
 	@bench/picture
 

@@ -376,19 +376,26 @@ fn writes(among: u64, count: u64, numbers: &mut Numbers, out: &mut impl Write) {
     }
 }
 
-// `queries N`: N standing queries over everything, and pushes and writes. `ranges KIND`: a million pushes and 300 reductions. `scan`: a
-// million pushes and a scan of all. `among N WHAT COUNT`: N pushes, and then so many times what is said.
+// Writes, each with a reduction of all.
+fn pairs(kind: &str, among: u64, count: u64, numbers: &mut Numbers, out: &mut impl Write) {
+    for _ in 0..count {
+        writes(among, 1, numbers, out);
+        writeln!(out, "reduce {kind} 0 {among}").unwrap();
+    }
+}
+
+// `queries N PUSHES WRITES`: N standing queries over everything, and so many edits. `ranges KIND`: a million pushes and 300 reductions.
+// `scan`: a million pushes and a scan of all. `pairs KIND N COUNT`: N pushes, and then so many writes, each with a reduction of all.
 fn script(words: &[String], out: &mut impl Write) {
     let number = |at: usize| words[at].parse().expect("a number");
     let numbers = &mut Numbers(1);
     match words[0].as_str() {
         "queries" => {
-            let many = number(1) > 1;
             for n in 0..number(1) {
                 writeln!(out, "watch w{n} {} 0 1048568", KINDS[n as usize % 6]).unwrap();
             }
-            pushes(if many { 2_000 } else { 20_000 }, numbers, out);
-            writes(2_000, if many { 2_000 } else { 0 }, numbers, out);
+            pushes(number(2), numbers, out);
+            writes(number(2), number(3), numbers, out);
         }
         "ranges" => {
             pushes(1_000_000, numbers, out);
@@ -398,19 +405,11 @@ fn script(words: &[String], out: &mut impl Write) {
             pushes(1_000_000, numbers, out);
             writeln!(out, "inc sum 0 1000000").unwrap();
         }
-        "among" => {
-            let (among, count) = (number(1), number(3));
-            pushes(among, numbers, out);
-            if words[2] == "watched" {
-                writeln!(out, "watch all sum 0 1048568").unwrap();
-            }
-            match words[2].as_str() {
-                "reduced" => reductions("sum", among, count, numbers, out),
-                "written" | "watched" => writes(among, count, numbers, out),
-                other => panic!("{}: reduced, written or watched", other),
-            }
+        "pairs" => {
+            pushes(number(2), numbers, out);
+            pairs(&words[1], number(2), number(3), numbers, out);
         }
-        other => panic!("{}: queries, ranges, scan or among", other),
+        other => panic!("{}: queries, ranges, scan or pairs", other),
     }
 }
 
@@ -424,9 +423,11 @@ fn main() {
         for kind in &words[1..] {
             vector.keep(kind_named(kind).expect("a kind"));
         }
-        for line in BufReader::with_capacity(1 << 16, std::io::stdin().lock()).lines() {
-            let line = line.unwrap();
-            vector.answer(&line, &mut out).expect("a line that is known and not refused");
+        let mut input = BufReader::with_capacity(1 << 16, std::io::stdin().lock());
+        let mut line = String::new();
+        while input.read_line(&mut line).unwrap() > 0 {
+            vector.answer(line.trim_end(), &mut out).expect("a line that is known and not refused");
+            line.clear();
         }
     }
     out.flush().unwrap();

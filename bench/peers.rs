@@ -1,14 +1,20 @@
-//! Times plain Rust at the work that `figures/` does, on the same elements, ranges and indices. Each line that it prints is
-//! a label, the least nanoseconds of several tries, and how often the work was done in them.
+//! Times plain Rust at the work that `figures/` does, on the same elements, ranges and indices: the part that its word names.
+//! Each line that it prints is a label, the least nanoseconds of several tries, and how often the work was done in them.
 use std::hint::black_box;
 use std::time::Instant;
 
 fn main() {
-    show_folds();
-    show_reductions();
-    show_refreshes();
-    show_wholes::<Sum>("sum");
-    show_wholes::<Best>("best");
+    match std::env::args().nth(1).as_deref() {
+        Some("folds") => show_folds(),
+        Some("reductions") => show_reductions(),
+        Some("questions") => show_questions(),
+        Some("refreshes") => show_refreshes(),
+        Some("parallels") => {
+            show_wholes::<Sum>("sum");
+            show_wholes::<Best>("best");
+        }
+        _ => panic!("folds, reductions, questions, refreshes or parallels"),
+    }
 }
 
 // The number after a number.
@@ -198,6 +204,53 @@ impl Summary for Six {
     }
 }
 
+// An answer by one kind, as the proved program has and shows it.
+#[derive(Debug, PartialEq)]
+enum Shown {
+    Sum(u64),
+    Least(Option<i64>),
+    Greatest(Option<i64>),
+    Best(Option<i128>),
+    Affine { a: u32, b: u32 },
+    Automaton([u8; 8]),
+}
+
+impl From<Sum> for Shown {
+    fn from(sum: Sum) -> Shown {
+        Shown::Sum(sum.0 as u64)
+    }
+}
+
+impl From<Least> for Shown {
+    fn from(least: Least) -> Shown {
+        Shown::Least((least != Least::EMPTY).then_some(least.0))
+    }
+}
+
+impl From<Greatest> for Shown {
+    fn from(greatest: Greatest) -> Shown {
+        Shown::Greatest((greatest != Greatest::EMPTY).then_some(greatest.0))
+    }
+}
+
+impl From<Best> for Shown {
+    fn from(best: Best) -> Shown {
+        Shown::Best(best.map(|totals| totals.best))
+    }
+}
+
+impl From<AffineMap> for Shown {
+    fn from(map: AffineMap) -> Shown {
+        Shown::Affine { a: map.a, b: map.b }
+    }
+}
+
+impl From<Automaton> for Shown {
+    fn from(automaton: Automaton) -> Shown {
+        Shown::Automaton(automaton.0)
+    }
+}
+
 // Folds of each kind over a million, and of all elements by what is refreshed.
 fn show_folds() {
     let elements = elements(1_048_568);
@@ -298,6 +351,89 @@ fn show_ranges<S: Summary>(label: &str, size: usize, turns: u32, tries: u32, red
         let (a, b) = (pick(number, size + 1), pick(other(number), size + 1));
         let summary = reduce(a.min(b), a.max(b));
         u64::from(std::mem::replace(&mut last, summary) == summary)
+    });
+}
+
+// Questions by one kind and random writes, at three sizes by each kind, and of sums at two more.
+fn show_questions() {
+    for size in [1_000, 30_000, 1_048_560] {
+        show_asked::<Sum>("sum", size);
+        show_asked::<Least>("least", size);
+        show_asked::<Greatest>("greatest", size);
+        show_asked::<Best>("best", size);
+        show_asked::<AffineMap>("affine", size);
+        show_asked::<Automaton>("automaton", size);
+        show_folded::<Sum>("sum", size);
+    }
+    for size in [5_000, 180_000] {
+        show_asked::<Sum>("sum", size);
+        show_folded::<Sum>("sum", size);
+    }
+}
+
+// The range that a number picks.
+fn range(number: u64, size: usize) -> (usize, usize) {
+    let first = other(number);
+    let (a, b) = (pick(first, size + 1), pick(other(first), size + 1));
+    (a.min(b), a.max(b))
+}
+
+// The answer before.
+struct Last(Shown);
+
+impl Last {
+    // Takes an answer, and tells whether it is that before. So each counts.
+    fn is(&mut self, next: impl Into<Shown>) -> u64 {
+        let next = next.into();
+        let same = next == self.0;
+        self.0 = next;
+        u64::from(same)
+    }
+}
+
+// By a tree: ranges, a write and then all or a range by turns, writes alone.
+fn show_asked<S: Summary + Into<Shown>>(kind: &str, size: usize) {
+    let mut tree = Tree::<S>::new(&elements(size));
+    let label = |work: &str| format!("tree {work} {kind} {size}");
+    let mut last = Last(tree.reduce(0, size).into());
+    show(&label("ask range"), 10_000, 4, |number| {
+        let (lo, hi) = range(number, size);
+        last.is(tree.reduce(lo, hi))
+    });
+    show(&label("write and ask all"), 10_000, 4, |number| {
+        tree.write(pick(number, size), element(number));
+        1 + last.is(tree.reduce(0, size))
+    });
+    show(&label("write and ask range"), 10_000, 4, |number| {
+        tree.write(pick(number, size), element(number));
+        let (lo, hi) = range(number, size);
+        1 + last.is(tree.reduce(lo, hi))
+    });
+    println!("answers: {kind} {size} {:?}", last.0);
+    show(&label("write alone"), 10_000, 4, |number| {
+        tree.write(pick(number, size), element(number));
+        1
+    });
+}
+
+// The same by folds of the elements. They are fewer, since so many would take long.
+fn show_folded<S: Summary + Into<Shown>>(kind: &str, size: usize) {
+    let mut elements = elements(size);
+    let label = |work: &str| format!("fold {work} {kind} {size}");
+    let mut last = Last(S::fold(&elements).into());
+    show(&label("ask range"), 500, 4, |number| {
+        let (lo, hi) = range(number, size);
+        last.is(S::fold(&elements[lo..hi]))
+    });
+    show(&label("write and ask range"), 500, 4, |number| {
+        elements[pick(number, size)] = element(number);
+        let (lo, hi) = range(number, size);
+        1 + last.is(S::fold(&elements[lo..hi]))
+    });
+    show(&label("write alone"), 10_000, 4, |number| {
+        elements[pick(number, size)] = element(number);
+        black_box(&elements);
+        1
     });
 }
 
