@@ -1,11 +1,11 @@
 -- The summaries of a node's children, joined one after another where they lie.
-use Rattle.std.proofs.Common.{◌≡◌, ℕ, ℤ, ◌+◌, ◌-◌, ◌*◌, ◌^◌, ◌<◌, Bool, true, false, ◌&&◌, ◌||◌, not, Some, List, [], ◌++◌, length, take, drop, nat_eq, subst, sym, ap, ◌∙◌, arith}
+use Rattle.std.proofs.Common.{◌≡◌, ℕ, ℤ, ◌+◌, ◌-◌, ◌*◌, ◌^◌, ◌<◌, true, false, ◌&&◌, ◌||◌, not, Some, List, [], ◌++◌, length, take, drop, nat_eq, subst, sym, ap, ◌∙◌, arith}
 use Rattle.std.proofs.Math.Seq.{take-add}
 use Rattle.std.proofs.lemmas.Bool.{and_from, and_parts, cond-false, ne_eqb, not-true, or_left, or_right}
 use Rattle.std.proofs.lemmas.List.{drop-drop, length-append}
 use Rattle.lv_geometry.specs.declared.nodes.Node.{Node}
 use Rattle.lv_geometry.specs.Elements.{IsElement}
-use Rattle.lv_geometry.specs.Nodes.{child, is_node, parent, same_node}
+use Rattle.lv_geometry.specs.Nodes.{child, parent}
 use Rattle.lv_bodies.specs.Body.{BodyLaws, CanFold, CanJoin, Operations, fold_of}
 use Rattle.lv_bodies.specs.FoldLaws.{fold_of-append, fold_of-within}
 use Rattle.lv_edits.specs.declared.edit.Edit.{Edit}

@@ -209,6 +209,16 @@ module _ (words over : List ℕ) (marks : AreMarks words over) where
         over_is = AreOver-set over words marks.over_is next (i / 64) word inside (marked_word w (i % 64) (omega arith)) marked;
       }
 
+  -- and when one is set in a word that has others
+  pub AreMarks-more : (i w : ℕ) → i / 64 < length words → w ≡ get_or words (i / 64) 0 → w ≢ 0 → AreMarks (set words (i / 64) (bit_or w (1 * 2 ^ (i % 64) % 2 ^ 64))) over
+  AreMarks-more i w inside is some =
+      let word = bit_or w (1 * 2 ^ (i % 64) % 2 ^ 64) in
+      record {
+        few = omega (arith, length-set words (i / 64) word, marks.few);
+        room = omega (arith, length-set words (i / 64) word, marks.room);
+        over_is = AreOver-keep over words marks.over_is (i / 64) word inside (λ none. some (is ∙ none)) (marked_word w (i % 64) (omega arith));
+      }
+
   -- when a mark is taken away and its word has no other
   pub AreMarks-clear : (next : List ℕ) (i word : ℕ) → i / 64 < length words → word ≡ 0 → length next ≡ length over → ((j : ℕ) → is_marked next j ≡ not (nat_eq j (i / 64)) && is_marked over j) → AreMarks (set words (i / 64) word) next
   AreMarks-clear next i word inside none long marked =

@@ -72,8 +72,11 @@ impl Marks {
         ensures marks { (j : ℕ) → is_marked self.new.words j ≡ (nat_eq j i || is_marked self.old.words j) }
         ensures room { length self.new.words ≡ length self.old.words }
     {
-        self.words[i as usize / 64] |= 1 << (i % 64);
-        self.over.set(i / 64);
+        let word = self.words[i as usize / 64];
+        self.words[i as usize / 64] = word | 1 << (i % 64);
+        if word == 0 {
+            self.over.set(i / 64);
+        }
     }
 
     /// Takes the mark of a number away.

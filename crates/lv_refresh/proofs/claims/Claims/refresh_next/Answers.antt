@@ -1,4 +1,4 @@
-use Rattle.std.proofs.Common.{None, Some}
+use Rattle.std.proofs.Common.{None}
 use Rattle.lv_refresh.proofs.ComputeLaws.{due_served, hints_refreshed, ready_served, refreshes}
 use Rattle.lv_refresh.proofs.NextLaws.{AreHints-served, HintsWants-from, IsNextJob-served}
 use Rattle.lv_refresh.proofs.claims.Claims.refresh_next.Goals as goal
