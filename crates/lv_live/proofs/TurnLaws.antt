@@ -1,5 +1,5 @@
 -- What a turn in place keeps: a claim, and the fold of the node's elements installed.
-use Rattle.std.proofs.Common.{◌≡◌, ℕ, Bool, true, false, None, Some, option_map, refl, sym, ap, subst, ◌∙◌, inl, inr, arith}
+use Rattle.std.proofs.Common.{◌≡◌, ℕ, Bool, true, false, None, option_map, refl, sym, ap, subst, ◌∙◌, inl, inr, arith}
 use Rattle.std.proofs.lemmas.Bool.{and_parts, cases_Bool}
 use Rattle.lv_geometry.specs.declared.nodes.Node.{Node}
 use Rattle.lv_bodies.specs.Body.{BodyLaws, Operations, fold_of}

@@ -253,7 +253,8 @@ impl<B: Body> Live<B> {
     fn complete(&mut self)
         ensures { self.new ≡ self.old }
     {
-        self.cells.settle();
+        let cells = &mut self.cells;
+        cells.settle();
     }
 
     // Takes turns, at most so many, while a node wants a job.
