@@ -1,4 +1,4 @@
--- The scan of a list whose second half was scanned by itself.
+-- The scan of a list whose second part was scanned by itself.
 use Rattle.std.proofs.Common.{◌≡◌, ℕ, zero, suc, ℤ, ◌+◌, ◌-◌, ◌≤◌, Bool, true, false, List, [], ◌∷◌, ◌++◌, length, map, take, slice_index_or, slice_range, All, pos, if◌then◌else◌, refl, sym, ap, subst, ◌∙◌, arith}
 use Rattle.std.specs.List.{range_with_len}
 use Rattle.std.proofs.Math.Seq.{drop-append_seam, take-append-add, take-append_seam}
@@ -24,7 +24,7 @@ module _ {S : Type 0} (o : Operations S) (within : S → ℕ → Type 0) (laws :
   long : length (xs ++ ys) ≡ length xs + length ys
   long = length-append xs ys
 
-  -- the first half, and each front of the second, can be folded
+  -- the first part, and each front of the second, can be folded
   can_first : CanFold xs
   can_first = record {
     few = omega (arith, can.few, long);
@@ -35,7 +35,7 @@ module _ {S : Type 0} (o : Operations S) (within : S → ℕ → Type 0) (laws :
   can_front k inside =
       subst (λ zs. CanFold (take k zs)) (drop-append_seam xs ys) (part_can_fold k (length xs) (xs ++ ys) can)
 
-  -- so can the first half with a front of the second behind it
+  -- so can the first part with a front of the second behind it
   can_both : (k : ℕ) → k ≤ length ys → CanFold (xs ++ take k ys)
   can_both k inside =
       subst CanFold (take-append-add xs ys k) (part_can_fold (length xs + k) 0 (xs ++ ys) can)
@@ -45,7 +45,7 @@ module _ {S : Type 0} (o : Operations S) (within : S → ℕ → Type 0) (laws :
   front_joined k inside =
       sym (reached-append o o.identity xs (take k ys)) ∙ fold_of-append o within laws xs (take k ys) (can_both k inside)
 
-  -- a front of the second half, scanned from the first half's fold, is its own scan with that fold before each value
+  -- a front of the second part, scanned from the first part's fold, is its own scan with that fold before each value
   front_scanned : (inclusive : Bool) (k : ℕ) → k ≤ length ys → scan_from inclusive o (fold_of o xs) (take k ys) ≡ map (o.join (fold_of o xs)) (scan_of inclusive o (take k ys))
   front_scanned true zero inside = refl
   front_scanned false zero inside = refl
@@ -67,16 +67,16 @@ module _ {S : Type 0} (o : Operations S) (within : S → ℕ → Type 0) (laws :
       ∙ sym (map-append (o.join s) (scan_of inclusive o front) (value ∷ []))
       ∙ ap (map (o.join s)) (sym (scan_of-push o inclusive front y) ∙ ap (scan_of inclusive o) (sym more))
 
-  -- the scan of both halves
-  halves_scanned : (inclusive : Bool) → scan_of inclusive o (xs ++ ys) ≡ scan_of inclusive o xs ++ map (o.join (fold_of o xs)) (scan_of inclusive o ys)
-  halves_scanned inclusive =
+  -- the scan of both parts
+  both_scanned : (inclusive : Bool) → scan_of inclusive o (xs ++ ys) ≡ scan_of inclusive o xs ++ map (o.join (fold_of o xs)) (scan_of inclusive o ys)
+  both_scanned inclusive =
       let all = take_all (length ys) ys (omega arith) in
       scan_of-append o inclusive xs ys
       ∙ ap (λ zs. scan_of inclusive o xs ++ scan_from inclusive o (fold_of o xs) zs) (sym all)
       ∙ ap (λ ts. scan_of inclusive o xs ++ ts) (front_scanned inclusive (length ys) (omega arith))
       ∙ ap (λ zs. scan_of inclusive o xs ++ map (o.join (fold_of o xs)) (scan_of inclusive o zs)) all
 
-  -- the first half's fold may be joined with that of a front of the second
+  -- the first part's fold may be joined with that of a front of the second
   can_join_front : (k : ℕ) → k ≤ length ys → CanJoin within (fold_of o xs) (fold_of o (take k ys))
   can_join_front k inside = record {
     left = length xs;
@@ -102,7 +102,7 @@ module _ {S : Type 0} (o : Operations S) (within : S → ℕ → Type 0) (laws :
       ∙ ap (λ t. first ++ map (o.join t) second) sum
       ∙ ap (λ ts. ts ++ map (o.join (fold_of o (slice_range xs lo mid))) second) is_first
       ∙ ap (λ ts. scan_of inclusive o (slice_range xs lo mid) ++ map (o.join (fold_of o (slice_range xs lo mid))) ts) is_second
-      ∙ sym (halves_scanned o within laws (slice_range xs lo mid) (slice_range xs mid hi) can_parts inclusive)
+      ∙ sym (both_scanned o within laws (slice_range xs lo mid) (slice_range xs mid hi) can_parts inclusive)
       ∙ ap (scan_of inclusive o) (sym (slice_range-append xs lo mid hi low high))
 
   -- that fold may be joined with each value of the second scan

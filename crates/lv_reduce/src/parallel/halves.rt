@@ -14,8 +14,7 @@ use std::thread;
 use std::thread::Threads;
 
 /// From how many elements on a row has two parts, however narrow its summaries are: nobody but the caller knows how long a `lift`
-/// takes. Where it takes no time, two threads fold so many sums in 28 microseconds and scan them in 116, where one takes 14 and 41;
-/// a scan of more takes them twice as long as one. So many best runs are folded in 180 microseconds in place of 240.
+/// takes. Where it takes no time, two threads fold so many sums in 27 microseconds, where one takes 11.
 const WORTH_TWO: u32 = 1 << 16;
 
 /// How many bytes of summaries make a part that is worth a thread where they are folded. A thread takes about 10 microseconds to
@@ -23,10 +22,10 @@ const WORTH_TWO: u32 = 1 << 16;
 /// parts pay from 2 MiB on, and four from 4 MiB on. More parts than processors only cost.
 pub const LEAST_FOLD: usize = 1 << 20;
 
-/// How many make a part that is worth a thread where each is kept, as in a scan. One thread has to fill the room first, which is three
-/// quarters of a scan by one thread where summaries are wide; then all threads write it again. So four threads gain little, and
-/// lose where summaries are few.
-pub const LEAST_SCAN: usize = 1 << 23;
+/// How many make a part that is worth a thread where each is kept, as in a scan by three and more. There one thread has to fill the
+/// room first, which is three quarters of a scan by one thread where summaries are wide; then all threads write it again. So it pays
+/// only where joins take long.
+pub const LEAST_SCAN: usize = 1 << 25;
 
 /// Into how many parts a row of so many elements is cut: as many as have the least number of bytes of summaries that is worth a thread,
 /// and two where the row is worth two. More than two are at most one for each processor but one: where the machine has other work, all

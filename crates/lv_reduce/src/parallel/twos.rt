@@ -1,4 +1,4 @@
-//! The two scans by two threads: each scans a half into room of its own, and then the second half is put behind the first.
+//! The two scans by two threads: each scans a part into room of its own, and then the second part is put behind the first.
 ghost use Rattle.std.specs.Prelude.{◌≡◌, ◌+◌, ◌-◌, ◌≤◌, ◌++◌, [], length, map, vec_len, vec_capacity, All, IfOk};
 ghost use Rattle.std.specs.List.{slice_range};
 ghost use Rattle.std.specs.Thread.{IsSync, IsSend};
@@ -18,8 +18,8 @@ use std::alloc::{AllocError, Global};
 use std::thread;
 use std::thread::Threads;
 
-/// One of the two scans of a part of a row, by this thread and another. No element is lifted twice, and no value is written where one
-/// was written before.
+/// One of the two scans of a part of a row, by this thread and another. No element is lifted twice, and no room is filled before. This
+/// thread has three quarters, since it also puts the last behind them, and the other takes a while to start.
 pub fn scan_by_two<R: Threads + Sync, B: Body>(
     rt: &R,
     alloc: Global,
@@ -31,10 +31,10 @@ pub fn scan_by_two<R: Threads + Sync, B: Body>(
     ensures { IfOk result (λ values. values.items ≡ scan_of inclusive (B.operations (B.meaning body.now)) (elements_of part.entry)) }
 {
     let Part { row, lo, hi } = part;
-    let mid = cut(lo, hi, 1, 2);
+    let mid = cut(lo, hi, 3, 4);
     let values = Vec::with_capacity(alloc, (hi - lo) as usize)?;
     match Vec::with_capacity(alloc, (hi - mid) as usize) {
-        Ok(rest) => Ok(scan_halves(
+        Ok(rest) => Ok(scan_both(
             rt,
             Part { row, lo, hi: mid },
             Part { row, lo: mid, hi },
@@ -49,7 +49,7 @@ pub fn scan_by_two<R: Threads + Sync, B: Body>(
 
 // One of the two scans of two parts of a row that lie side by side, each by a thread. There is room for both in the first vector,
 // and room for the second part in the other.
-fn scan_halves<R: Threads + Sync, B: Body>(
+fn scan_both<R: Threads + Sync, B: Body>(
     rt: &R,
     first: Part<'_>,
     second: Part<'_>,
@@ -70,11 +70,11 @@ fn scan_halves<R: Threads + Sync, B: Body>(
         move || -> (Vec<B::S>, B::S)
             requires { IsSync B.row × IsPart second × (rest.items ≡ []) × (vec_len rest ≡ 0) × (second.hi - second.lo ≤ vec_capacity rest) }
             ensures { (result.0.items ≡ scan_of inclusive (B.operations (B.meaning body.entry.now)) (elements_of second.entry)) × (vec_len result.0 ≡ second.entry.hi - second.entry.lo) }
-        { scan_half(second, body, inclusive, rest) },
+        { scan_one(second, body, inclusive, rest) },
         move || -> (Vec<B::S>, B::S)
             requires { IsPart first × (values.items ≡ []) × (vec_len values ≡ 0) × (first.hi - first.lo ≤ vec_capacity values) }
             ensures { (result.0.items ≡ scan_of inclusive (B.operations (B.meaning body.entry.now)) (elements_of first.entry)) × (result.1 ≡ fold_of (B.operations (B.meaning body.entry.now)) (elements_of first.entry)) × (vec_len result.0 ≡ first.entry.hi - first.entry.lo) × (vec_capacity result.0 ≡ vec_capacity values) }
-        { scan_half(first, body, inclusive, values) },
+        { scan_one(first, body, inclusive, values) },
     );
     let (mut values, sum) = ours;
     let (rest, _) = theirs;
@@ -83,7 +83,7 @@ fn scan_halves<R: Threads + Sync, B: Body>(
 }
 
 // One of the two scans of a part of a row, put into an empty vector that has room for it, and the fold of the part.
-fn scan_half<B: Body>(
+fn scan_one<B: Body>(
     part: Part<'_>,
     body: &B,
     inclusive: bool,

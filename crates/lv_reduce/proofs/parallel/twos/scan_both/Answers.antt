@@ -3,7 +3,7 @@ use Rattle.std.specs.List.{slice_range}
 use Rattle.lv_reduce.specs.Answer.{scan_of}
 use Rattle.lv_reduce.specs.Rows.{elements_in}
 use Rattle.lv_reduce.proofs.TwoLaws.{parts_can_join, parts_scanned}
-use Rattle.lv_reduce.proofs.parallel.twos.scan_halves.Goals as goal
+use Rattle.lv_reduce.proofs.parallel.twos.scan_both.Goals as goal
 
 pub put_behind-requires-clause-can : goal.put_behind-requires-clause-can
 put_behind-requires-clause-can g c κs within =
