@@ -122,10 +122,10 @@ taken_from_start new (line ∷ lines) runs =
     ]
 
 -- lists that are the same have the same first and the same rest
-first_of : (x y : List ℕ) (xs ys : List (List ℕ)) → x ∷ xs ≡ y ∷ ys → x ≡ y
+pub first_of : (x y : List ℕ) (xs ys : List (List ℕ)) → x ∷ xs ≡ y ∷ ys → x ≡ y
 first_of x y xs ys same = ap (λ (ls : List (List ℕ)). get_or ls 0 []) same
 
-rest_of : (x y : List ℕ) (xs ys : List (List ℕ)) → x ∷ xs ≡ y ∷ ys → xs ≡ ys
+pub rest_of : (x y : List ℕ) (xs ys : List (List ℕ)) → x ∷ xs ≡ y ∷ ys → xs ≡ ys
 rest_of x y xs ys same = ap (λ (ls : List (List ℕ)). drop 1 ls) same
 
 -- they are those of a front
@@ -224,15 +224,25 @@ accepted_more before (first ∷ edits) e accepted free =
     (accepted.0, accepted_more (before ++ first ∷ []) edits e accepted.1 (subst (λ (js : List Edit). verdict_of greatest js e ≡ None) (sym (append_assoc before (first ∷ []) edits)) free))
 
 -- edits that a vector has accepted
-record AreBefore (before : List Edit) : Type 0 where
-  accepted : AreAccepted greatest before
-  elements : All CarriesElement before
+pub record AreBefore (before : List Edit) : Type 0 where
+  pub accepted : AreAccepted greatest before
+  pub elements : All CarriesElement before
+
+pub none_before : AreBefore []
+none_before = record { accepted = tt; elements = All-nil CarriesElement }
+
+-- and one more
+pub one_more_before : (before : List Edit) (e : Edit) → AreBefore before → CarriesElement e → verdict_of greatest before e ≡ None → AreBefore (before ++ e ∷ [])
+one_more_before before e known carries free = record {
+  accepted = accepted_more [] before e known.accepted free;
+  elements = All-append CarriesElement before (e ∷ []) known.elements (All-cons CarriesElement e [] carries (All-nil CarriesElement));
+}
 
 -- each beginning of them is within the limits
-begin_within : (before : List Edit) → AreBefore before → (k : ℕ) → IsWithin (take k before)
+pub begin_within : (before : List Edit) → AreBefore before → (k : ℕ) → IsWithin (take k before)
 begin_within before known k = beginnings_within [] before k within_none known.accepted known.elements
 
-all_within : (before : List Edit) → AreBefore before → IsWithin before
+pub all_within : (before : List Edit) → AreBefore before → IsWithin before
 all_within before known = subst (λ (js : List Edit). IsWithin js) (take_all (length before) before (omega arith)) (begin_within before known (length before))
 
 -- the lines of entries that are true are taken
@@ -252,10 +262,7 @@ entries_taken before last (inl e ∷ entries) lines known holds are =
     let next : AuditState = record old { journal = before ++ e ∷ [] } in
     let taken : Takes old (edit_line e) next =
     ((line_of_edit e fits).short, inr (inl record { edit = e; at = refl; fits = fits; text = refl; verdict = holds.1; next = refl })) in
-    let after : AreBefore (before ++ e ∷ []) = record {
-      accepted = accepted_more [] before e known.accepted holds.1;
-      elements = All-append CarriesElement before (e ∷ []) known.elements (All-cons CarriesElement e [] holds.0 (All-nil CarriesElement));
-    } in
+    let after : AreBefore (before ++ e ∷ []) = one_more_before before e known holds.0 holds.1 in
     elim are [
       | inl is ↦
           subst (λ (ls : List (List ℕ)). RunsOn old ls) (sym is)
@@ -283,7 +290,6 @@ entries_taken before last (inr claim ∷ entries) lines known holds are =
 pub front_taken_whole : (entries : List Entry) (lines : List (List ℕ)) → AreFrontLines entries lines → AreTrueAfter [] 0 entries → RunsOn start_state lines
 front_taken_whole entries [] are holds = record { end = start_state; runs = refl; at = inr (inr refl) }
 front_taken_whole entries (line ∷ lines) are holds =
-    let none : AreBefore [] = record { accepted = tt; elements = All-nil CarriesElement } in
     let next : AuditState = record { stage = Edits; journal = []; last = 0 } in
     subst (λ (l : List ℕ). RunsOn start_state (l ∷ lines)) (sym are.0)
-    (one_taken start_state next first_line lines (lit≤ tt, inl record { at = refl; text = refl; next = refl }) (entries_taken [] 0 entries lines none holds are.1))
+    (one_taken start_state next first_line lines (lit≤ tt, inl record { at = refl; text = refl; next = refl }) (entries_taken [] 0 entries lines none_before holds are.1))

@@ -12,3 +12,4 @@ pub mod KeptLaws
 pub mod FrontRuns
 pub mod FrontEntries
 pub mod FrontAudits
+pub mod ScribedFronts

@@ -1,5 +1,5 @@
 -- A transcript is written line by line.
-use Rattle.std.proofs.Common.{◌≡◌, ℕ, ◌+◌, ◌<◌, List, [], ◌∷◌, ◌++◌, length, get_or, take, drop, map, Option, Result, Ok, Err, OnOk, IfErr, sym, ap, ◌∙◌, append-nil, take-append-drop}
+use Rattle.std.proofs.Common.{◌≡◌, ℕ, ◌+◌, ◌<◌, List, [], ◌∷◌, ◌++◌, length, get_or, take, drop, map, Option, Result, Ok, Err, OnOk, IfErr, sym, ap, ◌∙◌, subst, append-nil, take-append-drop}
 use Rattle.std.specs.Io.KnownBytes.{Appends}
 use Rattle.std.specs.List.{flat_map}
 use Rattle.std.proofs.lemmas.Grind.{flat_map-append}
@@ -37,6 +37,22 @@ WritesFront-pieces f xs i first second =
     rw (flat_map-parts f xs i)
     (WritesFront-longer (flat_map f (drop i xs)) (rw (append-nil (flat_map f (take i xs))) at (WritesFront-after first second)))
 
+-- ---- a last text
+
+-- a text was put, and all that is held was sent
+pub last_sent : {T : Type 0} (a b c : Option (List ℕ)) (old mid last left text : List ℕ) (result : Result T Fault) → Writes a old b mid [] → last ≡ mid ++ text
+    → OnOk result ((left ≡ []) × Appends b c last) → OnOk result ((left ≡ []) × Writes a old c left text)
+last_sent a b c old mid last left text (Ok x) room put sent =
+    (sent.0, rw (append-nil text) at (Writes-trans (Writes-trans room (Writes-put b mid last text put)) (Writes-sent b c last left sent)))
+last_sent a b c old mid last left text (Err fault) room put sent = tt
+
+-- or no more than a front of it
+pub last_unsent : {T : Type 0} (a b c : Option (List ℕ)) (old mid last text : List ℕ) (result : Result T Fault) → Writes a old b mid [] → last ≡ mid ++ text
+    → IfErr result (λ fault. (fault ≡ WriteFault) × WritesFront b last c []) → IfErr result (λ fault. (fault ≡ WriteFault) × WritesFront a old c text)
+last_unsent a b c old mid last text (Ok x) room put unsent = tt
+last_unsent a b c old mid last text (Err fault) room put unsent =
+    (unsent.0, rw (append-nil text) at (WritesFront-after (Writes-trans room (Writes-put b mid last text put)) unsent.1))
+
 -- ---- a whole transcript
 
 -- the first line, ended
@@ -65,17 +81,6 @@ transcript_text-parts edits claims =
     let three = flat_map-append f middle (end_line ∷ []) ∙ ap (λ (xs : List ℕ). xs ++ last_text) two in
     ap (λ (xs : List ℕ). first_text ++ xs) three
 
--- what was put is sent, or no more than a front of it is
-transcribed : {T : Type 0} (start room contents : Option (List ℕ)) (last left text : List ℕ) (result : Result T Fault) → Writes start [] room last text
-    → OnOk result ((left ≡ []) × Appends room contents last)
-    → IfErr result (λ fault. (fault ≡ WriteFault) × WritesFront room last contents [])
-    → Transcribes start contents text result
-transcribed start room contents last left text (Ok x) put sent unsent =
-    Writes-all start contents text
-    (rw (append-nil text) at (Writes-trans put (rw sent.0 at (Writes-sent room contents last left sent))))
-transcribed start room contents last left text (Err fault) put sent unsent =
-    rw unsent.0 (rw (append-nil text) at (WritesFront-after put unsent.1))
-
 module _ (edits : List Edit) (claims : List Claimed) {start : Option (List ℕ)} where
   -- a failed write ends it
   pub Transcribes-fault : (T : Type 0) (contents : Option (List ℕ)) (fault : Fault) → fault ≡ WriteFault → WritesFront start [] contents (transcript_text edits claims)
@@ -99,19 +104,14 @@ module _ (edits : List Edit) (claims : List Claimed) {start : Option (List ℕ)}
       → WritesFront start [] contents (transcript_text edits claims)
   WritesFront-claims all front = rw (transcript_text-parts edits claims) (WritesFront-longer last_text (WritesFront-after all front))
 
-  -- or all the claims, and no more of the last line than nothing
-  pub WritesFront-last : {mid contents : Option (List ℕ)} {held : List ℕ} → Writes start [] mid held ((first_text ++ edits_text edits) ++ claims_text claims) → WritesFront mid held contents []
-      → WritesFront start [] contents (transcript_text edits claims)
-  WritesFront-last all front =
-      rw (transcript_text-parts edits claims) (WritesFront-longer last_text (rw (append-nil ((first_text ++ edits_text edits) ++ claims_text claims)) at (WritesFront-after all front)))
-
-  -- all of it was put, and was sent or not
-  pub Transcribes-sent : {T : Type 0} (room contents : Option (List ℕ)) (held last left : List ℕ) (result : Result T Fault)
-      → Writes start [] room held ((first_text ++ edits_text edits) ++ claims_text claims) → last ≡ held ++ last_text
-      → OnOk result ((left ≡ []) × Appends room contents last)
-      → IfErr result (λ fault. (fault ≡ WriteFault) × WritesFront room last contents [])
+  -- all of it was written, or no more than a front of its last line
+  pub Transcribes-sent : {T : Type 0} (mid contents : Option (List ℕ)) (held left : List ℕ) (result : Result T Fault)
+      → Writes start [] mid held ((first_text ++ edits_text edits) ++ claims_text claims)
+      → OnOk result ((left ≡ []) × Writes mid held contents left last_text)
+      → IfErr result (λ fault. (fault ≡ WriteFault) × WritesFront mid held contents last_text)
       → Transcribes start contents (transcript_text edits claims) result
-  Transcribes-sent room contents held last left result all put sent unsent =
-      let text : Writes start [] room last (transcript_text edits claims) =
-      rw (transcript_text-parts edits claims) (Writes-trans all (Writes-put room held last last_text put)) in
-      transcribed start room contents last left (transcript_text edits claims) result text sent unsent
+  Transcribes-sent mid contents held left (Ok x) all sent unsent =
+      Writes-all start contents (transcript_text edits claims)
+      (subst (λ (h : List ℕ). Writes start [] contents h (transcript_text edits claims)) sent.0 (rw (transcript_text-parts edits claims) (Writes-trans all sent.1)))
+  Transcribes-sent mid contents held left (Err fault) all sent unsent =
+      rw (unsent.0, transcript_text-parts edits claims) (WritesFront-after all unsent.1)

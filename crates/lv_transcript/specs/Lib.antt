@@ -1,4 +1,5 @@
 pub mod Auditing
 pub mod Blocks
 pub mod Fronts
+pub mod Scribing
 pub mod Transcript

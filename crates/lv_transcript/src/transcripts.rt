@@ -1,7 +1,7 @@
 ghost use Rattle.std.specs.Prelude.{◌≡◌, ◌≤◌, [], ◌∷◌, ◌++◌, All, OnOk, IfErr, vec_capacity};
 ghost use Rattle.std.specs.List.{flat_map};
 ghost use Rattle.lv_lines.specs.Output.{Puts, PutsFront, SamePlaces};
-ghost use Rattle.lv_transcript.specs.Transcript.{edit_line, claim_line, transcript_text, greatest, AreAccepted, AreInOrder, IsEdit, IsTrueClaim, IsSoundTranscript, Transcribes};
+ghost use Rattle.lv_transcript.specs.Transcript.{edit_line, claim_line, end_line, transcript_text, greatest, AreAccepted, AreInOrder, IsEdit, IsTrueClaim, IsSoundTranscript, Transcribes};
 
 use crate::claimed::Claimed;
 use crate::transcript_lines::{put_edit_line, put_question};
@@ -63,6 +63,17 @@ fn write_lines<W: Write>(
     put(outbox.held, b"livevec 1\n");
     write_edits(edits, outbox)?;
     write_claims(claims, outbox)?;
+    write_end(outbox)
+}
+
+// Writes the last line behind what is held, and all that is held then.
+pub(crate) fn write_end<W: Write>(outbox: &mut Outbox<'_, W>) -> Result<(), Fault>
+    ensures places { SamePlaces outbox.old outbox.new }
+    ensures ok { OnOk result ((outbox.new.held.now.items ≡ [])
+        × Puts W.contents outbox.old outbox.new (end_line ++ 10 ∷ [])) }
+    ensures fault { IfErr result (λ fault. (fault ≡ Fault.WriteFault)
+        × PutsFront W.contents outbox.old outbox.new (end_line ++ 10 ∷ [])) }
+{
     outbox.make_room(LINE)?;
     put(outbox.held, b"end\n");
     outbox.send()
@@ -83,7 +94,8 @@ fn write_edits<W: Write>(edits: &[Edit], outbox: &mut Outbox<'_, W>) -> Result<(
     Ok(())
 }
 
-fn write_edit<W: Write>(edit: Edit, outbox: &mut Outbox<'_, W>) -> Result<(), Fault>
+// Writes the line of an edit behind what is held.
+pub(crate) fn write_edit<W: Write>(edit: Edit, outbox: &mut Outbox<'_, W>) -> Result<(), Fault>
     ensures places { SamePlaces outbox.old outbox.new }
     ensures ok { OnOk result (Puts W.contents outbox.old outbox.new (edit_line edit ++ 10 ∷ [])) }
     ensures fault { IfErr result (λ fault. (fault ≡ Fault.WriteFault)
@@ -110,7 +122,8 @@ fn write_claims<W: Write>(claims: &[Claimed], outbox: &mut Outbox<'_, W>) -> Res
     Ok(())
 }
 
-fn write_claim<W: Write>(claim: Claimed, outbox: &mut Outbox<'_, W>) -> Result<(), Fault>
+// Writes the line of a claim behind what is held.
+pub(crate) fn write_claim<W: Write>(claim: Claimed, outbox: &mut Outbox<'_, W>) -> Result<(), Fault>
     ensures places { SamePlaces outbox.old outbox.new }
     ensures ok { OnOk result (Puts W.contents outbox.old outbox.new (claim_line claim ++ 10 ∷ [])) }
     ensures fault { IfErr result (λ fault. (fault ≡ Fault.WriteFault)

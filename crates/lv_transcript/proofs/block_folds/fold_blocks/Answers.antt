@@ -1,4 +1,4 @@
-use Rattle.std.proofs.Common.{◌≤◌, ◌*◌, ◌+◌, length, ◌∙◌, refl, arith}
+use Rattle.std.proofs.Common.{◌*◌, ◌+◌, ◌∙◌, refl, arith}
 use Rattle.lv_transcript.proofs.BlockLaws.{slice-joined, slices_can_join}
 use Rattle.lv_transcript.proofs.block_folds.fold_blocks.Goals as goal
 

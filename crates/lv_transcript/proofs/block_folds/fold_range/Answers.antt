@@ -1,4 +1,4 @@
-use Rattle.std.proofs.Common.{◌≤◌, ◌*◌, ◌/◌, length, arith}
+use Rattle.std.proofs.Common.{◌*◌, ◌/◌, arith}
 use Rattle.lv_transcript.proofs.BlockLaws.{folds-places, slice-joined, slices_can_join}
 use Rattle.lv_transcript.proofs.block_folds.fold_range.Goals as goal
 

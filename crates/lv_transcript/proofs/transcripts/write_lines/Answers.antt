@@ -1,7 +1,7 @@
-use Rattle.std.proofs.Common.{List, ℕ, ◌++◌, ◌∙◌, ap, append-nil}
+use Rattle.std.proofs.Common.{List, ℕ, ◌++◌, ◌∙◌, ap}
 use Rattle.std.proofs.lemmas.Result.{err_from_is_err_and}
 use Rattle.lv_lines.proofs.OutputLemmas.{Writes-trans}
-use Rattle.lv_transcript.proofs.WrittenTranscripts.{first_text, edits_text, claims_text, Transcribes-fault, Transcribes-sent, Writes-edits, WritesFront-edits, WritesFront-claims, WritesFront-last}
+use Rattle.lv_transcript.proofs.WrittenTranscripts.{first_text, Transcribes-fault, Transcribes-sent, Writes-edits, WritesFront-edits, WritesFront-claims}
 use Rattle.lv_transcript.proofs.transcripts.write_lines.Goals as goal
 
 pub returns-in_err-write_edits-clause-text : goal.returns-in_err-write_edits-clause-text
@@ -20,16 +20,6 @@ returns-in_err-write_claims-clause-text g c =
     let before = Writes-edits edits c.args.claims.now put c.in_ok-write_edits.ensures.ok in
     rw (p.1, p.2) (Transcribes-fault edits c.args.claims.now (Unit {0}) _ _ fails.0 (WritesFront-claims edits c.args.claims.now before fails.1))
 
-pub returns-in_err-make_room-clause-text : goal.returns-in_err-make_room-clause-text
-returns-in_err-make_room-clause-text g c =
-    let edits = c.args.edits.now in
-    let p = err_from_is_err_and c.from_residual-in_err-make_room.result c.from_residual-in_err-make_room.ensures.1 in
-    let fails = c.in_err-make_room.ensures.fault in
-    let put = c.put.ensures.items ∙ ap (λ (xs : List ℕ). xs ++ first_text) c.requires.held in
-    let before = Writes-edits edits c.args.claims.now put c.in_ok-write_edits.ensures.ok in
-    let both = Writes-trans before c.in_ok-write_claims.ensures.ok in
-    rw (p.1, p.2) (Transcribes-fault edits c.args.claims.now (Unit {0}) _ _ fails.0 (WritesFront-last edits c.args.claims.now both fails.1))
-
 pub returns-clause-text : goal.returns-clause-text
 returns-clause-text g c =
     let edits = c.args.edits.now in
@@ -37,5 +27,4 @@ returns-clause-text g c =
     let put = c.put.ensures.items ∙ ap (λ (xs : List ℕ). xs ++ first_text) c.requires.held in
     let before = Writes-edits edits claims put c.in_ok-write_edits.ensures.ok in
     let both = Writes-trans before c.in_ok-write_claims.ensures.ok in
-    let roomed = rw (append-nil ((first_text ++ edits_text edits) ++ claims_text claims)) at (Writes-trans both c.in_ok-make_room.ensures.ok) in
-    Transcribes-sent edits claims _ _ _ _ c.send.new.self.held.now.items c.send.result roomed c.put-2.ensures.items c.send.ensures.ok c.send.ensures.fault
+    Transcribes-sent edits claims _ _ _ _ c.write_end.result both c.write_end.ensures.ok c.write_end.ensures.fault
