@@ -102,6 +102,7 @@ impl Standing {
         ensures err { IfErr result (λ refusal. (query_of self.old.queries name ≡ None) × (refusal ≡ Refusal.NoSuchName)) }
         ensures unchanged { OnErr result (self.new.queries ≡ self.old.queries) }
         ensures live { self.new.live ≡ self.old.live }
+        ensures kinds { self.new.kinds ≡ self.old.kinds }
     {
         // A map's keys are distinct, so that no second entry has the name.
         let _ = self.watches.len();
@@ -168,6 +169,7 @@ impl Standing {
         ensures known { IfOk result (λ _. AreTopsKnown (known_in self.new.live.table) lo hi) }
         ensures few { IfOk result (λ answer. IsFewAsked (known_in self.old.live.table) (known_in self.new.live.table) lo hi answer.cells_read answer.summaries_read) }
         ensures queries { self.new.queries ≡ self.old.queries }
+        ensures kinds { self.new.kinds ≡ self.old.kinds }
         ensures limits { IsLegalInLimits self.new.live.history }
     {
         self.live.ask(lo, hi)
@@ -209,6 +211,7 @@ impl Standing {
     pub fn settle(&mut self)
         ensures live { SameLive self.old.live self.new.live }
         ensures queries { self.new.queries ≡ self.old.queries }
+        ensures kinds { self.new.kinds ≡ self.old.kinds }
     {
         self.live.settle();
     }
@@ -221,6 +224,7 @@ impl Standing {
         ensures honest { IfSome result (λ job. IsHonest six_operations
             (recorded self.new.live) job.node job.version job.contents) }
         ensures queries { self.new.queries ≡ self.old.queries }
+        ensures kinds { self.new.kinds ≡ self.old.kinds }
     {
         self.live.claim()
     }
@@ -229,6 +233,7 @@ impl Standing {
     pub fn forget_claims(&mut self)
         ensures live { HasNoClaims self.old.live self.new.live }
         ensures queries { self.new.queries ≡ self.old.queries }
+        ensures kinds { self.new.kinds ≡ self.old.kinds }
     {
         self.live.forget_claims();
     }
@@ -248,6 +253,7 @@ impl Standing {
         ensures accepted { result ≡ delivery_of (recorded self.old.live) outcome.node outcome.version }
         ensures delivered { HasDelivery self.old.live self.new.live outcome.node outcome.version result }
         ensures queries { self.new.queries ≡ self.old.queries }
+        ensures kinds { self.new.kinds ≡ self.old.kinds }
     {
         self.live.accept(outcome)
     }
