@@ -3,7 +3,7 @@ use Rattle.std.proofs.Common.{◌≡◌, ℕ, suc, ◌+◌, ◌<◌, ◌≤◌, 
 use Rattle.std.specs.List.{slice_split, onto_first, position_or_len}
 use Rattle.std.proofs.lemmas.Bool.{cases_Bool, cases_lt, lt-ltb, le-ltb, ltb-true, not-true, cond-true}
 use Rattle.std.proofs.lemmas.Option.{none-some, cond_some}
-use Rattle.std.proofs.lemmas.List.{drop_all, drop_more}
+use Rattle.std.proofs.lemmas.List.{drop_all, drop_more, length-drop}
 use Rattle.std.proofs.lemmas.List.Sums.{prefix_len-le-length, passes_at_first}
 use Rattle.std.proofs.lemmas.List.Splits.{slice_split-cons_yes, slice_split-cons_no}
 use Rattle.std.proofs.Math.Numerals.{one-add}
@@ -90,6 +90,17 @@ some_word bytes within =
     let other = not-true _ (passes_at_first in_word bytes 0 within) in
     let first = words_of-first (get_or bytes start 0) (drop (start + 1) bytes) other in
     sym (words_of-skip bytes) ∙ rw (drop_more bytes start 0 within) first
+
+-- the bytes from the first word on
+pub from_first : (bytes text : List ℕ) → position_or_len in_word bytes < length bytes → text ≡ drop (position_or_len in_word bytes) bytes
+    → (words_of bytes ≡ words_of text) × (0 < length text) × (is_space (get_or text 0 0) ≡ false)
+from_first bytes text within cut =
+    let start = position_or_len in_word bytes in
+    let other = not-true _ (passes_at_first in_word bytes 0 within) in (
+      sym (words_of-skip bytes) ∙ ap words_of (sym cut),
+      omega (arith, ap length cut, length-drop start bytes),
+      ap (λ (xs : List ℕ). is_space (get_or xs 0 0)) (cut ∙ drop_more bytes start 0 within) ∙ other,
+    )
 
 -- what a search for the first place that passes gives
 abbrev pub search_of : (ℕ → Bool) → List ℕ → Option ℕ

@@ -9,4 +9,5 @@ pub mod PrintedWords
 pub mod ProgressLemmas
 pub mod ReadAgain
 pub mod ReadDigits
+pub mod ReadFirst
 pub mod ReplyLemmas

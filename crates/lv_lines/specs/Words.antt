@@ -21,6 +21,11 @@ only_word [] = None
 only_word (word ∷ []) = Some word
 only_word (word ∷ other ∷ words) = None
 
+-- what the first word is read as; nothing where there is no word
+abbrev pub first_read : {X : Type 0} → (List ℕ → Option X) → List (List ℕ) → Option X
+first_read read [] = None
+first_read read (word ∷ words) = read word
+
 -- words with one space between each two
 abbrev pub spaced : List (List ℕ) → List ℕ
 spaced words = join_with_byte 32 words

@@ -5,7 +5,7 @@ ghost use Rattle.lv_lines.specs.Words.{words_of};
 ghost use Rattle.lv_lines.specs.Grammar.{kind_in, lone_number, lone_element, lone_name, bounds_in, range_in, swap_in, write_in, watch_in, alone, read_by, command_in, range_forms, other_forms, with_range};
 
 use crate::command::Command;
-use crate::numbers::{element, number};
+use crate::numbers::{first_element, first_number};
 use crate::words::{next_word, only_word};
 use lv_bodies::Kind;
 use lv_edits::Edit;
@@ -48,13 +48,21 @@ pub fn kind(word: &[u8]) -> Option<Kind>
 pub fn lone_number(words: &[u8]) -> Option<u32>
     ensures { result ≡ lone_number (words_of words.now) }
 {
-    number(only_word(words)?)
+    let (number, rest) = first_number(words)?;
+    match next_word(rest) {
+        Some(_) => None,
+        None => Some(number),
+    }
 }
 
 fn lone_element(words: &[u8]) -> Option<i64>
     ensures { result ≡ lone_element (words_of words.now) }
 {
-    element(only_word(words)?)
+    let (value, rest) = first_element(words)?;
+    match next_word(rest) {
+        Some(_) => None,
+        None => Some(value),
+    }
 }
 
 fn lone_name(words: &[u8]) -> Option<Name>
@@ -68,8 +76,7 @@ fn lone_name(words: &[u8]) -> Option<Name>
 pub fn bounds(words: &[u8]) -> Option<(u32, u32)>
     ensures { result ≡ bounds_in (words_of words.now) }
 {
-    let (word, rest) = next_word(words)?;
-    let lo = number(word)?;
+    let (lo, rest) = first_number(words)?;
     let hi = lone_number(rest)?;
     Some((lo, hi))
 }
@@ -97,8 +104,7 @@ fn alone(command: Command, words: &[u8]) -> Option<Command>
 fn write(words: &[u8]) -> Option<Command>
     ensures { result ≡ write_in (words_of words.now) }
 {
-    let (word, rest) = next_word(words)?;
-    let index = number(word)?;
+    let (index, rest) = first_number(words)?;
     let value = lone_element(rest)?;
     Some(Command::Edit(Edit::Write { index, value }))
 }

@@ -1,7 +1,7 @@
-ghost use Rattle.std.specs.Prelude.{◌≡◌, [], ◌∷◌, MatchOption, option_copied};
+ghost use Rattle.std.specs.Prelude.{◌≡◌, ◌<◌, false, true, [], ◌∷◌, length, slice_index, IsTrue, MatchOption, option_copied};
 ghost use Rattle.lv_lines.specs.Grammar.{kind_name};
 ghost use Rattle.lv_lines.specs.Texts.{scan_name};
-ghost use Rattle.lv_lines.specs.Words.{words_of, only_word};
+ghost use Rattle.lv_lines.specs.Words.{is_space, words_of, only_word};
 
 use lv_bodies::Kind;
 
@@ -14,6 +14,28 @@ pub fn next_word(bytes: &[u8]) -> Option<(&[u8], &[u8])>
     let (_, bytes) = bytes.split_at(start);
     let end = bytes.iter().position(|b| *b == b' ').unwrap_or(bytes.len());
     Some(bytes.split_at(end))
+}
+
+/// The bytes from the first word on, or nothing where there are no words.
+#[inline(always)]
+pub(crate) fn from_word(bytes: &[u8]) -> Option<&[u8]>
+    ensures { MatchOption result (words_of bytes.now ≡ [])
+        (λ text. (words_of bytes.now ≡ words_of text.now) × (0 < length text.now) × (is_space (slice_index text.now 0) ≡ false)) }
+{
+    let start = bytes.iter().position(|b| *b != b' ')?;
+    let (_, text) = bytes.split_at(start);
+    Some(text)
+}
+
+/// Whether bytes that follow a word end it: there are none, or the first is a space.
+#[inline(always)]
+pub(crate) fn ends_word(bytes: &[u8]) -> bool
+    ensures { IsTrue result → 0 < length bytes.now → is_space (slice_index bytes.now 0) ≡ true }
+{
+    match bytes.first() {
+        Some(byte) => *byte == b' ',
+        None => true,
+    }
 }
 
 /// The one word, where there is one and no other.

@@ -1,6 +1,6 @@
 use Rattle.std.proofs.Common.{arith, ◌∙◌, sym}
 use Rattle.lv_lines.proofs.ReadDigits.{overflow}
-use Rattle.lv_lines.proofs.numbers.long_numeral.Goals as goal
+use Rattle.lv_lines.proofs.numbers.numeral.Goals as goal
 
 pub returns-in_err-checked_mul : goal.returns-in_err-checked_mul
 returns-in_err-checked_mul c =

@@ -1,7 +1,7 @@
 use Rattle.std.proofs.Common.{◌≡◌, ◌^◌, ◌<◌, drop}
 use Rattle.lv_lines.specs.Numbers.{numeral_in}
 use Rattle.lv_lines.proofs.ReadDigits.{numeral_from}
-use Rattle.lv_lines.proofs.numbers.long_numeral.Given as goal
+use Rattle.lv_lines.proofs.numbers.numeral.Given as goal
 
 -- what is read and what is left give what all give
 abbrev pub invariant-loop-digit : goal.invariant-loop-digit
