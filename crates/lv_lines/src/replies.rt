@@ -166,11 +166,13 @@ pub fn put_answer(held: &mut Vec<u8>, edit: u32, kind: Kind, value: Shown)
     ensures text { held.new.items ≡ held.old.items ++ answer_text edit kind value }
     ensures room { KeepsRoom held.old held.new }
 {
-    put(held, b"at ");
-    put_number(held, edit.into());
-    put(held, b" ");
-    put(held, kind_name(kind).as_bytes());
-    put(held, b" ");
+    let mut head = Tail::empty();
+    head.put(b" ");
+    head.put(kind_name(kind).as_bytes());
+    head.put(b" ");
+    head.put_number(edit.into());
+    head.put(b"at ");
+    put(held, head.as_bytes());
     put_shown(held, value);
     put(held, b"\n");
 }

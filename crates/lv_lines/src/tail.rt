@@ -8,7 +8,7 @@ use std::marker::Model;
 /// At most how many bytes such a line has.
 const LONGEST: usize = 80;
 
-/// The end of a line: its bytes from one on.
+/// A line of reply, or a part of one, of which the last bytes are written.
 #[derive(Drop)]
 pub(crate) struct Tail {
     bytes: [u8; LONGEST],
@@ -35,6 +35,18 @@ impl Tail {
         Tail {
             bytes: [b'\n'; LONGEST],
             start: LONGEST - 1,
+        }
+    }
+
+    /// The end of a line that goes on behind it.
+    #[inline(always)]
+    pub(crate) fn empty() -> Tail
+        ensures bytes { result ≡ [] }
+        ensures len { length result ≡ 0 }
+    {
+        Tail {
+            bytes: [0; LONGEST],
+            start: LONGEST,
         }
     }
 
