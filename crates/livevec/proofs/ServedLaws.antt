@@ -50,7 +50,7 @@ module _ (limits : Bounds) where
       )
 
 -- a beginning of a beginning is one
-begins : (xs ys zs : List Edit) → IsPrefix xs ys → IsPrefix ys zs → IsPrefix xs zs
+pub begins : (xs ys zs : List Edit) → IsPrefix xs ys → IsPrefix ys zs → IsPrefix xs zs
 begins xs ys zs p q = (p.0 ++ q.0, sym (append_assoc xs p.0 q.0) ∙ (ap (λ w. w ++ q.0) p.1 ∙ q.1))
 
 -- nothing was taken back yet
@@ -170,6 +170,21 @@ module _ (limits : Bounds) (share : ShareState) (olds news : List Sides) (claims
         | inl nothing ↦ inl nothing
         | inr front ↦ inr (front.0, held.states, front.1, transcript_so w.journal front.1 w.of front.2, front.3)
       ]
+
+  -- nor where all of it was written, and a write elsewhere failed
+  pub failed_elsewhere : {T : Type 0} (x : T) (fault : Fault) (contents_old contents_new : Option (List ℕ)) → fault ≡ WriteFault → WritesClosed {T = T} limits share claims contents_old contents_new (Ok x) → FailsToServe limits contents_old contents_new fault
+  failed_elsewhere x fault contents_old contents_new is w =
+      let written = w.written in
+      inr (is, held.states, written.0, transcript_so w.journal written.0 w.of written.1, record { unsent = []; written = record { sent = written.0; appended = written.3; all = sym (append-nil written.0) } })
+
+-- what a share that has seen more writes, one does that counts as many
+pub closed_more : {T : Type 0} (limits : Bounds) (share more : ShareState) (listed : List Claimed) (old new : Option (List ℕ)) (result : Result T Fault)
+    → more.count ≡ share.count → IsPrefix share.seen more.seen → WritesClosed limits more listed old new result → WritesClosed limits share listed old new result
+closed_more limits share more listed old new result same seen w = record {
+  journal = w.journal;
+  of = record { within = w.of.within; accepted = w.of.accepted; seen = begins share.seen more.seen w.journal seen w.of.seen; counted = w.of.counted ∙ same };
+  written = w.written;
+}
 
 -- how a journal's transcript was written
 pub writes_so : {T : Type 0} (journal : List Edit) (listed claims : List Claimed) (old new : Option (List ℕ)) (result : Result T Fault)

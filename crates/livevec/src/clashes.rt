@@ -19,6 +19,10 @@ pub enum Clash<'a> {
     Standard(&'a str),
     /// The replies to a file would go through a link.
     Link(&'a str),
+    /// The transcript would go into a file that is read or written otherwise.
+    Transcript(&'a str),
+    /// The transcript would go through a link.
+    TranscriptLink(&'a str),
 }
 
 impl fmt::Display for Clash<'_> {
@@ -45,6 +49,16 @@ impl fmt::Display for Clash<'_> {
             Clash::Link(file) => write!(
                 f,
                 "'{}{REPLIES}' is a link, and replies don't go through one: remove it",
+                Escaped(file)
+            ),
+            Clash::Transcript(file) => write!(
+                f,
+                "'{}' is read or written here otherwise, perhaps under another name: write the transcript elsewhere",
+                Escaped(file)
+            ),
+            Clash::TranscriptLink(file) => write!(
+                f,
+                "'{}' is a link, and the transcript doesn't go through one: remove it",
                 Escaped(file)
             ),
         }

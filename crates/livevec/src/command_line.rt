@@ -71,6 +71,7 @@ fn arg_of<'a>(alloc: Global, argument: &Argument) -> Arg<'a> {
         Argument::Body => body(alloc),
         Argument::Files(most) => files(alloc, *most),
         Argument::Flag(name, says) => flag(alloc, name, says),
+        Argument::File(name, says) => file(alloc, name, says),
         Argument::Front => front(alloc),
     }
 }
@@ -196,6 +197,14 @@ fn files<'a>(alloc: Global, most: usize) -> Arg<'a> {
         .required(true)
         .action(ArgAction::Append)
         .num_args(1..=most)
+}
+
+fn file<'a>(alloc: Global, name: &'static str, says: &'static str) -> Arg<'a> {
+    Arg::new(alloc, name)
+        .long(name)
+        .value_name("FILE")
+        .help(says)
+        .action(ArgAction::Set)
 }
 
 fn front<'a>(alloc: Global) -> Arg<'a> {

@@ -15,6 +15,8 @@ pub enum Place {
     Opening(usize),
     /// In the session of the file of this number.
     Session(usize),
+    /// On the file of a transcript that is written as it comes, which is named behind those of the sessions.
+    Transcript,
     /// At the line of this number of a transcript, which is false.
     False(u32),
     /// At the line of this number of a transcript, which is not of the form that may stand there.
@@ -41,6 +43,16 @@ impl Failure {
         Failure {
             fault,
             place: Place::Standard,
+        }
+    }
+
+    /// A fault on the file of a transcript.
+    pub fn transcript(fault: Fault) -> Failure
+        ensures { result.fault ≡ fault }
+    {
+        Failure {
+            fault,
+            place: Place::Transcript,
         }
     }
 }
@@ -77,7 +89,7 @@ impl Told<'_> {
     // What couldn't be read.
     fn tell_read<W: fmt::Write>(&self, f: &mut fmt::Formatter<W>) -> fmt::Result {
         match self.failure.place {
-            Place::Standard => f.write_str("standard input can't be read"),
+            Place::Standard | Place::Transcript => f.write_str("standard input can't be read"),
             Place::Opening(number) => write!(f, "'{}' can't be opened", self.file(number)),
             Place::Session(number) => write!(f, "'{}' can't be read", self.file(number)),
             Place::False(line) => self.tell_line(f, line, "is false"),
@@ -118,6 +130,7 @@ impl Told<'_> {
         match self.failure.place {
             Place::Opening(number) => write!(f, "'{}.out' can't be made", self.file(number)),
             Place::Session(number) => write!(f, "'{}.out' can't be written", self.file(number)),
+            Place::Transcript => write!(f, "the file of --transcript can't be made or written"),
             _ => f.write_str("standard output can't be written"),
         }
     }

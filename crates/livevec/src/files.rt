@@ -3,6 +3,7 @@
 use crate::clashes::{Clash, REPLIES};
 use crate::failures::{Failure, Place};
 use crate::identities::{Identity, standard_files};
+use crate::transcript_files::{emptied, open_transcript};
 use lv_script::Fault;
 use std::alloc::Global;
 use std::fs::{File, Files, Metadata, OpenFile, OpenOptions, remove_file, symlink_metadata};
@@ -37,25 +38,25 @@ pub fn open_front<'a, R: Files>(rt: &R, file: &'a str) -> Result<R::File, Unopen
     Ok(front)
 }
 
-// The file of a session and that of its replies, opened and not yet changed.
+/// The file of a session and that of its replies, opened and not yet changed.
 #[derive(Drop)]
-struct Opened<F: Drop> {
+pub struct Opened<F: Drop> {
     streams: Streams<F>,
-    input: Identity,
-    output: Output,
+    pub input: Identity,
+    pub output: Output,
     name: String,
 }
 
-// What is known of a file of replies: which it is, and whether it was made here.
+/// What is known of a file that is written: which it is, and whether it was made here.
 #[derive(Clone, Copy)]
-struct Output {
-    identity: Identity,
-    is_new: bool,
+pub struct Output {
+    pub identity: Identity,
+    pub is_new: bool,
 }
 
-// Why a file isn't opened: it is a link where none is followed, or it can't be opened or made.
+/// Why a file isn't opened: it is a link where none is followed, or it can't be opened or made.
 #[derive(Clone, Copy)]
-enum Unfit {
+pub enum Unfit {
     Link,
     Failed,
 }
@@ -64,25 +65,41 @@ enum Unfit {
 /// regular file that nothing else here reads or writes, under whatever name; standard streams count.
 ///
 /// The first that fails is the fault: `ReadFault` where a file can't be opened or is a directory, `WriteFault` where that of its
-/// replies can't be made, or is there and no regular file. Those that were made here are removed then.
+/// replies can't be made, or is there and no regular file. Those that were made here are removed then. So it is with the file of a
+/// transcript, which comes last.
 pub fn open_all<'a, R: Files>(
     rt: &R,
     alloc: Global,
     files: &[&'a str],
-) -> Result<Vec<Streams<R::File>>, Unopened<'a>> {
+    transcript: Option<&'a str>,
+) -> Result<(Vec<Streams<R::File>>, Option<R::File>), Unopened<'a>> {
     let (Ok(streams), Ok(mut all)) = (
         Vec::with_capacity(alloc, files.len()),
         Vec::with_capacity(alloc, files.len()),
     ) else {
         return Err(Unopened::Failed(Failure::memory()));
     };
-    match open_each(rt, alloc, files, &mut all) {
-        Ok(()) => empty_all(all, streams),
+    let opened = match open_each(rt, alloc, files, &mut all) {
+        Ok(()) => open_transcript(rt, transcript, &all),
+        Err(unopened) => Err(unopened),
+    };
+    match opened {
+        Ok(last) => empty_with(all, streams, last),
         Err(unopened) => {
             remove_new(rt, &all);
             Err(unopened)
         }
     }
+}
+
+// Empties the files of replies that were there before, and then that of the transcript.
+fn empty_with<'a, F: OpenFile + Drop>(
+    all: Vec<Opened<F>>,
+    streams: Vec<Streams<F>>,
+    last: Option<(F, Output)>,
+) -> Result<(Vec<Streams<F>>, Option<F>), Unopened<'a>> {
+    let streams = empty_all(all, streams)?;
+    Ok((streams, emptied(last)?))
 }
 
 // Opens them in order, and sees that none is written that is read or written otherwise.
@@ -153,8 +170,8 @@ fn open_lines<R: Files>(rt: &R, file: &str) -> Result<(R::File, Identity), Unfit
     }
 }
 
-// Opens a file of replies as it stands, or makes it. No link is followed, and only a regular file is opened.
-fn open_replies<R: Files>(rt: &R, name: &str) -> Result<(R::File, Output), Unfit> {
+/// Opens a file that is written as it stands, or makes it. No link is followed, and only a regular file is opened.
+pub fn open_replies<R: Files>(rt: &R, name: &str) -> Result<(R::File, Output), Unfit> {
     match symlink_metadata(rt, name) {
         Ok(found) => open_regular(rt, name, &found),
         Err(error) if error.kind() == ErrorKind::NotFound => make(rt, name),

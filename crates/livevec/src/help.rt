@@ -74,7 +74,15 @@ fault, and every file stays as it was. No FILE.out is emptied before all are ope
 link, or another name of a file that is read or written here, standard streams included, is a usage
 fault. The transcript goes to standard output: the journal, then each answered
 reduction in the order of edits; `livevec audit` says yes to it. Where a session ends with a fault
-none is written.";
+none is written.
+
+With --transcript each accepted edit and each answered reduction is written to its FILE too, before the
+reply to it is written, in the order of time and in whole lines. FILE is opened after the others, and
+emptied last. Whenever `serve` is killed, `livevec audit --front` says how much is there, and `livevec
+restore` goes on from it; at a good end its last line is `end`. With --sync it is on the disk by then.
+That FILE can't be written is a fault at the end.
+
+There is no way to end the sessions by a signal: --transcript is what survives one.";
 
 /// What `restore` does.
 pub const RESTORE: &str =

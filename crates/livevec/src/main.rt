@@ -10,12 +10,14 @@ mod failures;
 mod files;
 mod help;
 mod identities;
+mod minuted;
 mod modes;
 mod piped;
 mod restoring;
 mod serving;
 mod tasks;
 mod telling;
+mod transcript_files;
 mod usage;
 
 use crate::clashes::first_clash;
@@ -25,6 +27,7 @@ use crate::piped::{Piped, null_files};
 use crate::telling::{
     CUT, show, show_clash, show_misuse, status_of, status_of_front, status_told, tell,
 };
+use crate::transcript_files::Kept;
 use crate::usage::{Misuse, plus_in, unshown_in};
 use clap::{ArgMatches, Error};
 use lv_bodies::Sum;
@@ -206,8 +209,10 @@ fn serve_files<'a, R: Files + Sync + Threads + Wait, W: Write>(
 where
     R::File: Send,
 {
-    let streams = open_named(rt, alloc, files)?;
-    match serving::serve(rt, alloc, command_line::plan(asked), streams, writer) {
+    let (streams, file) = open_named(rt, alloc, files, asked.get_str("transcript"))?;
+    let syncs = asked.get_flag("sync");
+    let kept = file.map(|file| Kept { file, syncs });
+    match serving::serve(rt, alloc, command_line::plan(asked), streams, kept, writer) {
         Ok(served) => {
             drop(served);
             Ok(())
@@ -216,15 +221,16 @@ where
     }
 }
 
-// Opens the files of sessions, where their names don't clash.
+// Opens the files of sessions, where their names don't clash, and that of a transcript.
 fn open_named<'a, R: Files>(
     rt: &R,
     alloc: Global,
     files: &[&'a str],
-) -> Result<Vec<Streams<R::File>>, Unopened<'a>> {
+    transcript: Option<&'a str>,
+) -> Result<(Vec<Streams<R::File>>, Option<R::File>), Unopened<'a>> {
     match first_clash(files) {
         Some(clash) => Err(Unopened::Clashes(clash)),
-        None => files::open_all(rt, alloc, files),
+        None => files::open_all(rt, alloc, files, transcript),
     }
 }
 
@@ -254,7 +260,7 @@ fn hold_files<'a, R: Files + Sync + Threads>(
 where
     R::File: Send,
 {
-    let streams = open_named(rt, alloc, files)?;
+    let (streams, _) = open_named(rt, alloc, files, None)?;
     let limits = command_line::limits(asked);
     match boards::hold_sessions(rt, alloc, limits, command_line::kind(asked), streams) {
         Ok(()) => Ok(()),

@@ -74,6 +74,8 @@ pub enum Argument {
     Files(usize),
     /// An option without a value: its name, and what it says.
     Flag(&'static str, &'static str),
+    /// An option whose value is a file: its name, and what it says.
+    File(&'static str, &'static str),
     /// The file of a transcript's front.
     Front,
 }
@@ -105,6 +107,11 @@ pub const SERVE: Mode = Mode {
         Argument::Number(TURNS),
         Argument::Number(BUCKETS),
         Argument::Number(EDITS),
+        Argument::File(
+            "transcript",
+            "Writes edits and answers there as they come, in the order of time",
+        ),
+        Argument::Flag("sync", "Flushes what --transcript writes to the disk"),
         Argument::Files(16),
     ],
 };

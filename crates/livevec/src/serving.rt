@@ -1,6 +1,6 @@
 //! Sessions in threads of their own, with workers beside them, and the transcript of it all.
 
-ghost use Rattle.std.specs.Prelude.{◌≡◌, ◌+◌, ℕ, All, IfErr, IfOk, List, [], Some, map, vec_len};
+ghost use Rattle.std.specs.Prelude.{◌≡◌, ◌+◌, ℕ, All, IfErr, IfOk, IfSome, List, [], Some, map, vec_len};
 ghost use Rattle.lv_transcript.specs.Transcript.{AreAccepted, IsTrueClaim, greatest};
 ghost use Rattle.livevec.specs.Served.{FailsToServe, Served, Sides};
 ghost use Rattle.livevec.specs.Tasks.{AreAllHeld, AreHeldFrom, IsHeldFrom};
@@ -8,17 +8,18 @@ ghost use Rattle.livevec.specs.Writing.{Writes, WritesClosed};
 
 use crate::failures::{Failure, Place};
 use crate::files::Streams;
+use crate::minuted::{begin_minutes, end_minutes, run_minuted, shown, unlocked};
 use crate::tasks::{Done, Gathered, Task, share_out, take_back};
 use lv_bodies::Six;
 use lv_edits::Edit;
 use lv_geometry::Limits;
-use lv_hub::{Hub, Means, OpenGate, Opened, Share, attend, in_order, run_session};
+use lv_hub::{Begun, Hub, Means, Minutes, OpenGate, Opened, Share, attend, in_order};
 use lv_script::{Claimed, Fault, write_transcript};
 use std::alloc::Global;
 use std::io::{Read, Write};
 use std::marker::Brand;
-use std::sync::Wait;
 use std::sync::ledger::Blank;
+use std::sync::{Mutex, Wait};
 use std::thread;
 use std::thread::Threads;
 
@@ -36,22 +37,32 @@ pub struct Plan {
 /// Holds a session for each pair of streams, in a thread of its own where one can be made, with workers beside them. Then
 /// writes the transcript: the journal, and the sessions' reductions in the order of their edits. Gives the streams back, where
 /// each session has answered all its lines. Where sessions end with faults nothing is written, and the first of them is the fault.
-pub fn serve<F: Read + Write + Send + Drop, W: Write, R: Threads + Wait + Sync>(
+///
+/// Where there is a file for it, edits and answers are written there too, as they come. That it can't be written is a fault at the
+/// end, once the transcript is written.
+pub fn serve<
+    F: Read + Write + Send + Drop,
+    V: Write + Send + Drop,
+    W: Write,
+    R: Threads + Wait + Sync,
+>(
     rt: &R,
     alloc: Global,
     plan: Plan,
     streams: Vec<Streams<F>>,
+    file: Option<V>,
     writer: &mut W,
 ) -> Result<Vec<Streams<F>>, Failure>
     ensures served { IfOk result (λ done. Served plan.limits (map (λ s. record { lines = F.remaining s.lines; replies = F.contents s.replies }) streams.items) (map (λ s. record { lines = F.remaining s.lines; replies = F.contents s.replies }) done.items) (W.contents writer.old) (W.contents writer.new)) }
     ensures failed { IfErr result (λ failure. FailsToServe plan.limits (W.contents writer.old) (W.contents writer.new) failure.fault) }
 {
     let parts = streams.len() as u64 + 1;
-    serve_as::<Brand, F, W, R>(
+    serve_as::<Brand, Brand, F, V, W, R>(
         rt,
         alloc,
         plan,
         streams,
+        file,
         writer,
         Blank::new(parts),
         parts,
@@ -63,7 +74,9 @@ pub fn serve<F: Read + Write + Send + Drop, W: Write, R: Threads + Wait + Sync>(
 // Serves them on a hub of this name.
 fn serve_as<
     N: Means<Six> + Send + Sync,
+    K: Begun + Send + Sync,
     F: Read + Write + Send + Drop,
+    V: Write + Send + Drop,
     W: Write,
     R: Threads + Wait + Sync,
 >(
@@ -71,6 +84,7 @@ fn serve_as<
     alloc: Global,
     plan: Plan,
     streams: Vec<Streams<F>>,
+    file: Option<V>,
     writer: &mut W,
     blank: Blank,
     parts: u64,
@@ -84,15 +98,19 @@ fn serve_as<
     requires limits { plan.limits ≡ N.limits }
     requires history { opened ≡ N.history }
     requires body { N.body ≡ Some body }
+    requires start { IfSome file (λ file. K.start ≡ V.contents file) }
     ensures served { IfOk result (λ done. Served plan.limits (map (λ s. record { lines = F.remaining s.lines; replies = F.contents s.replies }) streams.items) (map (λ s. record { lines = F.remaining s.lines; replies = F.contents s.replies }) done.items) (W.contents writer.old) (W.contents writer.new)) }
     ensures failed { IfErr result (λ failure. FailsToServe plan.limits (W.contents writer.old) (W.contents writer.new) failure.fault) }
 {
     let (hub, mut share) = Hub::<Six, N>::new(alloc, plan.limits, body, blank, parts, opened);
-    match serve_all(rt, alloc, plan, &hub, &mut share, streams) {
-        Ok(Gathered { claims, streams }) => match write_closed(alloc, hub, share, claims, writer) {
-            Ok(()) => Ok(streams),
-            Err(fault) => Err(Failure::standard(fault)),
-        },
+    match serve_all::<N, K, F, V, R>(rt, alloc, plan, &hub, &mut share, streams, file) {
+        Ok((Gathered { claims, streams }, minutes)) => {
+            match write_closed(alloc, hub, share, claims, minutes, writer) {
+                (Ok(()), Ok(())) => Ok(streams),
+                (Err(fault), _) => Err(Failure::standard(fault)),
+                (Ok(()), Err(fault)) => Err(Failure::transcript(fault)),
+            }
+        }
         Err(failure) => {
             drop(hub);
             Err(failure)
@@ -101,23 +119,33 @@ fn serve_as<
 }
 
 // Serves them on a hub, and gathers the reductions in the order of the sessions. Its share has all parts, and has them again.
-fn serve_all<N: Means<Six> + Send + Sync, F: Read + Write + Send + Drop, R: Threads + Wait + Sync>(
+fn serve_all<
+    N: Means<Six> + Send + Sync,
+    K: Begun + Send + Sync,
+    F: Read + Write + Send + Drop,
+    V: Write + Send + Drop,
+    R: Threads + Wait + Sync,
+>(
     rt: &R,
     alloc: Global,
     plan: Plan,
     hub: &Hub<Six, N>,
     share: &mut Share<N>,
     streams: Vec<Streams<F>>,
-) -> Result<Gathered<F>, Failure>
+    file: Option<V>,
+) -> Result<(Gathered<F>, Option<Minutes<N, V, K>>), Failure>
+    requires start { IfSome file (λ file. K.start ≡ V.contents file) }
     requires parts { share.old.parts ≡ vec_len streams + 1 }
     requires count { share.old.count ≡ 0 }
     requires unseen { share.old.seen ≡ [] }
     ensures parts { IfOk result (λ all. share.new.parts ≡ share.old.parts) }
-    ensures held { IfOk result (λ all. AreAllHeld N.limits share.new (map (λ s. record { lines = F.remaining s.lines; replies = F.contents s.replies }) streams.items) (map (λ s. record { lines = F.remaining s.lines; replies = F.contents s.replies }) all.streams.items) all.claims.items) }
+    ensures held { IfOk result (λ all. AreAllHeld N.limits share.new (map (λ s. record { lines = F.remaining s.lines; replies = F.contents s.replies }) streams.items) (map (λ s. record { lines = F.remaining s.lines; replies = F.contents s.replies }) all.0.streams.items) all.0.claims.items) }
 {
+    let minutes = begin_minutes::<N, K, V>(alloc, file, share)?;
     let tasks = share_out(alloc, share, streams)?;
-    let done = hold_all(rt, alloc, plan, hub, tasks)?;
-    take_back(alloc, share, done)
+    let done = hold_all(rt, alloc, plan, hub, minutes.as_ref(), tasks)?;
+    let all = take_back(alloc, share, done)?;
+    Ok((all, unlocked(minutes)))
 }
 
 // Writes the transcript of a journal, with the reductions in the order of their edits.
@@ -138,32 +166,43 @@ fn write_in_order<W: Write>(
     write_transcript(alloc, journal, &claims, writer)
 }
 
-// Closes a hub and writes its transcript. A call drops the vector, as one above drops the hub: the proof of a body that does so
+// Closes a hub and writes its transcript, and ends its minutes. A call drops the vector, as one above drops the hub: the proof of a body that does so
 // by itself is long.
-fn write_closed<N: Means<Six>, W: Write>(
+fn write_closed<N: Means<Six>, K: Begun, V: Write + Drop, W: Write>(
     alloc: Global,
     hub: Hub<Six, N>,
     share: Share<N>,
     claims: Vec<Claimed>,
+    minutes: Option<Minutes<N, V, K>>,
     writer: &mut W,
-) -> Result<(), Fault>
+) -> (Result<(), Fault>, Result<(), Fault>)
     requires parts { share.parts ≡ N.parts }
     requires all_true { All (IsTrueClaim share.seen) claims.items }
-    ensures { WritesClosed N.limits share claims.items (W.contents writer.old) (W.contents writer.new) result }
+    ensures written { WritesClosed N.limits share claims.items (W.contents writer.old) (W.contents writer.new) result.0 }
+    ensures fault { IfErr result.1 (λ fault. fault ≡ Fault.WriteFault) }
 {
+    let share = shown(&minutes, share);
     let live = hub.close(share);
     let written = write_in_order(alloc, live.journal(), claims, writer);
+    let ended = end_minutes(minutes, live.journal());
     drop(live);
-    written
+    (written, ended)
 }
 
 // Holds all sessions, with workers beside them, which end when the last session has ended. Where no thread can be made for the
 // workers, they come last, and end at once.
-fn hold_all<N: Means<Six> + Send + Sync, F: Read + Write + Send + Drop, R: Threads + Wait + Sync>(
+fn hold_all<
+    N: Means<Six> + Send + Sync,
+    K: Begun + Send + Sync,
+    F: Read + Write + Send + Drop,
+    V: Write + Send + Drop,
+    R: Threads + Wait + Sync,
+>(
     rt: &R,
     alloc: Global,
     plan: Plan,
     hub: &Hub<Six, N>,
+    minutes: Option<&Mutex<Minutes<N, V, K>>>,
     tasks: Vec<Task<N, F>>,
 ) -> Result<Vec<Done<N, F>>, Failure>
     ensures { IfOk result (λ done. AreHeldFrom N.limits tasks.items done.items) }
@@ -175,7 +214,7 @@ fn hold_all<N: Means<Six> + Send + Sync, F: Read + Write + Send + Drop, R: Threa
         move || -> Result<Vec<Done<N, F>>, Failure>
             ensures { IfOk result (λ done. AreHeldFrom N.limits tasks.items done.items) }
         {
-            let done = hold_each(rt, alloc, hub, tasks);
+            let done = hold_each(rt, alloc, hub, minutes, tasks);
             hub.dismiss(rt);
             done
         },
@@ -185,17 +224,24 @@ fn hold_all<N: Means<Six> + Send + Sync, F: Read + Write + Send + Drop, R: Threa
 }
 
 // Holds each session in a thread of its own, where one can be made.
-fn hold_each<N: Means<Six> + Send + Sync, F: Read + Write + Send + Drop, R: Threads + Wait + Sync>(
+fn hold_each<
+    N: Means<Six> + Send + Sync,
+    K: Begun + Send + Sync,
+    F: Read + Write + Send + Drop,
+    V: Write + Send + Drop,
+    R: Threads + Wait + Sync,
+>(
     rt: &R,
     alloc: Global,
     hub: &Hub<Six, N>,
+    minutes: Option<&Mutex<Minutes<N, V, K>>>,
     tasks: Vec<Task<N, F>>,
 ) -> Result<Vec<Done<N, F>>, Failure>
     ensures { IfOk result (λ done. AreHeldFrom N.limits tasks.items done.items) }
 {
     let held = |task: Task<N, F>| -> Done<N, F>
         ensures { IsHeldFrom N.limits task result }
-    { hold(rt, alloc, hub, task) };
+    { hold(rt, alloc, hub, minutes, task) };
     match thread::map_vec(rt, tasks, &held) {
         Ok(done) => Ok(done),
         Err(_) => Err(Failure::memory()),
@@ -203,10 +249,11 @@ fn hold_each<N: Means<Six> + Send + Sync, F: Read + Write + Send + Drop, R: Thre
 }
 
 // Holds a session.
-fn hold<N: Means<Six>, F: Read + Write + Drop, R: Wait>(
+fn hold<N: Means<Six>, K: Begun, F: Read + Write + Drop, V: Write + Drop, R: Wait>(
     rt: &R,
     alloc: Global,
     hub: &Hub<Six, N>,
+    minutes: Option<&Mutex<Minutes<N, V, K>>>,
     task: Task<N, F>,
 ) -> Done<N, F>
     ensures { IsHeldFrom N.limits task result }
@@ -215,10 +262,11 @@ fn hold<N: Means<Six>, F: Read + Write + Drop, R: Wait>(
         mut share,
         mut streams,
     } = task;
-    let claims = run_session(
+    let claims = run_minuted(
         rt,
         alloc,
         hub,
+        minutes,
         &mut share,
         &mut streams.lines,
         &mut streams.replies,

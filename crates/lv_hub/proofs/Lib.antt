@@ -1,5 +1,6 @@
 mod AcceptedLaws
 mod AskedLaws
+mod MinuteLaws
 mod OrderLaws
 mod PermitLaws
 mod PrefixLaws

@@ -1,5 +1,5 @@
 -- The reductions that a session lists are true of what its share has seen.
-use Rattle.std.proofs.Common.{◌≡◌, ℕ, ◌+◌, ◌-◌, ◌≤◌, None, Option, Result, Ok, Err, List, [], ◌∷◌, length, take, drop, slice_range, All, nat_lt, refl, sym, ap, ◌∙◌, subst, inl, inr, arith}
+use Rattle.std.proofs.Common.{◌≡◌, ℕ, ◌+◌, ◌-◌, ◌≤◌, None, Option, Result, Ok, Err, OnOk, IfErr, List, [], ◌∷◌, length, take, drop, slice_range, All, nat_lt, refl, sym, ap, ◌∙◌, subst, inl, inr, arith}
 use Rattle.std.proofs.lemmas.Bool.{cases_Bool, cond-false, cond-true, ltb-false}
 use Rattle.std.proofs.lemmas.List.{length-take, length-drop, take_all, take-append-le}
 use Rattle.std.proofs.lemmas.List.Elements.{All-push, All-take, All-drop, All-weaker}
@@ -150,6 +150,13 @@ module _ (limits : Bounds) where
   step_keeps : (old new : SessionState) (n : ℕ) (line text : List ℕ) → SessionStep limits old n line text new → Keeps old new
   unfolding SessionStep
   step_keeps old new n line text a = line_keeps old new n (line_of line) text a
+
+  -- a line that was answered, whether its reply could be written or not
+  pub answered_keeps : (P Q : List ℕ → Type 0) (old new : SessionState) (n : ℕ) (line : Line) (result : Result (Unit {0}) Fault)
+      → OnOk result ((text : List ℕ) × SessionLineAnswer limits old n line text new × P text) → IfErr result (λ fault. (fault ≡ WriteFault) × (text : List ℕ) × SessionLineAnswer limits old n line text new × Q text)
+      → All (IsTrueClaim old.seen) old.claims → All (IsTrueClaim new.seen) new.claims
+  answered_keeps P Q old new n line (Ok u) ok err = (line_keeps old new n line ok.0 ok.1).all_true
+  answered_keeps P Q old new n line (Err fault) ok err = (line_keeps old new n line err.1 err.2).all_true
 
   -- one after the other
   keeps_both : (old mid new : SessionState) → Keeps old mid → Keeps mid new → Keeps old new

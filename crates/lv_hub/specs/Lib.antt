@@ -1,5 +1,6 @@
 pub mod Counting
 pub mod Growing
+pub mod Minuting
 pub mod Session
 pub mod Told
 pub mod Work

@@ -242,6 +242,13 @@ impl<N: Naming> Head<N> {
 }
 
 impl<N: Naming> Front<N> {
+    /// How many edits it has seen.
+    pub fn count(&self) -> u64
+        ensures { result ≡ length self.now }
+    {
+        self.edits
+    }
+
     /// A copy.
     pub fn again(&self) -> Front<N>
         ensures { result ≡ self.now }

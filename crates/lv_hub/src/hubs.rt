@@ -1,10 +1,10 @@
-ghost use Rattle.std.specs.Prelude.{◌≡◌, ◌↔◌, ◌<◌, true, false, [], length, Err, Some};
+ghost use Rattle.std.specs.Prelude.{◌≡◌, ◌↔◌, ◌<◌, ◌≤◌, true, false, [], drop, length, take, Err, Some, vec_capacity};
 ghost use mathlib.Core.List.{IsPrefix};
 ghost use Rattle.lv_transcript.specs.Transcript.{AreAccepted, greatest};
 ghost use Rattle.lv_hub.specs.Counting.{Counts, having_seen};
 ghost use Rattle.lv_hub.specs.Told.{AskTold, ClaimTold, EditTold, GiveTold, IsVector, ReductionTold, ScanTold, StretchTold};
 
-use crate::histories::Opened;
+use crate::histories::{Front, Opened};
 use crate::logged::LoggedDesk;
 use crate::naming::Means;
 use crate::rooms::Room;
@@ -218,6 +218,23 @@ impl<B: Body, N: Means<B>> Hub<B, N> {
         let mut room = self.room.lock(rt);
         room.desk.show(share);
         room.desk.live().copy_range(alloc, lo, hi)
+    }
+
+    /// Lets a front of this hub see all edits, and puts those from index `from` on into a buffer, in place of what it has, as many as
+    /// there is room for. Takes no memory.
+    pub fn copy_edits<R: Wait>(
+        &self,
+        rt: &R,
+        front: &mut Front<N>,
+        from: usize,
+        buffer: &mut Vec<Edit>,
+    )
+        ensures begins { IsPrefix front.old front.new }
+        ensures copied { buffer.new.items ≡ take (vec_capacity buffer.old) (drop from front.new) }
+        ensures few { length front.new ≤ 16777215 }
+        ensures accepted { AreAccepted greatest front.new }
+    {
+        self.room.lock(rt).desk.copy_edits(front, from, buffer);
     }
 
     /// A job for the least node that wants one, or none. Takes no memory.

@@ -1,4 +1,4 @@
-ghost use Rattle.std.specs.Prelude.{◌≡◌, ◌<◌, Some, [], length, option_map, IfOk, IfErr, IfSome, OnErr};
+ghost use Rattle.std.specs.Prelude.{◌≡◌, ◌<◌, ◌≤◌, Some, [], drop, length, option_map, take, IfOk, IfErr, IfSome, OnErr, vec_capacity};
 ghost use mathlib.Core.List.{IsPrefix};
 ghost use Rattle.lv_edits.specs.Verdict.{Answers};
 ghost use Rattle.lv_reduce.specs.Answer.{IsAnswer, range_refusal};
@@ -11,7 +11,7 @@ ghost use Rattle.lv_hub.specs.Counting.{Counts, having_seen};
 ghost use Rattle.lv_hub.specs.Told.{Gives, IsVector, VouchedBy};
 
 use crate::desks::Desk;
-use crate::histories::{Head, Opened};
+use crate::histories::{Front, Head, Opened};
 use crate::naming::Means;
 use crate::shares::Share;
 use lv_bodies::Body;
@@ -93,6 +93,21 @@ impl<B: Body, N: Means<B>> LoggedDesk<B, N> {
         share.see(&mut self.head);
     }
 
+    /// Lets a front see all edits, and puts those from index `from` on into a buffer, in place of what it has, as many as there is
+    /// room for.
+    pub fn copy_edits(&mut self, front: &mut Front<N>, from: usize, buffer: &mut Vec<Edit>)
+        ensures begins { IsPrefix front.old front.new }
+        ensures seen { front.new ≡ self.old.history.journal }
+        ensures copied { buffer.new.items ≡ take (vec_capacity buffer.old) (drop from front.new) }
+        ensures few { length front.new ≤ 16777215 }
+        ensures accepted { AreAccepted greatest front.new }
+        ensures same { self.new ≡ self.old }
+    {
+        let grown = self.head.grown(front);
+        *front = grown;
+        copy_from(self.desk.live().journal(), from, buffer);
+    }
+
     /// The fold of a range, as the desk gives it.
     pub fn ask(&mut self, lo: u32, hi: u32) -> Result<Answer<B::S>, Refusal>
         ensures ok { IfOk result (λ answer. IsAnswer (B.operations (B.meaning self.old.body)) self.old.history.journal lo hi answer) }
@@ -157,4 +172,16 @@ impl<B: Body, N: Means<B>> LoggedDesk<B, N> {
         share.see(&mut head);
         desk.close(share)
     }
+}
+
+// Puts edits from index `from` on into a buffer, in place of what it has, as many as there is room for.
+fn copy_from(edits: &[Edit], from: usize, buffer: &mut Vec<Edit>)
+    ensures { buffer.new.items ≡ take (vec_capacity buffer.old) (drop from edits.now) }
+{
+    buffer.clear();
+    let (_, rest) = edits.split_at(from.min(edits.len()));
+    let (batch, _) = rest.split_at(buffer.capacity().min(rest.len()));
+    let Ok(()) = buffer.extend_from_slice(batch) else {
+        unreachable!();
+    };
 }

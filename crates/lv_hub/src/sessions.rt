@@ -65,7 +65,7 @@ pub fn run_session<N: Means<Six>, T: Wait, R: Read, W: Write>(
 }
 
 // The reductions that were answered, where the session came to its end.
-fn listed(claims: Vec<Claimed>, ended: Result<(), Fault>) -> Result<Vec<Claimed>, Fault>
+pub(crate) fn listed(claims: Vec<Claimed>, ended: Result<(), Fault>) -> Result<Vec<Claimed>, Fault>
     ensures { MatchResult ended (λ _. result ≡ Ok claims) (λ fault. result ≡ Err fault) }
 {
     ended?;

@@ -1,4 +1,4 @@
-ghost use Rattle.std.specs.Prelude.{◌≡◌, ◌+◌, ◌%◌, ◌^◌, ◌<◌, ◌≤◌};
+ghost use Rattle.std.specs.Prelude.{◌≡◌, ◌+◌, ◌%◌, ◌^◌, ◌<◌, ◌≤◌, length};
 ghost use mathlib.Core.List.{IsPrefix};
 ghost use Rattle.lv_hub.specs.Counting.{AreTogether, ShareState, having_seen};
 
@@ -86,6 +86,38 @@ impl<N: Naming> Share<N> {
         self.token.merge(token);
         self.parts = self.parts.wrapping_add(parts);
         self.count = self.count.wrapping_add(count);
+    }
+
+    /// Sees what a front of the same hub has seen.
+    pub fn learn(&mut self, front: &Front<N>)
+        ensures this { IsPrefix self.old.seen self.new.seen }
+        ensures that { IsPrefix front.now self.new.seen }
+        ensures same { self.new ≡ having_seen self.old self.new.seen }
+    {
+        let longer = self.front.longer(front);
+        self.front = longer;
+    }
+
+    // The longer of a front and of what it has seen, which both begin.
+    pub(crate) fn longer(&self, front: &Front<N>) -> Front<N>
+        ensures this { IsPrefix self.now.seen result }
+        ensures that { IsPrefix front.now result }
+    {
+        self.front.longer(front)
+    }
+
+    // What it has seen, as a front.
+    pub(crate) fn front(&self) -> Front<N>
+        ensures { result ≡ self.now.seen }
+    {
+        self.front.again()
+    }
+
+    // How many edits it has seen.
+    pub(crate) fn seen(&self) -> u64
+        ensures { result ≡ length self.now.seen }
+    {
+        self.front.count()
     }
 
     // Sees all edits.

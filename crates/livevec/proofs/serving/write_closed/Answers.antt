@@ -1,16 +1,20 @@
-use Rattle.std.proofs.Common.{All, subst, sym}
+use Rattle.std.proofs.Common.{All, subst, sym, ap, ◌∙◌}
 use Rattle.lv_transcript.specs.Transcript.{IsTrueClaim}
 use Rattle.lv_hub.proofs.TruthLaws.{all_true_of_more}
-use Rattle.livevec.proofs.ServedLaws.{closed_so}
+use Rattle.livevec.proofs.ServedLaws.{begins, closed_more, closed_so}
 use Rattle.livevec.proofs.serving.write_closed.Goals as goal
 
 -- what is true of what the share has seen is true of the journal
 pub write_in_order-written-requires-clause-all_true : goal.write_in_order-written-requires-clause-all_true
 write_in_order-written-requires-clause-all_true g c =
+    let share = c.args.share.seen in
+    let journal = c.close-live.result.history.journal in
     subst (λ es. All (IsTrueClaim es) c.args.claims.items) (sym c.journal.ensures)
-    (all_true_of_more c.args.share.seen c.close-live.result.history.journal c.args.claims.items c.close-live.ensures.seen c.requires.all_true)
+    (all_true_of_more share journal c.args.claims.items (begins share c.shown-share.result.seen journal c.shown-share.ensures.more c.close-live.ensures.seen) c.requires.all_true)
 
-pub returns : goal.returns
-returns g c =
-    closed_so g.N.Naming.limits c.args.share c.close-live.result.history c.args.claims.items c.journal.result.now _ _ c.write_in_order-written.result c.journal.ensures
-    c.close-live.ensures.vector c.close-live.ensures.accepted c.close-live.ensures.seen c.close-live.ensures.counted c.write_in_order-written.ensures
+pub returns-clause-written : goal.returns-clause-written
+returns-clause-written g c =
+    let share = c.shown-share.result in
+    closed_more g.N.Naming.limits c.args.share share c.args.claims.items _ _ c.write_in_order-written.result (ap (λ h. h.count) c.shown-share.ensures.same) c.shown-share.ensures.more
+    (closed_so g.N.Naming.limits share c.close-live.result.history c.args.claims.items c.journal.result.now _ _ c.write_in_order-written.result c.journal.ensures
+    c.close-live.ensures.vector c.close-live.ensures.accepted c.close-live.ensures.seen c.close-live.ensures.counted c.write_in_order-written.ensures)

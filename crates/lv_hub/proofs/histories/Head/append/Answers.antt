@@ -1,4 +1,4 @@
-use Rattle.std.proofs.Common.{◌+◌, [], ◌∷◌, ◌++◌, ap, arith, length, length-append, sym, ◌∙◌}
+use Rattle.std.proofs.Common.{[], ◌∷◌, ◌++◌, ap, arith, length, length-append, sym, ◌∙◌}
 use Rattle.lv_hub.specs.Growing.{edits_by}
 use Rattle.lv_hub.proofs.PermitLaws.{HasAdded, adds_one}
 use Rattle.lv_hub.proofs.StepLaws.{adds_moves}

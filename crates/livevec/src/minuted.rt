@@ -1,0 +1,102 @@
+//! Sessions whose minutes are kept, or not.
+
+ghost use Rattle.std.specs.Prelude.{◌≡◌, ℕ, All, IfErr, IfOk, IfSome, List, []};
+ghost use mathlib.Core.List.{IsPrefix};
+ghost use Rattle.lv_lines.specs.Replies.{Conversed};
+ghost use Rattle.lv_transcript.specs.Transcript.{AreAccepted, IsTrueClaim, greatest};
+ghost use Rattle.lv_hub.specs.Counting.{having_seen};
+ghost use Rattle.lv_hub.specs.Session.{SessionState, SessionStep, session_at};
+
+use crate::failures::Failure;
+use lv_bodies::Six;
+use lv_edits::Edit;
+use lv_hub::{Begun, Hub, Means, Minutes, Share, run_recorded_session, run_session};
+use lv_script::{Claimed, Fault};
+use std::alloc::Global;
+use std::io::{Read, Write};
+use std::sync::{Mutex, Wait};
+
+/// Minutes of a hub whose edits nobody has seen, where there is a file for them.
+pub fn begin_minutes<N: Means<Six>, K: Begun, V: Write + Drop>(
+    alloc: Global,
+    file: Option<V>,
+    share: &Share<N>,
+) -> Result<Option<Mutex<Minutes<N, V, K>>>, Failure>
+    requires start { IfSome file (λ file. K.start ≡ V.contents file) }
+    requires unseen { share.now.seen ≡ [] }
+{
+    let Some(file) = file else {
+        return Ok(None);
+    };
+    match Minutes::new(alloc, file, share) {
+        Ok(minutes) => Ok(Some(Mutex::new(minutes))),
+        Err(_) => Err(Failure::memory()),
+    }
+}
+
+/// The minutes, once no session is held any more.
+pub fn unlocked<N: Means<Six>, K: Begun, V: Write + Drop>(
+    minutes: Option<Mutex<Minutes<N, V, K>>>,
+) -> Option<Minutes<N, V, K>> {
+    match minutes {
+        Some(minutes) => Some(minutes.into_inner()),
+        None => None,
+    }
+}
+
+/// A share that has seen what minutes took up too.
+pub fn shown<N: Means<Six>, K: Begun, V: Write + Drop>(
+    minutes: &Option<Minutes<N, V, K>>,
+    share: Share<N>,
+) -> Share<N>
+    ensures same { result ≡ having_seen share result.seen }
+    ensures more { IsPrefix share.seen result.seen }
+    ensures minutes { IfSome minutes.now (λ minutes. IsPrefix minutes.seen result.seen) }
+{
+    let mut share = share;
+    if let Some(minutes) = minutes {
+        minutes.show(&mut share);
+    }
+    share
+}
+
+/// Ends minutes, if there are any, by the journal of the hub.
+pub fn end_minutes<N: Means<Six>, K: Begun, V: Write + Drop>(
+    minutes: Option<Minutes<N, V, K>>,
+    journal: &[Edit],
+) -> Result<(), Fault>
+    requires begins { IfSome minutes (λ minutes. IsPrefix minutes.seen journal.now) }
+    requires accepted { AreAccepted greatest journal.now }
+    ensures { IfErr result (λ fault. fault ≡ Fault.WriteFault) }
+{
+    let Some(minutes) = minutes else {
+        return Ok(());
+    };
+    let (_file, ended) = minutes.end(journal);
+    ended
+}
+
+/// Answers the lines of a session, and has them taken up where minutes are kept.
+pub fn run_minuted<N: Means<Six>, K: Begun, V: Write + Drop, T: Wait, R: Read, W: Write>(
+    rt: &T,
+    alloc: Global,
+    hub: &Hub<Six, N>,
+    minutes: Option<&Mutex<Minutes<N, V, K>>>,
+    share: &mut Share<N>,
+    reader: &mut R,
+    writer: &mut W,
+) -> Result<Vec<Claimed>, Fault>
+    ensures conversed { (last : SessionState)
+        × Conversed (SessionStep N.limits) (session_at share.old []) last
+        (R.remaining reader.old) (R.remaining reader.new) (W.contents writer.old) (W.contents writer.new) result
+        × (share.new.count ≡ last.count)
+        × (share.new.seen ≡ last.seen)
+        × IfOk result (λ claims. claims.items ≡ last.claims) }
+    ensures parts { share.new.parts ≡ share.old.parts }
+    ensures all_true { IfOk result (λ claims. All (IsTrueClaim share.new.seen) claims.items) }
+{
+    match minutes {
+        Some(minutes) => run_recorded_session(rt, alloc, hub, minutes, share, reader, writer),
+        None => run_session(rt, alloc, hub, share, reader, writer),
+    }
+}

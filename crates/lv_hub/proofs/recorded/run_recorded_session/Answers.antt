@@ -1,0 +1,34 @@
+use Rattle.std.proofs.Common.{◌≡◌, All, refl, rules, ap, sym}
+use Rattle.std.proofs.lemmas.List.Elements.{All-nil}
+use Rattle.lv_transcript.specs.Transcript.{IsTrueClaim}
+use Rattle.lv_hub.proofs.SessionLaws.{conversed_as, given_as}
+use Rattle.lv_hub.proofs.TruthLaws.{conversed_keeps}
+use Rattle.lv_hub.proofs.recorded.run_recorded_session.Goals as goal
+
+pub returns-clause-conversed : goal.returns-clause-conversed
+returns-clause-conversed g c =
+    let began : c.replace.result.amount ≡ c.args.share.now.count = search rules in
+    let saw : c.again.result ≡ c.args.share.now.seen = search rules in
+    let came : c.hold-back.result.0.count ≡ c.back.inside.token.amount = ap (λ h. h.count) (sym c.back.view_is) in
+    let sees : c.hold-back.result.0.seen ≡ c.back.inside.front = ap (λ h. h.seen) (sym c.back.view_is) in (
+      record { count = c.back.inside.token.amount; seen = c.back.inside.front; claims = c.hold-back.result.1.items },
+      conversed_as c.hold-back.result.2 c.hold-back.result.1 c.listed.result c.listed.ensures (rw (← began, ← saw, ← came, ← sees) c.hold-back.ensures.conversed),
+      refl,
+      refl,
+      given_as (λ claims. claims.items ≡ c.hold-back.result.1.items) c.hold-back.result.2 c.hold-back.result.1 c.listed.result c.listed.ensures refl,
+    )
+
+-- what the session's state keeps, its share does
+pub returns-clause-seen : goal.returns-clause-seen
+returns-clause-seen g c =
+    let saw : c.again.result ≡ c.args.share.now.seen = search rules in
+    let sees : c.hold-back.result.0.seen ≡ c.back.inside.front = ap (λ h. h.seen) (sym c.back.view_is) in
+    let keeps = conversed_keeps g.N.Naming.limits _ _ _ _ _ _ c.hold-back.result.2 c.hold-back.ensures.conversed in
+    rw (← saw, ← sees) keeps.seen
+
+pub returns-clause-all_true : goal.returns-clause-all_true
+returns-clause-all_true g c =
+    let sees : c.hold-back.result.0.seen ≡ c.back.inside.front = ap (λ h. h.seen) (sym c.back.view_is) in
+    let keeps = conversed_keeps g.N.Naming.limits _ _ _ _ _ _ c.hold-back.result.2 c.hold-back.ensures.conversed in
+    let holds : All (IsTrueClaim c.back.inside.front) c.hold-back.result.1.items = rw (← sees) (keeps.all_true (All-nil (IsTrueClaim c.again.result))) in
+    given_as (λ claims. All (IsTrueClaim c.back.inside.front) claims.items) c.hold-back.result.2 c.hold-back.result.1 c.listed.result c.listed.ensures holds

@@ -1,0 +1,197 @@
+// The minutes of a hub: its edits and its sessions' answers, written in the order of time.
+ghost use Rattle.std.specs.Prelude.{◌≡◌, [], All, IfErr, IfOk, IfSome, List, Option, ℕ};
+ghost use mathlib.Core.List.{IsPrefix};
+ghost use Rattle.lv_edits.specs.Kept.{CarriesElement};
+ghost use Rattle.lv_transcript.specs.Scribing.{Scribed};
+ghost use Rattle.lv_transcript.specs.Transcript.{AreAccepted, IsTrueClaim, greatest};
+ghost use Rattle.lv_hub.specs.Counting.{having_seen};
+ghost use Rattle.lv_hub.specs.Minuting.{MinutesEnd, ScribesAll};
+
+use crate::histories::Front;
+use crate::hubs::Hub;
+use crate::naming::{Means, Naming};
+use crate::shares::Share;
+use lv_bodies::Six;
+use lv_edits::Edit;
+use lv_script::{Claimed, Fault};
+use lv_transcript::Scribe;
+use std::alloc::{AllocError, Global};
+use std::io::Write;
+use std::marker::{Brand, Model, PhantomData};
+use std::sync::Wait;
+
+// How many edits are copied at once.
+const BATCH: usize = 1024;
+
+/// What the writer of minutes had got when they were begun.
+pub trait Begun {
+    ghost start: { Option (List ℕ) };
+}
+
+impl Begun for Brand {
+    ghost use Rattle.std.specs.Prelude.{None};
+
+    ghost start = { None };
+}
+
+/// What a scribe was given of a hub: its edits up to some edit, and answers of its sessions, in the order of time. Whoever holds
+/// them under a lock while a session is answered a line, and has them take that up, keeps them so.
+#[derive(Drop)]
+pub struct Minutes<N: Naming, W: Write + Drop, K: Begun> {
+    scribe: Scribe<W>,
+    // A beginning of the hub's edits.
+    front: Front<N>,
+    // How many of them the scribe was given.
+    edits: usize,
+    // The edit of the last answer that it was given.
+    last: u32,
+    // Whether an answer came too late to be given: never, where the lock is held for each line.
+    missed: bool,
+    // Edits on their way.
+    batch: Vec<Edit>,
+    of: PhantomData<K>,
+}
+
+impl<N: Naming, W: Write + Drop, K: Begun> Model for Minutes<N, W, K> {
+    ghost use Rattle.lv_hub.specs.Minuting.{AreMinutes, MinutesState};
+
+    ghost Value = { MinutesState };
+
+    ghost view = { λ m. record { scribe = m.scribe; seen = m.front; edits = m.edits; last = m.last } };
+
+    ghost invariant = { λ m. AreMinutes K.start (record { scribe = m.scribe; seen = m.front; edits = m.edits; last = m.last }) };
+}
+
+impl<N: Means<Six>, W: Write + Drop, K: Begun> Minutes<N, W, K> {
+    /// Minutes of a hub of which nobody has seen an edit. All memory that they need is taken here.
+    pub fn new(alloc: Global, writer: W, share: &Share<N>) -> Result<Minutes<N, W, K>, AllocError>
+        requires start { K.start ≡ W.contents writer }
+        requires unseen { share.now.seen ≡ [] }
+        ensures { IfOk result (λ m. Scribed K.start [] m.scribe) }
+    {
+        let batch = Vec::with_capacity(alloc, BATCH)?;
+        Ok(Minutes {
+            scribe: Scribe::new(alloc, writer)?,
+            front: share.front(),
+            edits: 0,
+            last: 0,
+            missed: false,
+            batch,
+            of: PhantomData,
+        })
+    }
+
+    /// Takes up what a session has come to, and writes it: the edits that its share has seen, and the answer that it was given, if it
+    /// was given one.
+    pub(crate) fn take_up<R: Wait>(
+        &mut self,
+        rt: &R,
+        hub: &Hub<Six, N>,
+        share: &Share<N>,
+        claim: Option<Claimed>,
+    )
+        requires { IfSome claim (IsTrueClaim share.now.seen) }
+    {
+        self.catch_up(rt, hub, share);
+        self.take_batch(rt, hub, share);
+        if let Some(claim) = claim {
+            self.answer(&claim);
+        }
+        self.flush();
+    }
+
+    // Takes edits up, until no more than a batch is missing of those that a share has seen.
+    fn catch_up<R: Wait>(&mut self, rt: &R, hub: &Hub<Six, N>, share: &Share<N>) {
+        for _ in 0..u64::MAX {
+            if share.seen().saturating_sub(self.edits as u64) <= BATCH as u64 {
+                break;
+            }
+            self.take_batch(rt, hub, share);
+        }
+    }
+
+    // Takes the next edits up, at most as many as a batch has room for.
+    fn take_batch<R: Wait>(&mut self, rt: &R, hub: &Hub<Six, N>, share: &Share<N>)
+        ensures { IsPrefix share.now.seen self.new.seen }
+    {
+        let mut front = share.longer(&self.front);
+        hub.copy_edits(rt, &mut front, self.edits, &mut self.batch);
+        give_all(&mut self.scribe, self.batch.as_slice());
+        self.edits += self.batch.len();
+        self.front = front;
+    }
+
+    // Takes an answer up.
+    fn answer(&mut self, claim: &Claimed)
+        requires { IsTrueClaim self.old.seen claim.now }
+    {
+        if claim.edit < self.last || self.edits < claim.edit as usize {
+            self.missed = true;
+            return;
+        }
+        self.scribe.answer(claim);
+        self.last = claim.edit;
+    }
+
+    // Writes all that is held.
+    fn flush(&mut self) {
+        self.scribe.flush();
+    }
+
+    /// Lets a share of the hub see the edits that were taken up.
+    pub fn show(&self, share: &mut Share<N>)
+        ensures seen { IsPrefix self.now.seen share.new.seen }
+        ensures more { IsPrefix share.old.seen share.new.seen }
+        ensures same { share.new ≡ having_seen share.old share.new.seen }
+    {
+        share.learn(&self.front);
+    }
+
+    /// Takes the other edits of a journal up, writes the last line, and gives the writer back. The fault is `WriteFault`, where a
+    /// write fails or has failed, or an answer was missed.
+    pub fn end(self, journal: &[Edit]) -> (W, Result<(), Fault>)
+        requires begins { IsPrefix self.seen journal.now }
+        requires accepted { AreAccepted greatest journal.now }
+        ensures ends { MinutesEnd K.start (W.contents result.0) journal.now result.1 }
+        ensures fault { IfErr result.1 (λ fault. fault ≡ Fault.WriteFault) }
+    {
+        let Minutes {
+            mut scribe,
+            edits,
+            missed,
+            ..
+        } = self;
+        let (_, rest) = journal.split_at(edits);
+        give_all(&mut scribe, rest);
+        let (writer, ended) = scribe.end();
+        if missed {
+            return (writer, Err(Fault::WriteFault));
+        }
+        (writer, ended)
+    }
+}
+
+// Gives edits to a scribe.
+fn give_all<W: Write + Drop>(scribe: &mut Scribe<W>, edits: &[Edit])
+    ensures given { ScribesAll scribe.old edits.now scribe.new }
+    ensures elements { All CarriesElement edits.now }
+{
+    for edit in edits {
+        tell_element(*edit);
+        scribe.edit(edit);
+    }
+}
+
+// The element of an edit is a number of 64 bits.
+fn tell_element(edit: Edit)
+    ensures { CarriesElement edit }
+{
+    match edit {
+        Edit::Push(_) => {}
+        Edit::Pop => {}
+        Edit::Write { .. } => {}
+        Edit::Reserve(_) => {}
+        Edit::Swap { .. } => {}
+        Edit::Truncate(_) => {}
+    }
+}

@@ -1,0 +1,230 @@
+// Sessions on a hub whose minutes are kept.
+ghost use Rattle.std.specs.Prelude.{◌≡◌, ◌≤◌, ℕ, All, IfErr, IfOk, IfSome, List, [], OnOk};
+ghost use mathlib.Core.List.{IsPrefix};
+ghost use Rattle.lv_edits.specs.declared.edit.Edit.{Edit};
+ghost use Rattle.lv_lines.specs.Output.{HasRoom, Puts, PutsFront, SamePlaces};
+ghost use Rattle.lv_lines.specs.Replies.{Conversed};
+ghost use Rattle.lv_transcript.specs.Transcript.{IsTrueClaim};
+ghost use Rattle.lv_hub.specs.Session.{SessionLineAnswer, SessionState, SessionStep, session_at};
+
+use crate::hubs::Hub;
+use crate::minutes::{Begun, Minutes};
+use crate::naming::Means;
+use crate::replying::{Place, answer_line};
+use crate::sessions::{Lent, listed};
+use crate::shares::Share;
+use lv_bodies::Six;
+use lv_script::{Claimed, Command, Fault, LINE, Line, Outbox, Responder, converse, read_line};
+use std::alloc::Global;
+use std::io::{Read, Write};
+use std::marker::{Brand, Model, PhantomData};
+use std::mem;
+use std::sync::{Mutex, Wait};
+
+/// Answers the lines of a session as `run_session` does, and has the minutes take up each edit that was accepted and each reduction
+/// that was answered, in the order of time.
+///
+/// The minutes are locked while a line is answered that may be an edit or a reduction, and until that is written: so whoever reads
+/// the reply finds it there.
+pub fn run_recorded_session<N: Means<Six>, T: Wait, R: Read, W: Write, V: Write + Drop, K: Begun>(
+    rt: &T,
+    alloc: Global,
+    hub: &Hub<Six, N>,
+    minutes: &Mutex<Minutes<N, V, K>>,
+    share: &mut Share<N>,
+    reader: &mut R,
+    writer: &mut W,
+) -> Result<Vec<Claimed>, Fault>
+    ensures conversed { (last : SessionState)
+        × Conversed (SessionStep N.limits) (session_at share.old []) last
+        (R.remaining reader.old) (R.remaining reader.new) (W.contents writer.old) (W.contents writer.new) result
+        × (share.new.count ≡ last.count)
+        × (share.new.seen ≡ last.seen)
+        × IfOk result (λ claims. claims.items ≡ last.claims) }
+    ensures parts { share.new.parts ≡ share.old.parts }
+    ensures more { share.old.count ≤ share.new.count }
+    ensures seen { IsPrefix share.old.seen share.new.seen }
+    // Each reduction is true of the edits that were seen.
+    ensures all_true { IfOk result (λ claims. All (IsTrueClaim share.new.seen) claims.items) }
+{
+    let Share {
+        token,
+        front,
+        parts,
+        count,
+    } = share;
+    let none = token.empty();
+    let lent = Share {
+        token: mem::replace(token, none),
+        front: front.again(),
+        parts: *parts,
+        count: *count,
+    };
+    let (back, claims, ended) = hold::<Brand, N, T, R, W, V, K>(
+        rt, alloc, hub, minutes, lent, reader, writer,
+    );
+    *token = back.token;
+    *front = back.front;
+    *count = back.count;
+    listed(claims, ended)
+}
+
+// Holds a session with a share, and gives the share back with the reductions that were answered.
+fn hold<L: Lent, N: Means<Six>, T: Wait, R: Read, W: Write, V: Write + Drop, K: Begun>(
+    rt: &T,
+    alloc: Global,
+    hub: &Hub<Six, N>,
+    minutes: &Mutex<Minutes<N, V, K>>,
+    share: Share<N>,
+    reader: &mut R,
+    writer: &mut W,
+) -> (Share<N>, Vec<Claimed>, Result<(), Fault>)
+    requires lent { share ≡ L.holding }
+    ensures conversed { Conversed (SessionStep N.limits) (session_at share []) (session_at result.0 result.1.items)
+        (R.remaining reader.old) (R.remaining reader.new) (W.contents writer.old) (W.contents writer.new) result.2 }
+    ensures parts { result.0.parts ≡ share.parts }
+    ensures more { share.count ≤ result.0.count }
+{
+    let mut session: Recorded<'_, N, T, V, K, L> = Recorded {
+        place: Place { rt, hub, alloc },
+        minutes,
+        share,
+        claims: Vec::new(alloc),
+        of: PhantomData,
+    };
+    let ended = converse(alloc, &mut session, reader, writer);
+    let Recorded { share, claims, .. } = session;
+    (share, claims, ended)
+}
+
+// What answers the lines of a session.
+#[derive(Drop)]
+struct Recorded<'a, N: Means<Six>, T: Wait, V: Write + Drop, K: Begun, L: Lent> {
+    place: Place<'a, N, T>,
+    minutes: &'a Mutex<Minutes<N, V, K>>,
+    share: Share<N>,
+    claims: Vec<Claimed>,
+    of: PhantomData<L>,
+}
+
+impl<'a, N: Means<Six>, T: Wait, V: Write + Drop, K: Begun, L: Lent> Model
+    for Recorded<'a, N, T, V, K, L> {
+    ghost use Rattle.std.specs.Prelude.{◌≡◌, ◌≤◌, All};
+    ghost use Rattle.lv_transcript.specs.Transcript.{IsTrueClaim};
+    ghost use Rattle.lv_hub.specs.Session.{SessionState, session_at};
+
+    ghost Value = { SessionState };
+
+    ghost view = { λ s. session_at s.share s.claims.items };
+
+    ghost invariant = { λ s. (s.share.parts ≡ L.holding.parts) × (L.holding.count ≤ s.share.count) × All (IsTrueClaim s.share.seen) s.claims.items };
+}
+
+impl<'a, N: Means<Six>, T: Wait, V: Write + Drop, K: Begun, L: Lent> Responder
+    for Recorded<'a, N, T, V, K, L> {
+    ghost State = { SessionState };
+
+    ghost state = { λ s. s };
+
+    ghost step = { SessionStep N.limits };
+
+    fn respond<W: Write>(
+        &mut self,
+        number: u32,
+        line: &[u8],
+        outbox: &mut Outbox<'_, W>,
+    ) -> Result<(), Fault> {
+        outbox.make_room(LINE)?;
+        let line = read_line(line);
+        if is_minuted(&line) {
+            return answer_minuted(
+                &self.place,
+                self.minutes,
+                &mut self.share,
+                &mut self.claims,
+                number,
+                line,
+                outbox,
+            );
+        }
+        answer_true(
+            &self.place,
+            &mut self.share,
+            &mut self.claims,
+            number,
+            line,
+            outbox,
+        )
+    }
+}
+
+// Whether a line may be an edit or a reduction. The reply to one finds room where there is room for a line.
+fn is_minuted(line: &Line) -> bool {
+    matches!(line, Line::Do(Command::Edit(_) | Command::Reduce { .. }))
+}
+
+// Answers a line. All reductions that are listed stay true.
+fn answer_true<N: Means<Six>, T: Wait, W: Write>(
+    place: &Place<'_, N, T>,
+    share: &mut Share<N>,
+    claims: &mut Vec<Claimed>,
+    number: u32,
+    line: Line,
+    outbox: &mut Outbox<'_, W>,
+) -> Result<(), Fault>
+    requires room { HasRoom outbox.old.held.now LINE }
+    requires all_true { All (IsTrueClaim share.old.seen) claims.old.items }
+    ensures places { SamePlaces outbox.old outbox.new }
+    ensures ok { OnOk result ((reply : List ℕ)
+        × SessionLineAnswer N.limits (session_at share.old claims.old.items) number line reply (session_at share.new claims.new.items)
+        × Puts W.contents outbox.old outbox.new reply) }
+    ensures fault { IfErr result (λ fault. (fault ≡ Fault.WriteFault) × (reply : List ℕ)
+        × SessionLineAnswer N.limits (session_at share.old claims.old.items) number line reply (session_at share.new claims.new.items)
+        × PutsFront W.contents outbox.old outbox.new reply) }
+    ensures parts { share.new.parts ≡ share.old.parts }
+    ensures more { share.old.count ≤ share.new.count }
+    ensures all_true { All (IsTrueClaim share.new.seen) claims.new.items }
+{
+    answer_line(place, share, claims, number, line, outbox)
+}
+
+// Answers a line while the minutes are locked, and has them take up what came of it.
+fn answer_minuted<N: Means<Six>, T: Wait, W: Write, V: Write + Drop, K: Begun>(
+    place: &Place<'_, N, T>,
+    minutes: &Mutex<Minutes<N, V, K>>,
+    share: &mut Share<N>,
+    claims: &mut Vec<Claimed>,
+    number: u32,
+    line: Line,
+    outbox: &mut Outbox<'_, W>,
+) -> Result<(), Fault>
+    requires room { HasRoom outbox.old.held.now LINE }
+    requires all_true { All (IsTrueClaim share.old.seen) claims.old.items }
+    ensures places { SamePlaces outbox.old outbox.new }
+    ensures ok { OnOk result ((reply : List ℕ)
+        × SessionLineAnswer N.limits (session_at share.old claims.old.items) number line reply (session_at share.new claims.new.items)
+        × Puts W.contents outbox.old outbox.new reply) }
+    ensures fault { IfErr result (λ fault. (fault ≡ Fault.WriteFault) × (reply : List ℕ)
+        × SessionLineAnswer N.limits (session_at share.old claims.old.items) number line reply (session_at share.new claims.new.items)
+        × PutsFront W.contents outbox.old outbox.new reply) }
+    ensures parts { share.new.parts ≡ share.old.parts }
+    ensures more { share.old.count ≤ share.new.count }
+    ensures all_true { All (IsTrueClaim share.new.seen) claims.new.items }
+{
+    let mut minutes = minutes.lock(place.rt);
+    let before = claims.len();
+    let answered = answer_true(place, share, claims, number, line, outbox);
+    minutes.take_up(place.rt, place.hub, share, newest(claims, before));
+    answered
+}
+
+// The last of some reductions, where there are more than there were.
+fn newest(claims: &[Claimed], before: usize) -> Option<Claimed>
+    ensures { (edits : List Edit) → All (IsTrueClaim edits) claims.now → IfSome result (IsTrueClaim edits) }
+{
+    let last = claims.len().checked_sub(1)?;
+    if last < before {
+        return None;
+    }
+    Some(claims[last])
+}
