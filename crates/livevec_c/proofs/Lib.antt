@@ -1,5 +1,7 @@
 pub mod AsBox
 pub mod Empty
+pub mod KindAnswers
+pub mod KindVectorLaws
 pub mod Openings
 pub mod PlainAnswers
 pub mod SpreadFolds

@@ -47,7 +47,7 @@ refused : (r : Refusal) → number_of r ≡ 0 → ⊥
 refused r zero = omega (arith, positive r, zero)
 
 -- the elements of a range may be folded
-may_fold : (state : State) (lo hi : ℕ) → IsLegalInLimits state.history → CanFold (slice_of state.history.journal lo hi)
+pub may_fold : (state : State) (lo hi : ℕ) → IsLegalInLimits state.history → CanFold (slice_of state.history.journal lo hi)
 may_fold state lo hi within = part_can_fold (hi - lo) lo (list_of state.history.journal) (can_fold state.history within)
 
 -- an answer that is the fold of its range

@@ -1,5 +1,5 @@
 -- What the calls do and answer, by what lies behind a slot.
-use Rattle.std.specs.Prelude.{◌≡◌, ℕ, Option, Some, None, Result, IfOk, IfErr, length}
+use Rattle.std.specs.Prelude.{◌≡◌, ℕ, ◌-◌, Option, Some, None, Result, IfOk, IfErr, length}
 use Rattle.lv_geometry.specs.declared.refusals.Refusal.{Refusal}
 use Rattle.lv_bodies.specs.Automata.{table_of}
 use Rattle.lv_bodies.specs.Six.{SixSummary, six_operations_by}
@@ -63,11 +63,12 @@ abbrev pub Gets : ℕ → Element → Option Object → Type 0
 Gets index answer None = answer ≡ no_element
 Gets index answer (Some object) = GetsObject index answer object
 
--- what is counted of a vector: its elements, those that fit into its memory, its edits
+-- what is counted of a vector: its elements, those that fit into its memory, its edits, and how many more its limits allow
 abbrev pub count : Counted → State → ℕ
 count counts.Size state = length (list_of state.history.journal)
 count counts.Capacity state = capacity_after state.history.journal
 count counts.Edits state = length state.history.journal
+count counts.EditsLeft state = state.history.limits.edits - length state.history.journal
 
 -- a count where there is no vector
 abbrev pub no_count : Count

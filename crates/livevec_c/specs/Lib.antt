@@ -1,9 +1,11 @@
 pub mod Owned
 pub mod Answers
 pub mod Behind
+pub mod KindVectors
 pub mod Lives
 pub mod Working
 pub mod Plainly
 pub mod Kinds
 pub mod Seats
+pub mod Valued
 pub mod Summed

@@ -20,8 +20,8 @@ use lv_geometry::{Limits, Refusal};
 use std::alloc::{AllocError, Global};
 use std::mem;
 
-// The kind of a number.
-fn kind_of(number: u32) -> Option<Kind>
+/// The kind of a number.
+pub fn kind_of(number: u32) -> Option<Kind>
     ensures { result ≡ kind_at number }
 {
     let kinds = [

@@ -3,6 +3,7 @@ ghost use Rattle.std.specs.Prelude.{◌≡◌, None};
 ghost use Rattle.livevec_c.specs.Answers.{accepted_by, claimed_by, unaccepted, unclaimed, unvetted};
 ghost use Rattle.livevec_c.specs.Working.{Accepts, AcceptsLive, AcceptsObject, AcceptsVector, AcceptsWith, Claims, ClaimsObject, ClaimsVector, Forgets, ForgetsObject, Refreshes, RefreshesObject, Runs, RunsObject, Vets, VetsObject, VetsVector, VetsWith};
 
+use crate::kind_vectors::KindVector;
 use crate::lifetimes::new_vector;
 use crate::objects::{Object, refill};
 use crate::results::{Count, IN_USE, NO_HANDLE, NO_MEMORY};
@@ -47,9 +48,9 @@ fn refresh_of(object: &mut Object, jobs: u32) -> Count
     ensures { RefreshesObject jobs result object.old object.new }
 {
     match object {
-        Object::Vector(live) => Count {
+        Object::Vector(vector) => Count {
             refusal: 0,
-            value: live.refresh(jobs),
+            value: vector.refresh(jobs),
         },
         _ => Count {
             refusal: NO_HANDLE,
@@ -81,8 +82,8 @@ fn forget_of(object: &mut Object) -> u32
     ensures { ForgetsObject result object.old object.new }
 {
     match object {
-        Object::Vector(live) => {
-            live.forget_claims();
+        Object::Vector(vector) => {
+            vector.forget_claims();
             0
         }
         _ => NO_HANDLE,
@@ -140,11 +141,11 @@ pub fn refilled(room: Box<Object>, object: Object) -> Box<Object>
 }
 
 // A claim of a vector, for an empty slot and a box.
-fn claim_into(live: &mut Live<SixByTable>, room: Box<Object>, job: &mut Slot) -> Claimed
+fn claim_into(vector: &mut KindVector, room: Box<Object>, job: &mut Slot) -> Claimed
     requires { job.old.raw.inner ≡ None }
-    ensures { ClaimsVector result live.old live.new job.new.raw.inner }
+    ensures { ClaimsVector result vector.old vector.new job.new.raw.inner }
 {
-    match live.claim() {
+    match vector.claim() {
         None => not_claimed(0),
         Some(found) => {
             let answer = claim_answer(found.node(), found.version());
@@ -155,13 +156,13 @@ fn claim_into(live: &mut Live<SixByTable>, room: Box<Object>, job: &mut Slot) ->
 }
 
 // A claim of a vector, for an empty slot. Room is made before anything changes.
-fn claim_live(alloc: Global, live: &mut Live<SixByTable>, job: &mut Slot) -> Claimed
+fn claim_vector(alloc: Global, vector: &mut KindVector, job: &mut Slot) -> Claimed
     requires { job.old.raw.inner ≡ None }
-    ensures { ClaimsVector result live.old live.new job.new.raw.inner }
+    ensures { ClaimsVector result vector.old vector.new job.new.raw.inner }
 {
     match new_vector(alloc, Limits::greatest(), Automaton::program()) {
         Err(_) => not_claimed(NO_MEMORY),
-        Ok(room) => claim_into(live, room, job),
+        Ok(room) => claim_into(vector, room, job),
     }
 }
 
@@ -171,7 +172,7 @@ fn claim_of(alloc: Global, object: &mut Object, job: &mut Slot) -> Claimed
     ensures { ClaimsObject result object.old object.new job.new.raw.inner }
 {
     match object {
-        Object::Vector(live) => claim_live(alloc, live, job),
+        Object::Vector(vector) => claim_vector(alloc, vector, job),
         _ => not_claimed(NO_HANDLE),
     }
 }
@@ -258,7 +259,7 @@ fn vet_of(object: &Object, brought: &Object) -> Vetted
     ensures { VetsObject result object.now brought.now }
 {
     match object {
-        Object::Vector(live) => vet_live(live, brought),
+        Object::Vector(vector) => vet_live(vector.live(), brought),
         _ => not_vetted(),
     }
 }
@@ -323,23 +324,23 @@ fn delivery_answer(accepted: Accepted) -> Delivered
 }
 
 // Delivers an outcome to a vector.
-fn accept_outcome(live: &mut Live<SixByTable>, outcome: Outcome<SixByTable>) -> Delivered
-    ensures { AcceptsVector result live.old live.new outcome }
+fn accept_outcome(vector: &mut KindVector, outcome: Outcome<SixByTable>) -> Delivered
+    ensures { AcceptsVector result vector.old vector.new outcome }
 {
     // 15 is the library's `Stranger`.
-    if live.vet(&outcome) {
-        delivery_answer(live.accept(outcome))
+    if vector.vet(&outcome) {
+        delivery_answer(vector.accept(outcome))
     } else {
         not_accepted(15)
     }
 }
 
 // Delivers an object to a vector.
-fn accept_live(live: &mut Live<SixByTable>, brought: &Object) -> Delivered
-    ensures { AcceptsLive result live.old live.new brought.now }
+fn accept_vector(vector: &mut KindVector, brought: &Object) -> Delivered
+    ensures { AcceptsLive result vector.old vector.new brought.now }
 {
     match brought {
-        Object::Outcome(outcome) => accept_outcome(live, *outcome),
+        Object::Outcome(outcome) => accept_outcome(vector, *outcome),
         _ => not_accepted(NO_HANDLE),
     }
 }
@@ -349,7 +350,7 @@ fn accept_of(object: &mut Object, brought: &Object) -> Delivered
     ensures { AcceptsObject result object.old object.new brought.now }
 {
     match object {
-        Object::Vector(live) => accept_live(live, brought),
+        Object::Vector(vector) => accept_vector(vector, brought),
         _ => not_accepted(NO_HANDLE),
     }
 }

@@ -2,11 +2,13 @@
 #![tactic(auto)]
 
 mod boards;
+mod by_kind;
 mod closed;
 mod ended;
 mod jobs;
 mod kind_boards;
 mod kind_seats;
+mod kind_vectors;
 mod laws;
 mod lifetimes;
 mod objects;

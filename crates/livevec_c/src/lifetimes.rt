@@ -4,12 +4,12 @@ ghost use Rattle.lv_bodies.specs.Automata.{table_of};
 ghost use Rattle.lv_bodies.specs.Plain.{program_table};
 ghost use Rattle.livevec_c.specs.Lives.{IsNewObject, Opens, OpensAt, OpensWith};
 
+use crate::kind_vectors::KindVector;
 use crate::objects::Object;
 use crate::results::{IN_USE, NO_HANDLE, NO_MEMORY};
 use crate::slots::{Slot, is_full, put, take};
-use lv_bodies::{Automaton, SixByTable};
+use lv_bodies::Automaton;
 use lv_geometry::Limits;
-use lv_live::Live;
 use std::alloc::{AllocError, Global};
 
 /// An automaton's table as C has it.
@@ -29,7 +29,7 @@ pub fn new_vector(
 {
     Ok(Box::new(
         alloc,
-        Object::Vector(Live::new(alloc, limits, SixByTable { automaton })),
+        Object::Vector(KindVector::new(alloc, limits, automaton)),
     )?)
 }
 

@@ -4,9 +4,9 @@ ghost use Rattle.std.specs.Prelude.{◌≡◌};
 use crate::ended::Ended;
 use crate::kind_boards::KindBoard;
 use crate::kind_seats::KindSeat;
+use crate::kind_vectors::KindVector;
 use lv_board::{Closed, Elements};
 use lv_bodies::SixByTable;
-use lv_live::Live;
 use lv_refresh::{Job, Outcome};
 use std::alloc::Global;
 use std::mem;
@@ -14,7 +14,7 @@ use std::mem;
 /// What a slot holds for C: one of these.
 #[derive(Drop)]
 pub enum Object {
-    Vector(Live<SixByTable>),
+    Vector(KindVector),
     Job(Job<SixByTable>),
     Outcome(Outcome<SixByTable>),
     Board(KindBoard),

@@ -28,7 +28,7 @@ fn get_of(object: &Object, index: u32) -> Element
     ensures { GetsObject index result object.now }
 {
     match object {
-        Object::Vector(live) => element_answer(live.get(index)),
+        Object::Vector(vector) => element_answer(vector.live().get(index)),
         _ => missing(),
     }
 }
@@ -70,13 +70,14 @@ pub fn uncounted() -> Count
 fn count_of(object: &Object, what: Counted) -> Count
     ensures { CountsObject what result object.now }
 {
-    let Object::Vector(live) = object else {
+    let Object::Vector(vector) = object else {
         return uncounted();
     };
     match what {
-        Counted::Size => count_answer(live.size()),
-        Counted::Capacity => count_answer(live.capacity()),
-        Counted::Edits => count_answer(live.edit()),
+        Counted::Size => count_answer(vector.live().size()),
+        Counted::Capacity => count_answer(vector.live().capacity()),
+        Counted::Edits => count_answer(vector.live().edit()),
+        Counted::EditsLeft => count_answer(vector.edits_left()),
     }
 }
 
@@ -122,12 +123,22 @@ pub extern "C" fn livevec_proved_edits(alloc: Global, slot: &mut Slot) -> Count
     count_held(alloc, slot, Counted::Edits)
 }
 
+/// How many more edits the limits allow.
+#[unsafe(no_mangle)]
+pub extern "C" fn livevec_proved_edits_left(alloc: Global, slot: &mut Slot) -> Count
+    ensures answer { Counts counts.EditsLeft result slot.old.raw.inner }
+    ensures same { slot.new.raw.inner ≡ slot.old.raw.inner }
+{
+    count_held(alloc, slot, Counted::EditsLeft)
+}
+
 // A reduction of an object.
 fn reduce_of(object: &Object, lo: u32, hi: u32) -> Reduced
     ensures { ReducesObject lo hi result object.now }
 {
     match object {
-        Object::Vector(live) => {
+        Object::Vector(vector) => {
+            let live = vector.live();
             live.keeps();
             reduction_answer(live.reduce(lo, hi))
         }
@@ -157,10 +168,7 @@ fn ask_of(object: &mut Object, lo: u32, hi: u32) -> Reduced
     ensures { AsksObject lo hi result object.old object.new }
 {
     match object {
-        Object::Vector(live) => {
-            live.keeps();
-            reduction_answer(live.ask(lo, hi))
-        }
+        Object::Vector(vector) => reduction_answer(vector.ask(lo, hi)),
         _ => not_reduced(NO_HANDLE, 0),
     }
 }

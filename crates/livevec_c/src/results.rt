@@ -29,6 +29,9 @@ pub const NO_SEAT: u32 = 105;
 /// The number for a board that is closed while a seat isn't there.
 pub const SEATS_OUT: u32 = 106;
 
+/// The number for a kind that there isn't.
+pub const BAD_KIND: u32 = 113;
+
 /// The number for a seat that is given back to another board than its own.
 pub const OTHER_BOARD: u32 = 107;
 
@@ -57,6 +60,7 @@ pub enum Counted {
     Size,
     Capacity,
     Edits,
+    EditsLeft,
 }
 
 /// A count.

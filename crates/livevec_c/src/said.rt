@@ -42,8 +42,8 @@ pub fn size_said(said: Option<Said<Shown>>) -> Count
     }
 }
 
-// The value of a kind among the plain values.
-fn shown_values(any: bool, shown: Shown) -> PlainValues
+/// The value of a kind among the plain values.
+pub fn shown_values(any: bool, shown: Shown) -> PlainValues
     ensures { result ≡ values_for any shown }
 {
     let mut values = no_values();

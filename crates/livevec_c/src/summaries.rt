@@ -160,7 +160,7 @@ fn sum_of(object: &Object, lo: u32, hi: u32) -> Summarised
     ensures { SumsObject lo hi result object.now }
 {
     match object {
-        Object::Vector(live) => sum_up(live, lo, hi),
+        Object::Vector(vector) => sum_up(vector.live(), lo, hi),
         _ => not_summarised(NO_HANDLE, 0),
     }
 }

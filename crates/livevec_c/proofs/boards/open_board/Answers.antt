@@ -1,4 +1,4 @@
-use Rattle.std.proofs.Common.{refl, inl, inr}
+use Rattle.std.proofs.Common.{inl, inr}
 use Rattle.livevec_c.proofs.boards.open_board.Goals as goal
 
 pub returns-in-Ok : goal.returns-in-Ok

@@ -1,6 +1,4 @@
-use Rattle.std.proofs.Common.{refl, inl, inr, sym, subst}
-use Rattle.lv_board.specs.Sharing.{IsClosedShared}
-use Rattle.livevec_c.specs.Kinds.{shared_at}
+use Rattle.std.proofs.Common.{refl, inl, inr}
 use Rattle.livevec_c.proofs.closed.close_board.Goals as goal
 
 pub returns-in-Err : goal.returns-in-Err

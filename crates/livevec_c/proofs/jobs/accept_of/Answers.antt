@@ -2,4 +2,4 @@ use Rattle.std.proofs.Common.{refl}
 use Rattle.livevec_c.proofs.jobs.accept_of.Goals as goal
 
 pub returns-in-Vector : goal.returns-in-Vector
-returns-in-Vector c = rw c.in-Vector.is (c.accept_live.new.live, refl, c.accept_live.ensures)
+returns-in-Vector c = rw c.in-Vector.is (c.accept_vector.new.vector, refl, c.accept_vector.ensures)

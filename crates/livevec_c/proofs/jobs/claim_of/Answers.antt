@@ -2,4 +2,4 @@ use Rattle.std.proofs.Common.{refl}
 use Rattle.livevec_c.proofs.jobs.claim_of.Goals as goal
 
 pub returns-in-Vector : goal.returns-in-Vector
-returns-in-Vector c = rw c.in-Vector.is (c.claim_live.new.live, refl, c.claim_live.ensures)
+returns-in-Vector c = rw c.in-Vector.is (c.claim_vector.new.vector, refl, c.claim_vector.ensures)

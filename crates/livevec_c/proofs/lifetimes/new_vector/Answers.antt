@@ -1,8 +1,6 @@
-use Rattle.std.proofs.Common.{ap}
-use Rattle.lv_bodies.specs.Automata.{table_of}
 use Rattle.livevec_c.proofs.lifetimes.new_vector.Goals as goal
 
 pub returns : goal.returns
 returns c =
     let e = c.new.ensures in
-    (c.new.result, c.in_ok-new.ensures.ok, record { table_is = ap (λ b. table_of b.automaton) e.body; history = e.history; within = e.limits; unclaimed = e.unclaimed; nothing_kept = e.nothing_kept })
+    (c.new.result, c.in_ok-new.ensures.ok, record { table_is = e.table; history = e.history; within = e.limits; unclaimed = e.unclaimed; nothing_kept = e.nothing_kept })

@@ -1,0 +1,9 @@
+use Rattle.std.proofs.Common.{subst, sym}
+use Rattle.lv_bodies.specs.Automata.{table_of}
+use Rattle.lv_kinds.specs.Kinds.{AreKept}
+use Rattle.livevec_c.proofs.kind_vectors.follow_edit.Goals as goal
+
+pub returns : goal.returns
+returns g c =
+    let table = table_of c.args.live.now.body.automaton in
+    subst (λ h. AreKept table h.journal c.follow.new.self) (sym c.requires.1.1.1.0) (c.follow.ensures.kept table c.requires.1.1.1.1.1)

@@ -1,0 +1,5 @@
+use Rattle.livevec_c.specs.KindVectors.{before_last}
+use Rattle.livevec_c.proofs.kind_vectors.make_beside.Given as goal
+
+abbrev pub ghost-follow_edit : goal.ghost-follow_edit
+ghost-follow_edit a = before_last a.live.now.history

@@ -1,0 +1,25 @@
+-- A live vector, and what it keeps of what it was asked by one kind.
+use Rattle.std.specs.Prelude.{◌≡◌, ℕ, ◌+◌, ◌-◌, length, take}
+use Rattle.lv_geometry.specs.Bounds.{Bounds}
+use Rattle.lv_bodies.specs.Automata.{table_of}
+use Rattle.lv_bodies.specs.Six.{SixSummary}
+use Rattle.lv_bodies.specs.declared.sixes.SixByTable.{SixByTable}
+use Rattle.lv_edits.specs.declared.edit.Edit.{Edit}
+use Rattle.lv_edits.specs.declared.edit.Edit.TheVariants.{Push}
+use Rattle.lv_edits.specs.History.{History}
+use Rattle.lv_live.specs.State.{LiveState}
+use Rattle.lv_kinds.specs.Kinds.{AreKept, KindsState}
+
+-- the limits are the live vector's, and what is kept by kind is true of its elements
+pub record IsKindVector (limits : Bounds) (live : LiveState SixByTable SixSummary) (kinds : KindsState) : Type 0 where
+  pub limits_are : limits ≡ live.history.limits
+  pub kept : AreKept (table_of live.body.automaton) live.history.journal kinds
+
+-- a push makes one element more, and no other edit makes more
+abbrev pub IsSizeAfter : ℕ → Edit → ℕ → Type 0
+IsSizeAfter size (Push x) room = room ≡ size + 1
+IsSizeAfter size other room = room ≡ size
+
+-- a history before its last edit
+abbrev pub before_last : History → History
+before_last h = record h { journal = take (length h.journal - 1) h.journal }

@@ -1,0 +1,36 @@
+-- What a question by one kind answers, by what lies behind a slot.
+use Rattle.std.specs.Prelude.{ℕ, Bool, Option, Some, None, length, nat_lt}
+use Rattle.lv_geometry.specs.Numbers.{number_of}
+use Rattle.lv_geometry.specs.declared.refusals.Refusal.{Refusal}
+use Rattle.lv_bodies.specs.Automata.{table_of}
+use Rattle.lv_bodies.specs.Plain.{plain_value_with}
+use Rattle.lv_bodies.specs.declared.kinds.Kind.{Kind}
+use Rattle.lv_bodies.specs.declared.kinds.Shown.{Shown}
+use Rattle.lv_reduce.specs.Answer.{range_refusal, slice_of}
+use Rattle.livevec_c.specs.declared.objects.Object.{Object}
+use Rattle.livevec_c.specs.declared.objects.Object.TheVariants.{Vector}
+use Rattle.livevec_c.specs.declared.results.Reduced.{Reduced}
+use Rattle.livevec_c.specs.Answers.{detail_of, unreduced}
+use Rattle.livevec_c.specs.Behind.{State}
+use Rattle.livevec_c.specs.Seats.{values_for}
+
+-- a value by one kind after an edit, and whether there is an element; or why there is none
+abbrev pub valued : Option Refusal → ℕ → Bool → Shown → Reduced
+valued None edit any value = record { refusal = 0; detail = 0; edit = edit; cells = 0; summaries = 0; values = values_for any value }
+valued (Some refusal) edit any value = unreduced (number_of refusal) (detail_of refusal)
+
+-- of a vector: the plain value of the elements of a range, by the vector's own table, after its last edit
+abbrev pub value_of : Kind → ℕ → ℕ → State → Reduced
+value_of kind lo hi state =
+    valued (range_refusal state.history.journal lo hi) (length state.history.journal) (nat_lt lo hi) (plain_value_with (table_of state.body.automaton) kind (slice_of state.history.journal lo hi))
+
+-- of an object: of a vector only
+abbrev pub object_value : Kind → ℕ → ℕ → Object → Reduced
+object_value kind lo hi (Vector state) = value_of kind lo hi state
+object_value kind lo hi other = unreduced 101 0
+
+-- of what lies behind a slot, by a kind, where there is one
+abbrev pub value_behind : Option Kind → ℕ → ℕ → Option Object → Reduced
+value_behind None lo hi slot = unreduced 113 0
+value_behind (Some kind) lo hi None = unreduced 101 0
+value_behind (Some kind) lo hi (Some object) = object_value kind lo hi object

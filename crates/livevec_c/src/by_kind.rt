@@ -1,0 +1,67 @@
+//! Questions by one kind, which cost that kind alone.
+ghost use Rattle.std.specs.Prelude.{◌≡◌, nat_lt, IfOk, IfErr};
+ghost use Rattle.livevec_c.specs.Kinds.{kind_at};
+ghost use Rattle.livevec_c.specs.Valued.{object_value, value_behind, value_of};
+
+use crate::boards::kind_of;
+use crate::kind_vectors::KindVector;
+use crate::objects::Object;
+use crate::results::{BAD_KIND, NO_HANDLE, Reduced, detail, not_reduced};
+use crate::said::shown_values;
+use crate::slots::{Slot, put, take};
+use lv_bodies::Kind;
+use std::alloc::Global;
+
+// A value of a vector, which keeps what it computes by that kind.
+fn value_of_vector(vector: &mut KindVector, kind: Kind, lo: u32, hi: u32) -> Reduced
+    ensures answer { result ≡ value_of kind lo hi vector.old }
+    ensures same { vector.new ≡ vector.old }
+{
+    match vector.value(kind, lo, hi) {
+        Err(refusal) => not_reduced(refusal.number(), detail(refusal)),
+        Ok(answer) => Reduced {
+            refusal: 0,
+            detail: 0,
+            edit: answer.edit,
+            cells: 0,
+            summaries: 0,
+            values: shown_values(lo < hi, answer.summary.shown()),
+        },
+    }
+}
+
+// The same of an object.
+fn value_of_object(object: &mut Object, kind: Kind, lo: u32, hi: u32) -> Reduced
+    ensures answer { result ≡ object_value kind lo hi object.old }
+    ensures same { object.new ≡ object.old }
+{
+    match object {
+        Object::Vector(vector) => value_of_vector(vector, kind, lo, hi),
+        _ => not_reduced(NO_HANDLE, 0),
+    }
+}
+
+/// The plain value of the elements of a range by one kind. What is computed for it is kept by that kind alone.
+#[unsafe(no_mangle)]
+pub extern "C" fn livevec_proved_value(
+    alloc: Global,
+    slot: &mut Slot,
+    kind: u32,
+    lo: u32,
+    hi: u32,
+) -> Reduced
+    ensures answer { result ≡ value_behind (kind_at kind) lo hi slot.old.raw.inner }
+    ensures same { slot.new.raw.inner ≡ slot.old.raw.inner }
+{
+    let Some(kind) = kind_of(kind) else {
+        return not_reduced(BAD_KIND, 0);
+    };
+    match take(alloc, slot) {
+        None => not_reduced(NO_HANDLE, 0),
+        Some(mut held) => {
+            let answer = value_of_object(&mut held, kind, lo, hi);
+            put(slot, held);
+            answer
+        }
+    }
+}

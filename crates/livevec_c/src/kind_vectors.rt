@@ -1,0 +1,219 @@
+//! A vector for C: a live one of all six kinds, and beside it what is kept by one kind at a time.
+ghost use Rattle.std.specs.Prelude.{◌≡◌, ◌↔◌, ◌≤◌, ◌<◌, IsTrue, ◌-◌, None, [], length, option_map, IfOk, IfErr, IfSome, Some};
+ghost use Rattle.lv_geometry.specs.declared.nodes.Node.{Node};
+ghost use Rattle.lv_bodies.specs.Automata.{table_of};
+ghost use Rattle.lv_bodies.specs.Six.{six_operations_by};
+ghost use Rattle.lv_edits.specs.History.{History, list_of, with_edit};
+ghost use Rattle.lv_edits.specs.Kept.{IsLegalInLimits};
+ghost use Rattle.lv_edits.specs.Verdict.{Answers, verdict_of};
+ghost use Rattle.lv_refresh.specs.Claim.{IsNextJob};
+ghost use Rattle.lv_refresh.specs.Delivery.{delivery_of};
+ghost use Rattle.lv_refresh.specs.Honesty.{IsHonest, Vouched};
+ghost use Rattle.lv_reduce.specs.Answer.{IsAnswer, range_refusal};
+ghost use Rattle.lv_live.specs.State.{HasClaim, HasDelivery, HasNoClaims, SameLive, SameRefresh, node_and_version, recorded};
+ghost use Rattle.lv_live.specs.Turns.{TakesTurns};
+ghost use Rattle.lv_kinds.specs.Asked.{IsKindAnswer};
+ghost use Rattle.lv_kinds.specs.Kinds.{AreKept, HaveRoomFor};
+ghost use Rattle.livevec_c.specs.KindVectors.{IsSizeAfter};
+
+use lv_bodies::{Automaton, Kind, SixByTable, SixSummary};
+use lv_edits::{Edit, Receipt};
+use lv_geometry::{Limits, Refusal};
+use lv_kinds::{KindAnswer, Kinds};
+use lv_live::Live;
+use lv_reduce::Answer;
+use lv_refresh::{Job, Outcome};
+use lv_summary::Accepted;
+use std::alloc::Global;
+use std::marker::Model;
+
+/// A live vector, its limits, and what it keeps of what it was asked by one kind. Contracts see the live vector alone: what is kept
+/// beside it changes no answer.
+#[derive(Drop)]
+pub struct KindVector {
+    limits: Limits,
+    live: Live<SixByTable>,
+    kinds: Kinds,
+}
+
+impl Model for KindVector {
+    ghost use Rattle.lv_bodies.specs.Six.{SixSummary};
+    ghost use Rattle.lv_bodies.specs.declared.sixes.SixByTable.{SixByTable};
+    ghost use Rattle.lv_live.specs.State.{LiveState};
+    ghost use Rattle.livevec_c.specs.KindVectors.{IsKindVector};
+
+    ghost Value = { LiveState SixByTable SixSummary };
+
+    ghost view = { λ a. a.live };
+
+    ghost invariant = { λ a. IsKindVector a.limits a.live a.kinds };
+}
+
+// How many elements there must be room for after an edit of a vector of this size.
+fn size_after(edit: &Edit, size: u32) -> u32
+    requires { size ≤ 1048568 }
+    ensures { IsSizeAfter size edit.now result }
+{
+    match edit {
+        Edit::Push(_) => size + 1,
+        _ => size,
+    }
+}
+
+// Has what is kept by kind follow the edit that a vector, which was of this size, has just made.
+fn follow_edit(live: &Live<SixByTable>, kinds: &mut Kinds, edit: &Edit, size: u32)
+    ghost before: { History }
+    requires legal { IsLegalInLimits before }
+    requires accepted { verdict_of before.limits before.journal edit.now ≡ None }
+    requires size { size ≡ length (list_of before.journal) }
+    requires made { live.now.history ≡ with_edit before edit.now }
+    requires room { HaveRoomFor kinds.old (length (list_of live.now.history.journal)) }
+    requires kept { AreKept (table_of live.now.body.automaton) before.journal kinds.old }
+    ensures { AreKept (table_of live.now.body.automaton) live.now.history.journal kinds.new }
+{
+    kinds.follow(edit, size);
+}
+
+// Makes an edit that the verdict allows, and has what is kept by kind follow it. Room for what may be asked after it is made before
+// anything changes.
+fn make_beside(
+    live: &mut Live<SixByTable>,
+    kinds: &mut Kinds,
+    edit: Edit,
+) -> Result<Receipt, Refusal>
+    requires free { verdict_of live.old.history.limits live.old.history.journal edit ≡ None }
+    requires kept { AreKept (table_of live.old.body.automaton) live.old.history.journal kinds.old }
+    ensures answer { Answers live.old.history edit result live.new.history }
+    ensures limits { IsLegalInLimits live.new.history }
+    ensures refresh { SameRefresh live.old live.new }
+    ensures kept { AreKept (table_of live.new.body.automaton) live.new.history.journal kinds.new }
+{
+    live.keeps();
+    let size = live.size();
+    let room = size_after(&edit, size);
+    match kinds.make_room(room) {
+        Err(refusal) => Err(refusal),
+        Ok(()) => match live.make(edit) {
+            Err(refusal) => Err(refusal),
+            Ok(receipt) => {
+                follow_edit(live, kinds, &edit, size);
+                Ok(receipt)
+            }
+        },
+    }
+}
+
+impl KindVector {
+    /// An empty vector, for which nothing is claimed and nothing kept. Takes no memory.
+    pub fn new(alloc: Global, limits: Limits, automaton: Automaton) -> KindVector
+        ensures table { table_of result.body.automaton ≡ table_of automaton }
+        ensures history { result.history ≡ record { limits = limits; journal = [] } }
+        ensures limits { IsLegalInLimits result.history }
+        ensures unclaimed { (n : Node) → (recorded result).claimed n ≡ None }
+        ensures nothing_kept { (n : Node) → (recorded result).kept n ≡ None }
+    {
+        KindVector {
+            limits,
+            live: Live::new(alloc, limits, SixByTable { automaton }),
+            kinds: Kinds::new(alloc),
+        }
+    }
+
+    /// The live vector, to be read.
+    #[inline(always)]
+    pub fn live(&self) -> &Live<SixByTable>
+        ensures { result.now ≡ self.now }
+    {
+        &self.live
+    }
+
+    /// How many more edits the limits allow.
+    pub fn edits_left(&self) -> u32
+        ensures { result ≡ self.now.history.limits.edits - length self.now.history.journal }
+    {
+        self.live.keeps();
+        self.limits.edits() - self.live.edit()
+    }
+
+    /// Makes an edit. Refused as `verdict` says, else with `NoMemory`, and nothing has changed then.
+    pub fn apply(&mut self, edit: Edit) -> Result<Receipt, Refusal>
+        ensures answer { Answers self.old.history edit result self.new.history }
+        ensures limits { IsLegalInLimits self.new.history }
+        ensures refresh { SameRefresh self.old self.new }
+    {
+        // So that it is known to be within its limits where it is refused too.
+        self.live.keeps();
+        match self.live.verdict(&edit) {
+            Some(refusal) => Err(refusal),
+            None => make_beside(&mut self.live, &mut self.kinds, edit),
+        }
+    }
+
+    /// The summary by a kind of the elements from index `lo` up to `hi`, with the number of the last edit. What is computed for it is
+    /// kept by that kind alone. Refused with `BadRange`, then `OutOfRange`. Takes no memory.
+    pub fn value(&mut self, kind: Kind, lo: u32, hi: u32) -> Result<KindAnswer, Refusal>
+        ensures ok { IfOk result (λ answer. IsKindAnswer (table_of self.old.body.automaton) self.old.history.journal kind lo hi answer) }
+        ensures err { IfErr result (λ refusal. range_refusal self.old.history.journal lo hi ≡ Some refusal) }
+        ensures limits { IsLegalInLimits self.old.history }
+        ensures same { self.new ≡ self.old }
+    {
+        self.live.keeps();
+        let automaton = self.live.body().automaton;
+        self.kinds.ask(self.live.view(), &automaton, kind, lo, hi)
+    }
+
+    /// The summary by all six kinds, which are kept beside what is delivered. Refused as `value` is. Takes no memory.
+    pub fn ask(&mut self, lo: u32, hi: u32) -> Result<Answer<SixSummary>, Refusal>
+        ensures ok { IfOk result (λ answer. IsAnswer (six_operations_by (table_of self.old.body.automaton)) self.old.history.journal lo hi answer) }
+        ensures err { IfErr result (λ refusal. range_refusal self.old.history.journal lo hi ≡ Some refusal) }
+        ensures limits { IsLegalInLimits self.old.history }
+        ensures same { SameLive self.old self.new }
+    {
+        self.live.keeps();
+        self.live.ask(lo, hi)
+    }
+
+    /// Does jobs in place, the least first, at most so many, and tells how many.
+    pub fn refresh(&mut self, jobs: u32) -> u32
+        ensures turns { TakesTurns (six_operations_by (table_of self.old.body.automaton)) self.old self.new result }
+        ensures most { result ≤ jobs }
+        ensures idle { result < jobs → IsNextJob (recorded self.new) None }
+    {
+        self.live.refresh(jobs)
+    }
+
+    /// A job for the least node that wants one, or none. Takes no memory.
+    pub fn claim(&mut self) -> Option<Job<SixByTable>>
+        ensures next { IsNextJob (recorded self.old) (option_map node_and_version result) }
+        ensures claimed { HasClaim self.old self.new (option_map node_and_version result) }
+        ensures body { IfSome result (λ job. job.body ≡ self.old.body) }
+        ensures honest { IfSome result (λ job. IsHonest (six_operations_by (table_of self.old.body.automaton)) (recorded self.new) job.node job.version job.contents) }
+    {
+        self.live.claim()
+    }
+
+    /// Forgets all claims. Takes no memory.
+    pub fn forget_claims(&mut self)
+        ensures forgotten { HasNoClaims self.old self.new }
+    {
+        self.live.forget_claims();
+    }
+
+    /// Whether an outcome may be accepted: yes for each outcome of a job that this vector handed out. Takes no memory.
+    pub fn vet(&self, outcome: &Outcome<SixByTable>) -> bool
+        ensures { IsTrue result ↔ Vouched (six_operations_by (table_of self.now.body.automaton)) (recorded self.now)
+            (table_of self.now.body.automaton ≡ table_of outcome.now.body.automaton) outcome.now.node outcome.now.version outcome.now.contents }
+    {
+        self.live.vet(outcome)
+    }
+
+    /// Takes an outcome in: it is stale, or held already, or its summary is installed. Takes no memory.
+    pub fn accept(&mut self, outcome: Outcome<SixByTable>) -> Accepted
+        requires { Vouched (six_operations_by (table_of self.old.body.automaton)) (recorded self.old)
+            (table_of self.old.body.automaton ≡ table_of outcome.body.automaton) outcome.node outcome.version outcome.contents }
+        ensures accepted { result ≡ delivery_of (recorded self.old) outcome.node outcome.version }
+        ensures delivered { HasDelivery self.old self.new outcome.node outcome.version result }
+    {
+        self.live.accept(outcome)
+    }
+}
