@@ -80,7 +80,8 @@ typedef enum livevec_refusal {
     LIVEVEC_OTHER_VERSION = 109, /* a summary whose bytes are of another version of the layout, or no summary at all */
     LIVEVEC_DAMAGED = 110,     /* a summary whose bytes were changed, or that no elements have */
     LIVEVEC_OTHER_TABLE = 111, /* two summaries by automata of two tables */
-    LIVEVEC_TOO_LONG = 112     /* summaries of more than 2^62 elements together */
+    LIVEVEC_TOO_LONG = 112,    /* summaries of more than 2^62 elements together */
+    LIVEVEC_BAD_KIND = 113     /* a number that is no livevec_kind */
 } livevec_refusal;
 
 /* Slots. All zeros is 'empty'. The fields are the library's own. */
@@ -163,10 +164,16 @@ typedef struct livevec_reduced {
     uint32_t refusal;
     uint32_t detail;    /* of LIVEVEC_OUT_OF_RANGE the size, of LIVEVEC_OVERTAKEN the later edit's number, else 0 */
     uint32_t edit;      /* after which edit the values are those of the range */
-    uint32_t cells;     /* how many elements were read for it */
-    uint32_t summaries; /* how many summaries were read for it */
+    uint32_t cells;     /* how many elements were read for it; 0 of livevec_value, which doesn't count */
+    uint32_t summaries; /* how many summaries were read for it; 0 of livevec_value, which doesn't count */
     livevec_values values;
 } livevec_reduced;
+
+/* The indices from `lo` up to `hi`, `hi` excluded. */
+typedef struct livevec_range {
+    uint32_t lo;
+    uint32_t hi;
+} livevec_range;
 
 /* How many bytes a summary has, in each version of the library that has its layout. */
 #define LIVEVEC_SUMMARY_BYTES 184
@@ -211,6 +218,16 @@ typedef struct livevec_pushed {
     uint32_t pushed;  /* how many elements were pushed */
 } livevec_pushed;
 
+/* What many writes, or many questions, answer. */
+typedef struct livevec_many {
+    uint32_t refusal; /* of the one that was refused; 0 where none was */
+    uint32_t detail;  /* of LIVEVEC_OUT_OF_RANGE the size, else 0 */
+    uint32_t edit;    /* the number of the last edit, after which the values are those of their ranges; 0 where it was refused, but
+                       * for LIVEVEC_NO_MEMORY after some writes */
+    size_t done;      /* how many writes were made, or ranges answered */
+    size_t place;     /* which one was refused, counted from 0; 0 where none was */
+} livevec_many;
+
 /* What a claim answers. Where no job was found, or it was refused, the numbers are 0. */
 typedef struct livevec_claimed {
     uint32_t refusal;
@@ -245,7 +262,7 @@ typedef struct livevec_verdict {
     uint32_t detail; /* of LIVEVEC_OUT_OF_RANGE the size, of LIVEVEC_TOO_LARGE the limit, else 0 */
 } livevec_verdict;
 
-/* What a board reduces by. */
+/* What a board reduces by, and what a vector may be asked by alone. */
 typedef enum livevec_kind {
     LIVEVEC_SUM = 0,
     LIVEVEC_LEAST = 1,
@@ -318,6 +335,13 @@ LIVEVEC_MUST_USE livevec_verdict livevec_verdict_truncate(livevec_vector *slot, 
  * below. Refusals: NULL, and those of livevec_push. */
 LIVEVEC_MUST_USE livevec_pushed livevec_push_many(livevec_vector *slot, const int64_t *values, size_t length);
 
+/* Overwrites the element at each of `length` indices, in order, by the value at the same place: `values` has so many too. An index
+ * may come twice: the later value stays. Each is an edit of its own. All indices are looked at before the first write, and whether
+ * so many edits are left: so all writes are made, or none, want of memory apart. A write takes memory for the journal alone, and
+ * seldom, but that can't be reserved: where there is none, those before stay, and `done` tells how many they are.
+ * Refusals: NULL, NO_HANDLE, and, of the first write that is refused, WORN, OUT_OF_RANGE; NO_MEMORY. */
+LIVEVEC_MUST_USE livevec_many livevec_write_many(livevec_vector *slot, const uint32_t *indices, const int64_t *values, size_t length);
+
 /* The elements of a range, into a buffer that takes `length` of them. Where it was refused the buffer is as it was.
  * Refusals: NULL, NO_HANDLE, BAD_RANGE, OUT_OF_RANGE, SHORT_BUFFER. */
 LIVEVEC_MUST_USE livevec_scanned livevec_read(livevec_vector *slot, uint32_t lo, uint32_t hi, int64_t *buffer, size_t length);
@@ -337,6 +361,18 @@ LIVEVEC_MUST_USE livevec_reduced livevec_reduce(livevec_vector *slot, uint32_t l
 /* The same, and keeps what it computes for it: a range that was asked for costs at most 14 cells and 84 summaries until an
  * edit touches it. Takes no memory, changes no answer. Refusals: NULL, NO_HANDLE, BAD_RANGE, OUT_OF_RANGE. */
 LIVEVEC_MUST_USE livevec_reduced livevec_ask(livevec_vector *slot, uint32_t lo, uint32_t hi);
+
+/* The plain value of the elements of a range by one livevec_kind. Of `values` only those of that kind are told, and `any`; the
+ * others are 0. It computes that kind alone, and keeps what it computes by that kind alone, until an edit touches it: where one kind
+ * is wanted, this is quicker than livevec_ask and keeps less. Takes no memory, changes no answer.
+ * Refusals: NULL, BAD_KIND, NO_HANDLE, BAD_RANGE, OUT_OF_RANGE. */
+LIVEVEC_MUST_USE livevec_reduced livevec_value(livevec_vector *slot, uint32_t kind, uint32_t lo, uint32_t hi);
+
+/* The same of `length` ranges, all after one edit: answers[i] has the values of ranges[i]. All ranges are looked at before the
+ * first answer is written: where one is refused, `place` tells the first that is, and `answers` is as it was.
+ * Refusals: NULL, BAD_KIND, NO_HANDLE, and, of the first range that is refused, BAD_RANGE, OUT_OF_RANGE. */
+LIVEVEC_MUST_USE livevec_many livevec_value_many(livevec_vector *slot, uint32_t kind, const livevec_range *ranges,
+                                                 livevec_values *answers, size_t length);
 
 /* The running values of a range: buffer[i] has those of the elements from lo up to lo + i, that one included, or excluded.
  * Writes hi - lo values; `length` is how many the buffer takes. Where it was refused the buffer is as it was. Each value is

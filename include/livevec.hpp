@@ -115,6 +115,19 @@ class vector : public inner::owned<livevec_vector, livevec_free> {
         push_many(values.data(), values.size());
     }
 
+    /* Writes each value at the index of the same place, in order, and tells the last edit. All are made, or `refused_at` is thrown and, but
+     * for want of memory, none is. As many values as indices are wanted, else it is refused with LIVEVEC_SHORT_BUFFER. */
+    std::uint32_t write_many(index_view indices, array_view values)
+    {
+        if (indices.size() != values.size())
+            throw refused(LIVEVEC_SHORT_BUFFER, static_cast<std::uint32_t>(indices.size()));
+        return inner::each(livevec_write_many(slot(), indices.data(), values.data(), indices.size()));
+    }
+    std::uint32_t write_many(std::initializer_list<std::uint32_t> indices, std::initializer_list<std::int64_t> values)
+    {
+        return write_many(index_view(indices.begin(), indices.size()), array_view(values.begin(), values.size()));
+    }
+
     /* Why that very edit would be refused, want of memory apart: a livevec_refusal, 0 where it would be accepted, with its detail. */
     [[nodiscard]] livevec_verdict verdict_push(std::int64_t value) const { return inner::judged(livevec_verdict_push(slot(), value)); }
     [[nodiscard]] livevec_verdict verdict_pop() const { return inner::judged(livevec_verdict_pop(slot())); }
@@ -160,16 +173,37 @@ class vector : public inner::owned<livevec_vector, livevec_free> {
     [[nodiscard]] livevec_reduced reduce(std::uint32_t lo, std::uint32_t hi) const { return inner::checked(livevec_reduce(slot(), lo, hi)); }
     livevec_reduced ask(std::uint32_t lo, std::uint32_t hi) const { return inner::checked(livevec_ask(slot(), lo, hi)); }
 
-    /* One value of a range, by `ask`. The sum is modulo 2^64; a best run's total is exact. Of an empty range there is none but a sum. */
-    [[nodiscard]] std::uint64_t sum(std::uint32_t lo, std::uint32_t hi) const { return ask(lo, hi).values.sum; }
-    [[nodiscard]] std::optional<std::int64_t> least(std::uint32_t lo, std::uint32_t hi) const { return some(ask(lo, hi).values, &livevec_values::least); }
+    /* The value of a range by one kind, which alone is computed, and kept. Of the values only those of that kind are told, and `any`. */
+    [[nodiscard]] livevec_reduced value(livevec_kind kind, std::uint32_t lo, std::uint32_t hi) const
+    {
+        return inner::checked(livevec_value(slot(), kind, lo, hi));
+    }
+
+    /* The same of many ranges, all after one edit. Where a range is refused, `refused_at` is thrown. */
+    [[nodiscard]] std::vector<livevec_values> value_many(livevec_kind kind, range_view ranges) const
+    {
+        std::vector<livevec_values> values(ranges.size());
+        inner::each(livevec_value_many(slot(), kind, ranges.data(), values.data(), ranges.size()));
+        return values;
+    }
+    [[nodiscard]] std::vector<livevec_values> value_many(livevec_kind kind, std::initializer_list<livevec_range> ranges) const
+    {
+        return value_many(kind, range_view(ranges.begin(), ranges.size()));
+    }
+
+    /* One value of a range, by `value`. The sum is modulo 2^64; a best run's total is exact. Of an empty range there is none but a sum. */
+    [[nodiscard]] std::uint64_t sum(std::uint32_t lo, std::uint32_t hi) const { return value(LIVEVEC_SUM, lo, hi).values.sum; }
+    [[nodiscard]] std::optional<std::int64_t> least(std::uint32_t lo, std::uint32_t hi) const
+    {
+        return some(value(LIVEVEC_LEAST, lo, hi).values, &livevec_values::least);
+    }
     [[nodiscard]] std::optional<std::int64_t> greatest(std::uint32_t lo, std::uint32_t hi) const
     {
-        return some(ask(lo, hi).values, &livevec_values::greatest);
+        return some(value(LIVEVEC_GREATEST, lo, hi).values, &livevec_values::greatest);
     }
     [[nodiscard]] std::optional<int128> best(std::uint32_t lo, std::uint32_t hi) const
     {
-        const livevec_values values = ask(lo, hi).values;
+        const livevec_values values = value(LIVEVEC_BEST, lo, hi).values;
         return values.any ? std::optional<int128>(int128(values.best_high) * (int128(1) << 64) + values.best_low) : std::nullopt;
     }
 

@@ -44,6 +44,18 @@ class stopped : public refused {
     std::uint32_t pushed_;
 };
 
+/* Why many writes or questions were refused: which one it was, counted from 0. So many writes were made before, and they stay: none but
+ * where memory was wanted. */
+class refused_at : public refused {
+  public:
+    explicit refused_at(const livevec_many &many) : refused(many.refusal, many.detail), place_(many.place), done_(many.done) {}
+    std::size_t place() const noexcept { return place_; }
+    std::size_t done() const noexcept { return done_; }
+
+  private:
+    std::size_t place_, done_;
+};
+
 /* So many numbers side by side that somebody else owns: to be read where Number is const, else to be written to. */
 template <class Number> class view {
     template <class Row> using shown_by = decltype(std::data(std::declval<Row &>()));
@@ -65,9 +77,11 @@ template <class Number> class view {
     std::size_t size_ = 0;
 };
 
-/* What elements are read from, and what they are read into. */
+/* What elements are read from, and what they are read into; and where many writes go, and many questions. */
 using array_view = view<const std::int64_t>;
 using buffer_view = view<std::int64_t>;
+using index_view = view<const std::uint32_t>;
+using range_view = view<const livevec_range>;
 
 /* Goes through a copy of elements, which all iterators of it share. One without a copy is the end of each. */
 class element_iterator {
@@ -119,6 +133,14 @@ template <class Answer> Answer checked(Answer answer)
 {
     check(answer.refusal, answer.detail);
     return answer;
+}
+
+/* The edit of many writes or questions, none of which was refused. */
+inline std::uint32_t each(const livevec_many &many)
+{
+    if (many.refusal)
+        throw refused_at(many);
+    return many.edit;
 }
 
 inline std::uint32_t counted(livevec_count count)

@@ -1,5 +1,5 @@
 /* The functions of livevec.h: each answers LIVEVEC_NULL where a pointer is null, and else calls the proved export of its name.
- * The last five walk over many elements, a proved call each,
+ * The last seven walk over many elements, a proved call each,
  * and two of summaries, a proved call for up to 1,024. This file is C, so no proof covers it. */
 #include "livevec.h"
 
@@ -40,6 +40,7 @@ const char *livevec_refusal_text(uint32_t refusal)
     case LIVEVEC_DAMAGED: return "a damaged summary";
     case LIVEVEC_OTHER_TABLE: return "summaries by two tables";
     case LIVEVEC_TOO_LONG: return "more elements than summaries may have";
+    case LIVEVEC_BAD_KIND: return "a number that is no kind";
     default: return "unknown";
     }
 }
@@ -120,6 +121,7 @@ ANSWERED(livevec_count, capacity, (livevec_vector *slot), slot, (slot))
 ANSWERED(livevec_count, edits, (livevec_vector *slot), slot, (slot))
 ANSWERED(livevec_reduced, reduce, (livevec_vector *slot, uint32_t lo, uint32_t hi), slot, (slot, lo, hi))
 ANSWERED(livevec_reduced, ask, (livevec_vector *slot, uint32_t lo, uint32_t hi), slot, (slot, lo, hi))
+ANSWERED(livevec_reduced, value, (livevec_vector *slot, uint32_t kind, uint32_t lo, uint32_t hi), slot, (slot, kind, lo, hi))
 ANSWERED(livevec_summarised, summary_of, (livevec_vector *slot, uint32_t lo, uint32_t hi), slot, (slot, lo, hi))
 
 ANSWERED(livevec_verdict, verdict_push, (livevec_vector *slot, int64_t value), slot, (slot, value))
@@ -254,6 +256,94 @@ livevec_pushed livevec_push_many(livevec_vector *slot, const int64_t *values, si
     if (!enter(&slot->busy_))
         return answer;
     answer = push_each(slot, values, length);
+    leave(&slot->busy_);
+    return answer;
+}
+
+/* How many more edits are allowed. */
+livevec_count livevec_proved_edits_left(livevec_vector *slot);
+
+/* What the first of some writes that is refused is refused with, at a slot that is entered. */
+static livevec_many judge_writes(livevec_vector *slot, const uint32_t *indices, size_t length)
+{
+    livevec_count size = livevec_proved_size(slot);
+    livevec_many answer = {.refusal = size.refusal};
+    if (answer.refusal)
+        return answer;
+    uint32_t left = livevec_proved_edits_left(slot).value;
+    for (size_t i = 0; i < length; i++) {
+        if (i >= left)
+            return (livevec_many){.refusal = LIVEVEC_WORN, .place = i};
+        if (indices[i] >= size.value)
+            return (livevec_many){.refusal = LIVEVEC_OUT_OF_RANGE, .detail = size.value, .place = i};
+    }
+    answer.edit = livevec_proved_edits(slot).value;
+    return answer;
+}
+
+/* Writes in order at a slot that is entered, where none is refused but for want of memory. */
+static livevec_many write_each(livevec_vector *slot, const uint32_t *indices, const int64_t *values, size_t length)
+{
+    livevec_many answer = judge_writes(slot, indices, length);
+    if (answer.refusal)
+        return answer;
+    for (; answer.done < length; answer.done++) {
+        livevec_edited edited = livevec_proved_write(slot, indices[answer.done], values[answer.done]);
+        if (edited.refusal) {
+            answer.refusal = edited.refusal;
+            answer.detail = edited.detail;
+            answer.edit = answer.done ? answer.edit : 0;
+            answer.place = answer.done;
+            return answer;
+        }
+        answer.edit = edited.edit;
+    }
+    return answer;
+}
+
+livevec_many livevec_write_many(livevec_vector *slot, const uint32_t *indices, const int64_t *values, size_t length)
+{
+    livevec_many answer = {.refusal = LIVEVEC_NULL};
+    if (!slot || ((!indices || !values) && length))
+        return answer;
+    answer.refusal = LIVEVEC_BUSY;
+    if (!enter(&slot->busy_))
+        return answer;
+    answer = write_each(slot, indices, values, length);
+    leave(&slot->busy_);
+    return answer;
+}
+
+/* What the first of some ranges that is refused is refused with, at a slot that is entered. An empty range is refused by its kind or
+ * its slot alone. */
+static livevec_many judge_ranges(livevec_vector *slot, uint32_t kind, const livevec_range *ranges, size_t length)
+{
+    livevec_reduced none = livevec_proved_value(slot, kind, 0, 0);
+    livevec_many answer = {.refusal = none.refusal, .edit = none.edit};
+    if (answer.refusal)
+        return answer;
+    uint32_t size = livevec_proved_size(slot).value;
+    for (size_t i = 0; i < length; i++) {
+        if (ranges[i].hi < ranges[i].lo)
+            return (livevec_many){.refusal = LIVEVEC_BAD_RANGE, .place = i};
+        if (ranges[i].hi > size)
+            return (livevec_many){.refusal = LIVEVEC_OUT_OF_RANGE, .detail = size, .place = i};
+    }
+    answer.done = length;
+    return answer;
+}
+
+livevec_many livevec_value_many(livevec_vector *slot, uint32_t kind, const livevec_range *ranges, livevec_values *answers, size_t length)
+{
+    livevec_many answer = {.refusal = LIVEVEC_NULL};
+    if (!slot || ((!ranges || !answers) && length))
+        return answer;
+    answer.refusal = LIVEVEC_BUSY;
+    if (!enter(&slot->busy_))
+        return answer;
+    answer = judge_ranges(slot, kind, ranges, length);
+    for (size_t i = 0; i < answer.done; i++)
+        answers[i] = livevec_proved_value(slot, kind, ranges[i].lo, ranges[i].hi).values;
     leave(&slot->busy_);
     return answer;
 }

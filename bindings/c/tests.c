@@ -340,6 +340,7 @@ static void words(void)
     IS(strcmp(livevec_version(), LIVEVEC_VERSION), 0);
     IS(strcmp(livevec_refusal_text(LIVEVEC_EMPTY), "there is nothing to pop"), 0);
     IS(strcmp(livevec_refusal_text(LIVEVEC_BUSY), "another call is under way at the slot"), 0);
+    IS(strcmp(livevec_refusal_text(LIVEVEC_BAD_KIND), "a number that is no kind"), 0);
     IS(strcmp(livevec_refusal_text(99), "unknown"), 0);
 }
 
@@ -355,6 +356,7 @@ int main(void)
     misuse();
     empty_arrays();
     beside();
+    kinds();
     summaries();
     boards();
     printf("%d checks, %d failed\n", checks, failures);

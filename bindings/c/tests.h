@@ -7,6 +7,9 @@
 /* Counts a check, and says where it fails. Of one thread at a time. */
 void is(const char *file, int line, const char *what, long long got, long long wanted);
 
+/* How many requests for memory from here the one is that fails; 0 where none does, as always while there are several threads. */
+extern int until_failure;
+
 #define IS(got, wanted) is(__FILE__, __LINE__, #got, (long long)(got), (long long)(wanted))
 
 /* The tests of boards and seats. */
@@ -14,6 +17,9 @@ void boards(void);
 
 /* The tests of calls beside one another at one slot. */
 void beside(void);
+
+/* The tests of questions by one kind, and of many writes and questions at once. */
+void kinds(void);
 
 /* The tests of summaries that travel. */
 void summaries(void);

@@ -273,8 +273,7 @@ void *__wrap_malloc(size_t size);
 void *__wrap_calloc(size_t count, size_t size);
 void *__wrap_realloc(void *old, size_t size);
 
-/* How many requests from here the one is that fails; 0 where none does, as always while there are several threads. */
-static int until_failure;
+int until_failure;
 
 static bool fails(void)
 {

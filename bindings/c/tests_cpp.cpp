@@ -78,6 +78,42 @@ static void goes_in_and_comes_out()
     IS((small.elements() == numbers{4, -6, 9, 4, -6, 9, 4, -6}));
 }
 
+static void is_asked_by_one_kind()
+{
+    livevec::vector all{4, -6, 1027, 1025};
+    IS(all.value(LIVEVEC_SUM, 0, 4).values.sum == 2050 && all.value(LIVEVEC_SUM, 0, 4).values.greatest == 0);
+    IS(all.value(LIVEVEC_AFFINE, 0, 4).values.affine_b == 3949 && all.value(LIVEVEC_AUTOMATON, 0, 4).values.automaton[3] == 7);
+    IS(all.greatest(0, 2) == 4 && all.best(1, 2) == -6 && all.best(0, 4) == 2052 && !all.best(2, 2));
+    const std::vector<livevec_values> least = all.value_many(LIVEVEC_LEAST, {{0, 4}, {2, 4}, {1, 1}});
+    IS(least.size() == 3 && least[0].least == -6 && least[1].least == 1025 && !least[2].any);
+    const std::vector<livevec_range> ranges{{0, 1}, {3, 5}};
+    try {
+        (void)all.value_many(LIVEVEC_SUM, ranges);
+        IS(false);
+    } catch (const livevec::refused_at &refused) {
+        IS(refused.number() == LIVEVEC_OUT_OF_RANGE && refused.detail() == 4 && refused.place() == 1 && refused.done() == 0);
+    }
+    IS(all.value_many(LIVEVEC_SUM, livevec::range_view()).empty());
+    IS(refusal_of([&] { (void)all.value(static_cast<livevec_kind>(6), 0, 0); }) == LIVEVEC_BAD_KIND);
+    IS(refusal_of([&] { (void)all.value(LIVEVEC_SUM, 1, 0); }) == LIVEVEC_BAD_RANGE);
+}
+
+static void takes_many_writes()
+{
+    livevec::vector all{1, 2, 3};
+    const std::vector<std::uint32_t> indices{2, 0, 2};
+    IS(all.write_many(indices, numbers{7, 8, 9}) == 6 && (all.elements() == numbers{8, 2, 9}));
+    IS(all.write_many({1}, {5}) == 7 && all.write_many({}, {}) == 7);
+    try {
+        all.write_many({0, 3}, {1, 1});
+        IS(false);
+    } catch (const livevec::refused_at &refused) {
+        IS(refused.number() == LIVEVEC_OUT_OF_RANGE && refused.place() == 1 && refused.done() == 0);
+    }
+    IS(refusal_of([&] { all.write_many({0, 1}, {1}); }) == LIVEVEC_SHORT_BUFFER);
+    IS((all.elements() == numbers{8, 5, 9}) && all.edits() == 7);
+}
+
 static void goes_through_a_copy()
 {
     livevec::vector all{3, 1, 2};
@@ -187,6 +223,8 @@ int main()
     goes_through_a_copy();
     is_cloned_and_compared();
     is_scanned();
+    is_asked_by_one_kind();
+    takes_many_writes();
     sits_at_a_board();
     threads_share_a_board();
 
