@@ -99,7 +99,7 @@ impl fmt::Debug for Board {
     }
 }
 
-/// What a board reduces by. The kinds are those of [`Values`].
+/// What a board reduces by, and what a vector may be asked by alone. The kinds are those of [`Values`].
 #[derive(Clone, Copy, Debug, PartialEq, Eq, Hash)]
 pub enum Kind {
     /// The sum.
@@ -112,11 +112,12 @@ pub enum Kind {
     Best = 3,
     /// The map that the elements make.
     Affine = 4,
-    /// The states that the elements lead to, by the table that leads from `q` by `x` to `(2 * q + x mod 4) mod 8`.
+    /// The states that the elements lead to, by a vector's own table, and on a board by that which leads from `q` by `x` to
+    /// `(2 * q + x mod 4) mod 8`.
     Automaton = 5,
 }
 
-/// The value of a range by the board's kind.
+/// The value of a range by one kind: the board's, or that by which a vector was asked.
 #[derive(Clone, Copy, Debug, PartialEq, Eq, Hash)]
 pub enum Value {
     /// The sum.
@@ -134,7 +135,7 @@ pub enum Value {
 }
 
 impl Value {
-    fn of(kind: Kind, values: Values) -> Value {
+    pub(crate) fn of(kind: Kind, values: Values) -> Value {
         match kind {
             Kind::Sum => Value::Sum(values.sum),
             Kind::Least => Value::Least(values.least),

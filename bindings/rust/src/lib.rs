@@ -42,7 +42,9 @@ pub use indices::Indices;
 pub use kinds::UnknownKind;
 pub use refusal::Refusal;
 pub use summary::Summary;
-pub use values::{Accepted, Edit, Limits, Node, Popped, Pushed, Reduced, Reserved, Stopped, Swapped, Truncated, Values, Written};
+pub use values::{
+    Accepted, Edit, Limits, Node, Popped, Pushed, Reduced, RefusedAt, Reserved, Stopped, Swapped, Truncated, Values, Written,
+};
 pub use vector::{Beginnings, Job, Outcome, Scan, Vector};
 
 /// The program on the crate's page runs as one of the tests.

@@ -13,7 +13,7 @@ use std::mem::ManuallyDrop;
 use std::ptr;
 use std::sync::{Arc, Mutex, MutexGuard, PoisonError};
 
-use crate::{Edit, Refusal};
+use crate::{Edit, Refusal, RefusedAt};
 
 /// A slot of C: `livevec_vector`, `livevec_job`, `livevec_outcome`, `livevec_board` and `livevec_seat` are alike.
 #[repr(C)]
@@ -46,6 +46,31 @@ struct PushedMany {
     // the last edit, which is asked for by itself
     _edit: u32,
     pushed: u32,
+}
+
+#[repr(C)]
+struct Many {
+    refusal: u32,
+    detail: u32,
+    edit: u32,
+    done: usize,
+    place: usize,
+}
+
+impl Many {
+    /// The number of the last edit, where none was refused.
+    fn answered(self) -> Result<u32, RefusedAt> {
+        let Many { refusal, detail, edit, done, place } = self;
+        answered(refusal, detail, edit).map_err(|refusal| RefusedAt { place, done, refusal })
+    }
+}
+
+/// A range of indices: `livevec_range`.
+#[repr(C)]
+#[derive(Clone, Copy)]
+pub(crate) struct Ends {
+    pub(crate) lo: u32,
+    pub(crate) hi: u32,
 }
 
 #[repr(C)]
@@ -166,6 +191,7 @@ unsafe extern "C" {
     fn livevec_swap(slot: *mut Slot, first: u32, second: u32) -> Edited;
     fn livevec_truncate(slot: *mut Slot, elements: u32) -> Edited;
     fn livevec_push_many(slot: *mut Slot, values: *const i64, length: usize) -> PushedMany;
+    fn livevec_write_many(slot: *mut Slot, indices: *const u32, values: *const i64, length: usize) -> Many;
     fn livevec_get(slot: *mut Slot, index: u32) -> Element;
     fn livevec_read(slot: *mut Slot, lo: u32, hi: u32, buffer: *mut i64, length: usize) -> Scanned;
     fn livevec_size(slot: *mut Slot) -> Count;
@@ -173,6 +199,8 @@ unsafe extern "C" {
     fn livevec_edits(slot: *mut Slot) -> Count;
     fn livevec_reduce(slot: *mut Slot, lo: u32, hi: u32) -> Reduced;
     fn livevec_ask(slot: *mut Slot, lo: u32, hi: u32) -> Reduced;
+    fn livevec_value(slot: *mut Slot, kind: u32, lo: u32, hi: u32) -> Reduced;
+    fn livevec_value_many(slot: *mut Slot, kind: u32, ranges: *const Ends, answers: *mut SixValues, length: usize) -> Many;
     fn livevec_summary_empty() -> Summarised;
     fn livevec_summary_empty_with_table(table: *const [[u8; 4]; 8]) -> Summarised;
     fn livevec_summary_of(slot: *mut Slot, lo: u32, hi: u32) -> Summarised;
@@ -237,7 +265,7 @@ fn boxed<T>(value: T) -> Result<Box<T>, Refusal> {
 }
 
 /// A buffer with room for so many values; refused with `NoMemory` where there is none.
-fn roomy<T>(length: usize) -> Result<Vec<T>, Refusal> {
+pub(crate) fn roomy<T>(length: usize) -> Result<Vec<T>, Refusal> {
     let mut buffer = Vec::new();
     buffer.try_reserve_exact(length).map_err(|_| Refusal::NoMemory)?;
     Ok(buffer)
@@ -359,6 +387,13 @@ impl Vector {
         (did.pushed as usize, answered(did.refusal, did.detail, ()).err())
     }
 
+    /// The last edit, where all were written; as many values as indices are given.
+    pub(crate) fn write_many(&mut self, indices: &[u32], values: &[i64]) -> Result<u32, RefusedAt> {
+        assert_eq!(indices.len(), values.len());
+        // SAFETY: see above; so many indices and elements are read from slices that have them.
+        unsafe { livevec_write_many(self.slot.get(), indices.as_ptr(), values.as_ptr(), indices.len()) }.answered()
+    }
+
     pub(crate) fn get(&self, index: u32) -> Result<i64, Refusal> {
         // SAFETY: see above.
         let found = unsafe { livevec_get(self.slot.get(), index) };
@@ -397,6 +432,23 @@ impl Vector {
         // SAFETY: see above.
         let did = unsafe { livevec_ask(self.slot.get(), lo, hi) };
         answered(did.refusal, did.detail, did)
+    }
+
+    pub(crate) fn value(&self, kind: u32, lo: u32, hi: u32) -> Result<Reduced, Refusal> {
+        // SAFETY: see above.
+        let did = unsafe { livevec_value(self.slot.get(), kind, lo, hi) };
+        answered(did.refusal, did.detail, did)
+    }
+
+    /// The values of each range by a kind.
+    pub(crate) fn value_many(&self, kind: u32, ranges: &[Ends]) -> Result<Vec<SixValues>, RefusedAt> {
+        let length = ranges.len();
+        let mut values = roomy::<SixValues>(length).map_err(RefusedAt::of_all)?;
+        // SAFETY: see above; so many ranges are read from a slice that has them, and the buffer has room for as many answers.
+        unsafe { livevec_value_many(self.slot.get(), kind, ranges.as_ptr(), values.as_mut_ptr(), length) }.answered()?;
+        // SAFETY: C has written an answer for each range, since it refused none, and the buffer has room for them.
+        unsafe { values.set_len(length) };
+        Ok(values)
     }
 
     pub(crate) fn summary(&self, lo: u32, hi: u32) -> Result<SummaryBytes, Refusal> {

@@ -57,9 +57,9 @@ pub enum Refusal {
         /// The number of that edit.
         edit: u32,
     },
-    /// 103: a buffer shorter than what it should take.
+    /// 103: a buffer shorter than what it should take, or not as many values as there are indices.
     ShortBuffer {
-        /// How many values it should take.
+        /// How many values it should take, or there should be.
         wanted: u32,
     },
     /// 105: somebody has each of the board's seats.

@@ -230,6 +230,42 @@ impl From<Stopped> for Refusal {
     }
 }
 
+/// Many writes, or many questions, of which one was refused.
+#[derive(Clone, Copy, Debug, PartialEq, Eq, Hash)]
+pub struct RefusedAt {
+    /// Which one was refused, counted from 0; 0 where all were refused alike.
+    pub place: usize,
+    /// How many writes were made before. They stay. None, but where memory was wanted.
+    pub done: usize,
+    /// Why it was refused.
+    pub refusal: Refusal,
+}
+
+impl RefusedAt {
+    /// Where all were refused alike.
+    pub(crate) fn of_all(refusal: Refusal) -> RefusedAt {
+        RefusedAt { place: 0, done: 0, refusal }
+    }
+}
+
+impl fmt::Display for RefusedAt {
+    fn fmt(&self, f: &mut fmt::Formatter<'_>) -> fmt::Result {
+        write!(f, "at place {}: {}", self.place, self.refusal)
+    }
+}
+
+impl std::error::Error for RefusedAt {
+    fn source(&self) -> Option<&(dyn std::error::Error + 'static)> {
+        Some(&self.refusal)
+    }
+}
+
+impl From<RefusedAt> for Refusal {
+    fn from(refused: RefusedAt) -> Refusal {
+        refused.refusal
+    }
+}
+
 /// A node: level `l`, from 1 to 6, and number `m` has the `8^l` indices from `m * 8^l`.
 #[derive(Clone, Copy, Debug, PartialEq, Eq, Hash)]
 pub struct Node {

@@ -3,7 +3,10 @@
 use std::sync::Mutex;
 use std::thread;
 
-use livevec::{Accepted, Edit, Job, Limits, Node, Outcome, Popped, Pushed, Refusal, Reserved, Swapped, Truncated, Vector, Written};
+use livevec::{
+    Accepted, Edit, Job, Kind, Limits, Node, Outcome, Popped, Pushed, Refusal, RefusedAt, Reserved, Swapped, Truncated, Value, Vector,
+    Written,
+};
 
 fn of(elements: &[i64]) -> Vector {
     let mut vector = Vector::new().unwrap();
@@ -310,4 +313,99 @@ fn what_may_go_to_another_thread() {
     shares::<Job>();
     shares::<Mutex<Vector>>();
     shares::<Refusal>();
+}
+
+/// The value of some elements by a kind, by a loop.
+fn plain(kind: Kind, elements: &[i64]) -> Value {
+    let extreme = |better: fn(i64, i64) -> i64| elements.iter().copied().reduce(better);
+    match kind {
+        Kind::Sum => Value::Sum(elements.iter().fold(0, |sum: i64, x| sum.wrapping_add(*x))),
+        Kind::Least => Value::Least(extreme(i64::min)),
+        Kind::Greatest => Value::Greatest(extreme(i64::max)),
+        Kind::Best => {
+            let ending = elements.iter().scan(None, |ending: &mut Option<i128>, x| {
+                *ending = Some(i128::from(*x) + ending.unwrap_or(0).max(0));
+                *ending
+            });
+            Value::Best(ending.max())
+        }
+        Kind::Affine => {
+            let (a, b) = elements.iter().fold((1, 0), |(a, b): (u32, u32), x| {
+                let (by, plus) = ((x.div_euclid(256)) as u32, x.rem_euclid(256) as u32);
+                (by.wrapping_mul(a), by.wrapping_mul(b).wrapping_add(plus))
+            });
+            Value::Affine(a, b)
+        }
+        Kind::Automaton => {
+            let step = |state: u8, x: &i64| (2 * state + x.rem_euclid(4) as u8) % 8;
+            Value::Automaton([0, 1, 2, 3, 4, 5, 6, 7].map(|state| elements.iter().fold(state, step)))
+        }
+    }
+}
+
+/// Numbers of a fixed sequence, below a bound.
+fn numbers(mut state: u64) -> impl FnMut(usize) -> usize {
+    move |below| {
+        state = state.wrapping_mul(6_364_136_223_846_793_005).wrapping_add(1_442_695_040_888_963_407);
+        (state >> 33) as usize % below
+    }
+}
+
+#[test]
+fn values_by_one_kind_are_those_of_plain_loops() {
+    let mut next = numbers(3);
+    let (mut vector, mut list) = (Vector::new().unwrap(), Vec::new());
+    for _ in 0..200 {
+        for _ in 0..next(9) {
+            let x = [i64::MIN, i64::MAX, next(2001) as i64 - 1000, next(7) as i64 - 3][next(4)];
+            vector.push(x).unwrap();
+            list.push(x);
+        }
+        if next(5) == 0 {
+            let kept = list.len() - next(list.len() / 4 + 1);
+            vector.truncate(kept as u32).unwrap();
+            list.truncate(kept);
+        }
+        let writes = if list.is_empty() { 0 } else { next(12) };
+        let indices: Vec<u32> = (0..writes).map(|_| next(list.len()) as u32).collect();
+        let values: Vec<i64> = (0..writes).map(|_| next(4001) as i64 - 2000).collect();
+        indices.iter().zip(&values).for_each(|(index, value)| list[*index as usize] = *value);
+        let edits = vector.edits();
+        assert_eq!(vector.write_many(&indices, &values), Ok(edits + writes as u32));
+        for kind in Kind::ALL {
+            let mut range = || {
+                let (a, b) = (next(list.len() + 1), next(list.len() + 1));
+                a.min(b)..a.max(b)
+            };
+            let ranges: Vec<_> = (0..6).map(|_| range()).collect();
+            let wanted: Vec<Value> = ranges.iter().map(|range| plain(kind, &list[range.clone()])).collect();
+            assert_eq!(vector.value_many(kind, ranges.iter().cloned()).unwrap(), wanted);
+            assert_eq!(vector.value(kind, ranges[0].clone()), Ok(wanted[0]));
+        }
+    }
+    assert_eq!(vector.to_vec().unwrap(), list);
+}
+
+#[test]
+fn many_are_refused_by_the_first_that_is() {
+    let mut vector = Vector::with_limits(Limits::new(1, 6).unwrap()).unwrap();
+    vector.extend_from_slice(&[3, 1, 2]).unwrap();
+    let size = Refusal::OutOfRange { size: 3 };
+    assert_eq!(vector.value_many(Kind::Sum, [0..3, 1..4, 0..9]), Err(RefusedAt { place: 1, done: 0, refusal: size }));
+    #[allow(clippy::reversed_empty_ranges)]
+    let reversed = vector.value_many(Kind::Sum, [0..3, 1..2, 2..1, -5..2]);
+    assert_eq!(reversed, Err(RefusedAt { place: 2, done: 0, refusal: Refusal::BadRange }));
+    assert_eq!(vector.value_many(Kind::Best, [-5..2, 0..1]).unwrap_err().refusal, size);
+    assert_eq!(vector.value_many(Kind::Best, [0..0; 0]), Ok(vec![]));
+    assert_eq!((vector.value(Kind::Least, 2..9), vector.value(Kind::Least, ..)), (Err(size), Ok(Value::Least(Some(1)))));
+
+    assert_eq!(vector.write_many(&[0, 3], &[5, 5]), Err(RefusedAt { place: 1, done: 0, refusal: size }));
+    assert_eq!(vector.write_many(&[0, 1], &[5]).unwrap_err().refusal, Refusal::ShortBuffer { wanted: 2 });
+    assert_eq!((vector.write_many(&[0, 0], &[5, 6]), vector.write_many(&[], &[])), (Ok(5), Ok(5)));
+    let worn = vector.write_many(&[0, 1], &[7, 7]).unwrap_err();
+    assert_eq!(
+        (worn, worn.to_string()),
+        (RefusedAt { place: 1, done: 0, refusal: Refusal::Worn }, "at place 1: the limit of edits is reached".into())
+    );
+    assert_eq!(vector.to_vec().unwrap(), [6, 1, 2]);
 }
