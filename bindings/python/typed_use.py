@@ -4,7 +4,7 @@ Each line that is marked has a mistake: the checker complains where it doesn't s
 from __future__ import annotations
 
 from array import array
-from typing import Optional
+from typing import Optional, Union
 
 from livevec import Board, Delivered, Finished, Job, Kind, Outrun, Reduced, Refusal, Scan, Seat, Summary, Values, Vector
 
@@ -26,13 +26,16 @@ def vectors(prices: Vector, some: Prices) -> None:
     scanned: Scan = prices.scan_inclusive()
     last: Values = scanned[-1]
     why: Optional[Refusal] = prices.why_not_pop()
+    one: Union[int, None, tuple[int, ...]] = prices.value("affine", -5)
+    many: list[Union[int, None, tuple[int, ...]]] = prices.value_many(Kind.BEST, [(0, 1), (index, None)])
+    prices.write_many([index, 0], every)
     again: Prices = some.copy()
     same: bool = again == prices
     numbers = [2 * price for price in prices] + [first, *part]
     prices += numbers
     prices.extend(every)
     prices.read_into(memoryview(every), 0, 1)
-    print(least, whole, last.best, why, same)
+    print(least, whole, last.best, why, same, one, many)
 
 
 def wrong_vectors(prices: Vector) -> None:
@@ -45,6 +48,8 @@ def wrong_vectors(prices: Vector) -> None:
     Vector(["7"])  # type: ignore[list-item]
     prices.insert(0, least)  # type: ignore[attr-defined]
     prices.read_into([0])  # type: ignore[arg-type]
+    prices.value(7)  # type: ignore[arg-type]
+    prices.value_many("sum", [0, 1])  # type: ignore[list-item]
 
 
 def summaries(prices: Vector, sent: bytes) -> Summary:

@@ -15,6 +15,8 @@ own folders); in `lib` of the interpreter's prefix, which is that of a virtual e
 
 Threads. A `Vector`'s calls into C keep the interpreter's lock, so it may be used by several threads, one call at a time. What takes more than
 one call (`vector[-1]`, a loop over the elements, `edits` after a push) needs a lock of your own if another thread edits meanwhile.
+`value_many` and `write_many` release the interpreter's lock, so that other threads run meanwhile. Of such a call and another one at the same
+vector, beside it, the one that comes second raises Busy.
 A `Board` is for threads: each has a `Seat`, whose calls into C release the interpreter's lock and wait for no other thread.
 
 Machines. A `Summary` is what a list comes to, as bytes that travel; `livevec_mpi`, a module beside this one, joins those of MPI's ranks.
@@ -75,19 +77,21 @@ class Refusal(Exception):
 
     `number` is the number that the library's rules give it. `detail` is the size of an OutOfRange, the limit of a TooLarge, the wanted length
     of a ShortBuffer and the other edit of an Outrun, else 0.
-    `pushed` is how many elements were taken by the `extend` that was refused; these stay.
+    `pushed` is how many elements were taken by the `extend`, or written by the `write_many`, that was refused; these stay. `place` is which of
+    many writes or questions was refused, counted from 0.
     """
 
     number: int = 0
     says: str = "refused"
 
-    def __init__(self, detail: int = 0, pushed: int = 0) -> None:
+    def __init__(self, detail: int = 0, pushed: int = 0, place: int = 0) -> None:
         self.detail = detail
         self.pushed = pushed
+        self.place = place
         super().__init__(self.says.format(detail=detail))
 
     def __reduce__(self) -> tuple[Any, ...]:
-        return type(self), (self.detail, self.pushed)
+        return type(self), (self.detail, self.pushed, self.place)
 
 
 class Worn(Refusal, OverflowError):
@@ -230,8 +234,8 @@ _REFUSALS = {it.number: it for it in (Worn, Empty, OutOfRange, TooLarge, Full, N
                                       Overtaken, Closed, ShortBuffer, NoSeat, SeatsOut, Busy, OtherVersion, Damaged, OtherTable, TooLong)}
 
 
-def _refuse(number: int, detail: int = 0, pushed: int = 0) -> Refusal:
-    made = _REFUSALS.get(number, Refusal)(detail, pushed)
+def _refuse(number: int, detail: int = 0, pushed: int = 0, place: int = 0) -> Refusal:
+    made = _REFUSALS.get(number, Refusal)(detail, pushed, place)
     made.number = number
     return made
 
@@ -290,6 +294,16 @@ class _Pushed(ctypes.Structure):
     edit: int
     pushed: int
     _fields_ = [("refusal", ctypes.c_uint32), ("detail", ctypes.c_uint32), ("edit", ctypes.c_uint32), ("pushed", ctypes.c_uint32)]
+
+
+class _Many(ctypes.Structure):
+    refusal: int
+    detail: int
+    edit: int
+    done: int
+    place: int
+    _fields_ = [("refusal", ctypes.c_uint32), ("detail", ctypes.c_uint32), ("edit", ctypes.c_uint32), ("done", ctypes.c_size_t),
+                ("place", ctypes.c_size_t)]
 
 
 class _Count(ctypes.Structure):
@@ -431,7 +445,8 @@ def _opened() -> ctypes.PyDLL:
 
 
 _lib = _opened()
-# Calls by CDLL release that lock. They are those of a seat, which keeps its calls apart by a lock of its own.
+# Calls by CDLL release that lock. They are those of a seat, which keeps its calls apart by a lock of its own, and those of a vector that take
+# long: another call at the vector finds it busy meanwhile.
 _released = ctypes.CDLL(_lib._name)
 
 
@@ -463,6 +478,7 @@ _reserve = _call("livevec_reserve", _Edited, _slot, _u32)
 _swap = _call("livevec_swap", _Edited, _slot, _u32, _u32)
 _truncate = _call("livevec_truncate", _Edited, _slot, _u32)
 _push_many = _call("livevec_push_many", _Pushed, _slot, _pointer, _size)
+_write_many = _call("livevec_write_many", _Many, _slot, _pointer, _pointer, _size, by=_released)
 _get = _call("livevec_get", _Element, _slot, _u32)
 _read = _call("livevec_read", _Scanned, _slot, _u32, _u32, _pointer, _size)
 _count_size = _call("livevec_size", _Count, _slot)
@@ -470,6 +486,8 @@ _count_capacity = _call("livevec_capacity", _Count, _slot)
 _count_edits = _call("livevec_edits", _Count, _slot)
 _reduce = _call("livevec_reduce", _Reduced, _slot, _u32, _u32)
 _ask = _call("livevec_ask", _Reduced, _slot, _u32, _u32)
+_value = _call("livevec_value", _Reduced, _slot, _u32, _u32, _u32)
+_value_many = _call("livevec_value_many", _Many, _slot, _u32, _pointer, _pointer, _size, by=_released)
 _scan_inclusive = _call("livevec_scan_inclusive", _Scanned, _slot, _u32, _u32, _pointer, _size)
 _scan_exclusive = _call("livevec_scan_exclusive", _Scanned, _slot, _u32, _u32, _pointer, _size)
 # a summary's bytes are read during the call alone
@@ -949,7 +967,7 @@ class Vector(_Handle, collections.abc.Sequence[int]):
 
     @staticmethod
     def _why(told: _Verdict) -> Optional[Refusal]:
-        if told.refusal == Closed.number:
+        if told.refusal >= Closed.number:
             raise _refuse(told.refusal)
         return _refuse(told.refusal, told.detail) if told.refusal else None
 
@@ -965,11 +983,7 @@ class Vector(_Handle, collections.abc.Sequence[int]):
         """
         buffer = _as_buffer(values)
         length = len(buffer)
-        if length == 0:
-            if not self._slot.full_:
-                raise _refuse(Closed.number)
-            return
-        did = _push_many(self._at, ctypes.byref(_address(buffer)), length)
+        did = _push_many(self._at, ctypes.byref(_address(buffer)) if length else None, length)
         self._changes += did.pushed
         if did.refusal:
             raise _refuse(did.refusal, did.detail, did.pushed)
@@ -977,6 +991,25 @@ class Vector(_Handle, collections.abc.Sequence[int]):
     def __iadd__(self: _SomeVector, values: Iterable[int]) -> _SomeVector:
         self.extend(values)
         return self
+
+    def write_many(self, indices: Iterable[int], values: Iterable[int]) -> None:
+        """Writes each value at the index of the same place, in order, by one call of C. Each is an edit of its own.
+
+        Both are taken as `extend` takes elements, so numpy arrays and lists alike. A negative index counts from the end, and an index may come
+        twice: the later value stays. Other threads run meanwhile; beside a call of theirs at this vector, the second of the two raises Busy.
+
+        Raises Worn or OutOfRange where one is refused: its `place` says which, and none was made. Raises NoMemory too: then `pushed` says how
+        many were made, and these stay. Raises ValueError unless there are as many values as indices, and what `extend` raises of such as are
+        no numbers.
+        """
+        places, elements = _as_places(indices, self), _as_buffer(values)
+        length = len(places)
+        if length != len(elements):
+            raise ValueError(f"there are {length} indices and {len(elements)} values")
+        did = _write_many(self._at, *(ctypes.byref(_address(row)) if length else None for row in (places, elements)), length)
+        self._changes += did.done
+        if did.refusal:
+            raise _refuse(did.refusal, did.detail, did.done, did.place)
 
     def clear(self) -> None:
         """Drops all elements, by one edit. Raises Worn, NoMemory. It gives no memory back."""
@@ -1102,9 +1135,10 @@ class Vector(_Handle, collections.abc.Sequence[int]):
         return self.to_array().count(value)
 
     def __repr__(self) -> str:
-        if not self._slot.full_:
-            return "<livevec.Vector, closed>"
-        return f"<livevec.Vector of {len(self)} at edit {self.edits}>"
+        try:
+            return f"<livevec.Vector of {len(self)} at edit {self.edits}>"
+        except (Closed, Busy) as refusal:
+            return f"<livevec.Vector, {type(refusal).__name__.lower()}>"
 
     # Reductions and scans.
 
@@ -1118,23 +1152,48 @@ class Vector(_Handle, collections.abc.Sequence[int]):
         """All six values of a range, as `ask` gives them, but nothing is kept."""
         return self._reduced(_reduce, lo, hi)
 
+    def value(self, kind: Union[Kind, str], lo: int = 0, hi: Optional[int] = None) -> Union[int, None, tuple[int, ...]]:
+        """The value of a range by one kind, a `Kind` or its name, as `Values` has it.
+
+        That kind alone is computed, and what is computed is kept by that kind, so where one kind is wanted this is quicker than `ask`. Raises
+        BadRange, then OutOfRange; ValueError of what is no kind."""
+        of = _kind_of(kind)
+        return _value_of(of, _values_of(self._valued(of, lo, hi)))
+
+    def value_many(self, kind: Union[Kind, str], ranges: Iterable[Sequence[Optional[int]]]) -> list[Union[int, None, tuple[int, ...]]]:
+        """The value of each range by one kind, by one call of C, all after the last edit.
+
+        A range is a pair `lo, hi`, whose ends are taken as `value` takes them, None too. They come in a list or anything else that can be gone
+        through, or in a buffer of two columns, as a numpy array of n times 2 whole numbers. Other threads run meanwhile; beside a call of theirs
+        at this vector, the second of the two raises Busy.
+
+        Raises BadRange or OutOfRange where one is refused: its `place` says which is the first. Raises ValueError of what is no kind or no pair.
+        """
+        of, pairs = _kind_of(kind), _as_pairs(ranges, self)
+        length = len(pairs) // 2
+        room = bytearray(max(length, 1) * ctypes.sizeof(_Values))
+        did = _value_many(self._at, of.value, ctypes.byref(_address(pairs)) if length else None, ctypes.byref(_address(room)), length)
+        if did.refusal:
+            raise _refuse(did.refusal, did.detail, 0, did.place)
+        return _values_in(room, of)[:length]
+
     def sum(self, lo: int = 0, hi: Optional[int] = None) -> int:
-        """The sum, wherever it fits 64 bits; else modulo 2**64, as `Values.sum` has it. Asks, and raises as `ask` does."""
-        return _signed(self._asked(lo, hi).sum)
+        """The sum, wherever it fits 64 bits; else modulo 2**64, as `Values.sum` has it. Keeps what it computes and raises as `value` does."""
+        return _signed(self._valued(Kind.SUM, lo, hi).sum)
 
     def least(self, lo: int = 0, hi: Optional[int] = None) -> Optional[int]:
-        """The least element; None of an empty range. Asks, and raises as `ask` does."""
-        values = self._asked(lo, hi)
+        """The least element; None of an empty range. Keeps what it computes and raises as `value` does."""
+        values = self._valued(Kind.LEAST, lo, hi)
         return values.least if values.any else None
 
     def greatest(self, lo: int = 0, hi: Optional[int] = None) -> Optional[int]:
-        """The greatest element; None of an empty range. Asks, and raises as `ask` does."""
-        values = self._asked(lo, hi)
+        """The greatest element; None of an empty range. Keeps what it computes and raises as `value` does."""
+        values = self._valued(Kind.GREATEST, lo, hi)
         return values.greatest if values.any else None
 
     def best(self, lo: int = 0, hi: Optional[int] = None) -> Optional[int]:
-        """The greatest total of one or more neighbours; None of an empty range. Asks, and raises as `ask` does."""
-        values = self._asked(lo, hi)
+        """The greatest total of one or more neighbours; None of an empty range. Keeps what it computes and raises as `value` does."""
+        values = self._valued(Kind.BEST, lo, hi)
         return (values.best_high << 64) + values.best_low if values.any else None
 
     def summary(self, lo: int = 0, hi: Optional[int] = None) -> Summary:
@@ -1190,8 +1249,9 @@ class Vector(_Handle, collections.abc.Sequence[int]):
     # The end.
 
     def close(self) -> None:
-        """Gives the memory back. Every later call raises Closed; to close again does nothing."""
-        _free(self._at)
+        """Gives the memory back. Every later call raises Closed; to close again does nothing. Raises Busy beside a call of another thread."""
+        if _free(self._at) == Busy.number:
+            raise _refuse(Busy.number)
 
     def __enter__(self: _SomeVector) -> _SomeVector:
         return self
@@ -1214,8 +1274,8 @@ class Vector(_Handle, collections.abc.Sequence[int]):
         """How long a buffer C is given: none where the range is refused, which C does before it looks at the length."""
         return hi - lo if lo <= hi <= len(self) else 0
 
-    def _asked(self, lo: int, hi: Optional[int]) -> _Values:
-        did = _ask(self._at, *self._range(lo, hi))
+    def _valued(self, kind: Kind, lo: int, hi: Optional[int]) -> _Values:
+        did = _value(self._at, kind.value, *self._range(lo, hi))
         if did.refusal:
             raise _refuse(did.refusal, did.detail)
         return did.values
@@ -1245,7 +1305,7 @@ def _remade(of: type[_SomeVector], elements: array[int], buckets: int, edits: in
 
 
 class Kind(enum.Enum):
-    """What a board reduces by. The kinds are those of `Values`."""
+    """What a board reduces by, and what a vector may be asked by alone. The kinds are those of `Values`."""
 
     SUM = 0
     LEAST = 1
@@ -1405,7 +1465,7 @@ class Seat(_Handle):
 
         Without `hi` the range goes up to the size just before. Raises BadRange, OutOfRange, Overtaken."""
         did = self._told(_seat_reduce, *_ends(operator.index(lo), None if hi is None else operator.index(hi), self))
-        return Told(did.edit, did.cells, did.summaries, getattr(_values_of(did.values), self.kind.name.lower()))
+        return Told(did.edit, did.cells, did.summaries, _value_of(self.kind, _values_of(did.values)))
 
     def refresh(self, block: int) -> Refreshed:
         """Computes the summary of a block, the eight elements from index 8 * block on, so that reductions read less. No answer changes.
@@ -1462,6 +1522,35 @@ def _kind_of(kind: Union[Kind, str]) -> Kind:
     if found is None:
         raise ValueError(f"{kind!r} is not a kind: these are {', '.join(_KINDS)}")
     return found
+
+
+def _value_of(kind: Kind, values: Values) -> Union[int, None, tuple[int, ...]]:
+    """The value of a kind among those of all."""
+    value: Union[int, None, tuple[int, ...]] = getattr(values, kind.name.lower())
+    return value
+
+
+def _values_in(room: bytearray, kind: Kind) -> list[Union[int, None, tuple[int, ...]]]:
+    """The value of a kind in each of the `_Values` that lie in a buffer side by side."""
+    if kind in (Kind.AFFINE, Kind.AUTOMATON):
+        size = ctypes.sizeof(_Values)
+        return [_value_of(kind, _values_of(_Values.from_buffer(room, at))) for at in range(0, len(room), size)]
+    # words of 64 bits, so that a row of them is read at once; the sum is read as one with a sign
+    step = ctypes.sizeof(_Values) // 8
+
+    def words(name: str, of: str = "q") -> list[int]:
+        return memoryview(room).cast(of)[_WORDS[name] :: step].tolist()  # type: ignore[call-overload,no-any-return,unused-ignore]
+
+    if kind is Kind.SUM:
+        return [*words("sum")]
+    some = room[getattr(_Values, "any").offset :: 8 * step]
+    if kind is Kind.BEST:
+        return [(high << 64) + low if any else None for low, high, any in zip(words("best_low", "Q"), words("best_high"), some)]
+    return [value if any else None for value, any in zip(words(kind.name.lower()), some)]
+
+
+# ctypes doesn't tell that its fields have offsets
+_WORDS: dict[str, int] = {name: getattr(_Values, name).offset // 8 for name in ("sum", "least", "greatest", "best_low", "best_high")}
 
 
 def _as_short(value: int) -> int:
@@ -1540,3 +1629,48 @@ def _as_buffer(values: Iterable[int]) -> memoryview:
         raise TypeError(f"elements are whole numbers, and this buffer's format is {view.format!r}")
     # array checks them one by one
     return memoryview(array("q", struct.unpack(f"{order}{len(view)}{kind}", view.tobytes())))
+
+
+def _as_places(indices: Iterable[int], holder: Vector) -> array[int]:
+    """Indices as C wants them, side by side, where a negative one counts from the end. What C can't be given it is given as one that it refuses."""
+    buffer = _as_buffer(indices)
+    try:
+        return array("I", buffer.tolist())
+    except OverflowError:
+        return array("I", (_place(index, holder) for index in buffer.tolist()))
+
+
+def _as_pairs(ranges: Iterable[Sequence[Optional[int]]], holder: Vector) -> array[int]:
+    """The ends of ranges as C wants them, a start and then its end, as `_ends` has them. What C can't be given it is given as one that it refuses."""
+    rows = _as_rows(ranges)
+    try:
+        return array("I", [end for lo, hi in rows for end in (lo, hi)])
+    except (OverflowError, TypeError):
+        return array("I", [end for lo, hi in rows for end in _given(lo, hi, holder)])
+
+
+def _as_rows(ranges: Iterable[Sequence[Optional[int]]]) -> list[Any]:
+    """Pairs, of a buffer of two columns or of anything else that can be gone through."""
+    try:
+        view = memoryview(ranges)  # type: ignore[arg-type]
+    except TypeError:
+        rows: list[Any] = [tuple(row) for row in ranges]
+    else:
+        if view.ndim != 2 or view.shape is None or view.shape[1] != 2 or view.format.lstrip("@") not in tuple("bBhHiIlLqQ"):
+            raise ValueError("ranges are pairs of whole numbers: a buffer of them has two columns, in this machine's order")
+        rows = view.tolist()
+    if any(len(row) != 2 for row in rows):
+        raise ValueError("a range is a pair of its start and its end")
+    return rows
+
+
+def _given(lo: Optional[int], hi: Optional[int], holder: Vector) -> tuple[int, int]:
+    """A range as C wants it. One that C can't be given is given as one that it refuses alike."""
+    if lo is None:
+        lo = 0
+    try:
+        return _ends(operator.index(lo), None if hi is None else operator.index(hi), holder)
+    except BadRange:
+        return 1, 0
+    except OutOfRange:
+        return 0, _MOST_U32
