@@ -1,5 +1,5 @@
 -- What a question by one kind answers is the plain value of its range.
-use Rattle.std.proofs.Common.{◌≡◌, ℕ, Bool, Some, None, List, length, refl, sym, ap, ◌∙◌}
+use Rattle.std.proofs.Common.{◌≡◌, ℕ, Some, None, length, refl, sym, ap, ◌∙◌}
 use Rattle.std.specs.Prelude.{nat_lt}
 use Rattle.lv_geometry.specs.Numbers.{number_of}
 use Rattle.lv_geometry.specs.declared.refusals.Refusal.{Refusal}

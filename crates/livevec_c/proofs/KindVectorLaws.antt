@@ -1,12 +1,11 @@
 -- What is kept by kind beside a live vector, as that is edited and asked.
-use Rattle.std.proofs.Common.{◌≡◌, ℕ, ℤ, ◌*◌, ◌-◌, ◌≤◌, None, Some, List, [], ◌∷◌, ◌++◌, length, nat_eq, take, refl, sym, ap, ◌∙◌, subst, arith}
+use Rattle.std.proofs.Common.{◌≡◌, ℕ, ℤ, ◌-◌, ◌≤◌, None, Some, List, [], ◌∷◌, ◌++◌, length, nat_eq, take, sym, ap, ◌∙◌, subst, arith}
 use Rattle.std.specs.Int.{bit_at}
 use Rattle.std.proofs.Math.Seq.{take-append_seam}
 use Rattle.std.proofs.lemmas.List.{length_push, length-set, length-take}
 use Rattle.std.proofs.lemmas.List.Edits.{length-swap}
 use Rattle.std.proofs.lemmas.Option.{cond_some, same_Some}
 use Rattle.lv_geometry.specs.Bounds.{Bounds}
-use Rattle.lv_geometry.specs.Cells.{capacity_of}
 use Rattle.lv_geometry.proofs.Capacities.{capacity_of_most}
 use Rattle.lv_bodies.specs.Automata.{table_of}
 use Rattle.lv_bodies.specs.Body.{Operations}
@@ -25,7 +24,7 @@ use Rattle.lv_edits.specs.Verdict.{verdict_of}
 use Rattle.lv_edits.proofs.HistoryLaws.{accepted_is_possible, list_of-snoc, not_refused, unrefused_push}
 use Rattle.lv_live.specs.State.{LiveState}
 use Rattle.lv_kinds.specs.Kinds.{AreFolds, AreKept, HaveRoomFor, KeepsAlike, KindsState}
-use Rattle.lv_kinds.specs.NodeRows.{HasSameValues, NodeRowsState, value_at}
+use Rattle.lv_kinds.specs.NodeRows.{HasSameValues, NodeRowsState}
 use Rattle.livevec_c.specs.KindVectors.{IsKindVector, IsSizeAfter, before_last}
 
 -- rows that have the same values are folds alike

@@ -1,5 +1,5 @@
 -- What the calls of a seat do and answer, by what lies behind its slot.
-use Rattle.std.specs.Prelude.{◌≡◌, ℕ, ℤ, pos, Bool, Option, Some, None, Err, unwrap_or}
+use Rattle.std.specs.Prelude.{◌≡◌, ℕ, pos, Bool, Option, Some, None, Err, unwrap_or}
 use Rattle.lv_geometry.specs.Numbers.{number_of}
 use Rattle.lv_bodies.specs.declared.kinds.Shown.{Shown}
 use Rattle.lv_bodies.specs.declared.kinds.Shown.TheVariants as shown

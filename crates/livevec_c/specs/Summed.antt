@@ -1,5 +1,5 @@
 -- What the calls of summaries that travel answer, by the bytes that came in and by what lies behind a slot.
-use Rattle.std.specs.Prelude.{◌≡◌, ◌≤◌, ℕ, ℤ, pos, Bool, false, Option, Some, None, Result, Ok, Err, List, length, All, replicate, is_some, unwrap_or}
+use Rattle.std.specs.Prelude.{◌≡◌, ◌≤◌, ℕ, ℤ, false, Option, Some, None, Result, Ok, Err, List, length, All, replicate, is_some, unwrap_or}
 use Rattle.lv_geometry.specs.Numbers.{number_of}
 use Rattle.lv_geometry.specs.declared.refusals.Refusal.{Refusal}
 use Rattle.lv_bodies.specs.Automata.{table_of}

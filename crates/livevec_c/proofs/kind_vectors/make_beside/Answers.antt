@@ -1,9 +1,9 @@
 use Rattle.std.proofs.Common.{◌≡◌, ◌≤◌, None, length, subst, sym}
 use Rattle.lv_bodies.specs.Automata.{table_of}
-use Rattle.lv_edits.specs.History.{History, list_of, with_edit}
+use Rattle.lv_edits.specs.History.{list_of, with_edit}
 use Rattle.lv_edits.specs.Kept.{IsLegalInLimits}
 use Rattle.lv_edits.specs.Verdict.{verdict_of}
-use Rattle.lv_kinds.specs.Kinds.{AreKept, HaveRoomFor}
+use Rattle.lv_kinds.specs.Kinds.{AreKept}
 use Rattle.livevec_c.proofs.KindVectorLaws.{before_edit, kept_alike, kept_of_same, room_for_fewer, room_is_allowed, size_fits}
 use Rattle.livevec_c.proofs.kind_vectors.make_beside.Goals as goal
 
