@@ -1,5 +1,5 @@
 -- What is so of each session is so of all of them.
-use Rattle.std.proofs.Common.{◌≡◌, ℕ, ◌+◌, suc, Option, Some, Result, Ok, Err, OnOk, List, [], ◌∷◌, ◌++◌, All, IfOk, IfSome, length, map, refl, sym, ap, ◌∙◌, subst, arith, inl, inr, length-append, append-nil, append_assoc}
+use Rattle.std.proofs.Common.{◌≡◌, ℕ, suc, Option, Some, None, Result, Ok, Err, OnOk, List, [], ◌∷◌, ◌++◌, All, IfErr, IfOk, IfSome, ◌⊎◌, length, map, refl, sym, ap, ◌∙◌, subst, arith, inl, inr, length-append, append-nil, append_assoc}
 use Rattle.std.specs.Prelude.{option_map}
 use Rattle.std.specs.List.Sorted.{IsPermutation}
 use Rattle.std.proofs.lemmas.Grind.{flat_map-append}
@@ -22,8 +22,9 @@ use Rattle.lv_hub.specs.Counting.{AreTogether, ShareState}
 use Rattle.lv_hub.specs.Session.{KeepTies, SessionState, SessionStep, session_at}
 use Rattle.lv_hub.specs.Told.{IsVector, history_of}
 use Rattle.livevec.specs.Served.{AreHeld, FailsToServe, Served, Sides, Transcript, answered_to, ended_well}
+use Rattle.livevec.specs.Starting.{start_of}
 use Rattle.livevec.specs.Tasks.{AreAllHeld, AreHeldFrom, Begun, Ended, IsHeldFrom, TakesBack, begun_at, state_of}
-use Rattle.livevec.specs.Writing.{IsJournal, IsTextOf, Writes, WritesClosed}
+use Rattle.livevec.specs.Writing.{FailsToClose, IsJournal, IsTextOf, Writes, WritesClosed}
 
 module _ (limits : Bounds) where
   -- a session that came to a state was held
@@ -171,12 +172,6 @@ module _ (limits : Bounds) (share : ShareState) (olds news : List Sides) (claims
         | inr front ↦ inr (front.0, held.states, front.1, transcript_so w.journal front.1 w.of front.2, front.3)
       ]
 
-  -- nor where all of it was written, and a write elsewhere failed
-  pub failed_elsewhere : {T : Type 0} (x : T) (fault : Fault) (contents_old contents_new : Option (List ℕ)) → fault ≡ WriteFault → WritesClosed {T = T} limits share claims contents_old contents_new (Ok x) → FailsToServe limits contents_old contents_new fault
-  failed_elsewhere x fault contents_old contents_new is w =
-      let written = w.written in
-      inr (is, held.states, written.0, transcript_so w.journal written.0 w.of written.1, record { unsent = []; written = record { sent = written.0; appended = written.3; all = sym (append-nil written.0) } })
-
 -- what a share that has seen more writes, one does that counts as many
 pub closed_more : {T : Type 0} (limits : Bounds) (share more : ShareState) (listed : List Claimed) (old new : Option (List ℕ)) (result : Result T Fault)
     → more.count ≡ share.count → IsPrefix share.seen more.seen → WritesClosed limits more listed old new result → WritesClosed limits share listed old new result
@@ -185,6 +180,30 @@ closed_more limits share more listed old new result same seen w = record {
   of = record { within = w.of.within; accepted = w.of.accepted; seen = begins share.seen more.seen w.journal seen w.of.seen; counted = w.of.counted ∙ same };
   written = w.written;
 }
+
+-- what was written of a closed hub's journal where nothing failed
+pub closes_well : {F : Type 0} (limits : Bounds) (share : ShareState) (listed : List Claimed) (old new : Option (List ℕ)) (written : Result (Unit {0}) Fault) (result : Result (Unit {0}) F)
+    → IfOk result (λ done. written ≡ Ok done) → WritesClosed limits share listed old new written → IfOk result (λ done. WritesClosed {T = Unit {0}} limits share listed old new (Ok done))
+closes_well limits share listed old new written (Ok done) is w = subst (WritesClosed limits share listed old new) is w
+closes_well limits share listed old new written (Err failure) is w = tt
+
+-- all of it was written, which a write elsewhere that fails has as its front
+wrote_all : (journal : List Edit) (listed : List Claimed) (old new : Option (List ℕ)) (fault : Fault) → fault ≡ WriteFault → Writes {T = Unit {0}} journal listed old new (Ok tt) → Writes {T = Unit {0}} journal listed old new (Err fault)
+wrote_all journal listed old new fault is w = inr (is, w.0, w.1, record { unsent = []; written = record { sent = w.0; appended = w.3; all = sym (append-nil w.0) } })
+
+closes_late : (limits : Bounds) (share : ShareState) (listed : List Claimed) (old new : Option (List ℕ)) (fault : Fault) → fault ≡ WriteFault → WritesClosed {T = Unit {0}} limits share listed old new (Ok tt) → FailsToClose limits share listed old new fault
+closes_late limits share listed old new fault is w = record { journal = w.journal; of = w.of; written = wrote_all w.journal listed old new fault is w.written }
+
+-- and where something failed
+pub closes_ill : {F : Type 0} (fault_of : F → Fault) (limits : Bounds) (share : ShareState) (listed : List Claimed) (old new : Option (List ℕ)) (written : Result (Unit {0}) Fault) (result : Result (Unit {0}) F)
+    → IfErr result (λ failure. (written ≡ Err (fault_of failure)) ⊎ ((written ≡ Ok tt) × (fault_of failure ≡ WriteFault))) → WritesClosed limits share listed old new written
+    → IfErr result (λ failure. FailsToClose limits share listed old new (fault_of failure))
+closes_ill fault_of limits share listed old new written (Ok done) failed w = tt
+closes_ill fault_of limits share listed old new written (Err failure) failed w =
+    elim failed [
+      | inl first ↦ subst (WritesClosed limits share listed old new) first w
+      | inr late ↦ closes_late limits share listed old new (fault_of failure) late.1 (subst (WritesClosed limits share listed old new) late.0 w)
+    ]
 
 -- how a journal's transcript was written
 pub writes_so : {T : Type 0} (journal : List Edit) (listed claims : List Claimed) (old new : Option (List ℕ)) (result : Result T Fault)
@@ -218,7 +237,12 @@ closed_so limits share h listed journal old new result is vector accepted seen c
       written = subst (λ journal. Writes journal listed old new result) is written;
     }
 
--- what follows of what it gave, where it went well
-pub if_ok : {T E : Type 0} {P Q : T → Type 0} (result : Result T E) → ((x : T) → P x → Q x) → IfOk result P → IfOk result Q
-if_ok (Ok x) then holds = then x holds
-if_ok (Err e) then holds = tt
+-- what follows of what there is, if there is something
+pub if_some : {A : Type 0} {P Q : A → Type 0} (found : Option A) → ((x : A) → P x → Q x) → IfSome found P → IfSome found Q
+if_some (Some x) then holds = then x holds
+if_some None then holds = tt
+
+-- the file of a transcript has got what it had at the start
+pub starts_there : {V : Type 0} (contents : V → Option (List ℕ)) (found : Option V) → IfSome found (λ file. start_of contents found ≡ contents file)
+starts_there contents (Some file) = refl
+starts_there contents None = tt

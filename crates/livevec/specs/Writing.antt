@@ -42,3 +42,7 @@ pub record WritesClosed {T : Type 0} (limits : Bounds) (share : ShareState) (lis
   pub journal : List Edit
   pub of : IsJournal limits share journal
   pub written : Writes journal listed contents_old contents_new result
+
+-- it was so of one whose transcript wasn't written whole, or not everywhere, with this fault
+abbrev pub FailsToClose : Bounds → ShareState → List Claimed → Option (List ℕ) → Option (List ℕ) → Fault → Type 0
+FailsToClose limits share listed contents_old contents_new fault = WritesClosed {T = Unit {0}} limits share listed contents_old contents_new (Err fault)

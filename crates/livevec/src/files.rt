@@ -2,7 +2,7 @@
 
 use crate::clashes::{Clash, REPLIES};
 use crate::failures::{Failure, Place};
-use crate::identities::{Identity, standard_files};
+use crate::identities::{Identity, is_written, standard_files};
 use crate::transcript_files::{emptied, open_transcript};
 use lv_script::Fault;
 use std::alloc::Global;
@@ -241,11 +241,6 @@ fn clash_of<'a, F: Drop>(
         return Some(Clash::Standard(file));
     }
     None
-}
-
-// Whether standard output or standard error goes into a file that is read.
-fn is_written(standard: &[Option<Identity>; 3], input: Identity) -> bool {
-    standard[1] == Some(input) || standard[2] == Some(input)
 }
 
 // Whether a file is read by a session, or written by one of another number.

@@ -36,3 +36,8 @@ fn behind<R: Files>(rt: &R, name: &str) -> Option<Identity> {
         _ => None,
     }
 }
+
+/// Whether standard output or standard error goes into a file that is read.
+pub fn is_written(standard: &[Option<Identity>; 3], input: Identity) -> bool {
+    standard[1] == Some(input) || standard[2] == Some(input)
+}

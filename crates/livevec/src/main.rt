@@ -4,6 +4,7 @@
 
 mod boards;
 mod clashes;
+mod closing;
 mod command_line;
 mod escaped;
 mod failures;
@@ -202,7 +203,7 @@ fn restore<R: AllocGlobal + Eprint + Files + Input + Print, W: Write>(
 fn serve_files<'a, R: Files + Sync + Threads + Wait, W: Write>(
     rt: &R,
     alloc: Global,
-    asked: &ArgMatches<'_>,
+    asked: &'a ArgMatches<'_>,
     files: &[&'a str],
     writer: &mut W,
 ) -> Result<(), Unopened<'a>>

@@ -1,20 +1,17 @@
 //! Sessions in threads of their own, with workers beside them, and the transcript of it all.
 
-ghost use Rattle.std.specs.Prelude.{◌≡◌, ◌+◌, ℕ, All, IfErr, IfOk, IfSome, List, [], Some, map, vec_len};
-ghost use Rattle.lv_transcript.specs.Transcript.{AreAccepted, IsTrueClaim, greatest};
+ghost use Rattle.std.specs.Prelude.{◌≡◌, ◌+◌, IfErr, IfOk, IfSome, [], Some, map, vec_len};
 ghost use Rattle.livevec.specs.Served.{FailsToServe, Served, Sides};
 ghost use Rattle.livevec.specs.Tasks.{AreAllHeld, AreHeldFrom, IsHeldFrom};
-ghost use Rattle.livevec.specs.Writing.{Writes, WritesClosed};
 
+use crate::closing::write_closed;
 use crate::failures::{Failure, Place};
 use crate::files::Streams;
-use crate::minuted::{begin_minutes, end_minutes, run_minuted, shown, unlocked};
+use crate::minuted::{begin_minutes, run_minuted, unlocked};
 use crate::tasks::{Done, Gathered, Task, share_out, take_back};
 use lv_bodies::Six;
-use lv_edits::Edit;
 use lv_geometry::Limits;
 use lv_hub::{Begun, Hub, Means, Minutes, OpenGate, Opened, Share, attend, in_order};
-use lv_script::{Claimed, Fault, write_transcript};
 use std::alloc::Global;
 use std::io::{Read, Write};
 use std::marker::Brand;
@@ -106,9 +103,8 @@ fn serve_as<
     match serve_all::<N, K, F, V, R>(rt, alloc, plan, &hub, &mut share, streams, file) {
         Ok((Gathered { claims, streams }, minutes)) => {
             match write_closed(alloc, hub, share, claims, minutes, writer) {
-                (Ok(()), Ok(())) => Ok(streams),
-                (Err(fault), _) => Err(Failure::standard(fault)),
-                (Ok(()), Err(fault)) => Err(Failure::transcript(fault)),
+                Ok(()) => Ok(streams),
+                Err(failure) => Err(failure),
             }
         }
         Err(failure) => {
@@ -146,47 +142,6 @@ fn serve_all<
     let done = hold_all(rt, alloc, plan, hub, minutes.as_ref(), tasks)?;
     let all = take_back(alloc, share, done)?;
     Ok((all, unlocked(minutes)))
-}
-
-// Writes the transcript of a journal, with the reductions in the order of their edits.
-fn write_in_order<W: Write>(
-    alloc: Global,
-    journal: &[Edit],
-    claims: Vec<Claimed>,
-    writer: &mut W,
-) -> Result<(), Fault>
-    requires accepted { AreAccepted greatest journal.now }
-    requires all_true { All (IsTrueClaim journal.now) claims.items }
-    ensures { Writes journal.now claims.items (W.contents writer.old) (W.contents writer.new) result }
-{
-    let mut claims = claims;
-    let Ok(()) = in_order(&mut claims) else {
-        return Err(Fault::NoMemory);
-    };
-    write_transcript(alloc, journal, &claims, writer)
-}
-
-// Closes a hub and writes its transcript, and ends its minutes. A call drops the vector, as one above drops the hub: the proof of a body that does so
-// by itself is long.
-fn write_closed<N: Means<Six>, K: Begun, V: Write + Drop, W: Write>(
-    alloc: Global,
-    hub: Hub<Six, N>,
-    share: Share<N>,
-    claims: Vec<Claimed>,
-    minutes: Option<Minutes<N, V, K>>,
-    writer: &mut W,
-) -> (Result<(), Fault>, Result<(), Fault>)
-    requires parts { share.parts ≡ N.parts }
-    requires all_true { All (IsTrueClaim share.seen) claims.items }
-    ensures written { WritesClosed N.limits share claims.items (W.contents writer.old) (W.contents writer.new) result.0 }
-    ensures fault { IfErr result.1 (λ fault. fault ≡ Fault.WriteFault) }
-{
-    let share = shown(&minutes, share);
-    let live = hub.close(share);
-    let written = write_in_order(alloc, live.journal(), claims, writer);
-    let ended = end_minutes(minutes, live.journal());
-    drop(live);
-    (written, ended)
 }
 
 // Holds all sessions, with workers beside them, which end when the last session has ended. Where no thread can be made for the

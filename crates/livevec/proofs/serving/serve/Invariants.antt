@@ -1,4 +1,5 @@
 use Rattle.std.proofs.Common.{Some}
+use Rattle.livevec.specs.Starting.{start_of}
 use Rattle.livevec.proofs.serving.serve.Given as goal
 
 abbrev pub ghosts-serve_as-N-Ledger : goal.ghosts-serve_as-N-Ledger
@@ -9,3 +10,6 @@ ghosts-serve_as-N-Naming g a = record { limits = a.plan.limits; history = a.open
 
 abbrev pub ghosts-serve_as-N-Means : goal.ghosts-serve_as-N-Means
 ghosts-serve_as-N-Means g a = record { body = Some a.body }
+
+abbrev pub ghosts-serve_as-K-Begun : goal.ghosts-serve_as-K-Begun
+ghosts-serve_as-K-Begun g a = record { start = start_of g.V.Write.contents a.file }

@@ -1,13 +1,14 @@
 use Rattle.std.proofs.Common.{◌∙◌, arith}
-use Rattle.livevec.proofs.ServedLaws.{all_held_by, begun_as_many, if_ok}
+use Rattle.livevec.proofs.ServedLaws.{all_held_by, begun_as_many}
 use Rattle.livevec.proofs.serving.serve_all.Goals as goal
 
 -- as many parts come back as were cut off
 pub returns-clause-parts : goal.returns-clause-parts
 returns-clause-parts g c =
     let many = begun_as_many _ _ c.args.streams.items c.in_ok-tasks.ensures.begun in
-    if_ok c.take_back.result (λ all back. omega (arith, back.parts, c.in_ok-done.ensures.len, many, c.in_ok-tasks.ensures.parts, c.requires.parts, c.args.streams.ok.0)) c.take_back.ensures
+    let back = c.in_ok-all.ensures in
+    omega (arith, back.parts, c.in_ok-done.ensures.len, many, c.in_ok-tasks.ensures.parts, c.requires.parts, c.args.streams.ok.0)
 
 pub returns-clause-held : goal.returns-clause-held
 returns-clause-held g c =
-    if_ok c.take_back.result (λ all back. all_held_by _ g.N.Naming.limits _ _ c.args.streams.items _ _ _ _ c.in_ok-tasks.ensures.begun c.in_ok-done.ensures back (c.in_ok-tasks.ensures.count ∙ c.requires.count)) c.take_back.ensures
+    all_held_by _ g.N.Naming.limits _ _ c.args.streams.items _ _ _ _ c.in_ok-tasks.ensures.begun c.in_ok-done.ensures c.in_ok-all.ensures (c.in_ok-tasks.ensures.count ∙ c.requires.count)

@@ -3,7 +3,7 @@ use Rattle.std.proofs.lemmas.List.Elements.{All-same}
 use Rattle.std.proofs.lemmas.List.Sorted.{All-permutation}
 use Rattle.lv_transcript.specs.Transcript.{AreInOrder, IsTrueClaim}
 use Rattle.livevec.proofs.ServedLaws.{ordered_text, writes_so}
-use Rattle.livevec.proofs.serving.write_in_order.Goals as goal
+use Rattle.livevec.proofs.closing.write_in_order.Goals as goal
 
 -- the text is that of the claims in their order, in which they are as true
 pub returns : goal.returns

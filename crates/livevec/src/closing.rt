@@ -1,0 +1,70 @@
+//! A hub is closed, its transcript written, and its minutes ended.
+
+ghost use Rattle.std.specs.Prelude.{◌≡◌, ◌⊎◌, All, Err, IfErr, IfOk, Ok};
+ghost use Rattle.lv_transcript.specs.Transcript.{AreAccepted, IsTrueClaim, greatest};
+ghost use Rattle.livevec.specs.Writing.{FailsToClose, Writes, WritesClosed};
+
+use crate::failures::Failure;
+use crate::minuted::{end_minutes, shown};
+use lv_bodies::Six;
+use lv_edits::Edit;
+use lv_hub::{Begun, Hub, Means, Minutes, Share, in_order};
+use lv_script::{Claimed, Fault, write_transcript};
+use std::alloc::Global;
+use std::io::Write;
+
+/// Closes a hub and writes its transcript, and ends its minutes. The transcript's fault comes before that of the minutes. A call drops
+/// the vector, as one above drops the hub: the proof of a body that does so by itself is long.
+pub fn write_closed<N: Means<Six>, K: Begun, V: Write + Drop, W: Write>(
+    alloc: Global,
+    hub: Hub<Six, N>,
+    share: Share<N>,
+    claims: Vec<Claimed>,
+    minutes: Option<Minutes<N, V, K>>,
+    writer: &mut W,
+) -> Result<(), Failure>
+    requires parts { share.parts ≡ N.parts }
+    requires all_true { All (IsTrueClaim share.seen) claims.items }
+    ensures written { IfOk result (λ done. WritesClosed N.limits share claims.items (W.contents writer.old) (W.contents writer.new) (Ok done)) }
+    ensures failed { IfErr result (λ failure. FailsToClose N.limits share claims.items (W.contents writer.old) (W.contents writer.new) failure.fault) }
+{
+    let share = shown(&minutes, share);
+    let live = hub.close(share);
+    let written = write_in_order(alloc, live.journal(), claims, writer);
+    let ended = end_minutes(minutes, live.journal());
+    drop(live);
+    first_failure(written, ended)
+}
+
+// Writes the transcript of a journal, with the reductions in the order of their edits.
+fn write_in_order<W: Write>(
+    alloc: Global,
+    journal: &[Edit],
+    claims: Vec<Claimed>,
+    writer: &mut W,
+) -> Result<(), Fault>
+    requires accepted { AreAccepted greatest journal.now }
+    requires all_true { All (IsTrueClaim journal.now) claims.items }
+    ensures { Writes journal.now claims.items (W.contents writer.old) (W.contents writer.new) result }
+{
+    let mut claims = claims;
+    let Ok(()) = in_order(&mut claims) else {
+        return Err(Fault::NoMemory);
+    };
+    write_transcript(alloc, journal, &claims, writer)
+}
+
+// What failed first: the transcript on standard output, or else its file.
+fn first_failure(written: Result<(), Fault>, ended: Result<(), Fault>) -> Result<(), Failure>
+    requires late { IfErr ended (λ fault. fault ≡ Fault.WriteFault) }
+    ensures well { IfOk result (λ done. written ≡ Ok done) }
+    ensures failed { IfErr result (λ failure. (written ≡ Err failure.fault) ⊎ ((written ≡ Ok tt) × (failure.fault ≡ Fault.WriteFault))) }
+{
+    match written {
+        Ok(()) => match ended {
+            Ok(()) => Ok(()),
+            Err(fault) => Err(Failure::transcript(fault)),
+        },
+        Err(fault) => Err(Failure::standard(fault)),
+    }
+}
