@@ -165,6 +165,9 @@ fn make_room(store: &mut Store, journal: &mut Vec<Edit>, cells: u32) -> Result<(
     if journal.reserve(1).is_err() {
         return Err(Refusal::NoMemory);
     }
+    if cells <= capacity(store.buckets()) {
+        return Ok(());
+    }
     store.open_to(cells)
 }
 
