@@ -265,12 +265,24 @@ impl<B: Body> Live<B> {
         ensures idle { result < jobs → IsNextJob (recorded self.new) None }
         ensures remembers { Remembers self.old self.new }
     {
-        for done in 0..jobs {
+        let swept = self.take_block_turns(jobs);
+        for done in swept..jobs {
             if !self.take_turn() {
                 return done;
             }
         }
         jobs
+    }
+
+    // Takes turns of blocks, at most so many, while many that lie side by side want a job.
+    #[inline(always)]
+    fn take_block_turns(&mut self, jobs: u32) -> u32
+        ensures turns { TakesTurns (B.operations (B.meaning self.old.body)) self.old self.new result }
+        ensures most { result ≤ jobs }
+        ensures remembers { Remembers self.old self.new }
+    {
+        self.claims
+            .refresh_blocks(&self.cells, &mut self.table, &self.body, jobs)
     }
 
     // Claims the least node that wants a job, computes its summary where its contents lie, and installs that. Tells whether a node

@@ -8,6 +8,7 @@ mod NextLaws
 mod OverLaws
 mod PickLaws
 mod RowLaws
+mod SweepLaws
 mod TurnLaws
 pub mod HonestyLaws
 pub mod RecordLaws

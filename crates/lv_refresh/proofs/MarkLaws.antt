@@ -120,6 +120,19 @@ least_of_word word some small =
 pub word_inside : (words : List ℕ) (i : ℕ) → i < 64 * length words → i / 64 < length words
 word_inside words i room = omega arith
 
+-- a word of zeros has no mark, and the marks of the others stay
+pub is_marked-cleared : (words : List ℕ) (k j : ℕ) → k < length words → is_marked (set words k 0) j ≡ not (nat_eq (j / 64) k) && is_marked words j
+is_marked-cleared words k j inside =
+    elim (cases_eq (j / 64) k) [
+      | inl same ↦
+          marked_by (set words k 0) j 0 (ap (λ i. get_or (set words k 0) i 0) same ∙ get_or-set_same words k 0 0 inside)
+          ∙ ap (λ b. nat_eq b 1) (bit_at-zero (j % 64))
+          ∙ sym (ap (λ here. not here && is_marked words j) (eq-eqb (j / 64) k same))
+      | inr other ↦
+          marked_by (set words k 0) j (get_or words (j / 64) 0) (get_or-set_other words k (j / 64) 0 0 other)
+          ∙ sym (ap (λ here. not here && is_marked words j) (ne_eqb (j / 64) k other))
+    ]
+
 -- the numbers below the next one are those below a number, and it
 pub below_next : (j i : ℕ) (marked : Bool) → nat_eq j i || (nat_lt j i || marked) ≡ nat_lt j (i + 1) || marked
 below_next j i marked =

@@ -219,13 +219,13 @@ module _ (words over : List ℕ) (marks : AreMarks words over) where
         over_is = AreOver-keep over words marks.over_is (i / 64) word inside (λ none. some (is ∙ none)) (marked_word w (i % 64) (omega arith));
       }
 
-  -- when a mark is taken away and its word has no other
-  pub AreMarks-clear : (next : List ℕ) (i word : ℕ) → i / 64 < length words → word ≡ 0 → length next ≡ length over → ((j : ℕ) → is_marked next j ≡ not (nat_eq j (i / 64)) && is_marked over j) → AreMarks (set words (i / 64) word) next
-  AreMarks-clear next i word inside none long marked =
+  -- when the last marks of a word are taken away
+  pub AreMarks-clear : (next : List ℕ) (k word : ℕ) → k < length words → word ≡ 0 → length next ≡ length over → ((j : ℕ) → is_marked next j ≡ not (nat_eq j k) && is_marked over j) → AreMarks (set words k word) next
+  AreMarks-clear next k word inside none long marked =
       record {
-        few = omega (arith, length-set words (i / 64) word, marks.few);
-        room = omega (arith, length-set words (i / 64) word, marks.room);
-        over_is = AreOver-clear over words marks.over_is next (i / 64) word inside none marked;
+        few = omega (arith, length-set words k word, marks.few);
+        room = omega (arith, length-set words k word, marks.room);
+        over_is = AreOver-clear over words marks.over_is next k word inside none marked;
       }
 
   -- and when its word has others

@@ -33,7 +33,7 @@ wants_in-outside t claimed n stranger =
     ]
 
 -- a node wants no job at the version at which it is claimed
-wants_in-claimed : {S : Type 0} (t : Table S) (version : ℕ) (n : Node) → version ≡ touched_in t n → wants_in t (Some version) n ≡ false
+pub wants_in-claimed : {S : Type 0} (t : Table S) (version : ℕ) (n : Node) → version ≡ touched_in t n → wants_in t (Some version) n ≡ false
 wants_in-claimed t version n is =
     let claimed : not (is_version (touched_in t n) (Some version)) ≡ false = ap not (eq-eqb version (touched_in t n) is) in
     and_left _ (nat_eq n.level 1 || children_fresh_in t n) (and_right (whole_in t n && not (fresh_in t n)) _ claimed)

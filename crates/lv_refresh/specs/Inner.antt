@@ -1,5 +1,5 @@
 -- What the fields of the crate's types keep, and how one level of claims is seen and changed.
-use Rattle.std.specs.Prelude.{◌≡◌, ℕ, ◌+◌, ◌-◌, ◌*◌, ◌^◌, ◌<◌, ◌≤◌, Bool, true, false, ◌&&◌, ◌||◌, not, Option, Some, None, List, [], ◌∷◌, ◌++◌, length, replicate, slice_get, slice_index, slice_set, sum, nat_eq, if◌then◌else◌}
+use Rattle.std.specs.Prelude.{◌≡◌, ℕ, ◌+◌, ◌-◌, ◌*◌, ◌/◌, ◌^◌, ◌<◌, ◌≤◌, Bool, true, false, ◌&&◌, ◌||◌, not, Option, Some, None, List, [], ◌∷◌, ◌++◌, length, replicate, slice_get, slice_index, slice_set, sum, nat_eq, if◌then◌else◌}
 use Rattle.std.specs.List.{list_all, range_with_len, slice_index_or}
 use Rattle.lv_geometry.specs.declared.levels.Levels.{Levels}
 use Rattle.lv_geometry.specs.declared.nodes.Node.{Node}
@@ -82,6 +82,12 @@ pub record UnhintsAt (old new : ClaimRows) (number : ℕ) : Type 0 where
   pub hints : (k : ℕ) → is_marked new.hints k ≡ (not (nat_eq k number) && is_marked old.hints k)
   pub room : length new.hints ≡ length old.hints
   pub lighter : is_marked old.hints number ≡ true → sum new.hints < sum old.hints
+
+-- the hints at the 64 nodes of a word are taken away, and nothing else has changed
+pub record UnhintsWord (old new : ClaimRows) (word : ℕ) : Type 0 where
+  pub claimed : new.claimed ≡ old.claimed
+  pub hints : (k : ℕ) → is_marked new.hints k ≡ (not (nat_eq (k / 64) word) && is_marked old.hints k)
+  pub room : length new.hints ≡ length old.hints
 
 -- no row is claimed, and each is hinted at
 pub record ForgetsClaims (old new : ClaimRows) : Type 0 where

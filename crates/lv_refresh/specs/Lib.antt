@@ -8,3 +8,4 @@ pub mod Inner
 pub mod Marks
 pub mod Record
 pub mod Refreshed
+pub mod Sweep

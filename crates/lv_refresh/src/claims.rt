@@ -11,6 +11,8 @@ ghost use Rattle.lv_refresh.specs.Honesty.{Stands};
 ghost use Rattle.lv_refresh.specs.Refreshed.{RefreshesNext};
 ghost use Rattle.lv_refresh.specs.Inner.{AreFilled, CanServe, GivesNext, HaveRoom, HaveSameRows, HintsNode, HintsWants, IsJobOf, ServesNext, children_fresh_in};
 
+mod sweeps;
+
 use crate::computing::refresh_node;
 use crate::contents::Contents;
 use crate::gathering::children_of;

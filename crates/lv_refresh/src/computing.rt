@@ -1,6 +1,7 @@
-ghost use Rattle.std.specs.Prelude.{◌≡◌, ◌+◌, ◌*◌, ◌<◌, true};
+ghost use Rattle.std.specs.Prelude.{◌≡◌, ◌+◌, ◌*◌, ◌/◌, ◌<◌, length, true, slice_range};
 ghost use Rattle.lv_geometry.specs.Nodes.{is_below, parent};
 ghost use Rattle.lv_bodies.specs.Body.{fold_of};
+ghost use Rattle.lv_edits.specs.History.{list_of};
 ghost use Rattle.lv_edits.specs.Touch.{elements_under};
 ghost use Rattle.lv_known.specs.Agrees.{Agrees};
 ghost use Rattle.lv_summary.specs.declared.accepted.Accepted.TheVariants.{Installed};
@@ -119,6 +120,29 @@ fn fold_block<B: Body>(cells: &Edits, _table: &Summaries<B::S>, body: &B, block:
     }
     let elements = cells.block(block.number);
     fold_slice(body, &elements)
+}
+
+/// The fold of the elements of a whole block. `near` are elements from the first of its word of 64 blocks on, as far as they lie side
+/// by side; those of the block are among them, but for a bucket's end or a pending write.
+#[inline(always)]
+pub fn fold_near<B: Body>(
+    cells: &Edits,
+    table: &Summaries<B::S>,
+    body: &B,
+    near: &[i64],
+    block: Node,
+) -> B::S
+    requires agrees { Agrees (B.operations (B.meaning body.now)) cells.now.journal table.now }
+    requires whole { whole_in table.now block ≡ true }
+    requires level { block.level ≡ 1 }
+    requires near { near.now ≡ slice_range (list_of cells.now.journal) (512 * (block.number / 64)) (512 * (block.number / 64) + length near.now) }
+    ensures { result ≡ fold_of (B.operations (B.meaning body.now)) (elements_under cells.now.journal block) }
+{
+    let from = block.number as usize % 64 * 8;
+    match near.get(from..from + 8) {
+        Some(elements) => fold_slice(body, elements),
+        None => fold_block(cells, table, body, block),
+    }
 }
 
 // The join of the summaries of a whole node's children, from left to right.

@@ -1,11 +1,12 @@
-ghost use Rattle.std.specs.Prelude.{◌≡◌, ◌+◌, ◌*◌, ◌<◌, ◌≤◌, length, slice_index, IfSome, IfNone, OnOk, IfErr, ℕ, false};
+ghost use Rattle.std.specs.Prelude.{◌≡◌, ◌+◌, ◌-◌, ◌*◌, ◌^◌, ◌<◌, ◌≤◌, length, nat_eq, slice_index, IfSome, IfNone, OnOk, IfErr, ℕ, false};
 ghost use Rattle.lv_refresh.specs.Claimed.{no_claims, version_of};
-ghost use Rattle.lv_refresh.specs.Inner.{FillsClaims, ForgetsClaims, HintsAt, IsFirstHint, UnhintsAt, with_claim};
+ghost use Rattle.lv_refresh.specs.Inner.{FillsClaims, ForgetsClaims, HintsAt, IsFirstHint, UnhintsAt, UnhintsWord, with_claim};
 ghost use Rattle.lv_refresh.specs.Marks.{is_marked};
 ghost use Rattle.lv_refresh.specs.Record.{is_version};
 
 use crate::marks::Marks;
 use lv_geometry::Refusal;
+use lv_summary::LateRows;
 use std::alloc::Global;
 use std::marker::Model;
 
@@ -13,17 +14,19 @@ use std::marker::Model;
 /// those nodes that may want a job.
 #[derive(Drop)]
 pub struct Level {
-    claimed: Vec<u32>,
+    claimed: LateRows<u32>,
     hints: Marks,
 }
 
 impl Model for Level {
-    ghost use Rattle.std.specs.Prelude.{min, vec_capacity};
+    ghost use Rattle.std.specs.Prelude.{◌≡◌, min};
     ghost use Rattle.lv_refresh.specs.Inner.{ClaimLevelState};
 
     ghost Value = { ClaimLevelState };
 
-    ghost view = { λ a. record { rows = record { claimed = a.claimed.items; hints = a.hints.words }; capacity = min (vec_capacity a.claimed) a.hints.capacity } };
+    ghost view = { λ a. record { rows = record { claimed = a.claimed.items; hints = a.hints.words }; capacity = min a.claimed.capacity a.hints.capacity } };
+
+    ghost invariant = { λ a. a.claimed.blank ≡ 0 };
 }
 
 impl Level {
@@ -32,7 +35,7 @@ impl Level {
         ensures { result.rows ≡ no_claims }
     {
         Level {
-            claimed: Vec::new(alloc),
+            claimed: LateRows::new(alloc, 0),
             hints: Marks::new(alloc),
         }
     }
@@ -50,8 +53,9 @@ impl Level {
         ensures ok { OnOk result (rows ≤ self.new.capacity) }
         ensures err { IfErr result (λ refusal. refusal ≡ Refusal.NoMemory) }
     {
-        let more = (rows as usize).saturating_sub(self.claimed.len());
-        self.claimed.reserve(more).map_err(|_| Refusal::NoMemory)?;
+        if !self.claimed.reserve(rows as usize) {
+            return Err(Refusal::NoMemory);
+        }
         self.hints.reserve(rows)
     }
 
@@ -61,10 +65,7 @@ impl Level {
         requires few { rows ≤ 131071 }
         ensures { FillsClaims self.old.rows self.new.rows rows }
     {
-        let length = self.claimed.len().max(rows as usize);
-        let Ok(()) = self.claimed.resize(length, 0) else {
-            unreachable!()
-        };
+        self.claimed.fill(rows as usize);
         self.hints.grow(rows);
     }
 
@@ -86,6 +87,23 @@ impl Level {
         self.hints.clear(number);
     }
 
+    /// Takes the hints at 64 nodes away, those of a word.
+    #[inline(always)]
+    pub fn unhint_word(&mut self, word: u32)
+        requires { word < length self.old.rows.hints }
+        ensures { UnhintsWord self.old.rows self.new.rows word }
+    {
+        self.hints.clear_word(word);
+    }
+
+    /// Whether each of 64 nodes is hinted at, those of a word.
+    #[inline(always)]
+    pub fn has_word(&self, word: u32) -> bool
+        ensures { result ≡ nat_eq (slice_index self.now.rows.hints word) (2 ^ 64 - 1) }
+    {
+        self.hints.has_word(word)
+    }
+
     /// The least node that is hinted at.
     #[inline(always)]
     pub fn first_hint(&self) -> Option<u32>
@@ -102,7 +120,7 @@ impl Level {
         requires version { version ≤ 16777215 }
         ensures { result ≡ is_version version (version_of (slice_index self.now.rows.claimed number)) }
     {
-        self.claimed[number as usize] == version + 1
+        self.claimed.at(number as usize) == version + 1
     }
 
     /// Notes that a node was claimed at a version.
@@ -111,14 +129,14 @@ impl Level {
         requires version { version ≤ 16777215 }
         ensures { self.new.rows ≡ with_claim self.old.rows number version }
     {
-        self.claimed[number as usize] = version + 1;
+        self.claimed.set(number as usize, version + 1);
     }
 
     /// Makes every claim void, and hints at every node.
     pub fn forget(&mut self)
         ensures { ForgetsClaims self.old.rows self.new.rows }
     {
-        self.claimed.fill(0);
+        self.claimed.forget();
         self.hints.set_all();
     }
 }

@@ -1,5 +1,5 @@
 //! A set of small numbers, whose least is found in three steps: the words that have a mark are a set of few numbers.
-ghost use Rattle.std.specs.Prelude.{◌≡◌, ℕ, ◌*◌, ◌<◌, ◌≤◌, ◌&&◌, ◌||◌, not, true, false, [], length, sum, nat_eq, OnOk, IfErr, IfSome, IfNone};
+ghost use Rattle.std.specs.Prelude.{◌≡◌, ℕ, ◌-◌, ◌*◌, ◌/◌, ◌^◌, ◌<◌, ◌≤◌, ◌&&◌, ◌||◌, not, true, false, [], length, sum, nat_eq, slice_index, OnOk, IfErr, IfSome, IfNone};
 ghost use Rattle.lv_refresh.specs.Marks.{is_marked};
 
 use crate::few_marks::FewMarks;
@@ -92,6 +92,25 @@ impl Marks {
         if rest == 0 {
             self.over.clear(i / 64);
         }
+    }
+
+    /// Takes the marks of 64 numbers away, those of a word.
+    #[inline(always)]
+    pub fn clear_word(&mut self, word: u32)
+        requires { word < length self.old.words }
+        ensures marks { (j : ℕ) → is_marked self.new.words j ≡ (not (nat_eq (j / 64) word) && is_marked self.old.words j) }
+        ensures room { length self.new.words ≡ length self.old.words }
+    {
+        self.words[word as usize] = 0;
+        self.over.clear(word);
+    }
+
+    /// Whether each of 64 numbers is marked, those of a word.
+    #[inline(always)]
+    pub fn has_word(&self, word: u32) -> bool
+        ensures { result ≡ nat_eq (slice_index self.now.words word) (2 ^ 64 - 1) }
+    {
+        self.words.get(word as usize).copied().unwrap_or(0) == u64::MAX
     }
 
     /// Marks every number that there is room for.

@@ -26,9 +26,9 @@ set_early front count blank number x inside =
     ap (λ k. set front number x ++ replicate (count - k) blank) (length-set front number x)
     ∙ sym (set-append_left front (replicate (count - length front) blank) number x inside)
 
--- so is one that is put behind the front, once blanks were written up to it
-pub set_late : {A : Type 0} (front : List A) (count : ℕ) (blank : A) (number : ℕ) (x : A) → length front ≤ number → number < count → lengthened (set (lengthened front (number + 1) blank) number x) count blank ≡ set (lengthened front count blank) number x
-set_late front count blank number x behind inside =
-    let greater : max (number + 1) count ≡ count = omega (arith, inside) in
-    set_early (lengthened front (number + 1) blank) count blank number x (omega (arith, length-lengthened front (number + 1) blank))
-    ∙ ap (λ ys. set ys number x) (lengthened_twice front (number + 1) count blank (omega (arith, behind)) ∙ ap (λ k. lengthened front k blank) greater)
+-- so is one that is put behind the front, once blanks were written past it
+pub set_late : {A : Type 0} (front : List A) (count : ℕ) (blank : A) (number written : ℕ) (x : A) → length front ≤ number → number < written → written ≤ count → lengthened (set (lengthened front written blank) number x) count blank ≡ set (lengthened front count blank) number x
+set_late front count blank number written x behind past inside =
+    let greater : max written count ≡ count = omega (arith, inside) in
+    set_early (lengthened front written blank) count blank number x (omega (arith, length-lengthened front written blank))
+    ∙ ap (λ ys. set ys number x) (lengthened_twice front written count blank (omega (arith, behind)) ∙ ap (λ k. lengthened front k blank) greater)

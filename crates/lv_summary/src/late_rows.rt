@@ -1,4 +1,4 @@
-ghost use Rattle.std.specs.Prelude.{◌≡◌, ◌<◌, ◌≤◌, [], length, true, slice_get, slice_set, Some, vec_capacity};
+ghost use Rattle.std.specs.Prelude.{◌≡◌, ◌<◌, ◌≤◌, [], length, replicate, true, slice_get, slice_set, Some, vec_capacity};
 ghost use Rattle.lv_summary.specs.Inner.{lengthened};
 
 use std::alloc::Global;
@@ -55,6 +55,21 @@ impl<S: Copy> LateRows<S> {
         self.count = self.count.max(items);
     }
 
+    /// How many items there are.
+    pub fn len(&self) -> usize
+        ensures { result ≡ length self.now.items }
+    {
+        self.count
+    }
+
+    /// Makes every item blank. Writes none of them.
+    pub fn forget(&mut self)
+        ensures items { self.new.items ≡ replicate (length self.old.items) self.old.blank }
+        ensures blank { self.new.blank ≡ self.old.blank }
+    {
+        self.front.clear();
+    }
+
     /// The item at a number.
     #[inline(always)]
     pub fn at(&self, number: usize) -> S
@@ -72,7 +87,7 @@ impl<S: Copy> LateRows<S> {
         ensures blank { self.new.blank ≡ self.old.blank }
     {
         if number >= self.front.len() {
-            write_blanks(&mut self.front, number + 1, self.blank);
+            write_blanks(&mut self.front, self.count.min(number + 64), self.blank);
         }
         self.front[number] = s;
     }

@@ -13,17 +13,19 @@ use std::marker::Model;
 pub struct Level<S> {
     touched: Vec<u32>,
     stamps: Vec<u32>,
-    computed: Vec<u32>,
+    computed: LateRows<u32>,
     kept: LateRows<S>,
 }
 
 impl<S> Model for Level<S> {
-    ghost use Rattle.std.specs.Prelude.{min, vec_capacity};
+    ghost use Rattle.std.specs.Prelude.{◌≡◌, min, vec_capacity};
     ghost use Rattle.lv_summary.specs.Inner.{LevelState};
 
     ghost Value = { LevelState S };
 
-    ghost view = { λ a. record { rows = record { touched = a.touched.items; stamps = a.stamps.items; computed = a.computed.items; kept = a.kept.items }; capacity = min (min (vec_capacity a.touched) (vec_capacity a.stamps)) (min (vec_capacity a.computed) a.kept.capacity); blank = a.kept.blank } };
+    ghost view = { λ a. record { rows = record { touched = a.touched.items; stamps = a.stamps.items; computed = a.computed.items; kept = a.kept.items }; capacity = min (min (vec_capacity a.touched) (vec_capacity a.stamps)) (min a.computed.capacity a.kept.capacity); blank = a.kept.blank } };
+
+    ghost invariant = { λ a. a.computed.blank ≡ 0 };
 }
 
 impl<S: Copy> Level<S> {
@@ -35,7 +37,7 @@ impl<S: Copy> Level<S> {
         Level {
             touched: Vec::new(alloc),
             stamps: Vec::new(alloc),
-            computed: Vec::new(alloc),
+            computed: LateRows::new(alloc, 0),
             kept: LateRows::new(alloc, blank),
         }
     }
@@ -57,7 +59,7 @@ impl<S: Copy> Level<S> {
         let rows = rows as usize;
         if make_room(&mut self.touched, rows)
             && make_room(&mut self.stamps, rows)
-            && make_room(&mut self.computed, rows)
+            && self.computed.reserve(rows)
             && self.kept.reserve(rows)
         {
             Ok(())
@@ -73,7 +75,7 @@ impl<S: Copy> Level<S> {
     {
         lengthen(&mut self.touched, rows as usize, 0);
         lengthen(&mut self.stamps, rows as usize, 0);
-        lengthen(&mut self.computed, rows as usize, 0);
+        self.computed.fill(rows as usize);
         self.kept.fill(rows as usize);
     }
 
@@ -126,7 +128,7 @@ impl<S: Copy> Level<S> {
     {
         let number = number as usize;
         let stamp = self.touched[number] + 1;
-        self.stamps[number] == stamp || self.computed[number] == stamp
+        self.stamps[number] == stamp || self.computed.at(number) == stamp
     }
 
     /// The summary in the row of a node.
@@ -159,7 +161,7 @@ impl<S: Copy> Level<S> {
         ensures { self.new.rows ≡ with_learnt self.old.rows number s }
     {
         let number = number as usize;
-        self.computed[number] = self.touched[number] + 1;
+        self.computed.set(number, self.touched[number] + 1);
         self.kept.set(number, s);
     }
 

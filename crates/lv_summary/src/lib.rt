@@ -12,4 +12,5 @@ mod level;
 mod summaries;
 
 pub use accepted::Accepted;
+pub use late_rows::LateRows;
 pub use summaries::Summaries;

@@ -1,10 +1,10 @@
 use Rattle.std.proofs.Common.{◌∙◌, refl}
-use Rattle.lv_live.proofs.RefreshLaws.{turns_next, turns_none}
+use Rattle.lv_live.proofs.RefreshLaws.{turns_next}
 use Rattle.lv_live.proofs.RememberLaws.{remembers_then}
 use Rattle.lv_live.proofs.live.Live.take_turns.Goals as goal
 
 pub loop-done-init : goal.loop-done-init
-loop-done-init g c = (turns_none (g.B.Body.operations (g.B.Body.meaning c.args.self.now.body)) c.args.self.now, λ n known whole touched. known)
+loop-done-init g c = (c.take_block_turns-swept.ensures.turns, c.take_block_turns-swept.ensures.remembers)
 
 pub loop-done-preserved : goal.loop-done-preserved
 loop-done-preserved g c =

@@ -1,3 +1,4 @@
+use Rattle.std.proofs.Common.{◌/◌}
 use Rattle.std.proofs.lemmas.List.{get_or_read}
 use Rattle.lv_refresh.proofs.MarkLaws.{clear_lighter, is_marked-clear, word_inside}
 use Rattle.lv_refresh.proofs.OverLaws.{AreMarks-clear}
@@ -7,7 +8,7 @@ pub invariant_of-self : goal.invariant_of-self
 invariant_of-self c =
     let words = c.self.inside.words.items in
     let inside = word_inside words c.args.i (rw (← c.self.view_is) at c.requires) in
-    AreMarks-clear words c.self.inside.over.words c.self.invariant c.clear.new.self.words c.args.i _ inside c.if-rest-eq0.true c.clear.ensures.room c.clear.ensures.marks
+    AreMarks-clear words c.self.inside.over.words c.self.invariant c.clear.new.self.words (c.args.i / 64) _ inside c.if-rest-eq0.true c.clear.ensures.room c.clear.ensures.marks
 
 pub returns-then-rest-eq0-clause-marks : goal.returns-then-rest-eq0-clause-marks
 returns-then-rest-eq0-clause-marks c =

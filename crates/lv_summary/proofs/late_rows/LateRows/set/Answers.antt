@@ -17,7 +17,7 @@ returns-clause-items g c =
       | then-number-len w ↦
           ap (λ of. lengthened (slice_set of.front.items c.args.number c.args.s) of.count of.blank) w.self-inside-is
           ∙ ap (λ xs. lengthened (slice_set xs c.args.number c.args.s) count blank) w.write_blanks.ensures.items
-          ∙ set_late front count blank c.args.number c.args.s (omega (arith, w.if-number-len.true, c.len.ensures)) (omega (arith, long, same, c.requires))
+          ∙ set_late front count blank c.args.number w.min.result c.args.s (omega (arith, w.if-number-len.true, c.len.ensures)) (omega (arith, long, same, c.requires, w.min.ensures)) (omega (arith, w.min.ensures))
           ∙ seen
       | else-number-len w ↦
           ap (λ of. lengthened (slice_set of.front.items c.args.number c.args.s) of.count of.blank) w.self-inside-is

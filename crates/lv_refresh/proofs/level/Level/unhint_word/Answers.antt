@@ -1,0 +1,5 @@
+use Rattle.std.proofs.Common.{refl}
+use Rattle.lv_refresh.proofs.level.Level.unhint_word.Goals as goal
+
+pub returns : goal.returns
+returns c = rw (← c.self.view_is) record { claimed = refl; hints = c.clear_word.ensures.marks; room = c.clear_word.ensures.room }

@@ -1,0 +1,11 @@
+use Rattle.std.proofs.Common.{refl}
+use Rattle.lv_refresh.proofs.MarkLaws.{is_marked-cleared}
+use Rattle.lv_refresh.proofs.OverLaws.{AreMarks-clear}
+use Rattle.lv_refresh.proofs.marks.Marks.clear_word.Goals as goal
+
+pub invariant_of-self : goal.invariant_of-self
+invariant_of-self c =
+    AreMarks-clear c.self.inside.words.items c.self.inside.over.words c.self.invariant c.clear.new.self.words c.args.word 0 (rw (← c.self.view_is) at c.requires) refl c.clear.ensures.room c.clear.ensures.marks
+
+pub returns-clause-marks : goal.returns-clause-marks
+returns-clause-marks c = λ j. rw (← c.self.view_is) (is_marked-cleared c.self.inside.words.items c.args.word j (rw (← c.self.view_is) at c.requires))
