@@ -18,9 +18,12 @@ use Rattle.lv_refresh.specs.Claim.{IsNextJob}
 use Rattle.lv_refresh.specs.Claimed.{ClaimTable, claim_blocks, claimed_in, is_hinted}
 use Rattle.lv_refresh.specs.Contents.{fold_of_contents}
 use Rattle.lv_refresh.specs.Honesty.{IsHonest, Stands, Vouched}
+use Rattle.lv_refresh.specs.Inner.{IsReady}
 use Rattle.lv_refresh.proofs.HonestyLaws.{fold_of_standing, honest_at_claim, honest_same}
+use Rattle.lv_refresh.proofs.RecordLaws.{children_agree}
+use Rattle.lv_live.specs.Follows.{ClaimsHear}
 use Rattle.lv_live.specs.Kept.{IsLive}
-use Rattle.lv_live.specs.State.{HasClaim, HasDelivery, LiveState, node_and_version, recorded}
+use Rattle.lv_live.specs.State.{CanRemake, HasClaim, HasDelivery, LiveState, node_and_version, recorded}
 use Rattle.lv_live.proofs.LiveLaws.{live_after_install}
 
 -- the parent of a node was hinted, and nothing else has changed
@@ -74,6 +77,30 @@ module _ {B S : Type 0} (o : Operations S) (within : S → ℕ → Type 0) (laws
       live_after_install o s t c n v summary live keeps fold.2 fold.3 (is fold.0 ∙ fold.1)
       record { claimed = hinted.claimed; hints = λ m was. hinted.hints m ∙ or_right _ _ was; more = omega (arith, hinted.blocks) }
       (λ inside. hinted.hints (parent n) ∙ or_left _ _ (and_from _ _ inside (same_node-self (parent n))))
+
+  -- claims that heard of a delivery are those of before
+  pub claimed_heard : (c : ClaimTable) (n : Node) (accepted : Accepted) → ClaimsHear s.claims c n accepted → (m : Node) → claimed_in c m ≡ claimed_in s.claims m
+  claimed_heard c n Installed hears = hears.claimed
+  claimed_heard c n Held hears = λ m. ap (λ c. claimed_in c m) hears
+  claimed_heard c n (Stale now) hears = λ m. ap (λ c. claimed_in c m) hears
+
+  -- what can be made anew has its children's summaries where it is to be installed
+  pub ready_to_remake : (n : Node) (v : ℕ) → CanRemake (recorded s) n v → delivery_in s.table n v ≡ Installed → IsReady s.table n
+  ready_to_remake n v remake installed above =
+      let current = current_of_installed s.table n v installed in
+      children_agree o s.history.journal s.table s.claims live.agrees n
+      ∙ remake.ready (whole_agrees o s.history.journal s.table live.agrees n ∙ current.0) (sym (live.agrees.touched n remake.node) ∙ current.1) above
+
+  -- once a summary that was made anew was delivered, all is kept
+  pub live_after_anew : (t : Table S) (c : ClaimTable) (n : Node) (v : ℕ) (accepted : Accepted) → accepted ≡ delivery_in s.table n v → AfterDelivery s.table t n v (fold_of o (elements_under s.history.journal n)) accepted → ClaimsHear s.claims c n accepted
+      → IsLive o (record s { table = t; claims = c })
+  live_after_anew t c n v Installed is keeps hears =
+      let current = current_of_installed s.table n v (sym is) in
+      live_after_install o s t c n v (fold_of o (elements_under s.history.journal n)) live keeps current.0 current.1 refl
+      record { claimed = hears.claimed; hints = λ m was. hears.hints m ∙ or_right _ _ was; more = omega (arith, hears.blocks) }
+      (λ inside. hears.hints (parent n) ∙ or_left _ _ (and_from _ _ inside (same_node-self (parent n))))
+  live_after_anew t c n v Held is same hears = rw same (rw hears live)
+  live_after_anew t c n v (Stale now) is same hears = rw same (rw hears live)
 
   -- whether an outcome is vouched for, where its node is whole and was touched at its version last
   pub vouched_where : (n : Node) (v : ℕ) (contents : Contents S) (same : Type 0) (told : Bool) → whole_in s.table n ≡ true → touched_in s.table n ≡ v → same → (IsTrue told ↔ Stands o (recorded s) n contents) → IsTrue told ↔ Vouched o (recorded s) same n v contents

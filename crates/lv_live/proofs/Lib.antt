@@ -3,13 +3,13 @@ pub mod EditLaws
 pub mod EveryRunLaws
 pub mod HonestSteps
 pub mod LiveLaws
+mod LogWalks
 pub mod OneOutcomeLaws
-pub mod PlaceLaws
 pub mod PlayLaws
 pub mod QueryLaws
 mod RefreshLaws
 mod RememberLaws
 pub mod RunLaws
-pub mod VouchLaws
 mod TurnLaws
+pub mod VouchLaws
 pub mod WorldLaws

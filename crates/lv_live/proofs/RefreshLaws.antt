@@ -1,5 +1,5 @@
 -- What the loop keeps in which a vector refreshes itself.
-use Rattle.std.proofs.Common.{◌≡◌, ℕ, zero, suc, ◌+◌, ◌-◌, false, ◌&&◌, not, cond, Some, None, List, [], ◌∷◌, ◌++◌, length, map, nat_eq, slice_get, refl, subst, sym, ap, ◌∙◌, arith}
+use Rattle.std.proofs.Common.{◌≡◌, ℕ, zero, suc, ◌+◌, ◌-◌, false, ◌&&◌, not, cond, Some, None, option_map, List, [], ◌∷◌, ◌++◌, length, map, nat_eq, slice_get, refl, subst, sym, ap, ◌∙◌, arith}
 use Rattle.std.proofs.lemmas.Bool.{and_from, and_parts, cond-false, cond-true, eq-eqb, ne_eqb, not-true}
 use Rattle.std.proofs.lemmas.List.{append_assoc, length-map, length_push, map-append}
 use Rattle.lv_geometry.specs.declared.nodes.Node.{Node}
@@ -126,7 +126,7 @@ module _ {B S : Type 0} (o : Operations S) where
       let claims : Step o first.history.limits (with_issued old jobs) event.Claim (reply.Claimed (length jobs + 1) job.node job.version) (with_issued mid more) =
       step_claim o old mid (Some job) jobs next claim in
       let delivers : Step o first.history.limits (with_issued mid more) (event.Deliver (length jobs + 1)) (reply.Gave Installed) (with_issued new more) =
-      rw installed at (step_delivery o mid new (length jobs + 1) job more (job_at_end jobs job) (rw (sym installed) at delivered)) in
+      rw installed at (step_delivery o mid new (length jobs + 1) (node_and_version job) more (ap (option_map node_and_version) (job_at_end jobs job)) (rw (sym installed) at delivered)) in
       let once = run_goes_on o first.history.limits (recorded first) (with_issued old jobs) (with_issued mid more) (turns 1 n) (turn_replies 1 (map node_and_version jobs)) event.Claim (reply.Claimed (length jobs + 1) job.node job.version) turned.run claims in
       let twice = run_goes_on o first.history.limits (recorded first) (with_issued mid more) (with_issued new more) (turns 1 n ++ event.Claim ∷ []) (turn_replies 1 (map node_and_version jobs) ++ reply.Claimed (length jobs + 1) job.node job.version ∷ []) (event.Deliver (length jobs + 1)) (reply.Gave Installed) once delivers in
       let events : turns 1 n ++ event.Claim ∷ [] ++ event.Deliver (length jobs + 1) ∷ [] ≡ turns 1 (n + 1) =

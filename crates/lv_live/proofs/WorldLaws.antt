@@ -1,5 +1,5 @@
 -- The jobs of a world stay its own, whatever happens.
-use Rattle.std.proofs.Common.{◌≡◌, ◌⊎◌, ℕ, ◌+◌, ◌-◌, ◌<◌, ◌≤◌, Bool, true, false, ◌&&◌, cond, Option, Some, None, option_map, Result, Ok, Err, IfSome, List, [], ◌∷◌, ◌++◌, get_or, length, map, All, subst, nat_eq, refl, sym, ap, ◌∙◌, inl, inr}
+use Rattle.std.proofs.Common.{◌≡◌, ◌⊎◌, ℕ, ◌+◌, ◌-◌, ◌<◌, ◌≤◌, Bool, true, false, ◌&&◌, cond, Option, Some, None, option_map, Result, Ok, Err, IfSome, List, [], ◌∷◌, ◌++◌, get_or, if◌then◌else◌, length, map, All, subst, nat_eq, refl, sym, ap, ◌∙◌, inl, inr, arith}
 use Rattle.std.proofs.lemmas.List.{length-map, map-append}
 use Rattle.std.proofs.lemmas.List.Elements.{All-push}
 use Rattle.std.proofs.lemmas.Option.{none-some, same_Some, slice_get-map, slice_get_cases}
@@ -21,10 +21,12 @@ use Rattle.lv_summary.specs.declared.accepted.Accepted.{Accepted}
 use Rattle.lv_summary.specs.declared.accepted.Accepted.TheVariants.{Held, Installed, Stale}
 use Rattle.lv_reduce.specs.declared.reductions.Answer.{Answer}
 use Rattle.lv_reduce.specs.declared.scans.Scan.{Scan}
-use Rattle.lv_refresh.specs.Claim.{IsNextJob}
+use Rattle.lv_refresh.specs.declared.contents.Contents.{Contents}
+use Rattle.lv_refresh.specs.declared.contents.Contents.TheVariants.{Children, Elements}
+use Rattle.lv_refresh.specs.Claim.{IsNextJob, children_fresh}
 use Rattle.lv_refresh.specs.Carried.{Carried}
 use Rattle.lv_refresh.specs.Delivery.{delivery_of}
-use Rattle.lv_refresh.specs.Honesty.{IsHonest, Vouched}
+use Rattle.lv_refresh.specs.Honesty.{IsHonest, Stands}
 use Rattle.lv_refresh.specs.Record.{Record, SameRecord}
 use Rattle.lv_refresh.proofs.HonestyLaws.{honest_after_edit, honest_after_install, honest_same, vouched_of_honest}
 use Rattle.lv_live.specs.declared.events.Event.{Event}
@@ -32,7 +34,7 @@ use Rattle.lv_live.specs.declared.replies.Reply.{Reply}
 use Rattle.lv_live.specs.declared.events.Event.TheVariants as event
 use Rattle.lv_live.specs.declared.replies.Reply.TheVariants as reply
 use Rattle.lv_live.specs.Kept.{AllOwn, IsOwn, IsWorld}
-use Rattle.lv_live.specs.State.{HasClaim, HasDelivery, HasNoClaims, LiveState, SameLive, SameRefresh, SameSetting, job_at, jobs_with, node_and_version, recorded, with_issued}
+use Rattle.lv_live.specs.State.{CanRemake, HasClaim, HasDelivery, HasNoClaims, LiveState, SameLive, SameRefresh, SameSetting, job_at, jobs_with, node_and_version, recorded, with_issued}
 use Rattle.lv_live.specs.Step.{Reduces, Run, Scans, Step, after_accepted, after_delivery, after_edit, claim_reply, delivery_reply, edit_reply, job_of, reduction_reply, scan_reply}
 
 -- what holds of each element holds of each in another way
@@ -56,22 +58,31 @@ installed_test false held now is = cc
 SameRecord-self : {r : Record} → SameRecord r r
 SameRecord-self = record { edits = refl; issued = refl; claimed = λ n. refl; kept = λ n. refl }
 
--- the name of a job of a number is that of the job
-job_of_names : {B S : Type 0} (s : LiveState B S) (jobs : List (Carried B S)) (k : ℕ) → job_of (with_issued s jobs) k ≡ option_map node_and_version (job_at jobs k)
-job_of_names s jobs k = by_number (nat_eq k 0)
+-- the name of a number is that of the job of this number
+pub named_at : {B S : Type 0} (jobs : List (Carried B S)) (k : ℕ) → (if nat_eq k 0 then None else slice_get (map node_and_version jobs) (k - 1)) ≡ option_map node_and_version (job_at jobs k)
+named_at jobs k = by_number (nat_eq k 0)
   where
     by_number : (none : Bool) → cond none None (slice_get (map node_and_version jobs) (k - 1)) ≡ option_map node_and_version (cond none None (slice_get jobs (k - 1)))
     by_number true = refl
     by_number false = slice_get-map node_and_version jobs (k - 1)
 
+-- so it is in a record
+job_of_names : {B S : Type 0} (s : LiveState B S) (jobs : List (Carried B S)) (k : ℕ) → job_of (with_issued s jobs) k ≡ option_map node_and_version (job_at jobs k)
+job_of_names s jobs k = named_at jobs k
+
 -- the record after a delivery
-same_delivered : {B S : Type 0} (old new : LiveState B S) (job : Carried B S) (jobs : List (Carried B S)) → HasDelivery old new job.node job.version (delivery_of (recorded old) job.node job.version) → SameRecord (after_delivery (with_issued old jobs) (Some (node_and_version job))) (with_issued new jobs)
-same_delivered old new job jobs has = by_accepted (delivery_of (recorded old) job.node job.version) has
+same_delivered : {B S : Type 0} (old new : LiveState B S) (name : Node × ℕ) (jobs : List (Carried B S)) → HasDelivery old new name.0 name.1 (delivery_of (recorded old) name.0 name.1) → SameRecord (after_delivery (with_issued old jobs) (Some name)) (with_issued new jobs)
+same_delivered old new name jobs has = by_accepted (delivery_of (recorded old) name.0 name.1) has
   where
-    by_accepted : (accepted : Accepted) → HasDelivery old new job.node job.version accepted → SameRecord (after_accepted (with_issued old jobs) job.node job.version accepted) (with_issued new jobs)
+    by_accepted : (accepted : Accepted) → HasDelivery old new name.0 name.1 accepted → SameRecord (after_accepted (with_issued old jobs) name.0 name.1 accepted) (with_issued new jobs)
     by_accepted Installed has = record { edits = ap (λ h. h.journal) has.history; issued = refl; claimed = has.claimed; kept = has.kept }
     by_accepted Held has = record { edits = ap (λ h. h.journal) has.history; issued = refl; claimed = has.claimed; kept = has.kept }
     by_accepted (Stale now) has = record { edits = ap (λ h. h.journal) has.history; issued = refl; claimed = has.claimed; kept = has.kept }
+
+-- where contents stand here, they can be made anew
+remake_of_standing : {S : Type 0} (o : Operations S) (r : Record) (n : Node) (contents : Contents S) → Stands o r n contents → 1 < n.level → children_fresh r n ≡ true
+remake_of_standing o r n (Elements xs) stands above = absurd (omega (arith, stands.0, above))
+remake_of_standing o r n (Children summaries) stands above = stands.1
 
 module _ {B S : Type 0} (o : Operations S) where
   -- jobs stay own under an edit
@@ -130,17 +141,17 @@ module _ {B S : Type 0} (o : Operations S) where
   own_claim old new (Some job) jobs has body honest own = All-push (IsOwn o new) jobs job (own_same old new jobs has.body has.history has.kept own) (body ∙ sym has.body, honest)
   own_claim old new None jobs has body honest own = own_same old new jobs has.body has.history has.kept own
 
-  -- a delivery of an issued job is a step
-  pub step_delivery : (old new : LiveState B S) (k : ℕ) (job : Carried B S) (jobs : List (Carried B S)) → job_at jobs k ≡ Some job → HasDelivery old new job.node job.version (delivery_of (recorded old) job.node job.version)
-      → Step o old.history.limits (with_issued old jobs) (event.Deliver k) (reply.Gave (delivery_of (recorded old) job.node job.version)) (with_issued new jobs)
-  step_delivery old new k job jobs is has =
-      let issued : job_of (with_issued old jobs) k ≡ Some (node_and_version job) = job_of_names old jobs k ∙ ap (option_map node_and_version) is in
-      (ap (delivery_reply (with_issued old jobs)) (sym issued), rw issued (same_delivered old new job jobs has))
+  -- a delivery of an issued job, which is known by its name, is a step
+  pub step_delivery : (old new : LiveState B S) (k : ℕ) (name : Node × ℕ) (jobs : List (Carried B S)) → option_map node_and_version (job_at jobs k) ≡ Some name → HasDelivery old new name.0 name.1 (delivery_of (recorded old) name.0 name.1)
+      → Step o old.history.limits (with_issued old jobs) (event.Deliver k) (reply.Gave (delivery_of (recorded old) name.0 name.1)) (with_issued new jobs)
+  step_delivery old new k name jobs is has =
+      let issued : job_of (with_issued old jobs) k ≡ Some name = job_of_names old jobs k ∙ is in
+      (ap (delivery_reply (with_issued old jobs)) (sym issued), rw issued (same_delivered old new name jobs has))
 
   -- a delivery of no issued job is a step that changes nothing
-  pub step_no_job : (s : LiveState B S) (k : ℕ) (jobs : List (Carried B S)) → job_at jobs k ≡ None → Step o s.history.limits (with_issued s jobs) (event.Deliver k) (reply.Refused NoJob) (with_issued s jobs)
+  pub step_no_job : (s : LiveState B S) (k : ℕ) (jobs : List (Carried B S)) → option_map node_and_version (job_at jobs k) ≡ None → Step o s.history.limits (with_issued s jobs) (event.Deliver k) (reply.Refused NoJob) (with_issued s jobs)
   step_no_job s k jobs none =
-      let issued : job_of (with_issued s jobs) k ≡ None = job_of_names s jobs k ∙ ap (option_map node_and_version) none in
+      let issued : job_of (with_issued s jobs) k ≡ None = job_of_names s jobs k ∙ none in
       (ap (delivery_reply (with_issued s jobs)) (sym issued), rw issued SameRecord-self)
 
   -- that claims are forgotten is a step
@@ -197,8 +208,15 @@ module _ {B S : Type 0} (o : Operations S) where
   pub world_settle : (old new : LiveState B S) (jobs : List (Carried B S)) → SameLive old new → IsWorld o old jobs → IsWorld o new jobs
   world_settle old new jobs same world = world_same old new jobs jobs same.history world (own_same old new jobs same.body same.history same.kept world.own)
 
-  -- a job of a world is vouched for
-  pub vouched_job : {M : Type 0} (meaning : B → M) (s : LiveState B S) (jobs : List (Carried B S)) (k : ℕ) (job : Carried B S) → IsWorld o s jobs → job_at jobs k ≡ Some job → Vouched o (recorded s) (meaning s.body ≡ meaning job.body) job.node job.version job.contents
-  vouched_job meaning s jobs k job world is whole touched =
-      let own = own_job s jobs k job world.own is in
-      (ap meaning (sym own.0), vouched_of_honest o (recorded s) job.node job.version job.contents world.limits.legal own.1 whole touched)
+  -- what a job of a world carried can be made anew
+  pub remade_job : (s : LiveState B S) (jobs : List (Carried B S)) (k : ℕ) (name : Node × ℕ) → IsWorld o s jobs → option_map node_and_version (job_at jobs k) ≡ Some name → CanRemake (recorded s) name.0 name.1
+  remade_job s jobs k name world named = by_job (job_at jobs k) refl named
+    where
+      by_job : (found : Option (Carried B S)) → job_at jobs k ≡ found → option_map node_and_version found ≡ Some name → CanRemake (recorded s) name.0 name.1
+      by_job None is named = absurd (none-some name named)
+      by_job (Some job) is named =
+          let own = own_job s jobs k job world.own is in
+          subst (λ (name : Node × ℕ). CanRemake (recorded s) name.0 name.1) (same_Some _ _ named) record {
+            node = own.1.node;
+            ready = λ whole touched. remake_of_standing o (recorded s) job.node job.contents (vouched_of_honest o (recorded s) job.node job.version job.contents world.limits.legal own.1 whole touched);
+          }

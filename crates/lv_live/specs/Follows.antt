@@ -1,11 +1,14 @@
--- How the table of summaries and the claims follow an edit.
+-- How the table of summaries and the claims follow an edit, and the claims a delivery.
 use Rattle.std.specs.Prelude.{◌≡◌, ◌/◌, ◌<◌, ◌≤◌, ℕ, true, List, [], ◌∷◌}
 use Rattle.std.specs.List.{AllByRecursion}
 use Rattle.lv_geometry.specs.declared.nodes.Node.{Node}
-use Rattle.lv_geometry.specs.Nodes.{over}
+use Rattle.lv_geometry.specs.Nodes.{over, parent}
+use Rattle.lv_summary.specs.declared.accepted.Accepted.{Accepted}
+use Rattle.lv_summary.specs.declared.accepted.Accepted.TheVariants.{Held, Installed, Stale}
 use Rattle.lv_summary.specs.Changes.{HasSize, TouchesEach}
 use Rattle.lv_summary.specs.Table.{Table}
 use Rattle.lv_refresh.specs.Claimed.{ClaimTable, claim_blocks, claimed_in, is_hinted}
+use Rattle.lv_refresh.specs.Inner.{HintsNode}
 use Rattle.lv_live.specs.declared.following.Touched.{Touched}
 use Rattle.lv_live.specs.declared.following.Touched.TheVariants.{Nothing, One, Two}
 
@@ -37,3 +40,9 @@ TableFollows old new indices edit size = (mid : Table _) × TouchesEach old mid 
 pub record ClaimsFollow (old new : ClaimTable) (indices : List ℕ) : Type 0 where
   pub alike : ClaimsAlike old new
   pub blocks : AllByRecursion (λ i. is_hinted new (over 1 i) ≡ true) indices
+
+-- the claims after a delivery to a node: its parent is hinted at where it was installed
+abbrev pub ClaimsHear : ClaimTable → ClaimTable → Node → Accepted → Type 0
+ClaimsHear old new node Installed = HintsNode old new (parent node)
+ClaimsHear old new node Held = new ≡ old
+ClaimsHear old new node (Stale now) = new ≡ old

@@ -1,7 +1,6 @@
 pub mod EveryRun
 pub mod Follows
 pub mod Kept
-pub mod Places
 pub mod PlainAnswers
 pub mod State
 pub mod Step

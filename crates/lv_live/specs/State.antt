@@ -1,11 +1,13 @@
 -- What a live vector holds, and the record of it.
-use Rattle.std.specs.Prelude.{◌≡◌, ℕ, true, Option, Some, None, List, [], ◌∷◌, ◌++◌, map, nat_eq, slice_get, ◌-◌, if◌then◌else◌}
+use Rattle.std.specs.Prelude.{◌≡◌, ◌<◌, ℕ, true, Option, Some, None, List, [], ◌∷◌, ◌++◌, map, nat_eq, slice_get, ◌-◌, if◌then◌else◌}
 use Rattle.lv_geometry.specs.declared.nodes.Node.{Node}
+use Rattle.lv_geometry.specs.Nodes.{is_node}
 use Rattle.lv_edits.specs.History.{History}
 use Rattle.lv_edits.specs.Touch.{is_whole, touched_by}
 use Rattle.lv_summary.specs.declared.accepted.Accepted.{Accepted}
 use Rattle.lv_summary.specs.Table.{Table, known_in}
 use Rattle.lv_refresh.specs.Carried.{Carried}
+use Rattle.lv_refresh.specs.Claim.{children_fresh}
 use Rattle.lv_refresh.specs.Claimed.{ClaimTable, record_of}
 use Rattle.lv_refresh.specs.Record.{Record}
 use Rattle.lv_live.specs.Step.{after_accepted, with_version}
@@ -60,6 +62,12 @@ pub record HasDelivery {B S : Type 0} (old new : LiveState B S) (node : Node) (v
   pub claimed : (n : Node) → (recorded new).claimed n ≡ (recorded old).claimed n
   pub kept : (n : Node) → (recorded new).kept n ≡ (after_accepted (recorded old) node version accepted).kept n
 
+-- what a job of a node carried at a version can be made anew: where the node is whole, and the edit of that number touched it last, it
+-- stands here still, so that above level 1 the eight children are fresh
+pub record CanRemake (r : Record) (n : Node) (v : ℕ) : Type 0 where
+  pub node : is_node n ≡ true
+  pub ready : is_whole r.edits n ≡ true → touched_by r.edits n ≡ v → 1 < n.level → children_fresh r n ≡ true
+
 -- each summary that was known still is, while its node is whole and no edit has touched it since
 abbrev pub Remembers : {B S : Type 0} → LiveState B S → LiveState B S → Type 0
 Remembers old new =
@@ -74,9 +82,11 @@ pub record WorldState (B S : Type 0) : Type 0 where
   pub live : LiveState B S
   pub jobs : List (Carried B S)
 
--- the jobs that were handed out, in the order of their numbers from 1, and how many more there is room for
+-- the jobs that were handed out, in the order of their numbers from 1, at most how many there may be, and for how many more there is
+-- room
 pub record IssuedState (B S : Type 0) : Type 0 where
   pub jobs : List (Carried B S)
+  pub most : ℕ
   pub room : ℕ
 
 -- the record of a live vector, with the jobs that were issued

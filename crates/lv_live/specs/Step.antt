@@ -67,6 +67,11 @@ module _ {S : Type 0} where
   delivery_reply r None = reply.Refused NoJob
   delivery_reply r (Some job) = reply.Gave (delivery_of r job.0 job.1)
 
+  -- by what became of it, or by a refusal
+  abbrev pub accepted_reply : Result Accepted Refusal → Reply S
+  accepted_reply (Ok accepted) = reply.Gave accepted
+  accepted_reply (Err refusal) = reply.Refused refusal
+
   -- a reduction is answered by its value, or by a refusal
   abbrev pub reduction_reply : Result (Answer S) Refusal → Reply S
   reduction_reply (Ok answer) = reply.Answered answer

@@ -1,62 +1,71 @@
-ghost use Rattle.std.specs.Prelude.{◌≡◌, ◌+◌, ◌<◌, ◌≤◌, [], ◌∷◌, ◌++◌, length, OnOk, IfErr};
-ghost use Rattle.lv_live.specs.State.{job_at};
+ghost use Rattle.std.specs.Prelude.{◌≡◌, ◌+◌, ◌-◌, ◌<◌, ◌≤◌, None, [], ◌∷◌, ◌++◌, nat_eq, length, option_map, slice_get, OnOk, IfErr, if◌then◌else◌};
+ghost use Rattle.lv_live.specs.State.{job_at, node_and_version};
 
-use crate::places::{Place, find_job, place_of_number, put_job};
+use crate::logs::Log;
 use lv_bodies::Body;
-use lv_geometry::Refusal;
-use lv_refresh::{BlockJob, Job, Outcome};
+use lv_geometry::{Node, Refusal};
+use lv_refresh::Job;
 use std::alloc::Global;
 use std::marker::Model;
 
-/// The jobs that were handed out, each under its number: the first is 1. Those of blocks lie apart, since most jobs are
-/// theirs, and they are small.
+/// The jobs that were handed out, each under its number: the first is 1. Of each, node and version alone are kept, 12 bytes in all:
+/// what it carried stands in the vector still, or is not asked for any more.
 #[derive(Drop)]
 pub struct Issued<B: Body> {
-    places: Vec<Place>,
-    blocks: Vec<BlockJob<B>>,
-    parents: Vec<Job<B>>,
+    most: usize,
+    names: Vec<(Node, u32)>,
+    jobs: Log<Job<B>>,
 }
 
 impl<B: Body> Model for Issued<B> {
-    ghost use Rattle.std.specs.Prelude.{◌-◌, min, vec_capacity, vec_len};
-    ghost use Rattle.lv_live.specs.Places.{AreFilled, jobs_in};
-    ghost use Rattle.lv_live.specs.State.{IssuedState};
+    ghost use Rattle.std.specs.Prelude.{◌≡◌, ◌≤◌, ◌-◌, map, min, vec_capacity, vec_len};
+    ghost use Rattle.lv_live.specs.State.{IssuedState, node_and_version};
 
     ghost Value = { IssuedState B B.S };
 
     ghost view = { λ a. record {
-      jobs = jobs_in a.blocks.items a.parents.items a.places.items;
-      room = min (vec_capacity a.places - vec_len a.places) (min (vec_capacity a.blocks - vec_len a.blocks) (vec_capacity a.parents - vec_len a.parents));
+      jobs = a.jobs.items;
+      most = a.most;
+      room = min (vec_capacity a.names - vec_len a.names) (a.most - vec_len a.names);
     } };
 
-    ghost invariant = { λ a. AreFilled a.blocks.items a.parents.items a.places.items };
+    ghost invariant = { λ a. (a.names.items ≡ map node_and_version a.jobs.items) × (vec_len a.names ≤ a.most) };
 }
 
 impl<B: Body> Issued<B> {
-    /// No jobs. Takes no memory.
+    /// No jobs, and room for as many as there is memory for. Takes no memory.
     pub fn new(alloc: Global) -> Issued<B>
-        ensures { result.jobs ≡ [] }
+        ensures jobs { result.jobs ≡ [] }
+        ensures most { result.most ≡ usize.MAX }
+    {
+        Issued::at_most(alloc, usize::MAX)
+    }
+
+    /// No jobs, and never room for more than so many. Takes no memory.
+    pub fn at_most(alloc: Global, most: usize) -> Issued<B>
+        ensures jobs { result.jobs ≡ [] }
+        ensures most { result.most ≡ most }
     {
         Issued {
-            places: Vec::new(alloc),
-            blocks: Vec::new(alloc),
-            parents: Vec::new(alloc),
+            most,
+            names: Vec::new(alloc),
+            jobs: Log::new(),
         }
     }
 
-    /// Makes room for so many more jobs. The jobs stay as they are.
+    /// Makes room for so many more jobs. The jobs stay as they are. Refused with `NoMemory`, also where there would be more of them
+    /// than may be.
     pub fn make_room(&mut self, more: usize) -> Result<(), Refusal>
         ensures ok { OnOk result (more ≤ self.new.room) }
+        ensures few { OnOk result (length self.old.jobs + more ≤ self.old.most) }
         ensures err { IfErr result (λ refusal. refusal ≡ Refusal.NoMemory) }
         ensures jobs { self.new.jobs ≡ self.old.jobs }
+        ensures most { self.new.most ≡ self.old.most }
     {
-        let Ok(()) = self.places.reserve(more) else {
+        if self.most - self.names.len() < more {
             return Err(Refusal::NoMemory);
-        };
-        let Ok(()) = self.blocks.reserve(more) else {
-            return Err(Refusal::NoMemory);
-        };
-        let Ok(()) = self.parents.reserve(more) else {
+        }
+        let Ok(()) = self.names.reserve(more) else {
             return Err(Refusal::NoMemory);
         };
         Ok(())
@@ -68,24 +77,24 @@ impl<B: Body> Issued<B> {
         ensures number { result ≡ length self.old.jobs + 1 }
         ensures jobs { self.new.jobs ≡ self.old.jobs ++ job ∷ [] }
         ensures room { self.old.room ≤ self.new.room + 1 }
+        ensures most { self.new.most ≡ self.old.most }
     {
-        let place = put_job(&mut self.blocks, &mut self.parents, job);
-        self.places.push_reserved(place);
-        self.places.len() as u64
+        self.names.push_reserved((job.node(), job.version()));
+        self.jobs = self.jobs.and(&job);
+        self.names.len() as u64
     }
 
-    /// What the job of a number gives, if there is one of that number.
-    pub fn outcome(&self, number: u64) -> Option<Outcome<B>>
-        ensures { result ≡ job_at self.now.jobs number }
+    /// Node and version of the job of a number, if there is one of that number.
+    pub fn named(&self, number: u64) -> Option<(Node, u32)>
+        ensures { result ≡ option_map node_and_version (job_at self.now.jobs number) }
     {
-        Some(self.job_of_number(number)?.run())
+        name_at(&self.names, number)
     }
+}
 
-    // The job of a number.
-    fn job_of_number(&self, number: u64) -> Option<Job<B>>
-        ensures { result ≡ job_at self.now.jobs number }
-    {
-        let place = place_of_number(&self.places, number)?;
-        find_job(&self.blocks, &self.parents, place)
-    }
+// The name of a number, counted from 1, if there is one.
+fn name_at(names: &[(Node, u32)], number: u64) -> Option<(Node, u32)>
+    ensures { result ≡ (if nat_eq number 0 then None else slice_get names.now (number - 1)) }
+{
+    names.get(number.checked_sub(1)? as usize).copied()
 }

@@ -5,11 +5,12 @@
 //! answer is the plain left fold at its edit. No thread is started here, and nothing waits.
 #![tactic(auto)]
 
+mod delivering;
 mod events;
 mod following;
 mod issued;
 mod live;
-mod places;
+mod logs;
 mod playing;
 mod replies;
 mod theorems;
@@ -20,6 +21,7 @@ pub use events::Event;
 pub use following::{Touched, touched_indices};
 pub use issued::Issued;
 pub use live::Live;
+pub use playing::deliver;
 pub use replies::Reply;
 pub use theorems::{
     answers_are_plain, every_run_is_true_of_its_edits, honest_outcomes_are_vouched_for,

@@ -16,15 +16,16 @@ ghost use Rattle.lv_reduce.specs.Asked.{AreTopsKnown, IsFewAsked};
 ghost use Rattle.lv_reduce.specs.Cost.{IsFew};
 ghost use Rattle.lv_reduce.specs.Stretch.{IsStretch};
 ghost use Rattle.lv_live.specs.Kept.{IsLive};
-ghost use Rattle.lv_live.specs.State.{HasClaim, HasDelivery, HasNoClaims, Remembers, SameLive, SameRefresh, node_and_version, recorded};
+ghost use Rattle.lv_live.specs.State.{CanRemake, HasClaim, HasDelivery, HasNoClaims, Remembers, SameLive, SameRefresh, node_and_version, recorded};
 ghost use Rattle.lv_live.specs.Step.{Costs, Reduces, Scans};
 ghost use Rattle.lv_live.specs.Turns.{TakesTurn, TakesTurns};
 
+use crate::delivering::deliver_anew;
 use crate::following::{follow, make_room, touched_indices};
 use crate::vouching::stands_here;
 use lv_bodies::Body;
 use lv_edits::{Edit, Edits, Receipt};
-use lv_geometry::{Limits, Refusal};
+use lv_geometry::{Limits, Node, Refusal};
 use lv_reduce::{Answer, Reads, Scan, Stretch, View};
 use lv_refresh::{Claims, Job, Outcome};
 use lv_summary::{Accepted, Summaries};
@@ -339,6 +340,24 @@ impl<B: Body> Live<B> {
             self.claims.hint_parent(node);
         }
         accepted
+    }
+
+    /// Takes in what a job of this vector gave, by the job's node and version alone: what it carried stands here still where its outcome
+    /// is to be installed, and so that is made anew. Takes no memory.
+    pub fn deliver(&mut self, node: Node, version: u32) -> Accepted
+        requires { CanRemake (recorded self.old) node version }
+        ensures accepted { result ≡ delivery_of (recorded self.old) node version }
+        ensures delivered { HasDelivery self.old self.new node version result }
+        ensures remembers { Remembers self.old self.new }
+    {
+        deliver_anew(
+            &mut self.claims,
+            &self.cells,
+            &mut self.table,
+            &self.body,
+            node,
+            version,
+        )
     }
 
     /// The body by which it reduces.

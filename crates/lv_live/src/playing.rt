@@ -2,7 +2,7 @@ ghost use Rattle.std.specs.Prelude.{◌≡◌, ◌+◌, ◌≤◌, ◌<◌, [], 
 ghost use Rattle.lv_refresh.specs.Carried.{Carried};
 ghost use Rattle.lv_live.specs.Kept.{IsWorld};
 ghost use Rattle.lv_live.specs.State.{SameSetting, recorded, with_issued};
-ghost use Rattle.lv_live.specs.Step.{Run, Scans, Step};
+ghost use Rattle.lv_live.specs.Step.{Run, Scans, Step, accepted_reply};
 ghost use Rattle.lv_live.specs.declared.events.Event.TheVariants as event;
 
 use crate::events::Event;
@@ -13,6 +13,7 @@ use lv_bodies::Body;
 use lv_edits::Edit;
 use lv_geometry::Refusal;
 use lv_reduce::Scan;
+use lv_summary::Accepted;
 use std::alloc::Global;
 
 /// Plays events in turn, and puts the reply to each after the replies. The room was made before.
@@ -103,16 +104,31 @@ fn play_claim<B: Body>(live: &mut Live<B>, issued: &mut Issued<B>) -> Reply<B::S
     }
 }
 
-// Delivers the outcome of a job.
+// Answers a delivery.
 fn play_delivery<B: Body>(live: &mut Live<B>, issued: &Issued<B>, k: u64) -> Reply<B::S>
     requires world { IsWorld (B.operations (B.meaning live.old.body)) live.old issued.now.jobs }
     ensures step { Step (B.operations (B.meaning live.old.body)) live.old.history.limits (with_issued live.old issued.now.jobs) (event.Deliver k) result (with_issued live.new issued.now.jobs) }
     ensures world { IsWorld (B.operations (B.meaning live.old.body)) live.new issued.now.jobs }
     ensures setting { SameSetting live.old live.new }
 {
-    match issued.outcome(k) {
-        Some(outcome) => Reply::Gave(live.accept(outcome)),
-        None => Reply::Refused(Refusal::NoJob),
+    match deliver(live, issued, k) {
+        Ok(accepted) => Reply::Gave(accepted),
+        Err(refusal) => Reply::Refused(refusal),
+    }
+}
+
+/// Delivers what the job of a number gave, however late, and however often. Refused with `NoJob` where no such job was handed out.
+/// Takes no memory.
+pub fn deliver<B: Body>(live: &mut Live<B>, issued: &Issued<B>, k: u64) -> Result<Accepted, Refusal>
+    requires world { IsWorld (B.operations (B.meaning live.old.body)) live.old issued.now.jobs }
+    ensures step { Step (B.operations (B.meaning live.old.body)) live.old.history.limits (with_issued live.old issued.now.jobs) (event.Deliver k) (accepted_reply result) (with_issued live.new issued.now.jobs) }
+    ensures world { IsWorld (B.operations (B.meaning live.old.body)) live.new issued.now.jobs }
+    ensures body { live.new.body ≡ live.old.body }
+    ensures history { live.new.history ≡ live.old.history }
+{
+    match issued.named(k) {
+        Some((node, version)) => Ok(live.deliver(node, version)),
+        None => Err(Refusal::NoJob),
     }
 }
 

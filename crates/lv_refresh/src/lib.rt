@@ -20,6 +20,7 @@ mod wants;
 
 pub use block_jobs::BlockJob;
 pub use claims::Claims;
+pub use computing::refresh_node;
 pub use contents::{Contents, Eight};
 pub use gathering::children_of;
 pub use jobs::{Job, JobOf};

@@ -1,0 +1,55 @@
+// What is delivered to a node, made anew from what stands here.
+ghost use Rattle.std.specs.Prelude.{◌≡◌, ◌*◌, true};
+ghost use Rattle.lv_geometry.specs.Nodes.{is_below};
+ghost use Rattle.lv_bodies.specs.Body.{fold_of};
+ghost use Rattle.lv_edits.specs.Touch.{elements_under};
+ghost use Rattle.lv_known.specs.Agrees.{Agrees};
+ghost use Rattle.lv_summary.specs.Changes.{AfterDelivery};
+ghost use Rattle.lv_summary.specs.Table.{delivery_in};
+ghost use Rattle.lv_refresh.specs.Claimed.{claim_blocks};
+ghost use Rattle.lv_refresh.specs.Inner.{IsReady};
+ghost use Rattle.lv_live.specs.Follows.{ClaimsHear};
+
+use lv_bodies::Body;
+use lv_edits::Edits;
+use lv_geometry::Node;
+use lv_refresh::{Claims, refresh_node};
+use lv_summary::{Accepted, Summaries};
+
+/// Delivers a summary of a version to a node. It is computed only where it is to be installed, and from what stands here then; the
+/// node's parent is hinted at so.
+pub fn deliver_anew<B: Body>(
+    claims: &mut Claims,
+    cells: &Edits,
+    table: &mut Summaries<B::S>,
+    body: &B,
+    node: Node,
+    version: u32,
+) -> Accepted
+    requires agrees { Agrees (B.operations (B.meaning body.now)) cells.now.journal table.old }
+    requires ready { delivery_in table.old node version ≡ Accepted.Installed → IsReady table.old node }
+    requires inside { delivery_in table.old node version ≡ Accepted.Installed → is_below node (8 * claim_blocks claims.old) ≡ true }
+    ensures accepted { result ≡ delivery_in table.old node version }
+    ensures after { AfterDelivery table.old table.new node version (fold_of (B.operations (B.meaning body.now)) (elements_under cells.now.journal node)) result }
+    ensures hears { ClaimsHear claims.old claims.new node result }
+{
+    let accepted = delivery(table, node, version);
+    if let Accepted::Installed = accepted {
+        refresh_node(claims, cells, table, body, node, version);
+    }
+    accepted
+}
+
+// What would become of a summary of a version that is delivered to a node.
+fn delivery<S: Copy>(table: &Summaries<S>, node: Node, version: u32) -> Accepted
+    ensures { result ≡ delivery_in table.now node version }
+{
+    let now = table.touched(node);
+    if !table.whole(node) || now != version {
+        return Accepted::Stale { now };
+    }
+    if table.fresh(node) {
+        return Accepted::Held;
+    }
+    Accepted::Installed
+}
