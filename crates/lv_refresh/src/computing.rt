@@ -1,12 +1,12 @@
-ghost use Rattle.std.specs.Prelude.{◌≡◌, ◌+◌, ◌*◌, ◌/◌, ◌<◌, length, true, slice_range};
-ghost use Rattle.lv_geometry.specs.Nodes.{is_below, parent};
+ghost use Rattle.std.specs.Prelude.{◌≡◌, ℕ, ◌+◌, ◌*◌, ◌/◌, ◌<◌, length, true, slice_get, slice_range};
+ghost use Rattle.lv_geometry.specs.Nodes.{child, is_below, parent};
 ghost use Rattle.lv_bodies.specs.Body.{fold_of};
 ghost use Rattle.lv_edits.specs.History.{list_of};
 ghost use Rattle.lv_edits.specs.Touch.{elements_under};
 ghost use Rattle.lv_known.specs.Agrees.{Agrees};
 ghost use Rattle.lv_summary.specs.declared.accepted.Accepted.TheVariants.{Installed};
 ghost use Rattle.lv_summary.specs.Changes.{Keeps};
-ghost use Rattle.lv_summary.specs.Table.{delivery_in, whole_in};
+ghost use Rattle.lv_summary.specs.Table.{delivery_in, entry_in, whole_in};
 ghost use Rattle.lv_refresh.specs.Claimed.{claim_blocks};
 ghost use Rattle.lv_refresh.specs.Inner.{HintsNode, IsReady};
 
@@ -98,7 +98,7 @@ fn summary_of<B: Body>(cells: &Edits, table: &Summaries<B::S>, body: &B, node: N
     if node.level == 1 {
         fold_block(cells, table, body, node)
     } else {
-        join_children(cells, table, body, node)
+        join_node(cells, table, body, node)
     }
 }
 
@@ -159,6 +159,45 @@ fn join_children<B: Body>(cells: &Edits, table: &Summaries<B::S>, body: &B, node
     let mut sum = body.identity();
     for k in 0..8 {
         sum = body.combine(sum, table.summary(node.child(k)));
+    }
+    sum
+}
+
+// The same, from summaries side by side where they all were written.
+#[inline(always)]
+fn join_node<B: Body>(cells: &Edits, table: &Summaries<B::S>, body: &B, node: Node) -> B::S
+    requires agrees { Agrees (B.operations (B.meaning body.now)) cells.now.journal table.now }
+    requires whole { whole_in table.now node ≡ true }
+    requires above { 1 < node.level }
+    requires ready { IsReady table.now node }
+    ensures { result ≡ fold_of (B.operations (B.meaning body.now)) (elements_under cells.now.journal node) }
+{
+    match table.children(node) {
+        Some(summaries) => join_all(cells, table, body, node, summaries),
+        None => join_children(cells, table, body, node),
+    }
+}
+
+// The join of eight summaries, which are those of a node's children. The table only says so.
+#[inline(always)]
+fn join_all<B: Body>(
+    cells: &Edits,
+    _table: &Summaries<B::S>,
+    body: &B,
+    node: Node,
+    summaries: &[B::S],
+) -> B::S
+    requires agrees { Agrees (B.operations (B.meaning body.now)) cells.now.journal _table.now }
+    requires above { 1 < node.level }
+    requires eight { length summaries.now ≡ 8 }
+    requires entries { (k : ℕ) → k < 8 → slice_get summaries.now k ≡ entry_in _table.now (child node k) }
+    ensures { result ≡ fold_of (B.operations (B.meaning body.now)) (elements_under cells.now.journal node) }
+{
+    // The elements are few enough for a fold.
+    let _size = cells.size();
+    let mut sum = body.identity();
+    for k in 0..8 {
+        sum = body.combine(sum, summaries[k]);
     }
     sum
 }

@@ -1,5 +1,5 @@
 -- The rows of a whole node that is not fresh, and of the eight children of one above level 1.
-use Rattle.std.proofs.Common.{◌≡◌, ℕ, zero, suc, ◌+◌, ◌-◌, ◌*◌, ◌^◌, ◌<◌, ◌≤◌, Bool, true, false, ◌&&◌, not, Option, Some, None, [], ◌∷◌, get_or, nat_eq, slice_get, refl, subst, sym, ap, ◌∙◌, arith}
+use Rattle.std.proofs.Common.{◌≡◌, ℕ, zero, suc, ◌+◌, ◌-◌, ◌*◌, ◌^◌, ◌<◌, ◌≤◌, Bool, true, false, ◌&&◌, not, Option, Some, None, [], ◌∷◌, get_or, nat_eq, slice_get, refl, subst, sym, ap, ◌∙◌, inl, inr, arith}
 use Rattle.std.specs.List.{list_all, range_with_len}
 use Rattle.std.specs.Option.{IfNone, IfSome}
 use Rattle.std.proofs.Math.Nat.{mul-le-mul_right}
@@ -7,6 +7,7 @@ use Rattle.std.proofs.Math.Bool.{and-true}
 use Rattle.std.proofs.lemmas.Bool.{and_from, and_parts, and_right, le-leb, leb-true}
 use Rattle.std.proofs.lemmas.Grind.{pow_more}
 use Rattle.std.proofs.lemmas.List.Folds.{list_all-append}
+use Rattle.std.proofs.lemmas.Option.{slice_get_cases}
 use Rattle.lv_geometry.specs.declared.levels.Levels.{Levels}
 use Rattle.lv_geometry.specs.declared.nodes.Node.{Node}
 use Rattle.lv_geometry.specs.Levels.{thing_at}
@@ -78,6 +79,15 @@ module _ {S : Type 0} (t : Table S) (n : Node) (whole : whole_in t n ≡ true) (
     children_fresh-rows =
         all_alike (λ k. nat_eq (get_or (rows_for t (child n 0)).stamps (8 * n.number + k) 0) (get_or (rows_for t (child n 0)).touched (8 * n.number + k) 0 + 1)) (λ k. fresh_in t (child n k)) 8
         (λ k within. sym (fresh_in-by_row t (child n k) (child_row k within)))
+
+-- what lies in the row of a fresh child of a whole node is its summary
+pub child_entry : {S : Type 0} (t : Table S) (n : Node) (whole : whole_in t n ≡ true) (above : 1 < n.level) (sound : IsSound t) (k : ℕ) → k < 8 → fresh_in t (child n k) ≡ true → slice_get (rows_for t (child n k)).kept (8 * n.number + k) ≡ entry_in t (child n k)
+child_entry t n whole above sound k within fresh =
+    let row = child_row t n whole above sound k within in
+    elim (slice_get_cases (rows_for t (child n k)).kept (8 * n.number + k)).1 [
+      | inl at ↦ at.2 ∙ sym (entry_in-by_row t (child n k) row fresh at.0 at.2)
+      | inr past ↦ absurd (omega (arith, row.kept, past.0))
+    ]
 
 -- what is due is of a version that an edit can have
 pub due_version : {S : Type 0} (t : Table S) (n : Node) (version : ℕ) → IsSound t → delivery_in t n version ≡ Installed → version ≤ 16777215

@@ -1,8 +1,9 @@
 -- A list that is blank past what was written of it.
 use Rattle.std.proofs.Common.{◌≡◌, ℕ, ◌+◌, ◌-◌, ◌<◌, ◌≤◌, max, Some, List, length, replicate, get_or, set, slice_get, ◌++◌, sym, ap, ◌∙◌, arith}
-use Rattle.std.proofs.lemmas.List.{append_assoc, length-set, replicate-append-replicate, set-append_left}
+use Rattle.std.proofs.lemmas.List.{append_assoc, get_or-drop, get_or-take, length-drop, length-set, length-take, replicate-append-replicate, set-append_left}
 use Rattle.std.proofs.lemmas.Option.{slice_get-get_or}
-use Rattle.lv_summary.specs.Inner.{lengthened}
+use Rattle.std.specs.Prelude.{drop, slice_range}
+use Rattle.lv_summary.specs.Inner.{AreEight, lengthened}
 use Rattle.lv_summary.proofs.LevelLaws.{get_or-lengthened, length-lengthened}
 
 -- a list that is made longer twice has the greater length
@@ -19,6 +20,19 @@ lengthened_twice xs m n x within =
 pub read_late : {A : Type 0} (front : List A) (count : ℕ) (blank : A) (number : ℕ) → number < length (lengthened front count blank) → slice_get (lengthened front count blank) number ≡ Some (get_or front number blank)
 read_late front count blank number inside =
     slice_get-get_or (lengthened front count blank) number blank inside ∙ ap Some (get_or-lengthened front count blank number)
+
+-- eight neighbours that were written are those of the list
+pub eight_late : {A : Type 0} (front eight : List A) (count : ℕ) (blank : A) (first : ℕ) → first + 8 ≤ length front → eight ≡ slice_range front first (first + 8) → AreEight eight (lengthened front count blank) first
+eight_late front eight count blank first inside is =
+    let long : length (slice_range front first (first + 8)) ≡ 8 = omega (arith, length-take (first + 8 - first) (drop first front), length-drop first front) in (
+      ap length is ∙ long,
+      λ k small.
+          let past : first + k < length (lengthened front count blank) = omega (arith, length-lengthened front count blank) in
+          ap (λ xs. slice_get xs k) is
+          ∙ slice_get-get_or (slice_range front first (first + 8)) k blank (omega (arith, long))
+          ∙ ap Some (get_or-take (first + 8 - first) (drop first front) k blank (omega arith) ∙ get_or-drop first front k blank)
+          ∙ sym (read_late front count blank (first + k) past),
+    )
 
 -- an item that is put into the front is put into the list
 pub set_early : {A : Type 0} (front : List A) (count : ℕ) (blank : A) (number : ℕ) (x : A) → number < length front → lengthened (set front number x) count blank ≡ set (lengthened front count blank) number x

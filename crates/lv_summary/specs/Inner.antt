@@ -1,5 +1,5 @@
 -- What the fields of `Summaries` keep, and how one of its levels is seen and changed.
-use Rattle.std.specs.Prelude.{◌≡◌, ℕ, ◌+◌, ◌-◌, ◌*◌, ◌^◌, ◌<◌, ◌≤◌, true, List, [], ◌∷◌, ◌++◌, length, replicate, slice_index, slice_set, All}
+use Rattle.std.specs.Prelude.{◌≡◌, ℕ, ◌+◌, ◌-◌, ◌*◌, ◌^◌, ◌<◌, ◌≤◌, true, List, [], ◌∷◌, ◌++◌, length, replicate, slice_get, slice_index, slice_set, All}
 use Rattle.std.specs.List.{slice_index_or}
 use Rattle.lv_geometry.specs.declared.levels.Levels.{Levels}
 use Rattle.lv_geometry.specs.declared.nodes.Node.{Node}
@@ -22,6 +22,10 @@ pub record LateRowsState (S : Type 0) : Type 0 where
 -- a list that is made n long with copies of x, where it is shorter
 abbrev pub lengthened : {A : Type 0} → List A → ℕ → A → List A
 lengthened xs n x = xs ++ replicate (n - length xs) x
+
+-- eight neighbours of a list, from one on
+abbrev pub AreEight : {A : Type 0} → List A → List A → ℕ → Type 0
+AreEight eight xs first = (length eight ≡ 8) × ((k : ℕ) → k < 8 → slice_get eight k ≡ slice_get xs (first + k))
 
 -- rows with further ones, n in all, which nothing touched and for which nothing is kept
 abbrev pub filled : {S : Type 0} → Rows S → ℕ → S → Rows S

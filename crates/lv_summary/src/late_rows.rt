@@ -1,5 +1,5 @@
-ghost use Rattle.std.specs.Prelude.{◌≡◌, ◌<◌, ◌≤◌, [], length, replicate, true, slice_get, slice_set, Some, vec_capacity};
-ghost use Rattle.lv_summary.specs.Inner.{lengthened};
+ghost use Rattle.std.specs.Prelude.{◌≡◌, ◌+◌, ◌<◌, ◌≤◌, [], length, replicate, true, slice_get, slice_set, Some, IfSome, vec_capacity};
+ghost use Rattle.lv_summary.specs.Inner.{AreEight, lengthened};
 
 use std::alloc::Global;
 use std::marker::Model;
@@ -77,6 +77,18 @@ impl<S: Copy> LateRows<S> {
         ensures { slice_get self.now.items number ≡ Some result }
     {
         self.front.get(number).copied().unwrap_or(self.blank)
+    }
+
+    /// Eight items, from one on, where they lie; none where one of them was never written.
+    #[inline(always)]
+    pub fn eight(&self, first: usize) -> Option<&[S]>
+        requires { first + 8 ≤ length self.now.items }
+        ensures { IfSome result (λ eight. AreEight eight.now self.now.items first) }
+    {
+        match self.front.get(first..first + 8) {
+            Some(eight) => Some(eight),
+            None => None,
+        }
     }
 
     /// Puts an item at a number; blanks before it that were never written are written first.

@@ -1,6 +1,6 @@
 ghost use Rattle.std.specs.Prelude.{◌≡◌, ℕ, ◌+◌, ◌-◌, ◌<◌, ◌≤◌, ◌++◌, ◌==◌, ◌||◌, length, replicate, true, false, slice_index, slice_get, Some, OnOk, IfErr, IfSome, IfNone, vec_len, vec_capacity};
 ghost use Rattle.std.specs.List.{list_all, range_with_len};
-ghost use Rattle.lv_summary.specs.Inner.{filled, with_kept, with_learnt, with_touch};
+ghost use Rattle.lv_summary.specs.Inner.{AreEight, filled, with_kept, with_learnt, with_touch};
 ghost use Rattle.lv_summary.specs.Table.{no_rows};
 
 use crate::late_rows::LateRows;
@@ -138,6 +138,15 @@ impl<S: Copy> Level<S> {
         ensures { slice_get self.now.rows.kept number ≡ Some result }
     {
         self.kept.at(number as usize)
+    }
+
+    /// The summaries in the rows of eight neighbours, from one on, where they lie; none where one of them was never written.
+    #[inline(always)]
+    pub fn eight(&self, first: u32) -> Option<&[S]>
+        requires { first + 8 ≤ length self.now.rows.kept }
+        ensures { IfSome result (λ eight. AreEight eight.now self.now.rows.kept first) }
+    {
+        self.kept.eight(first as usize)
     }
 
     /// Puts a summary of a version in the row of a node.

@@ -1,4 +1,4 @@
-ghost use Rattle.std.specs.Prelude.{◌≡◌, ◌/◌, ◌*◌, ◌<◌, ◌≤◌, ◌&&◌, not, true, false, option_map, Some, None, OnOk, OnErr, IfErr, IfSome, IfNone};
+ghost use Rattle.std.specs.Prelude.{◌≡◌, ℕ, length, slice_get, ◌/◌, ◌*◌, ◌<◌, ◌≤◌, ◌&&◌, not, true, false, option_map, Some, None, OnOk, OnErr, IfErr, IfSome, IfNone};
 ghost use Rattle.std.specs.List.{list_all, range_with_len};
 ghost use Rattle.lv_geometry.specs.Nodes.{child};
 ghost use Rattle.lv_summary.specs.declared.accepted.Accepted.TheVariants.{Installed};
@@ -177,6 +177,21 @@ impl<S: Copy> Summaries<S> {
         ensures { entry_in self.now node ≡ Some result }
     {
         self.levels.at(node.level).kept(node.number)
+    }
+
+    /// The summaries of the eight children of a whole node, in order, where they lie; none where one of them was never written.
+    /// Each is that of its child where the child is fresh.
+    #[inline(always)]
+    pub fn children(&self, node: Node) -> Option<&[S]>
+        requires whole { whole_in self.now node ≡ true }
+        requires above { 1 < node.level }
+        ensures eight { IfSome result (λ summaries. length summaries.now ≡ 8) }
+        ensures entries { IfSome result (λ summaries. (k : ℕ) → k < 8 → fresh_in self.now (child node k) ≡ true → slice_get summaries.now k ≡ entry_in self.now (child node k)) }
+    {
+        match self.levels.at(node.level - 1).eight(8 * node.number) {
+            Some(summaries) => Some(summaries),
+            None => None,
+        }
     }
 
     /// The summary of a node, where it is known: it is fresh, or was computed since it was touched last.
