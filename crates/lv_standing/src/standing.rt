@@ -11,7 +11,10 @@ ghost use Rattle.lv_reduce.specs.Asked.{AreTopsKnown, IsFewAsked};
 ghost use Rattle.lv_refresh.specs.Claim.{IsNextJob};
 ghost use Rattle.lv_refresh.specs.Delivery.{delivery_of};
 ghost use Rattle.lv_refresh.specs.Honesty.{IsHonest, Vouched};
-ghost use Rattle.lv_live.specs.State.{HasClaim, HasDelivery, HasNoClaims, SameLive, SameRefresh, node_and_version, recorded};
+ghost use Rattle.lv_live.specs.Kept.{IsWorld};
+ghost use Rattle.lv_live.specs.State.{HasClaim, HasDelivery, HasNoClaims, SameLive, SameRefresh, node_and_version, recorded, with_issued};
+ghost use Rattle.lv_live.specs.Step.{Step, accepted_reply};
+ghost use Rattle.lv_live.specs.declared.events.Event.TheVariants as event;
 ghost use Rattle.lv_kinds.specs.Kinds.{is_kept_by};
 ghost use Rattle.lv_standing.specs.Standings.{KeptUntouched, StillKept};
 ghost use Rattle.lv_standing.specs.Queries.{AreNotes, Query, query_of, watch_answer, watch_refusal, without_query, IsValue};
@@ -28,7 +31,7 @@ use lv_bodies::{Body, Kind, Six, SixSummary};
 use lv_edits::{Edit, Receipt};
 use lv_geometry::{Limits, Refusal};
 use lv_kinds::Kinds;
-use lv_live::Live;
+use lv_live::{Issued, Live};
 use lv_reduce::Answer;
 use lv_refresh::{Job, Outcome};
 use lv_summary::Accepted;
@@ -256,5 +259,18 @@ impl Standing {
         ensures kinds { self.new.kinds ≡ self.old.kinds }
     {
         self.live.accept(outcome)
+    }
+
+    /// Delivers what the job of a number gave, however late, and however often. Refused with `NoJob` where no such job was handed out.
+    /// Takes no memory.
+    pub fn deliver(&mut self, issued: &Issued<Six>, k: u64) -> Result<Accepted, Refusal>
+        requires world { IsWorld six_operations self.old.live issued.now.jobs }
+        ensures step { Step six_operations self.old.live.history.limits (with_issued self.old.live issued.now.jobs) (event.Deliver k) (accepted_reply result) (with_issued self.new.live issued.now.jobs) }
+        ensures world { IsWorld six_operations self.new.live issued.now.jobs }
+        ensures history { self.new.live.history ≡ self.old.live.history }
+        ensures queries { self.new.queries ≡ self.old.queries }
+        ensures kinds { self.new.kinds ≡ self.old.kinds }
+    {
+        lv_live::deliver(&mut self.live, issued, k)
     }
 }
