@@ -3,7 +3,6 @@ use Rattle.std.proofs.Common.{◌≡◌, ℕ, ◌+◌, Bool, Option, Some, None,
 use Rattle.std.proofs.lemmas.List.{append-nil, length-drop, length-take}
 use Rattle.std.proofs.lemmas.List.Elements.{All-drop, All-take}
 use Rattle.lv_geometry.specs.declared.refusals.Refusal.{Refusal}
-use Rattle.lv_geometry.specs.declared.refusals.Refusal.TheVariants.{NoJob}
 use Rattle.lv_bodies.specs.declared.kinds.Kind.{Kind}
 use Rattle.lv_bodies.specs.declared.kinds.Shown.{Shown}
 use Rattle.lv_bodies.specs.declared.sixes.Six.{Six}
@@ -16,17 +15,17 @@ use Rattle.lv_edits.specs.History.{History, list_of}
 use Rattle.lv_edits.specs.Kept.{IsLegalInLimits}
 use Rattle.lv_geometry.specs.Elements.{IsElement}
 use Rattle.lv_edits.specs.Verdict.{Accepts, Refuses}
+use Rattle.lv_summary.specs.declared.accepted.Accepted.{Accepted}
 use Rattle.lv_refresh.specs.Carried.{Carried}
 use Rattle.lv_refresh.specs.Claim.{IsNextJob}
-use Rattle.lv_refresh.specs.Delivery.{delivery_of}
 use Rattle.lv_reduce.specs.declared.costs.Reads.{Reads}
 use Rattle.lv_reduce.specs.declared.reductions.Answer.{Answer}
 use Rattle.lv_reduce.specs.Answer.{range_refusal, slice_of}
 use Rattle.lv_live.specs.declared.events.Event.TheVariants as event
 use Rattle.lv_live.specs.declared.replies.Reply.TheVariants as reply
-use Rattle.lv_live.specs.State.{HasClaim, HasDelivery, HasNoClaims, SameLive, SameRefresh, job_at, jobs_with, node_and_version, recorded}
-use Rattle.lv_live.specs.Step.{Costs, Reduces, claim_reply, reduction_reply}
-use Rattle.lv_live.proofs.WorldLaws.{step_claim, step_delivery, step_edit, step_forget, step_no_job, step_reduction, step_settle}
+use Rattle.lv_live.specs.State.{HasClaim, HasNoClaims, SameLive, SameRefresh, jobs_with, node_and_version, recorded, with_issued}
+use Rattle.lv_live.specs.Step.{Costs, Reduces, Step, accepted_reply, claim_reply, reduction_reply}
+use Rattle.lv_live.proofs.WorldLaws.{step_claim, step_edit, step_forget, step_reduction, step_settle}
 use Rattle.lv_standing.specs.declared.notes.Note.{Note}
 use Rattle.lv_standing.specs.Queries.{AreNotes, Query}
 use Rattle.lv_standing.specs.Standings.{StandingState}
@@ -53,20 +52,11 @@ tells_claim old new job jobs next has queries =
       text_is = refl;
     }
 
--- a delivery of a job
-pub tells_delivery : (old new : StandingState) (k : ℕ) (job : Carried Six SixSummary) (jobs : List (Carried Six SixSummary)) → job_at jobs k ≡ Some job → HasDelivery old.live new.live job.node job.version (delivery_of (recorded old.live) job.node job.version) → new.queries ≡ old.queries
-    → TellsEvent (state_of old jobs) (event.Deliver k) (reply_text (reply.Gave (delivery_of (recorded old.live) job.node job.version))) (state_of new jobs)
-tells_delivery old new k job jobs is has queries =
-    record {
-      answered = reply.Gave (delivery_of (recorded old.live) job.node job.version);
-      does = record { step = step_delivery six_operations old.live new.live k job jobs is has; limits = ap (λ h. h.limits) has.history; queries = queries };
-      text_is = refl;
-    }
-
--- a delivery of no job
-pub tells_no_job : (s : StandingState) (k : ℕ) (jobs : List (Carried Six SixSummary)) → job_at jobs k ≡ None → TellsEvent (state_of s jobs) (event.Deliver k) (refused_text NoJob) (state_of s jobs)
-tells_no_job s k jobs none =
-    record { answered = reply.Refused NoJob; does = record { step = step_no_job six_operations s.live k jobs none; limits = refl; queries = refl }; text_is = refl }
+-- a delivery, answered by what became of it or refused
+pub tells_delivery : (old new : StandingState) (k : ℕ) (result : Result Accepted Refusal) (jobs : List (Carried Six SixSummary)) → Step six_operations old.live.history.limits (with_issued old.live jobs) (event.Deliver k) (accepted_reply result) (with_issued new.live jobs) → new.live.history ≡ old.live.history → new.queries ≡ old.queries
+    → TellsEvent (state_of old jobs) (event.Deliver k) (reply_text (accepted_reply result)) (state_of new jobs)
+tells_delivery old new k result jobs step history queries =
+    record { answered = accepted_reply result; does = record { step = step; limits = ap (λ h. h.limits) history; queries = queries }; text_is = refl }
 
 -- that claims are forgotten
 pub tells_forget : (old new : StandingState) (jobs : List (Carried Six SixSummary)) → HasNoClaims old.live new.live → new.queries ≡ old.queries → TellsEvent (state_of old jobs) event.Forget (reply_text reply.Forgotten) (state_of new jobs)

@@ -252,9 +252,9 @@ fn put_delivery(standing: &mut Standing, issued: &Issued<Six>, k: u32, held: &mu
     ensures world { IsWorld six_operations standing.new.live issued.now.jobs }
     ensures room { KeepsRoom held.old held.new }
 {
-    match issued.outcome(k as u64) {
-        Some(outcome) => put_accepted(held, standing.accept(outcome)),
-        None => put_refusal(held, Refusal::NoJob),
+    match standing.deliver(issued, k as u64) {
+        Ok(accepted) => put_accepted(held, accepted),
+        Err(refusal) => put_refusal(held, refusal),
     }
 }
 
