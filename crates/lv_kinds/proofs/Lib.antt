@@ -4,4 +4,5 @@ mod BitLaws
 pub mod KeptLaws
 pub mod KindLaws
 mod KnowByLaws
+mod RunLaws
 pub mod ValueLaws

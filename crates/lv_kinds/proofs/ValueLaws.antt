@@ -1,5 +1,5 @@
 -- The values of the nodes, level by level, and what they are after a value is put, or blanks.
-use Rattle.std.proofs.Common.{◌≡◌, ℕ, ◌-◌, ◌/◌, ◌^◌, ◌<◌, ◌≤◌, ◌&&◌, true, false, if◌then◌else◌, [], nat_eq, refl, sym, ap, ◌∙◌, inl, inr, arith}
+use Rattle.std.proofs.Common.{◌≡◌, ℕ, ◌+◌, ◌-◌, ◌/◌, ◌^◌, ◌<◌, ◌≤◌, ◌&&◌, true, false, Option, Some, None, IfSome, List, if◌then◌else◌, [], nat_eq, refl, sym, ap, ◌∙◌, inl, inr, arith}
 use Rattle.std.specs.List.{slice_index_or}
 use Rattle.std.specs.Global.{Vec}
 use Rattle.std.proofs.lemmas.Bool.{cases_Bool, cases_eq, cond-false, cond-true, eq-eqb, ne_eqb, true≢false}
@@ -135,3 +135,11 @@ pub child_is_node : (n : Node) (k : ℕ) → is_node n ≡ true → 1 < n.level 
 child_is_node n k member above =
     let level = level_of_node n member in
     node_of_level (child n k) (omega arith) (omega (arith, level.1))
+
+-- neighbours have what is written from the first one's number on
+pub run_values : {X T : Type 0} (now : X → List T) (r : Option X) (blank : T) (blocks : ℕ) (of : Levels (Vec T)) (first : Node) (end : ℕ) → is_node first ≡ true
+    → IfSome r (λ part. (k : ℕ) (x y : T) → k < end - first.number → slice_index_or (now part) k x ≡ slice_index_or (thing_at of first.level).items (first.number + k) y)
+    → IfSome r (λ run. (k : ℕ) (x : T) → k < end - first.number → slice_index_or (now run) k x ≡ value_at (rows_view blank blocks of) (record { level = first.level; number = first.number + k }))
+run_values now (Some part) blank blocks of first end member found = λ k x small.
+    found k x blank small ∙ sym (value_of_node blank blocks of (record { level = first.level; number = first.number + k }) member)
+run_values now None blank blocks of first end member found = tt

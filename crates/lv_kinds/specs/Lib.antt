@@ -4,3 +4,4 @@ pub mod KindSummaries
 pub mod Kinds
 pub mod NodeRows
 pub mod OfSixLaws
+pub mod Runs

@@ -10,15 +10,19 @@ ghost use Rattle.lv_reduce.specs.Asked.{AreTopsKnown};
 ghost use Rattle.lv_kinds.specs.Asked.{ArePartsFolds, CanAskBy, KnowsBy, LearnsBy};
 ghost use Rattle.lv_kinds.specs.Kinds.{AreFolds, is_flagged};
 ghost use Rattle.lv_kinds.specs.NodeRows.{PutsValue, value_at};
+ghost use Rattle.lv_kinds.specs.Runs.{EndsBy, StandsBy};
 
 use crate::node_rows::{NodeRows, value_of};
 use crate::of_six::OfSix;
+use crate::runs::take_runs;
+use crate::walks::Walk;
 use lv_bodies::{SixSummary, fold_more, fold_slice};
 use lv_geometry::{Node, Refusal, width};
 use lv_reduce::{View, greatest_level, join, refusal_of};
 
 /// The fold by one kind of the elements from index `lo` up to `hi`, with the number of the last edit; what is computed for it is kept
 /// in the kind's rows. Refused with `BadRange`, then `OutOfRange`: nothing has changed then. Takes no memory.
+#[inline(never)]
 pub fn ask_by<K: OfSix>(
     view: View<'_, SixSummary>,
     body: &K,
@@ -40,10 +44,56 @@ pub fn ask_by<K: OfSix>(
     if let Some(refusal) = refusal_of(view.cells, lo, hi) {
         return Err(refusal);
     }
-    let mut value = body.identity();
-    let mut at = lo;
-    while at < hi {
-        let level = greatest_level(at, hi);
+    let value = body.identity();
+    let begun = Walk {
+        lo,
+        hi,
+        at: lo,
+        value,
+    };
+    let walk = take_runs(view, body, flags, rows, begun);
+    let fold = finish(view, body, flags, rows, walk);
+    Ok((view.cells.edit(), fold))
+}
+
+// The fold of the whole range. Where a walk hasn't come to the end of it, the rest is taken node by node.
+#[inline(always)]
+fn finish<K: OfSix>(
+    view: View<'_, SixSummary>,
+    body: &K,
+    flags: &mut NodeRows<u8>,
+    rows: &mut NodeRows<K::S>,
+    walk: Walk<K::S>,
+) -> K::S
+    requires parts { ArePartsFolds (K.operations (K.meaning body.now)) K.part_in view.cells.now.journal view.table.now }
+    requires stands { StandsBy (K.operations (K.meaning body.now)) view.cells.now.journal K.bit walk flags.old rows.old }
+    ensures { EndsBy (K.operations (K.meaning body.now)) view.entry.cells.now.journal K.bit walk result flags.old flags.new rows.old rows.new }
+{
+    if walk.hi <= walk.at {
+        return walk.value;
+    }
+    take_rest(view, body, flags, rows, walk)
+}
+
+// Takes what is left of a range, node by node: at each index the greatest one that begins there and ends in the range.
+#[inline(never)]
+fn take_rest<K: OfSix>(
+    view: View<'_, SixSummary>,
+    body: &K,
+    flags: &mut NodeRows<u8>,
+    rows: &mut NodeRows<K::S>,
+    walk: Walk<K::S>,
+) -> K::S
+    requires parts { ArePartsFolds (K.operations (K.meaning body.now)) K.part_in view.cells.now.journal view.table.now }
+    requires stands { StandsBy (K.operations (K.meaning body.now)) view.cells.now.journal K.bit walk flags.old rows.old }
+    ensures { EndsBy (K.operations (K.meaning body.now)) view.entry.cells.now.journal K.bit walk result flags.old flags.new rows.old rows.new }
+{
+    // The elements are few enough for a fold.
+    let _size = view.cells.size();
+    let mut value = walk.value;
+    let mut at = walk.at;
+    while at < walk.hi {
+        let level = greatest_level(at, walk.hi);
         if level == 0 {
             value = fold_more(body, value, view.cells.read(at));
             at += 1;
@@ -53,12 +103,12 @@ pub fn ask_by<K: OfSix>(
             at += width(level);
         }
     }
-    Ok((view.cells.edit(), value))
+    value
 }
 
 // The summary of a whole node by one kind: what is kept, or else what is computed, which is kept then.
 #[inline(always)]
-fn know<K: OfSix>(
+pub fn know<K: OfSix>(
     view: View<'_, SixSummary>,
     body: &K,
     flags: &mut NodeRows<u8>,
@@ -179,7 +229,7 @@ fn keep<K: OfSix>(flags: &mut NodeRows<u8>, rows: &mut NodeRows<K::S>, node: Nod
 
 // Whether a byte has the kind's bit.
 #[inline(always)]
-fn has_bit<K: OfSix>(byte: u8) -> bool
+pub fn has_bit<K: OfSix>(byte: u8) -> bool
     ensures { result ≡ nat_eq (bit_at byte K.bit) 1 }
 {
     byte & K::mask() != 0

@@ -49,6 +49,7 @@ impl KindSummary {
     }
 
     /// What is shown of it.
+    #[inline(always)]
     pub fn shown(&self) -> Shown
         ensures { result ≡ shown_of self.now }
     {

@@ -108,6 +108,7 @@ impl Kinds {
 
     /// The summary by a kind of the elements from index `lo` up to `hi`, with the number of the last edit; what is computed for it is kept
     /// by that kind. Refused with `BadRange`, then `OutOfRange`: nothing has changed then. Takes no memory.
+    #[inline(always)]
     pub fn ask(
         &mut self,
         view: View<'_, SixSummary>,

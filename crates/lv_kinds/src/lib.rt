@@ -10,6 +10,8 @@ mod kind_summaries;
 mod kinds;
 mod node_rows;
 mod of_six;
+mod runs;
+mod walks;
 
 pub use kind_summaries::KindSummary;
 pub use kinds::{KindAnswer, Kinds};

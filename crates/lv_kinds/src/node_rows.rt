@@ -1,4 +1,4 @@
-ghost use Rattle.std.specs.Prelude.{◌≡◌, ℕ, drop, ◌+◌, ◌-◌, ◌*◌, ◌^◌, ◌<◌, ◌≤◌, ◌++◌, true, nat_eq, replicate, OnOk, IfErr, vec_capacity, vec_len, if◌then◌else◌};
+ghost use Rattle.std.specs.Prelude.{◌≡◌, ℕ, drop, length, IfSome, ◌+◌, ◌-◌, ◌*◌, ◌^◌, ◌<◌, ◌≤◌, ◌++◌, true, nat_eq, replicate, OnOk, IfErr, vec_capacity, vec_len, if◌then◌else◌};
 ghost use Rattle.std.specs.List.{slice_index_or};
 ghost use Rattle.lv_geometry.specs.Nodes.{child, is_below, is_node};
 ghost use Rattle.lv_kinds.specs.Inner.{HaveMemory, HaveSameItems};
@@ -129,6 +129,17 @@ impl<T: Copy> NodeRows<T> {
         rest_of(self.levels.at(node.level - 1), 8 * node.number)
     }
 
+    /// The values of neighbours on a level, from a node on up to a number, if they were all written.
+    #[inline(always)]
+    pub fn run(&self, first: Node, end: u32) -> Option<&[T]>
+        requires { is_node first ≡ true }
+        ensures length { IfSome result (λ run. length run.now ≡ end - first.number) }
+        ensures values { IfSome result (λ run. (k : ℕ) (x : T) → k < end - first.number
+            → slice_index_or run.now k x ≡ value_at self.now (record { level = first.level; number = first.number + k })) }
+    {
+        part_of(self.levels.at(first.level), first.number, end)
+    }
+
     /// What stands for a value that wasn't written.
     #[inline(always)]
     pub fn blank(&self) -> T
@@ -175,6 +186,15 @@ fn rest_of<T>(values: &[T], from: u32) -> &[T]
     ensures { result.now ≡ drop from values.now }
 {
     values.get(from as usize..).unwrap_or(&[])
+}
+
+// The values from a number up to another, if they were all written.
+#[inline(always)]
+fn part_of<T>(values: &[T], from: u32, end: u32) -> Option<&[T]>
+    ensures length { IfSome result (λ part. length part.now ≡ end - from) }
+    ensures values { IfSome result (λ part. (k : ℕ) (x y : T) → k < end - from → slice_index_or part.now k x ≡ slice_index_or values.now (from + k) y) }
+{
+    values.get(from as usize..end as usize)
 }
 
 // The eight values from a number on, and blanks where none was written.

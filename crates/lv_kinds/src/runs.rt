@@ -1,0 +1,257 @@
+//! The walk of a question by one kind: runs of neighbours on each level, up from the start of the range and down to its end.
+ghost use Rattle.std.specs.Prelude.{◌≡◌, ◌^◌, ◌≤◌, IfSome};
+ghost use Rattle.lv_geometry.specs.Nodes.{first_index};
+ghost use Rattle.lv_kinds.specs.Asked.{ArePartsFolds, CanAskBy};
+ghost use Rattle.lv_kinds.specs.Runs.{GoesOnBy, IsInside, IsRun, IsSomeFold, KnowsRun, StandsBy};
+
+use crate::asking::{has_bit, know};
+use crate::node_rows::NodeRows;
+use crate::of_six::OfSix;
+use crate::walks::Walk;
+use lv_bodies::{SixSummary, fold_more};
+use lv_geometry::{Node, width};
+use lv_reduce::{View, join};
+
+/// Takes a run of each level in turn, up and down again. So it comes to the end of the range.
+#[inline(always)]
+pub fn take_runs<K: OfSix>(
+    view: View<'_, SixSummary>,
+    body: &K,
+    flags: &mut NodeRows<u8>,
+    rows: &mut NodeRows<K::S>,
+    walk: Walk<K::S>,
+) -> Walk<K::S>
+    requires parts { ArePartsFolds (K.operations (K.meaning body.now)) K.part_in view.cells.now.journal view.table.now }
+    requires stands { StandsBy (K.operations (K.meaning body.now)) view.cells.now.journal K.bit walk flags.old rows.old }
+    ensures { GoesOnBy (K.operations (K.meaning body.now)) view.entry.cells.now.journal K.bit walk result flags.old flags.new rows.old rows.new }
+{
+    let begun = take_cells(view, body, flags, rows, walk);
+    let risen = rise(view, body, flags, rows, begun);
+    let crossed = cross(view, body, flags, rows, risen);
+    let sunk = sink(view, body, flags, rows, crossed);
+    take_cells(view, body, flags, rows, sunk)
+}
+
+// Takes a run of each of the three lowest levels, from below.
+#[inline(always)]
+fn rise<K: OfSix>(
+    view: View<'_, SixSummary>,
+    body: &K,
+    flags: &mut NodeRows<u8>,
+    rows: &mut NodeRows<K::S>,
+    walk: Walk<K::S>,
+) -> Walk<K::S>
+    requires parts { ArePartsFolds (K.operations (K.meaning body.now)) K.part_in view.cells.now.journal view.table.now }
+    requires stands { StandsBy (K.operations (K.meaning body.now)) view.cells.now.journal K.bit walk flags.old rows.old }
+    ensures { GoesOnBy (K.operations (K.meaning body.now)) view.entry.cells.now.journal K.bit walk result flags.old flags.new rows.old rows.new }
+{
+    let first = take_run(view, body, flags, rows, walk, 1);
+    let second = take_run(view, body, flags, rows, first, 2);
+    take_run(view, body, flags, rows, second, 3)
+}
+
+// Takes a run of each of the three greatest levels, from below, and of those under the greatest again.
+#[inline(always)]
+fn cross<K: OfSix>(
+    view: View<'_, SixSummary>,
+    body: &K,
+    flags: &mut NodeRows<u8>,
+    rows: &mut NodeRows<K::S>,
+    walk: Walk<K::S>,
+) -> Walk<K::S>
+    requires parts { ArePartsFolds (K.operations (K.meaning body.now)) K.part_in view.cells.now.journal view.table.now }
+    requires stands { StandsBy (K.operations (K.meaning body.now)) view.cells.now.journal K.bit walk flags.old rows.old }
+    ensures { GoesOnBy (K.operations (K.meaning body.now)) view.entry.cells.now.journal K.bit walk result flags.old flags.new rows.old rows.new }
+{
+    let first = take_run(view, body, flags, rows, walk, 4);
+    let second = take_run(view, body, flags, rows, first, 5);
+    let third = take_run(view, body, flags, rows, second, 6);
+    let fourth = take_run(view, body, flags, rows, third, 5);
+    take_run(view, body, flags, rows, fourth, 4)
+}
+
+// Takes a run of each of the three lowest levels, from above.
+#[inline(always)]
+fn sink<K: OfSix>(
+    view: View<'_, SixSummary>,
+    body: &K,
+    flags: &mut NodeRows<u8>,
+    rows: &mut NodeRows<K::S>,
+    walk: Walk<K::S>,
+) -> Walk<K::S>
+    requires parts { ArePartsFolds (K.operations (K.meaning body.now)) K.part_in view.cells.now.journal view.table.now }
+    requires stands { StandsBy (K.operations (K.meaning body.now)) view.cells.now.journal K.bit walk flags.old rows.old }
+    ensures { GoesOnBy (K.operations (K.meaning body.now)) view.entry.cells.now.journal K.bit walk result flags.old flags.new rows.old rows.new }
+{
+    let first = take_run(view, body, flags, rows, walk, 3);
+    let second = take_run(view, body, flags, rows, first, 2);
+    take_run(view, body, flags, rows, second, 1)
+}
+
+// Takes the run of a level that begins where a walk stands: neighbours under one parent, each the greatest node that begins at its index
+// and ends in the range.
+#[inline(always)]
+fn take_run<K: OfSix>(
+    view: View<'_, SixSummary>,
+    body: &K,
+    flags: &mut NodeRows<u8>,
+    rows: &mut NodeRows<K::S>,
+    walk: Walk<K::S>,
+    level: u32,
+) -> Walk<K::S>
+    requires parts { ArePartsFolds (K.operations (K.meaning body.now)) K.part_in view.cells.now.journal view.table.now }
+    requires stands { StandsBy (K.operations (K.meaning body.now)) view.cells.now.journal K.bit walk flags.old rows.old }
+    requires low { 1 ≤ level }
+    requires high { level ≤ 6 }
+    ensures { GoesOnBy (K.operations (K.meaning body.now)) view.entry.cells.now.journal K.bit walk result flags.old flags.new rows.old rows.new }
+{
+    let end = run_end(walk.at, walk.hi, level);
+    let first = Node::over(level, walk.at);
+    if end <= first.number {
+        return walk;
+    }
+    let value = join_run(view, body, flags, rows, walk.value, first, end);
+    Walk {
+        lo: walk.lo,
+        hi: walk.hi,
+        at: end * width(level),
+        value,
+    }
+}
+
+// The number behind a run of a level that begins at an index, or that of the index itself where there is none.
+#[inline(always)]
+fn run_end(at: u32, hi: u32, level: u32) -> u32
+    requires level { level ≤ 6 }
+    requires order { at ≤ hi }
+    requires few { hi ≤ 2 ^ 20 }
+    ensures { IsRun at hi level result }
+{
+    let number = Node::over(level, at).number;
+    let last = Node::over(level, hi).number;
+    let end = last.min((number / 8 + 1) * 8);
+    if at % width(level) != 0 {
+        return number;
+    }
+    if level == 6 {
+        return end;
+    }
+    if end == number + 8 {
+        return number;
+    }
+    end
+}
+
+// Joins the summaries of a run to a fold. Where one isn't kept, it is computed and kept.
+#[inline(always)]
+fn join_run<K: OfSix>(
+    view: View<'_, SixSummary>,
+    body: &K,
+    flags: &mut NodeRows<u8>,
+    rows: &mut NodeRows<K::S>,
+    value: K::S,
+    first: Node,
+    end: u32,
+) -> K::S
+    requires parts { ArePartsFolds (K.operations (K.meaning body.now)) K.part_in view.cells.now.journal view.table.now }
+    requires can { CanAskBy (K.operations (K.meaning body.now)) view.cells.now.journal K.bit flags.old rows.old }
+    requires inside { IsInside view.cells.now.journal first end }
+    requires so_far { IsSomeFold (K.operations (K.meaning body.now)) view.cells.now.journal value (first_index first) }
+    ensures { KnowsRun (K.operations (K.meaning body.now)) view.entry.cells.now.journal K.bit first end value result flags.old flags.new rows.old rows.new }
+{
+    if let Some(joined) = join_kept(view, body, flags, rows, value, first, end) {
+        return joined;
+    }
+    learn_run(view, body, flags, rows, value, first, end)
+}
+
+// Joins the summaries of a run to a fold, where all of them are kept.
+#[inline(always)]
+fn join_kept<K: OfSix>(
+    view: View<'_, SixSummary>,
+    body: &K,
+    flags: &NodeRows<u8>,
+    rows: &NodeRows<K::S>,
+    value: K::S,
+    first: Node,
+    end: u32,
+) -> Option<K::S>
+    requires can { CanAskBy (K.operations (K.meaning body.now)) view.cells.now.journal K.bit flags.now rows.now }
+    requires inside { IsInside view.cells.now.journal first end }
+    requires so_far { IsSomeFold (K.operations (K.meaning body.now)) view.cells.now.journal value (first_index first) }
+    ensures { IfSome result (λ joined. KnowsRun (K.operations (K.meaning body.now)) view.entry.cells.now.journal K.bit first end value joined flags.now flags.now rows.now rows.now) }
+{
+    // The elements are few enough for a fold.
+    let _size = view.cells.size();
+    let bytes = flags.run(first, end)?;
+    let kept = rows.run(first, end)?;
+    let mut sum = value;
+    for k in 0..bytes.len() {
+        if !has_bit::<K>(bytes[k]) {
+            return None;
+        }
+        sum = join(body, sum, kept[k]);
+    }
+    Some(sum)
+}
+
+// Joins the summaries of a run to a fold, one after another. It stays out of the walk, so that a walk over what is kept is short.
+#[inline(never)]
+fn learn_run<K: OfSix>(
+    view: View<'_, SixSummary>,
+    body: &K,
+    flags: &mut NodeRows<u8>,
+    rows: &mut NodeRows<K::S>,
+    value: K::S,
+    first: Node,
+    end: u32,
+) -> K::S
+    requires parts { ArePartsFolds (K.operations (K.meaning body.now)) K.part_in view.cells.now.journal view.table.now }
+    requires can { CanAskBy (K.operations (K.meaning body.now)) view.cells.now.journal K.bit flags.old rows.old }
+    requires inside { IsInside view.cells.now.journal first end }
+    requires so_far { IsSomeFold (K.operations (K.meaning body.now)) view.cells.now.journal value (first_index first) }
+    ensures { KnowsRun (K.operations (K.meaning body.now)) view.entry.cells.now.journal K.bit first end value result flags.old flags.new rows.old rows.new }
+{
+    // The elements are few enough for a fold.
+    let _size = view.cells.size();
+    let mut sum = value;
+    for number in first.number..end {
+        let node = Node {
+            level: first.level,
+            number,
+        };
+        let summary = know(view, body, flags, rows, node);
+        sum = join(body, sum, summary);
+    }
+    sum
+}
+
+// Takes the elements before the next block, or those behind the last one that ends in the range.
+#[inline(always)]
+fn take_cells<K: OfSix>(
+    view: View<'_, SixSummary>,
+    body: &K,
+    flags: &NodeRows<u8>,
+    rows: &NodeRows<K::S>,
+    walk: Walk<K::S>,
+) -> Walk<K::S>
+    requires stands { StandsBy (K.operations (K.meaning body.now)) view.cells.now.journal K.bit walk flags.now rows.now }
+    ensures { GoesOnBy (K.operations (K.meaning body.now)) view.entry.cells.now.journal K.bit walk result flags.now flags.now rows.now rows.now }
+{
+    // The elements are few enough for a fold.
+    let _size = view.cells.size();
+    let end = run_end(walk.at, walk.hi, 0);
+    if end <= walk.at {
+        return walk;
+    }
+    let mut value = walk.value;
+    for at in walk.at..end {
+        value = fold_more(body, value, view.cells.read(at));
+    }
+    Walk {
+        lo: walk.lo,
+        hi: walk.hi,
+        at: end,
+        value,
+    }
+}
