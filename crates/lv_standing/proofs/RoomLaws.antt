@@ -1,5 +1,5 @@
 -- Room for what is kept by kind: how long a vector is after an edit, and what stays where room is made.
-use Rattle.std.proofs.Common.{◌≡◌, ℕ, ℤ, ◌-◌, ◌≤◌, Some, None, nat_eq, List, [], ◌∷◌, ◌++◌, length, sym, ap, ◌∙◌, arith}
+use Rattle.std.proofs.Common.{◌≡◌, ℕ, ℤ, ◌-◌, ◌≤◌, Some, None, nat_eq, List, [], ◌∷◌, ◌++◌, length, refl, sym, ap, ◌∙◌, arith}
 use Rattle.std.specs.Int.{bit_at}
 use Rattle.std.proofs.lemmas.List.{length-set, length-take, length_push}
 use Rattle.std.proofs.lemmas.List.Edits.{length-swap}
@@ -20,7 +20,7 @@ use Rattle.lv_edits.specs.History.{History, applied, list_of}
 use Rattle.lv_edits.specs.Kept.{IsLegalInLimits}
 use Rattle.lv_edits.specs.Verdict.{refused_on, verdict_of}
 use Rattle.lv_edits.proofs.HistoryLaws.{accepted_is_possible, applied_pop, applied_write, length_after, list_of-snoc, not_refused, unrefused_pop, unrefused_truncate, unrefused_write}
-use Rattle.lv_kinds.specs.Kinds.{AreFolds, AreKept, KeepsAlike, KindsState, bit_of, is_flagged, is_kept_by}
+use Rattle.lv_kinds.specs.Kinds.{AreFolds, AreKept, HaveRoomFor, KeepsAlike, KindsState, bit_of, is_flagged, is_kept_by}
 use Rattle.lv_kinds.specs.NodeRows.{HasSameValues, NodeRowsState}
 use Rattle.lv_standing.specs.Inner.{size_after}
 
@@ -80,3 +80,31 @@ AreKept-alike table edits old new alike kept =
         states = omega (arith, kept.room.states, alike.states.more);
       };
     }
+
+-- values are as they are
+same_values : {T : Type 0} (rows : NodeRowsState T) → HasSameValues rows rows
+same_values rows = record { blank = refl; values = λ n. refl; more = omega arith }
+
+-- what is kept is kept alike where nothing changes
+pub KeepsAlike-same : (s : KindsState) → KeepsAlike s s
+KeepsAlike-same s = record {
+  flags = same_values s.flags;
+  sums = same_values s.sums;
+  least = same_values s.least;
+  greatest = same_values s.greatest;
+  best = same_values s.best;
+  maps = same_values s.maps;
+  states = same_values s.states;
+}
+
+-- room for some elements is room for fewer
+pub HaveRoomFor-fewer : (s : KindsState) (size fewer : ℕ) → fewer ≤ size → HaveRoomFor s size → HaveRoomFor s fewer
+HaveRoomFor-fewer s size fewer less room = record {
+  flags = omega (arith, room.flags);
+  sums = omega (arith, room.sums);
+  least = omega (arith, room.least);
+  greatest = omega (arith, room.greatest);
+  best = omega (arith, room.best);
+  maps = omega (arith, room.maps);
+  states = omega (arith, room.states);
+}

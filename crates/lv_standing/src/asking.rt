@@ -17,6 +17,7 @@ use lv_live::Live;
 
 /// The summary by a kind of the elements from index `lo` up to `hi`; what is computed for it is kept by that kind. Refused with
 /// `BadRange`, then `OutOfRange`. Takes no memory.
+#[inline(always)]
 pub fn ask_by_kind(
     live: &Live<Six>,
     kinds: &mut Kinds,

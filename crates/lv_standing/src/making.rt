@@ -1,10 +1,10 @@
-ghost use Rattle.std.specs.Prelude.{◌≡◌, None, OnOk};
+ghost use Rattle.std.specs.Prelude.{◌≡◌, ◌≤◌, None, IfErr, OnOk};
 ghost use Rattle.lv_bodies.specs.Plain.{program_table};
 ghost use Rattle.lv_edits.specs.History.{History, list_of};
 ghost use Rattle.lv_edits.specs.Kept.{IsLegalInLimits};
 ghost use Rattle.lv_edits.specs.Verdict.{Answers, verdict_of};
 ghost use Rattle.lv_live.specs.State.{SameRefresh};
-ghost use Rattle.lv_kinds.specs.Kinds.{AreKept};
+ghost use Rattle.lv_kinds.specs.Kinds.{AreKept, HaveRoomFor, KeepsAlike};
 ghost use Rattle.lv_standing.specs.Standings.{KeptUntouched};
 
 use crate::changes::size_after;
@@ -29,10 +29,25 @@ pub fn make(live: &mut Live<Six>, kinds: &mut Kinds, edit: Edit) -> Result<Recei
     ensures remembers { KeptUntouched (list_of before.journal) edit kinds.old kinds.new }
 {
     let size = live.size();
-    let Ok(()) = kinds.make_room(size_after(&edit, size)) else {
+    let Ok(()) = make_room(kinds, size, size_after(&edit, size)) else {
         return Err(Refusal::NoMemory);
     };
     let receipt = live.make(edit)?;
     kinds.follow(&edit, size);
     Ok(receipt)
+}
+
+// Makes memory for all that can be asked of so many elements, where there are more of them than before.
+#[inline(always)]
+fn make_room(kinds: &mut Kinds, size: u32, after: u32) -> Result<(), Refusal>
+    requires room { HaveRoomFor kinds.old size }
+    requires few { after ≤ 1048568 }
+    ensures alike { KeepsAlike kinds.old kinds.new }
+    ensures ok { OnOk result (HaveRoomFor kinds.new after) }
+    ensures err { IfErr result (λ refusal. refusal ≡ Refusal.NoMemory) }
+{
+    if after <= size {
+        return Ok(());
+    }
+    kinds.make_room(after)
 }

@@ -19,12 +19,12 @@ ghost use Rattle.lv_kinds.specs.Kinds.{is_kept_by};
 ghost use Rattle.lv_standing.specs.Standings.{KeptUntouched, StillKept};
 ghost use Rattle.lv_standing.specs.Queries.{AreNotes, Query, query_of, watch_answer, watch_refusal, without_query, IsValue};
 
-use crate::asking::{ask_by_kind, ask_inside};
+use crate::asking::ask_inside;
 use crate::changes::{changed_by, pushed_by};
 use crate::making::make;
 use crate::names::Name;
 use crate::notes::{Answered, Note};
-use crate::values::{SHORT, folded};
+use crate::values::{SHORT, asked, folded};
 use crate::watches::{Watch, count_asked, tell};
 use indexmap::IndexMap;
 use lv_bodies::{Body, Kind, Six, SixSummary};
@@ -195,11 +195,7 @@ impl Standing {
         if hi.saturating_sub(lo) <= SHORT {
             return folded(&self.live, kind, lo, hi);
         }
-        let answer = ask_by_kind(&self.live, &mut self.kinds, kind, lo, hi)?;
-        Ok(Answered {
-            edit: answer.edit,
-            value: answer.summary.shown(),
-        })
+        asked(&self.live, &mut self.kinds, kind, lo, hi)
     }
 
     /// The live vector.

@@ -1,12 +1,18 @@
 //! The value of one kind over a range.
 ghost use Rattle.std.specs.Prelude.{◌≡◌, Some, IfOk, IfErr};
+ghost use Rattle.lv_bodies.specs.Plain.{program_table};
 ghost use Rattle.lv_edits.specs.Kept.{IsLegalInLimits};
 ghost use Rattle.lv_reduce.specs.Answer.{range_refusal};
+ghost use Rattle.lv_reduce.specs.Asked.{AreTopsKnown};
+ghost use Rattle.lv_kinds.specs.Kinds.{AreKept, is_kept_by};
 ghost use Rattle.lv_standing.specs.Queries.{IsShown, IsValue};
+ghost use Rattle.lv_standing.specs.Standings.{StillKept};
 
+use crate::asking::ask_by_kind;
 use crate::notes::Answered;
 use lv_bodies::{Affine, Automaton, Best, Greatest, Kind, Least, Single, Six, Sum};
 use lv_geometry::Refusal;
+use lv_kinds::Kinds;
 use lv_live::Live;
 
 /// A range of at most so many elements is folded by the one kind, where they lie. That takes no longer than to look its summaries
@@ -42,4 +48,55 @@ fn folded_by<K: Single>(live: &Live<Six>, body: &K, lo: u32, hi: u32) -> Result<
         }),
         Err(refusal) => Err(refusal),
     }
+}
+
+/// The value of a kind over a range; what is computed for it is kept by that kind. Refused with `BadRange`, then `OutOfRange`.
+#[inline(never)]
+pub fn asked(
+    live: &Live<Six>,
+    kinds: &mut Kinds,
+    kind: Kind,
+    lo: u32,
+    hi: u32,
+) -> Result<Answered, Refusal>
+    requires limits { IsLegalInLimits live.now.history }
+    requires kept { AreKept program_table live.now.history.journal kinds.old }
+    ensures ok { IfOk result (λ answered. IsValue live.now.history.journal kind lo hi answered) }
+    ensures err { IfErr result (λ refusal. range_refusal live.now.history.journal lo hi ≡ Some refusal) }
+    ensures kept { AreKept program_table live.now.history.journal kinds.new }
+    ensures remembers { StillKept kinds.old kinds.new }
+    ensures known { IfOk result (λ _. AreTopsKnown (is_kept_by kinds.new kind) lo hi) }
+{
+    match kind {
+        Kind::Sum => asked_by(live, kinds, Kind::Sum, lo, hi),
+        Kind::Least => asked_by(live, kinds, Kind::Least, lo, hi),
+        Kind::Greatest => asked_by(live, kinds, Kind::Greatest, lo, hi),
+        Kind::Best => asked_by(live, kinds, Kind::Best, lo, hi),
+        Kind::Affine => asked_by(live, kinds, Kind::Affine, lo, hi),
+        Kind::Automaton => asked_by(live, kinds, Kind::Automaton, lo, hi),
+    }
+}
+
+// The same, made anew for each kind, so that no summary of another kind is moved.
+#[inline(always)]
+fn asked_by(
+    live: &Live<Six>,
+    kinds: &mut Kinds,
+    kind: Kind,
+    lo: u32,
+    hi: u32,
+) -> Result<Answered, Refusal>
+    requires limits { IsLegalInLimits live.now.history }
+    requires kept { AreKept program_table live.now.history.journal kinds.old }
+    ensures ok { IfOk result (λ answered. IsValue live.now.history.journal kind lo hi answered) }
+    ensures err { IfErr result (λ refusal. range_refusal live.now.history.journal lo hi ≡ Some refusal) }
+    ensures kept { AreKept program_table live.now.history.journal kinds.new }
+    ensures remembers { StillKept kinds.old kinds.new }
+    ensures known { IfOk result (λ _. AreTopsKnown (is_kept_by kinds.new kind) lo hi) }
+{
+    let answer = ask_by_kind(live, kinds, kind, lo, hi)?;
+    Ok(Answered {
+        edit: answer.edit,
+        value: answer.summary.shown(),
+    })
 }

@@ -10,16 +10,19 @@ pub make_room-requires : goal.make_room-requires
 make_room-requires g c =
     let size : c.size-size.result ≡ length (list_of g.before.journal) = c.size-size.ensures ∙ ap (λ (h : History). length (list_of h.journal)) c.requires.0 in
     let after : c.size_after.result ≡ size_after (length (list_of g.before.journal)) c.args.edit = c.size_after.ensures ∙ ap (λ n. size_after n c.args.edit) size in
-    omega (arith, after, (size_by_edit g.before c.args.edit c.requires.1.0 c.requires.1.1.0).1)
+    record {
+      room = subst (HaveRoomFor c.args.kinds.now) (sym size) c.requires.1.1.1.room;
+      few = omega (arith, after, (size_by_edit g.before c.args.edit c.requires.1.0 c.requires.1.1.0).1);
+    }
 
 pub follow-requires : goal.follow-requires
 follow-requires g c =
     let size : c.size-size.result ≡ length (list_of g.before.journal) = c.size-size.ensures ∙ ap (λ (h : History). length (list_of h.journal)) c.requires.0 in
     let after : c.size_after.result ≡ size_after (length (list_of g.before.journal)) c.args.edit = c.size_after.ensures ∙ ap (λ n. size_after n c.args.edit) size in
     let long = after ∙ sym (size_by_edit g.before c.args.edit c.requires.1.0 c.requires.1.1.0).0 in
-    (c.requires.1.0, (c.requires.1.1.0, (size, subst (HaveRoomFor c.make_room.new.self) long c.in-Ok.ensures.ok)))
+    (c.requires.1.0, (c.requires.1.1.0, (size, subst (HaveRoomFor c.make_room.new.kinds) long c.in-Ok.ensures.ok)))
 
 pub returns-clause-kept : goal.returns-clause-kept
 returns-clause-kept g c =
     let grown : c.make.new.self.history.journal ≡ g.before.journal ++ c.args.edit ∷ [] = ap (λ (h : History). h.journal) (c.in_ok-receipt.ensures.answer.journal ∙ ap (λ h. with_edit h c.args.edit) c.requires.0) in
-    rw grown (c.follow.ensures.kept program_table (AreKept-alike program_table g.before.journal c.args.kinds.now c.make_room.new.self c.in-Ok.ensures.alike c.requires.1.1.1))
+    rw grown (c.follow.ensures.kept program_table (AreKept-alike program_table g.before.journal c.args.kinds.now c.make_room.new.kinds c.in-Ok.ensures.alike c.requires.1.1.1))

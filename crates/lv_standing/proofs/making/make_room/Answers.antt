@@ -1,0 +1,8 @@
+use Rattle.lv_standing.proofs.RoomLaws.{HaveRoomFor-fewer, KeepsAlike-same}
+use Rattle.lv_standing.proofs.making.make_room.Goals as goal
+
+pub returns-then-after-size-clause-alike : goal.returns-then-after-size-clause-alike
+returns-then-after-size-clause-alike c = KeepsAlike-same c.args.kinds.now
+
+pub returns-then-after-size-clause-ok : goal.returns-then-after-size-clause-ok
+returns-then-after-size-clause-ok c = HaveRoomFor-fewer c.args.kinds.now c.args.size c.args.after c.if-after-size.true c.requires.room

@@ -1,0 +1,16 @@
+use Rattle.std.proofs.Common.{ap, ◌∙◌}
+use Rattle.lv_kinds.specs.KindSummaries.{shown_of}
+use Rattle.lv_kinds.proofs.KindLaws.{shown_is_plain}
+use Rattle.lv_reduce.specs.Answer.{slice_of}
+use Rattle.lv_standing.proofs.RangeLaws.{range_can_fold}
+use Rattle.lv_standing.proofs.values.asked_by.Goals as goal
+
+pub returns-clause-ok : goal.returns-clause-ok
+returns-clause-ok c =
+    let h = c.args.live.now.history in
+    let is = c.in_ok-answer.ensures.ok in
+    record {
+      granted = is.granted;
+      edit = is.edit;
+      value = c.shown.ensures ∙ ap shown_of is.summary ∙ shown_is_plain c.args.kind (slice_of h.journal c.args.lo c.args.hi) (range_can_fold h c.args.lo c.args.hi c.requires.limits);
+    }
