@@ -107,6 +107,11 @@ pub fn limits(matches: &ArgMatches<'_>) -> Limits {
     limits_of(buckets, edits)
 }
 
+/// At most how many jobs a script may claim, by a command's options: more than it has lines for, where they say nothing.
+pub fn jobs(matches: &ArgMatches<'_>) -> usize {
+    matches.get_one::<u32>("jobs").unwrap_or(u32::MAX) as usize
+}
+
 /// How sessions are served, by a command's options.
 pub fn plan(matches: &ArgMatches<'_>) -> Plan {
     Plan {

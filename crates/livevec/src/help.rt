@@ -53,7 +53,7 @@ A line that can't be obeyed is answered `refused N`, and changes nothing:
    3 OutOfRange: past the end               11 NoSuchName
    4 TooLarge: a reserve above the limit    12 TooMany: 64 names
    5 Full: as many elements as may be       19 NoJob: no job of that number
-   6 NoMemory
+   6 NoMemory; also of a claim past --jobs
 Any other line is answered `bad N`, N the line's number.";
 
 /// What `serve` does.

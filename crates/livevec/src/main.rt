@@ -33,7 +33,7 @@ use crate::usage::{Misuse, plus_in, unshown_in};
 use clap::{ArgMatches, Error};
 use lv_bodies::Sum;
 use lv_machine::Machine;
-use lv_script::{Fault, audit, audit_front, run_schedule, run_script};
+use lv_script::{Fault, audit, audit_front, run_schedule, run_script_within};
 use std::alloc::Global;
 use std::fs::Files;
 use std::io::{Read, Write};
@@ -121,7 +121,13 @@ where
     }
     match name {
         "run" => {
-            run_script(alloc, command_line::limits(asked), &mut rt.reader(), writer)?;
+            run_script_within(
+                alloc,
+                command_line::limits(asked),
+                command_line::jobs(asked),
+                &mut rt.reader(),
+                writer,
+            )?;
             Ok(0)
         }
         "serve" => serve(rt, asked, writer),

@@ -36,6 +36,14 @@ const EDITS: Number = Number {
     usual: "16777215",
 };
 
+const JOBS: Number = Number {
+    name: "jobs",
+    says: "At most how many jobs are claimed, 0 to 4294967295, which no script comes to",
+    least: 0,
+    most: 4_294_967_295,
+    usual: "4294967295",
+};
+
 const ACTORS: Number = Number {
     name: "actors",
     says: "How many actors there are, 1 to 8, with the numbers from 0 on",
@@ -94,7 +102,11 @@ pub const RUN: Mode = Mode {
     name: "run",
     about: help::RUN,
     after_help: help::LINES,
-    arguments: &[Argument::Number(BUCKETS), Argument::Number(EDITS)],
+    arguments: &[
+        Argument::Number(BUCKETS),
+        Argument::Number(EDITS),
+        Argument::Number(JOBS),
+    ],
 };
 
 /// `serve`.

@@ -5,7 +5,7 @@ use clap::ArgMatches;
 use std::fmt;
 
 // The options whose values are numbers.
-const NUMBERS: [&str; 5] = ["buckets", "edits", "actors", "workers", "turns"];
+const NUMBERS: [&str; 6] = ["buckets", "edits", "jobs", "actors", "workers", "turns"];
 
 /// Why a word of the command line is refused.
 #[derive(Clone, Copy)]

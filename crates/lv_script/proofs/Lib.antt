@@ -4,6 +4,7 @@ pub mod PlainRunLaws
 pub mod PlainStepLaws
 pub mod WholeLaws
 pub mod ScanLemmas
+pub mod BoundedLaws
 pub mod EventLaws
 pub mod Playing
 pub mod RestoredLaws

@@ -1,5 +1,5 @@
 -- What a script keeps: its vector with standing queries, and the jobs that were claimed.
-use Rattle.std.specs.Prelude.{◌≡◌, None, List, []}
+use Rattle.std.specs.Prelude.{◌≡◌, ◌≤◌, ℕ, None, List, [], length}
 use Rattle.lv_geometry.specs.Bounds.{Bounds}
 use Rattle.lv_geometry.specs.declared.nodes.Node.{Node}
 use Rattle.lv_bodies.specs.Six.{SixSummary}
@@ -8,12 +8,13 @@ use Rattle.lv_edits.specs.declared.edit.Edit.{Edit}
 use Rattle.lv_refresh.specs.Carried.{Carried}
 use Rattle.lv_live.specs.State.{with_issued}
 use Rattle.lv_standing.specs.Standings.{StandingState}
-use Rattle.lv_script.specs.Script.{ScriptState}
+use Rattle.lv_script.specs.Script.{ScriptState, ScriptStep}
 
--- a vector with standing queries, and the jobs that were claimed, in order
+-- a vector with standing queries, the jobs that were claimed, in order, and at most how many of them there may be
 pub record Scripted : Type 0 where
   pub standing : StandingState
   pub jobs : List (Carried Six SixSummary)
+  pub most : ℕ
 
 -- what such a script has seen
 abbrev pub state_of : StandingState → List (Carried Six SixSummary) → ScriptState
@@ -36,3 +37,14 @@ pub record BeginsAfter (limits : Bounds) (edits : List Edit) (s : ScriptState) :
   pub claimed : (n : Node) → s.seen.claimed n ≡ None
   pub kept : (n : Node) → s.seen.kept n ≡ None
   pub queries : s.queries ≡ []
+
+-- a script, and at most how many jobs it may claim
+pub record Bounded : Type 0 where
+  pub script : ScriptState
+  pub most : ℕ
+
+-- one line of it: it is answered as that of any script, and no more jobs are claimed than may be
+pub record BoundedStep (old : Bounded) (n : ℕ) (line text : List ℕ) (new : Bounded) : Type 0 where
+  pub step : ScriptStep old.script n line text new.script
+  pub most : new.most ≡ old.most
+  pub few : length old.script.seen.issued ≤ old.most → length new.script.seen.issued ≤ new.most

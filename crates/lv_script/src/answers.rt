@@ -1,4 +1,4 @@
-ghost use Rattle.std.specs.Prelude.{◌≡◌, ◌⊎◌, ◌*◌, ◌<◌, ◌++◌, List, ℕ, length, OnOk, IfErr, vec_len, vec_capacity};
+ghost use Rattle.std.specs.Prelude.{◌≡◌, ◌⊎◌, ◌+◌, ◌*◌, ◌<◌, ◌≤◌, ◌++◌, List, ℕ, length, OnOk, IfErr, vec_len, vec_capacity};
 ghost use Rattle.lv_bodies.specs.Six.{SixSummary, six_operations};
 ghost use Rattle.lv_bodies.specs.declared.sixes.Six.{Six};
 ghost use Rattle.lv_edits.specs.Capacity.{capacity_after};
@@ -53,6 +53,8 @@ pub fn answer<W: Write>(
         × CommandAnswer (state_of standing.old issued.old.jobs) command reply (state_of standing.new issued.new.jobs)
         × PutsFront W.contents outbox.old outbox.new reply) }
     ensures world { IsWorld six_operations standing.new.live issued.new.jobs }
+    ensures most { issued.new.most ≡ issued.old.most }
+    ensures few { length issued.old.jobs ≤ issued.old.most → length issued.new.jobs ≤ issued.new.most }
 {
     match command {
         Command::Edit(edit) => put_edit(alloc, standing, edit, outbox.held),
@@ -210,6 +212,8 @@ fn put_claim(standing: &mut Standing, issued: &mut Issued<Six>, held: &mut Vec<u
         × (held.new.items ≡ held.old.items ++ reply) }
     ensures world { IsWorld six_operations standing.old.live issued.old.jobs → IsWorld six_operations standing.new.live issued.new.jobs }
     ensures room { KeepsRoom held.old held.new }
+    ensures most { issued.new.most ≡ issued.old.most }
+    ensures few { length issued.old.jobs ≤ issued.old.most → length issued.new.jobs ≤ issued.new.most }
 {
     let Ok(()) = issued.make_room(1) else {
         put_refusal(held, Refusal::NoMemory);
@@ -226,6 +230,8 @@ fn put_next_job(standing: &mut Standing, issued: &mut Issued<Six>, held: &mut Ve
         × (held.new.items ≡ held.old.items ++ reply) }
     ensures world { IsWorld six_operations standing.old.live issued.old.jobs → IsWorld six_operations standing.new.live issued.new.jobs }
     ensures room { KeepsRoom held.old held.new }
+    ensures most { issued.new.most ≡ issued.old.most }
+    ensures few { length issued.new.jobs ≤ length issued.old.jobs + 1 }
 {
     let Some(job) = standing.claim() else {
         put_idle(held);

@@ -44,4 +44,4 @@ pub use scan_replies::put_scan;
 pub use scans::Asked;
 pub use schedule_replies::{put_said, said_shown};
 pub use schedules::run_schedule;
-pub use scripts::run_script;
+pub use scripts::{run_script, run_script_within};

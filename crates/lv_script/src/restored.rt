@@ -56,7 +56,7 @@ pub fn resume_script<R: Read, W: Write>(
 {
     let mut standing = Standing::new(alloc, limits);
     match make_all(alloc, &mut standing, edits) {
-        Ok(()) => answer_script(alloc, standing, reader, writer),
+        Ok(()) => answer_script(alloc, standing, usize::MAX, reader, writer),
         Err(_) => {
             drop(standing);
             Err(Fault::NoMemory)

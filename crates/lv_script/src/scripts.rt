@@ -8,7 +8,7 @@ ghost use Rattle.lv_lines.specs.Replies.{Conversed, FailsToReply, Replies};
 ghost use Rattle.lv_script.specs.PlainRuns.{IsPlainText, NeverWants, PlainStep};
 ghost use Rattle.lv_script.specs.PlainScript.{Plain, start};
 ghost use Rattle.lv_script.specs.Script.{LineAnswer, ScriptState, ScriptStep};
-ghost use Rattle.lv_script.specs.Scripted.{Begins, state_of};
+ghost use Rattle.lv_script.specs.Scripted.{Begins, Bounded, BoundedStep, state_of};
 
 use crate::answers::{ROOM, answer};
 use lv_bodies::Six;
@@ -40,23 +40,43 @@ pub fn run_script<R: Read, W: Write>(
     ensures text { OnOk result ((input : List ℕ) × (text : List ℕ) × Consumes (R.remaining reader.old) (R.remaining reader.new) input × IsAtEnd (R.remaining reader.new)
         × Appends (W.contents writer.old) (W.contents writer.new) text × (NeverWants text → IsPlainText limits input text)) }
 {
-    answer_script(alloc, Standing::new(alloc, limits), reader, writer)
+    run_script_within(alloc, limits, usize::MAX, reader, writer)
 }
 
-// Answers a script by a vector with standing queries, of which no job was claimed.
+/// Answers a script as `run_script` does, in which at most so many jobs are claimed: a claim past them is refused with `NoMemory`, and
+/// changes nothing. Jobs that were claimed may be delivered for good.
+pub fn run_script_within<R: Read, W: Write>(
+    alloc: Global,
+    limits: Limits,
+    jobs: usize,
+    reader: &mut R,
+    writer: &mut W,
+) -> Result<(), Fault>
+    ensures seen { (first : ScriptState) × (last : ScriptState) × Begins limits first × (length last.seen.issued ≤ jobs) × Conversed ScriptStep first last
+        (R.remaining reader.old) (R.remaining reader.new) (W.contents writer.old) (W.contents writer.new) result }
+    ensures plain { (last : Plain) × Conversed PlainStep (start limits) last
+        (R.remaining reader.old) (R.remaining reader.new) (W.contents writer.old) (W.contents writer.new) result }
+    ensures text { OnOk result ((input : List ℕ) × (text : List ℕ) × Consumes (R.remaining reader.old) (R.remaining reader.new) input × IsAtEnd (R.remaining reader.new)
+        × Appends (W.contents writer.old) (W.contents writer.new) text × (NeverWants text → IsPlainText limits input text)) }
+{
+    answer_script(alloc, Standing::new(alloc, limits), jobs, reader, writer)
+}
+
+// Answers a script by a vector with standing queries, of which no job was claimed, and at most so many may be.
 pub(crate) fn answer_script<R: Read, W: Write>(
     alloc: Global,
     standing: Standing,
+    jobs: usize,
     reader: &mut R,
     writer: &mut W,
 ) -> Result<(), Fault>
     requires { IsLegalInLimits standing.live.history }
-    ensures { (last : ScriptState) × Conversed ScriptStep (state_of standing []) last
+    ensures { (last : ScriptState) × (length last.seen.issued ≤ jobs) × Conversed ScriptStep (state_of standing []) last
         (R.remaining reader.old) (R.remaining reader.new) (W.contents writer.old) (W.contents writer.new) result }
 {
     let mut script = Script {
         standing,
-        issued: Issued::new(alloc),
+        issued: Issued::at_most(alloc, jobs),
         alloc,
     };
     let ended = converse(alloc, &mut script, reader, writer);
@@ -79,17 +99,17 @@ impl Model for Script {
 
     ghost Value = { Scripted };
 
-    ghost view = { λ a. record { standing = a.standing; jobs = a.issued.jobs } };
+    ghost view = { λ a. record { standing = a.standing; jobs = a.issued.jobs; most = a.issued.most } };
 
     ghost invariant = { λ a. IsWorld six_operations a.standing.live a.issued.jobs };
 }
 
 impl Responder for Script {
-    ghost State = { ScriptState };
+    ghost State = { Bounded };
 
-    ghost state = { λ s. state_of s.standing s.jobs };
+    ghost state = { λ s. record { script = state_of s.standing s.jobs; most = s.most } };
 
-    ghost step = { ScriptStep };
+    ghost step = { BoundedStep };
 
     fn respond<W: Write>(
         &mut self,
@@ -127,6 +147,8 @@ fn answer_line<W: Write>(
         × LineAnswer (state_of standing.old issued.old.jobs) number line reply (state_of standing.new issued.new.jobs)
         × PutsFront W.contents outbox.old outbox.new reply) }
     ensures world { IsWorld six_operations standing.new.live issued.new.jobs }
+    ensures most { issued.new.most ≡ issued.old.most }
+    ensures few { length issued.old.jobs ≤ issued.old.most → length issued.new.jobs ≤ issued.new.most }
 {
     match line {
         Line::Nothing => {}

@@ -17,7 +17,7 @@ returns-in-Ok g c =
       kept = λ n. made.refresh.kept n ∙ fresh.nothing_kept n;
       queries = made.queries ∙ fresh.queries;
     }
-    c.answer_script.ensures.1
+    c.answer_script.ensures.2
 
 pub returns-in-Err : goal.returns-in-Err
 returns-in-Err g c = answers_none _ _ _ _

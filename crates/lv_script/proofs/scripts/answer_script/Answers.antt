@@ -1,4 +1,9 @@
+use Rattle.std.proofs.Common.{[], refl, arith}
+use Rattle.lv_script.specs.Scripted.{Bounded, state_of}
+use Rattle.lv_script.proofs.BoundedLaws.{conversed_within}
 use Rattle.lv_script.proofs.scripts.answer_script.Goals as goal
 
 pub returns : goal.returns
-returns g c = (_, rw c.new.ensures.jobs at c.converse-ended.ensures)
+returns g c =
+    let first : Bounded = record { script = state_of c.args.standing []; most = c.args.jobs } in
+    conversed_within c.args.jobs first _ _ _ _ _ _ refl (omega arith) (rw c.at_most.ensures.jobs at (rw c.at_most.ensures.most at c.converse-ended.ensures))
