@@ -10,7 +10,7 @@ CC = cc
 LIB = build
 SO = $(LIB)
 # what livevec.hpp includes
-CPP_PARTS = include/livevec_base.hpp include/livevec_board.hpp include/livevec_summary.hpp
+CPP_PARTS = include/livevec_base.hpp include/livevec_board.hpp include/livevec_columns.hpp include/livevec_summary.hpp
 # what programs that are linked with liblivevec.so ask for: another number where they would no longer run
 SONAME = liblivevec.so.1
 # tells the system's loader what was installed, where that is allowed and nothing is only staged
@@ -73,8 +73,8 @@ dashboard: so ## serves live charts of FEED=.., or of this machine, in a browser
 	if [ -n "$(FEED)" ]; then exec python3 -m livevec_dashboard "$(FEED)" $(WITH); \
 	else examples/machine_load.py | python3 -m livevec_dashboard - --title "this machine" $(WITH); fi
 
-test-bindings: ## tests Rust, Python, MPI, Dask and what was installed
-	@tools/timed test-bindings "tests Rust, Python, MPI, Dask and what is installed" "some 4 min" bindings/check
+test-bindings: ## tests C++, Rust, Python, MPI, Dask and what was installed
+	@tools/timed test-bindings "tests C++, Rust, Python, MPI, Dask and what is installed" "some 4 min" bindings/check
 
 dist: build lib so ## packs what was proved and built into build/livevec-VERSION-PLATFORM.tar.gz
 	@tools/dist

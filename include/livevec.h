@@ -210,6 +210,24 @@ typedef struct livevec_scanned {
     uint32_t length; /* how many values were written; 0 where it was refused */
 } livevec_scanned;
 
+/* The cells of the columns that scans by one kind write, where a number isn't enough. A best total has 128 bits in two's complement:
+ * its low 64 bits, and its high 64 bits, which have the sign. */
+typedef struct livevec_total {
+    uint64_t low;
+    int64_t high;
+} livevec_total;
+
+/* The map y -> a * y + b modulo 2^32. */
+typedef struct livevec_map {
+    uint32_t a;
+    uint32_t b;
+} livevec_map;
+
+/* The state that the elements lead to from each of the eight. */
+typedef struct livevec_states {
+    uint8_t to[8];
+} livevec_states;
+
 /* What many pushes answer. */
 typedef struct livevec_pushed {
     uint32_t refusal; /* of the push that was refused; 0 where none was */
@@ -297,7 +315,8 @@ LIVEVEC_MUST_USE uint32_t livevec_new(livevec_vector *slot, uint32_t buckets, ui
 LIVEVEC_MUST_USE uint32_t livevec_new_with_table(livevec_vector *slot, uint32_t buckets, uint32_t edits,
                                                  const livevec_table *table);
 
-/* Frees a vector and empties its slot. Its jobs and outcomes stay good for nothing but to be freed. Refusals: NULL, NO_HANDLE. */
+/* Frees a vector and empties its slot. Its jobs and outcomes stay good for nothing but to be freed. Each free is of its own type: of a
+ * slot that holds something else, as one that was cast, it answers NO_HANDLE and frees nothing. Refusals: NULL, NO_HANDLE. */
 uint32_t livevec_free(livevec_vector *slot);
 
 /* Puts an element at the end. `place` is its index. Refusals: NULL, NO_HANDLE, WORN, FULL, NO_MEMORY. */
@@ -382,6 +401,38 @@ LIVEVEC_MUST_USE livevec_scanned livevec_scan_inclusive(livevec_vector *slot, ui
 LIVEVEC_MUST_USE livevec_scanned livevec_scan_exclusive(livevec_vector *slot, uint32_t lo, uint32_t hi, livevec_values *buffer,
                                                         size_t length);
 
+/* The running values of a range by one kind, into a column of the caller's: column[i] has that of the elements from lo up to lo + i,
+ * that one included, or excluded. All are those after one edit, which `edit` tells. Writes hi - lo cells, whose last is the value of
+ * the whole range, or of all but its last element; `length` is how many places the column has, and what it has behind the cells stays.
+ * Where no element stands before, the least, the greatest and the best are 0, as livevec_value shows them: only at column[0] of an
+ * exclusive scan. A call goes over the elements once and keeps nothing; it takes no memory and changes no answer.
+ * Where it was refused the column is as it was.
+ * Refusals: NULL, NO_HANDLE, BAD_RANGE, OUT_OF_RANGE, SHORT_BUFFER. */
+LIVEVEC_MUST_USE livevec_scanned livevec_scan_inclusive_sum(livevec_vector *slot, uint32_t lo, uint32_t hi, uint64_t *column,
+                                                            size_t length);
+LIVEVEC_MUST_USE livevec_scanned livevec_scan_inclusive_least(livevec_vector *slot, uint32_t lo, uint32_t hi, int64_t *column,
+                                                              size_t length);
+LIVEVEC_MUST_USE livevec_scanned livevec_scan_inclusive_greatest(livevec_vector *slot, uint32_t lo, uint32_t hi, int64_t *column,
+                                                                 size_t length);
+LIVEVEC_MUST_USE livevec_scanned livevec_scan_inclusive_best(livevec_vector *slot, uint32_t lo, uint32_t hi, livevec_total *column,
+                                                             size_t length);
+LIVEVEC_MUST_USE livevec_scanned livevec_scan_inclusive_affine(livevec_vector *slot, uint32_t lo, uint32_t hi, livevec_map *column,
+                                                               size_t length);
+LIVEVEC_MUST_USE livevec_scanned livevec_scan_inclusive_automaton(livevec_vector *slot, uint32_t lo, uint32_t hi, livevec_states *column,
+                                                                  size_t length);
+LIVEVEC_MUST_USE livevec_scanned livevec_scan_exclusive_sum(livevec_vector *slot, uint32_t lo, uint32_t hi, uint64_t *column,
+                                                            size_t length);
+LIVEVEC_MUST_USE livevec_scanned livevec_scan_exclusive_least(livevec_vector *slot, uint32_t lo, uint32_t hi, int64_t *column,
+                                                              size_t length);
+LIVEVEC_MUST_USE livevec_scanned livevec_scan_exclusive_greatest(livevec_vector *slot, uint32_t lo, uint32_t hi, int64_t *column,
+                                                                 size_t length);
+LIVEVEC_MUST_USE livevec_scanned livevec_scan_exclusive_best(livevec_vector *slot, uint32_t lo, uint32_t hi, livevec_total *column,
+                                                             size_t length);
+LIVEVEC_MUST_USE livevec_scanned livevec_scan_exclusive_affine(livevec_vector *slot, uint32_t lo, uint32_t hi, livevec_map *column,
+                                                               size_t length);
+LIVEVEC_MUST_USE livevec_scanned livevec_scan_exclusive_automaton(livevec_vector *slot, uint32_t lo, uint32_t hi, livevec_states *column,
+                                                                  size_t length);
+
 /* --- Summaries that travel: of shards in several threads, processes or machines, joined in the order of their elements. They
  * hold nothing of a vector, and but for livevec_summary_of no call needs a slot or answers BUSY. No call takes memory. Joins
  * may be taken in any grouping, left and right kept: all come to the summary of all elements end to end. --- */
@@ -437,7 +488,8 @@ livevec_accepted livevec_accept(livevec_vector *slot, livevec_outcome *outcome);
 /* Forgets all claims, so that their nodes may be claimed again. Jobs that were handed out stay good. Refusals: NULL, NO_HANDLE. */
 uint32_t livevec_forget(livevec_vector *slot);
 
-/* Frees a job that is not run; frees an outcome. The slot is then empty. Refusals: NULL, NO_HANDLE. */
+/* Frees a job that is not run; frees an outcome. The slot is then empty. Of a slot that holds something else, as a vector, each
+ * answers NO_HANDLE and frees nothing. Refusals: NULL, NO_HANDLE. */
 uint32_t livevec_free_job(livevec_job *job);
 uint32_t livevec_free_outcome(livevec_outcome *outcome);
 

@@ -1,6 +1,7 @@
 /* livevec for C++17: livevec.h by move-only classes that free what they own. What a call refuses is thrown as livevec::refused, and
  * nothing has changed then. Header only; link what livevec.h links. The board and its seats stand in livevec_board.hpp, summaries
- * that travel in livevec_summary.hpp, and what all classes share in livevec_base.hpp; this header brings them all.
+ * that travel in livevec_summary.hpp, cells of columns in livevec_columns.hpp, and what all classes share in livevec_base.hpp; this
+ * header brings them all.
  *
  * An object serves one call at a time: a call beside another at the same object is refused with LIVEVEC_BUSY. Put a mutex round it where
  * threads share one. A job may be run by any thread, beside any call at its vector. A call at an object that was moved from is
@@ -17,6 +18,7 @@
 
 #include "livevec_base.hpp"
 #include "livevec_board.hpp"
+#include "livevec_columns.hpp"
 #include "livevec_summary.hpp"
 
 #include <cstddef>
@@ -211,8 +213,27 @@ class vector : public inner::owned<livevec_vector, livevec_free> {
     summary summarise(std::uint32_t lo, std::uint32_t hi) const { return summary(summary::made(livevec_summary_of(slot(), lo, hi))); }
 
     /* The values of each beginning of a range, the element itself included, or excluded. */
-    [[nodiscard]] std::vector<livevec_values> scan_inclusive(std::uint32_t lo, std::uint32_t hi) const { return scan(livevec_scan_inclusive, lo, hi); }
-    [[nodiscard]] std::vector<livevec_values> scan_exclusive(std::uint32_t lo, std::uint32_t hi) const { return scan(livevec_scan_exclusive, lo, hi); }
+    [[nodiscard]] std::vector<livevec_values> scan_inclusive(std::uint32_t lo, std::uint32_t hi) const { return column<livevec_values>(livevec_scan_inclusive, lo, hi); }
+    [[nodiscard]] std::vector<livevec_values> scan_exclusive(std::uint32_t lo, std::uint32_t hi) const { return column<livevec_values>(livevec_scan_exclusive, lo, hi); }
+
+    /* The running values of a range by one kind, as scan_inclusive<LIVEVEC_SUM>(0, n): in a column of its own; into the front of a column of the
+     * caller's, and how many they are. They are those after the last edit. Of no elements the least, the greatest and the best are 0. */
+    template <livevec_kind Kind> [[nodiscard]] std::vector<cell<Kind>> scan_inclusive(std::uint32_t lo, std::uint32_t hi) const
+    {
+        return column<cell<Kind>>(inner::by<Kind>::inclusive, lo, hi);
+    }
+    template <livevec_kind Kind> [[nodiscard]] std::vector<cell<Kind>> scan_exclusive(std::uint32_t lo, std::uint32_t hi) const
+    {
+        return column<cell<Kind>>(inner::by<Kind>::exclusive, lo, hi);
+    }
+    template <livevec_kind Kind> std::uint32_t scan_inclusive_into(std::uint32_t lo, std::uint32_t hi, view<cell<Kind>> column) const
+    {
+        return inner::checked(inner::by<Kind>::inclusive(slot(), lo, hi, column.data(), column.size())).length;
+    }
+    template <livevec_kind Kind> std::uint32_t scan_exclusive_into(std::uint32_t lo, std::uint32_t hi, view<cell<Kind>> column) const
+    {
+        return inner::checked(inner::by<Kind>::exclusive(slot(), lo, hi, column.data(), column.size())).length;
+    }
 
     /* Refresh. No answer changes by it. */
     std::uint32_t refresh(std::uint32_t jobs) { return inner::counted(livevec_refresh(slot(), jobs)); }
@@ -246,11 +267,12 @@ class vector : public inner::owned<livevec_vector, livevec_free> {
         return values.any ? std::optional<std::int64_t>(values.*which) : std::nullopt;
     }
 
-    template <class Call> std::vector<livevec_values> scan(Call call, std::uint32_t lo, std::uint32_t hi) const
+    /* A column of its own, that a call of C fills. */
+    template <class Cell, class Call> std::vector<Cell> column(Call call, std::uint32_t lo, std::uint32_t hi) const
     {
-        std::vector<livevec_values> values(lo < hi && hi <= size() ? hi - lo : 0);
-        inner::checked(call(slot(), lo, hi, values.data(), values.size()));
-        return values;
+        std::vector<Cell> cells(lo < hi && hi <= size() ? hi - lo : 0);
+        inner::checked(call(slot(), lo, hi, cells.data(), cells.size()));
+        return cells;
     }
 
     /* What a clone is made by. */

@@ -207,21 +207,8 @@ uint32_t livevec_board_new(livevec_board *slot, uint32_t kind, uint32_t buckets,
     return told;
 }
 
-/* One export frees whatever a slot holds. */
-uint32_t livevec_proved_free(void *slot);
-
-/* `livevec_NAME` frees what a slot of its type holds. */
-#define FREED(name, type)                           \
-    uint32_t livevec_##name(type *slot)             \
-    {                                               \
-        if (!slot)                                  \
-            return LIVEVEC_NULL;                    \
-        if (!enter(&slot->busy_))                   \
-            return LIVEVEC_BUSY;                    \
-        uint32_t told = livevec_proved_free(slot);  \
-        leave(&slot->busy_);                        \
-        return told;                                \
-    }
+/* `livevec_NAME` frees what a slot of its type holds, and nothing else. */
+#define FREED(name, type) TOLD(name, (type *slot), slot, (slot))
 
 FREED(free, livevec_vector)
 FREED(free_job, livevec_job)
@@ -390,6 +377,43 @@ static livevec_scanned judge(livevec_vector *slot, uint32_t lo, uint32_t hi, siz
 FILLED(read, int64_t, livevec_proved_get(slot, lo + i).value)
 FILLED(scan_inclusive, livevec_values, livevec_proved_ask(slot, lo, lo + i + 1).values)
 FILLED(scan_exclusive, livevec_values, livevec_proved_ask(slot, lo, lo + i).values)
+
+/* Scans by one kind: a proved call writes the whole column. It is never given a null pointer: where there are no places, they begin
+ * anywhere. */
+#define SCANNED(name, cell)                                                                                            \
+    livevec_scanned livevec_proved_scan_##name(livevec_vector *slot, uint32_t lo, uint32_t hi, bool inclusive,         \
+                                               cell *column, size_t length);                                           \
+    static livevec_scanned scan_##name(livevec_vector *slot, uint32_t lo, uint32_t hi, bool inclusive, cell *column,   \
+                                       size_t length)                                                                  \
+    {                                                                                                                  \
+        livevec_scanned answer = {LIVEVEC_NULL, 0, 0, 0};                                                              \
+        cell nowhere;                                                                                                  \
+        if (!slot || (!column && length))                                                                              \
+            return answer;                                                                                             \
+        answer.refusal = LIVEVEC_BUSY;                                                                                 \
+        if (!enter(&slot->busy_))                                                                                      \
+            return answer;                                                                                             \
+        answer = livevec_proved_scan_##name(slot, lo, hi, inclusive, column ? column : &nowhere, length);              \
+        leave(&slot->busy_);                                                                                           \
+        return answer;                                                                                                 \
+    }                                                                                                                  \
+    livevec_scanned livevec_scan_inclusive_##name(livevec_vector *slot, uint32_t lo, uint32_t hi, cell *column,        \
+                                                  size_t length)                                                       \
+    {                                                                                                                  \
+        return scan_##name(slot, lo, hi, true, column, length);                                                        \
+    }                                                                                                                  \
+    livevec_scanned livevec_scan_exclusive_##name(livevec_vector *slot, uint32_t lo, uint32_t hi, cell *column,        \
+                                                  size_t length)                                                       \
+    {                                                                                                                  \
+        return scan_##name(slot, lo, hi, false, column, length);                                                       \
+    }
+
+SCANNED(sum, uint64_t)
+SCANNED(least, int64_t)
+SCANNED(greatest, int64_t)
+SCANNED(best, livevec_total)
+SCANNED(affine, livevec_map)
+SCANNED(automaton, livevec_states)
 
 /* Reads a closed board whose slot is entered. */
 static uint32_t read_closed(livevec_board *board, int64_t *buffer, size_t room, uint32_t *count)

@@ -357,6 +357,7 @@ int main(void)
     empty_arrays();
     beside();
     kinds();
+    columns();
     summaries();
     boards();
     printf("%d checks, %d failed\n", checks, failures);

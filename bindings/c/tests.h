@@ -21,6 +21,9 @@ void beside(void);
 /* The tests of questions by one kind, and of many writes and questions at once. */
 void kinds(void);
 
+/* The tests of scans by one kind into columns. */
+void columns(void);
+
 /* The tests of summaries that travel. */
 void summaries(void);
 

@@ -163,6 +163,20 @@ static void is_scanned()
     IS(!all.best(1, 1));
 }
 
+static void is_scanned_into_columns()
+{
+    const livevec::vector all{3, -5, 4};
+    const std::vector<std::uint64_t> sums = all.scan_inclusive<LIVEVEC_SUM>(0, 3);
+    IS(sums.size() == 3 && sums[0] == 3 && sums[1] == std::uint64_t(-2) && sums[2] == 2);
+    const std::vector<livevec_total> best = all.scan_exclusive<LIVEVEC_BEST>(0, 3);
+    IS(livevec::total(best[0]) == 0 && livevec::total(best[1]) == 3 && livevec::total(livevec_total{1, -1}) == 1 - (livevec::int128(1) << 64));
+    std::vector<std::int64_t> least(4, 7);
+    IS(all.scan_exclusive_into<LIVEVEC_LEAST>(0, 3, least) == 3 && least[0] == 0 && least[1] == 3 && least[2] == -5 && least[3] == 7);
+    IS(all.scan_inclusive<LIVEVEC_AUTOMATON>(2, 3)[0].to[1] == 2 && all.scan_inclusive<LIVEVEC_AFFINE>(0, 1)[0].b == 3);
+    IS(refusal_of([&] { all.scan_inclusive_into<LIVEVEC_GREATEST>(0, 3, livevec::buffer_view(least.data(), 2)); }) == LIVEVEC_SHORT_BUFFER);
+    IS(refusal_of([&] { (void)all.scan_inclusive<LIVEVEC_SUM>(2, 1); }) == LIVEVEC_BAD_RANGE && all.scan_inclusive<LIVEVEC_SUM>(1, 1).empty());
+}
+
 static void sits_at_a_board()
 {
     livevec::board board(LIVEVEC_LEAST, 2, 1, 100);
@@ -223,6 +237,7 @@ int main()
     goes_through_a_copy();
     is_cloned_and_compared();
     is_scanned();
+    is_scanned_into_columns();
     is_asked_by_one_kind();
     takes_many_writes();
     sits_at_a_board();

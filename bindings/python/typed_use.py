@@ -35,7 +35,9 @@ def vectors(prices: Vector, some: Prices) -> None:
     prices += numbers
     prices.extend(every)
     prices.read_into(memoryview(every), 0, 1)
-    print(least, whole, last.best, why, same, one, many)
+    sums: memoryview = prices.scan_inclusive_by("sum", index).cells
+    filled: int = prices.scan_exclusive_into(Kind.LEAST, every)
+    print(least, whole, last.best, why, same, one, many, sums, filled)
 
 
 def wrong_vectors(prices: Vector) -> None:

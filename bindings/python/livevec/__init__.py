@@ -15,7 +15,7 @@ own folders); in `lib` of the interpreter's prefix, which is that of a virtual e
 
 Threads. A `Vector`'s calls into C keep the interpreter's lock, so it may be used by several threads, one call at a time. What takes more than
 one call (`vector[-1]`, a loop over the elements, `edits` after a push) needs a lock of your own if another thread edits meanwhile.
-`value_many` and `write_many` release the interpreter's lock, so that other threads run meanwhile. Of such a call and another one at the same
+`value_many`, `write_many` and scans by one kind release the interpreter's lock, so that other threads run meanwhile. Of such a call and another one at the same
 vector, beside it, the one that comes second raises Busy.
 A `Board` is for threads: each has a `Seat`, whose calls into C release the interpreter's lock and wait for no other thread.
 
@@ -45,7 +45,7 @@ if TYPE_CHECKING:
         def __array_interface__(self) -> Any: ...
 
 __all__ = [
-    "Vector", "Job", "Outcome", "Scan", "Summary", "Values", "Reduced", "Delivered", "Became", "Node",
+    "Vector", "Job", "Outcome", "Scan", "Column", "Summary", "Values", "Reduced", "Delivered", "Became", "Node",
     "Board", "Seat", "Kind", "Told", "Refreshed", "Finished",
     "Refusal", "Worn", "Empty", "OutOfRange", "TooLarge", "Full", "NoMemory", "BadRange", "BadLimits", "BadTable", "Stranger", "Closed",
     "ShortBuffer", "TooWide", "Outrun", "Contended", "Overtaken", "NoSeat", "SeatsOut", "Busy", "OtherVersion", "Damaged", "OtherTable", "TooLong",
@@ -490,6 +490,10 @@ _value = _call("livevec_value", _Reduced, _slot, _u32, _u32, _u32)
 _value_many = _call("livevec_value_many", _Many, _slot, _u32, _pointer, _pointer, _size, by=_released)
 _scan_inclusive = _call("livevec_scan_inclusive", _Scanned, _slot, _u32, _u32, _pointer, _size)
 _scan_exclusive = _call("livevec_scan_exclusive", _Scanned, _slot, _u32, _u32, _pointer, _size)
+# scans by one kind write columns, and take long enough to release the interpreter's lock
+_columns_inclusive, _columns_exclusive = (
+    {name: _call(f"livevec_scan_{way}_{name}", _Scanned, _slot, _u32, _u32, _pointer, _size, by=_released)
+     for name in ("sum", "least", "greatest", "best", "affine", "automaton")} for way in ("inclusive", "exclusive"))
 # a summary's bytes are read during the call alone
 _sealed = ctypes.c_char_p
 _summary_empty = _call("livevec_summary_empty", _Summarised)
@@ -669,6 +673,18 @@ class Scan(collections.abc.Sequence[Values]):
 
     def __repr__(self) -> str:
         return f"<livevec.Scan of {self._length} at edit {self.edit}>"
+
+
+class Column(NamedTuple):
+    """The running values of a range by one kind, and the edit after which they are so.
+
+    `cells` is a view of numbers side by side, which numpy views without a copy: `numpy.asarray(column.cells)`. Of the sum, the least and the
+    greatest it has one number of 64 bits with a sign an element; of the best, two: the total modulo 2**64, which is the total wherever that
+    fits, and its high 64 bits; of affine, two of 32 bits, a and b; of the automaton, eight states of 8 bits. Of no elements the least, the
+    greatest and the best are 0."""
+
+    edit: int
+    cells: memoryview
 
 
 # --- Summaries that travel ---
@@ -1092,7 +1108,7 @@ class Vector(_Handle, collections.abc.Sequence[int]):
         of either. Any other raises TypeError. Raises BadRange, OutOfRange, ShortBuffer.
         """
         view = memoryview(buffer)  # type: ignore[arg-type]
-        if not _is_plain(view) or view.readonly or not view.c_contiguous:
+        if _is_masked(buffer) or not _is_plain(view) or view.readonly or not view.c_contiguous:
             raise TypeError("elements are read into a buffer of 64-bit numbers with a sign, side by side, that may be written to")
         lo, hi = self._range(lo, hi)
         # an address is needed also where there is nothing to write
@@ -1208,6 +1224,29 @@ class Vector(_Handle, collections.abc.Sequence[int]):
         """The values of each beginning of a range, the element itself excluded. Raises BadRange, OutOfRange, MemoryError."""
         return self._scan(_scan_exclusive, lo, hi)
 
+    def scan_inclusive_by(self, kind: Union[Kind, str], lo: int = 0, hi: Optional[int] = None) -> Column:
+        """The running values of a range by one kind, the element itself included, as one column.
+
+        One call of C goes over the elements once, and keeps nothing. Other threads run meanwhile; beside a call of theirs at this vector, the
+        second of the two raises Busy. Raises BadRange, OutOfRange, MemoryError; ValueError of what is no kind."""
+        return self._column(_columns_inclusive, _kind_of(kind), lo, hi)
+
+    def scan_exclusive_by(self, kind: Union[Kind, str], lo: int = 0, hi: Optional[int] = None) -> Column:
+        """The same, the element itself excluded. Raises as `scan_inclusive_by` does."""
+        return self._column(_columns_exclusive, _kind_of(kind), lo, hi)
+
+    def scan_inclusive_into(self, kind: Union[Kind, str], buffer: Union[WriteableBuffer, _NumpyArray], lo: int = 0, hi: Optional[int] = None) -> int:
+        """Writes such a column into the front of a buffer, where that lies, and gives how many cells it has.
+
+        The buffer has numbers of the cells' width side by side, as many an element as a cell has, and may be written to: a numpy array of
+        int64 for the sum, of n times 2 uint32 for affine. The sum goes into uint64 too. Any other raises TypeError. What the buffer has
+        behind stays. Raises ShortBuffer, and what `scan_inclusive_by` raises but MemoryError; the buffer is then as it was."""
+        return self._fill(_columns_inclusive, _kind_of(kind), buffer, lo, hi)
+
+    def scan_exclusive_into(self, kind: Union[Kind, str], buffer: Union[WriteableBuffer, _NumpyArray], lo: int = 0, hi: Optional[int] = None) -> int:
+        """The same, the element itself excluded. Raises as `scan_inclusive_into` does."""
+        return self._fill(_columns_exclusive, _kind_of(kind), buffer, lo, hi)
+
     # Refresh: summaries are computed so that reductions read less. No answer changes by it.
 
     def refresh(self, jobs: int = _MOST_U32) -> int:
@@ -1294,6 +1333,30 @@ class Vector(_Handle, collections.abc.Sequence[int]):
         if did.refusal:
             raise _refuse(did.refusal, did.detail)
         return Scan(did.edit, room, did.length)
+
+    def _column(self, calls: dict[str, Callable[..., _Scanned]], kind: Kind, lo: int, hi: Optional[int]) -> Column:
+        lo, hi = self._range(lo, hi)
+        length = self._room(lo, hi)
+        of, count = _CELLS[kind]
+        width = count * struct.calcsize(of)
+        room = bytearray(max(length, 1) * width)
+        did = calls[kind.name.lower()](self._at, lo, hi, ctypes.byref(_address(room)), length)
+        if did.refusal:
+            raise _refuse(did.refusal, did.detail)
+        cells = memoryview(room)[: did.length * width]
+        # no view of several dimensions has none of its rows
+        return Column(did.edit, cells.cast(of) if count == 1 or not cells else cells.cast(of, [did.length, count]))
+
+    def _fill(self, calls: dict[str, Callable[..., _Scanned]], kind: Kind, buffer: Any, lo: int, hi: Optional[int]) -> int:
+        of, count = _CELLS[kind]
+        view = _as_column(buffer, of, count)
+        lo, hi = self._range(lo, hi)
+        length = view.nbytes // (count * struct.calcsize(of))
+        # an address is needed also where there is nothing to write
+        did = calls[kind.name.lower()](self._at, lo, hi, ctypes.byref(_address(view if length else bytearray(16))), length)
+        if did.refusal:
+            raise _refuse(did.refusal, did.detail)
+        return did.length
 
 
 def _remade(of: type[_SomeVector], elements: array[int], buckets: int, edits: int, table: Optional[Sequence[Sequence[int]]]) -> _SomeVector:
@@ -1558,6 +1621,26 @@ def _as_short(value: int) -> int:
     return max(_LEAST_I64, min(operator.index(value), _MOST_I64))
 
 
+# what a cell of a column is, by the kind: the format of a number, and how many there are
+_CELLS = {Kind.SUM: ("q", 1), Kind.LEAST: ("q", 1), Kind.GREATEST: ("q", 1), Kind.BEST: ("q", 2), Kind.AFFINE: ("I", 2), Kind.AUTOMATON: ("B", 8)}
+# which letters stand for numbers of a width
+_ALIKE = {"q": "qlQL", "I": "IL", "B": "B"}
+
+
+def _as_column(buffer: Any, of: str, count: int) -> memoryview:
+    """A buffer whose numbers are those of cells, side by side, and that may be written to."""
+    if _is_masked(buffer):
+        raise TypeError("a column has no mask: hand in the array's data")
+    view = memoryview(buffer)
+    letter, order = view.format[-1:], view.format[:-1]
+    if letter not in _ALIKE[of] or order not in _NATIVE or view.itemsize != struct.calcsize(of) or view.readonly or not view.c_contiguous:
+        raise TypeError(f"such a column has numbers of {8 * struct.calcsize(of)} bits, side by side, that may be written to")
+    # as rows of cells, or as one row of their numbers
+    if not (view.ndim == 1 and (not view.shape or view.shape[0] % count == 0) or view.ndim == 2 and view.shape is not None and view.shape[1] == count):
+        raise TypeError(f"such a column has {count} numbers for each element")
+    return view
+
+
 # --- Indices, ranges and buffers ---
 
 
@@ -1608,10 +1691,15 @@ def _is_plain(view: memoryview) -> bool:
     return view.ndim == 1 and view.itemsize == 8 and view.format[-1:] in ("q", "l") and view.format[:-1] in _NATIVE
 
 
+def _is_masked(values: object) -> bool:
+    """Whether it is one of numpy's masked arrays, whose buffer doesn't tell what is masked."""
+    masked = sys.modules.get("numpy.ma")
+    return masked is not None and isinstance(values, masked.MaskedArray)
+
+
 def _as_buffer(values: Iterable[int]) -> memoryview:
     """The elements as 64-bit numbers with a sign, side by side, where they may be written to. While the view lives they can't be resized."""
-    masked = sys.modules.get("numpy.ma")
-    if masked is not None and isinstance(values, masked.MaskedArray):
+    if _is_masked(values):
         raise TypeError("a masked array may lack elements: hand in its compressed() or filled()")
     try:
         view = memoryview(values)  # type: ignore[arg-type]
@@ -1651,6 +1739,8 @@ def _as_pairs(ranges: Iterable[Sequence[Optional[int]]], holder: Vector) -> arra
 
 def _as_rows(ranges: Iterable[Sequence[Optional[int]]]) -> list[Any]:
     """Pairs, of a buffer of two columns or of anything else that can be gone through."""
+    if _is_masked(ranges):
+        raise TypeError("a masked array may lack ends: hand in its filled()")
     try:
         view = memoryview(ranges)  # type: ignore[arg-type]
     except TypeError:

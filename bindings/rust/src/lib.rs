@@ -22,6 +22,7 @@
 #![deny(unsafe_code)]
 
 mod board;
+mod columns;
 mod elements;
 mod indices;
 mod kinds;
@@ -37,6 +38,7 @@ mod vector;
 pub const VERSION: &str = env!("CARGO_PKG_VERSION");
 
 pub use board::{Board, Closed, Kind, NotClosed, Refreshed, Seat, Told, Value};
+pub use columns::{Column, Filled, by};
 pub use elements::{Elements, IntoElements, Through};
 pub use indices::Indices;
 pub use kinds::UnknownKind;

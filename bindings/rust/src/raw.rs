@@ -13,7 +13,7 @@ use std::mem::ManuallyDrop;
 use std::ptr;
 use std::sync::{Arc, Mutex, MutexGuard, PoisonError};
 
-use crate::{Edit, Refusal, RefusedAt};
+use crate::{Column, Edit, Kind, Refusal, RefusedAt};
 
 /// A slot of C: `livevec_vector`, `livevec_job`, `livevec_outcome`, `livevec_board` and `livevec_seat` are alike.
 #[repr(C)]
@@ -209,6 +209,18 @@ unsafe extern "C" {
     fn livevec_summary_values(summary: *const SummaryBytes) -> Opened;
     fn livevec_scan_inclusive(slot: *mut Slot, lo: u32, hi: u32, buffer: *mut SixValues, length: usize) -> Scanned;
     fn livevec_scan_exclusive(slot: *mut Slot, lo: u32, hi: u32, buffer: *mut SixValues, length: usize) -> Scanned;
+    fn livevec_scan_inclusive_sum(slot: *mut Slot, lo: u32, hi: u32, column: *mut c_void, length: usize) -> Scanned;
+    fn livevec_scan_inclusive_least(slot: *mut Slot, lo: u32, hi: u32, column: *mut c_void, length: usize) -> Scanned;
+    fn livevec_scan_inclusive_greatest(slot: *mut Slot, lo: u32, hi: u32, column: *mut c_void, length: usize) -> Scanned;
+    fn livevec_scan_inclusive_best(slot: *mut Slot, lo: u32, hi: u32, column: *mut c_void, length: usize) -> Scanned;
+    fn livevec_scan_inclusive_affine(slot: *mut Slot, lo: u32, hi: u32, column: *mut c_void, length: usize) -> Scanned;
+    fn livevec_scan_inclusive_automaton(slot: *mut Slot, lo: u32, hi: u32, column: *mut c_void, length: usize) -> Scanned;
+    fn livevec_scan_exclusive_sum(slot: *mut Slot, lo: u32, hi: u32, column: *mut c_void, length: usize) -> Scanned;
+    fn livevec_scan_exclusive_least(slot: *mut Slot, lo: u32, hi: u32, column: *mut c_void, length: usize) -> Scanned;
+    fn livevec_scan_exclusive_greatest(slot: *mut Slot, lo: u32, hi: u32, column: *mut c_void, length: usize) -> Scanned;
+    fn livevec_scan_exclusive_best(slot: *mut Slot, lo: u32, hi: u32, column: *mut c_void, length: usize) -> Scanned;
+    fn livevec_scan_exclusive_affine(slot: *mut Slot, lo: u32, hi: u32, column: *mut c_void, length: usize) -> Scanned;
+    fn livevec_scan_exclusive_automaton(slot: *mut Slot, lo: u32, hi: u32, column: *mut c_void, length: usize) -> Scanned;
     fn livevec_refresh(slot: *mut Slot, jobs: u32) -> Count;
     fn livevec_claim(slot: *mut Slot, job: *mut Slot) -> Claimed;
     fn livevec_run(job: *mut Slot, outcome: *mut Slot) -> u32;
@@ -240,6 +252,9 @@ unsafe extern "C" {
     fn livevec_free_board(board: *mut Slot) -> u32;
     fn livevec_free_seat(seat: *mut Slot) -> u32;
 }
+
+/// A call of C that fills a column, whatever its cells are.
+type ScanCall = unsafe extern "C" fn(*mut Slot, u32, u32, *mut c_void, usize) -> Scanned;
 
 /// The answer where there is no refusal.
 fn answered<T>(refusal: u32, detail: u32, answer: T) -> Result<T, Refusal> {
@@ -469,6 +484,24 @@ impl Vector {
         // SAFETY: C has written `length` values, and the buffer has room for them.
         unsafe { values.set_len(length) };
         Ok((edit, values))
+    }
+
+    /// Fills the front of a column with the running values of a range by a kind, and tells the edit and how many they are.
+    pub(crate) fn scan_into<K: Column>(&self, lo: u32, hi: u32, inclusive: bool, column: &mut [K::Cell]) -> Result<(u32, usize), Refusal> {
+        let (with_own, without, size) = match K::KIND {
+            Kind::Sum => (livevec_scan_inclusive_sum as ScanCall, livevec_scan_exclusive_sum as ScanCall, 8),
+            Kind::Least => (livevec_scan_inclusive_least as ScanCall, livevec_scan_exclusive_least as ScanCall, 8),
+            Kind::Greatest => (livevec_scan_inclusive_greatest as ScanCall, livevec_scan_exclusive_greatest as ScanCall, 8),
+            Kind::Best => (livevec_scan_inclusive_best as ScanCall, livevec_scan_exclusive_best as ScanCall, 16),
+            Kind::Affine => (livevec_scan_inclusive_affine as ScanCall, livevec_scan_exclusive_affine as ScanCall, 8),
+            Kind::Automaton => (livevec_scan_inclusive_automaton as ScanCall, livevec_scan_exclusive_automaton as ScanCall, 8),
+        };
+        assert_eq!(size_of::<K::Cell>(), size);
+        let call = if inclusive { with_own } else { without };
+        // SAFETY: see above; at most so many cells are written as the column has. Cells are plain numbers of the size of C's, and are laid
+        // out like them: a total is one number of 128 bits whose low half comes first.
+        let did = unsafe { call(self.slot.get(), lo, hi, column.as_mut_ptr().cast(), column.len()) };
+        answered(did.refusal, did.detail, (did.edit, did.length as usize))
     }
 
     pub(crate) fn refresh(&mut self, jobs: u32) -> u32 {

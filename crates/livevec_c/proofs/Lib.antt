@@ -1,4 +1,6 @@
 pub mod AsBox
+pub mod ColumnAnswers
+pub mod ColumnFolds
 pub mod Empty
 pub mod KindAnswers
 pub mod KindVectorLaws

@@ -1,5 +1,9 @@
 pub mod Owned
 pub mod Answers
+pub mod Cells
+pub mod CellLaws
+pub mod Columns
+pub mod Frees
 pub mod Behind
 pub mod KindVectors
 pub mod Lives

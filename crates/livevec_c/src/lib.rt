@@ -3,8 +3,11 @@
 
 mod boards;
 mod by_kind;
+mod cells;
 mod closed;
+mod columns;
 mod ended;
+mod frees;
 mod jobs;
 mod kind_boards;
 mod kind_seats;

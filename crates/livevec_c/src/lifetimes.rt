@@ -1,13 +1,13 @@
-//! How a vector begins and ends.
-ghost use Rattle.std.specs.Prelude.{◌≡◌, None, is_some, if◌then◌else◌, IfOk};
+//! How a vector begins.
+ghost use Rattle.std.specs.Prelude.{◌≡◌, None, IfOk};
 ghost use Rattle.lv_bodies.specs.Automata.{table_of};
 ghost use Rattle.lv_bodies.specs.Plain.{program_table};
 ghost use Rattle.livevec_c.specs.Lives.{IsNewObject, Opens, OpensAt, OpensWith};
 
 use crate::kind_vectors::KindVector;
 use crate::objects::Object;
-use crate::results::{IN_USE, NO_HANDLE, NO_MEMORY};
-use crate::slots::{Slot, is_full, put, take};
+use crate::results::{IN_USE, NO_MEMORY};
+use crate::slots::{Slot, is_full, put};
 use lv_bodies::Automaton;
 use lv_geometry::Limits;
 use std::alloc::{AllocError, Global};
@@ -87,20 +87,5 @@ pub extern "C" fn livevec_proved_new_with_table(
     match Automaton::new(table.next) {
         Err(refusal) => refusal.number(),
         Ok(automaton) => open(alloc, slot, limits, automaton),
-    }
-}
-
-/// Frees what lies behind a slot, and empties it.
-#[unsafe(no_mangle)]
-pub extern "C" fn livevec_proved_free(alloc: Global, slot: &mut Slot) -> u32
-    ensures number { result ≡ (if is_some slot.old.raw.inner then 0 else 101) }
-    ensures empty { slot.new.raw.inner ≡ None }
-{
-    match take(alloc, slot) {
-        None => NO_HANDLE,
-        Some(held) => {
-            drop(held);
-            0
-        }
     }
 }

@@ -20,6 +20,9 @@ pub const BAD_TABLE: u32 = 9;
 /// The number for a slot that should be full and is empty.
 pub const NO_HANDLE: u32 = 101;
 
+/// The number for a column that is shorter than its range.
+pub const SHORT_BUFFER: u32 = 103;
+
 /// The number for a slot that should be empty and is full.
 pub const IN_USE: u32 = 104;
 
@@ -194,8 +197,8 @@ pub fn halves(x: i128) -> (u64, i64)
     )
 }
 
-// The low and the high half of a total, 0 where there is none.
-fn total_halves(totals: Option<RunTotals>) -> (u64, i64)
+/// The low and the high half of a total, 0 where there is none.
+pub fn total_halves(totals: Option<RunTotals>) -> (u64, i64)
     ensures low { result.0 ≡ low_half (unwrap_or (option_map (λ r. r.best) totals) (pos 0)) }
     ensures high { result.1 ≡ high_half (unwrap_or (option_map (λ r. r.best) totals) (pos 0)) }
 {

@@ -1,0 +1,37 @@
+-- The cells of a column of the caller's: plain values by one kind, laid out for C.
+use Rattle.std.specs.Prelude.{ℕ, ℤ, pos, ◌+◌, Bool, Option, List, length, map, take, unwrap_or, if◌then◌else◌}
+use Rattle.std.specs.List.{range_with_len}
+use Rattle.lv_bodies.specs.Plain.{plain_affine, plain_automaton, plain_best, plain_greatest, plain_least}
+use Rattle.livevec_c.specs.declared.cells.MapCell.{MapCell}
+use Rattle.livevec_c.specs.declared.cells.StatesCell.{StatesCell}
+use Rattle.livevec_c.specs.declared.cells.TotalCell.{TotalCell}
+use Rattle.livevec_c.specs.Answers.{high_half, low_half}
+
+-- the cell of some elements, by each kind: their plain value, 0 where they have none
+abbrev pub least_cell : List ℤ → ℤ
+least_cell xs = unwrap_or (plain_least xs) (pos 0)
+
+abbrev pub greatest_cell : List ℤ → ℤ
+greatest_cell xs = unwrap_or (plain_greatest xs) (pos 0)
+
+abbrev pub total_cell : Option ℤ → TotalCell
+total_cell best = record { low = low_half (unwrap_or best (pos 0)); high = high_half (unwrap_or best (pos 0)) }
+
+abbrev pub best_cell : List ℤ → TotalCell
+best_cell xs = total_cell (plain_best xs)
+
+abbrev pub map_cell : ℕ → ℕ → MapCell
+map_cell a b = record { a = a; b = b }
+
+abbrev pub affine_cell : List ℤ → MapCell
+affine_cell xs = map_cell (plain_affine xs).0 (plain_affine xs).1
+
+abbrev pub states_cell : List ℕ → StatesCell
+states_cell states = record { to = states }
+
+abbrev pub automaton_cell : List (List ℕ) → List ℤ → StatesCell
+automaton_cell table xs = states_cell (plain_automaton table xs)
+
+-- the column of a scan: for each element the cell of all up to it, with it or without it
+abbrev pub column_of : {C : Type 0} → (List ℤ → C) → Bool → List ℤ → List C
+column_of cell inclusive xs = map (λ i. cell (take (if inclusive then i + 1 else i) xs)) (range_with_len 0 (length xs))

@@ -1,0 +1,54 @@
+-- What a scan by one kind answers, and what it leaves in a column of the caller's, by what lies behind a slot.
+use Rattle.std.specs.Prelude.{ℕ, ℤ, ◌-◌, ◌++◌, Bool, true, false, Option, Some, None, List, length, drop, nat_lt}
+use Rattle.lv_geometry.specs.Numbers.{number_of}
+use Rattle.lv_geometry.specs.declared.refusals.Refusal.{Refusal}
+use Rattle.lv_bodies.specs.Automata.{table_of}
+use Rattle.lv_reduce.specs.Answer.{range_refusal, slice_of}
+use Rattle.livevec_c.specs.declared.columns.Scanned.{Scanned}
+use Rattle.livevec_c.specs.declared.objects.Object.{Object}
+use Rattle.livevec_c.specs.declared.objects.Object.TheVariants.{Vector}
+use Rattle.livevec_c.specs.Answers.{detail_of}
+use Rattle.livevec_c.specs.Behind.{State}
+use Rattle.livevec_c.specs.Cells.{column_of}
+
+-- a scan that was refused
+abbrev pub unscanned : ℕ → ℕ → Scanned
+unscanned refusal detail = record { refusal = refusal; detail = detail; edit = 0; length = 0 }
+
+-- what a scan answers, by why its range is refused, if it is, and whether the column is shorter: the last edit's number, and how many cells it wrote
+abbrev pub scan_answered : Option Refusal → Bool → ℕ → ℕ → Scanned
+scan_answered (Some refusal) short edit many = unscanned (number_of refusal) (detail_of refusal)
+scan_answered None true edit many = unscanned 103 many
+scan_answered None false edit many = record { refusal = 0; detail = 0; edit = edit; length = many }
+
+-- the column then: the cells from its start on, and what it had behind them; where the scan was refused, as it was
+abbrev pub column_after : {C : Type 0} → Option Refusal → Bool → List C → List C → List C
+column_after (Some refusal) short cells old = old
+column_after None true cells old = old
+column_after None false cells old = cells ++ drop (length cells) old
+
+-- of a vector, into a column of so many places
+abbrev pub scanned : ℕ → ℕ → ℕ → State → Scanned
+scanned lo hi places state = scan_answered (range_refusal state.history.journal lo hi) (nat_lt places (hi - lo)) (length state.history.journal) (hi - lo)
+
+abbrev pub filled : {C : Type 0} → (List (List ℕ) → List ℤ → C) → Bool → ℕ → ℕ → List C → State → List C
+filled cell inclusive lo hi old state =
+    column_after (range_refusal state.history.journal lo hi) (nat_lt (length old) (hi - lo)) (column_of (cell (table_of state.body.automaton)) inclusive (slice_of state.history.journal lo hi)) old
+
+-- of an object: of a vector only
+abbrev pub object_scanned : ℕ → ℕ → ℕ → Object → Scanned
+object_scanned lo hi places (Vector state) = scanned lo hi places state
+object_scanned lo hi places other = unscanned 101 0
+
+abbrev pub object_filled : {C : Type 0} → (List (List ℕ) → List ℤ → C) → Bool → ℕ → ℕ → List C → Object → List C
+object_filled cell inclusive lo hi old (Vector state) = filled cell inclusive lo hi old state
+object_filled cell inclusive lo hi old other = old
+
+-- of what lies behind a slot
+abbrev pub scanned_behind : ℕ → ℕ → ℕ → Option Object → Scanned
+scanned_behind lo hi places None = unscanned 101 0
+scanned_behind lo hi places (Some object) = object_scanned lo hi places object
+
+abbrev pub filled_behind : {C : Type 0} → (List (List ℕ) → List ℤ → C) → Bool → ℕ → ℕ → List C → Option Object → List C
+filled_behind cell inclusive lo hi old None = old
+filled_behind cell inclusive lo hi old (Some object) = object_filled cell inclusive lo hi old object

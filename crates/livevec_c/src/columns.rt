@@ -1,0 +1,291 @@
+//! Scans by one kind, written into a column of the caller's.
+ghost use Rattle.std.specs.Prelude.{◌≡◌, ◌+◌, ◌-◌, ◌<◌, ◌≤◌, ◌++◌, drop, length, map, take};
+ghost use Rattle.std.specs.List.{slice_range};
+ghost use Rattle.lv_bodies.specs.Plain.{plain_sum};
+ghost use Rattle.lv_edits.specs.History.{list_of};
+ghost use Rattle.lv_reduce.specs.Answer.{scan_of, slice_of};
+ghost use Rattle.lv_reduce.specs.Running.{CanGoOn, reached, scan_from};
+ghost use Rattle.livevec_c.specs.Cells.{affine_cell, automaton_cell, best_cell, greatest_cell, least_cell};
+ghost use Rattle.livevec_c.specs.Columns.{filled, filled_behind, object_filled, object_scanned, scanned, scanned_behind, unscanned};
+
+use crate::cells::{Celled, MapCell, StatesCell, TotalCell};
+use crate::objects::Object;
+use crate::results::{NO_HANDLE, SHORT_BUFFER, detail};
+use crate::slots::{Slot, put, take};
+use lv_bodies::{Affine, Automaton, Best, Greatest, Least, SixByTable, Sum, fold_more};
+use lv_edits::Edits;
+use lv_live::Live;
+use lv_reduce::refusal_of;
+use std::alloc::Global;
+
+/// What a scan answers.
+#[repr(C)]
+#[derive(Clone, Copy)]
+pub struct Scanned {
+    pub refusal: u32,
+    pub detail: u32,
+    pub edit: u32,
+    pub length: u32,
+}
+
+// What a scan that was refused answers.
+fn not_scanned(refusal: u32, detail: u32) -> Scanned
+    ensures { result ≡ unscanned refusal detail }
+{
+    Scanned {
+        refusal,
+        detail,
+        edit: 0,
+        length: 0,
+    }
+}
+
+// Elements from index `at` on, before `hi`, one at least: a run of them where they lie, or the one at `at` alone, which is put into
+// `cell`, where the last edit's write of it isn't in its place yet.
+#[inline(always)]
+fn run_at<'a>(cells: &'a Edits, at: u32, hi: u32, cell: &'a mut [i64; 1]) -> &'a [i64]
+    requires order { at < hi }
+    requires inside { hi ≤ length (list_of cells.now.journal) }
+    ensures elements { result.now ≡ slice_range (list_of cells.now.journal) at (at + length result.now) }
+    ensures some { 0 < length result.now }
+    ensures few { at + length result.now ≤ hi }
+{
+    let run = cells.stretch(at, hi);
+    if run.is_empty() {
+        *cell = [cells.read(at)];
+        return &cell[..];
+    }
+    run
+}
+
+// Puts the cells of the scan of some elements, from what stands before them, into a column from a place on. Gives what they lead to.
+#[inline(always)]
+fn lay_run<B: Celled>(
+    body: &B,
+    inclusive: bool,
+    before: B::S,
+    xs: &[i64],
+    from: usize,
+    column: &mut [B::Cell],
+) -> B::S
+    requires can { CanGoOn (B.is_within (B.meaning body.now)) before (length xs.now) }
+    requires room { from + length xs.now ≤ length column.old }
+    ensures cells { take (from + length xs.now) column.new ≡ take from column.old ++ map B.cell_of (scan_from inclusive (B.operations (B.meaning body.now)) before xs.now) }
+    ensures len { length column.new ≡ length column.old }
+    ensures sum { result ≡ reached (B.operations (B.meaning body.now)) before xs.now }
+{
+    let mut sum = before;
+    for k in 0..xs.len() {
+        let sum_before = sum;
+        sum = fold_more(body, sum_before, xs[k]);
+        column[from + k] = B::cell(if inclusive { sum } else { sum_before });
+    }
+    sum
+}
+
+// Puts the cells of one of the two scans of a range into a column of as many places, by runs of elements that lie side by side.
+fn lay_range<B: Celled>(body: &B, inclusive: bool, cells: &Edits, lo: u32, column: &mut [B::Cell])
+    requires { lo + length column.old ≤ length (list_of cells.now.journal) }
+    ensures { column.new ≡ map B.cell_of (scan_of inclusive (B.operations (B.meaning body.now)) (slice_of cells.now.journal lo (lo + length column.old))) }
+{
+    // The elements are few enough for a fold.
+    let _size = cells.size();
+    let hi = lo + column.len() as u32;
+    let mut sum = body.identity();
+    let mut cell = [0];
+    let mut at = lo;
+    while at < hi {
+        let run = run_at(cells, at, hi, &mut cell);
+        sum = lay_run(body, inclusive, sum, run, (at - lo) as usize, column);
+        at += run.len() as u32;
+    }
+}
+
+// The same into the front of a column that has as many places or more. What it has behind stays.
+fn lay_front<B: Celled>(
+    body: &B,
+    inclusive: bool,
+    cells: &Edits,
+    lo: u32,
+    hi: u32,
+    column: &mut [B::Cell],
+)
+    requires order { lo ≤ hi }
+    requires inside { hi ≤ length (list_of cells.now.journal) }
+    requires room { hi - lo ≤ length column.old }
+    ensures { column.new ≡ map B.cell_of (scan_of inclusive (B.operations (B.meaning body.now)) (slice_of cells.now.journal lo hi)) ++ drop (hi - lo) column.old }
+{
+    let many = (hi - lo) as usize;
+    lay_range(body, inclusive, cells, lo, &mut column[..many]);
+}
+
+// A scan of a vector.
+fn scan_live<B: Celled>(
+    live: &Live<SixByTable>,
+    lo: u32,
+    hi: u32,
+    inclusive: bool,
+    column: &mut [B::Cell],
+) -> Scanned
+    ensures answer { result ≡ scanned lo hi (length column.old) live.now }
+    ensures column { column.new ≡ filled B.plain_cell inclusive lo hi column.old live.now }
+{
+    let cells = live.view().cells;
+    if let Some(refusal) = refusal_of(cells, lo, hi) {
+        return not_scanned(refusal.number(), detail(refusal));
+    }
+    let many = hi - lo;
+    if column.len() < many as usize {
+        return not_scanned(SHORT_BUFFER, many);
+    }
+    let body = B::by(live.body().automaton);
+    lay_front(&body, inclusive, cells, lo, hi, column);
+    Scanned {
+        refusal: 0,
+        detail: 0,
+        edit: cells.edit(),
+        length: many,
+    }
+}
+
+// A scan of an object.
+fn scan_object<B: Celled>(
+    object: &Object,
+    lo: u32,
+    hi: u32,
+    inclusive: bool,
+    column: &mut [B::Cell],
+) -> Scanned
+    ensures answer { result ≡ object_scanned lo hi (length column.old) object.now }
+    ensures column { column.new ≡ object_filled B.plain_cell inclusive lo hi column.old object.now }
+{
+    match object {
+        Object::Vector(vector) => scan_live::<B>(vector.live(), lo, hi, inclusive, column),
+        _ => not_scanned(NO_HANDLE, 0),
+    }
+}
+
+// A scan of what lies behind a slot.
+fn scan_held<B: Celled>(
+    alloc: Global,
+    slot: &mut Slot,
+    lo: u32,
+    hi: u32,
+    inclusive: bool,
+    column: &mut [B::Cell],
+) -> Scanned
+    ensures answer { result ≡ scanned_behind lo hi (length column.old) slot.old.raw.inner }
+    ensures column { column.new ≡ filled_behind B.plain_cell inclusive lo hi column.old slot.old.raw.inner }
+    ensures same { slot.new.raw.inner ≡ slot.old.raw.inner }
+{
+    match take(alloc, slot) {
+        None => not_scanned(NO_HANDLE, 0),
+        Some(held) => {
+            let answer = scan_object::<B>(&held, lo, hi, inclusive, column);
+            put(slot, held);
+            answer
+        }
+    }
+}
+
+/// Puts the sums of the beginnings of a range into a column, each with the element at its end or without it.
+#[unsafe(no_mangle)]
+pub extern "C" fn livevec_proved_scan_sum(
+    alloc: Global,
+    slot: &mut Slot,
+    lo: u32,
+    hi: u32,
+    inclusive: bool,
+    column: &mut [u64],
+) -> Scanned
+    ensures answer { result ≡ scanned_behind lo hi (length column.old) slot.old.raw.inner }
+    ensures column { column.new ≡ filled_behind (λ _. plain_sum) inclusive lo hi column.old slot.old.raw.inner }
+    ensures same { slot.new.raw.inner ≡ slot.old.raw.inner }
+{
+    scan_held::<Sum>(alloc, slot, lo, hi, inclusive, column)
+}
+
+/// The same of the least elements.
+#[unsafe(no_mangle)]
+pub extern "C" fn livevec_proved_scan_least(
+    alloc: Global,
+    slot: &mut Slot,
+    lo: u32,
+    hi: u32,
+    inclusive: bool,
+    column: &mut [i64],
+) -> Scanned
+    ensures answer { result ≡ scanned_behind lo hi (length column.old) slot.old.raw.inner }
+    ensures column { column.new ≡ filled_behind (λ _. least_cell) inclusive lo hi column.old slot.old.raw.inner }
+    ensures same { slot.new.raw.inner ≡ slot.old.raw.inner }
+{
+    scan_held::<Least>(alloc, slot, lo, hi, inclusive, column)
+}
+
+/// The same of the greatest elements.
+#[unsafe(no_mangle)]
+pub extern "C" fn livevec_proved_scan_greatest(
+    alloc: Global,
+    slot: &mut Slot,
+    lo: u32,
+    hi: u32,
+    inclusive: bool,
+    column: &mut [i64],
+) -> Scanned
+    ensures answer { result ≡ scanned_behind lo hi (length column.old) slot.old.raw.inner }
+    ensures column { column.new ≡ filled_behind (λ _. greatest_cell) inclusive lo hi column.old slot.old.raw.inner }
+    ensures same { slot.new.raw.inner ≡ slot.old.raw.inner }
+{
+    scan_held::<Greatest>(alloc, slot, lo, hi, inclusive, column)
+}
+
+/// The same of the greatest totals of neighbours.
+#[unsafe(no_mangle)]
+pub extern "C" fn livevec_proved_scan_best(
+    alloc: Global,
+    slot: &mut Slot,
+    lo: u32,
+    hi: u32,
+    inclusive: bool,
+    column: &mut [TotalCell],
+) -> Scanned
+    ensures answer { result ≡ scanned_behind lo hi (length column.old) slot.old.raw.inner }
+    ensures column { column.new ≡ filled_behind (λ _. best_cell) inclusive lo hi column.old slot.old.raw.inner }
+    ensures same { slot.new.raw.inner ≡ slot.old.raw.inner }
+{
+    scan_held::<Best>(alloc, slot, lo, hi, inclusive, column)
+}
+
+/// The same of the maps.
+#[unsafe(no_mangle)]
+pub extern "C" fn livevec_proved_scan_affine(
+    alloc: Global,
+    slot: &mut Slot,
+    lo: u32,
+    hi: u32,
+    inclusive: bool,
+    column: &mut [MapCell],
+) -> Scanned
+    ensures answer { result ≡ scanned_behind lo hi (length column.old) slot.old.raw.inner }
+    ensures column { column.new ≡ filled_behind (λ _. affine_cell) inclusive lo hi column.old slot.old.raw.inner }
+    ensures same { slot.new.raw.inner ≡ slot.old.raw.inner }
+{
+    scan_held::<Affine>(alloc, slot, lo, hi, inclusive, column)
+}
+
+/// The same of the automaton's states.
+#[unsafe(no_mangle)]
+pub extern "C" fn livevec_proved_scan_automaton(
+    alloc: Global,
+    slot: &mut Slot,
+    lo: u32,
+    hi: u32,
+    inclusive: bool,
+    column: &mut [StatesCell],
+) -> Scanned
+    ensures answer { result ≡ scanned_behind lo hi (length column.old) slot.old.raw.inner }
+    ensures column { column.new ≡ filled_behind automaton_cell inclusive lo hi column.old slot.old.raw.inner }
+    ensures same { slot.new.raw.inner ≡ slot.old.raw.inner }
+{
+    scan_held::<Automaton>(alloc, slot, lo, hi, inclusive, column)
+}
