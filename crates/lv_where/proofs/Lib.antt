@@ -1,0 +1,4 @@
+pub mod BeginningLaws
+pub mod PlaceLaws
+pub mod SearchLaws
+pub mod SoughtLaws
