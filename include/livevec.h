@@ -169,6 +169,19 @@ typedef struct livevec_reduced {
     livevec_values values;
 } livevec_reduced;
 
+/* Where something stands in a range. Where it was refused, all but `refusal` and `detail` is 0. */
+typedef struct livevec_found {
+    uint32_t refusal;
+    uint32_t detail;  /* of LIVEVEC_OUT_OF_RANGE the size, else 0 */
+    uint32_t edit;    /* after which edit it stands there */
+    uint32_t lo;      /* of an element its index; of a run where it starts; of a sum where the range starts */
+    uint32_t hi;      /* the index behind it; of a sum the end at which it is reached */
+    int64_t value;    /* of an element the element itself, else 0 */
+    uint64_t sum_low; /* of a run what it adds up to, 128 bits in two's complement, else 0: its low 64 bits, */
+    int64_t sum_high; /* and its high 64 bits, which have the sign */
+    bool found;       /* whether there is such a thing; if not, all but `edit` is 0 */
+} livevec_found;
+
 /* The indices from `lo` up to `hi`, `hi` excluded. */
 typedef struct livevec_range {
     uint32_t lo;
@@ -392,6 +405,20 @@ LIVEVEC_MUST_USE livevec_reduced livevec_value(livevec_vector *slot, uint32_t ki
  * Refusals: NULL, BAD_KIND, NO_HANDLE, and, of the first range that is refused, BAD_RANGE, OUT_OF_RANGE. */
 LIVEVEC_MUST_USE livevec_many livevec_value_many(livevec_vector *slot, uint32_t kind, const livevec_range *ranges,
                                                  livevec_values *answers, size_t length);
+
+/* Where the first of the least elements of a range stands, and the first of the greatest. There is none of an empty range. It is
+ * found in steps of the tree, and what is computed for it is kept by that kind, until an edit touches it. Takes no memory, changes
+ * no answer. Refusals: NULL, NO_HANDLE, BAD_RANGE, OUT_OF_RANGE. */
+LIVEVEC_MUST_USE livevec_found livevec_where_least(livevec_vector *slot, uint32_t lo, uint32_t hi);
+LIVEVEC_MUST_USE livevec_found livevec_where_greatest(livevec_vector *slot, uint32_t lo, uint32_t hi);
+
+/* Where the best run of a range stands: one or more neighbours that add up to the most. Of several it is the one that ends first, and
+ * of those the shortest. It is found, kept and refused as by livevec_where_least. */
+LIVEVEC_MUST_USE livevec_found livevec_where_best(livevec_vector *slot, uint32_t lo, uint32_t hi);
+
+/* The least end, from lo to hi, up to which the elements from lo on add up to `sum` or more; lo itself, where `sum` is 0 or less.
+ * Elements may be negative, and no sum wraps. It is found, kept by the kind of best runs and refused as by livevec_where_least. */
+LIVEVEC_MUST_USE livevec_found livevec_where_reaches(livevec_vector *slot, uint32_t lo, uint32_t hi, int64_t sum);
 
 /* The running values of a range: buffer[i] has those of the elements from lo up to lo + i, that one included, or excluded.
  * Writes hi - lo values; `length` is how many the buffer takes. Where it was refused the buffer is as it was. Each value is

@@ -54,6 +54,18 @@ class [[nodiscard]] job : public inner::owned<livevec_job, livevec_free_job> {
     job() = default;
 };
 
+/* An element, and the index at which it stands. */
+struct placed {
+    std::uint32_t index;
+    std::int64_t value;
+};
+
+/* Neighbours that add up to the most: from index `lo` up to `hi`, and what they add up to, which is exact. */
+struct best_run {
+    std::uint32_t lo, hi;
+    int128 sum;
+};
+
 /* A growable vector of 64-bit numbers that answers reductions of any range. */
 class vector : public inner::owned<livevec_vector, livevec_free> {
   public:
@@ -209,6 +221,28 @@ class vector : public inner::owned<livevec_vector, livevec_free> {
         return values.any ? std::optional<int128>(int128(values.best_high) * (int128(1) << 64) + values.best_low) : std::nullopt;
     }
 
+    /* Where in a range the first of the least elements stands, and the first of the greatest. */
+    [[nodiscard]] std::optional<placed> where_least(std::uint32_t lo, std::uint32_t hi) const { return element(livevec_where_least(slot(), lo, hi)); }
+    [[nodiscard]] std::optional<placed> where_greatest(std::uint32_t lo, std::uint32_t hi) const
+    {
+        return element(livevec_where_greatest(slot(), lo, hi));
+    }
+
+    /* Where the best run stands: of several the one that ends first, and of those the shortest. */
+    [[nodiscard]] std::optional<best_run> where_best(std::uint32_t lo, std::uint32_t hi) const
+    {
+        const livevec_found told = inner::checked(livevec_where_best(slot(), lo, hi));
+        const int128 sum = int128(told.sum_high) * (int128(1) << 64) + told.sum_low;
+        return told.found ? std::optional<best_run>(best_run{told.lo, told.hi, sum}) : std::nullopt;
+    }
+
+    /* The least end, from lo to hi, up to which the elements from lo on add up to `sum` or more. No sum wraps. */
+    [[nodiscard]] std::optional<std::uint32_t> where_reaches(std::uint32_t lo, std::uint32_t hi, std::int64_t sum) const
+    {
+        const livevec_found told = inner::checked(livevec_where_reaches(slot(), lo, hi, sum));
+        return told.found ? std::optional<std::uint32_t>(told.hi) : std::nullopt;
+    }
+
     /* The summary of a range, which holds nothing of the vector and may travel. */
     summary summarise(std::uint32_t lo, std::uint32_t hi) const { return summary(summary::made(livevec_summary_of(slot(), lo, hi))); }
 
@@ -265,6 +299,12 @@ class vector : public inner::owned<livevec_vector, livevec_free> {
     static std::optional<std::int64_t> some(const livevec_values &values, std::int64_t livevec_values::*which)
     {
         return values.any ? std::optional<std::int64_t>(values.*which) : std::nullopt;
+    }
+
+    static std::optional<placed> element(const livevec_found &told)
+    {
+        inner::checked(told);
+        return told.found ? std::optional<placed>(placed{told.lo, told.value}) : std::nullopt;
     }
 
     /* A column of its own, that a call of C fills. */

@@ -358,6 +358,7 @@ int main(void)
     beside();
     kinds();
     columns();
+    places();
     summaries();
     boards();
     printf("%d checks, %d failed\n", checks, failures);

@@ -27,4 +27,7 @@ void columns(void);
 /* The tests of summaries that travel. */
 void summaries(void);
 
+/* The tests of where in a range something stands. */
+void places(void);
+
 #endif

@@ -98,6 +98,21 @@ static void is_asked_by_one_kind()
     IS(refusal_of([&] { (void)all.value(LIVEVEC_SUM, 1, 0); }) == LIVEVEC_BAD_RANGE);
 }
 
+static void finds_where()
+{
+    livevec::vector all{4, -6, 9, 9, -6, -1, 20, -2};
+    const auto least = all.where_least(0, 8), greatest = all.where_greatest(0, 5);
+    IS(least && least->index == 1 && least->value == -6 && greatest && greatest->index == 2 && greatest->value == 9);
+    IS(all.where_least(2, 8)->index == 4 && !all.where_least(3, 3) && !all.where_greatest(8, 8));
+    const auto best = all.where_best(0, 8);
+    IS(best && best->lo == 2 && best->hi == 7 && best->sum == 31 && !all.where_best(1, 1));
+    IS(all.where_reaches(0, 8, 16) == 4 && all.where_reaches(0, 8, 17) == 7 && all.where_reaches(3, 8, -1) == 3 && !all.where_reaches(0, 8, 30));
+    const std::int64_t most = INT64_MAX;
+    livevec::vector wide{most, most, most};
+    IS(wide.where_best(0, 3)->sum == livevec::int128(most) * 3 && wide.where_reaches(0, 3, most) == 1);
+    IS(refusal_of([&] { (void)all.where_best(1, 0); }) == LIVEVEC_BAD_RANGE && refusal_of([&] { (void)all.where_least(0, 9); }) == LIVEVEC_OUT_OF_RANGE);
+}
+
 static void takes_many_writes()
 {
     livevec::vector all{1, 2, 3};
@@ -239,6 +254,7 @@ int main()
     is_scanned();
     is_scanned_into_columns();
     is_asked_by_one_kind();
+    finds_where();
     takes_many_writes();
     sits_at_a_board();
     threads_share_a_board();

@@ -45,7 +45,7 @@ if TYPE_CHECKING:
         def __array_interface__(self) -> Any: ...
 
 __all__ = [
-    "Vector", "Job", "Outcome", "Scan", "Column", "Summary", "Values", "Reduced", "Delivered", "Became", "Node",
+    "Vector", "Job", "Outcome", "Scan", "Column", "Summary", "Values", "Reduced", "Delivered", "Became", "Node", "Placed", "BestRun",
     "Board", "Seat", "Kind", "Told", "Refreshed", "Finished",
     "Refusal", "Worn", "Empty", "OutOfRange", "TooLarge", "Full", "NoMemory", "BadRange", "BadLimits", "BadTable", "Stranger", "Closed",
     "ShortBuffer", "TooWide", "Outrun", "Contended", "Overtaken", "NoSeat", "SeatsOut", "Busy", "OtherVersion", "Damaged", "OtherTable", "TooLong",
@@ -345,6 +345,21 @@ class _Reduced(ctypes.Structure):
                 ("summaries", ctypes.c_uint32), ("values", _Values)]
 
 
+class _Found(ctypes.Structure):
+    refusal: int
+    detail: int
+    edit: int
+    lo: int
+    hi: int
+    value: int
+    sum_low: int
+    sum_high: int
+    found: bool
+    _fields_ = [("refusal", ctypes.c_uint32), ("detail", ctypes.c_uint32), ("edit", ctypes.c_uint32), ("lo", ctypes.c_uint32),
+                ("hi", ctypes.c_uint32), ("value", ctypes.c_int64), ("sum_low", ctypes.c_uint64), ("sum_high", ctypes.c_int64),
+                ("found", ctypes.c_bool)]
+
+
 class _Scanned(ctypes.Structure):
     refusal: int
     detail: int
@@ -488,6 +503,10 @@ _reduce = _call("livevec_reduce", _Reduced, _slot, _u32, _u32)
 _ask = _call("livevec_ask", _Reduced, _slot, _u32, _u32)
 _value = _call("livevec_value", _Reduced, _slot, _u32, _u32, _u32)
 _value_many = _call("livevec_value_many", _Many, _slot, _u32, _pointer, _pointer, _size, by=_released)
+_where_least = _call("livevec_where_least", _Found, _slot, _u32, _u32)
+_where_greatest = _call("livevec_where_greatest", _Found, _slot, _u32, _u32)
+_where_best = _call("livevec_where_best", _Found, _slot, _u32, _u32)
+_where_reaches = _call("livevec_where_reaches", _Found, _slot, _u32, _u32, _i64)
 _scan_inclusive = _call("livevec_scan_inclusive", _Scanned, _slot, _u32, _u32, _pointer, _size)
 _scan_exclusive = _call("livevec_scan_exclusive", _Scanned, _slot, _u32, _u32, _pointer, _size)
 # scans by one kind write columns, and take long enough to release the interpreter's lock
@@ -610,6 +629,21 @@ class Reduced(NamedTuple):
     cells: int
     summaries: int
     values: Values
+
+
+class Placed(NamedTuple):
+    """An element, and the index at which it stands."""
+
+    index: int
+    value: int
+
+
+class BestRun(NamedTuple):
+    """One or more neighbours that add up to the most: from index `lo` up to `hi`, and their sum, which is exact."""
+
+    lo: int
+    hi: int
+    sum: int
 
 
 class Node(NamedTuple):
@@ -1212,6 +1246,32 @@ class Vector(_Handle, collections.abc.Sequence[int]):
         values = self._valued(Kind.BEST, lo, hi)
         return (values.best_high << 64) + values.best_low if values.any else None
 
+    # Where something stands. It is found in steps of the tree, and what is computed for it is kept as `value` keeps it.
+
+    def where_least(self, lo: int = 0, hi: Optional[int] = None) -> Optional[Placed]:
+        """The first of the least elements, and where it stands; None of an empty range. Raises BadRange, then OutOfRange."""
+        found = self._located(_where_least, *self._range(lo, hi))
+        return Placed(found.lo, found.value) if found else None
+
+    def where_greatest(self, lo: int = 0, hi: Optional[int] = None) -> Optional[Placed]:
+        """The first of the greatest elements, and where it stands; None of an empty range. Raises BadRange, then OutOfRange."""
+        found = self._located(_where_greatest, *self._range(lo, hi))
+        return Placed(found.lo, found.value) if found else None
+
+    def where_best(self, lo: int = 0, hi: Optional[int] = None) -> Optional[BestRun]:
+        """Where the best run stands: of several the one that ends first, and of those the shortest; None of an empty range.
+
+        Raises BadRange, then OutOfRange."""
+        found = self._located(_where_best, *self._range(lo, hi))
+        return BestRun(found.lo, found.hi, (found.sum_high << 64) + found.sum_low) if found else None
+
+    def where_reaches(self, sum: int, lo: int = 0, hi: Optional[int] = None) -> Optional[int]:
+        """The least end, from `lo` to `hi`, up to which the elements from `lo` on add up to `sum` or more; None where at no end they do.
+
+        Elements may be negative, and no sum wraps. Raises BadRange, then OutOfRange; OverflowError of a sum that doesn't fit 64 bits."""
+        found = self._located(_where_reaches, *self._range(lo, hi), _as_i64(sum))
+        return found.hi if found else None
+
     def summary(self, lo: int = 0, hi: Optional[int] = None) -> Summary:
         """What the elements of a range come to after the last edit, as bytes that travel. Raises BadRange, then OutOfRange."""
         return Summary._of(_summary_of(self._at, *self._range(lo, hi)))
@@ -1318,6 +1378,12 @@ class Vector(_Handle, collections.abc.Sequence[int]):
         if did.refusal:
             raise _refuse(did.refusal, did.detail)
         return did.values
+
+    def _located(self, call: Callable[..., _Found], *arguments: int) -> Optional[_Found]:
+        did = call(self._at, *arguments)
+        if did.refusal:
+            raise _refuse(did.refusal, did.detail)
+        return did if did.found else None
 
     def _reduced(self, call: Callable[..., _Reduced], lo: int, hi: Optional[int]) -> Reduced:
         did = call(self._at, *self._range(lo, hi))

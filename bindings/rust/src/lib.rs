@@ -27,6 +27,7 @@ mod elements;
 mod indices;
 mod kinds;
 mod like_vec;
+mod places;
 #[allow(unsafe_code)]
 mod raw;
 mod refusal;
@@ -42,6 +43,7 @@ pub use columns::{Column, Filled, by};
 pub use elements::{Elements, IntoElements, Through};
 pub use indices::Indices;
 pub use kinds::UnknownKind;
+pub use places::{BestRun, Placed};
 pub use refusal::Refusal;
 pub use summary::Summary;
 pub use values::{

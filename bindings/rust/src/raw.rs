@@ -110,6 +110,29 @@ pub(crate) struct Reduced {
     pub(crate) values: SixValues,
 }
 
+/// Where something stands in a range: `livevec_found`.
+#[repr(C)]
+pub(crate) struct Found {
+    refusal: u32,
+    detail: u32,
+    // the last edit, which is asked for by itself
+    _edit: u32,
+    pub(crate) lo: u32,
+    pub(crate) hi: u32,
+    pub(crate) value: i64,
+    pub(crate) sum_low: u64,
+    pub(crate) sum_high: i64,
+    found: bool,
+}
+
+impl Found {
+    /// What there is, where it wasn't refused.
+    fn answered(self) -> Result<Option<Found>, Refusal> {
+        let (refusal, detail) = (self.refusal, self.detail);
+        answered(refusal, detail, self.found.then_some(self))
+    }
+}
+
 /// The bytes of a summary that travels: `livevec_summary` has them and nothing else.
 pub(crate) type SummaryBytes = [u8; 184];
 
@@ -199,6 +222,10 @@ unsafe extern "C" {
     fn livevec_edits(slot: *mut Slot) -> Count;
     fn livevec_reduce(slot: *mut Slot, lo: u32, hi: u32) -> Reduced;
     fn livevec_ask(slot: *mut Slot, lo: u32, hi: u32) -> Reduced;
+    fn livevec_where_least(slot: *mut Slot, lo: u32, hi: u32) -> Found;
+    fn livevec_where_greatest(slot: *mut Slot, lo: u32, hi: u32) -> Found;
+    fn livevec_where_best(slot: *mut Slot, lo: u32, hi: u32) -> Found;
+    fn livevec_where_reaches(slot: *mut Slot, lo: u32, hi: u32, sum: i64) -> Found;
     fn livevec_value(slot: *mut Slot, kind: u32, lo: u32, hi: u32) -> Reduced;
     fn livevec_value_many(slot: *mut Slot, kind: u32, ranges: *const Ends, answers: *mut SixValues, length: usize) -> Many;
     fn livevec_summary_empty() -> Summarised;
@@ -453,6 +480,26 @@ impl Vector {
         // SAFETY: see above.
         let did = unsafe { livevec_value(self.slot.get(), kind, lo, hi) };
         answered(did.refusal, did.detail, did)
+    }
+
+    pub(crate) fn where_least(&self, lo: u32, hi: u32) -> Result<Option<Found>, Refusal> {
+        // SAFETY: see above.
+        unsafe { livevec_where_least(self.slot.get(), lo, hi) }.answered()
+    }
+
+    pub(crate) fn where_greatest(&self, lo: u32, hi: u32) -> Result<Option<Found>, Refusal> {
+        // SAFETY: see above.
+        unsafe { livevec_where_greatest(self.slot.get(), lo, hi) }.answered()
+    }
+
+    pub(crate) fn where_best(&self, lo: u32, hi: u32) -> Result<Option<Found>, Refusal> {
+        // SAFETY: see above.
+        unsafe { livevec_where_best(self.slot.get(), lo, hi) }.answered()
+    }
+
+    pub(crate) fn where_reaches(&self, lo: u32, hi: u32, sum: i64) -> Result<Option<Found>, Refusal> {
+        // SAFETY: see above.
+        unsafe { livevec_where_reaches(self.slot.get(), lo, hi, sum) }.answered()
     }
 
     /// The values of each range by a kind.

@@ -13,3 +13,4 @@ pub mod Kinds
 pub mod Seats
 pub mod Valued
 pub mod Summed
+pub mod Found

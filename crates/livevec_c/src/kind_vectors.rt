@@ -14,6 +14,7 @@ ghost use Rattle.lv_live.specs.State.{HasClaim, HasDelivery, HasNoClaims, SameLi
 ghost use Rattle.lv_live.specs.Turns.{TakesTurns};
 ghost use Rattle.lv_kinds.specs.Asked.{IsKindAnswer};
 ghost use Rattle.lv_kinds.specs.Kinds.{AreKept, HaveRoomFor};
+ghost use Rattle.lv_where.specs.Where.{IsEndReached, IsPlaceOfBest, IsPlaceOfGreatest, IsPlaceOfLeast};
 ghost use Rattle.livevec_c.specs.KindVectors.{IsSizeAfter};
 
 use lv_bodies::{Automaton, Kind, SixByTable, SixSummary};
@@ -24,6 +25,7 @@ use lv_live::Live;
 use lv_reduce::Answer;
 use lv_refresh::{Job, Outcome};
 use lv_summary::Accepted;
+use lv_where::{Placed, Run};
 use std::alloc::Global;
 use std::marker::Model;
 
@@ -160,6 +162,54 @@ impl KindVector {
         self.live.keeps();
         let automaton = self.live.body().automaton;
         self.kinds.ask(self.live.view(), &automaton, kind, lo, hi)
+    }
+
+    /// The first of the least elements of a range, and where it stands; none of an empty range. Keeps and is refused as `value`.
+    pub fn first_least(&mut self, lo: u32, hi: u32) -> Result<Option<Placed>, Refusal>
+        ensures ok { IfOk result (λ place. IsPlaceOfLeast (list_of self.old.history.journal) lo hi place) }
+        ensures granted { IfOk result (λ _. range_refusal self.old.history.journal lo hi ≡ None) }
+        ensures err { IfErr result (λ refusal. range_refusal self.old.history.journal lo hi ≡ Some refusal) }
+        ensures same { self.new ≡ self.old }
+    {
+        self.live.keeps();
+        let automaton = self.live.body().automaton;
+        lv_where::first_least(self.live.view(), &automaton, &mut self.kinds, lo, hi)
+    }
+
+    /// The first of the greatest elements, the same way.
+    pub fn first_greatest(&mut self, lo: u32, hi: u32) -> Result<Option<Placed>, Refusal>
+        ensures ok { IfOk result (λ place. IsPlaceOfGreatest (list_of self.old.history.journal) lo hi place) }
+        ensures granted { IfOk result (λ _. range_refusal self.old.history.journal lo hi ≡ None) }
+        ensures err { IfErr result (λ refusal. range_refusal self.old.history.journal lo hi ≡ Some refusal) }
+        ensures same { self.new ≡ self.old }
+    {
+        self.live.keeps();
+        let automaton = self.live.body().automaton;
+        lv_where::first_greatest(self.live.view(), &automaton, &mut self.kinds, lo, hi)
+    }
+
+    /// The best run of a range: of several the one that ends first, and of those the shortest. Keeps and is refused as `value`.
+    pub fn best_run(&mut self, lo: u32, hi: u32) -> Result<Option<Run>, Refusal>
+        ensures ok { IfOk result (λ place. IsPlaceOfBest (list_of self.old.history.journal) lo hi place) }
+        ensures granted { IfOk result (λ _. range_refusal self.old.history.journal lo hi ≡ None) }
+        ensures err { IfErr result (λ refusal. range_refusal self.old.history.journal lo hi ≡ Some refusal) }
+        ensures same { self.new ≡ self.old }
+    {
+        self.live.keeps();
+        let automaton = self.live.body().automaton;
+        lv_where::best_run(self.live.view(), &automaton, &mut self.kinds, lo, hi)
+    }
+
+    /// The least end up to which the elements from index `lo` on add up to `sum`, or none. Keeps and is refused as `value`.
+    pub fn reaches(&mut self, lo: u32, hi: u32, sum: i128) -> Result<Option<u32>, Refusal>
+        ensures ok { IfOk result (λ place. IsEndReached (list_of self.old.history.journal) lo hi sum place) }
+        ensures granted { IfOk result (λ _. range_refusal self.old.history.journal lo hi ≡ None) }
+        ensures err { IfErr result (λ refusal. range_refusal self.old.history.journal lo hi ≡ Some refusal) }
+        ensures same { self.new ≡ self.old }
+    {
+        self.live.keeps();
+        let automaton = self.live.body().automaton;
+        lv_where::reaches(self.live.view(), &automaton, &mut self.kinds, lo, hi, sum)
     }
 
     /// The summary by all six kinds, which are kept beside what is delivered. Refused as `value` is. Takes no memory.

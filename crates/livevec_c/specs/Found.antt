@@ -1,0 +1,62 @@
+-- Where something stands in a range of a vector, for C.
+use Rattle.std.specs.Prelude.{◌≡◌, ℕ, ℤ, pos, ◌+◌, Bool, true, false, Option, Some, None, List, length}
+use Rattle.lv_geometry.specs.Numbers.{number_of}
+use Rattle.lv_geometry.specs.declared.refusals.Refusal.{Refusal}
+use Rattle.lv_edits.specs.History.{list_of}
+use Rattle.lv_reduce.specs.Answer.{range_refusal}
+use Rattle.lv_where.specs.Where.{IsEndReached, IsPlaceOfBest, IsPlaceOfGreatest, IsPlaceOfLeast}
+use Rattle.lv_where.specs.declared.placing.Placed.{Placed}
+use Rattle.lv_where.specs.declared.placing.Run.{Run}
+use Rattle.livevec_c.specs.declared.objects.Object.{Object}
+use Rattle.livevec_c.specs.declared.objects.Object.TheVariants.{Vector}
+use Rattle.livevec_c.specs.declared.places_found.Found.{Found}
+use Rattle.livevec_c.specs.declared.places_found.Wanted.{Wanted}
+use Rattle.livevec_c.specs.declared.places_found.Wanted.TheVariants.{Least, Greatest, Best, Reaches}
+use Rattle.livevec_c.specs.Answers.{detail_of, high_half, low_half}
+use Rattle.livevec_c.specs.Behind.{State}
+
+-- a search that was refused
+abbrev pub unfound : ℕ → ℕ → Found
+unfound refusal detail = record { refusal = refusal; detail = detail; edit = 0; lo = 0; hi = 0; value = pos 0; sum_low = 0; sum_high = pos 0; found = false }
+
+-- a search after an edit that found nothing
+abbrev pub nowhere : ℕ → Found
+nowhere edit = record { refusal = 0; detail = 0; edit = edit; lo = 0; hi = 0; value = pos 0; sum_low = 0; sum_high = pos 0; found = false }
+
+-- an element stands from its index up to the next one; a run has its sum in two halves; a sum is reached from the start of the range on
+abbrev pub placed_at : ℕ → Option Placed → Found
+placed_at edit None = nowhere edit
+placed_at edit (Some p) = record { refusal = 0; detail = 0; edit = edit; lo = p.index; hi = p.index + 1; value = p.value; sum_low = 0; sum_high = pos 0; found = true }
+
+abbrev pub run_at : ℕ → Option Run → Found
+run_at edit None = nowhere edit
+run_at edit (Some r) = record { refusal = 0; detail = 0; edit = edit; lo = r.from; hi = r.to; value = pos 0; sum_low = low_half r.sum; sum_high = high_half r.sum; found = true }
+
+abbrev pub end_at : ℕ → ℕ → Option ℕ → Found
+end_at edit lo None = nowhere edit
+end_at edit lo (Some end) = record { refusal = 0; detail = 0; edit = edit; lo = lo; hi = end; value = pos 0; sum_low = 0; sum_high = pos 0; found = true }
+
+-- what is found in a range of a list after an edit
+abbrev pub FindsIn : Wanted → List ℤ → ℕ → ℕ → ℕ → Found → Type 0
+FindsIn Least xs lo hi edit answer = (place : Option Placed) × (answer ≡ placed_at edit place) × IsPlaceOfLeast xs lo hi place
+FindsIn Greatest xs lo hi edit answer = (place : Option Placed) × (answer ≡ placed_at edit place) × IsPlaceOfGreatest xs lo hi place
+FindsIn Best xs lo hi edit answer = (run : Option Run) × (answer ≡ run_at edit run) × IsPlaceOfBest xs lo hi run
+FindsIn (Reaches sum) xs lo hi edit answer = (end : Option ℕ) × (answer ≡ end_at edit lo end) × IsEndReached xs lo hi sum end
+
+-- in a range of a vector, where nothing refuses the range
+abbrev pub FindsUnless : Option Refusal → Wanted → ℕ → ℕ → Found → State → Type 0
+FindsUnless None wanted lo hi answer state = FindsIn wanted (list_of state.history.journal) lo hi (length state.history.journal) answer
+FindsUnless (Some refusal) wanted lo hi answer state = answer ≡ unfound (number_of refusal) (detail_of refusal)
+
+abbrev pub FindsVector : Wanted → ℕ → ℕ → Found → State → Type 0
+FindsVector wanted lo hi answer state = FindsUnless (range_refusal state.history.journal lo hi) wanted lo hi answer state
+
+-- of an object: of a vector only
+abbrev pub FindsObject : Wanted → ℕ → ℕ → Found → Object → Type 0
+FindsObject wanted lo hi answer (Vector state) = FindsVector wanted lo hi answer state
+FindsObject wanted lo hi answer other = answer ≡ unfound 101 0
+
+-- of what lies behind a slot
+abbrev pub Finds : Wanted → ℕ → ℕ → Found → Option Object → Type 0
+Finds wanted lo hi answer None = answer ≡ unfound 101 0
+Finds wanted lo hi answer (Some object) = FindsObject wanted lo hi answer object
