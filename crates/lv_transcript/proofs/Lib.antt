@@ -1,3 +1,4 @@
+pub mod JoinedClaims
 pub mod WrittenTranscripts
 pub mod ReadTranscripts
 pub mod AuditLines

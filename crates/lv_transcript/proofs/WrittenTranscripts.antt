@@ -37,6 +37,18 @@ WritesFront-pieces f xs i first second =
     rw (flat_map-parts f xs i)
     (WritesFront-longer (flat_map f (drop i xs)) (rw (append-nil (flat_map f (take i xs))) at (WritesFront-after first second)))
 
+-- the same of a list in two parts, of which the first was written
+pub Writes-one_more : {X : Type 0} (f : X → List ℕ) (done : List X) (x : X) {a b c : Option (List ℕ)} {h k l : List ℕ}
+    → Writes a h b k (flat_map f done) → Writes b k c l (f x) → Writes a h c l (flat_map f (done ++ x ∷ []))
+Writes-one_more f done x first second =
+    rw (flat_map-append f done (x ∷ []) ∙ ap (λ (ys : List ℕ). flat_map f done ++ ys) (append-nil (f x))) (Writes-trans first second)
+
+pub WritesFront-part : {X : Type 0} (f : X → List ℕ) (all done more : List X) {a b c : Option (List ℕ)} {h k : List ℕ} → all ≡ done ++ more
+    → Writes a h b k (flat_map f done) → WritesFront b k c [] → WritesFront a h c (flat_map f all)
+WritesFront-part f all done more parts first second =
+    rw (ap (flat_map f) parts ∙ flat_map-append f done more)
+    (WritesFront-longer (flat_map f more) (rw (append-nil (flat_map f done)) at (WritesFront-after first second)))
+
 -- ---- a last text
 
 -- a text was put, and all that is held was sent

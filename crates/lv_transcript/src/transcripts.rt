@@ -1,9 +1,11 @@
 ghost use Rattle.std.specs.Prelude.{◌≡◌, ◌≤◌, [], ◌∷◌, ◌++◌, All, OnOk, IfErr, vec_capacity};
 ghost use Rattle.std.specs.List.{flat_map};
 ghost use Rattle.lv_lines.specs.Output.{Puts, PutsFront, SamePlaces};
+ghost use Rattle.lv_transcript.specs.Joined.{in_a_row, joined};
 ghost use Rattle.lv_transcript.specs.Transcript.{edit_line, claim_line, end_line, transcript_text, greatest, AreAccepted, AreInOrder, IsEdit, IsTrueClaim, IsSoundTranscript, Transcribes};
 
 use crate::claimed::Claimed;
+use crate::queues::{Queue, take_least};
 use crate::transcript_lines::{put_edit_line, put_question};
 use lv_edits::Edit;
 use lv_lines::{Fault, HELD, LINE, Outbox, put, put_shown};
@@ -31,6 +33,46 @@ pub fn write_transcript<W: Write>(
         return Err(Fault::NoMemory);
     };
     write_by(edits, claims, &mut held, writer)
+}
+
+/// Writes the transcript of a journal and of what was claimed of it in several queues, and flushes the writer. The claims go out in the
+/// order of their edits; those at one edit in the order of the queues.
+///
+/// It is as sound as one that `write_transcript` writes. No memory is taken: lines are held in a buffer that was made for it, which has
+/// nothing and room for `HELD` bytes. The fault is `WriteFault`, where a write fails or takes no byte.
+pub fn write_joined_transcript<W: Write>(
+    edits: &[Edit],
+    queues: &mut Vec<Queue>,
+    held: &mut Vec<u8>,
+    writer: &mut W,
+) -> Result<(), Fault>
+    requires held { held.old.items ≡ [] }
+    requires room { HELD ≤ vec_capacity held.old }
+    ensures text { Transcribes (W.contents writer.old) (W.contents writer.new) (transcript_text edits.now (joined queues.old.items)) result }
+    ensures sound { AreAccepted greatest edits.now → All (IsTrueClaim edits.now) (in_a_row queues.old.items)
+        → OnOk result (IsSoundTranscript (transcript_text edits.now (joined queues.old.items))) }
+    ensures fault { IfErr result (λ fault. fault ≡ Fault.WriteFault) }
+{
+    let mut outbox = Outbox { writer, held };
+    write_joined_lines(edits, queues, &mut outbox)
+}
+
+// Writes the lines of that transcript by an empty outbox.
+fn write_joined_lines<W: Write>(
+    edits: &[Edit],
+    queues: &mut Vec<Queue>,
+    outbox: &mut Outbox<'_, W>,
+) -> Result<(), Fault>
+    requires held { outbox.old.held.now.items ≡ [] }
+    ensures places { SamePlaces outbox.old outbox.new }
+    ensures text { Transcribes (W.contents outbox.old.writer.now) (W.contents outbox.new.writer.now) (transcript_text edits.now (joined queues.old.items)) result }
+    ensures fits { OnOk result (All IsEdit edits.now) }
+    ensures fault { IfErr result (λ fault. fault ≡ Fault.WriteFault) }
+{
+    put(outbox.held, b"livevec 1\n");
+    write_edits(edits, outbox)?;
+    write_queues(queues, outbox)?;
+    write_end(outbox)
 }
 
 // Writes a transcript by a buffer that was made for it.
@@ -118,6 +160,20 @@ fn write_claims<W: Write>(claims: &[Claimed], outbox: &mut Outbox<'_, W>) -> Res
 {
     for claim in claims {
         write_claim(*claim, outbox)?;
+    }
+    Ok(())
+}
+
+// Writes the lines of the claims in some queues behind what is held.
+fn write_queues<W: Write>(queues: &mut Vec<Queue>, outbox: &mut Outbox<'_, W>) -> Result<(), Fault>
+    ensures places { SamePlaces outbox.old outbox.new }
+    ensures ok { OnOk result (Puts W.contents outbox.old outbox.new
+        (flat_map (λ claim. claim_line claim ++ 10 ∷ []) (joined queues.old.items))) }
+    ensures fault { IfErr result (λ fault. (fault ≡ Fault.WriteFault)
+        × PutsFront W.contents outbox.old outbox.new (flat_map (λ claim. claim_line claim ++ 10 ∷ []) (joined queues.old.items))) }
+{
+    while let Some(claim) = take_least(queues) {
+        write_claim(claim, outbox)?;
     }
     Ok(())
 }

@@ -1,0 +1,98 @@
+// Claims that are taken one after the other, from several lists at once.
+ghost use Rattle.std.specs.Prelude.{◌≡◌, [], ◌∷◌, ◌++◌, List, MatchOption, length};
+ghost use Rattle.lv_transcript.specs.declared.claimed.Claimed.{Claimed};
+ghost use Rattle.lv_transcript.specs.Joined.{BeginsAt, FindsLeast, in_a_row, joined};
+ghost use Rattle.lv_transcript.specs.Transcript.{AreInOrder};
+
+use crate::claimed::Claimed;
+use std::marker::Model;
+
+/// Claims in rising order of their edits, which are taken one after the other.
+#[derive(Drop)]
+pub struct Queue {
+    claims: Vec<Claimed>,
+    // How many of them were taken.
+    taken: usize,
+}
+
+impl Model for Queue {
+    ghost use Rattle.std.specs.Prelude.{List, drop};
+    ghost use Rattle.lv_transcript.specs.declared.claimed.Claimed.{Claimed};
+    ghost use Rattle.lv_transcript.specs.Transcript.{AreInOrder};
+
+    ghost Value = { List Claimed };
+
+    ghost view = { λ q. drop q.taken q.claims.items };
+
+    ghost invariant = { λ q. AreInOrder q.claims.items };
+}
+
+impl Queue {
+    /// All of some claims. Takes no memory.
+    pub fn new(claims: Vec<Claimed>) -> Queue
+        requires order { AreInOrder claims.items }
+        ensures { result ≡ claims.items }
+    {
+        Queue { claims, taken: 0 }
+    }
+
+    // The edit of the first claim, which none is below.
+    fn first_edit(&self) -> Option<u32>
+        ensures { MatchOption result (self.now ≡ []) (λ edit. BeginsAt edit self.now) }
+    {
+        match self.claims.as_slice().get(self.taken) {
+            Some(claim) => Some(claim.edit),
+            None => None,
+        }
+    }
+
+    // Takes the first claim.
+    fn take_first(&mut self) -> Option<Claimed>
+        ensures { MatchOption result (self.old ≡ []) (λ claim. self.old ≡ claim ∷ self.new) }
+    {
+        match self.claims.as_slice().get(self.taken) {
+            Some(claim) => {
+                self.taken += 1;
+                Some(*claim)
+            }
+            None => None,
+        }
+    }
+}
+
+/// Takes the claim of the least edit, that of the first queue where several have one.
+pub(crate) fn take_least(queues: &mut Vec<Queue>) -> Option<Claimed>
+    ensures { MatchOption result (in_a_row queues.old.items ≡ []) (λ claim. joined queues.old.items ≡ claim ∷ joined queues.new.items) }
+{
+    match least(queues.as_slice()) {
+        Some((index, _)) => queues[index].take_first(),
+        None => None,
+    }
+}
+
+// Which queue has the claim of the least edit, and that edit.
+fn least(queues: &[Queue]) -> Option<(usize, u32)>
+    ensures { FindsLeast queues.now result }
+{
+    let mut found = None;
+    for (index, queue) in queues.iter().enumerate() {
+        found = lesser(found, index, queue);
+    }
+    found
+}
+
+// The same with one queue more.
+fn lesser(found: Option<(usize, u32)>, index: usize, queue: &Queue) -> Option<(usize, u32)>
+    ensures { (lists : List (List Claimed)) → length lists ≡ index → FindsLeast lists found → FindsLeast (lists ++ queue.now ∷ []) result }
+{
+    let Some(edit) = queue.first_edit() else {
+        return found;
+    };
+    let Some((_, least)) = found else {
+        return Some((index, edit));
+    };
+    if least <= edit {
+        return found;
+    }
+    Some((index, edit))
+}
