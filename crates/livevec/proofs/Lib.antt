@@ -1,2 +1,3 @@
 mod Seats
 mod ServedLaws
+mod WaitedStreams

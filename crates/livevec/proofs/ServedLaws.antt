@@ -10,6 +10,8 @@ use Rattle.std.proofs.lemmas.List.Elements.{All-append, All-nil, All-push, All-w
 use mathlib.Core.List.{IsPrefix}
 use Rattle.lv_hub.proofs.TruthLaws.{all_true_of_more}
 use Rattle.lv_transcript.specs.declared.claimed.Claimed.{Claimed}
+use Rattle.lv_transcript.specs.Joined.{by_edit, in_a_row}
+use Rattle.lv_transcript.proofs.JoinedClaims.{by_edit_order, by_edit_permutes, by_edit_ties}
 use Rattle.lv_lines.specs.declared.fault.Fault.{Fault}
 use Rattle.lv_lines.specs.declared.fault.Fault.TheVariants.{NoMemory, ReadFault, TooLong, WriteFault}
 use Rattle.lv_edits.specs.declared.edit.Edit.{Edit}
@@ -53,6 +55,10 @@ module _ (limits : Bounds) where
 -- a beginning of a beginning is one
 pub begins : (xs ys zs : List Edit) → IsPrefix xs ys → IsPrefix ys zs → IsPrefix xs zs
 begins xs ys zs p q = (p.0 ++ q.0, sym (append_assoc xs p.0 q.0) ∙ (ap (λ w. w ++ q.0) p.1 ∙ q.1))
+
+-- one list more
+pub row_push : (lists : List (List Claimed)) (claims : List Claimed) → in_a_row (lists ++ claims ∷ []) ≡ in_a_row lists ++ claims
+row_push lists claims = flat_map-append (λ claims. claims) lists (claims ∷ []) ∙ ap (λ (more : List Claimed). in_a_row lists ++ more) (append-nil claims)
 
 -- nothing was taken back yet
 pub takes_none : (share : ShareState) → TakesBack share share [] [] []
@@ -222,9 +228,9 @@ ended_so limits old new last a b k l x c count seen claims =
     subst (λ state. Conversed (SessionStep limits) old state a b k l ended_well) same (record { seen = c.seen; read = c.read; few = c.few; ends = c.ends })
 
 -- claims in their order have a text
-pub ordered_text : (journal : List Edit) (listed ordered lent : List Claimed) → lent ≡ ordered → AreInOrder lent → IsPermutation listed ordered → KeepTies listed ordered → IsTextOf journal listed (transcript_text journal lent)
-ordered_text journal listed ordered lent is order same ties =
-    record { claims = lent; text_is = refl; permutes = subst (IsPermutation listed) (sym is) same; ties = subst (KeepTies listed) (sym is) ties; order = order }
+pub ordered_text : (journal : List Edit) (listed : List Claimed) → IsTextOf journal listed (transcript_text journal (by_edit listed))
+ordered_text journal listed =
+    record { claims = by_edit listed; text_is = refl; permutes = by_edit_permutes listed; ties = λ edit. by_edit_ties edit listed; order = by_edit_order listed }
 
 -- the text of a closed hub's journal was written
 pub closed_so : {T : Type 0} (limits : Bounds) (share : ShareState) (h : History) (listed : List Claimed) (journal : List Edit) (old new : Option (List ℕ)) (result : Result T Fault) → journal ≡ h.journal

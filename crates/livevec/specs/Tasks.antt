@@ -1,5 +1,5 @@
 -- Sessions before and after they were held.
-use Rattle.std.specs.Prelude.{◌≡◌, ℕ, ◌+◌, ◌<◌, Option, Some, None, IfSome, option_map, Result, Ok, Err, List, [], All, Vec, length, map, slice_index_or}
+use Rattle.std.specs.Prelude.{◌≡◌, ℕ, ◌+◌, ◌<◌, Option, Some, None, IfSome, option_map, Result, Ok, Err, List, [], All, length, map, slice_index_or}
 use mathlib.Core.List.{IsPrefix}
 use Rattle.lv_transcript.specs.declared.claimed.Claimed.{Claimed}
 use Rattle.lv_geometry.specs.Bounds.{Bounds}
@@ -21,8 +21,8 @@ pub record Ended : Type 0 where
   pub claims : Option (List Claimed)
 
 -- the reductions that are listed, if any are
-abbrev pub listed_in : {Z E : Type 0} → Result (Vec Claimed Z) E → Option (List Claimed)
-listed_in (Ok claims) = Some claims.items
+abbrev pub listed_in : {E : Type 0} → Result (List Claimed) E → Option (List Claimed)
+listed_in (Ok claims) = Some claims
 listed_in (Err failure) = None
 
 -- a session with one part of the hub, which has counted and seen nothing

@@ -1,36 +1,38 @@
 //! A hub is closed, its transcript written, and its minutes ended.
 
 ghost use Rattle.std.specs.Prelude.{◌≡◌, ◌⊎◌, All, Err, IfErr, IfOk, Ok};
+ghost use Rattle.lv_transcript.specs.Joined.{in_a_row};
 ghost use Rattle.lv_transcript.specs.Transcript.{AreAccepted, IsTrueClaim, greatest};
-ghost use Rattle.livevec.specs.Writing.{FailsToClose, Writes, WritesClosed};
+ghost use Rattle.livevec.specs.Writing.{FailsToClose, IsFreeBuffer, Writes, WritesClosed};
 
 use crate::failures::Failure;
 use crate::minuted::{end_minutes, shown};
 use lv_bodies::Six;
 use lv_edits::Edit;
-use lv_hub::{Begun, Hub, Means, Minutes, Share, in_order};
-use lv_script::{Claimed, Fault, write_transcript};
-use std::alloc::Global;
+use lv_hub::{Begun, Hub, Means, Minutes, Share};
+use lv_script::Fault;
+use lv_transcript::{Queue, write_joined_transcript};
 use std::io::Write;
 
-/// Closes a hub and writes its transcript, and ends its minutes. The transcript's fault comes before that of the minutes. A call drops
+/// Closes a hub and writes its transcript by a buffer that was made for it, and ends its minutes. Takes no memory. The transcript's fault comes before that of the minutes. A call drops
 /// the vector, as one above drops the hub: the proof of a body that does so by itself is long.
 pub fn write_closed<N: Means<Six>, K: Begun, V: Write + Drop, W: Write>(
-    alloc: Global,
     hub: Hub<Six, N>,
     share: Share<N>,
-    claims: Vec<Claimed>,
+    queues: &mut Vec<Queue>,
     minutes: Option<Minutes<N, V, K>>,
+    held: &mut Vec<u8>,
     writer: &mut W,
 ) -> Result<(), Failure>
     requires parts { share.parts ≡ N.parts }
-    requires all_true { All (IsTrueClaim share.seen) claims.items }
-    ensures written { IfOk result (λ done. WritesClosed N.limits share claims.items (W.contents writer.old) (W.contents writer.new) (Ok done)) }
-    ensures failed { IfErr result (λ failure. FailsToClose N.limits share claims.items (W.contents writer.old) (W.contents writer.new) failure.fault) }
+    requires all_true { All (IsTrueClaim share.seen) (in_a_row queues.old.items) }
+    requires buffer { IsFreeBuffer held.old }
+    ensures written { IfOk result (λ done. WritesClosed N.limits share (in_a_row queues.old.items) (W.contents writer.old) (W.contents writer.new) (Ok done)) }
+    ensures failed { IfErr result (λ failure. FailsToClose N.limits share (in_a_row queues.old.items) (W.contents writer.old) (W.contents writer.new) failure.fault) }
 {
     let share = shown(&minutes, share);
     let live = hub.close(share);
-    let written = write_in_order(alloc, live.journal(), claims, writer);
+    let written = write_in_order(live.journal(), queues, held, writer);
     let ended = end_minutes(minutes, live.journal());
     drop(live);
     first_failure(written, ended)
@@ -38,20 +40,17 @@ pub fn write_closed<N: Means<Six>, K: Begun, V: Write + Drop, W: Write>(
 
 // Writes the transcript of a journal, with the reductions in the order of their edits.
 fn write_in_order<W: Write>(
-    alloc: Global,
     journal: &[Edit],
-    claims: Vec<Claimed>,
+    queues: &mut Vec<Queue>,
+    held: &mut Vec<u8>,
     writer: &mut W,
 ) -> Result<(), Fault>
     requires accepted { AreAccepted greatest journal.now }
-    requires all_true { All (IsTrueClaim journal.now) claims.items }
-    ensures { Writes journal.now claims.items (W.contents writer.old) (W.contents writer.new) result }
+    requires all_true { All (IsTrueClaim journal.now) (in_a_row queues.old.items) }
+    requires buffer { IsFreeBuffer held.old }
+    ensures { Writes journal.now (in_a_row queues.old.items) (W.contents writer.old) (W.contents writer.new) result }
 {
-    let mut claims = claims;
-    let Ok(()) = in_order(&mut claims) else {
-        return Err(Fault::NoMemory);
-    };
-    write_transcript(alloc, journal, &claims, writer)
+    write_joined_transcript(journal, queues, held, writer)
 }
 
 // What failed first: the transcript on standard output, or else its file.

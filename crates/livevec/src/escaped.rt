@@ -25,3 +25,20 @@ fn put<W: fmt::Write>(f: &mut fmt::Formatter<W>, letter: char) -> fmt::Result {
     }
     Ok(())
 }
+
+/// Bytes from the command line that are no text: those of ASCII that can be seen stand for themselves, any other by its code.
+#[derive(Clone, Copy)]
+pub struct EscapedBytes<'a>(pub &'a [u8]);
+
+impl fmt::Display for EscapedBytes<'_> {
+    fn fmt<W: fmt::Write>(&self, f: &mut fmt::Formatter<W>) -> fmt::Result {
+        for byte in self.0 {
+            if *byte == b' ' || byte.is_ascii_graphic() {
+                f.write_char(char::from(*byte))?;
+            } else {
+                write!(f, "\\x{byte:02x}")?;
+            }
+        }
+        Ok(())
+    }
+}

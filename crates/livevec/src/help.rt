@@ -15,7 +15,10 @@ Statuses:
      of an audit: no or bad
   2  a usage fault, told on standard error
   3  what reads standard output has ended, as `head` does; nothing is told
-Faults: 6 no memory, 13 a read failed or a file can't be opened, 14 a write failed or an output can't be made";
+Faults: 6 no memory, 13 a read failed or a file can't be opened, 14 a write failed or an output can't be made
+
+Names of files are UTF-8: a link with such a name leads to a file with another. Standard input and output
+that are set not to block are waited for.";
 
 /// What `run` does.
 pub const RUN: &str = "Answers a script: reads lines from standard input, writes the reply to each";
@@ -81,6 +84,9 @@ reply to it is written, in the order of time and in whole lines. FILE is opened 
 emptied last. Whenever `serve` is killed, `livevec audit --front` says how much is there, and `livevec
 restore` goes on from it; at a good end its last line is `end`. With --sync it is on the disk by then.
 That FILE can't be written is a fault at the end.
+
+With --answers N each session keeps at most N answers for the transcript: past that a `reduce` is
+`refused 6`. Where memory gives out, lines are `refused 6` too, and the transcript is whole.
 
 There is no way to end the sessions by a signal: --transcript is what survives one.";
 

@@ -20,6 +20,7 @@ mod tasks;
 mod telling;
 mod transcript_files;
 mod usage;
+mod waited;
 
 use crate::clashes::first_clash;
 use crate::failures::Failure;
@@ -29,7 +30,8 @@ use crate::telling::{
     CUT, show, show_clash, show_misuse, status_of, status_of_front, status_told, tell,
 };
 use crate::transcript_files::Kept;
-use crate::usage::{Misuse, plus_in, unshown_in};
+use crate::usage::{Misuse, NAME_BYTES, plus_in, unreadable_in, unshown_in};
+use crate::waited::Waited;
 use clap::{ArgMatches, Error};
 use lv_bodies::Sum;
 use lv_machine::Machine;
@@ -41,6 +43,7 @@ use std::process::ExitCode;
 use std::rt::Env;
 use std::sync::Wait;
 use std::thread::Threads;
+use std::time::Clock;
 use std::{env, io};
 
 /// Statuses: 0; 1 on a fault, printed on standard error as `livevec: fault N` with a line in words behind it, and of an audit that
@@ -55,7 +58,7 @@ fn main(rt: HostRuntime) -> ExitCode {
 }
 
 // Reads the command line and does what it asks.
-fn run<R: AllocGlobal + Env + Eprint + Files + Input + Print + Sync + Threads + Wait>(
+fn run<R: AllocGlobal + Clock + Env + Eprint + Files + Input + Print + Sync + Threads + Wait>(
     rt: &R,
 ) -> Result<u8, Fault>
 where
@@ -64,7 +67,7 @@ where
     let words = match words_of(rt) {
         Ok(words) => words,
         Err(error) if error.kind() == io::ErrorKind::OutOfMemory => return Err(Fault::NoMemory),
-        Err(_) => return Ok(show_misuse(rt, Misuse::NotText)),
+        Err(_) => return Ok(show_unreadable(rt)),
     };
     let command = command_line::command(rt.alloc()).map_err(|_| Fault::NoMemory)?;
     match command.try_get_matches_from(words.as_slice()) {
@@ -74,7 +77,7 @@ where
 }
 
 // Shows what `clap` says, but where a word of the command line would speak for itself in it.
-fn show_unless_unshown<R: Eprint + Print>(
+fn show_unless_unshown<R: Clock + Eprint + Print>(
     rt: &R,
     words: &[String],
     error: &Error,
@@ -85,30 +88,42 @@ fn show_unless_unshown<R: Eprint + Print>(
     }
 }
 
+// Shows the first word that isn't UTF-8.
+fn show_unreadable<R: Env + Eprint>(rt: &R) -> u8 {
+    let mut name = [0u8; NAME_BYTES];
+    let length = unreadable_in(rt, &mut name);
+    let (word, _) = name.split_at(length);
+    show_misuse(rt, Misuse::NotText(word))
+}
+
+// Standard input, which is waited for.
+fn lines_of<R: Clock + Input>(rt: &R) -> Waited<'_, R, R::Reader> {
+    Waited::new(rt, rt.reader())
+}
+
 // The words of the command line.
 fn words_of<R: AllocGlobal + Env>(rt: &R) -> io::Result<Vec<String>> {
     Ok(env::args(rt)?.collect(rt.alloc())?)
 }
 
 // Does what a command line asks. Where what reads standard output has ended, so does this, without a word.
-fn obey<R: AllocGlobal + Eprint + Files + Input + Print + Sync + Threads + Wait>(
+fn obey<R: AllocGlobal + Clock + Eprint + Files + Input + Print + Sync + Threads + Wait>(
     rt: &R,
     matches: &ArgMatches<'_>,
 ) -> Result<u8, Fault>
 where
     R::File: Send,
 {
-    let mut writer = Piped::new(io::writer(rt));
+    let mut writer = Piped::new(Waited::new(rt, io::writer(rt)));
     let ended = answer(rt, matches, &mut writer);
     if writer.is_cut() { Ok(CUT) } else { ended }
 }
 
 // Does it, writing to what stands for standard output.
-fn answer<R: AllocGlobal + Eprint + Files + Input + Print + Sync + Threads + Wait, W: Write>(
-    rt: &R,
-    matches: &ArgMatches<'_>,
-    writer: &mut Piped<W>,
-) -> Result<u8, Fault>
+fn answer<
+    R: AllocGlobal + Clock + Eprint + Files + Input + Print + Sync + Threads + Wait,
+    W: Write,
+>(rt: &R, matches: &ArgMatches<'_>, writer: &mut Piped<W>) -> Result<u8, Fault>
 where
     R::File: Send,
 {
@@ -125,7 +140,7 @@ where
                 alloc,
                 command_line::limits(asked),
                 command_line::jobs(asked),
-                &mut rt.reader(),
+                &mut lines_of(rt),
                 writer,
             )?;
             Ok(0)
@@ -134,7 +149,7 @@ where
         "restore" => restore(rt, asked, writer),
         "board" => board(rt, asked),
         "schedule" => {
-            schedule(alloc, asked, &mut rt.reader(), writer)?;
+            schedule(alloc, asked, &mut lines_of(rt), writer)?;
             Ok(0)
         }
         _ => audit_input(rt, asked, writer),
@@ -142,16 +157,16 @@ where
 }
 
 // Audits a transcript, or a front of one.
-fn audit_input<R: AllocGlobal + Input, W: Write>(
+fn audit_input<R: AllocGlobal + Clock + Input, W: Write>(
     rt: &R,
     asked: &ArgMatches<'_>,
     writer: &mut W,
 ) -> Result<u8, Fault> {
     let alloc = rt.alloc();
     if asked.get_flag("front") {
-        Ok(status_of_front(audit_front(alloc, rt.reader(), writer)?))
+        Ok(status_of_front(audit_front(alloc, lines_of(rt), writer)?))
     } else {
-        Ok(status_of(audit(alloc, &mut rt.reader(), writer)?))
+        Ok(status_of(audit(alloc, &mut lines_of(rt), writer)?))
     }
 }
 
@@ -173,7 +188,7 @@ fn schedule<R: Read, W: Write>(
 }
 
 // Serves the sessions that a command line names.
-fn serve<R: AllocGlobal + Eprint + Files + Print + Sync + Threads + Wait, W: Write>(
+fn serve<R: AllocGlobal + Clock + Eprint + Files + Print + Sync + Threads + Wait, W: Write>(
     rt: &R,
     asked: &ArgMatches<'_>,
     writer: &mut Piped<W>,
@@ -190,14 +205,14 @@ where
 }
 
 // Restores a vector from the file that a command line names, and answers a script.
-fn restore<R: AllocGlobal + Eprint + Files + Input + Print, W: Write>(
+fn restore<R: AllocGlobal + Clock + Eprint + Files + Input + Print, W: Write>(
     rt: &R,
     asked: &ArgMatches<'_>,
     writer: &mut Piped<W>,
 ) -> Result<u8, Fault> {
     let alloc = rt.alloc();
     let file = asked.get_str("front").unwrap_or("");
-    match restoring::restore(rt, alloc, file, &mut rt.reader(), writer) {
+    match restoring::restore(rt, alloc, file, &mut lines_of(rt), writer) {
         Err(Unopened::Clashes(clash)) => {
             show_clash(rt, command_line::restore_error(alloc, clash))
         }
@@ -242,7 +257,7 @@ fn open_named<'a, R: Files>(
 }
 
 // Holds the sessions that a command line names at a board.
-fn board<R: AllocGlobal + Eprint + Files + Print + Sync + Threads>(
+fn board<R: AllocGlobal + Clock + Eprint + Files + Print + Sync + Threads>(
     rt: &R,
     asked: &ArgMatches<'_>,
 ) -> Result<u8, Fault>

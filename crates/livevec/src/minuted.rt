@@ -3,14 +3,14 @@
 ghost use Rattle.std.specs.Prelude.{◌≡◌, ℕ, All, IfErr, IfOk, IfSome, List, []};
 ghost use mathlib.Core.List.{IsPrefix};
 ghost use Rattle.lv_lines.specs.Replies.{Conversed};
-ghost use Rattle.lv_transcript.specs.Transcript.{AreAccepted, IsTrueClaim, greatest};
+ghost use Rattle.lv_transcript.specs.Transcript.{AreAccepted, AreInOrder, IsTrueClaim, greatest};
 ghost use Rattle.lv_hub.specs.Counting.{having_seen};
 ghost use Rattle.lv_hub.specs.Session.{SessionState, SessionStep, session_at};
 
 use crate::failures::Failure;
 use lv_bodies::Six;
 use lv_edits::Edit;
-use lv_hub::{Begun, Hub, Means, Minutes, Share, run_recorded_session, run_session};
+use lv_hub::{Begun, Means, Minutes, Place, Share, run_recorded_session_at, run_session_at};
 use lv_script::{Claimed, Fault};
 use std::alloc::Global;
 use std::io::{Read, Write};
@@ -78,9 +78,7 @@ pub fn end_minutes<N: Means<Six>, K: Begun, V: Write + Drop>(
 
 /// Answers the lines of a session, and has them taken up where minutes are kept.
 pub fn run_minuted<N: Means<Six>, K: Begun, V: Write + Drop, T: Wait, R: Read, W: Write>(
-    rt: &T,
-    alloc: Global,
-    hub: &Hub<Six, N>,
+    place: Place<'_, N, T>,
     minutes: Option<&Mutex<Minutes<N, V, K>>>,
     share: &mut Share<N>,
     reader: &mut R,
@@ -94,9 +92,10 @@ pub fn run_minuted<N: Means<Six>, K: Begun, V: Write + Drop, T: Wait, R: Read, W
         × IfOk result (λ claims. claims.items ≡ last.claims) }
     ensures parts { share.new.parts ≡ share.old.parts }
     ensures all_true { IfOk result (λ claims. All (IsTrueClaim share.new.seen) claims.items) }
+    ensures order { IfOk result (λ claims. AreInOrder claims.items) }
 {
     match minutes {
-        Some(minutes) => run_recorded_session(rt, alloc, hub, minutes, share, reader, writer),
-        None => run_session(rt, alloc, hub, share, reader, writer),
+        Some(minutes) => run_recorded_session_at(place, minutes, share, reader, writer),
+        None => run_session_at(place, share, reader, writer),
     }
 }

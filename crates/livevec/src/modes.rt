@@ -68,6 +68,14 @@ const TURNS: Number = Number {
     usual: "1000",
 };
 
+const ANSWERS: Number = Number {
+    name: "answers",
+    says: "At most how many answers each session keeps for the transcript, 0 to 100000000",
+    least: 0,
+    most: 100_000_000,
+    usual: "100000000",
+};
+
 /// The names of the kinds.
 pub const KINDS: [&str; 6] = ["sum", "least", "greatest", "best", "affine", "automaton"];
 
@@ -117,6 +125,7 @@ pub const SERVE: Mode = Mode {
     arguments: &[
         Argument::Number(WORKERS),
         Argument::Number(TURNS),
+        Argument::Number(ANSWERS),
         Argument::Number(BUCKETS),
         Argument::Number(EDITS),
         Argument::File(

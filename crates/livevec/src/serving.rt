@@ -1,17 +1,20 @@
 //! Sessions in threads of their own, with workers beside them, and the transcript of it all.
 
 ghost use Rattle.std.specs.Prelude.{◌≡◌, ◌+◌, IfErr, IfOk, IfSome, [], Some, map, vec_len};
+ghost use Rattle.lv_transcript.specs.Joined.{in_a_row};
+ghost use Rattle.livevec.specs.Writing.{IsFreeBuffer};
 ghost use Rattle.livevec.specs.Served.{FailsToServe, Served, Sides};
 ghost use Rattle.livevec.specs.Tasks.{AreAllHeld, AreHeldFrom, IsHeldFrom};
 
 use crate::closing::write_closed;
-use crate::failures::{Failure, Place};
+use crate::failures::{self, Failure};
 use crate::files::Streams;
 use crate::minuted::{begin_minutes, run_minuted, unlocked};
 use crate::tasks::{Done, Gathered, Task, share_out, take_back};
 use lv_bodies::Six;
 use lv_geometry::Limits;
-use lv_hub::{Begun, Hub, Means, Minutes, OpenGate, Opened, Share, attend, in_order};
+use lv_hub::{Begun, Hub, Means, Minutes, OpenGate, Opened, Place, Share, attend};
+use lv_transcript::Queue;
 use std::alloc::Global;
 use std::io::{Read, Write};
 use std::marker::Brand;
@@ -29,6 +32,8 @@ pub struct Plan {
     pub workers: u32,
     /// How many turns each of them takes.
     pub turns: u64,
+    /// At most how many answered reductions each session keeps for the transcript.
+    pub answers: usize,
 }
 
 /// Holds a session for each pair of streams, in a thread of its own where one can be made, with workers beside them. Then
@@ -101,8 +106,13 @@ fn serve_as<
 {
     let (hub, mut share) = Hub::<Six, N>::new(alloc, plan.limits, body, blank, parts, opened);
     match serve_all::<N, K, F, V, R>(rt, alloc, plan, &hub, &mut share, streams, file) {
-        Ok((Gathered { claims, streams }, minutes)) => {
-            match write_closed(alloc, hub, share, claims, minutes, writer) {
+        Ok((all, minutes)) => {
+            let Gathered {
+                mut claims,
+                streams,
+                mut held,
+            } = all;
+            match write_closed(hub, share, &mut claims, minutes, &mut held, writer) {
                 Ok(()) => Ok(streams),
                 Err(failure) => Err(failure),
             }
@@ -135,12 +145,14 @@ fn serve_all<
     requires count { share.old.count ≡ 0 }
     requires unseen { share.old.seen ≡ [] }
     ensures parts { IfOk result (λ all. share.new.parts ≡ share.old.parts) }
-    ensures held { IfOk result (λ all. AreAllHeld N.limits share.new (map (λ s. record { lines = F.remaining s.lines; replies = F.contents s.replies }) streams.items) (map (λ s. record { lines = F.remaining s.lines; replies = F.contents s.replies }) all.0.streams.items) all.0.claims.items) }
+    ensures buffer { IfOk result (λ all. IsFreeBuffer all.0.held) }
+    ensures held { IfOk result (λ all. AreAllHeld N.limits share.new (map (λ s. record { lines = F.remaining s.lines; replies = F.contents s.replies }) streams.items) (map (λ s. record { lines = F.remaining s.lines; replies = F.contents s.replies }) all.0.streams.items) (in_a_row all.0.claims.items)) }
 {
     let minutes = begin_minutes::<N, K, V>(alloc, file, share)?;
+    let room = Gathered::with_room(alloc, streams.len())?;
     let tasks = share_out(alloc, share, streams)?;
     let done = hold_all(rt, alloc, plan, hub, minutes.as_ref(), tasks)?;
-    let all = take_back(alloc, share, done)?;
+    let all = take_back(room, share, done)?;
     Ok((all, unlocked(minutes)))
 }
 
@@ -162,19 +174,23 @@ fn hold_all<
 ) -> Result<Vec<Done<N, F>>, Failure>
     ensures { IfOk result (λ done. AreHeldFrom N.limits tasks.items done.items) }
 {
-    let (workers, turns) = (plan.workers, plan.turns);
-    let (worked, done) = thread::join(
+    let Plan {
+        workers,
+        turns,
+        answers,
+        ..
+    } = plan;
+    let ((), done) = thread::join(
         rt,
-        move || -> Result<(), Failure> { refresh(rt, alloc, hub, workers, turns) },
+        move || refresh(rt, alloc, hub, workers, turns),
         move || -> Result<Vec<Done<N, F>>, Failure>
             ensures { IfOk result (λ done. AreHeldFrom N.limits tasks.items done.items) }
         {
-            let done = hold_each(rt, alloc, hub, minutes, tasks);
+            let done = hold_each(rt, alloc, hub, minutes, answers, tasks);
             hub.dismiss(rt);
             done
         },
     );
-    worked?;
     done
 }
 
@@ -190,13 +206,22 @@ fn hold_each<
     alloc: Global,
     hub: &Hub<Six, N>,
     minutes: Option<&Mutex<Minutes<N, V, K>>>,
+    answers: usize,
     tasks: Vec<Task<N, F>>,
 ) -> Result<Vec<Done<N, F>>, Failure>
     ensures { IfOk result (λ done. AreHeldFrom N.limits tasks.items done.items) }
 {
     let held = |task: Task<N, F>| -> Done<N, F>
         ensures { IsHeldFrom N.limits task result }
-    { hold(rt, alloc, hub, minutes, task) };
+    {
+        let place = Place {
+            rt,
+            hub,
+            alloc,
+            answers,
+        };
+        hold(place, minutes, task)
+    };
     match thread::map_vec(rt, tasks, &held) {
         Ok(done) => Ok(done),
         Err(_) => Err(Failure::memory()),
@@ -205,9 +230,7 @@ fn hold_each<
 
 // Holds a session.
 fn hold<N: Means<Six>, K: Begun, F: Read + Write + Drop, V: Write + Drop, R: Wait>(
-    rt: &R,
-    alloc: Global,
-    hub: &Hub<Six, N>,
+    place: Place<'_, N, R>,
     minutes: Option<&Mutex<Minutes<N, V, K>>>,
     task: Task<N, F>,
 ) -> Done<N, F>
@@ -218,43 +241,41 @@ fn hold<N: Means<Six>, K: Begun, F: Read + Write + Drop, V: Write + Drop, R: Wai
         mut streams,
     } = task;
     let claims = run_minuted(
-        rt,
-        alloc,
-        hub,
+        place,
         minutes,
         &mut share,
         &mut streams.lines,
         &mut streams.replies,
     );
-    let place = Place::Session(streams.number);
+    let at = failures::Place::Session(streams.number);
     match claims {
         Ok(claims) => Done {
             share,
             streams,
-            claims: Ok(claims),
+            claims: Ok(Queue::new(claims)),
         },
         Err(fault) => Done {
             share,
             streams,
-            claims: Err(Failure { fault, place }),
+            claims: Err(Failure { fault, place: at }),
         },
     }
 }
 
-// Refreshes the hub by all workers. Their threads are made once there may be work for them.
+// Refreshes the hub by all workers. Their threads are made once there may be work for them; where memory is wanting for so many, one
+// goes on alone.
 fn refresh<N: Means<Six> + Send + Sync, R: Threads + Wait + Sync>(
     rt: &R,
     alloc: Global,
     hub: &Hub<Six, N>,
     workers: u32,
     turns: u64,
-) -> Result<(), Failure> {
+) {
     if workers == 0 || !hub.wait_for_work(rt) {
-        return Ok(());
+        return;
     }
     let worker = |_: usize| attend(rt, hub, &OpenGate, turns);
-    match thread::map_indices(rt, alloc, workers as usize, &worker) {
-        Ok(_) => Ok(()),
-        Err(_) => Err(Failure::memory()),
+    if thread::map_indices(rt, alloc, workers as usize, &worker).is_err() {
+        attend(rt, hub, &OpenGate, turns);
     }
 }

@@ -1,14 +1,17 @@
 //! Sessions before and after they are held.
 
 ghost use Rattle.std.specs.Prelude.{◌≡◌, ◌+◌, IfOk, List, [], length, map, vec_len};
+ghost use Rattle.lv_transcript.specs.Joined.{in_a_row};
 ghost use Rattle.livevec.specs.Served.{Sides};
 ghost use Rattle.livevec.specs.Tasks.{TakesBack, begun_at};
+ghost use Rattle.livevec.specs.Writing.{IsFreeBuffer};
 
 use crate::failures::Failure;
 use crate::files::Streams;
 use lv_bodies::Six;
 use lv_hub::{Means, Share};
-use lv_script::Claimed;
+use lv_lines::HELD;
+use lv_transcript::Queue;
 use std::alloc::Global;
 use std::io::{Read, Write};
 use std::marker::Model;
@@ -37,7 +40,7 @@ impl<N: Means<Six>, F: Read + Write + Drop> Model for Task<N, F> {
 pub struct Done<N: Means<Six>, F: Read + Write + Drop> {
     pub share: Share<N>,
     pub streams: Streams<F>,
-    pub claims: Result<Vec<Claimed>, Failure>,
+    pub claims: Result<Queue, Failure>,
 }
 
 impl<N: Means<Six>, F: Read + Write + Drop> Model for Done<N, F> {
@@ -49,14 +52,38 @@ impl<N: Means<Six>, F: Read + Write + Drop> Model for Done<N, F> {
 
     ghost view = { λ d. record { share = d.share; sides = record { lines = F.remaining d.streams.lines; replies = F.contents d.streams.replies }; claims = listed_in d.claims } };
 
-    ghost invariant = { λ d. (d.share.parts ≡ 1) × IfOk d.claims (λ claims. All (IsTrueClaim d.share.seen) claims.items) };
+    ghost invariant = { λ d. (d.share.parts ≡ 1) × IfOk d.claims (λ claims. All (IsTrueClaim d.share.seen) claims) };
 }
 
-/// What sessions that were held leave: the reductions that they were answered, in their order, and their streams.
+/// What sessions that were held leave: the reductions that each was answered, in order, and their streams.
 #[derive(Drop)]
 pub struct Gathered<F: Drop> {
-    pub claims: Vec<Claimed>,
+    pub claims: Vec<Queue>,
     pub streams: Vec<Streams<F>>,
+    /// A buffer for their transcript.
+    pub held: Vec<u8>,
+}
+
+impl<F: Drop> Gathered<F> {
+    /// Room for what so many sessions leave, so that their end needs no memory.
+    pub fn with_room(alloc: Global, sessions: usize) -> Result<Gathered<F>, Failure>
+        ensures claims { IfOk result (λ all. all.claims.items ≡ []) }
+        ensures streams { IfOk result (λ all. all.streams.items ≡ []) }
+        ensures held { IfOk result (λ all. IsFreeBuffer all.held) }
+    {
+        let (Ok(claims), Ok(streams), Ok(held)) = (
+            Vec::with_capacity(alloc, sessions),
+            Vec::with_capacity(alloc, sessions),
+            Vec::with_capacity(alloc, HELD),
+        ) else {
+            return Err(Failure::memory());
+        };
+        Ok(Gathered {
+            claims,
+            streams,
+            held,
+        })
+    }
 }
 
 /// Gives each session a part of the hub, of which nobody has seen an edit.
@@ -85,16 +112,23 @@ pub fn share_out<N: Means<Six>, F: Read + Write + Drop>(
     Ok(tasks)
 }
 
-/// Takes the parts back, and gathers the reductions in the order of the sessions. The first session's fault is the fault.
+/// Takes the parts back, and gathers the reductions in the order of the sessions, where nothing is gathered yet. The first session's
+/// fault is the fault.
 pub fn take_back<N: Means<Six>, F: Read + Write + Drop>(
-    alloc: Global,
+    room: Gathered<F>,
     share: &mut Share<N>,
     done: Vec<Done<N, F>>,
 ) -> Result<Gathered<F>, Failure>
-    ensures { IfOk result (λ all. TakesBack share.old share.new done.items all.claims.items (map (λ s. record { lines = F.remaining s.lines; replies = F.contents s.replies }) all.streams.items)) }
+    requires claims { room.claims.items ≡ [] }
+    requires streams { room.streams.items ≡ [] }
+    ensures buffer { IfOk result (λ all. all.held ≡ room.held) }
+    ensures back { IfOk result (λ all. TakesBack share.old share.new done.items (in_a_row all.claims.items) (map (λ s. record { lines = F.remaining s.lines; replies = F.contents s.replies }) all.streams.items)) }
 {
-    let mut claims = Vec::new(alloc);
-    let mut streams = Vec::new(alloc);
+    let Gathered {
+        mut claims,
+        mut streams,
+        held,
+    } = room;
     for session in done {
         let Done {
             share: part,
@@ -102,13 +136,17 @@ pub fn take_back<N: Means<Six>, F: Read + Write + Drop>(
             claims: listed,
         } = session;
         share.join(part);
-        let mut listed = listed?;
-        if claims.append(&mut listed).is_err() {
+        let listed = listed?;
+        if claims.push(listed).is_err() {
             return Err(Failure::memory());
         }
         if streams.push(its).is_err() {
             return Err(Failure::memory());
         }
     }
-    Ok(Gathered { claims, streams })
+    Ok(Gathered {
+        claims,
+        streams,
+        held,
+    })
 }

@@ -5,10 +5,14 @@ ghost use Rattle.std.specs.Prelude.{◌≡◌, ◌≢◌};
 use crate::failures::{Failure, Told};
 use crate::files::Unopened;
 use crate::usage::Misuse;
+use crate::waited::Waited;
 use clap::Error;
 use clap::error::ErrorKind;
 use lv_script::{Fault, FrontVerdict, Verdict};
 use std::alloc::AllocError;
+use std::io;
+use std::io::Write;
+use std::time::Clock;
 
 /// The status where what reads standard output has ended.
 pub const CUT: u8 = 3;
@@ -39,7 +43,7 @@ pub fn status_told<R: Eprint>(
 }
 
 /// Shows that files can't be sessions together.
-pub fn show_clash<R: Eprint + Print>(
+pub fn show_clash<R: Clock + Eprint + Print>(
     rt: &R,
     error: Result<Error, AllocError>,
 ) -> Result<u8, Fault> {
@@ -50,15 +54,18 @@ pub fn show_clash<R: Eprint + Print>(
 }
 
 /// Shows help on standard output, or what is wrong with the command line on standard error.
-pub fn show<R: Eprint + Print>(rt: &R, error: &Error) -> Result<u8, Fault> {
+pub fn show<R: Clock + Eprint + Print>(rt: &R, error: &Error) -> Result<u8, Fault> {
     if error.kind() == ErrorKind::OutOfMemory {
         return Err(Fault::NoMemory);
     }
-    let printed = error.print(rt);
     if error.use_stderr() {
+        let _ = error.print(rt);
         return Ok(2);
     }
-    printed.map(|()| 0).map_err(|_| Fault::WriteFault)
+    match write!(Waited::new(rt, io::writer(rt)), "{error}") {
+        Ok(()) => Ok(0),
+        Err(_) => Err(Fault::WriteFault),
+    }
 }
 
 /// Tells on standard error why a word of the command line is refused, and gives the status that it ends with.

@@ -1,17 +1,23 @@
 //! Words of the command line that are refused beside what `clap` refuses.
 
-use crate::escaped::Escaped;
+ghost use Rattle.std.specs.Prelude.{◌≤◌, length};
+
+use crate::escaped::{Escaped, EscapedBytes};
 use clap::ArgMatches;
-use std::fmt;
+use std::env::{Env, FillError};
+use std::{fmt, str};
+
+/// Up to how many bytes a word that isn't UTF-8 is shown.
+pub const NAME_BYTES: usize = 4096;
 
 // The options whose values are numbers.
-const NUMBERS: [&str; 6] = ["buckets", "edits", "jobs", "actors", "workers", "turns"];
+const NUMBERS: [&str; 7] = ["buckets", "edits", "jobs", "actors", "workers", "turns", "answers"];
 
 /// Why a word of the command line is refused.
 #[derive(Clone, Copy)]
 pub enum Misuse<'a> {
-    /// A word isn't UTF-8.
-    NotText,
+    /// A word isn't UTF-8. It has none of these bytes where it is too long to be shown.
+    NotText(&'a [u8]),
     /// A number is written with a plus.
     Plus(&'a str),
     /// A word that isn't understood has letters that can't be shown as they are.
@@ -21,7 +27,11 @@ pub enum Misuse<'a> {
 impl fmt::Display for Misuse<'_> {
     fn fmt<W: fmt::Write>(&self, f: &mut fmt::Formatter<W>) -> fmt::Result {
         match self {
-            Misuse::NotText => f.write_str("error: a word of the command line isn't UTF-8")?,
+            Misuse::NotText(word) => write!(
+                f,
+                "error: '{}' isn't UTF-8: give the file another name, or a link with one",
+                EscapedBytes(word)
+            )?,
             Misuse::Plus(word) => write!(
                 f,
                 "error: invalid value '{}': write numbers without a plus",
@@ -47,6 +57,30 @@ pub fn plus_in<'a>(matches: &ArgMatches<'a>) -> Option<Misuse<'a>> {
         }
     }
     None
+}
+
+/// Puts the first word of the command line that isn't UTF-8 at the start of some bytes, and says how many it has; none where it has
+/// more than there is room for.
+pub fn unreadable_in<R: Env>(rt: &R, name: &mut [u8; NAME_BYTES]) -> usize
+    ensures { result ≤ 4096 }
+{
+    for number in 0..usize::MAX {
+        match rt.arg(number, name) {
+            Ok(length) if is_text(name, length) => {}
+            Ok(length) => return length,
+            Err(FillError::TooLong) => {}
+            Err(FillError::NotPresent) => break,
+        }
+    }
+    0
+}
+
+// Whether so many first bytes are UTF-8.
+fn is_text(name: &[u8], count: usize) -> bool
+    requires { count ≤ length name.now }
+{
+    let (word, _) = name.split_at(count);
+    str::from_utf8(word).is_ok()
 }
 
 /// The first word that can't be shown as it is, if there is one.

@@ -1,8 +1,9 @@
 -- The reductions that a session lists are true of what its share has seen.
-use Rattle.std.proofs.Common.{◌≡◌, ℕ, ◌+◌, ◌-◌, ◌≤◌, None, Option, Result, Ok, Err, OnOk, IfErr, List, [], ◌∷◌, length, take, drop, slice_range, All, nat_lt, refl, sym, ap, ◌∙◌, subst, inl, inr, arith}
+use Rattle.std.proofs.Common.{◌≡◌, ℕ, ◌+◌, ◌-◌, ◌≤◌, None, Option, Result, Ok, Err, OnOk, IfErr, List, [], ◌∷◌, ◌++◌, length, take, drop, slice_range, All, nat_lt, refl, sym, ap, ◌∙◌, subst, inl, inr, arith}
 use Rattle.std.proofs.lemmas.Bool.{cases_Bool, cond-false, cond-true, ltb-false}
 use Rattle.std.proofs.lemmas.List.{length-take, length-drop, take_all, take-append-le}
-use Rattle.std.proofs.lemmas.List.Elements.{All-push, All-take, All-drop, All-weaker}
+use Rattle.std.proofs.lemmas.List.Elements.{All-get_or, All-push, All-take, All-drop, All-weaker}
+use Rattle.std.proofs.lemmas.List.Sorted.{IsNonDecreasingBy-push}
 use Rattle.std.proofs.lemmas.Option.{none-some}
 use mathlib.Core.List.{IsPrefix}
 use Rattle.lv_geometry.specs.Bounds.{Bounds}
@@ -30,7 +31,7 @@ use Rattle.lv_lines.specs.declared.fault.Fault.TheVariants.{NoMemory, ReadFault,
 use Rattle.lv_lines.specs.Grammar.{line_of}
 use Rattle.lv_lines.specs.Replies.{Answered, Conversed}
 use Rattle.lv_transcript.specs.declared.claimed.Claimed.{Claimed}
-use Rattle.lv_transcript.specs.Transcript.{IsTrueClaim}
+use Rattle.lv_transcript.specs.Transcript.{AreInOrder, IsTrueClaim}
 use Rattle.lv_hub.specs.Session.{SessionCommandAnswer, SessionLineAnswer, SessionState, SessionStep, Lists, having_counted, claim_of, up_to}
 use Rattle.lv_hub.specs.Told.{EditTold, ReductionTold, history_of}
 use Rattle.lv_hub.proofs.PrefixLaws.{prefix_length, prefix_self, prefix_trans}
@@ -81,10 +82,18 @@ slice_folds limits edits lo hi within =
       elements = All-take IsElement (hi - lo) (drop lo xs) (All-drop IsElement lo xs within.elements);
     }
 
--- what a session's step keeps: it has seen more, and where all that is listed was true of what was seen, it is still
+-- one claim more, at the last edit that is seen
+order_push : (xs ys : List Edit) (claims : List Claimed) (claim : Claimed) → IsPrefix xs ys → claim.edit ≡ length ys → All (IsTrueClaim xs) claims → AreInOrder claims → AreInOrder (claims ++ claim ∷ [])
+order_push xs ys claims claim more last holds rises =
+    IsNonDecreasingBy-push (λ claim. claim.edit) claims claim rises (λ d some.
+    let one = All-get_or (IsTrueClaim xs) claims (length claims - 1) d (omega (arith, some)) holds in omega (arith, one.edit, prefix_length xs ys more, last))
+
+-- what a session's step keeps: it has seen more, and where all that is listed was true of what was seen, it is still; and it stands in
+-- the order of time
 pub record Keeps (old new : SessionState) : Type 0 where
   pub seen : IsPrefix old.seen new.seen
   pub all_true : All (IsTrueClaim old.seen) old.claims → All (IsTrueClaim new.seen) new.claims
+  pub order : All (IsTrueClaim old.seen) old.claims → AreInOrder old.claims → AreInOrder new.claims
 
 -- an edit lists nothing
 edit_lists_nothing : (s : SessionState) (result : Result Receipt Refusal) → (having_counted s result).claims ≡ s.claims
@@ -110,10 +119,18 @@ module _ (limits : Bounds) where
   told_true old new kind lo hi answer told =
       answer_true new kind lo hi answer told.within (subst (λ es. IsAnswer six_operations es lo hi answer) told.live.edits_are told.reduces.0)
 
+  -- it is of the last edit that was seen
+  told_last : (old new : List Edit) (lo hi : ℕ) (answer : Answer SixSummary) → ReductionTold Six six_operations limits old new lo hi (Ok answer) → answer.edit ≡ length new
+  told_last old new lo hi answer told = (subst (λ es. IsAnswer six_operations es lo hi answer) told.live.edits_are told.reduces.0).edit
+
   -- who has seen more, and lists nothing more, keeps
   keeps_by_more : (old new : SessionState) → IsPrefix old.seen new.seen → new.claims ≡ old.claims → Keeps old new
   keeps_by_more old new more same =
-      record { seen = more; all_true = λ holds. subst (All (IsTrueClaim new.seen)) (sym same) (all_true_of_more old.seen new.seen old.claims more holds) }
+      record {
+        seen = more;
+        all_true = λ holds. subst (All (IsTrueClaim new.seen)) (sym same) (all_true_of_more old.seen new.seen old.claims more holds);
+        order = λ holds rises. subst AreInOrder (sym same) rises;
+      }
 
   -- so does who changes nothing
   keeps_same : (old new : SessionState) → new ≡ old → Keeps old new
@@ -128,6 +145,9 @@ module _ (limits : Bounds) where
           all_true = λ holds.
               subst (All (IsTrueClaim new.seen)) (sym (ap (λ s. s.claims) listed.1))
               (All-push (IsTrueClaim new.seen) old.claims (claim_of kind lo hi answer) (all_true_of_more old.seen new.seen old.claims told.seen holds) (told_true old.seen new.seen kind lo hi answer told));
+          order = λ holds rises.
+              subst AreInOrder (sym (ap (λ s. s.claims) listed.1))
+              (order_push old.seen new.seen old.claims (claim_of kind lo hi answer) told.seen (told_last old.seen new.seen lo hi answer told) holds rises);
         }
         | inr not_listed ↦ keeps_by_more old new told.seen (ap (λ s. s.claims) not_listed.1)
       ]
@@ -161,7 +181,11 @@ module _ (limits : Bounds) where
   -- one after the other
   keeps_both : (old mid new : SessionState) → Keeps old mid → Keeps mid new → Keeps old new
   keeps_both old mid new first second =
-      record { seen = prefix_trans old.seen mid.seen new.seen first.seen second.seen; all_true = λ holds. second.all_true (first.all_true holds) }
+      record {
+        seen = prefix_trans old.seen mid.seen new.seen first.seen second.seen;
+        all_true = λ holds. second.all_true (first.all_true holds);
+        order = λ holds rises. second.order (first.all_true holds) (first.order holds rises);
+      }
 
   -- many lines
   lines_keep : (old new : SessionState) (n : ℕ) (lines : List (List ℕ)) (text : List ℕ) → Answered (SessionStep limits) old n lines text new → Keeps old new

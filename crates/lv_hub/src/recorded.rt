@@ -1,10 +1,10 @@
 // Sessions on a hub whose minutes are kept.
-ghost use Rattle.std.specs.Prelude.{◌≡◌, ◌≤◌, ℕ, All, IfErr, IfOk, IfSome, List, [], OnOk};
+ghost use Rattle.std.specs.Prelude.{◌≡◌, ◌≤◌, ℕ, All, IfErr, IfOk, IfSome, List, [], OnOk, vec_len};
 ghost use mathlib.Core.List.{IsPrefix};
 ghost use Rattle.lv_edits.specs.declared.edit.Edit.{Edit};
 ghost use Rattle.lv_lines.specs.Output.{HasRoom, Puts, PutsFront, SamePlaces};
 ghost use Rattle.lv_lines.specs.Replies.{Conversed};
-ghost use Rattle.lv_transcript.specs.Transcript.{IsTrueClaim};
+ghost use Rattle.lv_transcript.specs.Transcript.{AreInOrder, IsTrueClaim};
 ghost use Rattle.lv_hub.specs.Session.{SessionLineAnswer, SessionState, SessionStep, session_at};
 
 use crate::hubs::Hub;
@@ -46,6 +46,38 @@ pub fn run_recorded_session<N: Means<Six>, T: Wait, R: Read, W: Write, V: Write 
     ensures seen { IsPrefix share.old.seen share.new.seen }
     // Each reduction is true of the edits that were seen.
     ensures all_true { IfOk result (λ claims. All (IsTrueClaim share.new.seen) claims.items) }
+    ensures order { IfOk result (λ claims. AreInOrder claims.items) }
+{
+    let place = Place {
+        rt,
+        hub,
+        alloc,
+        answers: usize::MAX,
+    };
+    run_recorded_session_at(place, minutes, share, reader, writer)
+}
+
+/// The same at a place, which says how many reductions are listed at most.
+pub fn run_recorded_session_at<N: Means<Six>, T: Wait, R: Read, W: Write, V: Write + Drop, K: Begun>(
+    place: Place<'_, N, T>,
+    minutes: &Mutex<Minutes<N, V, K>>,
+    share: &mut Share<N>,
+    reader: &mut R,
+    writer: &mut W,
+) -> Result<Vec<Claimed>, Fault>
+    ensures conversed { (last : SessionState)
+        × Conversed (SessionStep N.limits) (session_at share.old []) last
+        (R.remaining reader.old) (R.remaining reader.new) (W.contents writer.old) (W.contents writer.new) result
+        × (share.new.count ≡ last.count)
+        × (share.new.seen ≡ last.seen)
+        × IfOk result (λ claims. claims.items ≡ last.claims) }
+    ensures parts { share.new.parts ≡ share.old.parts }
+    ensures more { share.old.count ≤ share.new.count }
+    ensures seen { IsPrefix share.old.seen share.new.seen }
+    // Each reduction is true of the edits that were seen.
+    ensures all_true { IfOk result (λ claims. All (IsTrueClaim share.new.seen) claims.items) }
+    ensures order { IfOk result (λ claims. AreInOrder claims.items) }
+    ensures few { IfOk result (λ claims. vec_len claims ≤ place.answers) }
 {
     let Share {
         token,
@@ -61,7 +93,7 @@ pub fn run_recorded_session<N: Means<Six>, T: Wait, R: Read, W: Write, V: Write 
         count: *count,
     };
     let (back, claims, ended) = hold::<Brand, N, T, R, W, V, K>(
-        rt, alloc, hub, minutes, lent, reader, writer,
+        place, minutes, lent, reader, writer,
     );
     *token = back.token;
     *front = back.front;
@@ -71,22 +103,23 @@ pub fn run_recorded_session<N: Means<Six>, T: Wait, R: Read, W: Write, V: Write 
 
 // Holds a session with a share, and gives the share back with the reductions that were answered.
 fn hold<L: Lent, N: Means<Six>, T: Wait, R: Read, W: Write, V: Write + Drop, K: Begun>(
-    rt: &T,
-    alloc: Global,
-    hub: &Hub<Six, N>,
+    place: Place<'_, N, T>,
     minutes: &Mutex<Minutes<N, V, K>>,
     share: Share<N>,
     reader: &mut R,
     writer: &mut W,
 ) -> (Share<N>, Vec<Claimed>, Result<(), Fault>)
     requires lent { share ≡ L.holding }
+    requires most { place.answers ≡ L.most }
     ensures conversed { Conversed (SessionStep N.limits) (session_at share []) (session_at result.0 result.1.items)
         (R.remaining reader.old) (R.remaining reader.new) (W.contents writer.old) (W.contents writer.new) result.2 }
     ensures parts { result.0.parts ≡ share.parts }
     ensures more { share.count ≤ result.0.count }
+    ensures few { vec_len result.1 ≤ place.answers }
 {
+    let alloc = place.alloc;
     let mut session: Recorded<'_, N, T, V, K, L> = Recorded {
-        place: Place { rt, hub, alloc },
+        place,
         minutes,
         share,
         claims: Vec::new(alloc),
@@ -109,7 +142,7 @@ struct Recorded<'a, N: Means<Six>, T: Wait, V: Write + Drop, K: Begun, L: Lent> 
 
 impl<'a, N: Means<Six>, T: Wait, V: Write + Drop, K: Begun, L: Lent> Model
     for Recorded<'a, N, T, V, K, L> {
-    ghost use Rattle.std.specs.Prelude.{◌≡◌, ◌≤◌, All};
+    ghost use Rattle.std.specs.Prelude.{◌≡◌, ◌≤◌, All, vec_len};
     ghost use Rattle.lv_transcript.specs.Transcript.{IsTrueClaim};
     ghost use Rattle.lv_hub.specs.Session.{SessionState, session_at};
 
@@ -117,7 +150,7 @@ impl<'a, N: Means<Six>, T: Wait, V: Write + Drop, K: Begun, L: Lent> Model
 
     ghost view = { λ s. session_at s.share s.claims.items };
 
-    ghost invariant = { λ s. (s.share.parts ≡ L.holding.parts) × (L.holding.count ≤ s.share.count) × All (IsTrueClaim s.share.seen) s.claims.items };
+    ghost invariant = { λ s. (s.share.parts ≡ L.holding.parts) × (L.holding.count ≤ s.share.count) × All (IsTrueClaim s.share.seen) s.claims.items × (s.place.answers ≡ L.most) × (vec_len s.claims ≤ L.most) };
 }
 
 impl<'a, N: Means<Six>, T: Wait, V: Write + Drop, K: Begun, L: Lent> Responder
@@ -184,6 +217,7 @@ fn answer_true<N: Means<Six>, T: Wait, W: Write>(
     ensures parts { share.new.parts ≡ share.old.parts }
     ensures more { share.old.count ≤ share.new.count }
     ensures all_true { All (IsTrueClaim share.new.seen) claims.new.items }
+    ensures few { vec_len claims.old ≤ place.now.answers → vec_len claims.new ≤ place.now.answers }
 {
     answer_line(place, share, claims, number, line, outbox)
 }
@@ -210,6 +244,7 @@ fn answer_minuted<N: Means<Six>, T: Wait, W: Write, V: Write + Drop, K: Begun>(
     ensures parts { share.new.parts ≡ share.old.parts }
     ensures more { share.old.count ≤ share.new.count }
     ensures all_true { All (IsTrueClaim share.new.seen) claims.new.items }
+    ensures few { vec_len claims.old ≤ place.now.answers → vec_len claims.new ≤ place.now.answers }
 {
     let mut minutes = minutes.lock(place.rt);
     let before = claims.len();

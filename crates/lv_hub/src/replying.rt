@@ -1,4 +1,5 @@
-ghost use Rattle.std.specs.Prelude.{◌≡◌, ◌≤◌, ◌++◌, ℕ, List, OnOk, IfErr};
+ghost use Rattle.std.specs.Prelude.{◌≡◌, ◌≤◌, ◌++◌, ◌∷◌, [], ℕ, List, OnOk, IfErr, vec_len};
+ghost use Rattle.lv_geometry.specs.declared.refusals.Refusal.{Refusal};
 ghost use Rattle.lv_lines.specs.Output.{HasRoom, KeepsRoom, Puts, PutsFront, SamePlaces};
 ghost use Rattle.lv_transcript.specs.declared.claimed.Claimed.{Claimed};
 ghost use Rattle.lv_hub.specs.Counting.{having_seen};
@@ -18,12 +19,14 @@ use std::alloc::Global;
 use std::io::Write;
 use std::sync::Wait;
 
-/// Where a session is held: a hub, the handle by which it is waited for, and what memory is taken from.
+/// Where a session is held: a hub, the handle by which it is waited for, what memory is taken from, and at most how many reductions
+/// are listed. Past that a reduction is refused as where its entry finds no room.
 #[derive(Drop)]
 pub struct Place<'a, N: Means<Six>, T> {
     pub rt: &'a T,
     pub hub: &'a Hub<Six, N>,
     pub alloc: Global,
+    pub answers: usize,
 }
 
 /// Answers a line of a session, on a hub: its share counts what is accepted, and `claims` lists the reductions.
@@ -45,6 +48,7 @@ pub fn answer_line<N: Means<Six>, T: Wait, W: Write>(
         × PutsFront W.contents outbox.old outbox.new reply) }
     ensures parts { share.new.parts ≡ share.old.parts }
     ensures more { share.old.count ≤ share.new.count }
+    ensures few { vec_len claims.old ≤ place.now.answers → vec_len claims.new ≤ place.now.answers }
 {
     match line {
         Line::Nothing => {}
@@ -76,6 +80,7 @@ fn answer<N: Means<Six>, T: Wait, W: Write>(
         × PutsFront W.contents outbox.old outbox.new reply) }
     ensures parts { share.new.parts ≡ share.old.parts }
     ensures more { share.old.count ≤ share.new.count }
+    ensures few { vec_len claims.old ≤ place.now.answers → vec_len claims.new ≤ place.now.answers }
 {
     match command {
         Command::Edit(edit) => put_edit(place, share, edit, outbox.held),
@@ -148,6 +153,7 @@ fn put_reduction<N: Means<Six>, T: Wait>(
         × (held.new.items ≡ held.old.items ++ reply) }
     ensures share { share.new ≡ having_seen share.old share.new.seen }
     ensures room { KeepsRoom held.old held.new }
+    ensures few { vec_len claims.old ≤ place.now.answers → vec_len claims.new ≤ place.now.answers }
 {
     match place.hub.ask(place.rt, share, lo, hi) {
         Ok(answer) => {
@@ -159,12 +165,27 @@ fn put_reduction<N: Means<Six>, T: Wait>(
                 hi,
                 value,
             };
-            match claims.push(claim) {
+            match list(claims, place.answers, claim) {
                 Ok(()) => put_answer(held, answer.edit, kind, value),
-                Err(_) => put_refusal(held, Refusal::NoMemory),
+                Err(refusal) => put_refusal(held, refusal),
             }
         }
         Err(refusal) => put_refusal(held, refusal),
+    }
+}
+
+// Lists a reduction behind others, where it finds room and fewer than so many are listed.
+fn list(claims: &mut Vec<Claimed>, most: usize, claim: Claimed) -> Result<(), Refusal>
+    ensures listed { OnOk result (claims.new.items ≡ claims.old.items ++ claim ∷ []) }
+    ensures unchanged { IfErr result (λ refusal. (refusal ≡ Refusal.NoMemory) × (claims.new.items ≡ claims.old.items)) }
+    ensures few { vec_len claims.old ≤ most → vec_len claims.new ≤ most }
+{
+    if most <= claims.len() {
+        return Err(Refusal::NoMemory);
+    }
+    match claims.push(claim) {
+        Ok(()) => Ok(()),
+        Err(_) => Err(Refusal::NoMemory),
     }
 }
 

@@ -43,6 +43,37 @@ pub fn run_session<N: Means<Six>, T: Wait, R: Read, W: Write>(
     ensures seen { IsPrefix share.old.seen share.new.seen }
     // Each reduction is true of the edits that were seen.
     ensures all_true { IfOk result (λ claims. All (IsTrueClaim share.new.seen) claims.items) }
+    ensures order { IfOk result (λ claims. AreInOrder claims.items) }
+{
+    let place = Place {
+        rt,
+        hub,
+        alloc,
+        answers: usize::MAX,
+    };
+    run_session_at(place, share, reader, writer)
+}
+
+/// The same at a place, which says how many reductions are listed at most.
+pub fn run_session_at<N: Means<Six>, T: Wait, R: Read, W: Write>(
+    place: Place<'_, N, T>,
+    share: &mut Share<N>,
+    reader: &mut R,
+    writer: &mut W,
+) -> Result<Vec<Claimed>, Fault>
+    ensures conversed { (last : SessionState)
+        × Conversed (SessionStep N.limits) (session_at share.old []) last
+        (R.remaining reader.old) (R.remaining reader.new) (W.contents writer.old) (W.contents writer.new) result
+        × (share.new.count ≡ last.count)
+        × (share.new.seen ≡ last.seen)
+        × IfOk result (λ claims. claims.items ≡ last.claims) }
+    ensures parts { share.new.parts ≡ share.old.parts }
+    ensures more { share.old.count ≤ share.new.count }
+    ensures seen { IsPrefix share.old.seen share.new.seen }
+    // Each reduction is true of the edits that were seen.
+    ensures all_true { IfOk result (λ claims. All (IsTrueClaim share.new.seen) claims.items) }
+    ensures order { IfOk result (λ claims. AreInOrder claims.items) }
+    ensures few { IfOk result (λ claims. vec_len claims ≤ place.answers) }
 {
     let Share {
         token,
@@ -57,7 +88,7 @@ pub fn run_session<N: Means<Six>, T: Wait, R: Read, W: Write>(
         parts: *parts,
         count: *count,
     };
-    let (back, claims, ended) = hold::<Brand, N, T, R, W>(rt, alloc, hub, lent, reader, writer);
+    let (back, claims, ended) = hold::<Brand, N, T, R, W>(place, lent, reader, writer);
     *token = back.token;
     *front = back.front;
     *count = back.count;
@@ -72,32 +103,37 @@ pub(crate) fn listed(claims: Vec<Claimed>, ended: Result<(), Fault>) -> Result<V
     Ok(claims)
 }
 
-/// What a share holds when it is lent to a session.
+/// What a share holds when it is lent to a session, and at most how many reductions that lists.
 pub trait Lent {
     ghost holding: { ShareState };
+
+    ghost most: { ℕ };
 }
 
 impl Lent for Brand {
     ghost holding = { record { parts = 0; count = 0; seen = [] } };
+
+    ghost most = { 0 };
 }
 
 // Holds a session with a share, and gives the share back with the reductions that were answered.
 fn hold<K: Lent, N: Means<Six>, T: Wait, R: Read, W: Write>(
-    rt: &T,
-    alloc: Global,
-    hub: &Hub<Six, N>,
+    place: Place<'_, N, T>,
     share: Share<N>,
     reader: &mut R,
     writer: &mut W,
 ) -> (Share<N>, Vec<Claimed>, Result<(), Fault>)
     requires lent { share ≡ K.holding }
+    requires most { place.answers ≡ K.most }
     ensures conversed { Conversed (SessionStep N.limits) (session_at share []) (session_at result.0 result.1.items)
         (R.remaining reader.old) (R.remaining reader.new) (W.contents writer.old) (W.contents writer.new) result.2 }
     ensures parts { result.0.parts ≡ share.parts }
     ensures more { share.count ≤ result.0.count }
+    ensures few { vec_len result.1 ≤ place.answers }
 {
+    let alloc = place.alloc;
     let mut session: Session<'_, N, T, K> = Session {
-        place: Place { rt, hub, alloc },
+        place,
         share,
         claims: Vec::new(alloc),
         of: PhantomData,
@@ -117,14 +153,14 @@ struct Session<'a, N: Means<Six>, T: Wait, K: Lent> {
 }
 
 impl<'a, N: Means<Six>, T: Wait, K: Lent> Model for Session<'a, N, T, K> {
-    ghost use Rattle.std.specs.Prelude.{◌≡◌, ◌≤◌};
+    ghost use Rattle.std.specs.Prelude.{◌≡◌, ◌≤◌, vec_len};
     ghost use Rattle.lv_hub.specs.Session.{SessionState, session_at};
 
     ghost Value = { SessionState };
 
     ghost view = { λ s. session_at s.share s.claims.items };
 
-    ghost invariant = { λ s. (s.share.parts ≡ K.holding.parts) × (K.holding.count ≤ s.share.count) };
+    ghost invariant = { λ s. (s.share.parts ≡ K.holding.parts) × (K.holding.count ≤ s.share.count) × (s.place.answers ≡ K.most) × (vec_len s.claims ≤ K.most) };
 }
 
 impl<'a, N: Means<Six>, T: Wait, K: Lent> Responder for Session<'a, N, T, K> {

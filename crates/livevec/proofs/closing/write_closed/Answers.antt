@@ -3,6 +3,7 @@ use mathlib.Core.List.{IsPrefix}
 use Rattle.lv_edits.specs.declared.edit.Edit.{Edit}
 use Rattle.lv_transcript.specs.Transcript.{IsTrueClaim}
 use Rattle.lv_hub.proofs.TruthLaws.{all_true_of_more}
+use Rattle.lv_transcript.specs.Joined.{in_a_row}
 use Rattle.livevec.proofs.ServedLaws.{begins, closed_more, closed_so, closes_ill, closes_well, if_some}
 use Rattle.livevec.proofs.closing.write_closed.Goals as goal
 
@@ -11,26 +12,26 @@ pub write_in_order-written-requires-clause-all_true : goal.write_in_order-writte
 write_in_order-written-requires-clause-all_true g c =
     let share = c.args.share.seen in
     let journal = c.close-live.result.history.journal in
-    subst (λ es. All (IsTrueClaim es) c.args.claims.items) (sym c.journal.ensures)
-    (all_true_of_more share journal c.args.claims.items (begins share c.shown-share.result.seen journal c.shown-share.ensures.more c.close-live.ensures.seen) c.requires.all_true)
+    subst (λ es. All (IsTrueClaim es) (in_a_row c.args.queues.now.items)) (sym c.journal.ensures)
+    (all_true_of_more share journal (in_a_row c.args.queues.now.items) (begins share c.shown-share.result.seen journal c.shown-share.ensures.more c.close-live.ensures.seen) c.requires.all_true)
 
 -- it was written where nothing failed
 pub returns-clause-written : goal.returns-clause-written
 returns-clause-written g c =
     let share = c.shown-share.result in
-    let closed = closed_more g.N.Naming.limits c.args.share share c.args.claims.items _ _ c.write_in_order-written.result (ap (λ h. h.count) c.shown-share.ensures.same) c.shown-share.ensures.more
-    (closed_so g.N.Naming.limits share c.close-live.result.history c.args.claims.items c.journal.result.now _ _ c.write_in_order-written.result c.journal.ensures
+    let closed = closed_more g.N.Naming.limits c.args.share share (in_a_row c.args.queues.now.items) _ _ c.write_in_order-written.result (ap (λ h. h.count) c.shown-share.ensures.same) c.shown-share.ensures.more
+    (closed_so g.N.Naming.limits share c.close-live.result.history (in_a_row c.args.queues.now.items) c.journal.result.now _ _ c.write_in_order-written.result c.journal.ensures
     c.close-live.ensures.vector c.close-live.ensures.accepted c.close-live.ensures.seen c.close-live.ensures.counted c.write_in_order-written.ensures) in
-    closes_well g.N.Naming.limits c.args.share c.args.claims.items _ _ c.write_in_order-written.result c.first_failure.result c.first_failure.ensures.well closed
+    closes_well g.N.Naming.limits c.args.share (in_a_row c.args.queues.now.items) _ _ c.write_in_order-written.result c.first_failure.result c.first_failure.ensures.well closed
 
 -- and not where something did
 pub returns-clause-failed : goal.returns-clause-failed
 returns-clause-failed g c =
     let share = c.shown-share.result in
-    let closed = closed_more g.N.Naming.limits c.args.share share c.args.claims.items _ _ c.write_in_order-written.result (ap (λ h. h.count) c.shown-share.ensures.same) c.shown-share.ensures.more
-    (closed_so g.N.Naming.limits share c.close-live.result.history c.args.claims.items c.journal.result.now _ _ c.write_in_order-written.result c.journal.ensures
+    let closed = closed_more g.N.Naming.limits c.args.share share (in_a_row c.args.queues.now.items) _ _ c.write_in_order-written.result (ap (λ h. h.count) c.shown-share.ensures.same) c.shown-share.ensures.more
+    (closed_so g.N.Naming.limits share c.close-live.result.history (in_a_row c.args.queues.now.items) c.journal.result.now _ _ c.write_in_order-written.result c.journal.ensures
     c.close-live.ensures.vector c.close-live.ensures.accepted c.close-live.ensures.seen c.close-live.ensures.counted c.write_in_order-written.ensures) in
-    closes_ill (λ failure. failure.fault) g.N.Naming.limits c.args.share c.args.claims.items _ _ c.write_in_order-written.result c.first_failure.result c.first_failure.ensures.failed closed
+    closes_ill (λ failure. failure.fault) g.N.Naming.limits c.args.share (in_a_row c.args.queues.now.items) _ _ c.write_in_order-written.result c.first_failure.result c.first_failure.ensures.failed closed
 
 -- what minutes have seen begins the journal
 pub end_minutes-ended-requires-clause-begins : goal.end_minutes-ended-requires-clause-begins

@@ -6,9 +6,9 @@ use Rattle.livevec.proofs.serving.serve_all.Goals as goal
 pub returns-clause-parts : goal.returns-clause-parts
 returns-clause-parts g c =
     let many = begun_as_many _ _ c.args.streams.items c.in_ok-tasks.ensures.begun in
-    let back = c.in_ok-all.ensures in
+    let back = c.in_ok-all.ensures.back in
     omega (arith, back.parts, c.in_ok-done.ensures.len, many, c.in_ok-tasks.ensures.parts, c.requires.parts, c.args.streams.ok.0)
 
 pub returns-clause-held : goal.returns-clause-held
 returns-clause-held g c =
-    all_held_by _ g.N.Naming.limits _ _ c.args.streams.items _ _ _ _ c.in_ok-tasks.ensures.begun c.in_ok-done.ensures c.in_ok-all.ensures (c.in_ok-tasks.ensures.count ∙ c.requires.count)
+    all_held_by _ g.N.Naming.limits _ _ c.args.streams.items _ _ _ _ c.in_ok-tasks.ensures.begun c.in_ok-done.ensures c.in_ok-all.ensures.back (c.in_ok-tasks.ensures.count ∙ c.requires.count)

@@ -5,32 +5,33 @@ use Rattle.std.proofs.lemmas.List.{map-id}
 use Rattle.lv_transcript.specs.Transcript.{IsTrueClaim}
 use Rattle.lv_hub.specs.Counting.{AreTogether}
 use Rattle.livevec.specs.Tasks.{listed_in}
-use Rattle.livevec.proofs.ServedLaws.{takes_all, takes_next, takes_none}
+use Rattle.lv_transcript.specs.Joined.{in_a_row}
+use Rattle.livevec.proofs.ServedLaws.{row_push, takes_all, takes_next, takes_none}
 use Rattle.livevec.proofs.tasks.take_back.Goals as goal
 
 pub loop-session-init : goal.loop-session-init
-loop-session-init g c = (tt, tt, rw (c.new-claims.ensures.items, c.new-streams.ensures.items) (takes_none c.args.share.now))
+loop-session-init g c = (tt, tt, rw (c.requires.claims, c.requires.streams) (takes_none c.args.share.now))
 
 pub loop-session-preserved : goal.loop-session-preserved
 loop-session-preserved g c =
     let came = c.session.view_is in
-    let more = c.in_ok-listed.listed.items in
+    let more = c.in_ok-listed.listed in
     let some : c.in-Some.session.claims ≡ Some more = sym (ap (λ e. e.claims) came) ∙ ap listed_in c.in_ok-listed.was in
     let true_so : All (IsTrueClaim c.in-Some.session.share.seen) more =
     subst (λ share. All (IsTrueClaim share.seen) more) (ap (λ e. e.share) came) (rw c.in_ok-listed.was at c.session.invariant.1) in
     let both : AreTogether c.loop-session.share c.in-Some.session.share c.join.new.self =
     subst (λ share. AreTogether c.loop-session.share share c.join.new.self) (ap (λ e. e.share) came) c.join.ensures in
-    let appended : is_ok c.append.result ≡ true = search rules in
-    let pushed : is_ok c.push.result ≡ true = search rules in (
+    let appended : is_ok c.push.result ≡ true = search rules in
+    let pushed : is_ok c.push-2.result ≡ true = search rules in (
       tt,
       tt,
-      takes_next _ c.args.share.now c.loop-session.share c.join.new.self c.loop-session.yielded c.loop-session.claims.items more _ c.loop-session.streams.items _ c.session.inside.streams c.in-Some.session
+      takes_next _ c.args.share.now c.loop-session.share c.join.new.self c.loop-session.yielded (in_a_row c.loop-session.claims.items) more _ c.loop-session.streams.items _ c.session.inside.streams c.in-Some.session
           c.loop-session.invariant.2 both some (sym (ap (λ e. e.share.parts) came) ∙ c.session.invariant.0) true_so
-          (rw appended at c.append.ensures.items) (rw pushed at c.push.ensures.items) (ap (λ e. e.sides) came),
+          (ap in_a_row (rw appended at c.push.ensures.items) ∙ row_push c.loop-session.claims.items more) (rw pushed at c.push-2.ensures.items) (ap (λ e. e.sides) came),
     )
 
-pub returns : goal.returns
-returns g c =
+pub returns-clause-back : goal.returns-clause-back
+returns-clause-back g c =
     let gives = c.into_iter-session-iterator.ensures.into_iter_gives in
     let end = YieldsList-end (YieldsList-from_vec c.args.done.items gives.0 (gives.1 ∙ c.args.done.ok.0)) c.loop-session.yielded c.loop-session.session-iterator c.loop-session.yielded_by c.next.result c.next.new.self c.in-None.is c.next.ensures.steps in
     takes_all _ _ _ c.loop-session.yielded c.args.done.items _ c.loop-session.streams.items (sym (map-id c.loop-session.yielded) ∙ end.0) c.loop-session.invariant.2

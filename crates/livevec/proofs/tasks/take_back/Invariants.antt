@@ -1,4 +1,5 @@
 use Rattle.std.proofs.Common.{map}
+use Rattle.lv_transcript.specs.Joined.{in_a_row}
 use Rattle.livevec.specs.Tasks.{TakesBack}
 use Rattle.livevec.proofs.tasks.take_back.Given as goal
 
@@ -6,4 +7,4 @@ abbrev pub invariant-loop-session : goal.invariant-loop-session
 invariant-loop-session g l =
     (goal.iterator-loop-session g).can_next l.session-iterator ×
     (goal.iterator-loop-session g).is_finite l.session-iterator ×
-    TakesBack l.fn.share l.share l.yielded l.claims.items (map (λ s. record { lines = g.F.Read.remaining s.lines; replies = g.F.Write.contents s.replies }) l.streams.items)
+    TakesBack l.fn.share l.share l.yielded (in_a_row l.claims.items) (map (λ s. record { lines = g.F.Read.remaining s.lines; replies = g.F.Write.contents s.replies }) l.streams.items)

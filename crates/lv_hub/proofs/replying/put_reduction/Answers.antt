@@ -15,8 +15,8 @@ use Rattle.lv_hub.proofs.replying.put_reduction.Goals as goal
 seen_and_listed : (old new : ShareState) (claims listed : List Claimed) → new ≡ record old { seen = new.seen } → session_at new listed ≡ record (up_to (session_at old claims) new.seen) { claims = listed }
 seen_and_listed old new claims listed is = ap (λ h. session_at h listed) is
 
-pub returns-in-Ok-push-clause-answer : goal.returns-in-Ok-push-clause-answer
-returns-in-Ok-push-clause-answer g c =
+pub returns-in-Ok-list-clause-answer : goal.returns-in-Ok-list-clause-answer
+returns-in-Ok-list-clause-answer g c =
     let answer = c.in-Ok.answer in
     let told = c.in-Ok.ensures.told in
     let kind = c.args.kind in
@@ -28,15 +28,15 @@ returns-in-Ok-push-clause-answer g c =
         told = told_as_reduction six_operations g.N.Naming.limits c.args.share.now.seen new.seen c.args.lo c.args.hi answer told;
         lists = inl (
           ap (answer_text answer.edit kind) c.face-value.ensures.shown,
-          ap (λ items. session_at new items) (c.in-Ok-push.ensures.items ∙ ap (λ value. c.args.claims.now.items ++ listed value ∷ []) c.face-value.ensures.shown)
+          ap (λ items. session_at new items) (c.in-Ok-list.ensures.listed ∙ ap (λ value. c.args.claims.now.items ++ listed value ∷ []) c.face-value.ensures.shown)
               ∙ seen_and_listed c.args.share.now new c.args.claims.now.items _ c.in-Ok.ensures.share,
         );
       },
       c.put_answer.ensures.text,
     )
 
-pub returns-in-Err-push-clause-answer : goal.returns-in-Err-push-clause-answer
-returns-in-Err-push-clause-answer g c =
+pub returns-in-Err-list-clause-answer : goal.returns-in-Err-list-clause-answer
+returns-in-Err-list-clause-answer g c =
     let answer = c.in-Ok.answer in
     let told = c.in-Ok.ensures.told in
     let new = c.ask.new.share in (
@@ -44,7 +44,7 @@ returns-in-Err-push-clause-answer g c =
       record {
         result = Ok (counted (is_fresh (recorded told.standing)) c.args.lo c.args.hi answer);
         told = told_as_reduction six_operations g.N.Naming.limits c.args.share.now.seen new.seen c.args.lo c.args.hi answer told;
-        lists = inr (refl, ap (λ items. session_at new items) c.in-Err-push.ensures.items ∙ seen_and_listed c.args.share.now new c.args.claims.now.items _ c.in-Ok.ensures.share);
+        lists = inr (refl, ap (λ items. session_at new items) c.in-Err-list.ensures.unchanged.1 ∙ seen_and_listed c.args.share.now new c.args.claims.now.items _ c.in-Ok.ensures.share);
       },
       c.put_refusal.ensures.text,
     )

@@ -1,9 +1,10 @@
-use Rattle.std.proofs.Common.{◌≡◌, All, refl, rules, ap, sym}
+use Rattle.std.proofs.Common.{◌≡◌, ◌≤◌, [], All, refl, rules, ap, sym, arith, vec_len}
 use Rattle.std.proofs.lemmas.List.Elements.{All-nil}
-use Rattle.lv_transcript.specs.Transcript.{IsTrueClaim}
+use Rattle.std.proofs.lemmas.List.Sorted.{IsNonDecreasingBy-short}
+use Rattle.lv_transcript.specs.Transcript.{AreInOrder, IsTrueClaim}
 use Rattle.lv_hub.proofs.SessionLaws.{conversed_as, given_as}
 use Rattle.lv_hub.proofs.TruthLaws.{conversed_keeps}
-use Rattle.lv_hub.proofs.recorded.run_recorded_session.Goals as goal
+use Rattle.lv_hub.proofs.sessions.run_session_at.Goals as goal
 
 pub returns-clause-conversed : goal.returns-clause-conversed
 returns-clause-conversed g c =
@@ -32,3 +33,15 @@ returns-clause-all_true g c =
     let keeps = conversed_keeps g.N.Naming.limits _ _ _ _ _ _ c.hold-back.result.2 c.hold-back.ensures.conversed in
     let holds : All (IsTrueClaim c.back.inside.front) c.hold-back.result.1.items = rw (← sees) (keeps.all_true (All-nil (IsTrueClaim c.again.result))) in
     given_as (λ claims. All (IsTrueClaim c.back.inside.front) claims.items) c.hold-back.result.2 c.hold-back.result.1 c.listed.result c.listed.ensures holds
+
+-- they were listed in the order of time
+pub returns-clause-order : goal.returns-clause-order
+returns-clause-order g c =
+    let keeps = conversed_keeps g.N.Naming.limits _ _ _ _ _ _ c.hold-back.result.2 c.hold-back.ensures.conversed in
+    let rises : AreInOrder c.hold-back.result.1.items = keeps.order (All-nil (IsTrueClaim c.again.result)) (IsNonDecreasingBy-short (λ claim. claim.edit) [] (omega arith)) in
+    given_as (λ claims. AreInOrder claims.items) c.hold-back.result.2 c.hold-back.result.1 c.listed.result c.listed.ensures rises
+
+-- and no more than there may be
+pub returns-clause-few : goal.returns-clause-few
+returns-clause-few g c =
+    given_as (λ claims. vec_len claims ≤ c.args.place.answers) c.hold-back.result.2 c.hold-back.result.1 c.listed.result c.listed.ensures c.hold-back.ensures.few

@@ -1,4 +1,0 @@
-use Rattle.lv_hub.proofs.sessions.run_session.Given as goal
-
-abbrev pub ghosts-hold : goal.ghosts-hold
-ghosts-hold g a = record { holding = a.share }
