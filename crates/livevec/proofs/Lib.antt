@@ -1,3 +1,4 @@
+mod PlainServedLaws
 mod Seats
 mod ServedLaws
 mod WaitedStreams

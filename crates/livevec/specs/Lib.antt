@@ -1,3 +1,4 @@
+pub mod PlainServed
 pub mod Served
 pub mod Starting
 pub mod Tasks

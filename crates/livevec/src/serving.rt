@@ -2,6 +2,7 @@
 
 ghost use Rattle.std.specs.Prelude.{◌≡◌, ◌+◌, IfErr, IfOk, IfSome, [], Some, map, vec_len};
 ghost use Rattle.lv_transcript.specs.Joined.{in_a_row};
+ghost use Rattle.livevec.specs.PlainServed.{ServedPlainly};
 ghost use Rattle.livevec.specs.Writing.{IsFreeBuffer};
 ghost use Rattle.livevec.specs.Served.{FailsToServe, Served, Sides};
 ghost use Rattle.livevec.specs.Tasks.{AreAllHeld, AreHeldFrom, IsHeldFrom};
@@ -56,6 +57,8 @@ pub fn serve<
     writer: &mut W,
 ) -> Result<Vec<Streams<F>>, Failure>
     ensures served { IfOk result (λ done. Served plan.limits (map (λ s. record { lines = F.remaining s.lines; replies = F.contents s.replies }) streams.items) (map (λ s. record { lines = F.remaining s.lines; replies = F.contents s.replies }) done.items) (W.contents writer.old) (W.contents writer.new)) }
+    // Each reply is the plain interpreter's, at a beginning of one list of edits.
+    ensures plain { IfOk result (λ done. ServedPlainly plan.limits (map (λ s. record { lines = F.remaining s.lines; replies = F.contents s.replies }) streams.items) (map (λ s. record { lines = F.remaining s.lines; replies = F.contents s.replies }) done.items) (W.contents writer.old) (W.contents writer.new)) }
     ensures failed { IfErr result (λ failure. FailsToServe plan.limits (W.contents writer.old) (W.contents writer.new) failure.fault) }
 {
     let parts = streams.len() as u64 + 1;

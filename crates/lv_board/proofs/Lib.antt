@@ -10,6 +10,7 @@ pub mod Still
 pub mod Sittings
 pub mod Walking
 pub mod Ordered
+pub mod PlainBoards
 pub mod Retries
 pub mod Numbers
 pub mod Valued

@@ -15,7 +15,7 @@ use Rattle.lv_board.specs.Calls.{IsSummed}
 use Rattle.lv_board.specs.Sharing.{IsPlainValue}
 
 -- a range may be folded
-folds_range : (t : Terms) (h : List Entry) (lo hi : ℕ) → AreTerms t → IsLegalHistory t h → CanFold (slice_of (edits_of h) lo hi)
+pub folds_range : (t : Terms) (h : List Entry) (lo hi : ℕ) → AreTerms t → IsLegalHistory t h → CanFold (slice_of (edits_of h) lo hi)
 folds_range t h lo hi terms legal =
     let xs = elements_of h in
     let within = legal_within t h terms legal in

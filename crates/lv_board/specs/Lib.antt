@@ -2,6 +2,7 @@ pub mod Calls
 pub mod Closing
 pub mod Opening
 pub mod Ordered
+pub mod PlainBoard
 pub mod Plays
 pub mod Retrying
 pub mod Rule

@@ -3,9 +3,11 @@ ghost use Rattle.std.specs.Prelude.{◌≡◌};
 ghost use Rattle.lv_lines.specs.Replies.{Conversed};
 ghost use Rattle.lv_board.specs.declared.board.Board.{Board};
 ghost use Rattle.lv_board.specs.declared.seats.Seat.{Seat};
+ghost use Rattle.lv_board.specs.PlainBoard.{PlainBoardStep, sat_of};
 ghost use Rattle.lv_board.specs.Rule.{folds, terms_of};
 ghost use Rattle.lv_board.specs.Session.{BoardStep};
 ghost use Rattle.lv_board.specs.Sitting.{Sitting, SittingStep};
+ghost use Rattle.lv_board.specs.Stands.{limits_of};
 ghost use Rattle.lv_board.specs.Tells.{actor_of, IsAt, Stays};
 
 use crate::answering::Answering;
@@ -34,6 +36,9 @@ pub fn run_board_session<B: Answering<Board<B>, Seat<B>>, R: Read, W: Write>(
     ensures stays { Stays seat.old seat.new }
     ensures conversed { Conversed (BoardStep (terms_of (folds B.PARTS B.parts_of (λ b. B.operations (B.meaning b))) board.now.terms) (B.operations (B.meaning board.now.terms.body)) B.the_kind (B.shown_as board.now.terms.body))
         (actor_of seat.old) (actor_of seat.new) (R.remaining reader.old) (R.remaining reader.new) (W.contents writer.old) (W.contents writer.new) result }
+    // Line by line, by lists alone: each call is answered after a beginning of one history.
+    ensures plain { Conversed (PlainBoardStep (limits_of board.now.terms) B.the_kind (B.plain board.now.terms.body))
+        (sat_of (actor_of seat.old)) (sat_of (actor_of seat.new)) (R.remaining reader.old) (R.remaining reader.new) (W.contents writer.old) (W.contents writer.new) result }
 {
     let kind = board.terms.body.kind();
     hold::<Board<B>, Seat<B>, B, R, W>(alloc, kind, board, seat, reader, writer)

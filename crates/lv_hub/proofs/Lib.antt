@@ -3,6 +3,7 @@ mod AskedLaws
 mod MinuteLaws
 mod OrderLaws
 mod PermitLaws
+pub mod PlainSessionLaws
 mod PrefixLaws
 mod SessionLaws
 mod StepLaws

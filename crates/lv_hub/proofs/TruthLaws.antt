@@ -74,7 +74,7 @@ in_range edits lo hi granted =
     ]
 
 -- a slice of a list within the limits may be folded
-slice_folds : (limits : Bounds) (edits : List Edit) (lo hi : ℕ) → IsLegalInLimits (history_of limits edits) → CanFold (slice_range (list_of edits) lo hi)
+pub slice_folds : (limits : Bounds) (edits : List Edit) (lo hi : ℕ) → IsLegalInLimits (history_of limits edits) → CanFold (slice_range (list_of edits) lo hi)
 slice_folds limits edits lo hi within =
     let xs = list_of edits in
     record {

@@ -5,6 +5,7 @@ ghost use Rattle.lv_edits.specs.declared.edit.Edit.{Edit};
 ghost use Rattle.lv_lines.specs.Output.{HasRoom, Puts, PutsFront, SamePlaces};
 ghost use Rattle.lv_lines.specs.Replies.{Conversed};
 ghost use Rattle.lv_transcript.specs.Transcript.{AreInOrder, IsTrueClaim};
+ghost use Rattle.lv_hub.specs.PlainSession.{PlainSessionStep, seen_by};
 ghost use Rattle.lv_hub.specs.Session.{SessionLineAnswer, SessionState, SessionStep, session_at};
 
 use crate::hubs::Hub;
@@ -41,6 +42,9 @@ pub fn run_recorded_session<N: Means<Six>, T: Wait, R: Read, W: Write, V: Write 
         × (share.new.count ≡ last.count)
         × (share.new.seen ≡ last.seen)
         × IfOk result (λ claims. claims.items ≡ last.claims) }
+    // Line by line the replies are those of the plain interpreter, each at some edits of the hub's.
+    ensures plain { Conversed (PlainSessionStep N.limits) (seen_by share.old) (seen_by share.new)
+        (R.remaining reader.old) (R.remaining reader.new) (W.contents writer.old) (W.contents writer.new) result }
     ensures parts { share.new.parts ≡ share.old.parts }
     ensures more { share.old.count ≤ share.new.count }
     ensures seen { IsPrefix share.old.seen share.new.seen }
@@ -71,6 +75,9 @@ pub fn run_recorded_session_at<N: Means<Six>, T: Wait, R: Read, W: Write, V: Wri
         × (share.new.count ≡ last.count)
         × (share.new.seen ≡ last.seen)
         × IfOk result (λ claims. claims.items ≡ last.claims) }
+    // Line by line the replies are those of the plain interpreter, each at some edits of the hub's.
+    ensures plain { Conversed (PlainSessionStep N.limits) (seen_by share.old) (seen_by share.new)
+        (R.remaining reader.old) (R.remaining reader.new) (W.contents writer.old) (W.contents writer.new) result }
     ensures parts { share.new.parts ≡ share.old.parts }
     ensures more { share.old.count ≤ share.new.count }
     ensures seen { IsPrefix share.old.seen share.new.seen }

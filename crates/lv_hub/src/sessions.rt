@@ -5,6 +5,7 @@ ghost use Rattle.lv_transcript.specs.declared.claimed.Claimed.{Claimed};
 ghost use Rattle.lv_transcript.specs.Transcript.{AreInOrder, IsTrueClaim};
 ghost use Rattle.std.specs.List.Sorted.{IsPermutation};
 ghost use Rattle.lv_hub.specs.Counting.{ShareState};
+ghost use Rattle.lv_hub.specs.PlainSession.{PlainSessionStep, seen_by};
 ghost use Rattle.lv_hub.specs.Session.{KeepTies, SessionState, SessionStep, session_at};
 
 use crate::hubs::Hub;
@@ -38,6 +39,9 @@ pub fn run_session<N: Means<Six>, T: Wait, R: Read, W: Write>(
         × (share.new.count ≡ last.count)
         × (share.new.seen ≡ last.seen)
         × IfOk result (λ claims. claims.items ≡ last.claims) }
+    // Line by line the replies are those of the plain interpreter, each at some edits of the hub's.
+    ensures plain { Conversed (PlainSessionStep N.limits) (seen_by share.old) (seen_by share.new)
+        (R.remaining reader.old) (R.remaining reader.new) (W.contents writer.old) (W.contents writer.new) result }
     ensures parts { share.new.parts ≡ share.old.parts }
     ensures more { share.old.count ≤ share.new.count }
     ensures seen { IsPrefix share.old.seen share.new.seen }
@@ -67,6 +71,9 @@ pub fn run_session_at<N: Means<Six>, T: Wait, R: Read, W: Write>(
         × (share.new.count ≡ last.count)
         × (share.new.seen ≡ last.seen)
         × IfOk result (λ claims. claims.items ≡ last.claims) }
+    // Line by line the replies are those of the plain interpreter, each at some edits of the hub's.
+    ensures plain { Conversed (PlainSessionStep N.limits) (seen_by share.old) (seen_by share.new)
+        (R.remaining reader.old) (R.remaining reader.new) (W.contents writer.old) (W.contents writer.new) result }
     ensures parts { share.new.parts ≡ share.old.parts }
     ensures more { share.old.count ≤ share.new.count }
     ensures seen { IsPrefix share.old.seen share.new.seen }

@@ -1,5 +1,10 @@
+use Rattle.std.proofs.lemmas.Result.{IfOk-weaker}
+use Rattle.livevec.proofs.PlainServedLaws.{served_plainly}
 use Rattle.livevec.proofs.ServedLaws.{starts_there}
 use Rattle.livevec.proofs.serving.serve.Goals as goal
 
 pub serve_as-requires-clause-start : goal.serve_as-requires-clause-start
 serve_as-requires-clause-start g c = λ _ _. starts_there g.V.Write.contents c.args.file
+
+pub returns-clause-plain : goal.returns-clause-plain
+returns-clause-plain g c = IfOk-weaker _ _ _ (λ done. served_plainly _ _ _ _ _) c.serve_as.ensures.served

@@ -2,6 +2,7 @@ use Rattle.std.proofs.Common.{◌≡◌, ◌≤◌, [], All, refl, rules, ap, sy
 use Rattle.std.proofs.lemmas.List.Elements.{All-nil}
 use Rattle.std.proofs.lemmas.List.Sorted.{IsNonDecreasingBy-short}
 use Rattle.lv_transcript.specs.Transcript.{AreInOrder, IsTrueClaim}
+use Rattle.lv_hub.proofs.PlainSessionLaws.{session_plain}
 use Rattle.lv_hub.proofs.SessionLaws.{conversed_as, given_as}
 use Rattle.lv_hub.proofs.TruthLaws.{conversed_keeps}
 use Rattle.lv_hub.proofs.recorded.run_recorded_session_at.Goals as goal
@@ -18,6 +19,12 @@ returns-clause-conversed g c =
       refl,
       given_as (λ claims. claims.items ≡ c.hold-back.result.1.items) c.hold-back.result.2 c.hold-back.result.1 c.listed.result c.listed.ensures refl,
     )
+
+pub returns-clause-plain : goal.returns-clause-plain
+unfolding returns-clause-conversed
+returns-clause-plain g c =
+    let conversed = returns-clause-conversed g c in
+    session_plain g.N.Naming.limits _ conversed.0 _ _ _ _ _ conversed.1
 
 -- what the session's state keeps, its share does
 pub returns-clause-seen : goal.returns-clause-seen

@@ -1,0 +1,41 @@
+-- Sessions that were served were served plainly.
+use Rattle.std.proofs.Common.{◌≡◌, ℕ, ◌+◌, Option, List, [], ◌∷◌, All, map, refl, sym, ap, ◌∙◌, subst}
+use Rattle.std.specs.Io.KnownBytes.{Appends}
+use Rattle.std.specs.List.{sum_by}
+use Rattle.std.proofs.lemmas.List.Elements.{All-map}
+use mathlib.Core.List.{IsPrefix}
+use Rattle.lv_geometry.specs.Bounds.{Bounds}
+use Rattle.lv_hub.specs.PlainSession.{Seen}
+use Rattle.lv_hub.specs.Session.{SessionState}
+use Rattle.lv_hub.proofs.PlainSessionLaws.{kept_by, session_plain}
+use Rattle.livevec.specs.PlainServed.{AreHeldPlainly, ServedPlainly}
+use Rattle.livevec.specs.Served.{AreHeld, Served, Sides, counted_by, ended_well, new_session}
+
+-- each session that was held was held plainly
+held_plainly : (limits : Bounds) (olds news : List Sides) (states : List SessionState) → AreHeld limits olds news states → AreHeldPlainly limits olds news (map kept_by states)
+held_plainly limits [] [] [] held = tt
+held_plainly limits [] [] (s ∷ states) held = absurd held
+held_plainly limits [] (n ∷ news) states held = absurd held
+held_plainly limits (o ∷ olds) [] states held = absurd held
+held_plainly limits (o ∷ olds) (n ∷ news) [] held = absurd held
+held_plainly limits (o ∷ olds) (n ∷ news) (s ∷ states) held =
+    (session_plain limits new_session s o.lines n.lines o.replies n.replies ended_well held.0, held_plainly limits olds news states held.1)
+
+-- they made as many edits as they count
+made_so : (states : List SessionState) → counted_by states ≡ sum_by (λ (seen : Seen). seen.made) (map kept_by states)
+made_so [] = refl
+made_so (s ∷ states) = ap (λ n. s.count + n) (made_so states)
+
+pub served_plainly : (limits : Bounds) (olds news : List Sides) (a b : Option (List ℕ)) → Served limits olds news a b → ServedPlainly limits olds news a b
+served_plainly limits olds news a b s =
+    let t = s.transcript in record {
+      edits = t.journal;
+      legal = t.within;
+      sessions = map kept_by s.states;
+      held = held_plainly limits olds news s.states s.held;
+      begun = All-map (λ (seen : Seen). IsPrefix seen.edits t.journal) kept_by s.states t.seen;
+      made = t.counted ∙ made_so s.states;
+      answers = t.claims;
+      all_true = t.all_true;
+      written = subst (Appends a b) t.text_is s.written;
+    }

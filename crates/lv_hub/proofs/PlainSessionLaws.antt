@@ -1,0 +1,243 @@
+-- Each line of a session is answered as the plain interpreter answers it, at some edits of the hub's.
+use Rattle.std.proofs.Common.{◌≡◌, ◌⊎◌, ℕ, ℤ, ◌+◌, ◌-◌, Bool, true, false, Option, Some, None, Result, Ok, Err, List, [], ◌∷◌, ◌++◌, length, take, map, slice_range, refl, sym, ap, ap₂, ◌∙◌, subst, inl, inr, append-nil, arith}
+use Rattle.std.specs.List.{range_with_len}
+use Rattle.std.specs.Option.{option_map_or}
+use Rattle.std.proofs.lemmas.List.{length-append, length-take, take_all, take-append-le}
+use Rattle.std.proofs.lemmas.List.Elements.{All-take}
+use Rattle.std.proofs.lemmas.Simd.{map-map}
+use mathlib.Core.List.{IsPrefix}
+use Rattle.lv_geometry.specs.Bounds.{Bounds}
+use Rattle.lv_geometry.specs.Elements.{IsElement}
+use Rattle.lv_geometry.specs.declared.refusals.Refusal.{Refusal}
+use Rattle.lv_geometry.specs.declared.refusals.Refusal.TheVariants.{NoMemory}
+use Rattle.lv_bodies.specs.declared.kinds.Kind.{Kind}
+use Rattle.lv_bodies.specs.declared.kinds.Shown.{Shown}
+use Rattle.lv_bodies.specs.declared.sixes.Six.{Six}
+use Rattle.lv_bodies.specs.Body.{CanFold, fold_of}
+use Rattle.lv_bodies.specs.Plain.{plain_value, program_table}
+use Rattle.lv_bodies.specs.Six.{SixSummary, face_of, six_operations}
+use Rattle.lv_bodies.proofs.SixFolds.{face_of-fold}
+use Rattle.lv_edits.specs.declared.edit.Edit.{Edit}
+use Rattle.lv_edits.specs.declared.receipt.Receipt.{Receipt}
+use Rattle.lv_edits.specs.History.{list_of}
+use Rattle.lv_edits.specs.Kept.{IsLegalInLimits}
+use Rattle.lv_reduce.specs.declared.reductions.Answer.{Answer}
+use Rattle.lv_reduce.specs.declared.scans.Scan.{Scan}
+use Rattle.lv_reduce.specs.Answer.{IsAnswer, IsScanRefusal, range_refusal, scan_of, slice_of}
+use Rattle.lv_lines.specs.declared.command.Command.{Command}
+use Rattle.lv_lines.specs.declared.command.Command.TheVariants as command
+use Rattle.lv_lines.specs.declared.command.Line.{Line}
+use Rattle.lv_lines.specs.declared.command.Line.TheVariants.{Nothing, Bad, Do}
+use Rattle.lv_lines.specs.declared.fault.Fault.{Fault}
+use Rattle.lv_lines.specs.Grammar.{line_of}
+use Rattle.lv_lines.specs.Replies.{Answered, Conversed}
+use Rattle.lv_lines.specs.Texts.{answer_text, receipt_text, refused_text, scan_text}
+use Rattle.lv_lines.proofs.Conversing.{conversed_as}
+use Rattle.lv_script.specs.PlainScript.{Plain, after, plain_after, plain_reply, refusal_of, reply_of, scan_by}
+use Rattle.lv_script.specs.Script.{edit_text}
+use Rattle.lv_hub.specs.Session.{Lists, SessionCommandAnswer, SessionLineAnswer, SessionState, SessionStep, having_counted, scan_reply_text, up_to}
+use Rattle.lv_hub.specs.PlainSession.{FindsNoMemory, IsTrueReply, PlainSessionStep, Seen, TrueReply, known_of, plain_at, seen_after, session_line_of}
+use Rattle.lv_hub.specs.Told.{EditTold, ReductionTold, ScanTold, history_of}
+use Rattle.lv_hub.proofs.PrefixLaws.{prefix_length, prefix_self, prefix_trans}
+use Rattle.lv_hub.proofs.TruthLaws.{slice_folds}
+
+-- ---- values
+
+-- the values of a scan are the plain values of the beginnings of its range
+front_folds : (xs : List ℤ) (n : ℕ) → CanFold xs → CanFold (take n xs)
+front_folds xs n can = record { few = omega (arith, can.few, length-take n xs); elements = All-take IsElement n xs can.elements }
+
+front_value : (kind : Kind) (xs : List ℤ) → CanFold xs → (n : ℕ) → face_of kind (fold_of six_operations (take n xs)) ≡ plain_value kind (take n xs)
+front_value kind xs can n = face_of-fold program_table kind (fold_of six_operations (take n xs)) (take n xs) (front_folds xs n can) refl
+
+scan_values : (kind : Kind) (inclusive : Bool) (xs : List ℤ) → CanFold xs → map (face_of kind) (scan_of inclusive six_operations xs) ≡ scan_by (plain_value kind) inclusive xs
+scan_values kind true xs can =
+    map-map (face_of kind) (λ i. fold_of six_operations (take (i + 1) xs)) (range_with_len 0 (length xs)) ∙ (λ j. map (λ i. front_value kind xs can (i + 1) j) (range_with_len 0 (length xs)))
+scan_values kind false xs can =
+    map-map (face_of kind) (λ i. fold_of six_operations (take i xs)) (range_with_len 0 (length xs)) ∙ (λ j. map (λ i. front_value kind xs can i j) (range_with_len 0 (length xs)))
+
+-- what a session's state keeps
+abbrev pub kept_by : SessionState → Seen
+kept_by s = record { edits = s.seen; made = s.count }
+
+-- a list has its beginning as its first elements
+prefix_take : (xs ys : List Edit) → IsPrefix xs ys → take (length xs) ys ≡ xs
+prefix_take xs ys more = ap (take (length xs)) (sym more.1) ∙ take-append-le (length xs) xs more.0 (omega arith) ∙ take_all (length xs) xs (omega arith)
+
+-- nothing was made where what is kept was there
+none_made : (old : Seen) (edits : List Edit) → seen_after old edits edits ≡ record { edits = edits; made = old.made }
+none_made old edits = ap (λ made. record { edits = edits; made = made }) (omega arith)
+
+-- an edit more was
+one_made : (old : Seen) (edits : List Edit) (e : Edit) → seen_after old edits (edits ++ e ∷ []) ≡ record { edits = edits ++ e ∷ []; made = old.made + 1 }
+one_made old edits e = ap (λ made. record { edits = edits ++ e ∷ []; made = made }) (omega (arith, length-append edits (e ∷ [])))
+
+module _ (limits : Bounds) where
+  -- one line, by what it says
+  abbrev PlainSessionLine : Seen → ℕ → Line → List ℕ → Seen → Type 0
+  PlainSessionLine old n line text new =
+      (before : List Edit) × IsPrefix old.edits before
+      × (((text ≡ plain_reply [] (plain_at limits before) n line) × (new ≡ seen_after old before (plain_after (plain_at limits before) line).edits))
+      ⊎ (FindsNoMemory (plain_at limits before) line text × (new ≡ seen_after old before before)))
+
+  -- a command that nothing refuses
+  granted : (old new : Seen) (before : List Edit) (n : ℕ) (c : Command) (text : List ℕ) → IsPrefix old.edits before → refusal_of (plain_at limits before) c ≡ None → text ≡ reply_of [] (plain_at limits before) c
+      → new ≡ seen_after old before (after (plain_at limits before) c).edits → PlainSessionLine old n (Do c) text new
+  granted old new before n c text grown free is then =
+      let s = plain_at limits before in (
+        before,
+        grown,
+        inl (is ∙ ap (λ o. option_map_or refused_text o (reply_of [] s c)) (sym free), then ∙ ap (λ o. seen_after old before (option_map_or (λ refusal. s) o (after s c)).edits) (sym free)),
+      )
+
+  -- one that is refused
+  refused : (old new : Seen) (before : List Edit) (n : ℕ) (c : Command) (text : List ℕ) (refusal : Refusal) → IsPrefix old.edits before → refusal_of (plain_at limits before) c ≡ Some refusal → text ≡ refused_text refusal
+      → new ≡ seen_after old before before → PlainSessionLine old n (Do c) text new
+  refused old new before n c text refusal grown why is same =
+      let s = plain_at limits before in (
+        before,
+        grown,
+        inl (is ∙ ap (λ o. option_map_or refused_text o (reply_of [] s c)) (sym why), same ∙ ap (λ o. seen_after old before (option_map_or (λ refusal. s) o (after s c)).edits) (sym why)),
+      )
+
+  -- one that was refused for want of memory
+  wanting : (old new : Seen) (before : List Edit) (n : ℕ) (c : Command) (text : List ℕ) → IsPrefix old.edits before → refusal_of (plain_at limits before) c ≡ None → text ≡ refused_text NoMemory → new ≡ seen_after old before before
+      → PlainSessionLine old n (Do c) text new
+  wanting old new before n c text grown free is same = (before, grown, inr ((free, is), same))
+
+  -- a state that only has seen more, or counts one edit more
+  seen_more : (old new : SessionState) (edits : List Edit) → new.seen ≡ edits → new.count ≡ old.count → kept_by new ≡ seen_after (kept_by old) edits edits
+  seen_more old new edits seen count = (λ i. record { edits = seen i; made = count i }) ∙ sym (none_made (kept_by old) edits)
+
+  counted_more : (old new : SessionState) (edits : List Edit) (e : Edit) → new.seen ≡ edits ++ e ∷ [] → new.count ≡ old.count + 1 → kept_by new ≡ seen_after (kept_by old) edits (edits ++ e ∷ [])
+  counted_more old new edits e seen count = (λ i. record { edits = seen i; made = count i }) ∙ sym (one_made (kept_by old) edits e)
+
+  -- an edit
+  edit_plain : (old new : SessionState) (n : ℕ) (e : Edit) (text : List ℕ) (result : Result Receipt Refusal) → EditTold limits old.seen new.seen e result → text ≡ edit_text result
+      → new ≡ having_counted (up_to old new.seen) result → PlainSessionLine (kept_by old) n (Do (command.Edit e)) text (kept_by new)
+  edit_plain old new n e text (Ok receipt) told is state =
+      granted (kept_by old) (kept_by new) told.before n (command.Edit e) text told.seen told.answers.verdict
+      (is ∙ ap receipt_text told.answers.receipt_is ∙ sym (append-nil _)) (counted_more old new told.before e (ap (λ h. h.journal) told.answers.journal) (ap (λ s. s.count) state))
+  edit_plain old new n e text (Err refusal) told is state =
+      let same = seen_more old new told.before (ap (λ h. h.journal) told.answers.same) (ap (λ s. s.count) state) in
+      elim told.answers.verdict [
+        | inl why ↦ refused (kept_by old) (kept_by new) told.before n (command.Edit e) text refusal told.seen why is same
+        | inr want ↦ wanting (kept_by old) (kept_by new) told.before n (command.Edit e) text told.seen want.0 (is ∙ ap refused_text want.1) same
+      ]
+
+  -- a reduction
+  reduction_plain : (old new : SessionState) (n : ℕ) (kind : Kind) (lo hi : ℕ) (text : List ℕ) (result : Result (Answer SixSummary) Refusal) → ReductionTold Six six_operations limits old.seen new.seen lo hi result
+      → Lists (up_to old new.seen) kind lo hi result text new → PlainSessionLine (kept_by old) n (Do (command.Reduce kind lo hi)) text (kept_by new)
+  reduction_plain old new n kind lo hi text (Ok answer) told lists =
+      let is : IsAnswer six_operations new.seen lo hi answer = subst (λ es. IsAnswer six_operations es lo hi answer) told.live.edits_are told.reduces.0 in
+      let value = face_of-fold program_table kind answer.value (slice_of new.seen lo hi) (slice_folds limits new.seen lo hi told.within) is.value in
+      elim lists [
+        | inl listed ↦
+            granted (kept_by old) (kept_by new) new.seen n (command.Reduce kind lo hi) text told.seen is.granted
+            (listed.0 ∙ ap₂ (λ edit shown. answer_text edit kind shown) is.edit value) (seen_more old new new.seen refl (ap (λ s. s.count) listed.1))
+        | inr full ↦ wanting (kept_by old) (kept_by new) new.seen n (command.Reduce kind lo hi) text told.seen is.granted full.0 (seen_more old new new.seen refl (ap (λ s. s.count) full.1))
+      ]
+  reduction_plain old new n kind lo hi text (Err refusal) told lists =
+      let why : range_refusal new.seen lo hi ≡ Some refusal = subst (λ es. range_refusal es lo hi ≡ Some refusal) told.live.edits_are told.reduces in
+      refused (kept_by old) (kept_by new) new.seen n (command.Reduce kind lo hi) text refusal told.seen why lists.0 (seen_more old new new.seen refl (ap (λ s. s.count) lists.1))
+
+  -- a scan
+  scan_plain : (old new : SessionState) (n : ℕ) (inclusive : Bool) (kind : Kind) (lo hi : ℕ) (text : List ℕ) (result : Result (Scan SixSummary) Refusal) → ScanTold six_operations limits old.seen new.seen lo hi inclusive result
+      → text ≡ scan_reply_text inclusive kind result → new ≡ up_to old new.seen → PlainSessionLine (kept_by old) n (Do (command.Scan inclusive kind lo hi)) text (kept_by new)
+  scan_plain old new n inclusive kind lo hi text (Ok scan) told is state =
+      let values = ap (map (face_of kind)) told.scanned.values_are ∙ scan_values kind inclusive (slice_of new.seen lo hi) (slice_folds limits new.seen lo hi told.within) in
+      granted (kept_by old) (kept_by new) new.seen n (command.Scan inclusive kind lo hi) text told.seen told.scanned.granted
+      (is ∙ ap₂ (λ edit shown. scan_text edit inclusive kind shown) told.scanned.edit values) (seen_more old new new.seen refl (ap (λ s. s.count) state))
+  scan_plain old new n inclusive kind lo hi text (Err refusal) told is state =
+      let same = seen_more old new new.seen refl (ap (λ s. s.count) state) in
+      elim told.refused [
+        | inl why ↦ refused (kept_by old) (kept_by new) new.seen n (command.Scan inclusive kind lo hi) text refusal told.seen why is same
+        | inr want ↦ wanting (kept_by old) (kept_by new) new.seen n (command.Scan inclusive kind lo hi) text told.seen want.0 (is ∙ ap refused_text want.1) same
+      ]
+
+  -- what is bad, or says nothing
+  unmoved : (old new : SessionState) (n : ℕ) (line : Line) (text : List ℕ) → text ≡ plain_reply [] (plain_at limits old.seen) n line → (plain_after (plain_at limits old.seen) line).edits ≡ old.seen → new ≡ old
+      → PlainSessionLine (kept_by old) n line text (kept_by new)
+  unmoved old new n line text is same stays =
+      (old.seen, prefix_self old.seen, inl (is, seen_more old new old.seen (ap (λ s. s.seen) stays) (ap (λ s. s.count) stays) ∙ ap (seen_after (kept_by old) old.seen) (sym same)))
+
+  -- a command, as a session knows it
+  command_plain : (old new : SessionState) (n : ℕ) (c : Command) (text : List ℕ) → SessionCommandAnswer limits old n c text new → PlainSessionLine (kept_by old) n (known_of (Do c)) text (kept_by new)
+  command_plain old new n (command.Edit e) text a = edit_plain old new n e text a.result a.told a.text_is a.state
+  command_plain old new n (command.Reduce kind lo hi) text a = reduction_plain old new n kind lo hi text a.result a.told a.lists
+  command_plain old new n (command.Scan inclusive kind lo hi) text a = scan_plain old new n inclusive kind lo hi text a.result a.told a.text_is a.state
+  command_plain old new n _ text a = unmoved old new n Bad text a.0 refl a.1
+
+  line_plain : (old new : SessionState) (n : ℕ) (line : Line) (text : List ℕ) → SessionLineAnswer limits old n line text new → PlainSessionLine (kept_by old) n (known_of line) text (kept_by new)
+  line_plain old new n Nothing text a = unmoved old new n Nothing text a.0 refl a.1
+  line_plain old new n Bad text a = unmoved old new n Bad text a.0 refl a.1
+  line_plain old new n (Do c) text a = command_plain old new n c text a
+
+  step_plain : (s : SessionState) (p : Seen) (n : ℕ) (line text : List ℕ) (u : SessionState) → p ≡ kept_by s → SessionStep limits s n line text u → (q : Seen) × (q ≡ kept_by u) × PlainSessionStep limits p n line text q
+  unfolding SessionStep
+  step_plain s p n line text u is step =
+      let told = line_plain s u n (line_of line) text step in
+      (kept_by u, refl, subst (λ p. PlainSessionStep limits p n line text (kept_by u)) (sym is) (record { before = told.0; grown = told.1; answer = told.2 }))
+
+  -- the conversation of a session is one of the interpreter
+  pub session_plain : {R : Type 0} (first last : SessionState) (a b k l : Option (List ℕ)) (result : Result R Fault) → Conversed (SessionStep limits) first last a b k l result
+      → Conversed (PlainSessionStep limits) (kept_by first) (kept_by last) a b k l result
+  session_plain first last a b k l result c =
+      let came = conversed_as (λ s p. p ≡ kept_by s) (record { moves = step_plain }) first (kept_by first) last a b k l result refl c in
+      subst (λ p. Conversed (PlainSessionStep limits) (kept_by first) p a b k l result) came.1 came.2
+
+  -- ---- what is true of the whole list
+
+  -- an edit or nothing more is kept
+  command_grows : (before : List Edit) (c : Command) → IsPrefix before (after (plain_at limits before) c).edits
+  command_grows before (command.Edit e) = (e ∷ [], refl)
+  command_grows before _ = prefix_self before
+
+  decided_grows : (before : List Edit) (c : Command) (o : Option Refusal) → IsPrefix before (option_map_or (λ refusal. plain_at limits before) o (after (plain_at limits before) c)).edits
+  decided_grows before c (Some refusal) = prefix_self before
+  decided_grows before c None = command_grows before c
+
+  line_grows : (before : List Edit) (line : Line) → IsPrefix before (plain_after (plain_at limits before) line).edits
+  line_grows before Nothing = prefix_self before
+  line_grows before Bad = prefix_self before
+  line_grows before (Do c) = decided_grows before c (refusal_of (plain_at limits before) c)
+
+  -- the edits at which a line was answered begin those that are seen then
+  step_goes_on : (old : Seen) (n : ℕ) (line text : List ℕ) (new : Seen) → (step : PlainSessionStep limits old n line text new) → IsPrefix step.before new.edits
+  step_goes_on old n line text new step =
+      elim step.answer [
+        | inl told ↦ subst (λ s. IsPrefix step.before s.edits) (sym told.1) (line_grows step.before (session_line_of line))
+        | inr want ↦ subst (λ s. IsPrefix step.before s.edits) (sym want.1) (prefix_self step.before)
+      ]
+
+  said_no_memory : (s : Plain) (line : Line) (text : List ℕ) → FindsNoMemory s line text → text ≡ refused_text NoMemory
+  said_no_memory s Nothing text f = absurd f
+  said_no_memory s Bad text f = absurd f
+  said_no_memory s (Do c) text f = f.1
+
+  -- what a step answers is true of each list that goes on from what it leaves
+  step_true : (edits : List Edit) (old : Seen) (n : ℕ) (line text : List ℕ) (new : Seen) → PlainSessionStep limits old n line text new → IsPrefix new.edits edits → IsTrueReply limits edits n line text
+  step_true edits old n line text new step on =
+      let more = prefix_trans step.before new.edits edits (step_goes_on old n line text new step) on in
+      record {
+        many = length step.before;
+        within = prefix_length step.before edits more;
+        answer = elim step.answer [
+          | inl told ↦ inl (subst (λ es. text ≡ plain_reply [] (plain_at limits es) n (session_line_of line)) (sym (prefix_take step.before edits more)) told.0)
+          | inr want ↦ inr (said_no_memory (plain_at limits step.before) (session_line_of line) text want.0)
+        ];
+      }
+
+  -- lines only add to what was seen
+  pub lines_go_on : (old new : Seen) (n : ℕ) (lines : List (List ℕ)) (text : List ℕ) → Answered (PlainSessionStep limits) old n lines text new → IsPrefix old.edits new.edits
+  lines_go_on old new n [] text a = subst (λ s. IsPrefix old.edits s.edits) (sym a.1) (prefix_self old.edits)
+  lines_go_on old new n (line ∷ lines) text a =
+      prefix_trans old.edits a.2.edits new.edits (prefix_trans old.edits a.3.before a.2.edits a.3.grown (step_goes_on old n line a.0 a.2 a.3)) (lines_go_on a.2 new (n + 1) lines a.1 a.4)
+
+  -- each reply is true of each list that goes on from what the session has seen at its end
+  pub lines_true : (edits : List Edit) (old new : Seen) (n : ℕ) (lines : List (List ℕ)) (text : List ℕ) → Answered (PlainSessionStep limits) old n lines text new → IsPrefix new.edits edits
+      → Answered (TrueReply limits edits) tt n lines text tt
+  lines_true edits old new n [] text a on = (a.0, refl)
+  lines_true edits old new n (line ∷ lines) text a on =
+      let rest = prefix_trans a.2.edits new.edits edits (lines_go_on a.2 new (n + 1) lines a.1 a.4) on in
+      (a.0, a.1, tt, step_true edits old n line a.0 a.2 a.3 rest, lines_true edits a.2 new (n + 1) lines a.1 a.4 on, a.5)
