@@ -80,7 +80,7 @@ pub fn run_session_at<N: Means<Six>, T: Wait, R: Read, W: Write>(
     // Each reduction is true of the edits that were seen.
     ensures all_true { IfOk result (λ claims. All (IsTrueClaim share.new.seen) claims.items) }
     ensures order { IfOk result (λ claims. AreInOrder claims.items) }
-    ensures few { IfOk result (λ claims. vec_len claims ≤ place.answers) }
+    ensures few { IfOk result (λ claims. vec_len claims ≤ place.entry.answers) }
 {
     let Share {
         token,
@@ -136,7 +136,7 @@ fn hold<K: Lent, N: Means<Six>, T: Wait, R: Read, W: Write>(
         (R.remaining reader.old) (R.remaining reader.new) (W.contents writer.old) (W.contents writer.new) result.2 }
     ensures parts { result.0.parts ≡ share.parts }
     ensures more { share.count ≤ result.0.count }
-    ensures few { vec_len result.1 ≤ place.answers }
+    ensures few { vec_len result.1 ≤ place.entry.answers }
 {
     let alloc = place.alloc;
     let mut session: Session<'_, N, T, K> = Session {

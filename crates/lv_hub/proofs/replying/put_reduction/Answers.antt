@@ -46,7 +46,7 @@ returns-in-Err-list-clause-answer g c =
         told = told_as_reduction six_operations g.N.Naming.limits c.args.share.now.seen new.seen c.args.lo c.args.hi answer told;
         lists = inr (refl, ap (λ items. session_at new items) c.in-Err-list.ensures.unchanged.1 ∙ seen_and_listed c.args.share.now new c.args.claims.now.items _ c.in-Ok.ensures.share);
       },
-      c.put_refusal.ensures.text,
+      c.put_refusal.ensures.text ∙ ap (λ refusal. c.args.held.now.items ++ refused_text refusal) c.in-Err-list.ensures.unchanged.0,
     )
 
 pub returns-in-Err-clause-answer : goal.returns-in-Err-clause-answer
