@@ -1,6 +1,7 @@
 mod AcceptedLaws
 mod AskedLaws
 mod MinuteLaws
+mod NoteLaws
 mod OrderLaws
 mod PermitLaws
 pub mod PlainSessionLaws
@@ -8,6 +9,7 @@ mod PrefixLaws
 mod SessionLaws
 mod StepLaws
 mod StretchLaws
+mod SubscriberLaws
 mod ToldLaws
 pub mod TruthLaws
 mod WorkLaws

@@ -32,7 +32,7 @@ limits_kept old new e (Ok receipt) answers = ap (λ h. h.limits) answers.journal
 limits_kept old new e (Err refusal) answers = ap (λ h. h.limits) answers.same
 
 -- what was seen of a vector is within its limits
-within_said : (limits : Bounds) (h : History) (new : List Edit) → IsVector limits h → new ≡ h.journal → IsLegalInLimits (history_of limits new)
+pub within_said : (limits : Bounds) (h : History) (new : List Edit) → IsVector limits h → new ≡ h.journal → IsLegalInLimits (history_of limits new)
 within_said limits h new vector is =
     subst IsLegalInLimits (limits_said limits h vector.limits_are ∙ ap (history_of limits) (sym is)) vector.within
 

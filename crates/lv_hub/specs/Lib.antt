@@ -1,6 +1,8 @@
 pub mod Counting
 pub mod Growing
 pub mod Minuting
+pub mod Notes
+pub mod Noting
 pub mod PlainSession
 pub mod Session
 pub mod Told

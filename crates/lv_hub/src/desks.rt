@@ -26,7 +26,7 @@ use std::sync::ledger::{Blank, Book};
 /// What lies under a hub's lock: a live vector, and the book of the edits that were accepted.
 #[derive(Drop)]
 pub struct Desk<B: Body, N: Naming> {
-    live: Live<B>,
+    pub(crate) live: Live<B>,
     book: Book<N>,
 }
 

@@ -19,22 +19,18 @@ use lv_summary::Accepted;
 use std::alloc::Global;
 use std::marker::Model;
 use std::sync::ledger::Blank;
-use std::sync::{Condvar, Mutex, MutexGuard, Wait};
-use std::thread::{Parker, Threads};
-use std::time::Duration;
-
-// How often a worker naps while others have the lock, and how long.
-const NAPS: u32 = 8;
-
-const NAP_MICROSECONDS: u64 = 100;
+use std::sync::{Condvar, Mutex, Wait};
+use std::thread::Threads;
 
 /// A live vector that threads share. Each of its calls but `new` and `close` waits for the lock, and holds it for one call of
 /// its desk. Its edits are one list, which only grows; contracts see the hub as its body. A share that is handed in is this hub's.
 #[derive(Drop)]
 pub struct Hub<B: Body, N: Means<B>> {
-    room: Mutex<Room<B, N>>,
+    pub(crate) room: Mutex<Room<B, N>>,
     // Where workers sleep.
-    bell: Condvar,
+    pub(crate) bell: Condvar,
+    // Where subscribers sleep.
+    pub(crate) news: Condvar,
     // The vector's body.
     body: B,
 }
@@ -74,6 +70,7 @@ impl<B: Body, N: Means<B>> Hub<B, N> {
         let hub = Hub {
             room: Mutex::new(Room::new(desk)),
             bell: Condvar::new(),
+            news: Condvar::new(),
             body,
         };
         (hub, share)
@@ -90,10 +87,8 @@ impl<B: Body, N: Means<B>> Hub<B, N> {
         ensures told { EditTold N.limits share.old.seen share.new.seen edit result }
         ensures counts { Counts (having_seen share.old share.new.seen) result share.new }
     {
-        let (answer, wakes) = self.room.lock(rt).edit(share, edit);
-        if wakes {
-            self.bell.notify_one();
-        }
+        let (answer, wakes, calls) = self.room.lock(rt).edit(share, edit);
+        self.wake(wakes, calls);
         answer
     }
 
@@ -242,61 +237,6 @@ impl<B: Body, N: Means<B>> Hub<B, N> {
         ensures { ClaimTold (B.operations (B.meaning self.now)) self.now N.limits result }
     {
         self.room.lock(rt).desk.claim()
-    }
-
-    // The lock, for a worker. While others have it the worker naps and tries again, a few times, so that threads that edit and ask
-    // go first. After that it waits as they do.
-    fn lock_last<R: Wait>(&self, rt: &R) -> MutexGuard<'_, Room<B, N>> {
-        let pillow = Parker::new();
-        for _ in 0..NAPS {
-            if let Some(room) = self.room.try_lock() {
-                return room;
-            }
-            pillow.park_timeout(rt, Duration::from_micros(NAP_MICROSECONDS));
-        }
-        self.room.lock(rt)
-    }
-
-    // A job for the least node that wants one, unless the workers were dismissed. Where it gives none it sleeps before, if that is
-    // wanted, until an edit or a dismissal wakes it. It looks and counts itself under one lock, so no edit comes between.
-    pub(crate) fn claim_or_sleep<R: Wait>(&self, rt: &R, sleeps: bool) -> Option<Job<B>> {
-        let mut room = self.lock_last(rt);
-        if room.is_dismissed() {
-            return None;
-        }
-        let claimed = room.desk.claim();
-        if sleeps && claimed.is_none() {
-            room.count_asleep();
-            drop(self.bell.wait(rt, room));
-        }
-        claimed
-    }
-
-    /// Sleeps until the vector has a block, so that workers may find a job, or until they are dismissed. Says whether they may: not
-    /// where they were dismissed.
-    pub fn wait_for_work<R: Wait>(&self, rt: &R) -> bool {
-        let room = self.room.lock(rt);
-        let room = self.bell.wait_while(rt, room, |room| room.has_no_work());
-        !room.is_dismissed()
-    }
-
-    // Wakes a worker that sleeps, if there is one.
-    pub(crate) fn wake_another<R: Wait>(&self, rt: &R) {
-        if self.room.lock(rt).wakes_another() {
-            self.bell.notify_one();
-        }
-    }
-
-    // Whether the workers were dismissed.
-    pub(crate) fn is_dismissed<R: Wait>(&self, rt: &R) -> bool {
-        self.room.lock(rt).is_dismissed()
-    }
-
-    /// Ends the workers that attend, now and from now on: those that sleep are woken, and each ends at its next turn. Everything
-    /// else goes on as before.
-    pub fn dismiss<R: Wait>(&self, rt: &R) {
-        self.room.lock(rt).dismiss();
-        self.bell.notify_all();
     }
 
     /// Takes an outcome in. Refused with `Stranger` where its node is whole and was touched last by the edit that it names, and its

@@ -6,12 +6,14 @@
 //! hub's calls tell of one list of edits. A call on the hub takes the lock, makes one call of the desk and releases it.
 //!
 //! Workers claim jobs and give their outcomes back; they compute with no lock held. Those that attend sleep where no node wants a
-//! job, until an edit wakes them or they are dismissed. A session answers the lines of a script so. It does not say that a thread gets
-//! on, nor in which order.
+//! job, until an edit wakes them or they are dismissed. A session answers the lines of a script so. A subscriber is told of the edits
+//! that change the answers to its questions. It does not say that a thread gets on, nor in which order.
 #![tactic(auto)]
 
+mod answering;
 mod attending;
 mod desks;
+mod ended;
 mod entries;
 mod gates;
 mod histories;
@@ -20,25 +22,34 @@ mod laws;
 mod logged;
 mod minutes;
 mod naming;
+mod noting;
+mod questions;
 mod recorded;
 mod replying;
 mod rooms;
 mod sessions;
 mod shares;
+mod sleeping;
+mod subscribers;
+mod told;
 mod worked;
 mod workers;
 
 pub use attending::attend;
 pub use desks::Desk;
+pub use ended::Ended;
 pub use gates::{Gate, OpenGate};
 pub use histories::{Front, Opened};
 pub use hubs::Hub;
 pub use laws::replies_are_true_of_one_list;
 pub use minutes::{Begun, Minutes};
 pub use naming::{Means, Naming};
+pub use questions::Question;
 pub use recorded::{run_recorded_session, run_recorded_session_at};
 pub use replying::Place;
 pub use sessions::{in_order, run_session, run_session_at};
 pub use shares::Share;
+pub use subscribers::Subscriber;
+pub use told::Told;
 pub use worked::Worked;
 pub use workers::work;

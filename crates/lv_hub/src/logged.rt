@@ -28,8 +28,8 @@ use std::sync::ledger::Blank;
 /// A desk whose edits are the history's, with the one permit to add to it, by the body of its name.
 #[derive(Drop)]
 pub struct LoggedDesk<B: Body, N: Means<B>> {
-    desk: Desk<B, N>,
-    head: Head<N>,
+    pub(crate) desk: Desk<B, N>,
+    pub(crate) head: Head<N>,
 }
 
 impl<B: Body, N: Means<B>> Model for LoggedDesk<B, N> {

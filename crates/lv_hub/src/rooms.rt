@@ -1,4 +1,4 @@
-ghost use Rattle.std.specs.Prelude.{◌≡◌, ◌&&◌, false, true, length, nat_lt, not};
+ghost use Rattle.std.specs.Prelude.{◌≡◌, ◌&&◌, if◌then◌else◌, false, true, is_ok, length, nat_eq, nat_lt, not};
 ghost use mathlib.Core.List.{IsPrefix};
 ghost use Rattle.lv_geometry.specs.declared.nodes.Node.{Node};
 ghost use Rattle.lv_edits.specs.History.{list_of};
@@ -22,8 +22,10 @@ pub struct Room<B: Body, N: Means<B>> {
     pub(crate) desk: LoggedDesk<B, N>,
     // At least how many workers sleep that were not woken.
     asleep: u64,
-    // Whether the workers that attend are to end.
+    // Whether the workers that attend are to end, and subscribers too.
     dismissed: bool,
+    // Whether a subscriber may sleep that was not woken.
+    listened: bool,
 }
 
 impl<B: Body, N: Means<B>> Room<B, N> {
@@ -32,17 +34,23 @@ impl<B: Body, N: Means<B>> Room<B, N> {
         ensures desk { result.desk ≡ desk }
         ensures asleep { result.asleep ≡ 0 }
         ensures dismissed { result.dismissed ≡ false }
+        ensures listened { result.listened ≡ false }
     {
         Room {
             desk,
             asleep: 0,
             dismissed: false,
+            listened: false,
         }
     }
 
     /// Makes an edit as the desk does. Says too whether a worker is to be woken, which then counts as awake: where one sleeps, and
-    /// the edit may have made a node want a job.
-    pub fn edit(&mut self, share: &mut Share<N>, edit: Edit) -> (Result<Receipt, Refusal>, bool)
+    /// the edit may have made a node want a job. And whether subscribers are: where one may sleep, and the edit was accepted.
+    pub fn edit(
+        &mut self,
+        share: &mut Share<N>,
+        edit: Edit,
+    ) -> (Result<Receipt, Refusal>, bool, bool)
         ensures begins { IsPrefix share.old.seen self.old.desk.history.journal }
         ensures seen { share.new.seen ≡ self.new.desk.history.journal }
         ensures answer { Answers self.old.desk.history edit result.0 self.new.desk.history }
@@ -52,13 +60,31 @@ impl<B: Body, N: Means<B>> Room<B, N> {
         ensures wakes { result.1 ≡ (nat_lt 0 self.old.asleep && makes_work result.0) }
         ensures asleep { self.new.asleep ≡ left_asleep self.old.asleep result.1 }
         ensures dismissed { self.new.dismissed ≡ self.old.dismissed }
+        ensures calls { result.2 ≡ (self.old.listened && is_ok result.0) }
+        ensures listened { self.new.listened ≡ (if is_ok result.0 then false else self.old.listened) }
     {
         let answer = self.desk.edit(share, edit);
+        let calls = self.calls_after(answer.is_ok());
         let wakes = 0 < self.asleep && makes_work(answer);
         if wakes {
             self.asleep -= 1;
         }
-        (answer, wakes)
+        (answer, wakes, calls)
+    }
+
+    // Whether subscribers are to be woken after an edit, by whether it was accepted. Then none counts as asleep.
+    fn calls_after(&mut self, accepted: bool) -> bool
+        ensures calls { result ≡ (self.old.listened && accepted) }
+        ensures listened { self.new.listened ≡ (if accepted then false else self.old.listened) }
+        ensures desk { self.new.desk ≡ self.old.desk }
+        ensures asleep { self.new.asleep ≡ self.old.asleep }
+        ensures dismissed { self.new.dismissed ≡ self.old.dismissed }
+    {
+        let calls = self.listened && accepted;
+        if accepted {
+            self.listened = false;
+        }
+        calls
     }
 
     /// Whether a worker is to be woken in place of another that ends: where one sleeps, which then counts as awake.
@@ -67,6 +93,7 @@ impl<B: Body, N: Means<B>> Room<B, N> {
         ensures asleep { self.new.asleep ≡ left_asleep self.old.asleep result }
         ensures desk { self.new.desk ≡ self.old.desk }
         ensures dismissed { self.new.dismissed ≡ self.old.dismissed }
+        ensures listened { self.new.listened ≡ self.old.listened }
     {
         let wakes = 0 < self.asleep;
         if wakes {
@@ -80,6 +107,7 @@ impl<B: Body, N: Means<B>> Room<B, N> {
         ensures asleep { nat_lt 0 self.new.asleep ≡ true }
         ensures desk { self.new.desk ≡ self.old.desk }
         ensures dismissed { self.new.dismissed ≡ self.old.dismissed }
+        ensures listened { self.new.listened ≡ self.old.listened }
     {
         self.asleep = self.asleep.saturating_add(1);
     }
@@ -91,10 +119,27 @@ impl<B: Body, N: Means<B>> Room<B, N> {
         ensures sleeps { result ≡ (nat_lt (length (list_of self.old.desk.history.journal)) 8 && not self.old.dismissed) }
         ensures desk { self.new.desk ≡ self.old.desk }
         ensures dismissed { self.new.dismissed ≡ self.old.dismissed }
+        ensures listened { self.new.listened ≡ self.old.listened }
     {
         let sleeps = self.desk.live().size() < 8 && !self.dismissed;
         if sleeps {
             self.count_asleep();
+        }
+        sleeps
+    }
+
+    /// Whether a subscriber that has seen so many edits is to sleep, and then counts as asleep: while there are no more of them, and
+    /// nobody was dismissed.
+    pub fn has_no_news(&mut self, seen: u64) -> bool
+        ensures sleeps { result ≡ (nat_eq (length self.old.desk.history.journal) seen && not self.old.dismissed) }
+        ensures listened { self.new.listened ≡ (if result then true else self.old.listened) }
+        ensures desk { self.new.desk ≡ self.old.desk }
+        ensures asleep { self.new.asleep ≡ self.old.asleep }
+        ensures dismissed { self.new.dismissed ≡ self.old.dismissed }
+    {
+        let sleeps = u64::from(self.desk.live().edit()) == seen && !self.dismissed;
+        if sleeps {
+            self.listened = true;
         }
         sleeps
     }
@@ -111,6 +156,7 @@ impl<B: Body, N: Means<B>> Room<B, N> {
         ensures dismissed { self.new.dismissed ≡ true }
         ensures desk { self.new.desk ≡ self.old.desk }
         ensures asleep { self.new.asleep ≡ self.old.asleep }
+        ensures listened { self.new.listened ≡ self.old.listened }
     {
         self.dismissed = true;
     }

@@ -2,10 +2,6 @@ use Rattle.lv_hub.proofs.ToldLaws.{edit_told}
 use Rattle.lv_hub.proofs.hubs.Hub.edit.Goals as goal
 
 -- the lock held the vector before it
-pub returns-then-wakes-clause-told : goal.returns-then-wakes-clause-told
-returns-then-wakes-clause-told g c =
-    edit_told _ _ _ _ _ _ _ c.edit-answer.ensures.vector c.edit-answer.ensures.begins c.edit-answer.ensures.seen c.edit-answer.ensures.answer
-
-pub returns-else-wakes-clause-told : goal.returns-else-wakes-clause-told
-returns-else-wakes-clause-told g c =
+pub returns-clause-told : goal.returns-clause-told
+returns-clause-told g c =
     edit_told _ _ _ _ _ _ _ c.edit-answer.ensures.vector c.edit-answer.ensures.begins c.edit-answer.ensures.seen c.edit-answer.ensures.answer

@@ -1,0 +1,19 @@
+use Rattle.std.proofs.Common.{◌≡◌, ◌∙◌, ◌-◌, ℕ, [], ap, sym, take, take_all, arith}
+use Rattle.std.specs.Prelude.{ℤ}
+use Rattle.std.specs.List.{slice_range}
+use Rattle.std.proofs.lemmas.List.{drop_all}
+use Rattle.std.proofs.lemmas.List.Elements.{All-nil}
+use Rattle.lv_geometry.specs.Elements.{IsElement}
+use Rattle.lv_bodies.specs.Plain.{plain_value}
+use Rattle.lv_edits.specs.History.{list_of, replayed}
+use Rattle.lv_hub.proofs.questions.Question.answer_to_nothing.Goals as goal
+
+-- a range of nothing is nothing
+nothing_there : (lo hi : ℕ) → slice_range {X = ℤ} [] lo hi ≡ []
+nothing_there lo hi = ap (take (hi - lo)) (drop_all lo [] (omega arith)) ∙ take_all (hi - lo) [] (omega arith)
+
+pub returns : goal.returns
+unfolding list_of replayed
+returns c =
+    let q = c.args.self.now in
+    c.face.ensures.plain [] (record { few = omega arith; elements = All-nil IsElement }) c.identity.ensures ∙ ap (plain_value q.kind) (sym (nothing_there q.lo q.hi))

@@ -1,0 +1,14 @@
+use Rattle.std.proofs.Common.{◌∙◌, ◌++◌, ◌∷◌, [], ap, refl, inr}
+use Rattle.lv_hub.proofs.subscribers.Subscriber.add.Goals as goal
+
+pub returns-in_default-clause-err : goal.returns-in_default-clause-err
+returns-in_default-clause-err g c = inr (c.requires, refl)
+
+pub returns-clause-ok : goal.returns-clause-ok
+returns-clause-ok g c =
+    let q = c.args.question.now in
+    rw (← c.self.view_is) (
+      rw (← c.self.view_is) at c.requires,
+      c.push_reserved.ensures.items ∙ ap (λ qs. qs ++ q ∷ []) c.make_room-room.ensures.questions,
+      c.push_reserved-2.ensures.items ∙ ap (λ ts. ts ++ c.answer_to_nothing.result ∷ []) c.make_room-room.ensures.told ∙ ap (λ t. c.self.inside.told.items ++ t ∷ []) c.answer_to_nothing.ensures,
+    )

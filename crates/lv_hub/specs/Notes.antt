@@ -1,0 +1,63 @@
+-- Questions by name at a hub, and what a subscriber is told of them.
+use Rattle.std.specs.Prelude.{◌≡◌, ◌≢◌, ◌⊎◌, ◌<◌, Option, Some, None, List, [], ◌∷◌, length, map}
+use mathlib.Core.List.{IsPrefix}
+use Rattle.lv_geometry.specs.Bounds.{Bounds}
+use Rattle.lv_geometry.specs.declared.refusals.Refusal.{Refusal}
+use Rattle.lv_bodies.specs.declared.kinds.Shown.{Shown}
+use Rattle.lv_edits.specs.declared.edit.Edit.{Edit}
+use Rattle.lv_edits.specs.Kept.{IsLegalInLimits}
+use Rattle.lv_standing.specs.declared.notes.Note.{Note}
+use Rattle.lv_standing.specs.Queries.{Query, watch_answer, watch_refusal}
+use Rattle.lv_hub.specs.declared.questions.Question.{Question}
+use Rattle.lv_hub.specs.declared.told.Told.{Told}
+use Rattle.lv_hub.specs.Counting.{ShareState, having_seen}
+use Rattle.lv_hub.specs.Told.{history_of}
+
+-- the standing query that a question is
+abbrev pub query_of_question : Question → Query
+query_of_question q = record { name = q.name; kind = q.kind; lo = q.lo; hi = q.hi }
+
+-- what a question is answered after some edits: the plain value of the elements that its range has
+abbrev pub answer_to : List Edit → Question → Shown
+answer_to edits q = watch_answer edits (query_of_question q)
+
+-- why a question is refused, want of memory apart, as a standing query is
+abbrev pub question_refusal : List Question → Question → Option Refusal
+question_refusal questions q = watch_refusal (map query_of_question questions) q.name q.lo q.hi
+
+-- a subscriber: its share of the hub, its questions in the order that they came, and what each was told last
+pub record SubscriberState : Type 0 where
+  pub share : ShareState
+  pub questions : List Question
+  pub told : List Shown
+
+-- a subscriber that has ended
+pub record EndedState : Type 0 where
+  pub questions : List Question
+  pub told : List Shown
+
+-- the notes of some values: one for each question, in order, whose value is another than it was told before, with that value
+abbrev pub AreNotesOf : List Question → List Shown → List Shown → List Note → Type 0
+AreNotesOf [] told values notes = notes ≡ []
+AreNotesOf (q ∷ questions) [] values notes = notes ≡ []
+AreNotesOf (q ∷ questions) (before ∷ told) [] notes = notes ≡ []
+AreNotesOf (q ∷ questions) (before ∷ told) (value ∷ values) notes =
+    ((value ≡ before) × AreNotesOf questions told values notes)
+    ⊎ ((value ≢ before) × (rest : List Note) × (notes ≡ record { name = q.name; value = value } ∷ rest) × AreNotesOf questions told values rest)
+
+-- a subscriber was told of a hub with these limits: it came to a later edit, its answers there are what it was told, and the notes
+-- are of those that are others than before
+pub record HasTold (limits : Bounds) (old new : SubscriberState) (told : Told) : Type 0 where
+  pub seen : IsPrefix old.share.seen new.share.seen
+  pub later : length old.share.seen < told.edit
+  pub edit : told.edit ≡ length new.share.seen
+  pub within : IsLegalInLimits (history_of limits new.share.seen)
+  pub share : new.share ≡ having_seen old.share new.share.seen
+  pub questions : new.questions ≡ old.questions
+  pub answers : new.told ≡ map (answer_to new.share.seen) old.questions
+  pub notes : AreNotesOf old.questions old.told new.told told.notes.items
+
+-- either there was nothing to tell, and nothing has changed; or it was told
+abbrev pub IsToldIf : Bounds → SubscriberState → SubscriberState → Option Told → Type 0
+IsToldIf limits old new None = new ≡ old
+IsToldIf limits old new (Some told) = HasTold limits old new told

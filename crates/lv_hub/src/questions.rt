@@ -1,0 +1,45 @@
+ghost use Rattle.std.specs.Prelude.{◌≡◌, []};
+ghost use Rattle.lv_hub.specs.Notes.{answer_to, question_refusal};
+
+use lv_bodies::{Body, Kind, Shown, Six, face};
+use lv_geometry::Refusal;
+use lv_standing::Name;
+
+// How many questions a subscriber has at most.
+const MOST: usize = 64;
+
+/// A question by a name: what a kind says of the elements from index `lo` up to `hi`. The range may reach past the end: what of it
+/// exists is asked.
+#[derive(Clone, Copy, Debug)]
+pub struct Question {
+    pub name: Name,
+    pub kind: Kind,
+    pub lo: u32,
+    pub hi: u32,
+}
+
+impl Question {
+    /// Why a subscriber that has these questions refuses it, want of memory apart: `BadRange`, `NameTaken`, then `TooMany`, if it does.
+    pub fn refusal_among(&self, questions: &[Question]) -> Option<Refusal>
+        ensures { result ≡ question_refusal questions.now self.now }
+    {
+        if self.hi < self.lo {
+            return Some(Refusal::BadRange);
+        }
+        let name = &self.name;
+        if questions.iter().any(|other| other.name == *name) {
+            return Some(Refusal::NameTaken);
+        }
+        if questions.len() >= MOST {
+            return Some(Refusal::TooMany);
+        }
+        None
+    }
+
+    // What it is answered by an empty vector.
+    pub(crate) fn answer_to_nothing(&self) -> Shown
+        ensures { result ≡ answer_to [] self.now }
+    {
+        face(self.kind, Six.identity())
+    }
+}

@@ -1,0 +1,173 @@
+//! Threads that are told of the edits that change the answers to their questions.
+ghost use Rattle.std.specs.Prelude.{◌≡◌, ◌++◌, ◌∷◌, [], None, IfErr, IfOk, OnErr, OnOk};
+ghost use Rattle.lv_edits.specs.Verdict.{IsRefusal};
+ghost use Rattle.lv_hub.specs.Notes.{IsToldIf, answer_to, question_refusal};
+
+use crate::ended::Ended;
+use crate::hubs::Hub;
+use crate::naming::Means;
+use crate::noting::{make_room, note_all};
+use crate::questions::Question;
+use crate::shares::Share;
+use crate::told::Told;
+use lv_bodies::{Shown, Six};
+use lv_geometry::Refusal;
+use lv_standing::Note;
+use std::alloc::Global;
+use std::marker::Model;
+use std::mem;
+use std::sync::Wait;
+use std::thread::Parker;
+use std::time::Duration;
+
+// How long a subscriber pauses between two looks, unless it is told otherwise.
+const PAUSE_MICROSECONDS: u64 = 1000;
+
+/// A thread's part of a hub that asks it questions by name, again and again, and is told of those whose answer is another than it
+/// was told last. A question that it hasn't been told of counts as told its answer of no elements.
+///
+/// It may miss edits, never goes back, and tells all it says at one edit. Whoever drops it drops its share.
+#[derive(Drop)]
+pub struct Subscriber<N: Means<Six>> {
+    share: Share<N>,
+    questions: Vec<Question>,
+    told: Vec<Shown>,
+    // Room for answers, and for the last notes.
+    values: Vec<Shown>,
+    notes: Vec<Note>,
+    pause: Duration,
+}
+
+impl<N: Means<Six>> Model for Subscriber<N> {
+    ghost use Rattle.std.specs.Prelude.{◌≡◌, ◌≤◌, length, vec_capacity};
+    ghost use Rattle.lv_hub.specs.Notes.{SubscriberState};
+
+    ghost Value = { SubscriberState };
+
+    ghost view = { λ s. record { share = s.share; questions = s.questions.items; told = s.told.items } };
+
+    ghost invariant = { λ s. (length s.told.items ≡ length s.questions.items) × (length s.questions.items ≤ vec_capacity s.told) × (length s.questions.items ≤ vec_capacity s.values) × (length s.questions.items ≤ vec_capacity s.notes) };
+}
+
+impl<N: Means<Six>> Subscriber<N> {
+    /// A subscriber without questions, with a share of its own. Takes no memory.
+    pub fn new(alloc: Global, share: Share<N>) -> Subscriber<N>
+        ensures { result ≡ record { share = share; questions = []; told = [] } }
+    {
+        Subscriber {
+            share,
+            questions: Vec::new(alloc),
+            told: Vec::new(alloc),
+            values: Vec::new(alloc),
+            notes: Vec::new(alloc),
+            pause: Duration::from_micros(PAUSE_MICROSECONDS),
+        }
+    }
+
+    /// Pauses so long between two looks, in place of a millisecond.
+    pub fn set_pause(&mut self, pause: Duration)
+        ensures { self.new ≡ self.old }
+    {
+        self.pause = pause;
+    }
+
+    /// Registers a question, which is told of with the next look that finds an edit. Refused with `BadRange`, `NameTaken`, `TooMany`,
+    /// then `NoMemory`.
+    pub fn watch(&mut self, question: &Question) -> Result<(), Refusal>
+        ensures ok { OnOk result ((question_refusal self.old.questions question.now ≡ None)
+            × (self.new.questions ≡ self.old.questions ++ question.now ∷ [])
+            × (self.new.told ≡ self.old.told ++ answer_to [] question.now ∷ [])) }
+        ensures err { IfErr result (λ refusal. IsRefusal (question_refusal self.old.questions question.now) refusal) }
+        ensures unchanged { OnErr result (self.new ≡ self.old) }
+        ensures share { self.new.share ≡ self.old.share }
+    {
+        match question.refusal_among(&self.questions) {
+            Some(refusal) => Err(refusal),
+            None => self.add(question),
+        }
+    }
+
+    // Registers a question that may stand behind those that there are. Refused with `NoMemory`.
+    fn add(&mut self, question: &Question) -> Result<(), Refusal>
+        requires { question_refusal self.old.questions question.now ≡ None }
+        ensures ok { OnOk result ((question_refusal self.old.questions question.now ≡ None)
+            × (self.new.questions ≡ self.old.questions ++ question.now ∷ [])
+            × (self.new.told ≡ self.old.told ++ answer_to [] question.now ∷ [])) }
+        ensures err { IfErr result (λ refusal. IsRefusal (question_refusal self.old.questions question.now) refusal) }
+        ensures unchanged { OnErr result (self.new ≡ self.old) }
+        ensures share { self.new.share ≡ self.old.share }
+    {
+        let room = make_room(
+            &mut self.questions,
+            &mut self.told,
+            &mut self.values,
+            &mut self.notes,
+        );
+        let Ok(()) = room else {
+            return Err(Refusal::NoMemory);
+        };
+        self.questions.push_reserved(*question);
+        self.told.push_reserved(question.answer_to_nothing());
+        Ok(())
+    }
+
+    /// What there is to tell since the last look, or none where no edit was made. Refused with `NoMemory`. In both cases nothing has
+    /// changed. It doesn't sleep.
+    pub fn look<R: Wait>(
+        &mut self,
+        rt: &R,
+        alloc: Global,
+        hub: &Hub<Six, N>,
+    ) -> Result<Option<Told>, Refusal>
+        ensures told { IfOk result (IsToldIf N.limits self.old self.new) }
+        ensures err { IfErr result (λ refusal. refusal ≡ Refusal.NoMemory) }
+        ensures unchanged { OnErr result (self.new ≡ self.old) }
+    {
+        let Ok(mut notes) = Vec::with_capacity(alloc, self.questions.len()) else {
+            return Err(Refusal::NoMemory);
+        };
+        let seen = self.share.seen();
+        let edit = hub.answer_all(rt, &mut self.share, &self.questions, &mut self.values);
+        if u64::from(edit) == seen {
+            return Ok(None);
+        }
+        note_all(&self.questions, &self.told, &self.values, &mut notes);
+        mem::swap(&mut self.told, &mut self.values);
+        Ok(Some(Told { edit, notes }))
+    }
+
+    /// The same after a pause, and once there is an edit to tell of: until then it sleeps. None where the hub's workers are dismissed.
+    pub fn next<R: Wait>(
+        &mut self,
+        rt: &R,
+        alloc: Global,
+        hub: &Hub<Six, N>,
+    ) -> Result<Option<Told>, Refusal>
+        ensures told { IfOk result (IsToldIf N.limits self.old self.new) }
+        ensures err { IfErr result (λ refusal. refusal ≡ Refusal.NoMemory) }
+        ensures unchanged { OnErr result (self.new ≡ self.old) }
+    {
+        Parker::new().park_timeout(rt, self.pause);
+        if !hub.wait_for_news(rt, self.share.seen()) {
+            return Ok(None);
+        }
+        self.look(rt, alloc, hub)
+    }
+
+    /// Its share, and what it was told last, for the hub's end.
+    pub fn end(self) -> (Share<N>, Ended)
+        ensures share { result.0 ≡ self.share }
+        ensures questions { result.1.questions ≡ self.questions }
+        ensures told { result.1.told ≡ self.told }
+    {
+        let Subscriber {
+            share,
+            questions,
+            told,
+            values,
+            notes,
+            pause: _,
+        } = self;
+        (share, Ended::new(questions, told, values, notes))
+    }
+}
