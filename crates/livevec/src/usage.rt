@@ -11,7 +11,9 @@ use std::{fmt, str};
 pub const NAME_BYTES: usize = 4096;
 
 // The options whose values are numbers.
-const NUMBERS: [&str; 7] = ["buckets", "edits", "jobs", "actors", "workers", "turns", "answers"];
+const NUMBERS: [&str; 7] = [
+    "buckets", "edits", "jobs", "actors", "workers", "turns", "answers",
+];
 
 /// Why a word of the command line is refused.
 #[derive(Clone, Copy)]

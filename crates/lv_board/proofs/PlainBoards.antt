@@ -126,7 +126,7 @@ module _ {S : Type 0} (t : Terms) (o : Operations S) (kind : Kind) (shown : S â†
               later = contended.before;
               known = Ends-length b.seen b.known looked.kept;
             },
-            record { known = Ends-trans earlier b.seen b.known later looked.kept; own_is = (reads a b looked).own_is }
+            record { known = Ends-trans earlier b.seen b.known later looked.kept; own_is = (reads a b looked).own_is },
           ));
         }
       ]

@@ -62,7 +62,14 @@ pub fn run_recorded_session<N: Means<Six>, T: Wait, R: Read, W: Write, V: Write 
 }
 
 /// The same at a place, which says how many reductions are listed at most.
-pub fn run_recorded_session_at<N: Means<Six>, T: Wait, R: Read, W: Write, V: Write + Drop, K: Begun>(
+pub fn run_recorded_session_at<
+    N: Means<Six>,
+    T: Wait,
+    R: Read,
+    W: Write,
+    V: Write + Drop,
+    K: Begun,
+>(
     place: Place<'_, N, T>,
     minutes: &Mutex<Minutes<N, V, K>>,
     share: &mut Share<N>,
