@@ -1,8 +1,10 @@
 -- Sessions that were served were served plainly.
-use Rattle.std.proofs.Common.{◌≡◌, ℕ, ◌+◌, Option, List, [], ◌∷◌, All, map, refl, sym, ap, ◌∙◌, subst}
+use Rattle.std.proofs.Common.{◌≡◌, ℕ, ◌+◌, Option, List, [], ◌∷◌, All, map, sum, refl, sym, ap, ◌∙◌, subst}
 use Rattle.std.specs.Io.KnownBytes.{Appends}
 use Rattle.std.specs.List.{sum_by}
 use Rattle.std.proofs.lemmas.List.Elements.{All-map}
+use Rattle.std.proofs.lemmas.List.Sums.{sum-map}
+use Rattle.std.proofs.lemmas.Simd.{map-map}
 use mathlib.Core.List.{IsPrefix}
 use Rattle.lv_geometry.specs.Bounds.{Bounds}
 use Rattle.lv_hub.specs.PlainSession.{Seen}
@@ -23,8 +25,9 @@ held_plainly limits (o ∷ olds) (n ∷ news) (s ∷ states) held =
 
 -- they made as many edits as they count
 made_so : (states : List SessionState) → counted_by states ≡ sum_by (λ (seen : Seen). seen.made) (map kept_by states)
-made_so [] = refl
-made_so (s ∷ states) = ap (λ n. s.count + n) (made_so states)
+made_so states =
+    let made : Seen → ℕ = λ seen. seen.made in
+    sym (sum-map (λ (s : SessionState). s.count) states) ∙ ap sum (sym (map-map made kept_by states)) ∙ sum-map made (map kept_by states)
 
 pub served_plainly : (limits : Bounds) (olds news : List Sides) (a b : Option (List ℕ)) → Served limits olds news a b → ServedPlainly limits olds news a b
 served_plainly limits olds news a b s =

@@ -1,10 +1,12 @@
 -- Each line of a board's session is answered as lists tell.
-use Rattle.std.proofs.Common.{◌≡◌, ◌⊎◌, ℕ, ℤ, pos, ◌+◌, ◌<◌, ◌≤◌, Bool, true, false, Option, Some, None, Result, Ok, Err, List, [], ◌∷◌, ◌++◌, length, nat_lt, ok_or, All, map, refl, sym, ap, ap₂, ◌∙◌, subst, inl, inr, arith}
+use Rattle.std.proofs.Common.{◌≡◌, ◌⊎◌, ℕ, ℤ, pos, ◌+◌, ◌<◌, ◌≤◌, Bool, true, false, Option, Some, None, Result, Ok, Err, List, [], ◌∷◌, ◌++◌, length, nat_lt, ok_or, sum, All, map, refl, sym, ap, ap₂, ◌∙◌, subst, inl, inr, arith}
 use Rattle.std.specs.List.{sum_by}
 use Rattle.std.specs.Prelude.{if◌then◌else◌}
-use Rattle.std.proofs.lemmas.Bool.{cases_Bool, cases_lt, cond-false, cond-true, ltb-true}
+use Rattle.std.proofs.lemmas.Bool.{cases_Bool, cases_lt, cond-false, cond-true, lt-ltb}
 use Rattle.std.proofs.lemmas.List.Elements.{All-map, All-weaker}
+use Rattle.std.proofs.lemmas.List.Sums.{sum-map}
 use Rattle.std.proofs.lemmas.Option.{slice_get-get_or}
+use Rattle.std.proofs.lemmas.Simd.{map-map}
 use Rattle.lv_geometry.specs.Bounds.{Bounds}
 use Rattle.lv_geometry.specs.declared.refusals.Refusal.{Refusal}
 use Rattle.lv_geometry.specs.declared.refusals.Refusal.TheVariants.{BadRange, Contended, OutOfRange, Overtaken, TooWide}
@@ -34,7 +36,7 @@ use Rattle.lv_machine.proofs.EndsLaws.{Ends-length, Ends-trans, Ends-whole}
 use Rattle.lv_machine.proofs.HistoryLaws.{length-edits_of}
 use Rattle.lv_lines.specs.declared.fault.Fault.{Fault}
 use Rattle.lv_lines.specs.Replies.{Conversed}
-use Rattle.lv_lines.specs.Texts.{answer_text, fresh_text, receipt_text, refused_text, size_text, value_text}
+use Rattle.lv_lines.specs.Texts.{answer_text, element_text, fresh_text, receipt_text, refused_text, size_text, value_text}
 use Rattle.lv_lines.proofs.Conversing.{conversed_as}
 use Rattle.lv_script.specs.declared.board_lines.BoardLine.{BoardLine}
 use Rattle.lv_script.specs.declared.board_lines.BoardLine.TheVariants.{Nothing, Bad, Do}
@@ -149,7 +151,7 @@ module _ {S : Type 0} (t : Terms) (o : Operations S) (kind : Kind) (shown : S �
 
   got : (a b : Actor) (i : ℕ) (text : List ℕ) (result : Result Read Refusal) → HasLooked t a b → GetAnswers i b result → text ≡ said_text kind 0 (said_shown shown (said_read result)) → PlainCall t.limits kind plain (sat_of a) (call.Get i) text (sat_of b)
   got a b i text (Ok read) looked answered is =
-      granted a b (call.Get i) text refl looked (ap missing answered.1) (is ∙ ap _ (sym answered.1))
+      granted a b (call.Get i) text refl looked (ap missing answered.1) (is ∙ ap element_text (sym answered.1))
   got a b i text (Err refusal) looked answered is =
       elim answered [
         | inl why ↦ refused a b (call.Get i) text refusal looked (ap missing why) is
@@ -191,7 +193,7 @@ module _ {S : Type 0} (t : Terms) (o : Operations S) (kind : Kind) (shown : S �
       elim (cases_lt hi lo) [
         | inl back ↦
             let told = ends.backwards back in
-            at_once a b (call.Reduce lo hi) text BadRange told.1 (cond-true (nat_lt hi lo) _ _ (ltb-true hi lo back)) (said ∙ ap (λ result. said_text kind 0 (said_shown shown (said_reduced result))) told.0)
+            at_once a b (call.Reduce lo hi) text BadRange told.1 (cond-true (nat_lt hi lo) _ _ (lt-ltb hi lo back)) (said ∙ ap (λ result. said_text kind 0 (said_shown shown (said_reduced result))) told.0)
         | inr order ↦ reduced a b lo hi text ends.result (ends.looked order) (ends.answered order) said
       ]
   call_plain a b (call.Refresh n) text end ends is = refreshed a b n text ends.result ends.looked ends.answered (is ∙ ap (λ end. said_text kind n (said_shown shown end)) ends.end_is)
@@ -212,11 +214,16 @@ module _ {S : Type 0} (t : Terms) (o : Operations S) (kind : Kind) (shown : S �
       let came = conversed_as (λ x s. s ≡ sat_of x) (record { moves = step_plain }) a (sat_of a) b k l u v result refl c in
       subst (λ s. Conversed (PlainBoardStep t.limits kind plain) (sat_of a) s k l u v result) came.1 came.2
 
+-- what is so of a board and two moments of a seat is so of what they are
+pub at_these : {A B : Type 0} {a b : A} {s t u v : B} → a ≡ b → s ≡ t → u ≡ v → (P : A → B → B → Type 0) → P a s u → P b t v
+at_these {b = b} {s = s} {t = t} {u = u} {v = v} e f g P holds = subst (λ x. P b t x) g (subst (λ x. P b x u) f (subst (λ x. P x s u) e holds))
+
 -- ---- the close
 
 made_so : {B : Type 0} (seats : List (Seat B)) → sum_by made_by seats ≡ sum_by (λ (s : Sat). length (own s.number s.history)) (map (λ seat. sat_of (actor_of seat)) seats)
-made_so [] = refl
-made_so (s ∷ seats) = ap (λ n. made_by s + n) (made_so seats)
+made_so seats =
+    let made : Sat → ℕ = λ s. length (own s.number s.history) in
+    sym (sum-map made_by seats) ∙ ap sum (sym (map-map made (λ seat. sat_of (actor_of seat)) seats)) ∙ sum-map made (map (λ seat. sat_of (actor_of seat)) seats)
 
 pub closed_plain : {B : Type 0} (t : Terms) (seats : List (Seat B)) (closed : Closed) (c : IsClosed t seats closed) → IsOneHistory c.history (map (λ seat. sat_of (actor_of seat)) seats)
 closed_plain t seats closed c = record {

@@ -4,10 +4,10 @@ use Rattle.std.proofs.lemmas.Int.{ints}
 use Rattle.lv_bodies.specs.Parts.{IsShort}
 use Rattle.lv_machine.specs.Machine.{is_short}
 
-short_is : (x : ℤ) → is_short x ≡ true → IsShort x
+pub short_is : (x : ℤ) → is_short x ≡ true → IsShort x
 short_is x is = grind (arith, ints)
 
-wide_is : (x : ℤ) → is_short x ≡ false → ¬ IsShort x
+pub wide_is : (x : ℤ) → is_short x ≡ false → ¬ IsShort x
 wide_is x is = λ short. grind (arith, ints)
 
 -- the number that was tested is the one that was given
