@@ -5,4 +5,4 @@ use Rattle.livevec.proofs.serving.hold.Goals as goal
 pub returns-in-Ok : goal.returns-in-Ok
 returns-in-Ok g c =
     let told = c.in-Ok.ensures.conversed in
-    rw (← c.task.view_is) (ended_so g.N.Naming.limits _ _ told.0 _ _ _ _ c.in-Ok.claims told.1 told.2 told.3 told.4)
+    rw (← c.task.view_is, c.new.ensures) (ended_so g.N.Naming.limits _ _ told.0 _ _ _ _ c.in-Ok.claims told.1 told.2 told.3 told.4)

@@ -22,12 +22,12 @@ loop-session-preserved g c =
     let both : AreTogether c.loop-session.share c.in-Some.session.share c.join.new.self =
     subst (λ share. AreTogether c.loop-session.share share c.join.new.self) (ap (λ e. e.share) came) c.join.ensures in
     let appended : is_ok c.push.result ≡ true = search rules in
-    let pushed : is_ok c.push-2.result ≡ true = search rules in (
+    let pushed : is_ok c.push-in-loop-session.result ≡ true = search rules in (
       tt,
       tt,
       takes_next _ c.args.share.now c.loop-session.share c.join.new.self c.loop-session.yielded (in_a_row c.loop-session.claims.items) more _ c.loop-session.streams.items _ c.session.inside.streams c.in-Some.session
           c.loop-session.invariant.2 both some (sym (ap (λ e. e.share.parts) came) ∙ c.session.invariant.0) true_so
-          (ap in_a_row (rw appended at c.push.ensures.items) ∙ row_push c.loop-session.claims.items more) (rw pushed at c.push-2.ensures.items) (ap (λ e. e.sides) came),
+          (ap in_a_row (rw appended at c.push.ensures.items) ∙ row_push c.loop-session.claims.items more) (rw pushed at c.push-in-loop-session.ensures.items) (ap (λ e. e.sides) came),
     )
 
 pub returns-clause-back : goal.returns-clause-back
