@@ -5,6 +5,6 @@ pub returns-in-Ok-write_closed-clause-served : goal.returns-in-Ok-write_closed-c
 returns-in-Ok-write_closed-clause-served g c =
     rw c.requires.limits (served_so g.N.Naming.limits _ _ _ _ c.in-Ok.ensures.held _ _ _ c.in-Ok-write_closed.ensures.written)
 
-pub returns-in-Err-write_closed-clause-failed : goal.returns-in-Err-write_closed-clause-failed
-returns-in-Err-write_closed-clause-failed g c =
+pub returns-in-Ok-clause-failed : goal.returns-in-Ok-clause-failed
+returns-in-Ok-clause-failed g c =
     rw c.requires.limits (failed_so g.N.Naming.limits _ _ _ _ c.in-Ok.ensures.held _ _ _ c.in-Err-write_closed.ensures.failed)
