@@ -1,10 +1,20 @@
-//! The vector as one crate: what a program that uses it names, each from the crate that has it.
+//! The vector as one crate: what a program that uses it names, each from the crate that has it. `CALLING.md` tells which call promises
+//! what.
 #![tactic(auto)]
 
-pub use lv_bodies::{Affine, Automaton, Best, Body, Greatest, Kind, Least, Six, Sum, fold_slice};
+pub mod board;
+pub mod hub;
+
+pub use lv_bodies::{
+    Affine, Automaton, Best, Body, Greatest, Kind, Least, Pair, Shown, Six, SixSummary, Sum,
+    fold_slice,
+};
 pub use lv_edits::{Edit, Receipt};
-pub use lv_geometry::{Limits, Refusal};
-pub use lv_live::Live;
-pub use lv_reduce::{Answer, Scan};
+pub use lv_geometry::{Limits, Node, Refusal};
+pub use lv_kinds::{KindAnswer, Kinds};
+pub use lv_live::{Live, answers_are_plain, refresh_changes_no_answer, refusals_change_nothing};
+pub use lv_reduce::{Answer, Reads, Scan};
 pub use lv_refresh::{Job, Outcome};
+pub use lv_standing::{Answered, Name, Note, Standing};
 pub use lv_summary::Accepted;
+pub use lv_where::{Placed, Run, best_run, first_greatest, first_least, reaches};
