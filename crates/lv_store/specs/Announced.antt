@@ -1,9 +1,9 @@
 -- What announcements make of a store: of each edit the writes that it announced, if it did.
-use Rattle.std.specs.Prelude.{◌≡◌, ℕ, ℤ, pos, ◌+◌, Option, Bool, false, List, length, fold, slice_get, if◌then◌else◌}
+use Rattle.std.specs.Prelude.{◌≡◌, ℕ, ℤ, pos, ◌+◌, Option, Some, None, Bool, false, List, [], ◌∷◌, length, fold, slice_get, if◌then◌else◌}
 use Rattle.std.specs.List.{range_with_len}
 use Rattle.std.specs.Option.{option_map_or}
 use Rattle.lv_store.specs.declared.descriptors.Writes.{Writes}
-use Rattle.lv_store.specs.State.{StoreState, are_in, block_version, value_in, written_by}
+use Rattle.lv_store.specs.State.{StoreState, are_in, block_version, value_in, writes_of, written_by}
 
 -- what edits announced, in order
 abbrev pub Announcements : Type 0
@@ -27,3 +27,8 @@ pub record Shows (s : StoreState) (announced : Announcements) : Type 0 where
   pub edit : s.descriptor.edit ≡ length announced
   pub values : (i : ℕ) → value_in s i ≡ last_value announced i
   pub versions : (block : ℕ) → block_version s block ≡ last_version announced block
+
+-- what pushes announce: each of some values at its index, the first at this one
+abbrev pub pushes_at : ℕ → List ℤ → Announcements
+pushes_at i [] = []
+pushes_at i (x ∷ xs) = writes_of (Some (i, x)) None ∷ pushes_at (i + 1) xs

@@ -1,5 +1,5 @@
 -- A two-level array: how many buckets are open, and what is in their cells, by index.
-use Rattle.std.specs.Prelude.{ℕ, ◌+◌, ◌-◌, ◌*◌, ◌^◌, ◌++◌, List, max, take, replicate, slice_set}
+use Rattle.std.specs.Prelude.{ℕ, ◌+◌, ◌-◌, ◌*◌, ◌^◌, ◌++◌, List, [], ◌∷◌, max, take, replicate, slice_set}
 use Rattle.lv_geometry.specs.Cells.{capacity_of}
 
 -- the open buckets, and the cells of all of them, those of the first bucket first
@@ -26,3 +26,8 @@ first_buckets c buckets = record { buckets = buckets; cells = take (capacity_of 
 -- another value in the cell of an index
 abbrev pub with_cell : {T : Type 0} → Cells T → ℕ → T → Cells T
 with_cell c i x = record c { cells = slice_set c.cells i x }
+
+-- values, one after another, in the places from an index on
+abbrev pub with_run : {T : Type 0} → List T → ℕ → List T → List T
+with_run cells i [] = cells
+with_run cells i (x ∷ xs) = with_run (slice_set cells i x) (i + 1) xs

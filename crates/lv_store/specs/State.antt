@@ -1,5 +1,5 @@
 -- What a store holds, and what it answers, by index and by block.
-use Rattle.std.specs.Prelude.{◌≡◌, ℕ, ℤ, pos, ◌+◌, ◌*◌, ◌/◌, ◌^◌, Option, Some, None, Bool, false, ◌||◌, List, [], ◌++◌, ◌-◌, map, max, replicate, slice_index, slice_set, nat_eq, if◌then◌else◌}
+use Rattle.std.specs.Prelude.{◌≡◌, ℕ, ℤ, pos, ◌+◌, ◌*◌, ◌/◌, ◌^◌, Option, Some, None, Bool, false, ◌||◌, List, [], ◌∷◌, ◌++◌, ◌-◌, map, max, replicate, slice_index, slice_set, nat_eq, if◌then◌else◌}
 use Rattle.std.specs.List.{range_with_len, slice_index_or}
 use Rattle.std.specs.Option.{option_map_or}
 use Rattle.lv_geometry.specs.Bounds.{Bounds}
@@ -89,6 +89,11 @@ abbrev pub with_version : Option (ℕ × ℤ) → ℕ → List ℕ → List ℕ
 with_version None edit versions = versions
 with_version (Some write) edit versions = slice_set versions (write.0 / 8) edit
 
+-- versions after so many edits and then one more for each of some values, the first at this index
+abbrev pub with_versions : List ℕ → ℕ → ℕ → List ℤ → List ℕ
+with_versions versions i edit [] = versions
+with_versions versions i edit (x ∷ xs) = with_versions (slice_set versions (i / 8) (edit + 1)) (i + 1) (edit + 1) xs
+
 -- the store with the writes, if there are any, of the last edit in their cells, its number for their blocks, and none pending
 abbrev pub completed : StoreState → Option Writes → StoreState
 completed s None = s
@@ -102,6 +107,15 @@ completed s (Some writes) =
 -- the store with what is pending in its cells
 abbrev pub settled : StoreState → StoreState
 settled s = completed s s.descriptor.pending
+
+-- the store after one more edit, which announces a value at the end and is completed
+abbrev pub pushed : StoreState → ℤ → StoreState
+pushed s x = settled (announced s (Some (s.descriptor.size, x)) None (s.descriptor.size + 1))
+
+-- the store after such an edit for each of some values, in order
+abbrev pub pushed_all : StoreState → List ℤ → StoreState
+pushed_all s [] = s
+pushed_all s (x ∷ xs) = pushed_all (pushed s x) xs
 
 -- buckets were opened until so many cells are open, if they weren't; what they hold was never written, and nothing else has changed
 pub record Opens (old new : StoreState) (cells : ℕ) : Type 0 where

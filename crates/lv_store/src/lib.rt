@@ -8,6 +8,7 @@
 
 mod descriptors;
 mod directories;
+mod pushing;
 mod stores;
 
 pub use descriptors::{Descriptor, Writes};

@@ -1,12 +1,14 @@
-ghost use Rattle.std.specs.Prelude.{◌≡◌, ◌≢◌, ℕ, ℤ, ◌+◌, ◌*◌, ◌/◌, ◌<◌, ◌≤◌, None, [], ◌∷◌, ◌++◌, length, map, replicate, true, OnOk, OnErr, IfErr, IfSome, IsSomeAnd, vec_capacity, vec_len};
+ghost use Rattle.std.specs.Prelude.{All, ◌≡◌, ◌≢◌, ℕ, ℤ, ◌+◌, ◌*◌, ◌/◌, ◌<◌, ◌≤◌, None, [], ◌∷◌, ◌++◌, length, map, replicate, true, OnOk, OnErr, IfErr, IfSome, IsSomeAnd, vec_capacity, vec_len};
 ghost use Rattle.std.specs.List.{range_with_len};
 ghost use Rattle.lv_geometry.specs.Cells.{capacity_of};
-ghost use Rattle.lv_store.specs.Announced.{Announcements, Shows};
+ghost use Rattle.lv_geometry.specs.Elements.{IsElement};
+ghost use Rattle.lv_store.specs.Announced.{Announcements, Shows, pushes_at};
 ghost use Rattle.lv_store.specs.Inner.{EndsBefore, IsStore};
-ghost use Rattle.lv_store.specs.State.{Opens, announced, are_at, are_in, block_version, empty_store, indices_of, is_at, is_in, settled, value_in, with_element, with_version, writes_of, written};
+ghost use Rattle.lv_store.specs.State.{Opens, announced, are_at, are_in, block_version, empty_store, indices_of, is_at, is_in, pushed_all, settled, value_in, with_element, with_version, writes_of, written};
 
 use crate::descriptors::{Descriptor, Writes};
 use crate::directories::Directory;
+use crate::pushing::put_all;
 use lv_geometry::{Limits, Refusal, buckets_for, capacity};
 use std::alloc::Global;
 use std::marker::Model;
@@ -92,6 +94,25 @@ impl Store {
             edit: self.descriptor.edit + 1,
             size,
             pending: writes_of(first, second),
+        };
+    }
+
+    /// As many edits as there are values, each of which announces the next of them at the end and is completed at once.
+    pub fn push_all(&mut self, values: &[i64])
+        requires settled { self.old.descriptor.pending ≡ None }
+        requires edits { self.old.descriptor.edit + length values.now ≤ self.old.limits.edits }
+        requires room { self.old.descriptor.size + length values.now ≤ capacity_of self.old.buckets }
+        ensures state { self.new ≡ pushed_all self.old values.now }
+        ensures elements { All IsElement values.now }
+        ensures shows { (all : Announcements) → Shows self.old all → Shows self.new (all ++ pushes_at self.old.descriptor.size values.now) }
+        ensures sound { IsStore self.new }
+    {
+        let Descriptor { edit, size, .. } = self.descriptor;
+        put_all(&mut self.values, &mut self.versions, edit, size, values);
+        self.descriptor = Descriptor {
+            edit: edit + values.len() as u32,
+            size: size + values.len() as u32,
+            pending: None,
         };
     }
 
