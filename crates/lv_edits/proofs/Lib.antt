@@ -1,5 +1,7 @@
 pub mod CapacityLaws
 pub mod HistoryLaws
 pub mod HoldsLaws
+pub mod HoldsPushes
 pub mod TouchLaws
+pub mod PushLaws
 pub mod Slices

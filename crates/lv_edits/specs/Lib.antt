@@ -2,5 +2,6 @@ pub mod Capacity
 pub mod History
 pub mod Inner
 pub mod Kept
+pub mod Pushes
 pub mod Touch
 pub mod Verdict

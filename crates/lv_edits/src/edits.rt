@@ -3,10 +3,12 @@ ghost use Rattle.std.specs.List.{slice_index_or, slice_range};
 ghost use Rattle.lv_edits.specs.Capacity.{capacity_after, IsCapacityAfter};
 ghost use Rattle.lv_edits.specs.History.{History, list_of};
 ghost use Rattle.lv_edits.specs.Kept.{IsLegalInLimits};
+ghost use Rattle.lv_edits.specs.Pushes.{AnswersAll, verdict_of_pushes};
 ghost use Rattle.lv_edits.specs.Verdict.{Answers, element_at, verdict_of};
 
 use crate::edit::Edit;
 use crate::making::make_edit;
+use crate::pushing::make_pushes;
 use crate::receipt::Receipt;
 use lv_geometry::{Limits, Refusal, capacity};
 use lv_store::Store;
@@ -116,6 +118,35 @@ impl Edits {
         ensures limits { IsLegalInLimits self.new }
     {
         make_edit(&mut self.store, &mut self.journal, edit)
+    }
+
+    /// Pushes values in order, all of them or none, and tells the number of the last edit. Refused as the first push that would be
+    /// refused, with `Worn` or `Full`, then with `NoMemory`: nothing has changed then.
+    pub fn push_all(&mut self, values: &[i64]) -> Result<u32, Refusal>
+        ensures answer { AnswersAll self.old values.now result self.new }
+        ensures limits { IsLegalInLimits self.new }
+    {
+        let _ = &self.store;
+        match self.verdict_of_pushes(values) {
+            Some(refusal) => Err(refusal),
+            None => make_pushes(&mut self.store, &mut self.journal, values),
+        }
+    }
+
+    /// The refusal of the first push that would be refused, of pushes one after another, want of memory apart, or none.
+    pub fn verdict_of_pushes(&self, values: &[i64]) -> Option<Refusal>
+        ensures { result ≡ verdict_of_pushes self.now values.now }
+    {
+        let limits = self.store.limits();
+        let edits = limits.edits() - self.edit();
+        let cells = limits.capacity() - self.size();
+        if values.len() <= edits.min(cells) as usize {
+            None
+        } else if edits <= cells {
+            Some(Refusal::Worn)
+        } else {
+            Some(Refusal::Full)
+        }
     }
 
     /// The first refusal that applies to an edit, want of memory apart, or none.

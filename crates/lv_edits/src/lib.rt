@@ -8,6 +8,7 @@
 mod edit;
 mod edits;
 mod making;
+mod pushing;
 mod receipt;
 
 pub use edit::Edit;

@@ -1,4 +1,4 @@
-ghost use Rattle.std.specs.Prelude.{◌≡◌, ℕ, ◌<◌, ◌≤◌, max, None, [], ◌∷◌, ◌++◌, OnOk, OnErr, IfErr, vec_len, vec_capacity};
+ghost use Rattle.std.specs.Prelude.{◌≡◌, ℕ, ◌+◌, ◌<◌, ◌≤◌, max, None, [], ◌∷◌, ◌++◌, OnOk, OnErr, IfErr, vec_len, vec_capacity};
 ghost use Rattle.lv_geometry.specs.Cells.{AreFewest, capacity_of};
 ghost use Rattle.lv_store.specs.Inner.{IsStore};
 ghost use Rattle.lv_store.specs.State.{AreAlike};
@@ -37,7 +37,7 @@ fn make_push(store: &mut Store, journal: &mut Vec<Edit>, x: i64) -> Result<Recei
     ensures held { HoldsReplay store.new journal.new.items }
 {
     let index = store.size();
-    make_room(store, journal, index + 1)?;
+    make_room(store, journal, 1, index + 1)?;
     store.announce(Some((index, x)), None, index + 1);
     append(journal, Edit::Push(x));
     Ok(Receipt::Pushed {
@@ -55,7 +55,7 @@ fn make_pop(store: &mut Store, journal: &mut Vec<Edit>) -> Result<Receipt, Refus
 {
     let last = store.size() - 1;
     let value = store.read(last);
-    make_room(store, journal, 0)?;
+    make_room(store, journal, 1, 0)?;
     store.announce(None, None, last);
     append(journal, Edit::Pop);
     Ok(Receipt::Popped {
@@ -77,7 +77,7 @@ fn make_write(
     ensures held { HoldsReplay store.new journal.new.items }
 {
     let before = store.read(index);
-    make_room(store, journal, 0)?;
+    make_room(store, journal, 1, 0)?;
     let size = store.size();
     store.announce(Some((index, value)), None, size);
     append(journal, Edit::Write { index, value });
@@ -94,7 +94,7 @@ fn make_reserve(store: &mut Store, journal: &mut Vec<Edit>, cells: u32) -> Resul
     ensures answer { Answers (history_of store.old journal.old.items) (Edit.Reserve cells) result (history_of store.new journal.new.items) }
     ensures held { HoldsReplay store.new journal.new.items }
 {
-    make_room(store, journal, cells)?;
+    make_room(store, journal, 1, cells)?;
     let size = store.size();
     store.announce(None, None, size);
     append(journal, Edit::Reserve(cells));
@@ -118,7 +118,7 @@ fn make_swap(
 {
     let before = store.read(first);
     let after = store.read(second);
-    make_room(store, journal, 0)?;
+    make_room(store, journal, 1, 0)?;
     let other = write_at_second(first, second, before);
     let size = store.size();
     store.announce(Some((first, after)), other, size);
@@ -138,7 +138,7 @@ fn make_truncate(store: &mut Store, journal: &mut Vec<Edit>, count: u32) -> Resu
     ensures held { HoldsReplay store.new journal.new.items }
 {
     let size = store.size();
-    make_room(store, journal, 0)?;
+    make_room(store, journal, 1, 0)?;
     store.announce(None, None, count);
     append(journal, Edit::Truncate(count));
     Ok(Receipt::Truncated {
@@ -147,8 +147,13 @@ fn make_truncate(store: &mut Store, journal: &mut Vec<Edit>, count: u32) -> Resu
     })
 }
 
-// Completes the write that is pending, and makes room for one more edit, then for so many cells. Changes no element.
-fn make_room(store: &mut Store, journal: &mut Vec<Edit>, cells: u32) -> Result<(), Refusal>
+/// Completes the write that is pending, and makes room for so many more edits, then for so many cells. Changes no element.
+pub fn make_room(
+    store: &mut Store,
+    journal: &mut Vec<Edit>,
+    edits: usize,
+    cells: u32,
+) -> Result<(), Refusal>
     requires few { cells ≤ capacity_of store.old.limits.buckets }
     requires sound { IsStore store.old }
     ensures alike { AreAlike store.old store.new }
@@ -158,11 +163,11 @@ fn make_room(store: &mut Store, journal: &mut Vec<Edit>, cells: u32) -> Result<(
     ensures enough { OnOk result (cells ≤ capacity_of store.new.buckets) }
     ensures closed { OnErr result (store.new.buckets ≡ store.old.buckets) }
     ensures journal { journal.new.items ≡ journal.old.items }
-    ensures edit { OnOk result (vec_len journal.new < vec_capacity journal.new) }
+    ensures edits { OnOk result (vec_len journal.new + edits ≤ vec_capacity journal.new) }
     ensures err { IfErr result (λ refusal. refusal ≡ Refusal.NoMemory) }
 {
     store.settle();
-    if journal.reserve(1).is_err() {
+    if journal.reserve(edits).is_err() {
         return Err(Refusal::NoMemory);
     }
     if cells <= capacity(store.buckets()) {

@@ -1,4 +1,4 @@
-use Rattle.std.proofs.Common.{◌≡◌, ℕ, ◌<◌, ◌∙◌, ap, sym, arith, false, max, None, Ok, Err, OnOk, OnErr, Result}
+use Rattle.std.proofs.Common.{◌≡◌, ℕ, ◌+◌, ◌≤◌, ◌∙◌, ap, sym, arith, false, max, None, Ok, Err, OnOk, OnErr, Result}
 use Rattle.std.specs.Result.{is_err}
 use Rattle.std.specs.Vec.{vec_len, vec_capacity}
 use Rattle.lv_geometry.specs.Cells.{AreFewest}
@@ -77,7 +77,7 @@ returns-clause-closed c =
     let state = c.settle.ensures.state in
     (readied _ _ _ _ c.requires.sound (rw state at c.open_to.ensures.ok) (rw state at c.open_to.ensures.unchanged)).closed
 
-pub returns-clause-edit : goal.returns-clause-edit
-returns-clause-edit c =
+pub returns-clause-edits : goal.returns-clause-edits
+returns-clause-edits c =
     let room = kept_where_no_err c.reserve.result _ (sym c.is_err.ensures.value ∙ c.if-is_err.false) c.reserve.ensures.ok in
-    kept_where_ok c.open_to.result (vec_len c.reserve.new.self < vec_capacity c.reserve.new.self) (omega (arith, room))
+    kept_where_ok c.open_to.result (vec_len c.reserve.new.self + c.args.edits ≤ vec_capacity c.reserve.new.self) (omega (arith, room))
