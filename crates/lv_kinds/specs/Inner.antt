@@ -6,6 +6,7 @@ use Rattle.lv_geometry.specs.declared.nodes.Node.{Node}
 use Rattle.lv_geometry.specs.declared.levels.Levels.{Levels}
 use Rattle.lv_geometry.specs.Levels.{thing_at}
 use Rattle.lv_geometry.specs.Nodes.{covers, is_node}
+use Rattle.lv_kinds.specs.Kinds.{KindsState}
 use Rattle.lv_kinds.specs.NodeRows.{NodeRowsState, value_at}
 
 -- values of six levels
@@ -36,3 +37,12 @@ pub record ClearsEach {T : Type 0} (old new : NodeRowsState T) (indices : List �
   pub blank : new.blank ≡ old.blank
   pub values : (n : Node) → value_at new n ≡ (if is_node n && list_any (covers n) indices then old.blank else value_at old n)
   pub blocks : new.blocks ≡ old.blocks
+
+-- the automaton's rows are grown last: each other kind has memory for no fewer blocks, and so have the bytes
+pub record GrowsStatesLast (s : KindsState) : Type 0 where
+  pub flags : s.states.blocks ≤ s.flags.blocks
+  pub sums : s.states.blocks ≤ s.sums.blocks
+  pub least : s.states.blocks ≤ s.least.blocks
+  pub greatest : s.states.blocks ≤ s.greatest.blocks
+  pub best : s.states.blocks ≤ s.best.blocks
+  pub maps : s.states.blocks ≤ s.maps.blocks

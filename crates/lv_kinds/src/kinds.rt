@@ -42,11 +42,14 @@ pub struct Kinds {
 }
 
 impl Model for Kinds {
+    ghost use Rattle.lv_kinds.specs.Inner.{GrowsStatesLast};
     ghost use Rattle.lv_kinds.specs.Kinds.{KindsState};
 
     ghost Value = { KindsState };
 
     ghost view = { λ a. record { flags = a.flags; sums = a.sums; least = a.least; greatest = a.greatest; best = a.best; maps = a.maps; states = a.states } };
+
+    ghost invariant = { λ a. GrowsStatesLast record { flags = a.flags; sums = a.sums; least = a.least; greatest = a.greatest; best = a.best; maps = a.maps; states = a.states } };
 }
 
 /// The number of the last edit, and the summary of a range by a kind.
@@ -82,6 +85,10 @@ impl Kinds {
     {
         // Memory is made for 64 blocks at once, so that most pushes make none.
         let blocks = (size.div_ceil(512) * 64).min(131_071);
+        // The automaton's rows are grown last: where there is room for them, there is for all.
+        if blocks <= self.states.blocks() {
+            return Ok(());
+        }
         self.flags.grow(blocks)?;
         self.sums.grow(blocks)?;
         self.least.grow(blocks)?;

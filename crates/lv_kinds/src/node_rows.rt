@@ -1,4 +1,4 @@
-ghost use Rattle.std.specs.Prelude.{◌≡◌, ℕ, drop, length, IfSome, ◌+◌, ◌-◌, ◌*◌, ◌^◌, ◌<◌, ◌≤◌, ◌++◌, true, nat_eq, replicate, OnOk, IfErr, vec_capacity, vec_len, if◌then◌else◌};
+ghost use Rattle.std.specs.Prelude.{◌≡◌, ◌⊎◌, ℕ, drop, length, IfSome, ◌+◌, ◌-◌, ◌*◌, ◌^◌, ◌<◌, ◌≤◌, ◌++◌, true, nat_eq, replicate, OnOk, IfErr, vec_capacity, vec_len, if◌then◌else◌};
 ghost use Rattle.std.specs.List.{slice_index_or};
 ghost use Rattle.lv_geometry.specs.Nodes.{child, is_below, is_node};
 ghost use Rattle.lv_kinds.specs.Inner.{HaveMemory, HaveSameItems};
@@ -54,6 +54,7 @@ impl<T: Copy> NodeRows<T> {
         requires { blocks ≤ 131071 }
         ensures same { HasSameValues self.old self.new }
         ensures ok { OnOk result (blocks ≤ self.new.blocks) }
+        ensures either { (self.new.blocks ≡ self.old.blocks) ⊎ (self.new.blocks ≡ blocks) }
         ensures err { IfErr result (λ refusal. refusal ≡ Refusal.NoMemory) }
     {
         if blocks <= self.blocks {
