@@ -182,6 +182,12 @@ at_seam [] back i h = ap (slice_get back) (sym h)
 at_seam (x ∷ front) back zero h = absurd (omega (arith, h))
 at_seam (x ∷ front) back (suc i) h = at_seam front back i (omega (arith, h))
 
+-- and before that index what comes is in the front
+pub at_front : {A : Type 0} (front back : List A) (j : ℕ) → j < length front → slice_get (front ++ back) j ≡ slice_get front j
+at_front [] back j h = absurd (omega (arith, h))
+at_front (x ∷ front) back zero h = refl
+at_front (x ∷ front) back (suc j) h = at_front front back j (omega (arith, h))
+
 -- a value written there changes that entry alone
 pub set_at_seam : (front back : List (List ℕ × Watch)) (e : List ℕ × Watch) (i : ℕ) (w : Watch) → length front ≡ i → set_value_at (front ++ e ∷ back) i w ≡ front ++ (e.0, w) ∷ back
 set_at_seam [] back e zero w h = refl

@@ -11,12 +11,12 @@ use Rattle.lv_standing.specs.declared.changes.Changed.{Changed}
 use Rattle.lv_standing.specs.declared.watches.Watch.{Watch}
 use Rattle.lv_standing.specs.Queries.{AreNotes, Query, watch_answer}
 use Rattle.lv_kinds.specs.declared.kind_summaries.KindSummary.{KindSummary}
-use Rattle.lv_standing.specs.Inner.{IsNoted, IsToldAt, SameElsewhere, asked, has_changed, refreshed}
+use Rattle.lv_standing.specs.Inner.{AreTold, IsNoted, IsToldAt, SameElsewhere, asked, has_changed, refreshed}
 use Rattle.lv_kinds.specs.KindSummaries.{kind_of, shown_of, summary_of}
 use Rattle.lv_standing.specs.Standings.{IsCurrent, queries_of, query_at, summary_at}
 use Rattle.lv_geometry.proofs.Ranges.{there_is}
 use Rattle.lv_kinds.proofs.KindLaws.{shown_is_plain}
-use Rattle.lv_standing.proofs.EntryLaws.{asked_more, at_seam, front_is, rest_is, set_at_seam, set_same}
+use Rattle.lv_standing.proofs.EntryLaws.{all_at, all_refreshed, asked_more, at_front, at_seam, front_is, rest_is, set_at_seam, set_same}
 
 module _ (old new : List Edit) where
   -- the notes of some queries and those of one more are the notes of all
@@ -120,6 +120,14 @@ module _ (new : List Edit) (all current : List (List ℕ × Watch)) (i : ℕ) (i
   pub as_long : length current ≡ length all
   as_long =
       omega (arith, ap length so_far, length-append (map (refreshed new) (take i all)) (drop i all), length-map (take i all) (refreshed new), length-take-le i all (omega arith), length-drop i all)
+
+  -- each entry before it keeps the summary of its range
+  pub are_told : AreTold new current i
+  are_told j before e at =
+      let front = map (refreshed new) (take i all) in
+      let long : length front ≡ i = length-map (take i all) (refreshed new) ∙ length-take-le i all (omega arith) in
+      let here = at_front front (drop i all) j (omega (arith, before, long)) in
+      all_at (IsCurrent new) front j e (all_refreshed new (take i all)) (sym here ∙ ap (λ es. slice_get es j) (sym so_far) ∙ at)
 
 -- all edits but the last
 pub before_last : (edits : List Edit) (edit : Edit) → take (length (edits ++ edit ∷ []) - 1) (edits ++ edit ∷ []) ≡ edits

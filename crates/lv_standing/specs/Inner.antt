@@ -1,17 +1,18 @@
 -- What the code of standing queries passes on from one to the next: which indices an edit changed, and what that makes of the entries.
-use Rattle.std.specs.Prelude.{◌≡◌, ◌≢◌, ◌⊎◌, ◌≤◌, ℕ, ℤ, Bool, ◌&&◌, ◌||◌, max, min, Option, Some, None, false, List, [], ◌∷◌, ◌+◌, ◌-◌, length, filter, nat_eq, nat_le, nat_lt, if◌then◌else◌, ◌++◌, slice_get}
+use Rattle.std.specs.Prelude.{◌≡◌, ◌≢◌, ◌⊎◌, ◌<◌, ◌≤◌, ℕ, ℤ, Bool, ◌&&◌, ◌||◌, max, min, Option, Some, None, false, List, [], ◌∷◌, ◌+◌, ◌-◌, length, filter, nat_eq, nat_le, nat_lt, if◌then◌else◌, ◌++◌, slice_get}
 use Rattle.std.specs.List.{slice_range}
 use Rattle.indexmap.specs.IndexMap.{set_value_at}
 use Rattle.lv_bodies.specs.declared.kinds.Shown.{Shown}
 use Rattle.lv_edits.specs.declared.edit.Edit.{Edit}
 use Rattle.lv_edits.specs.declared.edit.Edit.TheVariants.{Push, Pop, Write, Reserve, Swap, Truncate}
 use Rattle.lv_edits.specs.History.{list_of}
+use Rattle.lv_kinds.specs.KindSummaries.{kind_of}
 use Rattle.lv_standing.specs.declared.changes.Changed.{Changed}
 use Rattle.lv_standing.specs.declared.changes.Changed.TheVariants.{Nothing, One, Two, Between}
 use Rattle.lv_standing.specs.declared.watches.Watch.{Watch}
 use Rattle.lv_standing.specs.declared.notes.Note.{Note}
 use Rattle.lv_standing.specs.Queries.{AreNotes}
-use Rattle.lv_standing.specs.Standings.{query_at, summary_at}
+use Rattle.lv_standing.specs.Standings.{IsCurrent, query_at, summary_at}
 
 -- the entry with the summary after these edits
 abbrev pub refreshed : List Edit → List ℕ × Watch → List ℕ × Watch
@@ -70,6 +71,14 @@ SameElsewhere changed old new = (lo hi : ℕ) → has_changed lo hi changed ≡ 
 -- the entry at an index, whatever there is, meets a claim
 abbrev pub AtIndex : List (List ℕ × Watch) → ℕ → (List ℕ × Watch → Type 0) → Type 0
 AtIndex entries i P = (e : List ℕ × Watch) → slice_get entries i ≡ Some e → P e
+
+-- each entry before an index keeps the summary of its range after these edits
+abbrev pub AreTold : List Edit → List (List ℕ × Watch) → ℕ → Type 0
+AreTold edits entries i = (j : ℕ) → j < i → AtIndex entries j (IsCurrent edits)
+
+-- two watches have one range and one kind
+abbrev pub IsAlike : Watch → Watch → Type 0
+IsAlike a b = (a.lo ≡ b.lo) × (a.hi ≡ b.hi) × (kind_of a.summary ≡ kind_of b.summary)
 
 -- there is a note of a value where it is another than before, and else none
 abbrev pub IsNoted : List ℕ → Shown → Shown → List Note → List Note → Type 0

@@ -1,4 +1,4 @@
-ghost use Rattle.std.specs.Prelude.{◌≡◌, ℤ, IfSome, Some, map, slice_get, ◌+◌, ◌<◌, ◌≤◌, List, ◌∷◌, [], ◌++◌, length, vec_capacity, vec_len};
+ghost use Rattle.std.specs.Prelude.{◌≡◌, ◌↔◌, ℤ, IsTrue, IfSome, Some, map, slice_get, ◌+◌, ◌<◌, ◌≤◌, List, ◌∷◌, [], ◌++◌, length, vec_capacity, vec_len};
 ghost use Rattle.std.specs.List.{AllByRecursion, slice_range};
 ghost use Rattle.indexmap.specs.IndexMap.{index_map_len, set_value_at};
 ghost use Rattle.lv_bodies.specs.Body.{CanFold};
@@ -9,7 +9,7 @@ ghost use Rattle.lv_edits.specs.Kept.{IsLegalInLimits};
 ghost use Rattle.lv_kinds.specs.Kinds.{AreKept};
 ghost use Rattle.lv_kinds.specs.KindSummaries.{kind_of, summary_of};
 ghost use Rattle.lv_standing.specs.Queries.{AreNotes};
-ghost use Rattle.lv_standing.specs.Inner.{AtIndex, IsNoted, IsPushed, IsToldAt, SameElsewhere, asked, has_changed, has_index, refreshed};
+ghost use Rattle.lv_standing.specs.Inner.{AreTold, AtIndex, IsAlike, IsNoted, IsPushed, IsToldAt, SameElsewhere, asked, has_changed, has_index, refreshed};
 ghost use Rattle.lv_standing.specs.Standings.{IsCurrent, StillKept, queries_of, summary_at};
 
 use crate::asking::ask_inside;
@@ -40,6 +40,14 @@ impl Watch {
             Changed::Two(i, j) => self.has_index(i) || self.has_index(j),
             Changed::Between(from, to) => self.lo.max(from) < self.hi.min(to),
         }
+    }
+
+    // Whether it has the range and the kind of another.
+    #[inline(always)]
+    fn is_alike(&self, other: &Watch) -> bool
+        ensures { IsTrue result ↔ IsAlike self.now other.now }
+    {
+        self.lo == other.lo && self.hi == other.hi && self.summary.kind() == other.summary.kind()
     }
 
     // Whether its range has an index.
@@ -75,11 +83,55 @@ pub fn count_asked(watches: &IndexMap<Name, Watch>, changed: Changed) -> usize
     count
 }
 
+// The summary that one of the six queries before an index keeps, where one of them has a watch's range and kind: queries of all six
+// kinds come by turns. The vector only says what the summaries are of.
+fn told_before(
+    _live: &Live<Six>,
+    watches: &IndexMap<Name, Watch>,
+    i: usize,
+    watch: &Watch,
+) -> Option<KindSummary>
+    requires within { i ≤ index_map_len watches.now }
+    requires told { AreTold _live.now.history.journal watches.now.entries i }
+    ensures { IfSome result (λ s. s ≡ summary_at _live.now.history.journal watch.now) }
+{
+    for j in i.saturating_sub(6)..i {
+        let (_, told) = watch_at(watches, j);
+        if told.is_alike(watch) {
+            return Some(told.summary);
+        }
+    }
+    None
+}
+
+// The summary of a query's range at the last edit: that of a query before it, or else the vector is asked by the query's kind.
+fn told_or_asked(
+    live: &Live<Six>,
+    kinds: &mut Kinds,
+    watches: &IndexMap<Name, Watch>,
+    i: usize,
+    watch: &Watch,
+) -> KindSummary
+    requires kept { AreKept program_table live.now.history.journal kinds.old }
+    requires within { i ≤ index_map_len watches.now }
+    requires told { AreTold live.now.history.journal watches.now.entries i }
+    ensures value { result ≡ summary_at live.now.history.journal watch.now }
+    ensures kept { AreKept program_table live.now.history.journal kinds.new }
+    ensures remembers { StillKept kinds.old kinds.new }
+{
+    match told_before(live, watches, i, watch) {
+        Some(summary) => summary,
+        None => ask_inside(live, kinds, watch.summary.kind(), watch.lo, watch.hi),
+    }
+}
+
 // The summary of a query's range after an edit that changed it. An element that was pushed is the range's last one; after any other
-// edit the vector is asked by the query's kind.
+// edit a query before it may tell, or the vector is asked.
 fn summary_after(
     live: &Live<Six>,
     kinds: &mut Kinds,
+    watches: &IndexMap<Name, Watch>,
+    i: usize,
     watch: &Watch,
     pushed: Option<i64>,
 ) -> KindSummary
@@ -88,13 +140,15 @@ fn summary_after(
     requires kept { AreKept program_table live.now.history.journal kinds.old }
     requires current { watch.now.summary ≡ summary_of (kind_of watch.now.summary) before }
     requires pushed { IfSome pushed (λ x. slice_range (list_of live.now.history.journal) watch.now.lo watch.now.hi ≡ before ++ x ∷ []) }
+    requires within { i ≤ index_map_len watches.now }
+    requires told { AreTold live.now.history.journal watches.now.entries i }
     ensures value { result ≡ summary_at live.now.history.journal watch.now }
     ensures kept { AreKept program_table live.now.history.journal kinds.new }
     ensures remembers { StillKept kinds.old kinds.new }
 {
     match pushed {
         Some(x) => watch.summary.with_last(x),
-        None => ask_inside(live, kinds, watch.summary.kind(), watch.lo, watch.hi),
+        None => told_or_asked(live, kinds, watches, i, watch),
     }
 }
 
@@ -139,6 +193,7 @@ fn tell_one(
     requires within { i < index_map_len watches.old }
     requires current { AtIndex watches.old.entries i (IsCurrent old) }
     requires room { AtIndex watches.old.entries i (λ e. vec_len notes.old + length (asked changed (e ∷ [])) ≤ vec_capacity notes.old) }
+    requires told { AreTold live.now.history.journal watches.old.entries i }
     ensures told { AtIndex watches.old.entries i (IsToldAt changed old live.now.history.journal watches.old.entries watches.new.entries i notes.old.items notes.new.items) }
     ensures capacity { vec_capacity notes.new ≡ vec_capacity notes.old }
     ensures kept { AreKept program_table live.now.history.journal kinds.new }
@@ -148,13 +203,14 @@ fn tell_one(
     if !watch.has_changed(changed) {
         return;
     }
-    let summary = summary_after(live, kinds, &watch, pushed);
+    let summary = summary_after(live, kinds, watches, i, &watch, pushed);
     note_change(notes, name, watch.summary.shown(), summary.shown());
     keep(watches, i, Watch { summary, ..watch });
 }
 
 /// Brings each query up to an edit whose range has an index that the edit changed, in order of registration; notes the answers
-/// that are others than before. A push costs each a join, and any other edit a question by its own kind.
+/// that are others than before. A push costs each a join, and any other edit a question by its own kind, which queries of one range and
+/// kind share where no more than five others stand between them.
 pub fn tell(
     live: &Live<Six>,
     kinds: &mut Kinds,

@@ -3,7 +3,7 @@ use Rattle.lv_standing.specs.Inner.{asked}
 use Rattle.lv_standing.specs.Standings.{IsCurrent}
 use Rattle.lv_geometry.proofs.Ranges.{there_is}
 use Rattle.lv_standing.proofs.EntryLaws.{all_at, asked_more, rest_is}
-use Rattle.lv_standing.proofs.NoteLaws.{as_before, as_long, told_entries, told_notes, told_room}
+use Rattle.lv_standing.proofs.NoteLaws.{are_told, as_before, as_long, told_entries, told_notes, told_room}
 use Rattle.lv_standing.proofs.watches.tell.Goals as goal
 
 pub tell_one-requires : goal.tell_one-requires
@@ -26,7 +26,10 @@ tell_one-requires g c =
                 omega (arith, inside, same),
                 (
                   (λ e at. all_at (IsCurrent g.old) all c.loop-i.i e c.requires.1.1.1.1.1.0 (sym kept ∙ at)),
-                  (λ e at. omega (arith, c.loop-i.invariant.room, c.loop-i.notes.ok.0, asked_more c.args.changed e (drop (c.loop-i.i + 1) all), ap (λ es. length (asked c.args.changed es)) (rest_is all c.loop-i.i e (sym kept ∙ at)))),
+                  (
+                    (λ e at. omega (arith, c.loop-i.invariant.room, c.loop-i.notes.ok.0, asked_more c.args.changed e (drop (c.loop-i.i + 1) all), ap (λ es. length (asked c.args.changed es)) (rest_is all c.loop-i.i e (sym kept ∙ at)))),
+                    are_told new all c.loop-i.watches.entries c.loop-i.i inside c.loop-i.invariant.entries,
+                  ),
                 ),
               ),
             ),

@@ -1,4 +1,4 @@
-use Rattle.std.proofs.Common.{◌≡◌, ◌∙◌, Some, false, true, rules, subst, sym}
+use Rattle.std.proofs.Common.{◌≡◌, ◌∙◌, Some, false, true, arith, rules, subst, sym}
 use Rattle.lv_edits.specs.History.{list_of}
 use Rattle.lv_known.proofs.FoldableLaws.{part_can_fold}
 use Rattle.lv_standing.specs.Inner.{IsToldAt, has_changed}
@@ -15,7 +15,10 @@ summary_after-summary-requires g c =
         c.requires.1.0,
         (
           c.requires.1.1.1.1.1.1.0 e c.watch_at-name.ensures,
-          pushed_inside g.old c.args.live.now.history.journal c.args.changed c.args.pushed e.1.lo e.1.hi inside c.requires.1.1.1.1.0,
+          (
+            pushed_inside g.old c.args.live.now.history.journal c.args.changed c.args.pushed e.1.lo e.1.hi inside c.requires.1.1.1.1.0,
+            (omega (arith, c.requires.1.1.1.1.1.0), c.requires.1.1.1.1.1.1.1.1),
+          ),
         ),
       ),
     )

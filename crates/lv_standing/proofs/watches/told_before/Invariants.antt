@@ -1,0 +1,5 @@
+use Rattle.std.specs.Prelude.{⊤}
+use Rattle.lv_standing.proofs.watches.told_before.Given as goal
+
+abbrev pub invariant-loop-j : goal.invariant-loop-j
+invariant-loop-j l = ⊤
