@@ -1,24 +1,21 @@
-ghost use Rattle.std.specs.Prelude.{◌≡◌, ℕ, ◌+◌, ◌*◌, ◌/◌, ◌^◌, ◌<◌, ◌≤◌, ◌&&◌, ◌||◌, Bool, true, false, None, Some, option_map, length, IfSome, IfNone, OnOk, OnErr, IfErr, if◌then◌else◌};
+ghost use Rattle.std.specs.Prelude.{◌≡◌, ℕ, ◌*◌, ◌/◌, ◌<◌, ◌≤◌, ◌&&◌, ◌||◌, true, false, None, Some, option_map, IfSome, IfNone, OnOk, OnErr, IfErr, if◌then◌else◌};
 ghost use Rattle.lv_geometry.specs.Levels.{thing_at};
 ghost use Rattle.lv_geometry.specs.Nodes.{is_below, is_node, over, parent, same_node};
-ghost use Rattle.lv_bodies.specs.Body.{fold_of};
-ghost use Rattle.lv_edits.specs.Touch.{elements_under};
 ghost use Rattle.lv_known.specs.Agrees.{Agrees};
-ghost use Rattle.lv_summary.specs.Table.{whole_in};
 ghost use Rattle.lv_refresh.specs.Claim.{IsNextJob};
 ghost use Rattle.lv_refresh.specs.Claimed.{AreHints, claim_blocks, claimed_in, is_hinted, record_of};
 ghost use Rattle.lv_refresh.specs.Honesty.{Stands};
 ghost use Rattle.lv_refresh.specs.Refreshed.{RefreshesNext};
-ghost use Rattle.lv_refresh.specs.Inner.{AreFilled, CanServe, GivesNext, HaveRoom, HaveSameRows, HintsNode, HintsWants, IsJobOf, ServesNext, children_fresh_in};
+ghost use Rattle.lv_refresh.specs.Inner.{AreFilled, CanServe, GivesNext, HaveRoom, HaveSameRows, HintsNode, HintsWants, ServesNext};
 
+mod handing;
 mod sweeps;
 
 use crate::computing::refresh_node;
-use crate::contents::Contents;
-use crate::gathering::children_of;
-use crate::jobs::{Job, JobOf};
+use crate::jobs::Job;
 use crate::level::Level;
 use crate::wants::wanted;
+use handing::job_of;
 use lv_bodies::Body;
 use lv_edits::Edits;
 use lv_geometry::{Levels, Node, Refusal, rows_of};
@@ -256,67 +253,4 @@ fn next_of<S: Copy>(rows: &mut Level, level: u32, table: &Summaries<S>) -> Optio
         }
     }
     None
-}
-
-// The job of a node that wants one; none where one of its children is not fresh.
-#[inline(always)]
-fn job_of<B: Body>(
-    cells: &Edits,
-    table: &Summaries<B::S>,
-    node: Node,
-    version: u32,
-    body: B,
-) -> Option<Job<B>>
-    requires agrees { Agrees (B.operations (B.meaning body)) cells.now.journal table.now }
-    requires whole { whole_in table.now node ≡ true }
-    ensures job { IfSome result (λ job. IsJobOf cells.now.journal table.now node version body job) }
-    ensures none { IfNone result ((1 < node.level) × (children_fresh_in table.now node ≡ false)) }
-{
-    if node.level == 1 {
-        block_job(cells, table, node, version, body)
-    } else {
-        parent_job(cells, table, node, version, body)
-    }
-}
-
-// The job of a block. It has a function of its own, since most jobs are of blocks, and eight summaries are wide.
-#[inline(never)]
-fn block_job<B: Body>(
-    cells: &Edits,
-    table: &Summaries<B::S>,
-    node: Node,
-    version: u32,
-    body: B,
-) -> Option<Job<B>>
-    requires agrees { Agrees (B.operations (B.meaning body)) cells.now.journal table.now }
-    requires whole { whole_in table.now node ≡ true }
-    requires level { node.level ≡ 1 }
-    ensures job { IfSome result (λ job. IsJobOf cells.now.journal table.now node version body job) }
-    ensures some { IfNone result ⊥ }
-{
-    // The elements are few enough for a fold, and of 64 bits.
-    let _size = cells.size();
-    let elements = cells.block(node.number);
-    Some(JobOf::new(node, version, Contents::Elements(elements), body))
-}
-
-// The job of a node above level 1; none where one of its children is not fresh.
-#[inline(never)]
-fn parent_job<B: Body>(
-    cells: &Edits,
-    table: &Summaries<B::S>,
-    node: Node,
-    version: u32,
-    body: B,
-) -> Option<Job<B>>
-    requires agrees { Agrees (B.operations (B.meaning body)) cells.now.journal table.now }
-    requires whole { whole_in table.now node ≡ true }
-    requires above { 1 < node.level }
-    ensures job { IfSome result (λ job. IsJobOf cells.now.journal table.now node version body job) }
-    ensures none { IfNone result (children_fresh_in table.now node ≡ false) }
-{
-    // The elements are few enough for a fold, and of 64 bits.
-    let _size = cells.size();
-    let summaries = children_of(table, node)?;
-    Some(JobOf::new(node, version, Contents::Children(summaries), body))
 }

@@ -1,9 +1,7 @@
-ghost use Rattle.std.specs.Prelude.{◌≡◌, true, None, IfSome, IfNone};
+ghost use Rattle.std.specs.Prelude.{◌≡◌, true};
 ghost use Rattle.lv_geometry.specs.Nodes.{is_node};
-ghost use Rattle.lv_refresh.specs.Carried.{carried_of, elements_of};
 ghost use Rattle.lv_refresh.specs.Contents.{CanFoldContents};
 
-use crate::block_jobs::BlockJob;
 use crate::contents::Contents;
 use crate::outcomes::OutcomeOf;
 use lv_bodies::Body;
@@ -81,22 +79,6 @@ impl<B: Body<S = S>, S: Copy> JobOf<B, S> {
         ensures { result ≡ self.now.version }
     {
         self.version
-    }
-
-    /// The job in little, if it is a block's.
-    pub fn as_block(&self) -> Option<BlockJob<B>>
-        ensures some { IfSome result (λ block. carried_of block ≡ self.now) }
-        ensures none { IfNone result (elements_of self.now.contents ≡ None) }
-    {
-        match &self.contents {
-            Contents::Elements(elements) => Some(BlockJob::new(
-                self.node,
-                self.version,
-                *elements,
-                self.body,
-            )),
-            Contents::Children(_) => None,
-        }
     }
 
     /// What the summary is computed from, where it lies.

@@ -6,7 +6,6 @@
 //! keeps its summary. It knows nothing of who runs a job, or when.
 #![tactic(auto)]
 
-mod block_jobs;
 mod claims;
 mod computing;
 mod contents;
@@ -18,7 +17,6 @@ mod marks;
 mod outcomes;
 mod wants;
 
-pub use block_jobs::BlockJob;
 pub use claims::Claims;
 pub use computing::refresh_node;
 pub use contents::{Contents, Eight};

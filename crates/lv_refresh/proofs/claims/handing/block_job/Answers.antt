@@ -1,7 +1,7 @@
 use Rattle.std.proofs.Common.{[], refl}
 use Rattle.lv_refresh.specs.declared.contents.Contents.TheVariants.{Elements}
 use Rattle.lv_refresh.proofs.NextLaws.{can_fold_gathered}
-use Rattle.lv_refresh.proofs.claims.block_job.Goals as goal
+use Rattle.lv_refresh.proofs.claims.handing.block_job.Goals as goal
 
 pub new-requires-clause-contents : goal.new-requires-clause-contents
 new-requires-clause-contents g c κs within =
