@@ -4,4 +4,5 @@ pub mod HoldsLaws
 pub mod HoldsPushes
 pub mod TouchLaws
 pub mod PushLaws
+pub mod RunLaws
 pub mod Slices

@@ -1,2 +1,3 @@
 pub mod AgreesLaws
 pub mod FoldableLaws
+pub mod PushedLaws
