@@ -1,5 +1,5 @@
-use Rattle.std.proofs.Common.{◌-◌, ◌/◌, take, arith}
-use Rattle.lv_sums.proofs.Keeping.{counted, kept_as, kept_shorter}
+use Rattle.std.proofs.Common.{◌-◌, ◌/◌, take, arith, ◌≡◌, ◌++◌, ◌∷◌, [], drop, sym, ap, ◌∙◌, ◌+◌, ◌<◌, ◌≤◌}
+use Rattle.lv_sums.proofs.Keeping.{counted, kept_as, kept_shorter, same_body, seen_pop}
 use Rattle.lv_sums.proofs.sums.Sums.pop.Goals as goal
 
 pub invariant_of-self : goal.invariant_of-self
@@ -13,3 +13,37 @@ invariant_of-self g c =
     let last = c.len-last.result - 1 in
     kept_as o inside.first inside.gone (take last xs) c.shorten.new.shards.items (take (last / 32) inside.groups.items) c.shorten.new.groups.items (take (last / 1024) inside.regions.items) c.shorten.new.regions.items c.shorten.ensures.shards c.shorten.ensures.groups c.shorten.ensures.regions
     (kept_shorter o inside.first inside.gone last xs inside.groups.items inside.regions.items (omega (arith, c.len-last.ensures, inside.shards.ok.0, k.1, c.requires)) (omega (arith, c.len-last.ensures, inside.shards.ok.0)) kept)
+
+pub overflow_sub-last : goal.overflow_sub-last
+overflow_sub-last g c =
+    let inside = c.self.inside in
+    let k = counted c.args.self.now inside.body inside.first inside.gone inside.shards.items c.self.view_is in
+    omega (arith, c.len-last.ensures, inside.shards.ok.0, k.1, c.requires)
+
+pub index-summary-requires : goal.index-summary-requires
+index-summary-requires g c =
+    let inside = c.self.inside in
+    let k = counted c.args.self.now inside.body inside.first inside.gone inside.shards.items c.self.view_is in
+    omega (arith, c.len-last.ensures, inside.shards.ok.0, k.1, c.requires)
+
+pub returns-clause-body : goal.returns-clause-body
+returns-clause-body g c =
+    let inside = c.self.inside in
+    sym (same_body c.args.self.now inside.body inside.first inside.gone inside.shards.items c.self.view_is)
+
+pub returns-clause-first : goal.returns-clause-first
+returns-clause-first g c =
+    let inside = c.self.inside in
+    let k = counted c.args.self.now inside.body inside.first inside.gone inside.shards.items c.self.view_is in
+    sym k.0
+
+pub returns-clause-sums : goal.returns-clause-sums
+returns-clause-sums g c =
+    let inside = c.self.inside in
+    let k = counted c.args.self.now inside.body inside.first inside.gone inside.shards.items c.self.view_is in
+    let xs = inside.shards.items in
+    let s = c.index-summary.result.now in
+    let last = c.len-last.result - 1 in
+    sym (ap (λ n. n.sums) c.self.view_is)
+    ∙ seen_pop inside.gone last xs s (omega (arith, c.len-last.ensures, inside.shards.ok.0, k.1, c.requires)) (omega (arith, c.len-last.ensures, inside.shards.ok.0, k.1, c.requires)) c.index-summary.ensures
+    ∙ ap (λ l. drop inside.gone l ++ s ∷ []) (sym c.shorten.ensures.shards)

@@ -1,4 +1,4 @@
-use Rattle.std.proofs.Common.{◌≡◌, ◌+◌, ◌-◌, refl, sym, ap, ◌∙◌, subst, arith}
+use Rattle.std.proofs.Common.{◌≡◌, ◌+◌, ◌-◌, refl, sym, ap, ◌∙◌, subst, arith, length, ◌≤◌}
 use Rattle.lv_sums.specs.Levels.{AreInOrder, AreLevels, joined_on, run_of}
 use Rattle.lv_sums.proofs.Keeping.{counted, reduced_seen, seen_folds}
 use Rattle.lv_sums.proofs.LevelLaws.{kept_in_order, later_levels}
@@ -50,3 +50,24 @@ returns-clause-joins g c =
     let inside = c.self.inside in
     let k = counted c.args.self.now inside.body inside.first inside.gone inside.shards.items c.self.view_is in
     omega (arith, c.join_shards.ensures.joins, k.0, c.requires.first, c.requires.order)
+
+pub overflow_sub-from : goal.overflow_sub-from
+overflow_sub-from g c =
+    let inside = c.self.inside in
+    let k = counted c.args.self.now inside.body inside.first inside.gone inside.shards.items c.self.view_is in
+    omega (arith, k.0, c.requires.first)
+
+pub overflow_sub-to : goal.overflow_sub-to
+overflow_sub-to g c =
+    let inside = c.self.inside in
+    let k = counted c.args.self.now inside.body inside.first inside.gone inside.shards.items c.self.view_is in
+    omega (arith, k.0, c.requires.first, c.requires.order)
+
+pub join_shards-requires-clause-order : goal.join_shards-requires-clause-order
+join_shards-requires-clause-order g c κs within = omega (arith, c.requires.order)
+
+pub join_shards-requires-clause-inside : goal.join_shards-requires-clause-inside
+join_shards-requires-clause-inside g c κs within =
+    let inside = c.self.inside in
+    let k = counted c.args.self.now inside.body inside.first inside.gone inside.shards.items c.self.view_is in
+    omega (arith, k.0, k.1, c.requires.first, c.requires.order, c.requires.last, c.self.invariant.inside, ap length c.deref.ensures.value)

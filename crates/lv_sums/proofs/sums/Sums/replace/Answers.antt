@@ -1,7 +1,7 @@
 use Rattle.std.proofs.Common.{◌≡◌, ◌+◌, ◌-◌, length, slice_set, refl, sym, ◌∙◌, subst, arith}
 use Rattle.std.proofs.lemmas.List.{length-set, with_items_is}
 use Rattle.lv_sums.specs.Sums.{AreFolds}
-use Rattle.lv_sums.proofs.Keeping.{levels_but_as, refreshed_rows, same_body, write_folds, write_seen}
+use Rattle.lv_sums.proofs.Keeping.{counted, levels_but_as, refreshed_rows, same_body, write_folds, write_seen}
 use Rattle.lv_sums.proofs.LevelLaws.{written_levels}
 use Rattle.lv_sums.proofs.sums.Sums.replace.Goals as goal
 
@@ -54,3 +54,15 @@ returns g c =
     let s = c.args.summary in
     let at = c.args.shard - inside.first + inside.gone in
     write_seen now inside.body inside.first inside.gone at c.args.shard xs (slice_set xs at s) s c.self.view_is refl refl
+
+pub overflow_sub-at : goal.overflow_sub-at
+overflow_sub-at g c =
+    let inside = c.self.inside in
+    let k = counted c.args.self.now inside.body inside.first inside.gone inside.shards.items c.self.view_is in
+    omega (arith, k.0, c.requires.low)
+
+pub index_mut-requires : goal.index_mut-requires
+index_mut-requires g c =
+    let inside = c.self.inside in
+    let k = counted c.args.self.now inside.body inside.first inside.gone inside.shards.items c.self.view_is in
+    omega (arith, k.0, k.1, c.requires.low, c.requires.high, c.self.invariant.inside, inside.shards.ok.0)
