@@ -138,8 +138,8 @@ impl<B: LongBody> Sums<B> {
         self.first = first;
     }
 
-    /// Drops so many shards at the front; the others keep their numbers. Once more than half of what lies in memory is
-    /// dropped, that is given back in whole regions of 1,024 shards.
+    /// Drops so many shards at the front; the others keep their numbers. Once at least half of what lies in memory is dropped, that
+    /// is given back in whole regions of 1,024 shards; each shard that is dropped pays for one that moves then.
     pub fn drop_front(&mut self, count: u64)
         requires { count ≤ length self.old.sums }
         ensures { self.new ≡ record { body = self.old.body; first = self.old.first + count; sums = drop count self.old.sums } }
@@ -155,7 +155,8 @@ impl<B: LongBody> Sums<B> {
         self.gone -= 1024 * whole;
     }
 
-    /// The summary of the elements of the shards from number `lo` up to `hi`, and how many joins it took.
+    /// The summary of the elements of the shards from number `lo` up to `hi`, and how many joins it took: at most 124, and one for
+    /// each 1,024 shards. Takes no memory.
     pub fn reduce(&self, lo: u64, hi: u64) -> Joined<B::S>
         requires folds { AreFolds (B.operations (B.meaning self.now.body)) self.now.sums }
         requires first { self.now.first ≤ lo }
