@@ -62,6 +62,11 @@ module _ {S : Type 0} where
   claim_reply k None = reply.Idle
   claim_reply k (Some job) = reply.Claimed k job.0 job.1
 
+  -- the same, by number, node and version together
+  abbrev pub numbered_reply : Option (ℕ × Node × ℕ) → Reply S
+  numbered_reply None = reply.Idle
+  numbered_reply (Some (k, n, v)) = reply.Claimed k n v
+
   -- a delivery is answered by what became of it, or refused where no such job was issued
   abbrev pub delivery_reply : Record → Option (Node × ℕ) → Reply S
   delivery_reply r None = reply.Refused NoJob

@@ -21,7 +21,7 @@ pub use events::Event;
 pub use following::{Touched, touched_indices};
 pub use issued::Issued;
 pub use live::Live;
-pub use playing::deliver;
+pub use playing::{claim, deliver};
 pub use replies::Reply;
 pub use theorems::{
     answers_are_plain, every_run_is_true_of_its_edits, honest_outcomes_are_vouched_for,

@@ -2,7 +2,7 @@ ghost use Rattle.std.specs.Prelude.{◌≡◌, ◌+◌, ◌≤◌, ◌<◌, [], 
 ghost use Rattle.lv_refresh.specs.Carried.{Carried};
 ghost use Rattle.lv_live.specs.Kept.{IsWorld};
 ghost use Rattle.lv_live.specs.State.{SameSetting, recorded, with_issued};
-ghost use Rattle.lv_live.specs.Step.{Run, Scans, Step, accepted_reply};
+ghost use Rattle.lv_live.specs.Step.{Run, Scans, Step, accepted_reply, numbered_reply};
 ghost use Rattle.lv_live.specs.declared.events.Event.TheVariants as event;
 
 use crate::events::Event;
@@ -11,7 +11,7 @@ use crate::live::Live;
 use crate::replies::Reply;
 use lv_bodies::Body;
 use lv_edits::Edit;
-use lv_geometry::Refusal;
+use lv_geometry::{Node, Refusal};
 use lv_reduce::Scan;
 use lv_summary::Accepted;
 use std::alloc::Global;
@@ -85,7 +85,7 @@ fn play_settle<B: Body>(live: &mut Live<B>) -> Reply<B::S>
     Reply::Settled
 }
 
-// Claims a job, and keeps it under its number.
+// Answers a claim.
 fn play_claim<B: Body>(live: &mut Live<B>, issued: &mut Issued<B>) -> Reply<B::S>
     requires room { 0 < issued.old.room }
     ensures step { Step (B.operations (B.meaning live.old.body)) live.old.history.limits (with_issued live.old issued.old.jobs) event.Claim result (with_issued live.new issued.new.jobs) }
@@ -93,15 +93,27 @@ fn play_claim<B: Body>(live: &mut Live<B>, issued: &mut Issued<B>) -> Reply<B::S
     ensures setting { SameSetting live.old live.new }
     ensures room { issued.old.room ≤ issued.new.room + 1 }
 {
-    let Some(job) = live.claim() else {
-        return Reply::Idle;
-    };
-    let (node, version) = (job.node(), job.version());
-    Reply::Claimed {
-        job: issued.keep(job),
-        node,
-        version,
+    match claim(live, issued) {
+        Some((job, node, version)) => Reply::Claimed { job, node, version },
+        None => Reply::Idle,
     }
+}
+
+/// Claims a job for the least node that wants one, and keeps it under its number: that number, the node and the version, or none where
+/// no node wants a job. Room was made before. Takes no memory.
+pub fn claim<B: Body>(live: &mut Live<B>, issued: &mut Issued<B>) -> Option<(u64, Node, u32)>
+    requires room { 0 < issued.old.room }
+    ensures step { Step (B.operations (B.meaning live.old.body)) live.old.history.limits (with_issued live.old issued.old.jobs) event.Claim (numbered_reply result) (with_issued live.new issued.new.jobs) }
+    ensures world { IsWorld (B.operations (B.meaning live.old.body)) live.old issued.old.jobs → IsWorld (B.operations (B.meaning live.old.body)) live.new issued.new.jobs }
+    ensures body { live.new.body ≡ live.old.body }
+    ensures history { live.new.history ≡ live.old.history }
+    ensures room { issued.old.room ≤ issued.new.room + 1 }
+    ensures most { issued.new.most ≡ issued.old.most }
+    ensures few { length issued.new.jobs ≤ length issued.old.jobs + 1 }
+{
+    let job = live.claim()?;
+    let (node, version) = (job.node(), job.version());
+    Some((issued.keep(job), node, version))
 }
 
 // Answers a delivery.

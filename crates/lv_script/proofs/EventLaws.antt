@@ -1,7 +1,8 @@
 -- What the calls of a vector with standing queries make of a script.
-use Rattle.std.proofs.Common.{◌≡◌, ℕ, ◌+◌, Bool, Option, Some, None, option_map, Result, Ok, Err, OnOk, IfErr, List, [], ◌∷◌, ◌++◌, length, drop, ◌-◌, arith, refl, sym, ap, ◌∙◌, inl, inr}
+use Rattle.std.proofs.Common.{◌≡◌, ℕ, Bool, Option, None, Result, Ok, Err, OnOk, IfErr, List, [], ◌∷◌, ◌++◌, length, drop, ◌-◌, arith, refl, sym, ap, ◌∙◌, inl, inr}
 use Rattle.std.proofs.lemmas.List.{append-nil, length-drop, length-take}
 use Rattle.std.proofs.lemmas.List.Elements.{All-drop, All-take}
+use Rattle.lv_geometry.specs.declared.nodes.Node.{Node}
 use Rattle.lv_geometry.specs.declared.refusals.Refusal.{Refusal}
 use Rattle.lv_bodies.specs.declared.kinds.Kind.{Kind}
 use Rattle.lv_bodies.specs.declared.kinds.Shown.{Shown}
@@ -17,15 +18,14 @@ use Rattle.lv_geometry.specs.Elements.{IsElement}
 use Rattle.lv_edits.specs.Verdict.{Accepts, Refuses}
 use Rattle.lv_summary.specs.declared.accepted.Accepted.{Accepted}
 use Rattle.lv_refresh.specs.Carried.{Carried}
-use Rattle.lv_refresh.specs.Claim.{IsNextJob}
 use Rattle.lv_reduce.specs.declared.costs.Reads.{Reads}
 use Rattle.lv_reduce.specs.declared.reductions.Answer.{Answer}
 use Rattle.lv_reduce.specs.Answer.{range_refusal, slice_of}
 use Rattle.lv_live.specs.declared.events.Event.TheVariants as event
 use Rattle.lv_live.specs.declared.replies.Reply.TheVariants as reply
-use Rattle.lv_live.specs.State.{HasClaim, HasNoClaims, SameLive, SameRefresh, jobs_with, node_and_version, recorded, with_issued}
-use Rattle.lv_live.specs.Step.{Costs, Reduces, Step, accepted_reply, claim_reply, reduction_reply}
-use Rattle.lv_live.proofs.WorldLaws.{step_claim, step_edit, step_forget, step_reduction, step_settle}
+use Rattle.lv_live.specs.State.{HasNoClaims, SameLive, SameRefresh, recorded, with_issued}
+use Rattle.lv_live.specs.Step.{Costs, Reduces, Step, accepted_reply, numbered_reply, reduction_reply}
+use Rattle.lv_live.proofs.WorldLaws.{step_edit, step_forget, step_reduction, step_settle}
 use Rattle.lv_standing.specs.declared.notes.Note.{Note}
 use Rattle.lv_standing.specs.Queries.{AreNotes, Query}
 use Rattle.lv_standing.specs.Standings.{StandingState}
@@ -42,15 +42,11 @@ use Rattle.lv_script.specs.Scripted.{state_of}
 pub unchanged : (s : StandingState) (jobs : List (Carried Six SixSummary)) → HasQueries (state_of s jobs) (state_of s jobs) s.queries
 unchanged s jobs = record { limits = refl; seen = record { edits = refl; issued = refl; claimed = λ n. refl; kept = λ n. refl }; queries_are = refl }
 
--- a claim
-pub tells_claim : (old new : StandingState) (job : Option (Carried Six SixSummary)) (jobs : List (Carried Six SixSummary)) → IsNextJob (recorded old.live) (option_map node_and_version job) → HasClaim old.live new.live (option_map node_and_version job) → new.queries ≡ old.queries
-    → TellsEvent (state_of old jobs) event.Claim (reply_text (claim_reply (length jobs + 1) (option_map node_and_version job))) (state_of new (jobs_with jobs job))
-tells_claim old new job jobs next has queries =
-    record {
-      answered = claim_reply (length jobs + 1) (option_map node_and_version job);
-      does = record { step = step_claim six_operations old.live new.live job jobs next has; limits = ap (λ h. h.limits) has.history; queries = queries };
-      text_is = refl;
-    }
+-- a claim, answered by the job with its number, or by none
+pub tells_claim : (old new : StandingState) (named : Option (ℕ × Node × ℕ)) (before after : List (Carried Six SixSummary)) → Step six_operations old.live.history.limits (with_issued old.live before) event.Claim (numbered_reply named) (with_issued new.live after) → new.live.history ≡ old.live.history → new.queries ≡ old.queries
+    → TellsEvent (state_of old before) event.Claim (reply_text (numbered_reply named)) (state_of new after)
+tells_claim old new named before after step history queries =
+    record { answered = numbered_reply named; does = record { step = step; limits = ap (λ h. h.limits) history; queries = queries }; text_is = refl }
 
 -- a delivery, answered by what became of it or refused
 pub tells_delivery : (old new : StandingState) (k : ℕ) (result : Result Accepted Refusal) (jobs : List (Carried Six SixSummary)) → Step six_operations old.live.history.limits (with_issued old.live jobs) (event.Deliver k) (accepted_reply result) (with_issued new.live jobs) → new.live.history ≡ old.live.history → new.queries ≡ old.queries

@@ -21,14 +21,13 @@ use crate::scans::{Asked, answer_scan};
 use crate::watch_replies::{put_named, put_notes, put_unwatched, put_watching};
 use lv_bodies::{Body, Kind, Six};
 use lv_edits::Edit;
-use lv_geometry::{Node, Refusal};
+use lv_geometry::Refusal;
 use lv_lines::{
     Command, Fault, LINE, Outbox, put_answer, put_capacity, put_receipt, put_refusal, put_settled,
     put_size, put_value,
 };
 use lv_live::{Issued, Live};
 use lv_reduce::Reads;
-use lv_refresh::Job;
 use lv_standing::{Name, Standing};
 use std::alloc::Global;
 use std::io::Write;
@@ -233,20 +232,10 @@ fn put_next_job(standing: &mut Standing, issued: &mut Issued<Six>, held: &mut Ve
     ensures most { issued.new.most ≡ issued.old.most }
     ensures few { length issued.new.jobs ≤ length issued.old.jobs + 1 }
 {
-    let Some(job) = standing.claim() else {
-        put_idle(held);
-        return;
-    };
-    let (node, version) = node_and_version(&job);
-    put_job(held, issued.keep(job), node, version);
-}
-
-// The node that a job is for, and the version.
-fn node_and_version<B: Body>(job: &Job<B>) -> (Node, u32)
-    ensures node { result.0 ≡ job.now.node }
-    ensures version { result.1 ≡ job.now.version }
-{
-    (job.node(), job.version())
+    match standing.claim_numbered(issued) {
+        Some((number, node, version)) => put_job(held, number, node, version),
+        None => put_idle(held),
+    }
 }
 
 // Delivers the outcome of a job, where there is one of that number.

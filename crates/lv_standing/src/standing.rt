@@ -1,4 +1,4 @@
-ghost use Rattle.std.specs.Prelude.{◌≡◌, ◌↔◌, ◌⊎◌, ◌+◌, ◌≤◌, None, Some, IsTrue, IsSome, IfSome, IfOk, IfErr, OnOk, OnErr, List, [], ◌∷◌, ◌++◌, length, option_map};
+ghost use Rattle.std.specs.Prelude.{◌≡◌, ◌↔◌, ◌⊎◌, ◌+◌, ◌<◌, ◌≤◌, None, Some, IsTrue, IsSome, IfSome, IfOk, IfErr, OnOk, OnErr, List, [], ◌∷◌, ◌++◌, length, option_map};
 ghost use Rattle.lv_geometry.specs.declared.nodes.Node.{Node};
 ghost use Rattle.lv_bodies.specs.Six.{six_operations};
 ghost use Rattle.lv_edits.specs.History.{list_of};
@@ -13,7 +13,7 @@ ghost use Rattle.lv_refresh.specs.Delivery.{delivery_of};
 ghost use Rattle.lv_refresh.specs.Honesty.{IsHonest, Vouched};
 ghost use Rattle.lv_live.specs.Kept.{IsWorld};
 ghost use Rattle.lv_live.specs.State.{HasClaim, HasDelivery, HasNoClaims, SameLive, SameRefresh, node_and_version, recorded, with_issued};
-ghost use Rattle.lv_live.specs.Step.{Step, accepted_reply};
+ghost use Rattle.lv_live.specs.Step.{Step, accepted_reply, numbered_reply};
 ghost use Rattle.lv_live.specs.declared.events.Event.TheVariants as event;
 ghost use Rattle.lv_kinds.specs.Kinds.{is_kept_by};
 ghost use Rattle.lv_standing.specs.Standings.{KeptUntouched, StillKept};
@@ -29,7 +29,7 @@ use crate::watches::{Watch, count_asked, tell};
 use indexmap::IndexMap;
 use lv_bodies::{Body, Kind, Six, SixSummary};
 use lv_edits::{Edit, Receipt};
-use lv_geometry::{Limits, Refusal};
+use lv_geometry::{Limits, Node, Refusal};
 use lv_kinds::Kinds;
 use lv_live::{Issued, Live};
 use lv_reduce::Answer;
@@ -226,6 +226,21 @@ impl Standing {
         ensures kinds { self.new.kinds ≡ self.old.kinds }
     {
         self.live.claim()
+    }
+
+    /// Claims a job for the least node that wants one, and keeps it under its number: that number, the node and the version, or none
+    /// where no node wants a job. Room was made before. Takes no memory.
+    pub fn claim_numbered(&mut self, issued: &mut Issued<Six>) -> Option<(u64, Node, u32)>
+        requires room { 0 < issued.old.room }
+        ensures step { Step six_operations self.old.live.history.limits (with_issued self.old.live issued.old.jobs) event.Claim (numbered_reply result) (with_issued self.new.live issued.new.jobs) }
+        ensures world { IsWorld six_operations self.old.live issued.old.jobs → IsWorld six_operations self.new.live issued.new.jobs }
+        ensures history { self.new.live.history ≡ self.old.live.history }
+        ensures queries { self.new.queries ≡ self.old.queries }
+        ensures kinds { self.new.kinds ≡ self.old.kinds }
+        ensures most { issued.new.most ≡ issued.old.most }
+        ensures few { length issued.new.jobs ≤ length issued.old.jobs + 1 }
+    {
+        lv_live::claim(&mut self.live, issued)
     }
 
     /// Forgets all claims. Jobs that were handed out stay good. Takes no memory.

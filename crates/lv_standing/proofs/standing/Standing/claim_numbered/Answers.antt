@@ -1,0 +1,4 @@
+use Rattle.lv_standing.proofs.standing.Standing.claim_numbered.Goals as goal
+
+pub returns-clause-step : goal.returns-clause-step
+returns-clause-step c = rw (← c.self.view_is) c.claim.ensures.step
