@@ -42,14 +42,14 @@ pub AreOfBlock : ℕ → ℕ → ℕ → Type 0
 AreOfBlock first count i = (k : ℕ) → k < count → (first + k) / 8 ≡ i / 8
 
 -- so are those behind the first
-block_rest : (first count i next : ℕ) → next ≡ first + 1 → AreOfBlock first (count + 1) i → AreOfBlock next count i
+pub block_rest : (first count i next : ℕ) → next ≡ first + 1 → AreOfBlock first (count + 1) i → AreOfBlock next count i
 unfolding AreOfBlock
 block_rest first count i next is all k small =
     let at : first + (k + 1) ≡ next + k = omega (arith, is) in
     ap (λ j. j / 8) (sym at) ∙ all (k + 1) (omega arith)
 
 -- and the first
-block_first : (first count i : ℕ) → 0 < count → AreOfBlock first count i → first / 8 ≡ i / 8
+pub block_first : (first count i : ℕ) → 0 < count → AreOfBlock first count i → first / 8 ≡ i / 8
 unfolding AreOfBlock
 block_first first count i some all =
     let at : first + 0 ≡ first = omega arith in

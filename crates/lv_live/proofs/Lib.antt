@@ -6,6 +6,7 @@ pub mod LiveLaws
 mod LogWalks
 pub mod OneOutcomeLaws
 pub mod PlayLaws
+pub mod PushedLaws
 pub mod QueryLaws
 mod RefreshLaws
 mod RememberLaws

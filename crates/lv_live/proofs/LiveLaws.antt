@@ -54,7 +54,7 @@ pub kept_followed : {S : Type 0} (t u : Table S) (indices : List ℕ) (edit size
 kept_followed t u indices edit size (mid, touch, sized) n = sized.kept n ∙ touch.kept n
 
 -- a block that has one of some indices is hinted where the block of each is
-block_hinted : (c : ClaimTable) (indices : List ℕ) (n : Node) → n.level ≡ 1 → AllByRecursion (λ i. is_hinted c (over 1 i) ≡ true) indices → list_any (covers n) indices ≡ true → is_hinted c n ≡ true
+pub block_hinted : (c : ClaimTable) (indices : List ℕ) (n : Node) → n.level ≡ 1 → AllByRecursion (λ i. is_hinted c (over 1 i) ≡ true) indices → list_any (covers n) indices ≡ true → is_hinted c n ≡ true
 block_hinted c [] n block hinted covered = absurd (false≢true covered)
 block_hinted c (i ∷ rest) n block hinted covered =
     elim (or_cases (covers n i) (list_any (covers n) rest) covered) [

@@ -54,7 +54,7 @@ module _ {B S : Type 0} where
 
   module _ (o : Operations S) where
     -- a live vector whose edits grew, and for which the same is delivered and computed, remembers what it knew
-    remembers_same : (old new : LiveState B S) → IsLive o old → IsLive o new → ((n : Node) → kept_in new.table n ≡ kept_in old.table n) → ((n : Node) → computed_in new.table n ≡ computed_in old.table n) → Remembers old new
+    pub remembers_same : (old new : LiveState B S) → IsLive o old → IsLive o new → ((n : Node) → kept_in new.table n ≡ kept_in old.table n) → ((n : Node) → computed_in new.table n ≡ computed_in old.table n) → Remembers old new
     remembers_same old new live after kept computed n known whole touched =
         let was = whole_of_known old.table n known in
         let node = (and_parts _ _ was).0 in

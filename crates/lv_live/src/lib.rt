@@ -12,6 +12,7 @@ mod issued;
 mod live;
 mod logs;
 mod playing;
+mod pushing;
 mod replies;
 mod theorems;
 mod vouching;

@@ -3,6 +3,7 @@ ghost use Rattle.lv_geometry.specs.declared.nodes.Node.{Node};
 ghost use Rattle.lv_edits.specs.Capacity.{capacity_after};
 ghost use Rattle.lv_edits.specs.History.{list_of};
 ghost use Rattle.lv_edits.specs.Kept.{IsLegalInLimits};
+ghost use Rattle.lv_edits.specs.Pushes.{AnswersAll, verdict_of_pushes};
 ghost use Rattle.lv_edits.specs.Verdict.{Answers, element_at, verdict_of};
 ghost use Rattle.lv_refresh.specs.Claim.{IsNextJob};
 ghost use Rattle.lv_refresh.specs.Delivery.{delivery_of};
@@ -21,7 +22,8 @@ ghost use Rattle.lv_live.specs.Step.{Costs, Reduces, Scans};
 ghost use Rattle.lv_live.specs.Turns.{TakesTurn, TakesTurns};
 
 use crate::delivering::deliver_anew;
-use crate::following::{follow, make_room, touched_indices};
+use crate::following::{Touched, follow, make_room, touched_indices};
+use crate::pushing::follow_pushes;
 use crate::vouching::stands_here;
 use lv_bodies::Body;
 use lv_edits::{Edit, Edits, Receipt};
@@ -105,11 +107,46 @@ impl<B: Body> Live<B> {
         Ok(receipt)
     }
 
+    /// Pushes values in order, all of them or none, and tells the number of the last edit. Refused as the first push that would be
+    /// refused, then with `NoMemory`: nothing has changed then. Room for summaries, claims, elements and journal is made before
+    /// anything changes.
+    pub fn push_all(&mut self, values: &[i64]) -> Result<u32, Refusal>
+        ensures answer { AnswersAll self.old.history values.now result self.new.history }
+        ensures limits { IsLegalInLimits self.new.history }
+        ensures refresh { SameRefresh self.old self.new }
+        ensures remembers { Remembers self.old self.new }
+    {
+        if let Some(refusal) = self.cells.verdict_of_pushes(values) {
+            return Err(refusal);
+        }
+        if values.is_empty() {
+            return Ok(self.cells.edit());
+        }
+        let first = self.cells.size();
+        let edit = self.cells.edit();
+        let count = values.len() as u32;
+        make_room(
+            &mut self.table,
+            &mut self.claims,
+            Touched::One(first + count - 1),
+        )?;
+        let last = self.cells.push_all(values)?;
+        follow_pushes(&mut self.table, &mut self.claims, first, edit, count);
+        Ok(last)
+    }
+
     /// Why an edit would be refused, for want of memory apart; none where it would be accepted.
     pub fn verdict(&self, edit: &Edit) -> Option<Refusal>
         ensures { result ≡ verdict_of self.now.history.limits self.now.history.journal edit.now }
     {
         self.cells.verdict(edit)
+    }
+
+    /// Why pushes, one after another, would be refused, want of memory apart; none where all would be accepted.
+    pub fn verdict_of_pushes(&self, values: &[i64]) -> Option<Refusal>
+        ensures { result ≡ verdict_of_pushes self.now.history values.now }
+    {
+        self.cells.verdict_of_pushes(values)
     }
 
     /// Completes what is pending. Changes no answer.
