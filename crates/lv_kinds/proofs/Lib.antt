@@ -4,5 +4,6 @@ mod BitLaws
 pub mod KeptLaws
 pub mod KindLaws
 mod KnowByLaws
+pub mod PushedLaws
 mod RunLaws
 pub mod ValueLaws

@@ -1,5 +1,5 @@
 -- What a vector keeps of what it was asked, by kind.
-use Rattle.std.specs.Prelude.{◌≡◌, ℕ, ℤ, ◌*◌, ◌≤◌, Bool, true, Option, List, length, nat_eq}
+use Rattle.std.specs.Prelude.{◌≡◌, ℕ, ℤ, ◌*◌, ◌≤◌, Bool, true, Option, Some, List, length, nat_eq}
 use Rattle.std.specs.Int.{bit_at}
 use Rattle.lv_geometry.specs.declared.nodes.Node.{Node}
 use Rattle.lv_bodies.specs.Body.{Operations, fold_of}
@@ -13,7 +13,7 @@ use Rattle.lv_bodies.specs.declared.best.RunTotals.{RunTotals}
 use Rattle.lv_bodies.specs.declared.kinds.Kind.{Kind}
 use Rattle.lv_bodies.specs.declared.kinds.Kind.TheVariants as kind
 use Rattle.lv_edits.specs.declared.edit.Edit.{Edit}
-use Rattle.lv_edits.specs.History.{list_of}
+use Rattle.lv_edits.specs.History.{History, list_of, replayed}
 use Rattle.lv_edits.specs.Touch.{elements_under, is_whole}
 use Rattle.lv_kinds.specs.NodeRows.{HasSameValues, NodeRowsState, value_at}
 
@@ -82,3 +82,9 @@ pub record KeepsAlike (old new : KindsState) : Type 0 where
   pub best : HasSameValues old.best new.best
   pub maps : HasSameValues old.maps new.maps
   pub states : HasSameValues old.states new.states
+
+-- so many values are pushed to a history that is legal, the first at this index
+pub record ArePushesOf (h : History) (xs : List ℤ) (first count : ℕ) : Type 0 where
+  pub legal : replayed h.journal ≡ Some (list_of h.journal)
+  pub first_is : length (list_of h.journal) ≡ first
+  pub count_is : length xs ≡ count

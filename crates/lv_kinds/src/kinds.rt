@@ -1,10 +1,13 @@
-ghost use Rattle.std.specs.Prelude.{◌≡◌, ℕ, ◌≤◌, ◌++◌, ◌∷◌, [], true, false, Some, None, List, length, IfErr, IfOk, OnErr, OnOk};
+ghost use Rattle.std.specs.Prelude.{◌≡◌, ℕ, ℤ, ◌+◌, ◌≤◌, ◌++◌, ◌∷◌, [], true, false, Some, None, List, length, IfErr, IfOk, OnErr, OnOk};
+ghost use Rattle.std.specs.List.{list_any, range_with_len};
+ghost use Rattle.lv_geometry.specs.Nodes.{covers};
 ghost use Rattle.lv_geometry.specs.declared.nodes.Node.{Node};
 ghost use Rattle.lv_bodies.specs.Automata.{table_of};
 ghost use Rattle.lv_bodies.specs.Six.{six_operations_by};
 ghost use Rattle.lv_bodies.specs.declared.kinds.Kind.{Kind as OneKind};
 ghost use Rattle.lv_edits.specs.History.{History, list_of};
 ghost use Rattle.lv_edits.specs.Kept.{IsLegalInLimits};
+ghost use Rattle.lv_edits.specs.Pushes.{with_pushes};
 ghost use Rattle.lv_edits.specs.Touch.{touches};
 ghost use Rattle.lv_edits.specs.Verdict.{verdict_of};
 ghost use Rattle.lv_known.specs.Agrees.{Agrees};
@@ -13,7 +16,7 @@ ghost use Rattle.lv_reduce.specs.Asked.{AreTopsKnown};
 ghost use Rattle.lv_live.specs.Follows.{indices_in};
 ghost use Rattle.lv_kinds.specs.Asked.{ArePartsFolds, CanAskBy, IsKindAnswer, LearnsBy};
 ghost use Rattle.lv_kinds.specs.Inner.{ClearsEach};
-ghost use Rattle.lv_kinds.specs.Kinds.{AreFolds, AreKept, HaveRoomFor, KeepsAlike, is_flagged, is_kept_by};
+ghost use Rattle.lv_kinds.specs.Kinds.{AreFolds, AreKept, ArePushesOf, HaveRoomFor, KeepsAlike, is_flagged, is_kept_by};
 
 use crate::asking::ask_by;
 use crate::kind_summaries::KindSummary;
@@ -113,6 +116,17 @@ impl Kinds {
         clear_each(&mut self.flags, touched_indices(edit, size));
     }
 
+    /// Hears of so many pushes, from an index on, that were accepted: what is kept of the nodes that they touch is kept no longer. The
+    /// room for what the vector then has is there.
+    pub fn follow_pushes(&mut self, first: u32, count: u32)
+        requires few { first + count ≤ 1048568 }
+        requires room { HaveRoomFor self.old (first + count) }
+        ensures kept { (table : List (List ℕ)) (h : History) (xs : List ℤ) → ArePushesOf h xs first count → AreKept table h.journal self.old → AreKept table (with_pushes h xs).journal self.new }
+        ensures remembers { (k : OneKind) (n : Node) → list_any (covers n) (range_with_len first count) ≡ false → is_kept_by self.new k n ≡ is_kept_by self.old k n }
+    {
+        clear_run(&mut self.flags, first, count);
+    }
+
     /// The summary by a kind of the elements from index `lo` up to `hi`, with the number of the last edit; what is computed for it is kept
     /// by that kind. Refused with `BadRange`, then `OutOfRange`: nothing has changed then. Takes no memory.
     #[inline(always)]
@@ -199,5 +213,18 @@ fn clear_each(flags: &mut NodeRows<u8>, touched: Touched)
             flags.clear(first);
             flags.clear(second);
         }
+    }
+}
+
+// Puts a blank for each node that has one of so many indices from one on, once for each block.
+fn clear_run(flags: &mut NodeRows<u8>, first: u32, count: u32)
+    requires { first + count ≤ 1048568 }
+    ensures { ClearsEach flags.old flags.new (range_with_len first count) }
+{
+    let mut done = 0;
+    while done < count {
+        let i = first + done;
+        flags.clear(i);
+        done += (8 - i % 8).min(count - done);
     }
 }
