@@ -194,7 +194,7 @@ static uint32_t forged(livevec_summary summary, size_t offset, uint64_t number)
     return livevec_summary_values(&summary).refusal;
 }
 
-static void places(const livevec_summary *s)
+static void summary_places(const livevec_summary *s)
 {
     const uint64_t minus_nine = (uint64_t)-9;
     IS(at(s, 0), 1);
@@ -270,7 +270,7 @@ static void bytes(void)
     IS(livevec_push(&v, 3).refusal | livevec_push(&v, -9).refusal | livevec_push(&v, 4).refusal, LIVEVEC_OK);
     livevec_summary s = taken(livevec_summary_of(&v, 0, 3));
     IS(livevec_free(&v), LIVEVEC_OK);
-    places(&s);
+    summary_places(&s);
     each_byte(&s);
     no_such_summary(&s);
 }
