@@ -3,6 +3,7 @@
 Plain Python sums, and takes the least and the greatest, by its own calls on slices of a list; a best run has no such call, so it is not timed.
 numpy gives all four.
 """
+import itertools
 import sys
 import time
 from array import array
@@ -80,6 +81,7 @@ def beside_numpy(values, spans, wanted):
         starts = numpy.concatenate(([0], ends[:-1]))
         return ends[-1], part.min(), part.max(), (ends - numpy.minimum.accumulate(starts)).max()
 
+    timed("numpy running sums", 1, lambda: numpy.cumsum(held))
     given = timed("numpy ask", RANGES, lambda: [four(held[lo:hi]) for lo, hi in spans])
     if given != [(it.sum, it.least, it.greatest, it.best) for it in wanted]:
         sys.exit("livevec and numpy don't give the same")
@@ -100,6 +102,11 @@ def main():
     if [(it.sum, it.least, it.greatest) for it in first] != plains:
         sys.exit("livevec and plain Python don't give the same")
     beside_numpy(side_by_side, spans, first)
+
+    sums, plain_sums = array("q", bytes(8 * PUSHES)), timed("plain running sums", 1, lambda: list(itertools.accumulate(plain)))
+    timed("livevec running sums", 1, lambda: vector.scan_inclusive_into("sum", sums))
+    if any((a - b) & M64 for a, b in zip(sums, plain_sums)):
+        sys.exit("livevec and plain Python don't give the same running sums")
 
     timed("livevec get", PUSHES, lambda: got(vector))
     timed("plain get", PUSHES, lambda: got(plain))

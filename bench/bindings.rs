@@ -5,7 +5,7 @@
 use std::hint::black_box;
 use std::time::Instant;
 
-use livevec::Vector;
+use livevec::{Vector, by};
 
 const PUSHES: u32 = 1_000_000;
 const RANGES: u32 = 300;
@@ -147,6 +147,14 @@ fn total(answers: impl Iterator<Item = i64>) -> i64 {
     answers.fold(0, i64::wrapping_add)
 }
 
+fn running(elements: &[i64], sums: &mut [i64]) {
+    let mut sum = 0_i64;
+    for (x, place) in elements.iter().zip(sums) {
+        sum = sum.wrapping_add(*x);
+        *place = sum;
+    }
+}
+
 fn main() {
     let (elements, ranges) = (elements(), ranges());
     let mut one_by_one = Vector::new().unwrap();
@@ -165,6 +173,12 @@ fn main() {
     timed("tree push", PUSHES, || elements.iter().for_each(|&x| tree.push(x)));
     let trees = timed("tree ask", RANGES, || total(ranges.iter().map(|&(lo, hi)| mixed(tree.ask(lo, hi).four()))));
     assert!(first == again && again == folds && folds == trees, "livevec and plain Rust give the same");
+
+    // into columns that were written before, so that no page is new
+    let (mut sums, mut plain_sums) = (vec![1; PUSHES as usize], vec![1; PUSHES as usize]);
+    timed("livevec running sums", 1, || vector.scan_inclusive_into::<by::Sum>(.., black_box(&mut sums)).unwrap().edit);
+    timed("plain running sums", 1, || running(&plain, black_box(&mut plain_sums)));
+    assert!(sums == plain_sums, "livevec and plain Rust give the same running sums");
 
     timed("livevec get", PUSHES, || total((0..PUSHES).map(|i| vector.get(black_box(i)).unwrap())));
     timed("plain get", PUSHES, || total((0..PUSHES).map(|i| plain[black_box(i as usize)])));

@@ -77,10 +77,10 @@ static uint64_t tree_sum(const tree *t, uint32_t lo, uint32_t hi)
     return sum;
 }
 
-/* A vector of the first so many elements, whose sums were asked for once. */
+/* A vector of sums alone, of the first so many elements, whose sum was asked for once. */
 static void filled(livevec_vector *v, uint32_t size)
 {
-    must(!livevec_new(v, 17, 16777215), "a vector");
+    must(!livevec_new_of(v, LIVEVEC_SUM, 17, 16777215), "a vector");
     must(!livevec_push_many(v, elements, size).refusal, "pushes");
     must(!livevec_value(v, LIVEVEC_SUM, 0, size).refusal, "a sum");
 }

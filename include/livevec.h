@@ -81,7 +81,7 @@ typedef enum livevec_refusal {
     LIVEVEC_DAMAGED = 110,     /* a summary whose bytes were changed, or that no elements have */
     LIVEVEC_OTHER_TABLE = 111, /* two summaries by automata of two tables */
     LIVEVEC_TOO_LONG = 112,    /* summaries of more than 2^62 elements together */
-    LIVEVEC_BAD_KIND = 113     /* a number that is no livevec_kind */
+    LIVEVEC_BAD_KIND = 113     /* a number that is no livevec_kind; or, at a vector of one kind, a question by another or by all six */
 } livevec_refusal;
 
 /* Slots. All zeros is 'empty'. The fields are the library's own. */
@@ -324,7 +324,14 @@ LIVEVEC_MUST_USE const char *livevec_refusal_text(uint32_t refusal);
  * Refusals: NULL, IN_USE, BAD_LIMITS, NO_MEMORY. Who calls owes a livevec_free. */
 LIVEVEC_MUST_USE uint32_t livevec_new(livevec_vector *slot, uint32_t buckets, uint32_t edits);
 
-/* The same, with an automaton of a table of the caller's, which is copied. Refusals: NULL, IN_USE, BAD_LIMITS, BAD_TABLE, NO_MEMORY. */
+/* The same of one livevec_kind alone, where no other is wanted: it is asked by livevec_value, livevec_value_many and the scans of that
+ * kind; of LEAST also by livevec_where_least, of GREATEST by livevec_where_greatest, of BEST by livevec_where_best and
+ * livevec_where_reaches. A question by another kind is refused with BAD_KIND, right after NO_HANDLE, and so is one by all six:
+ * livevec_reduce, livevec_ask, livevec_scan_inclusive, livevec_scan_exclusive, livevec_summary_of. So no question computes more than
+ * that kind. All else is as at any vector; refresh and jobs compute all six. Refusals: NULL, IN_USE, BAD_KIND, BAD_LIMITS, NO_MEMORY. */
+LIVEVEC_MUST_USE uint32_t livevec_new_of(livevec_vector *slot, uint32_t kind, uint32_t buckets, uint32_t edits);
+
+/* As livevec_new, with an automaton of a table of the caller's, which is copied. Refusals: NULL, IN_USE, BAD_LIMITS, BAD_TABLE, NO_MEMORY. */
 LIVEVEC_MUST_USE uint32_t livevec_new_with_table(livevec_vector *slot, uint32_t buckets, uint32_t edits,
                                                  const livevec_table *table);
 
@@ -387,28 +394,28 @@ LIVEVEC_MUST_USE livevec_count livevec_edits(livevec_vector *slot);
 /* --- Reductions --- */
 
 /* The plain values of the elements of a range, by each of the six kinds at once. Takes no memory, changes nothing.
- * Refusals: NULL, NO_HANDLE, BAD_RANGE, OUT_OF_RANGE. */
+ * Refusals: NULL, NO_HANDLE, BAD_KIND (a vector of one kind; so below), BAD_RANGE, OUT_OF_RANGE. */
 LIVEVEC_MUST_USE livevec_reduced livevec_reduce(livevec_vector *slot, uint32_t lo, uint32_t hi);
 
 /* The same, and keeps what it computes for it: a range that was asked for costs at most 14 cells and 84 summaries until an
- * edit touches it. Takes no memory, changes no answer. Refusals: NULL, NO_HANDLE, BAD_RANGE, OUT_OF_RANGE. */
+ * edit touches it. Takes no memory, changes no answer. Refusals: NULL, NO_HANDLE, BAD_KIND, BAD_RANGE, OUT_OF_RANGE. */
 LIVEVEC_MUST_USE livevec_reduced livevec_ask(livevec_vector *slot, uint32_t lo, uint32_t hi);
 
 /* The plain value of the elements of a range by one livevec_kind. Of `values` only those of that kind are told, and `any`; the
  * others are 0. It computes that kind alone, and keeps what it computes by that kind alone, until an edit touches it: where one kind
  * is wanted, this is quicker than livevec_ask and keeps less. Takes no memory, changes no answer.
- * Refusals: NULL, BAD_KIND, NO_HANDLE, BAD_RANGE, OUT_OF_RANGE. */
+ * Refusals: NULL, BAD_KIND (no kind), NO_HANDLE, BAD_KIND (not the vector's), BAD_RANGE, OUT_OF_RANGE. */
 LIVEVEC_MUST_USE livevec_reduced livevec_value(livevec_vector *slot, uint32_t kind, uint32_t lo, uint32_t hi);
 
 /* The same of `length` ranges, all after one edit: answers[i] has the values of ranges[i]. All ranges are looked at before the
  * first answer is written: where one is refused, `place` tells the first that is, and `answers` is as it was.
- * Refusals: NULL, BAD_KIND, NO_HANDLE, and, of the first range that is refused, BAD_RANGE, OUT_OF_RANGE. */
+ * Refusals: those of livevec_value, the last two of the first range that is refused. */
 LIVEVEC_MUST_USE livevec_many livevec_value_many(livevec_vector *slot, uint32_t kind, const livevec_range *ranges,
                                                  livevec_values *answers, size_t length);
 
 /* Where the first of the least elements of a range stands, and the first of the greatest. There is none of an empty range. It is
  * found in steps of the tree, and what is computed for it is kept by that kind, until an edit touches it. Takes no memory, changes
- * no answer. Refusals: NULL, NO_HANDLE, BAD_RANGE, OUT_OF_RANGE. */
+ * no answer. Refusals: NULL, NO_HANDLE, BAD_KIND, BAD_RANGE, OUT_OF_RANGE. */
 LIVEVEC_MUST_USE livevec_found livevec_where_least(livevec_vector *slot, uint32_t lo, uint32_t hi);
 LIVEVEC_MUST_USE livevec_found livevec_where_greatest(livevec_vector *slot, uint32_t lo, uint32_t hi);
 
@@ -420,9 +427,10 @@ LIVEVEC_MUST_USE livevec_found livevec_where_best(livevec_vector *slot, uint32_t
  * Elements may be negative, and no sum wraps. It is found, kept by the kind of best runs and refused as by livevec_where_least. */
 LIVEVEC_MUST_USE livevec_found livevec_where_reaches(livevec_vector *slot, uint32_t lo, uint32_t hi, int64_t sum);
 
-/* The running values of a range: buffer[i] has those of the elements from lo up to lo + i, that one included, or excluded.
- * Writes hi - lo values; `length` is how many the buffer takes. Where it was refused the buffer is as it was. Each value is
- * an answer of livevec_ask. Refusals: NULL, NO_HANDLE, BAD_RANGE, OUT_OF_RANGE, SHORT_BUFFER. */
+/* The running values of a range by all six kinds: buffer[i] has those of the elements from lo up to lo + i, that one included, or
+ * excluded. Writes hi - lo values; `length` is how many the buffer takes, and what it has behind them stays. Where it was refused the
+ * buffer is as it was. A call goes over the elements once and keeps nothing; it takes no memory and changes no answer.
+ * Refusals: NULL, NO_HANDLE, BAD_KIND, BAD_RANGE, OUT_OF_RANGE, SHORT_BUFFER. */
 LIVEVEC_MUST_USE livevec_scanned livevec_scan_inclusive(livevec_vector *slot, uint32_t lo, uint32_t hi, livevec_values *buffer,
                                                         size_t length);
 LIVEVEC_MUST_USE livevec_scanned livevec_scan_exclusive(livevec_vector *slot, uint32_t lo, uint32_t hi, livevec_values *buffer,
@@ -434,7 +442,7 @@ LIVEVEC_MUST_USE livevec_scanned livevec_scan_exclusive(livevec_vector *slot, ui
  * Where no element stands before, the least, the greatest and the best are 0, as livevec_value shows them: only at column[0] of an
  * exclusive scan. A call goes over the elements once and keeps nothing; it takes no memory and changes no answer.
  * Where it was refused the column is as it was.
- * Refusals: NULL, NO_HANDLE, BAD_RANGE, OUT_OF_RANGE, SHORT_BUFFER. */
+ * Refusals: NULL, NO_HANDLE, BAD_KIND, BAD_RANGE, OUT_OF_RANGE, SHORT_BUFFER. */
 LIVEVEC_MUST_USE livevec_scanned livevec_scan_inclusive_sum(livevec_vector *slot, uint32_t lo, uint32_t hi, uint64_t *column,
                                                             size_t length);
 LIVEVEC_MUST_USE livevec_scanned livevec_scan_inclusive_least(livevec_vector *slot, uint32_t lo, uint32_t hi, int64_t *column,
@@ -472,7 +480,7 @@ LIVEVEC_MUST_USE livevec_summarised livevec_summary_empty(void);
 LIVEVEC_MUST_USE livevec_summarised livevec_summary_empty_with_table(const livevec_table *table);
 
 /* The summary of the elements of a range of a vector, by its automaton, after its last edit. Changes nothing.
- * Refusals: NULL, NO_HANDLE, BAD_RANGE, OUT_OF_RANGE. */
+ * Refusals: NULL, NO_HANDLE, BAD_KIND, BAD_RANGE, OUT_OF_RANGE. */
 LIVEVEC_MUST_USE livevec_summarised livevec_summary_of(livevec_vector *slot, uint32_t lo, uint32_t hi);
 
 /* The summary of the elements of a summary, and then those of an array. A null pointer with length 0 is an empty array. Its

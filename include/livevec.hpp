@@ -86,6 +86,15 @@ class vector : public inner::owned<livevec_vector, livevec_free> {
         inner::check(livevec_new_with_table(slot(), buckets, edits, &table));
     }
 
+    /* One of one kind alone, where no other is wanted: it answers `value`, `value_many`, the one value and the scans of that kind, and the
+     * searches that go by it. Other questions, and those by all six kinds, are refused with LIVEVEC_BAD_KIND. */
+    explicit vector(livevec_kind only, std::uint32_t buckets = 17, std::uint32_t edits = 16777215) : limits_{buckets, edits}, only_(only)
+    {
+        inner::check(livevec_new_of(slot(), only, buckets, edits));
+    }
+    /* The kind that it is of, if it is of one. */
+    [[nodiscard]] std::optional<livevec_kind> kind() const noexcept { return only_; }
+
     /* One with elements, which are pushed. Where one is refused nothing is left. */
     vector(std::initializer_list<std::int64_t> elements) : vector() { push_many(elements); }
     explicit vector(array_view elements, std::uint32_t buckets = 17, std::uint32_t edits = 16777215) : vector(buckets, edits) { push_many(elements); }
@@ -94,10 +103,13 @@ class vector : public inner::owned<livevec_vector, livevec_free> {
         push_many(first, last);
     }
 
-    /* One of its own with the same elements, limits and table. Its edits are the pushes of its elements, so that their numbers begin anew. */
+    /* One of its own with the same elements, limits, table and kind. Its edits are the pushes of its elements, so that their numbers begin
+     * anew. */
     [[nodiscard]] vector clone() const
     {
-        vector made = table_ ? vector(*table_, limits_.buckets, limits_.edits) : vector(limits_.buckets, limits_.edits);
+        vector made = table_  ? vector(*table_, limits_.buckets, limits_.edits)
+                      : only_ ? vector(*only_, limits_.buckets, limits_.edits)
+                              : vector(limits_.buckets, limits_.edits);
         made.push_many(elements());
         return made;
     }
@@ -320,6 +332,7 @@ class vector : public inner::owned<livevec_vector, livevec_free> {
         std::uint32_t buckets, edits;
     } limits_;
     std::optional<livevec_table> table_;
+    std::optional<livevec_kind> only_;
 };
 
 } // namespace livevec

@@ -87,6 +87,7 @@ static uint32_t made(livevec_edited answer)
 }
 
 static uint32_t new_vector(void) { return livevec_new(&vector, 17, 1000); }
+static uint32_t new_of_kind(void) { return livevec_new_of(&vector, LIVEVEC_SUM, 17, 1000); }
 static uint32_t push(void) { return made(livevec_push(&vector, 1)); }
 static uint32_t pop(void) { return made(livevec_pop(&vector)); }
 static uint32_t overwrite(void) { return made(livevec_write(&vector, 3, 9)); }
@@ -122,6 +123,7 @@ static const struct {
     bool (*is_right)(void);
 } rows[] = {
     {"livevec_new", nothing, new_vector, is_empty},
+    {"livevec_new_of", nothing, new_of_kind, is_empty},
     {"livevec_new_with_table", nothing, new_by_table, is_empty},
     {"livevec_reserve 56 from nothing", empty, reserve, is_first},
     {"livevec_push, the first", empty, push, is_first},

@@ -1,6 +1,6 @@
 /* The functions of livevec.h: each answers LIVEVEC_NULL where a pointer is null, and else calls the proved export of its name.
- * The last seven walk over many elements, a proved call each,
- * and two of summaries, a proved call for up to 1,024. This file is C, so no proof covers it. */
+ * Those of many elements at once walk over them, a proved call each, but for scans, which are one call; and two of summaries make a
+ * proved call for up to 1,024. This file is C, so no proof covers it. */
 #include "livevec.h"
 
 #include <stdatomic.h>
@@ -40,7 +40,7 @@ const char *livevec_refusal_text(uint32_t refusal)
     case LIVEVEC_DAMAGED: return "a damaged summary";
     case LIVEVEC_OTHER_TABLE: return "summaries by two tables";
     case LIVEVEC_TOO_LONG: return "more elements than summaries may have";
-    case LIVEVEC_BAD_KIND: return "a number that is no kind";
+    case LIVEVEC_BAD_KIND: return "a number that is no kind, or a kind that the vector is not of";
     default: return "unknown";
     }
 }
@@ -107,6 +107,7 @@ static void leave_both(unsigned char *first, unsigned char *second)
     AT_TWO(answer, AS_STRUCT, name, parameters, first, second, arguments)
 
 TOLD(new, (livevec_vector *slot, uint32_t buckets, uint32_t edits), slot, (slot, buckets, edits))
+TOLD(new_of, (livevec_vector *slot, uint32_t kind, uint32_t buckets, uint32_t edits), slot, (slot, kind, buckets, edits))
 AT_ONE(uint32_t, AS_NUMBER, new_with_table, (livevec_vector *slot, uint32_t buckets, uint32_t edits, const livevec_table *table), slot && table, slot,
        (slot, buckets, edits, table))
 ANSWERED(livevec_edited, push, (livevec_vector *slot, int64_t value), slot, (slot, value))
@@ -379,12 +380,9 @@ static livevec_scanned judge(livevec_vector *slot, uint32_t lo, uint32_t hi, siz
     }
 
 FILLED(read, int64_t, livevec_proved_get(slot, lo + i).value)
-FILLED(scan_inclusive, livevec_values, livevec_proved_ask(slot, lo, lo + i + 1).values)
-FILLED(scan_exclusive, livevec_values, livevec_proved_ask(slot, lo, lo + i).values)
 
-/* Scans by one kind: a proved call writes the whole column. It is never given a null pointer: where there are no places, they begin
- * anywhere. */
-#define SCANNED(name, cell)                                                                                            \
+/* Scans: a proved call writes the whole column. It is never given a null pointer: where there are no places, they begin anywhere. */
+#define SCANNED(name, ending, cell)                                                                                    \
     livevec_scanned livevec_proved_scan_##name(livevec_vector *slot, uint32_t lo, uint32_t hi, bool inclusive,         \
                                                cell *column, size_t length);                                           \
     static livevec_scanned scan_##name(livevec_vector *slot, uint32_t lo, uint32_t hi, bool inclusive, cell *column,   \
@@ -401,23 +399,24 @@ FILLED(scan_exclusive, livevec_values, livevec_proved_ask(slot, lo, lo + i).valu
         leave(&slot->busy_);                                                                                           \
         return answer;                                                                                                 \
     }                                                                                                                  \
-    livevec_scanned livevec_scan_inclusive_##name(livevec_vector *slot, uint32_t lo, uint32_t hi, cell *column,        \
+    livevec_scanned livevec_scan_inclusive##ending(livevec_vector *slot, uint32_t lo, uint32_t hi, cell *column,       \
                                                   size_t length)                                                       \
     {                                                                                                                  \
         return scan_##name(slot, lo, hi, true, column, length);                                                        \
     }                                                                                                                  \
-    livevec_scanned livevec_scan_exclusive_##name(livevec_vector *slot, uint32_t lo, uint32_t hi, cell *column,        \
+    livevec_scanned livevec_scan_exclusive##ending(livevec_vector *slot, uint32_t lo, uint32_t hi, cell *column,       \
                                                   size_t length)                                                       \
     {                                                                                                                  \
         return scan_##name(slot, lo, hi, false, column, length);                                                       \
     }
 
-SCANNED(sum, uint64_t)
-SCANNED(least, int64_t)
-SCANNED(greatest, int64_t)
-SCANNED(best, livevec_total)
-SCANNED(affine, livevec_map)
-SCANNED(automaton, livevec_states)
+SCANNED(sum, _sum, uint64_t)
+SCANNED(least, _least, int64_t)
+SCANNED(greatest, _greatest, int64_t)
+SCANNED(best, _best, livevec_total)
+SCANNED(affine, _affine, livevec_map)
+SCANNED(automaton, _automaton, livevec_states)
+SCANNED(values, , livevec_values)
 
 /* Reads a closed board whose slot is entered. */
 static uint32_t read_closed(livevec_board *board, int64_t *buffer, size_t room, uint32_t *count)

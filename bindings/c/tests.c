@@ -340,7 +340,7 @@ static void words(void)
     IS(strcmp(livevec_version(), LIVEVEC_VERSION), 0);
     IS(strcmp(livevec_refusal_text(LIVEVEC_EMPTY), "there is nothing to pop"), 0);
     IS(strcmp(livevec_refusal_text(LIVEVEC_BUSY), "another call is under way at the slot"), 0);
-    IS(strcmp(livevec_refusal_text(LIVEVEC_BAD_KIND), "a number that is no kind"), 0);
+    IS(strcmp(livevec_refusal_text(LIVEVEC_BAD_KIND), "a number that is no kind, or a kind that the vector is not of"), 0);
     IS(strcmp(livevec_refusal_text(99), "unknown"), 0);
 }
 
@@ -358,6 +358,7 @@ int main(void)
     beside();
     kinds();
     columns();
+    one_kind();
     places();
     summaries();
     boards();

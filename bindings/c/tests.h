@@ -21,7 +21,10 @@ void beside(void);
 /* The tests of questions by one kind, and of many writes and questions at once. */
 void kinds(void);
 
-/* The tests of scans by one kind into columns. */
+/* The tests of vectors of one kind. */
+void one_kind(void);
+
+/* The tests of scans into columns. */
 void columns(void);
 
 /* The tests of summaries that travel. */

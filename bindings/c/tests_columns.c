@@ -1,4 +1,4 @@
-/* Scans by one kind into columns, beside plain loops over the same elements; and that each free is of its own type. */
+/* Scans by one kind into columns, and by all six into values, beside plain loops over the same elements; and that each free is of its own type. */
 #include "tests.h"
 
 #include <stdlib.h>
@@ -99,12 +99,37 @@ static void loop(const int64_t *xs, uint32_t length)
         COLUMN(way, automaton, livevec_states); \
     } while (0)
 
+/* All six at once, into values and some behind, which stay as they were. */
+static void scan_six(livevec_vector *v, bool whole, const cells *wanted, uint32_t lo, uint32_t hi, uint32_t edits)
+{
+    uint32_t length = hi - lo;
+    livevec_values *got = malloc((length + BEHIND) * sizeof *got);
+    unsigned char marks[BEHIND * sizeof *got];
+    memset(got, 85, (length + BEHIND) * sizeof *got);
+    memset(marks, 85, sizeof marks);
+    livevec_scanned did = (whole ? livevec_scan_inclusive : livevec_scan_exclusive)(v, lo, hi, got, length + BEHIND);
+    IS(did.refusal + did.detail, 0);
+    IS(did.edit, edits);
+    IS(did.length, length);
+    for (uint32_t i = 0; i < length; i++) {
+        const livevec_values *a = &got[i];
+        const cells *b = &wanted[i];
+        if (a->sum != b->sum || a->least != b->least || a->greatest != b->greatest || a->best_low != b->best.low || a->best_high != b->best.high ||
+            a->affine_a != b->affine.a || a->affine_b != b->affine.b || memcmp(a->automaton, b->automaton.to, 8) || a->any != (whole || i > 0))
+            IS(i, -1);
+    }
+    IS(memcmp(got + length, marks, sizeof marks), 0);
+    free(got);
+}
+
 static void scan_all(livevec_vector *v, const int64_t *xs, uint32_t lo, uint32_t hi, uint32_t edits)
 {
     uint32_t length = hi - lo;
     loop(xs + lo, length);
     COLUMNS(inclusive);
     COLUMNS(exclusive);
+    scan_six(v, true, inclusive, lo, hi, edits);
+    scan_six(v, false, exclusive, lo, hi, edits);
 }
 
 /* All kinds over random ranges of a vector that is edited meanwhile: its last write may lie inside a range. */

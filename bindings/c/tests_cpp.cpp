@@ -98,6 +98,22 @@ static void is_asked_by_one_kind()
     IS(refusal_of([&] { (void)all.value(LIVEVEC_SUM, 1, 0); }) == LIVEVEC_BAD_RANGE);
 }
 
+static void is_of_one_kind()
+{
+    livevec::vector least(LIVEVEC_LEAST, 3, 1000);
+    IS(least.kind() == LIVEVEC_LEAST && !livevec::vector().kind());
+    least.push_many({4, -6, 9});
+    IS(least.least(0, 3) == -6 && least.where_least(0, 3)->index == 1 && (least.elements() == numbers{4, -6, 9}));
+    IS((least.scan_inclusive<LIVEVEC_LEAST>(0, 3) == numbers{4, -6, -6}) && least.value_many(LIVEVEC_LEAST, {{2, 3}})[0].least == 9);
+    IS(refusal_of([&] { (void)least.sum(0, 3); }) == LIVEVEC_BAD_KIND && refusal_of([&] { (void)least.ask(0, 3); }) == LIVEVEC_BAD_KIND);
+    IS(refusal_of([&] { (void)least.where_best(0, 9); }) == LIVEVEC_BAD_KIND);
+    IS(refusal_of([&] { (void)least.scan_inclusive<LIVEVEC_BEST>(0, 3); }) == LIVEVEC_BAD_KIND);
+    const livevec::vector clone = least.clone();
+    IS(clone == least && clone.kind() == LIVEVEC_LEAST && refusal_of([&] { (void)clone.reduce(0, 1); }) == LIVEVEC_BAD_KIND);
+    IS(refusal_of([] { livevec::vector(static_cast<livevec_kind>(6)); }) == LIVEVEC_BAD_KIND);
+    IS(refusal_of([] { livevec::vector(LIVEVEC_SUM, 18); }) == LIVEVEC_BAD_LIMITS);
+}
+
 static void finds_where()
 {
     livevec::vector all{4, -6, 9, 9, -6, -1, 20, -2};
@@ -254,6 +270,7 @@ int main()
     is_scanned();
     is_scanned_into_columns();
     is_asked_by_one_kind();
+    is_of_one_kind();
     finds_where();
     takes_many_writes();
     sits_at_a_board();

@@ -696,6 +696,26 @@ print(vector.edits)
             copied.extend(range(5))
             self.assertRaises(livevec.Worn, copied.clear)
 
+    def test_a_vector_of_one_kind(self):
+        v = Vector([4, -6, 9], most_buckets=2, kind="least")
+        self.assertEqual((v.kind, v.least(), v.where_least(), v.value("least", 1, 1)), (Kind.LEAST, -6, (1, -6), None))
+        self.assertEqual((v.value_many("least", [(0, 1), (2, 3)]), v.scan_inclusive_by("least").cells.tolist()), ([4, 9], [4, -6, -6]))
+        v[1] = 20
+        self.assertEqual((v.pop(), list(v), v.least(), v.refresh(1), v.edits), (9, [4, 20], 4, 0, 5))
+        for call in (v.sum, v.greatest, v.best, v.ask, v.reduce, v.summary, v.scan_inclusive, v.scan_exclusive, v.where_best, v.where_greatest,
+                     lambda: v.where_reaches(1), lambda: v.value("affine"), lambda: v.value_many("sum", []), lambda: v.scan_exclusive_by("sum")):
+            with self.assertRaisesRegex(livevec.BadKind, "a kind that the vector is not of") as told:
+                call()
+            self.assertEqual((told.exception.number, told.exception.detail), (113, 0))
+        for copied in (v.copy(), copy.deepcopy(v), pickle.loads(pickle.dumps(v))):
+            self.assertEqual((copied.kind, list(copied)), (Kind.LEAST, [4, 20]))
+            self.assertRaises(livevec.BadKind, copied.sum)
+            self.assertRaises(livevec.TooLarge, copied.reserve, 25)
+        self.assertEqual((Vector().kind, [Vector(kind=kind).kind for kind in Kind]), (None, list(Kind)))
+        self.assertRaises(livevec.BadLimits, Vector, kind=Kind.SUM, most_buckets=18)
+        self.assertRaises(ValueError, Vector, kind="median")
+        self.assertRaises(ValueError, Vector, kind="automaton", table=[[0] * 4] * 8)
+
     def test_equal_by_elements(self):
         self.assertTrue(Vector() == Vector() and Vector([1, 2]) == Vector([1, 2], most_edits=5) and not Vector([1]) != Vector([1]))
         for other in (Vector([1]), Vector([1, 3]), Vector([1, 2, 3]), [1, 2], array("q", [1, 2]), None):

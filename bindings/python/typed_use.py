@@ -37,7 +37,8 @@ def vectors(prices: Vector, some: Prices) -> None:
     prices.read_into(memoryview(every), 0, 1)
     sums: memoryview = prices.scan_inclusive_by("sum", index).cells
     filled: int = prices.scan_exclusive_into(Kind.LEAST, every)
-    print(least, whole, last.best, why, same, one, many, sums, filled)
+    kind: Optional[Kind] = Vector(numbers, kind="sum").kind
+    print(least, whole, last.best, why, same, one, many, sums, filled, kind)
 
 
 def wrong_vectors(prices: Vector) -> None:
@@ -48,6 +49,7 @@ def wrong_vectors(prices: Vector) -> None:
     prices.push(7, 8)  # type: ignore[call-arg]
     prices.deliver(prices)  # type: ignore[arg-type]
     Vector(["7"])  # type: ignore[list-item]
+    Vector(kind=0)  # type: ignore[arg-type]
     prices.insert(0, least)  # type: ignore[attr-defined]
     prices.read_into([0])  # type: ignore[arg-type]
     prices.value(7)  # type: ignore[arg-type]

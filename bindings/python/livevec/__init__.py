@@ -49,6 +49,7 @@ __all__ = [
     "Board", "Seat", "Kind", "Told", "Refreshed", "Finished",
     "Refusal", "Worn", "Empty", "OutOfRange", "TooLarge", "Full", "NoMemory", "BadRange", "BadLimits", "BadTable", "Stranger", "Closed",
     "ShortBuffer", "TooWide", "Outrun", "Contended", "Overtaken", "NoSeat", "SeatsOut", "Busy", "OtherVersion", "Damaged", "OtherTable", "TooLong",
+    "BadKind",
     "MOST_BUCKETS", "MOST_EDITS", "MOST_BOARD_BUCKETS", "MOST_SEATS", "SUMMARY_BYTES",
 ]
 
@@ -230,8 +231,14 @@ class TooLong(Refusal, OverflowError):
     number, says = 112, "more elements than summaries may have"
 
 
+class BadKind(Refusal, ValueError):
+    """A vector of one kind was asked by another, or by all six."""
+
+    number, says = 113, "a kind that the vector is not of"
+
+
 _REFUSALS = {it.number: it for it in (Worn, Empty, OutOfRange, TooLarge, Full, NoMemory, BadRange, BadLimits, BadTable, Stranger, TooWide, Contended,
-                                      Overtaken, Closed, ShortBuffer, NoSeat, SeatsOut, Busy, OtherVersion, Damaged, OtherTable, TooLong)}
+                                      Overtaken, Closed, ShortBuffer, NoSeat, SeatsOut, Busy, OtherVersion, Damaged, OtherTable, TooLong, BadKind)}
 
 
 def _refuse(number: int, detail: int = 0, pushed: int = 0, place: int = 0) -> Refusal:
@@ -484,6 +491,7 @@ def _call(name: str, result: Any, *arguments: Any, by: ctypes.CDLL = _lib) -> An
 _slot, _job, _outcome = ctypes.POINTER(_VectorSlot), ctypes.POINTER(_JobSlot), ctypes.POINTER(_OutcomeSlot)
 _u32, _i64, _pointer, _size = ctypes.c_uint32, ctypes.c_int64, ctypes.c_void_p, ctypes.c_size_t
 _new = _call("livevec_new", _u32, _slot, _u32, _u32)
+_new_of = _call("livevec_new_of", _u32, _slot, _u32, _u32, _u32)
 _new_with_table = _call("livevec_new_with_table", _u32, _slot, _u32, _u32, ctypes.POINTER(_Table))
 _free = _call("livevec_free", _u32, _slot)
 _push = _call("livevec_push", _Edited, _slot, _i64)
@@ -903,11 +911,13 @@ class Vector(_Handle, collections.abc.Sequence[int]):
     before the first element is that element's; other than a slice, a range that goes past the vector's end is refused. An answer equals the plain
     left fold of the range after the last edit.
 
-    Two vectors are equal where their elements are, so that a vector has no hash. A copy, also one by `copy` or by `pickle`, has elements, limits
-    and table; its edits are the pushes of its elements.
+    Two vectors are equal where their elements are, so that a vector has no hash. A copy, also one by `copy` or by `pickle`, has elements, limits,
+    table and kind; its edits are the pushes of its elements.
 
     `elements` are pushed at the start. There are limits of buckets, of which k have room for 8 * (2**k - 1) elements, and of edits. `table` is that of the
-    automaton, eight rows of four states from 0 to 7: from state q, an element x leads to table[q][x % 4]; without it, to (2 * q + x % 4) % 8.
+    automaton, eight rows of four states from 0 to 7: from state q, an element x leads to table[q][x % 4]; without it, to (2 * q + x % 4) % 8. `kind`, a
+    `Kind` or its name, makes a vector of that kind alone, without a table of its own: it answers `value`, `value_many`, the one value and the
+    scans of that kind, and the searches that go by it, and raises BadKind of other questions, and of those by all six kinds.
 
     Raises BadLimits, BadTable and NoMemory. The memory is given back by `close`, at the end of a `with`, or with the object.
     """
@@ -916,19 +926,29 @@ class Vector(_Handle, collections.abc.Sequence[int]):
     _made_of = _VectorSlot
 
     def __init__(self, elements: Iterable[int] = (), *, most_buckets: int = MOST_BUCKETS, most_edits: int = MOST_EDITS,
-                 table: Optional[Sequence[Sequence[int]]] = None) -> None:
+                 table: Optional[Sequence[Sequence[int]]] = None, kind: Union[Kind, str, None] = None) -> None:
         self._changes = 0
         buckets, edits = _as_u32(most_buckets, "most_buckets"), _as_u32(most_edits, "most_edits")
         table = None if table is None else tuple(tuple(row) for row in table)
+        only = None if kind is None else _kind_of(kind)
+        if only is not None and table is not None:
+            raise ValueError("a vector of one kind has no table of its own")
         # what a copy is made by
-        self._limits = buckets, edits, table
-        if table is None:
+        self._limits = buckets, edits, table, only
+        if only is not None:
+            refusal = _new_of(self._at, only.value, buckets, edits)
+        elif table is None:
             refusal = _new(self._at, buckets, edits)
         else:
             refusal = _new_with_table(self._at, buckets, edits, ctypes.byref(_table_of(table)))
         if refusal:
             raise _refuse(refusal)
         self.extend(elements)
+
+    @property
+    def kind(self) -> Optional[Kind]:
+        """The kind that it is of, if it is of one."""
+        return self._limits[3]
 
     # Edits.
 
@@ -1068,7 +1088,7 @@ class Vector(_Handle, collections.abc.Sequence[int]):
     # Copies.
 
     def copy(self: _SomeVector) -> _SomeVector:
-        """A vector of its own with the same elements, limits and table. Raises NoMemory.
+        """A vector of its own with the same elements, limits, table and kind. Raises NoMemory.
 
         Its edits are the pushes of its elements, so that their numbers begin anew: a vector that is worn goes on as its copy."""
         return _remade(type(self), self.to_array(), *self._limits)
@@ -1425,9 +1445,12 @@ class Vector(_Handle, collections.abc.Sequence[int]):
         return did.length
 
 
-def _remade(of: type[_SomeVector], elements: array[int], buckets: int, edits: int, table: Optional[Sequence[Sequence[int]]]) -> _SomeVector:
-    """A copy, of a vector here or of one that was pickled."""
-    return of(elements, most_buckets=buckets, most_edits=edits, table=table)
+def _remade(of: type[_SomeVector], elements: array[int], buckets: int, edits: int, table: Optional[Sequence[Sequence[int]]],
+            kind: Optional[Kind] = None) -> _SomeVector:
+    """A copy, of a vector here or of one that was pickled, also before there were vectors of one kind."""
+    if kind is None:
+        return of(elements, most_buckets=buckets, most_edits=edits, table=table)
+    return of(elements, most_buckets=buckets, most_edits=edits, kind=kind)
 
 
 # --- The board and its seats ---

@@ -33,7 +33,7 @@ impl Vector {
         Ok(elements)
     }
 
-    /// A vector of its own with the same elements, limits and table. Refused with `NoMemory` alone.
+    /// A vector of its own with the same elements, limits, table and kind. Refused with `NoMemory` alone.
     ///
     /// Its edits are the pushes of its elements, so that their numbers begin anew: a vector that is worn goes on as its clone.
     ///
@@ -53,9 +53,10 @@ impl Vector {
     /// # }
     /// ```
     pub fn try_clone(&self) -> Result<Vector, Refusal> {
-        let mut made = match &self.table {
-            Some(table) => Vector::with_table(self.limits, table)?,
-            None => Vector::with_limits(self.limits)?,
+        let mut made = match (&self.table, self.only) {
+            (Some(table), _) => Vector::with_table(self.limits, table)?,
+            (None, Some(kind)) => Vector::of_kind(kind, self.limits)?,
+            (None, None) => Vector::with_limits(self.limits)?,
         };
         made.extend_from_slice(&self.to_vec()?)?;
         Ok(made)

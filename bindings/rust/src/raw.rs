@@ -205,6 +205,7 @@ struct Verdict {
 
 unsafe extern "C" {
     fn livevec_new(slot: *mut Slot, buckets: u32, edits: u32) -> u32;
+    fn livevec_new_of(slot: *mut Slot, kind: u32, buckets: u32, edits: u32) -> u32;
     fn livevec_new_with_table(slot: *mut Slot, buckets: u32, edits: u32, table: *const [[u8; 4]; 8]) -> u32;
     fn livevec_free(slot: *mut Slot) -> u32;
     fn livevec_push(slot: *mut Slot, value: i64) -> Edited;
@@ -356,6 +357,13 @@ impl Vector {
         let slot = boxed(Slot::empty())?;
         // SAFETY: the slot is empty, and lies in its box until it is dropped.
         answered(unsafe { livevec_new(slot.get(), buckets, edits) }, 0, ())?;
+        Ok(Vector { slot })
+    }
+
+    pub(crate) fn of_kind(kind: u32, buckets: u32, edits: u32) -> Result<Vector, Refusal> {
+        let slot = boxed(Slot::empty())?;
+        // SAFETY: the slot is empty, and lies in its box until it is dropped.
+        answered(unsafe { livevec_new_of(slot.get(), kind, buckets, edits) }, 0, ())?;
         Ok(Vector { slot })
     }
 

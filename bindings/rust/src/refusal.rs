@@ -76,6 +76,8 @@ pub enum Refusal {
     OtherTable,
     /// 112: summaries of more than 2^62 elements together.
     TooLong,
+    /// 113: a vector of one kind was asked by another, or by all six.
+    BadKind,
     /// Any other number. No call of this crate gives it today.
     Other {
         /// The number.
@@ -108,6 +110,7 @@ impl Refusal {
             110 => Refusal::Damaged,
             111 => Refusal::OtherTable,
             112 => Refusal::TooLong,
+            113 => Refusal::BadKind,
             number => Refusal::Other { number },
         }
     }
@@ -136,6 +139,7 @@ impl Refusal {
             Refusal::Damaged => 110,
             Refusal::OtherTable => 111,
             Refusal::TooLong => 112,
+            Refusal::BadKind => 113,
             Refusal::Other { number } => number,
         }
     }
@@ -183,6 +187,7 @@ impl fmt::Display for Refusal {
             Refusal::Damaged => f.write_str("a damaged summary"),
             Refusal::OtherTable => f.write_str("summaries by two tables"),
             Refusal::TooLong => f.write_str("more elements than summaries may have"),
+            Refusal::BadKind => f.write_str("a kind that the vector is not of"),
             Refusal::ShortBuffer { wanted } => write!(f, "a buffer shorter than the {wanted} values"),
             Refusal::Other { number } => write!(f, "refused {number}"),
         }

@@ -46,6 +46,7 @@ pub struct Vector {
     // what a clone is made by
     pub(crate) limits: Limits,
     pub(crate) table: Option<[[u8; 4]; 8]>,
+    pub(crate) only: Option<Kind>,
 }
 
 impl Vector {
@@ -56,7 +57,35 @@ impl Vector {
 
     /// A vector of limits of its own. Refused with `NoMemory` alone.
     pub fn with_limits(limits: Limits) -> Result<Vector, Refusal> {
-        Ok(Vector { raw: raw::Vector::new(limits.buckets(), limits.edits())?, limits, table: None })
+        Ok(Vector { raw: raw::Vector::new(limits.buckets(), limits.edits())?, limits, table: None, only: None })
+    }
+
+    /// A vector of one kind alone, where no other is wanted. It answers [`value`](Vector::value), [`value_many`](Vector::value_many), the method
+    /// of that kind and its scans, and the searches that go by it: of `Least` [`where_least`](Vector::where_least), of `Greatest`
+    /// [`where_greatest`](Vector::where_greatest), of `Best` [`where_best`](Vector::where_best) and [`where_reaches`](Vector::where_reaches).
+    /// Each of these by another kind is refused with `BadKind`, before its range is looked at, and so is what is by all six. Refused with
+    /// `NoMemory` alone.
+    ///
+    /// ```
+    /// use livevec::{Kind, Limits, Refusal, Vector};
+    ///
+    /// # fn main() -> Result<(), Refusal> {
+    /// let mut volumes = Vector::of_kind(Kind::Sum, Limits::GREATEST)?;
+    /// volumes.extend_from_slice(&[300, 120, 500])?;
+    /// assert_eq!(volumes.sum(1..)?, 620);
+    /// assert_eq!(volumes.greatest(..), Err(Refusal::BadKind));
+    /// assert_eq!(volumes.ask(..).err(), Some(Refusal::BadKind));
+    /// assert_eq!(volumes.try_clone()?.kind(), Some(Kind::Sum));
+    /// # Ok(())
+    /// # }
+    /// ```
+    pub fn of_kind(kind: Kind, limits: Limits) -> Result<Vector, Refusal> {
+        Ok(Vector { raw: raw::Vector::of_kind(kind as u32, limits.buckets(), limits.edits())?, limits, table: None, only: Some(kind) })
+    }
+
+    /// The kind that it is of, if it is of one.
+    pub fn kind(&self) -> Option<Kind> {
+        self.only
     }
 
     /// A vector whose automaton goes by this table: from state `q`, an element `x` leads to `table[q][x mod 4]`, the remainder never negative.
@@ -79,7 +108,7 @@ impl Vector {
     /// # }
     /// ```
     pub fn with_table(limits: Limits, table: &[[u8; 4]; 8]) -> Result<Vector, Refusal> {
-        Ok(Vector { raw: raw::Vector::with_table(limits.buckets(), limits.edits(), table)?, limits, table: Some(*table) })
+        Ok(Vector { raw: raw::Vector::with_table(limits.buckets(), limits.edits(), table)?, limits, table: Some(*table), only: None })
     }
 
     /// Puts an element at the end. Refused with `Worn`, `Full`, `NoMemory`, in this order.

@@ -29,6 +29,33 @@ fn each_edit_has_its_receipt() {
 }
 
 #[test]
+fn a_vector_of_one_kind_refuses_the_others() {
+    let plain = of(&[4, -6, 9, -1]);
+    for kind in Kind::ALL {
+        let mut vector = Vector::of_kind(kind, Limits::new(2, 100).unwrap()).unwrap();
+        vector.extend_from_slice(&[4, -6, 9, 0]).unwrap();
+        vector.write(3, -1).unwrap();
+        assert_eq!((vector.kind(), plain.kind()), (Some(kind), None));
+        for asked in Kind::ALL {
+            let wanted = if asked == kind { plain.value(kind, 1..) } else { Err(Refusal::BadKind) };
+            assert_eq!(vector.value(asked, 1..), wanted);
+            let many = vector.value_many(asked, [0..2, 1..4]);
+            assert_eq!(many.is_ok(), asked == kind);
+            assert_eq!(many.err().map_or(113, |refused| refused.refusal.number()), 113);
+        }
+        let clone = vector.try_clone().unwrap();
+        assert_eq!((&clone == &vector, clone.kind()), (true, Some(kind)));
+        for vector in [&vector, &clone] {
+            assert_eq!((vector.ask(..).err(), vector.reduce(9..1).err()), (Some(Refusal::BadKind), Some(Refusal::BadKind)));
+            assert_eq!(vector.scan_inclusive(..).err(), Some(Refusal::BadKind));
+            assert_eq!((vector.summary(..).err(), vector.where_least(..).is_ok()), (Some(Refusal::BadKind), kind == Kind::Least));
+            assert_eq!((vector.where_best(..).is_ok(), vector.where_reaches(.., 9).is_ok()), (kind == Kind::Best, kind == Kind::Best));
+        }
+    }
+    assert_eq!(Refusal::BadKind.to_string(), "a kind that the vector is not of");
+}
+
+#[test]
 fn two_elements_change_places_and_the_end_is_cut() {
     let mut vector = of(&[4, 6, 9]);
     assert_eq!(vector.swap(0, 2), Ok(Swapped { edit: 4, first: 9 }));

@@ -6,7 +6,6 @@ pub mod KindAnswers
 pub mod KindVectorLaws
 pub mod Openings
 pub mod PlainAnswers
-pub mod SpreadFolds
 pub mod Programs
 pub mod Seatless
 pub mod Others

@@ -9,7 +9,7 @@ use Rattle.livevec_c.specs.Behind.{no_count}
 use Rattle.livevec_c.specs.Lives.{ClosesObject, TakesBackObject}
 
 pub other_closes : (old : Object) → ((b : KindBoard) → old ≡ Board b → ⊥) → ClosesObject no_count old old
-other_closes (Vector state) other = (refl, refl)
+other_closes (Vector state only) other = (refl, refl)
 other_closes (Job job) other = (refl, refl)
 other_closes (Outcome outcome) other = (refl, refl)
 other_closes (Board board) other = elim (other board refl) [ ]
@@ -18,7 +18,7 @@ other_closes (Closed ended) other = (refl, refl)
 
 -- what is no seat isn't taken back
 pub other_stays : (board : KindBoard) (held : Object) (slot : Option Object) → ((s : KindSeat) → held ≡ Seat s → ⊥) → slot ≡ Some held → TakesBackObject 101 board held board slot
-other_stays board (Vector state) slot other is = (refl, refl, is)
+other_stays board (Vector state only) slot other is = (refl, refl, is)
 other_stays board (Job job) slot other is = (refl, refl, is)
 other_stays board (Outcome outcome) slot other is = (refl, refl, is)
 other_stays board (Board closed) slot other is = (refl, refl, is)

@@ -1,6 +1,6 @@
 -- What is answered of a range are its plain values.
 use Rattle.std.proofs.Common.{◌≡◌, ℕ, ◌≤◌, lit≤, sym, ap, ◌∙◌, subst, arith}
-use Rattle.std.specs.Prelude.{◌-◌, Result, Ok, Err, IfOk}
+use Rattle.std.specs.Prelude.{◌-◌, Some, None, Result, Ok, Err, IfOk}
 use Rattle.lv_geometry.specs.Numbers.{number_of}
 use Rattle.lv_geometry.specs.declared.refusals.Refusal.{Refusal}
 use Rattle.lv_geometry.specs.declared.refusals.Refusal.TheVariants.{Worn, Empty, OutOfRange, TooLarge, Full, NoMemory, BadRange, BadLimits, BadTable, NameTaken, NoSuchName, TooMany, ReadFault, WriteFault, Stranger, TooWide, Contended, Overtaken, NoJob, NotNow}
@@ -15,10 +15,10 @@ use Rattle.lv_known.proofs.FoldableLaws.{can_fold, part_can_fold}
 use Rattle.livevec_c.specs.declared.objects.Object.{Object}
 use Rattle.livevec_c.specs.declared.objects.Object.TheVariants.{Vector, Job, Outcome, Board, Seat, Closed}
 use Rattle.livevec_c.specs.declared.results.Reduced.{Reduced}
-use Rattle.livevec_c.specs.Answers.{reduced_by, spread}
+use Rattle.livevec_c.specs.Answers.{reduced_by, spread, unreduced}
 use Rattle.livevec_c.specs.Behind.{AsksObject, ReducesObject, State}
 use Rattle.livevec_c.specs.Plainly.{AreValues, IsPlainObject, IsPlainOf}
-use Rattle.livevec_c.proofs.SpreadFolds.{spread-plain}
+use Rattle.livevec_c.specs.SpreadLaws.{spread-plain}
 
 -- no refusal has the number 0
 positive : (r : Refusal) → 1 ≤ number_of r
@@ -58,9 +58,16 @@ plain_ok state lo hi (Ok a) answer is fine within zero =
     subst (λ q. AreValues (m) xs q.values) (sym is) (subst (λ s. AreValues (m) xs (spread s)) (sym fine.value) (spread-plain m xs (may_fold state lo hi within)))
 plain_ok state lo hi (Err refusal) answer is fine within zero = elim (refused refusal (sym (ap (λ q. q.refusal) is) ∙ zero)) [ ]
 
+-- one that is of one kind has no such answer
+refused_kind : (state : State) (lo hi : ℕ) (answer : Reduced) → answer ≡ unreduced 113 0 → IsPlainOf lo hi answer state
+refused_kind state lo hi answer is zero = elim (apart answer.refusal (ap (λ q. q.refusal) is) zero) [ ] where
+  apart : (n : ℕ) → n ≡ 113 → n ≡ 0 → ⊥
+  apart n is zero = omega (arith, is, zero)
+
 pub reduces_plain : (lo hi : ℕ) (answer : Reduced) (object : Object) → ReducesObject lo hi answer object → IsPlainObject lo hi answer object
-reduces_plain lo hi answer (Vector state) (Ok a, is, within, fine) = plain_ok state lo hi (Ok a) answer is fine.0 within
-reduces_plain lo hi answer (Vector state) (Err refusal, is, within, why) = plain_ok state lo hi (Err refusal) answer is tt within
+reduces_plain lo hi answer (Vector state None) (Ok a, is, within, fine) = plain_ok state lo hi (Ok a) answer is fine.0 within
+reduces_plain lo hi answer (Vector state None) (Err refusal, is, within, why) = plain_ok state lo hi (Err refusal) answer is tt within
+reduces_plain lo hi answer (Vector state (Some only)) is = refused_kind state lo hi answer is
 reduces_plain lo hi answer (Job other) reduces = tt
 reduces_plain lo hi answer (Outcome other) reduces = tt
 reduces_plain lo hi answer (Board other) reduces = tt
@@ -68,7 +75,8 @@ reduces_plain lo hi answer (Seat other) reduces = tt
 reduces_plain lo hi answer (Closed other) reduces = tt
 
 pub asks_plain : (lo hi : ℕ) (answer : Reduced) (old new : Object) → AsksObject lo hi answer old new → IsPlainObject lo hi answer old
-asks_plain lo hi answer (Vector state) new (after, same, asks) = plain_ok state lo hi asks.r answer asks.answer_is asks.ok asks.within
+asks_plain lo hi answer (Vector state None) new (after, same, asks) = plain_ok state lo hi asks.r answer asks.answer_is asks.ok asks.within
+asks_plain lo hi answer (Vector state (Some only)) new (after, same, asks) = refused_kind state lo hi answer asks.0
 asks_plain lo hi answer (Job other) new asks = tt
 asks_plain lo hi answer (Outcome other) new asks = tt
 asks_plain lo hi answer (Board other) new asks = tt

@@ -3,6 +3,7 @@ use Rattle.std.specs.Prelude.{◌≡◌, ℕ, ◌-◌, Option, Some, None, Resul
 use Rattle.lv_geometry.specs.declared.refusals.Refusal.{Refusal}
 use Rattle.lv_bodies.specs.Automata.{table_of}
 use Rattle.lv_bodies.specs.Six.{SixSummary, six_operations_by}
+use Rattle.lv_bodies.specs.declared.kinds.Kind.{Kind}
 use Rattle.lv_bodies.specs.declared.sixes.SixByTable.{SixByTable}
 use Rattle.lv_edits.specs.declared.edit.Edit.{Edit}
 use Rattle.lv_edits.specs.declared.receipt.Receipt.{Receipt}
@@ -37,7 +38,7 @@ EditsVector edit answer old new =
 
 -- an edit of an object: of a vector only
 abbrev pub EditsObject : Edit → Edited → Object → Object → Type 0
-EditsObject edit answer (Vector old) new = (state : State) × (new ≡ Vector state) × EditsVector edit answer old state
+EditsObject edit answer (Vector old only) new = (state : State) × (new ≡ Vector state only) × EditsVector edit answer old state
 EditsObject edit answer other new = (answer ≡ unedited) × (new ≡ other)
 
 -- an edit of what lies behind a slot
@@ -47,7 +48,7 @@ Edits edit answer (Some old) new = (object : Object) × (new ≡ Some object) ×
 
 -- why an edit of an object would be refused, as the library judges it
 abbrev pub JudgesObject : Edit → Verdict → Object → Type 0
-JudgesObject edit answer (Vector state) = answer ≡ judged_by (verdict_of state.history.limits state.history.journal edit)
+JudgesObject edit answer (Vector state only) = answer ≡ judged_by (verdict_of state.history.limits state.history.journal edit)
 JudgesObject edit answer other = answer ≡ unjudged
 
 abbrev pub Judges : Edit → Verdict → Option Object → Type 0
@@ -56,7 +57,7 @@ Judges edit answer (Some object) = JudgesObject edit answer object
 
 -- the element of an object at an index, as the library answers it
 abbrev pub GetsObject : ℕ → Element → Object → Type 0
-GetsObject index answer (Vector state) = answer ≡ element_by (element_at state.history.journal index)
+GetsObject index answer (Vector state only) = answer ≡ element_by (element_at state.history.journal index)
 GetsObject index answer other = answer ≡ no_element
 
 abbrev pub Gets : ℕ → Element → Option Object → Type 0
@@ -75,17 +76,22 @@ abbrev pub no_count : Count
 no_count = record { refusal = 101; value = 0 }
 
 abbrev pub CountsObject : Counted → Count → Object → Type 0
-CountsObject what answer (Vector state) = answer ≡ record { refusal = 0; value = count what state }
+CountsObject what answer (Vector state only) = answer ≡ record { refusal = 0; value = count what state }
 CountsObject what answer other = answer ≡ no_count
 
 abbrev pub Counts : Counted → Count → Option Object → Type 0
 Counts what answer None = answer ≡ no_count
 Counts what answer (Some object) = CountsObject what answer object
 
--- a reduction of an object, as the library answers it
-abbrev pub ReducesObject : ℕ → ℕ → Reduced → Object → Type 0
-ReducesObject lo hi answer (Vector state) =
+-- a reduction of a vector by all six kinds, as the library answers it; one that is of one kind refuses it
+abbrev pub ReducesBy : Option Kind → ℕ → ℕ → Reduced → State → Type 0
+ReducesBy (Some only) lo hi answer state = answer ≡ unreduced 113 0
+ReducesBy None lo hi answer state =
     (r : Result (Answer SixSummary) Refusal) × (answer ≡ reduced_by r) × IsLegalInLimits state.history × ReducesAt (six_operations_by (table_of state.body.automaton)) (recorded state) lo hi r
+
+-- of an object: of a vector only
+abbrev pub ReducesObject : ℕ → ℕ → Reduced → Object → Type 0
+ReducesObject lo hi answer (Vector state only) = ReducesBy only lo hi answer state
 ReducesObject lo hi answer other = answer ≡ unreduced 101 0
 
 abbrev pub Reduces : ℕ → ℕ → Reduced → Option Object → Type 0
@@ -101,8 +107,13 @@ pub record AsksVector (lo hi : ℕ) (answer : Reduced) (old new : State) : Type 
   pub within : IsLegalInLimits old.history
   pub same : SameLive old new
 
+-- one that is of one kind refuses it
+abbrev pub AsksBy : Option Kind → ℕ → ℕ → Reduced → State → State → Type 0
+AsksBy (Some only) lo hi answer old new = (answer ≡ unreduced 113 0) × (new ≡ old)
+AsksBy None lo hi answer old new = AsksVector lo hi answer old new
+
 abbrev pub AsksObject : ℕ → ℕ → Reduced → Object → Object → Type 0
-AsksObject lo hi answer (Vector old) new = (state : State) × (new ≡ Vector state) × AsksVector lo hi answer old state
+AsksObject lo hi answer (Vector old only) new = (state : State) × (new ≡ Vector state only) × AsksBy only lo hi answer old state
 AsksObject lo hi answer other new = (answer ≡ unreduced 101 0) × (new ≡ other)
 
 abbrev pub Asks : ℕ → ℕ → Reduced → Option Object → Option Object → Type 0

@@ -1,10 +1,11 @@
 -- The cells of a column of the caller's: plain values by one kind, laid out for C.
-use Rattle.std.specs.Prelude.{ℕ, ℤ, pos, ◌+◌, Bool, Option, List, length, map, take, unwrap_or, if◌then◌else◌}
+use Rattle.std.specs.Prelude.{ℕ, ℤ, pos, ◌+◌, Bool, Option, List, is_some, length, map, take, unwrap_or, if◌then◌else◌}
 use Rattle.std.specs.List.{range_with_len}
-use Rattle.lv_bodies.specs.Plain.{plain_affine, plain_automaton, plain_best, plain_greatest, plain_least}
+use Rattle.lv_bodies.specs.Plain.{plain_affine, plain_automaton, plain_best, plain_greatest, plain_least, plain_sum}
 use Rattle.livevec_c.specs.declared.cells.MapCell.{MapCell}
 use Rattle.livevec_c.specs.declared.cells.StatesCell.{StatesCell}
 use Rattle.livevec_c.specs.declared.cells.TotalCell.{TotalCell}
+use Rattle.livevec_c.specs.declared.results.PlainValues.{PlainValues}
 use Rattle.livevec_c.specs.Answers.{high_half, low_half}
 
 -- the cell of some elements, by each kind: their plain value, 0 where they have none
@@ -31,6 +32,20 @@ states_cell states = record { to = states }
 
 abbrev pub automaton_cell : List (List ℕ) → List ℤ → StatesCell
 automaton_cell table xs = states_cell (plain_automaton table xs)
+
+-- of all six at once
+abbrev pub values_cell : List (List ℕ) → List ℤ → PlainValues
+values_cell table xs = record {
+  sum = plain_sum xs;
+  least = least_cell xs;
+  greatest = greatest_cell xs;
+  best_low = (best_cell xs).low;
+  best_high = (best_cell xs).high;
+  affine_a = (affine_cell xs).a;
+  affine_b = (affine_cell xs).b;
+  automaton = plain_automaton table xs;
+  any = is_some (plain_least xs);
+}
 
 -- the column of a scan: for each element the cell of all up to it, with it or without it
 abbrev pub column_of : {C : Type 0} → (List ℤ → C) → Bool → List ℤ → List C

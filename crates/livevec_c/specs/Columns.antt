@@ -1,8 +1,9 @@
--- What a scan by one kind answers, and what it leaves in a column of the caller's, by what lies behind a slot.
+-- What a scan by one kind, or by all six, answers, and what it leaves in a column of the caller's, by what lies behind a slot.
 use Rattle.std.specs.Prelude.{ℕ, ℤ, ◌-◌, ◌++◌, Bool, true, false, Option, Some, None, List, length, drop, nat_lt}
 use Rattle.lv_geometry.specs.Numbers.{number_of}
 use Rattle.lv_geometry.specs.declared.refusals.Refusal.{Refusal}
 use Rattle.lv_bodies.specs.Automata.{table_of}
+use Rattle.lv_bodies.specs.declared.kinds.Kind.{Kind}
 use Rattle.lv_reduce.specs.Answer.{range_refusal, slice_of}
 use Rattle.livevec_c.specs.declared.columns.Scanned.{Scanned}
 use Rattle.livevec_c.specs.declared.objects.Object.{Object}
@@ -10,6 +11,7 @@ use Rattle.livevec_c.specs.declared.objects.Object.TheVariants.{Vector}
 use Rattle.livevec_c.specs.Answers.{detail_of}
 use Rattle.livevec_c.specs.Behind.{State}
 use Rattle.livevec_c.specs.Cells.{column_of}
+use Rattle.livevec_c.specs.Only.{is_asked_by}
 
 -- a scan that was refused
 abbrev pub unscanned : ℕ → ℕ → Scanned
@@ -35,20 +37,29 @@ abbrev pub filled : {C : Type 0} → (List (List ℕ) → List ℤ → C) → Bo
 filled cell inclusive lo hi old state =
     column_after (range_refusal state.history.journal lo hi) (nat_lt (length old) (hi - lo)) (column_of (cell (table_of state.body.automaton)) inclusive (slice_of state.history.journal lo hi)) old
 
--- of an object: of a vector only
-abbrev pub object_scanned : ℕ → ℕ → ℕ → Object → Scanned
-object_scanned lo hi places (Vector state) = scanned lo hi places state
-object_scanned lo hi places other = unscanned 101 0
+-- where it may be asked by the scan's kind, or by all six
+abbrev pub scanned_asked : Bool → ℕ → ℕ → ℕ → State → Scanned
+scanned_asked true lo hi places state = scanned lo hi places state
+scanned_asked false lo hi places state = unscanned 113 0
 
-abbrev pub object_filled : {C : Type 0} → (List (List ℕ) → List ℤ → C) → Bool → ℕ → ℕ → List C → Object → List C
-object_filled cell inclusive lo hi old (Vector state) = filled cell inclusive lo hi old state
-object_filled cell inclusive lo hi old other = old
+abbrev pub filled_asked : {C : Type 0} → Bool → (List (List ℕ) → List ℤ → C) → Bool → ℕ → ℕ → List C → State → List C
+filled_asked true cell inclusive lo hi old state = filled cell inclusive lo hi old state
+filled_asked false cell inclusive lo hi old state = old
+
+-- of an object: of a vector only
+abbrev pub object_scanned : Option Kind → ℕ → ℕ → ℕ → Object → Scanned
+object_scanned asked lo hi places (Vector state only) = scanned_asked (is_asked_by only asked) lo hi places state
+object_scanned asked lo hi places other = unscanned 101 0
+
+abbrev pub object_filled : {C : Type 0} → Option Kind → (List (List ℕ) → List ℤ → C) → Bool → ℕ → ℕ → List C → Object → List C
+object_filled asked cell inclusive lo hi old (Vector state only) = filled_asked (is_asked_by only asked) cell inclusive lo hi old state
+object_filled asked cell inclusive lo hi old other = old
 
 -- of what lies behind a slot
-abbrev pub scanned_behind : ℕ → ℕ → ℕ → Option Object → Scanned
-scanned_behind lo hi places None = unscanned 101 0
-scanned_behind lo hi places (Some object) = object_scanned lo hi places object
+abbrev pub scanned_behind : Option Kind → ℕ → ℕ → ℕ → Option Object → Scanned
+scanned_behind asked lo hi places None = unscanned 101 0
+scanned_behind asked lo hi places (Some object) = object_scanned asked lo hi places object
 
-abbrev pub filled_behind : {C : Type 0} → (List (List ℕ) → List ℤ → C) → Bool → ℕ → ℕ → List C → Option Object → List C
-filled_behind cell inclusive lo hi old None = old
-filled_behind cell inclusive lo hi old (Some object) = object_filled cell inclusive lo hi old object
+abbrev pub filled_behind : {C : Type 0} → Option Kind → (List (List ℕ) → List ℤ → C) → Bool → ℕ → ℕ → List C → Option Object → List C
+filled_behind asked cell inclusive lo hi old None = old
+filled_behind asked cell inclusive lo hi old (Some object) = object_filled asked cell inclusive lo hi old object

@@ -2,6 +2,8 @@
 use Rattle.std.specs.Prelude.{◌≡◌, ℕ, ℤ, pos, ◌+◌, Bool, true, false, Option, Some, None, List, length}
 use Rattle.lv_geometry.specs.Numbers.{number_of}
 use Rattle.lv_geometry.specs.declared.refusals.Refusal.{Refusal}
+use Rattle.lv_bodies.specs.declared.kinds.Kind.{Kind}
+use Rattle.lv_bodies.specs.declared.kinds.Kind.TheVariants as kinds
 use Rattle.lv_edits.specs.History.{list_of}
 use Rattle.lv_reduce.specs.Answer.{range_refusal}
 use Rattle.lv_where.specs.Where.{IsEndReached, IsPlaceOfBest, IsPlaceOfGreatest, IsPlaceOfLeast}
@@ -14,6 +16,7 @@ use Rattle.livevec_c.specs.declared.places_found.Wanted.{Wanted}
 use Rattle.livevec_c.specs.declared.places_found.Wanted.TheVariants.{Least, Greatest, Best, Reaches}
 use Rattle.livevec_c.specs.Answers.{detail_of, high_half, low_half}
 use Rattle.livevec_c.specs.Behind.{State}
+use Rattle.livevec_c.specs.Only.{is_asked_by}
 
 -- a search that was refused
 abbrev pub unfound : ℕ → ℕ → Found
@@ -51,9 +54,21 @@ FindsUnless (Some refusal) wanted lo hi answer state = answer ≡ unfound (numbe
 abbrev pub FindsVector : Wanted → ℕ → ℕ → Found → State → Type 0
 FindsVector wanted lo hi answer state = FindsUnless (range_refusal state.history.journal lo hi) wanted lo hi answer state
 
+-- the kind by which it is looked for
+abbrev pub kind_sought : Wanted → Kind
+kind_sought Least = kinds.Least
+kind_sought Greatest = kinds.Greatest
+kind_sought Best = kinds.Best
+kind_sought (Reaches sum) = kinds.Best
+
+-- where the vector may be asked by that kind
+abbrev pub FindsAsked : Bool → Wanted → ℕ → ℕ → Found → State → Type 0
+FindsAsked true wanted lo hi answer state = FindsVector wanted lo hi answer state
+FindsAsked false wanted lo hi answer state = answer ≡ unfound 113 0
+
 -- of an object: of a vector only
 abbrev pub FindsObject : Wanted → ℕ → ℕ → Found → Object → Type 0
-FindsObject wanted lo hi answer (Vector state) = FindsVector wanted lo hi answer state
+FindsObject wanted lo hi answer (Vector state only) = FindsAsked (is_asked_by only (Some (kind_sought wanted))) wanted lo hi answer state
 FindsObject wanted lo hi answer other = answer ≡ unfound 101 0
 
 -- of what lies behind a slot

@@ -7,7 +7,7 @@ use Rattle.livevec_c.specs.declared.objects.Object.TheVariants.{Vector, Job, Out
 
 -- whether an object is what a free is of; a board may be closed
 abbrev pub is_of : Freed → Object → Bool
-is_of freed.Vector (Vector state) = true
+is_of freed.Vector (Vector state only) = true
 is_of freed.Job (Job job) = true
 is_of freed.Outcome (Outcome outcome) = true
 is_of freed.Board (Board board) = true

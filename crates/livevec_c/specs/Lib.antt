@@ -1,3 +1,4 @@
+pub mod Only
 pub mod Owned
 pub mod Answers
 pub mod Cells
@@ -9,6 +10,7 @@ pub mod KindVectors
 pub mod Lives
 pub mod Working
 pub mod Plainly
+pub mod SpreadLaws
 pub mod Kinds
 pub mod Seats
 pub mod Valued

@@ -32,20 +32,32 @@ pub record IsNew (limits : Bounds) (table : List (List ℕ)) (state : State) : T
   pub unclaimed : (n : Node) → (recorded state).claimed n ≡ None
   pub nothing_kept : (n : Node) → (recorded state).kept n ≡ None
 
-abbrev pub IsNewObject : Bounds → List (List ℕ) → Object → Type 0
-IsNewObject limits table object = (state : State) × (object ≡ Vector state) × IsNew limits table state
+-- the same, of one kind or of all six
+abbrev pub IsNewObject : Option Kind → Bounds → List (List ℕ) → Object → Type 0
+IsNewObject only limits table object = (state : State) × (object ≡ Vector state only) × IsNew limits table state
 
 -- a slot that was empty holds a new vector, or there was no memory, and it is empty
-abbrev pub OpensAt : Bounds → List (List ℕ) → ℕ → Option Object → Type 0
-OpensAt limits table number new =
-    ((number ≡ 6) × (new ≡ None)) ⊎ ((number ≡ 0) × ((object : Object) × (new ≡ Some object) × IsNewObject limits table object))
+abbrev pub OpensAt : Option Kind → Bounds → List (List ℕ) → ℕ → Option Object → Type 0
+OpensAt only limits table number new =
+    ((number ≡ 6) × (new ≡ None)) ⊎ ((number ≡ 0) × ((object : Object) × (new ≡ Some object) × IsNewObject only limits table object))
 
 -- a new vector for a slot, with an automaton that is known to be one
 abbrev pub Opens : List (List ℕ) → ℕ → ℕ → ℕ → Option Object → Option Object → Type 0
 Opens table buckets edits number (Some object) new = (number ≡ 104) × (new ≡ Some object)
 Opens table buckets edits number None new =
     ((number ≡ 8) × (¬ AreAllowed buckets edits) × (new ≡ None))
-    ⊎ (AreAllowed buckets edits × OpensAt (record { buckets = buckets; edits = edits }) table number new)
+    ⊎ (AreAllowed buckets edits × OpensAt None (record { buckets = buckets; edits = edits }) table number new)
+
+-- the same of one kind, where what is asked for it may be none
+abbrev pub OpensOfKind : Option Kind → List (List ℕ) → ℕ → ℕ → ℕ → Option Object → Type 0
+OpensOfKind None table buckets edits number new = (number ≡ 113) × (new ≡ None)
+OpensOfKind (Some kind) table buckets edits number new =
+    ((number ≡ 8) × (¬ AreAllowed buckets edits) × (new ≡ None))
+    ⊎ (AreAllowed buckets edits × OpensAt (Some kind) (record { buckets = buckets; edits = edits }) table number new)
+
+abbrev pub OpensOf : Option Kind → List (List ℕ) → ℕ → ℕ → ℕ → Option Object → Option Object → Type 0
+OpensOf kind table buckets edits number (Some object) new = (number ≡ 104) × (new ≡ Some object)
+OpensOf kind table buckets edits number None new = OpensOfKind kind table buckets edits number new
 
 -- a new vector for a slot, with an automaton of a table that may have a wrong entry
 abbrev pub OpensWith : List (List ℕ) → ℕ → ℕ → ℕ → Option Object → Option Object → Type 0
@@ -53,7 +65,7 @@ OpensWith table buckets edits number (Some object) new = (number ≡ 104) × (ne
 OpensWith table buckets edits number None new =
     ((number ≡ 8) × (¬ AreAllowed buckets edits) × (new ≡ None))
     ⊎ ((number ≡ 9) × AreAllowed buckets edits × Any (Any (λ q. 7 < q)) table × (new ≡ None))
-    ⊎ (AreAllowed buckets edits × All (All (λ q. q ≤ 7)) table × OpensAt (record { buckets = buckets; edits = edits }) table number new)
+    ⊎ (AreAllowed buckets edits × All (All (λ q. q ≤ 7)) table × OpensAt None (record { buckets = buckets; edits = edits }) table number new)
 
 -- ---- boards
 

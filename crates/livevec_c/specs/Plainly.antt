@@ -28,7 +28,7 @@ IsPlainOf lo hi answer state =
     answer.refusal ≡ 0 → AreValues (table_of state.body.automaton) (slice_of state.history.journal lo hi) answer.values
 
 abbrev pub IsPlainObject : ℕ → ℕ → Reduced → Object → Type 0
-IsPlainObject lo hi answer (Vector state) = IsPlainOf lo hi answer state
+IsPlainObject lo hi answer (Vector state only) = IsPlainOf lo hi answer state
 IsPlainObject lo hi answer other = Unit {0}
 
 abbrev pub IsPlain : ℕ → ℕ → Reduced → Option Object → Type 0

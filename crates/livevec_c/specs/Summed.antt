@@ -3,6 +3,7 @@ use Rattle.std.specs.Prelude.{◌≡◌, ◌≤◌, ℕ, ℤ, false, Option, Som
 use Rattle.lv_geometry.specs.Numbers.{number_of}
 use Rattle.lv_geometry.specs.declared.refusals.Refusal.{Refusal}
 use Rattle.lv_bodies.specs.Automata.{table_of}
+use Rattle.lv_bodies.specs.declared.kinds.Kind.{Kind}
 use Rattle.lv_reduce.specs.Answer.{range_refusal, slice_of}
 use Rattle.lv_shards.specs.Bytes.{bytes_of, version_of}
 use Rattle.lv_shards.specs.Summaries.{IsPossible, IsSummaryOf, Summary, empty_of, join_of, leads_of, rows_of}
@@ -46,8 +47,13 @@ SumsRange None lo hi answer state =
     (s : Summary) × (answer ≡ summarised s) × IsSummaryOf (table_of state.body.automaton) (slice_of state.history.journal lo hi) s × (s.edit ≡ Some (length state.history.journal))
 SumsRange (Some refusal) lo hi answer state = answer ≡ unsummarised (number_of refusal) (detail_of refusal)
 
+-- one that is of one kind refuses it, since it is of all six
+abbrev pub SumsBy : Option Kind → ℕ → ℕ → Summarised → State → Type 0
+SumsBy (Some only) lo hi answer state = answer ≡ unsummarised 113 0
+SumsBy None lo hi answer state = SumsRange (range_refusal state.history.journal lo hi) lo hi answer state
+
 abbrev pub SumsObject : ℕ → ℕ → Summarised → Object → Type 0
-SumsObject lo hi answer (Vector state) = SumsRange (range_refusal state.history.journal lo hi) lo hi answer state
+SumsObject lo hi answer (Vector state only) = SumsBy only lo hi answer state
 SumsObject lo hi answer other = answer ≡ unsummarised 101 0
 
 abbrev pub Sums : ℕ → ℕ → Summarised → Option Object → Type 0

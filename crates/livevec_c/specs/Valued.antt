@@ -1,5 +1,5 @@
 -- What a question by one kind answers, by what lies behind a slot.
-use Rattle.std.specs.Prelude.{ℕ, Bool, Option, Some, None, length, nat_lt}
+use Rattle.std.specs.Prelude.{ℕ, Bool, true, false, Option, Some, None, length, nat_lt}
 use Rattle.lv_geometry.specs.Numbers.{number_of}
 use Rattle.lv_geometry.specs.declared.refusals.Refusal.{Refusal}
 use Rattle.lv_bodies.specs.Automata.{table_of}
@@ -12,6 +12,7 @@ use Rattle.livevec_c.specs.declared.objects.Object.TheVariants.{Vector}
 use Rattle.livevec_c.specs.declared.results.Reduced.{Reduced}
 use Rattle.livevec_c.specs.Answers.{detail_of, unreduced}
 use Rattle.livevec_c.specs.Behind.{State}
+use Rattle.livevec_c.specs.Only.{is_asked_by}
 use Rattle.livevec_c.specs.Seats.{values_for}
 
 -- a value by one kind after an edit, and whether there is an element; or why there is none
@@ -24,9 +25,14 @@ abbrev pub value_of : Kind → ℕ → ℕ → State → Reduced
 value_of kind lo hi state =
     valued (range_refusal state.history.journal lo hi) (length state.history.journal) (nat_lt lo hi) (plain_value_with (table_of state.body.automaton) kind (slice_of state.history.journal lo hi))
 
+-- where it may be asked by that kind
+abbrev pub value_asked : Bool → Kind → ℕ → ℕ → State → Reduced
+value_asked true kind lo hi state = value_of kind lo hi state
+value_asked false kind lo hi state = unreduced 113 0
+
 -- of an object: of a vector only
 abbrev pub object_value : Kind → ℕ → ℕ → Object → Reduced
-object_value kind lo hi (Vector state) = value_of kind lo hi state
+object_value kind lo hi (Vector state only) = value_asked (is_asked_by only (Some kind)) kind lo hi state
 object_value kind lo hi other = unreduced 101 0
 
 -- of what lies behind a slot, by a kind, where there is one

@@ -26,7 +26,7 @@ pub record RefreshesVector (jobs : ℕ) (answer : Count) (old new : State) : Typ
   pub idle : answer.value < jobs → IsNextJob (recorded new) None
 
 abbrev pub RefreshesObject : ℕ → Count → Object → Object → Type 0
-RefreshesObject jobs answer (Vector old) new = (state : State) × (new ≡ Vector state) × RefreshesVector jobs answer old state
+RefreshesObject jobs answer (Vector old only) new = (state : State) × (new ≡ Vector state only) × RefreshesVector jobs answer old state
 RefreshesObject jobs answer other new = (answer ≡ no_count) × (new ≡ other)
 
 abbrev pub Refreshes : ℕ → Count → Option Object → Option Object → Type 0
@@ -35,7 +35,7 @@ Refreshes jobs answer (Some old) new = (object : Object) × (new ≡ Some object
 
 -- no claim is left
 abbrev pub ForgetsObject : ℕ → Object → Object → Type 0
-ForgetsObject answer (Vector old) new = (state : State) × (new ≡ Vector state) × (answer ≡ 0) × HasNoClaims old state
+ForgetsObject answer (Vector old only) new = (state : State) × (new ≡ Vector state only) × (answer ≡ 0) × HasNoClaims old state
 ForgetsObject answer other new = (answer ≡ 101) × (new ≡ other)
 
 abbrev pub Forgets : ℕ → Option Object → Option Object → Type 0
@@ -62,7 +62,7 @@ abbrev pub ClaimsVector : Claimed → State → State → Option Object → Type
 ClaimsVector answer old new slot = ((answer ≡ unclaimed 6) × (new ≡ old) × (slot ≡ None)) ⊎ ClaimsJob answer old new slot
 
 abbrev pub ClaimsObject : Claimed → Object → Object → Option Object → Type 0
-ClaimsObject answer (Vector old) new slot = (state : State) × (new ≡ Vector state) × ClaimsVector answer old state slot
+ClaimsObject answer (Vector old only) new slot = (state : State) × (new ≡ Vector state only) × ClaimsVector answer old state slot
 ClaimsObject answer other new slot = (answer ≡ unclaimed 101) × (new ≡ other) × (slot ≡ None)
 
 -- the same for an empty slot of the job
@@ -99,7 +99,7 @@ VetsVector answer state (Outcome outcome) = (answer.refusal ≡ 0) × (IsTrue an
 VetsVector answer state other = answer ≡ unvetted
 
 abbrev pub VetsObject : Vetted → Object → Object → Type 0
-VetsObject answer (Vector state) brought = VetsVector answer state brought
+VetsObject answer (Vector state only) brought = VetsVector answer state brought
 VetsObject answer other brought = answer ≡ unvetted
 
 abbrev pub VetsWith : Vetted → Object → Option Object → Type 0
@@ -125,7 +125,7 @@ AcceptsLive answer old new (Outcome outcome) = AcceptsVector answer old new outc
 AcceptsLive answer old new other = (answer ≡ unaccepted 101) × (new ≡ old)
 
 abbrev pub AcceptsObject : Delivered → Object → Object → Object → Type 0
-AcceptsObject answer (Vector old) new brought = (state : State) × (new ≡ Vector state) × AcceptsLive answer old state brought
+AcceptsObject answer (Vector old only) new brought = (state : State) × (new ≡ Vector state only) × AcceptsLive answer old state brought
 AcceptsObject answer other new brought = (answer ≡ unaccepted 101) × (new ≡ other)
 
 abbrev pub AcceptsWith : Delivered → Object → Object → Option Object → Type 0

@@ -187,7 +187,7 @@ fn sit_board(alloc: Global, board: &mut KindBoard, seat: &mut Slot) -> u32
     requires { seat.old.raw.inner ≡ None }
     ensures { SitsBoard result board.old board.new seat.new.raw.inner }
 {
-    let Ok(room) = new_vector(alloc, Limits::greatest(), Automaton::program()) else {
+    let Ok(room) = new_vector(alloc, None, Limits::greatest(), Automaton::program()) else {
         return NO_MEMORY;
     };
     match sit_at(board) {

@@ -1,11 +1,13 @@
 //! Questions by one kind, which cost that kind alone.
-ghost use Rattle.std.specs.Prelude.{◌≡◌, nat_lt, IfOk, IfErr};
+ghost use Rattle.std.specs.Prelude.{◌≡◌, nat_lt, IfOk, IfErr, Some};
 ghost use Rattle.livevec_c.specs.Kinds.{kind_at};
-ghost use Rattle.livevec_c.specs.Valued.{object_value, value_behind, value_of};
+ghost use Rattle.livevec_c.specs.Only.{is_asked_by};
+ghost use Rattle.livevec_c.specs.Valued.{object_value, value_asked, value_behind, value_of};
 
 use crate::boards::kind_of;
 use crate::kind_vectors::KindVector;
 use crate::objects::Object;
+use crate::only::may_ask;
 use crate::results::{BAD_KIND, NO_HANDLE, Reduced, detail, not_reduced};
 use crate::said::shown_values;
 use crate::slots::{Slot, put, take};
@@ -30,13 +32,24 @@ fn value_of_vector(vector: &mut KindVector, kind: Kind, lo: u32, hi: u32) -> Red
     }
 }
 
+// The same of a vector that is of one kind, or of all six.
+fn value_asked(vector: &mut KindVector, only: Option<Kind>, kind: Kind, lo: u32, hi: u32) -> Reduced
+    ensures answer { result ≡ value_asked (is_asked_by only (Some kind)) kind lo hi vector.old }
+    ensures same { vector.new ≡ vector.old }
+{
+    if !may_ask(only, Some(kind)) {
+        return not_reduced(BAD_KIND, 0);
+    }
+    value_of_vector(vector, kind, lo, hi)
+}
+
 // The same of an object.
 fn value_of_object(object: &mut Object, kind: Kind, lo: u32, hi: u32) -> Reduced
     ensures answer { result ≡ object_value kind lo hi object.old }
     ensures same { object.new ≡ object.old }
 {
     match object {
-        Object::Vector(vector) => value_of_vector(vector, kind, lo, hi),
+        Object::Vector(vector, only) => value_asked(vector, *only, kind, lo, hi),
         _ => not_reduced(NO_HANDLE, 0),
     }
 }

@@ -1,10 +1,13 @@
-//! How the summaries of each kind stand in a column of the caller's: as cells that C has.
+//! How the summaries of each kind, and those of all six, stand in a column of the caller's: as cells that C has.
 ghost use Rattle.std.specs.Prelude.{◌≡◌, ℕ, ℤ, List};
 ghost use Rattle.lv_bodies.specs.Automata.{table_of};
 ghost use Rattle.lv_bodies.specs.Body.{CanFold, fold_of};
 
-use crate::results::total_halves;
-use lv_bodies::{Affine, AffineMap, Automaton, Best, Body, Greatest, Least, RunTotals, Sum};
+use crate::results::{PlainValues, plain_values, total_halves};
+use lv_bodies::{
+    Affine, AffineMap, Automaton, Best, Body, Greatest, Least, RunTotals, SixByTable, SixSummary,
+    Sum,
+};
 
 /// A total of 128 bits in two's complement, as C has it.
 #[repr(C)]
@@ -213,4 +216,33 @@ impl Celled for Automaton {
     }
 
     ghost cells_plain = { λ b table xs is _. ap states_cell (fold_of-automaton (table_of b) xs) ∙ ap (λ t. automaton_cell t xs) (sym is) };
+}
+
+impl Celled for SixByTable {
+    ghost use Rattle.std.proofs.Common.{ap, sym, ◌∙◌};
+    ghost use Rattle.lv_bodies.specs.Automata.{table_of};
+    ghost use Rattle.livevec_c.specs.Answers.{spread};
+    ghost use Rattle.livevec_c.specs.Cells.{values_cell};
+    ghost use Rattle.livevec_c.specs.CellLaws.{values_alike};
+    ghost use Rattle.livevec_c.specs.SpreadLaws.{spread-plain};
+
+    type Cell = PlainValues;
+
+    ghost fits = { λ b table. table ≡ table_of b.automaton };
+
+    ghost cell_of = { spread };
+
+    ghost plain_cell = { values_cell };
+
+    #[inline(always)]
+    fn by(automaton: Automaton) -> SixByTable {
+        SixByTable { automaton }
+    }
+
+    #[inline(always)]
+    fn cell(s: SixSummary) -> PlainValues {
+        plain_values(s)
+    }
+
+    ghost cells_plain = { λ b table xs is can. values_alike (table_of b.automaton) xs _ (spread-plain (table_of b.automaton) xs can) ∙ ap (λ t. values_cell t xs) (sym is) };
 }

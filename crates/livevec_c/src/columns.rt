@@ -1,18 +1,20 @@
-//! Scans by one kind, written into a column of the caller's.
-ghost use Rattle.std.specs.Prelude.{◌≡◌, ◌+◌, ◌-◌, ◌<◌, ◌≤◌, ◌++◌, drop, length, map, take};
+//! Scans by one kind, and by all six at once, written into a column of the caller's.
+ghost use Rattle.std.specs.Prelude.{◌≡◌, ◌+◌, ◌-◌, ◌<◌, ◌≤◌, ◌++◌, None, Some, drop, length, map, take};
 ghost use Rattle.std.specs.List.{slice_range};
 ghost use Rattle.lv_bodies.specs.Plain.{plain_sum};
+ghost use Rattle.lv_bodies.specs.declared.kinds.Kind.TheVariants as kinds;
 ghost use Rattle.lv_edits.specs.History.{list_of};
 ghost use Rattle.lv_reduce.specs.Answer.{scan_of, slice_of};
 ghost use Rattle.lv_reduce.specs.Running.{CanGoOn, reached, scan_from};
-ghost use Rattle.livevec_c.specs.Cells.{affine_cell, automaton_cell, best_cell, greatest_cell, least_cell};
-ghost use Rattle.livevec_c.specs.Columns.{filled, filled_behind, object_filled, object_scanned, scanned, scanned_behind, unscanned};
+ghost use Rattle.livevec_c.specs.Cells.{affine_cell, automaton_cell, best_cell, greatest_cell, least_cell, values_cell};
+ghost use Rattle.livevec_c.specs.Columns.{filled, filled_asked, filled_behind, object_filled, object_scanned, scanned, scanned_asked, scanned_behind, unscanned};
 
 use crate::cells::{Celled, MapCell, StatesCell, TotalCell};
 use crate::objects::Object;
-use crate::results::{NO_HANDLE, SHORT_BUFFER, detail};
+use crate::only::may_ask;
+use crate::results::{BAD_KIND, NO_HANDLE, PlainValues, SHORT_BUFFER, detail};
 use crate::slots::{Slot, put, take};
-use lv_bodies::{Affine, Automaton, Best, Greatest, Least, SixByTable, Sum, fold_more};
+use lv_bodies::{Affine, Automaton, Best, Greatest, Kind, Least, SixByTable, Sum, fold_more};
 use lv_edits::Edits;
 use lv_live::Live;
 use lv_reduce::refusal_of;
@@ -148,40 +150,63 @@ fn scan_live<B: Celled>(
     }
 }
 
-// A scan of an object.
-fn scan_object<B: Celled>(
-    object: &Object,
+// A scan of a vector, where that may be asked so.
+fn scan_asked<B: Celled>(
+    live: &Live<SixByTable>,
+    may: bool,
     lo: u32,
     hi: u32,
     inclusive: bool,
     column: &mut [B::Cell],
 ) -> Scanned
-    ensures answer { result ≡ object_scanned lo hi (length column.old) object.now }
-    ensures column { column.new ≡ object_filled B.plain_cell inclusive lo hi column.old object.now }
+    ensures answer { result ≡ scanned_asked may lo hi (length column.old) live.now }
+    ensures column { column.new ≡ filled_asked may B.plain_cell inclusive lo hi column.old live.now }
+{
+    if !may {
+        return not_scanned(BAD_KIND, 0);
+    }
+    scan_live::<B>(live, lo, hi, inclusive, column)
+}
+
+// A scan of an object by a kind, or by all six.
+fn scan_object<B: Celled>(
+    object: &Object,
+    asked: Option<Kind>,
+    lo: u32,
+    hi: u32,
+    inclusive: bool,
+    column: &mut [B::Cell],
+) -> Scanned
+    ensures answer { result ≡ object_scanned asked lo hi (length column.old) object.now }
+    ensures column { column.new ≡ object_filled asked B.plain_cell inclusive lo hi column.old object.now }
 {
     match object {
-        Object::Vector(vector) => scan_live::<B>(vector.live(), lo, hi, inclusive, column),
+        Object::Vector(vector, only) => {
+            let may = may_ask(*only, asked);
+            scan_asked::<B>(vector.live(), may, lo, hi, inclusive, column)
+        }
         _ => not_scanned(NO_HANDLE, 0),
     }
 }
 
-// A scan of what lies behind a slot.
+// A scan of what lies behind a slot, by a kind, or by all six.
 fn scan_held<B: Celled>(
     alloc: Global,
     slot: &mut Slot,
+    asked: Option<Kind>,
     lo: u32,
     hi: u32,
     inclusive: bool,
     column: &mut [B::Cell],
 ) -> Scanned
-    ensures answer { result ≡ scanned_behind lo hi (length column.old) slot.old.raw.inner }
-    ensures column { column.new ≡ filled_behind B.plain_cell inclusive lo hi column.old slot.old.raw.inner }
+    ensures answer { result ≡ scanned_behind asked lo hi (length column.old) slot.old.raw.inner }
+    ensures column { column.new ≡ filled_behind asked B.plain_cell inclusive lo hi column.old slot.old.raw.inner }
     ensures same { slot.new.raw.inner ≡ slot.old.raw.inner }
 {
     match take(alloc, slot) {
         None => not_scanned(NO_HANDLE, 0),
         Some(held) => {
-            let answer = scan_object::<B>(&held, lo, hi, inclusive, column);
+            let answer = scan_object::<B>(&held, asked, lo, hi, inclusive, column);
             put(slot, held);
             answer
         }
@@ -198,11 +223,11 @@ pub extern "C" fn livevec_proved_scan_sum(
     inclusive: bool,
     column: &mut [u64],
 ) -> Scanned
-    ensures answer { result ≡ scanned_behind lo hi (length column.old) slot.old.raw.inner }
-    ensures column { column.new ≡ filled_behind (λ _. plain_sum) inclusive lo hi column.old slot.old.raw.inner }
+    ensures answer { result ≡ scanned_behind (Some kinds.Sum) lo hi (length column.old) slot.old.raw.inner }
+    ensures column { column.new ≡ filled_behind (Some kinds.Sum) (λ _. plain_sum) inclusive lo hi column.old slot.old.raw.inner }
     ensures same { slot.new.raw.inner ≡ slot.old.raw.inner }
 {
-    scan_held::<Sum>(alloc, slot, lo, hi, inclusive, column)
+    scan_held::<Sum>(alloc, slot, Some(Kind::Sum), lo, hi, inclusive, column)
 }
 
 /// The same of the least elements.
@@ -215,11 +240,11 @@ pub extern "C" fn livevec_proved_scan_least(
     inclusive: bool,
     column: &mut [i64],
 ) -> Scanned
-    ensures answer { result ≡ scanned_behind lo hi (length column.old) slot.old.raw.inner }
-    ensures column { column.new ≡ filled_behind (λ _. least_cell) inclusive lo hi column.old slot.old.raw.inner }
+    ensures answer { result ≡ scanned_behind (Some kinds.Least) lo hi (length column.old) slot.old.raw.inner }
+    ensures column { column.new ≡ filled_behind (Some kinds.Least) (λ _. least_cell) inclusive lo hi column.old slot.old.raw.inner }
     ensures same { slot.new.raw.inner ≡ slot.old.raw.inner }
 {
-    scan_held::<Least>(alloc, slot, lo, hi, inclusive, column)
+    scan_held::<Least>(alloc, slot, Some(Kind::Least), lo, hi, inclusive, column)
 }
 
 /// The same of the greatest elements.
@@ -232,11 +257,11 @@ pub extern "C" fn livevec_proved_scan_greatest(
     inclusive: bool,
     column: &mut [i64],
 ) -> Scanned
-    ensures answer { result ≡ scanned_behind lo hi (length column.old) slot.old.raw.inner }
-    ensures column { column.new ≡ filled_behind (λ _. greatest_cell) inclusive lo hi column.old slot.old.raw.inner }
+    ensures answer { result ≡ scanned_behind (Some kinds.Greatest) lo hi (length column.old) slot.old.raw.inner }
+    ensures column { column.new ≡ filled_behind (Some kinds.Greatest) (λ _. greatest_cell) inclusive lo hi column.old slot.old.raw.inner }
     ensures same { slot.new.raw.inner ≡ slot.old.raw.inner }
 {
-    scan_held::<Greatest>(alloc, slot, lo, hi, inclusive, column)
+    scan_held::<Greatest>(alloc, slot, Some(Kind::Greatest), lo, hi, inclusive, column)
 }
 
 /// The same of the greatest totals of neighbours.
@@ -249,11 +274,11 @@ pub extern "C" fn livevec_proved_scan_best(
     inclusive: bool,
     column: &mut [TotalCell],
 ) -> Scanned
-    ensures answer { result ≡ scanned_behind lo hi (length column.old) slot.old.raw.inner }
-    ensures column { column.new ≡ filled_behind (λ _. best_cell) inclusive lo hi column.old slot.old.raw.inner }
+    ensures answer { result ≡ scanned_behind (Some kinds.Best) lo hi (length column.old) slot.old.raw.inner }
+    ensures column { column.new ≡ filled_behind (Some kinds.Best) (λ _. best_cell) inclusive lo hi column.old slot.old.raw.inner }
     ensures same { slot.new.raw.inner ≡ slot.old.raw.inner }
 {
-    scan_held::<Best>(alloc, slot, lo, hi, inclusive, column)
+    scan_held::<Best>(alloc, slot, Some(Kind::Best), lo, hi, inclusive, column)
 }
 
 /// The same of the maps.
@@ -266,11 +291,11 @@ pub extern "C" fn livevec_proved_scan_affine(
     inclusive: bool,
     column: &mut [MapCell],
 ) -> Scanned
-    ensures answer { result ≡ scanned_behind lo hi (length column.old) slot.old.raw.inner }
-    ensures column { column.new ≡ filled_behind (λ _. affine_cell) inclusive lo hi column.old slot.old.raw.inner }
+    ensures answer { result ≡ scanned_behind (Some kinds.Affine) lo hi (length column.old) slot.old.raw.inner }
+    ensures column { column.new ≡ filled_behind (Some kinds.Affine) (λ _. affine_cell) inclusive lo hi column.old slot.old.raw.inner }
     ensures same { slot.new.raw.inner ≡ slot.old.raw.inner }
 {
-    scan_held::<Affine>(alloc, slot, lo, hi, inclusive, column)
+    scan_held::<Affine>(alloc, slot, Some(Kind::Affine), lo, hi, inclusive, column)
 }
 
 /// The same of the automaton's states.
@@ -283,9 +308,34 @@ pub extern "C" fn livevec_proved_scan_automaton(
     inclusive: bool,
     column: &mut [StatesCell],
 ) -> Scanned
-    ensures answer { result ≡ scanned_behind lo hi (length column.old) slot.old.raw.inner }
-    ensures column { column.new ≡ filled_behind automaton_cell inclusive lo hi column.old slot.old.raw.inner }
+    ensures answer { result ≡ scanned_behind (Some kinds.Automaton) lo hi (length column.old) slot.old.raw.inner }
+    ensures column { column.new ≡ filled_behind (Some kinds.Automaton) automaton_cell inclusive lo hi column.old slot.old.raw.inner }
     ensures same { slot.new.raw.inner ≡ slot.old.raw.inner }
 {
-    scan_held::<Automaton>(alloc, slot, lo, hi, inclusive, column)
+    scan_held::<Automaton>(
+        alloc,
+        slot,
+        Some(Kind::Automaton),
+        lo,
+        hi,
+        inclusive,
+        column,
+    )
+}
+
+/// The same of all six plain values at once.
+#[unsafe(no_mangle)]
+pub extern "C" fn livevec_proved_scan_values(
+    alloc: Global,
+    slot: &mut Slot,
+    lo: u32,
+    hi: u32,
+    inclusive: bool,
+    column: &mut [PlainValues],
+) -> Scanned
+    ensures answer { result ≡ scanned_behind None lo hi (length column.old) slot.old.raw.inner }
+    ensures column { column.new ≡ filled_behind None values_cell inclusive lo hi column.old slot.old.raw.inner }
+    ensures same { slot.new.raw.inner ≡ slot.old.raw.inner }
+{
+    scan_held::<SixByTable>(alloc, slot, None, lo, hi, inclusive, column)
 }

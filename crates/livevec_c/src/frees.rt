@@ -23,7 +23,7 @@ fn is_of(what: Freed, object: &Object) -> bool
     ensures { result ≡ is_of what object.now }
 {
     match what {
-        Freed::Vector => matches!(object, Object::Vector(_)),
+        Freed::Vector => matches!(object, Object::Vector(..)),
         Freed::Job => matches!(object, Object::Job(_)),
         Freed::Outcome => matches!(object, Object::Outcome(_)),
         Freed::Board => matches!(object, Object::Board(_) | Object::Closed(_)),

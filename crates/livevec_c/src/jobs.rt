@@ -48,7 +48,7 @@ fn refresh_of(object: &mut Object, jobs: u32) -> Count
     ensures { RefreshesObject jobs result object.old object.new }
 {
     match object {
-        Object::Vector(vector) => Count {
+        Object::Vector(vector, _) => Count {
             refusal: 0,
             value: vector.refresh(jobs),
         },
@@ -82,7 +82,7 @@ fn forget_of(object: &mut Object) -> u32
     ensures { ForgetsObject result object.old object.new }
 {
     match object {
-        Object::Vector(vector) => {
+        Object::Vector(vector, _) => {
             vector.forget_claims();
             0
         }
@@ -160,7 +160,7 @@ fn claim_vector(alloc: Global, vector: &mut KindVector, job: &mut Slot) -> Claim
     requires { job.old.raw.inner ≡ None }
     ensures { ClaimsVector result vector.old vector.new job.new.raw.inner }
 {
-    match new_vector(alloc, Limits::greatest(), Automaton::program()) {
+    match new_vector(alloc, None, Limits::greatest(), Automaton::program()) {
         Err(_) => not_claimed(NO_MEMORY),
         Ok(room) => claim_into(vector, room, job),
     }
@@ -172,7 +172,7 @@ fn claim_of(alloc: Global, object: &mut Object, job: &mut Slot) -> Claimed
     ensures { ClaimsObject result object.old object.new job.new.raw.inner }
 {
     match object {
-        Object::Vector(vector) => claim_vector(alloc, vector, job),
+        Object::Vector(vector, _) => claim_vector(alloc, vector, job),
         _ => not_claimed(NO_HANDLE),
     }
 }
@@ -259,7 +259,7 @@ fn vet_of(object: &Object, brought: &Object) -> Vetted
     ensures { VetsObject result object.now brought.now }
 {
     match object {
-        Object::Vector(vector) => vet_live(vector.live(), brought),
+        Object::Vector(vector, _) => vet_live(vector.live(), brought),
         _ => not_vetted(),
     }
 }
@@ -350,7 +350,7 @@ fn accept_of(object: &mut Object, brought: &Object) -> Delivered
     ensures { AcceptsObject result object.old object.new brought.now }
 {
     match object {
-        Object::Vector(vector) => accept_vector(vector, brought),
+        Object::Vector(vector, _) => accept_vector(vector, brought),
         _ => not_accepted(NO_HANDLE),
     }
 }

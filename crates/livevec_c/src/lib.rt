@@ -15,6 +15,7 @@ mod kind_vectors;
 mod laws;
 mod lifetimes;
 mod objects;
+mod only;
 mod places_found;
 mod raw;
 mod reads;

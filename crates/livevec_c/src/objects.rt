@@ -6,7 +6,7 @@ use crate::kind_boards::KindBoard;
 use crate::kind_seats::KindSeat;
 use crate::kind_vectors::KindVector;
 use lv_board::{Closed, Elements};
-use lv_bodies::SixByTable;
+use lv_bodies::{Kind, SixByTable};
 use lv_refresh::{Job, Outcome};
 use std::alloc::Global;
 use std::mem;
@@ -14,7 +14,8 @@ use std::mem;
 /// What a slot holds for C: one of these.
 #[derive(Drop)]
 pub enum Object {
-    Vector(KindVector),
+    /// A vector, and the one kind that it is of, if it is of one.
+    Vector(KindVector, Option<Kind>),
     Job(Job<SixByTable>),
     Outcome(Outcome<SixByTable>),
     Board(KindBoard),

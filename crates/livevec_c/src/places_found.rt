@@ -2,13 +2,15 @@
 ghost use Rattle.std.specs.Prelude.{◌≡◌, ◌<◌, IfSome};
 ghost use Rattle.lv_geometry.specs.Numbers.{number_of};
 ghost use Rattle.livevec_c.specs.Answers.{detail_of};
-ghost use Rattle.livevec_c.specs.Found.{Finds, FindsObject, FindsVector, end_at, nowhere, placed_at, run_at, unfound};
+ghost use Rattle.livevec_c.specs.Found.{Finds, FindsAsked, FindsObject, FindsVector, end_at, kind_sought, nowhere, placed_at, run_at, unfound};
 ghost use Rattle.livevec_c.specs.declared.places_found.Wanted.TheVariants as wanted;
 
 use crate::kind_vectors::KindVector;
 use crate::objects::Object;
-use crate::results::{NO_HANDLE, detail, halves};
+use crate::only::may_ask;
+use crate::results::{BAD_KIND, NO_HANDLE, detail, halves};
 use crate::slots::{Slot, put, take};
+use lv_bodies::Kind;
 use lv_geometry::Refusal;
 use lv_where::{Placed, Run};
 use std::alloc::Global;
@@ -160,19 +162,52 @@ fn find_end(vector: &mut KindVector, lo: u32, hi: u32, sum: i64) -> Found
     }
 }
 
-// What is looked for in a range of an object.
-fn find_of(object: &mut Object, wanted: Wanted, lo: u32, hi: u32) -> Found
-    ensures answer { FindsObject wanted lo hi result object.old }
-    ensures same { object.new ≡ object.old }
+// The kind by which it is looked for.
+fn kind_sought(wanted: Wanted) -> Kind
+    ensures { result ≡ kind_sought wanted }
 {
-    let Object::Vector(vector) = object else {
-        return not_found(NO_HANDLE, 0);
-    };
+    match wanted {
+        Wanted::Least => Kind::Least,
+        Wanted::Greatest => Kind::Greatest,
+        Wanted::Best | Wanted::Reaches(_) => Kind::Best,
+    }
+}
+
+// What is looked for in a range of a vector.
+fn find_in(vector: &mut KindVector, wanted: Wanted, lo: u32, hi: u32) -> Found
+    ensures answer { FindsVector wanted lo hi result vector.old }
+    ensures same { vector.new ≡ vector.old }
+{
     match wanted {
         Wanted::Least => find_least(vector, lo, hi),
         Wanted::Greatest => find_greatest(vector, lo, hi),
         Wanted::Best => find_best(vector, lo, hi),
         Wanted::Reaches(sum) => find_end(vector, lo, hi, sum),
+    }
+}
+
+// The same, where the vector may be asked by the kind.
+fn find_asked(vector: &mut KindVector, asked: bool, wanted: Wanted, lo: u32, hi: u32) -> Found
+    ensures answer { FindsAsked asked wanted lo hi result vector.old }
+    ensures same { vector.new ≡ vector.old }
+{
+    if !asked {
+        return not_found(BAD_KIND, 0);
+    }
+    find_in(vector, wanted, lo, hi)
+}
+
+// What is looked for in a range of an object.
+fn find_of(object: &mut Object, wanted: Wanted, lo: u32, hi: u32) -> Found
+    ensures answer { FindsObject wanted lo hi result object.old }
+    ensures same { object.new ≡ object.old }
+{
+    match object {
+        Object::Vector(vector, only) => {
+            let asked = may_ask(*only, Some(kind_sought(wanted)));
+            find_asked(vector, asked, wanted, lo, hi)
+        }
+        _ => not_found(NO_HANDLE, 0),
     }
 }
 

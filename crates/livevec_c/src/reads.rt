@@ -2,14 +2,18 @@
 ghost use Rattle.std.specs.Prelude.{◌≡◌};
 ghost use Rattle.livevec_c.specs.declared.results.Counted.TheVariants as counts;
 ghost use Rattle.livevec_c.specs.Answers.{no_element, unreduced};
-ghost use Rattle.livevec_c.specs.Behind.{Asks, AsksObject, Counts, CountsObject, Gets, GetsObject, Reduces, ReducesObject};
+ghost use Rattle.livevec_c.specs.Behind.{Asks, AsksBy, AsksObject, Counts, CountsObject, Gets, GetsObject, Reduces, ReducesBy, ReducesObject};
 ghost use Rattle.livevec_c.specs.Plainly.{IsPlain};
 
+use crate::kind_vectors::KindVector;
 use crate::objects::Object;
 use crate::results::{
-    Count, Counted, Element, NO_HANDLE, Reduced, element_answer, not_reduced, reduction_answer,
+    BAD_KIND, Count, Counted, Element, NO_HANDLE, Reduced, element_answer, not_reduced,
+    reduction_answer,
 };
 use crate::slots::{Slot, put, take};
+use lv_bodies::{Kind, SixByTable};
+use lv_live::Live;
 use std::alloc::Global;
 
 /// The element where a slot holds no vector.
@@ -28,7 +32,7 @@ fn get_of(object: &Object, index: u32) -> Element
     ensures { GetsObject index result object.now }
 {
     match object {
-        Object::Vector(vector) => element_answer(vector.live().get(index)),
+        Object::Vector(vector, _) => element_answer(vector.live().get(index)),
         _ => missing(),
     }
 }
@@ -70,7 +74,7 @@ pub fn uncounted() -> Count
 fn count_of(object: &Object, what: Counted) -> Count
     ensures { CountsObject what result object.now }
 {
-    let Object::Vector(vector) = object else {
+    let Object::Vector(vector, _) = object else {
         return uncounted();
     };
     match what {
@@ -132,16 +136,25 @@ pub extern "C" fn livevec_proved_edits_left(alloc: Global, slot: &mut Slot) -> C
     count_held(alloc, slot, Counted::EditsLeft)
 }
 
+// A reduction of a vector, which is of all six kinds.
+fn reduce_live(live: &Live<SixByTable>, only: Option<Kind>, lo: u32, hi: u32) -> Reduced
+    ensures { ReducesBy only lo hi result live.now }
+{
+    match only {
+        Some(_) => not_reduced(BAD_KIND, 0),
+        None => {
+            live.keeps();
+            reduction_answer(live.reduce(lo, hi))
+        }
+    }
+}
+
 // A reduction of an object.
 fn reduce_of(object: &Object, lo: u32, hi: u32) -> Reduced
     ensures { ReducesObject lo hi result object.now }
 {
     match object {
-        Object::Vector(vector) => {
-            let live = vector.live();
-            live.keeps();
-            reduction_answer(live.reduce(lo, hi))
-        }
+        Object::Vector(vector, only) => reduce_live(vector.live(), *only, lo, hi),
         _ => not_reduced(NO_HANDLE, 0),
     }
 }
@@ -163,12 +176,22 @@ pub extern "C" fn livevec_proved_reduce(alloc: Global, slot: &mut Slot, lo: u32,
     }
 }
 
-// A reduction of an object, which keeps what it computes.
+// A reduction of a vector, which is of all six kinds, and keeps what it computes.
+fn ask_vector(vector: &mut KindVector, only: Option<Kind>, lo: u32, hi: u32) -> Reduced
+    ensures { AsksBy only lo hi result vector.old vector.new }
+{
+    match only {
+        Some(_) => not_reduced(BAD_KIND, 0),
+        None => reduction_answer(vector.ask(lo, hi)),
+    }
+}
+
+// The same of an object.
 fn ask_of(object: &mut Object, lo: u32, hi: u32) -> Reduced
     ensures { AsksObject lo hi result object.old object.new }
 {
     match object {
-        Object::Vector(vector) => reduction_answer(vector.ask(lo, hi)),
+        Object::Vector(vector, only) => ask_vector(vector, *only, lo, hi),
         _ => not_reduced(NO_HANDLE, 0),
     }
 }

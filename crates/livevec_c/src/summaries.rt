@@ -3,13 +3,13 @@ ghost use Rattle.std.specs.Prelude.{◌≡◌, Ok, take, min};
 ghost use Rattle.lv_bodies.specs.Plain.{program_table};
 ghost use Rattle.lv_reduce.specs.Answer.{range_refusal};
 ghost use Rattle.lv_shards.specs.Summaries.{empty_of, leads_of};
-ghost use Rattle.livevec_c.specs.Summed.{Extends, ExtendsRead, IsEmptyBy, Joins, JoinsWith, OpensBytes, Reads, Sums, SumsObject, SumsRange, joined_answer, opened_by, summarised, unread, unsummarised};
+ghost use Rattle.livevec_c.specs.Summed.{Extends, ExtendsRead, IsEmptyBy, Joins, JoinsWith, OpensBytes, Reads, Sums, SumsBy, SumsObject, SumsRange, joined_answer, opened_by, summarised, unread, unsummarised};
 
 use crate::lifetimes::Table;
 use crate::objects::Object;
-use crate::results::{BAD_TABLE, NO_HANDLE, PlainValues, detail, each_values, no_values};
+use crate::results::{BAD_KIND, BAD_TABLE, NO_HANDLE, PlainValues, detail, each_values, no_values};
 use crate::slots::{Slot, put, take};
-use lv_bodies::{Automaton, SixByTable};
+use lv_bodies::{Automaton, Kind, SixByTable};
 use lv_live::Live;
 use lv_shards::{JoinRefusal, ReadRefusal, SUMMARY_BYTES, ShardSummary};
 use std::alloc::Global;
@@ -155,12 +155,22 @@ fn sum_up(live: &Live<SixByTable>, lo: u32, hi: u32) -> Summarised
     }
 }
 
+// The same of a vector, which is of all six kinds.
+fn sum_six(live: &Live<SixByTable>, only: Option<Kind>, lo: u32, hi: u32) -> Summarised
+    ensures { SumsBy only lo hi result live.now }
+{
+    match only {
+        Some(_) => not_summarised(BAD_KIND, 0),
+        None => sum_up(live, lo, hi),
+    }
+}
+
 // The same of an object.
 fn sum_of(object: &Object, lo: u32, hi: u32) -> Summarised
     ensures { SumsObject lo hi result object.now }
 {
     match object {
-        Object::Vector(vector) => sum_up(vector.live(), lo, hi),
+        Object::Vector(vector, only) => sum_six(vector.live(), *only, lo, hi),
         _ => not_summarised(NO_HANDLE, 0),
     }
 }

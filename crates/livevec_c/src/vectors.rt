@@ -28,7 +28,7 @@ fn edit_object(object: &mut Object, edit: Edit) -> Edited
     ensures { EditsObject edit result object.old object.new }
 {
     match object {
-        Object::Vector(vector) => edit_answer(vector.apply(edit)),
+        Object::Vector(vector, _) => edit_answer(vector.apply(edit)),
         _ => not_held(),
     }
 }

@@ -42,7 +42,7 @@ fn judge_of(object: &Object, edit: &Edit) -> Verdict
     ensures { JudgesObject edit.now result object.now }
 {
     match object {
-        Object::Vector(vector) => verdict_answer(vector.live().verdict(edit)),
+        Object::Vector(vector, _) => verdict_answer(vector.live().verdict(edit)),
         _ => not_judged(),
     }
 }

@@ -1,4 +1,4 @@
-use Rattle.livevec_c.proofs.SpreadFolds.{spread-plain}
+use Rattle.livevec_c.specs.SpreadLaws.{spread-plain}
 use Rattle.livevec_c.proofs.laws.values_are_plain.Goals as goal
 
 pub returns : goal.returns

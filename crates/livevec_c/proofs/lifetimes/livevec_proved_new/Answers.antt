@@ -6,4 +6,4 @@ use Rattle.livevec_c.proofs.lifetimes.livevec_proved_new.Goals as goal
 pub returns-in-Ok : goal.returns-in-Ok
 returns-in-Ok c =
     rw (is_none-None _ (sym c.if-is_full.ensures.full))
-    (inr (c.in-Ok.ensures.allowed.0 refl, opens_alike _ _ _ _ _ _ c.in-Ok.ensures.ok c.program.ensures c.open.ensures))
+    (inr (c.in-Ok.ensures.allowed.0 refl, opens_alike _ _ _ _ _ _ _ c.in-Ok.ensures.ok c.program.ensures c.open.ensures))

@@ -9,5 +9,5 @@ returns-in-Ok-new c =
     (inr (inr (
       c.in-Ok.ensures.allowed.0 refl,
       c.in-Ok-new.ensures.taken.0 refl,
-      opens_alike _ _ _ _ _ _ c.in-Ok.ensures.ok c.in-Ok-new.ensures.table c.open.ensures,
+      opens_alike _ _ _ _ _ _ _ c.in-Ok.ensures.ok c.in-Ok-new.ensures.table c.open.ensures,
     )))

@@ -1,4 +1,4 @@
 use Rattle.livevec_c.proofs.reads.reduce_of.Goals as goal
 
 pub returns-in-Vector : goal.returns-in-Vector
-returns-in-Vector c = rw c.in-Vector.is (rw (← c.live-live.ensures) (c.reduce.result, c.reduction_answer.ensures, c.keeps.ensures.limits, c.reduce.ensures.answer))
+returns-in-Vector c = rw c.in-Vector.is (rw (← c.live.ensures) c.reduce_live.ensures)

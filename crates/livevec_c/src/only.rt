@@ -1,0 +1,38 @@
+//! A vector of one kind: by which kinds it may be asked.
+ghost use Rattle.std.specs.Prelude.{◌≡◌, nat_eq};
+ghost use Rattle.lv_kinds.specs.Kinds.{bit_of};
+ghost use Rattle.livevec_c.specs.Only.{is_asked_by};
+
+use lv_bodies::Kind;
+
+// The number of a kind.
+fn number_of(kind: Kind) -> u32
+    ensures { result ≡ bit_of kind }
+{
+    match kind {
+        Kind::Sum => 0,
+        Kind::Least => 1,
+        Kind::Greatest => 2,
+        Kind::Best => 3,
+        Kind::Affine => 4,
+        Kind::Automaton => 5,
+    }
+}
+
+// Whether two kinds are one.
+fn is_same(kind: Kind, other: Kind) -> bool
+    ensures { result ≡ nat_eq (bit_of kind) (bit_of other) }
+{
+    number_of(kind) == number_of(other)
+}
+
+/// Whether a vector that is of one kind, or of all six, may be asked by a kind, or by all six.
+pub fn may_ask(only: Option<Kind>, asked: Option<Kind>) -> bool
+    ensures { result ≡ is_asked_by only asked }
+{
+    match (only, asked) {
+        (None, _) => true,
+        (Some(_), None) => false,
+        (Some(only), Some(kind)) => is_same(only, kind),
+    }
+}
