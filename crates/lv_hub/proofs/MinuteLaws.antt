@@ -13,7 +13,7 @@ use Rattle.lv_transcript.specs.declared.claimed.Claimed.{Claimed}
 use Rattle.lv_transcript.specs.Fronts.{AreTrueAfter, Entry, edits_in}
 use Rattle.lv_transcript.specs.Scribing.{EndsWhole, ScribeState, Scribed, Scribes, whole_bytes}
 use Rattle.lv_transcript.specs.Transcript.{AreAccepted, AreAcceptedAfter, IsTrueClaim, greatest}
-use Rattle.lv_hub.specs.Minuting.{AreMinutes, MinutesEnd, MinutesState, ScribesAll, last_after}
+use Rattle.lv_hub.specs.Minuting.{AreMinutes, HasFront, MinutesEnd, MinutesState, ScribesAll, last_after}
 use Rattle.lv_hub.proofs.PrefixLaws.{prefix_length, prefix_self}
 
 -- ---- entries
@@ -214,3 +214,11 @@ minutes_missed start contents journal fault (Ok u) w = record {
   front = record { bytes = whole_bytes w.entries; got = w.written; some = w.entries; first = prefix_self w.entries; front = w.front };
 }
 minutes_missed start contents journal fault (Err other) w = record { entries = w.entries; edits_are = w.edits_are; front = w.front }
+
+-- what minutes have written is a front
+pub minutes_front : (start : Option (List ℕ)) (s : MinutesState) → AreMinutes start s → HasFront start s.scribe.contents s.seen
+minutes_front start s m = record {
+  entries = m.entries;
+  begins = subst (λ (es : List Edit). IsPrefix es s.seen) (sym m.edits_are) (drop s.edits s.seen, take-append-drop s.edits s.seen);
+  got = m.given.front m.all_true;
+}

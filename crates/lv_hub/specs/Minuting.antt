@@ -4,6 +4,7 @@ use Rattle.std.specs.Prelude.{◌≡◌, ℕ, ◌≤◌, Option, Result, Ok, Err
 use Rattle.lv_edits.specs.declared.edit.Edit.{Edit}
 use Rattle.lv_lines.specs.declared.fault.Fault.{Fault}
 use Rattle.std.specs.Io.KnownBytes.{Appends}
+use mathlib.Core.List.{IsPrefix}
 use Rattle.lv_transcript.specs.Fronts.{AreTrueAfter, Entry, IsFront, edits_in}
 use Rattle.lv_transcript.specs.Scribing.{GotFront, ScribeState, Scribed, whole_bytes}
 use Rattle.lv_transcript.specs.Transcript.{AreAccepted, greatest}
@@ -36,6 +37,12 @@ pub record AreMinutes (start : Option (List ℕ)) (s : MinutesState) : Type 0 wh
   pub last_is : last_after 0 entries ≡ s.last
   pub in_time : s.last ≤ s.edits
   pub accepted : AreAccepted greatest s.seen
+
+-- what a writer has got since the start is a front of a transcript with true answers, whose edits begin these
+pub record HasFront (start contents : Option (List ℕ)) (edits : List Edit) : Type 0 where
+  pub entries : List Entry
+  pub begins : IsPrefix (edits_in entries) edits
+  pub got : GotFront start contents entries
 
 -- minutes were written whole: a front of a transcript that has all edits of a journal, and its last line
 pub record WroteWhole (start contents : Option (List ℕ)) (journal : List Edit) : Type 0 where

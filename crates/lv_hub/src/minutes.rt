@@ -5,7 +5,7 @@ ghost use Rattle.lv_edits.specs.Kept.{CarriesElement};
 ghost use Rattle.lv_transcript.specs.Scribing.{Scribed};
 ghost use Rattle.lv_transcript.specs.Transcript.{AreAccepted, IsTrueClaim, greatest};
 ghost use Rattle.lv_hub.specs.Counting.{having_seen};
-ghost use Rattle.lv_hub.specs.Minuting.{MinutesEnd, ScribesAll};
+ghost use Rattle.lv_hub.specs.Minuting.{HasFront, MinutesEnd, ScribesAll};
 
 use crate::histories::Front;
 use crate::hubs::Hub;
@@ -82,7 +82,7 @@ impl<N: Means<Six>, W: Write + Drop, K: Begun> Minutes<N, W, K> {
     }
 
     /// Takes up what a session has come to, and writes it: the edits that its share has seen, and the answer that it was given, if it
-    /// was given one.
+    /// was given one. Whatever a write has come to, the writer has got a front of a transcript.
     pub(crate) fn take_up<R: Wait>(
         &mut self,
         rt: &R,
@@ -91,6 +91,7 @@ impl<N: Means<Six>, W: Write + Drop, K: Begun> Minutes<N, W, K> {
         claim: Option<Claimed>,
     )
         requires { IfSome claim (IsTrueClaim share.now.seen) }
+        ensures { HasFront K.start self.new.scribe.contents self.new.seen }
     {
         self.catch_up(rt, hub, share);
         self.take_batch(rt, hub, share);
@@ -133,8 +134,10 @@ impl<N: Means<Six>, W: Write + Drop, K: Begun> Minutes<N, W, K> {
         self.last = claim.edit;
     }
 
-    // Writes all that is held.
-    fn flush(&mut self) {
+    // Writes all that is held. What was written then is a front.
+    fn flush(&mut self)
+        ensures { HasFront K.start self.new.scribe.contents self.new.seen }
+    {
         self.scribe.flush();
     }
 
