@@ -1,4 +1,5 @@
 mod PlainServedLaws
+mod RecordingLaws
 mod Seats
 mod ServedLaws
 mod WaitedStreams

@@ -1,7 +1,20 @@
--- What the file of a transcript has got when sessions begin.
+-- What the file of a transcript has got when sessions begin, and when they have ended well.
 use Rattle.std.specs.Prelude.{ℕ, Option, Some, None, List}
+use Rattle.std.specs.Io.KnownBytes.{Appends}
+use Rattle.lv_edits.specs.declared.edit.Edit.{Edit}
+use Rattle.lv_transcript.specs.declared.claimed.Claimed.{Claimed}
+use Rattle.lv_transcript.specs.Transcript.{transcript_text}
+use Rattle.lv_hub.specs.Minuting.{WroteWhole}
 
--- it, where there is such a file
+-- what it had, where there is such a file
 abbrev pub start_of : {V : Type 0} → (V → Option (List ℕ)) → Option V → Option (List ℕ)
 start_of contents (Some file) = contents file
 start_of contents None = None
+
+-- the transcript of a journal was written; and a file that had got what it had at the start got all edits of that journal, each answer true of
+-- those before it, and the last line
+pub record Records (start file contents_old contents_new : Option (List ℕ)) : Type 0 where
+  pub journal : List Edit
+  pub answers : List Claimed
+  pub written : Appends contents_old contents_new (transcript_text journal answers)
+  pub whole : WroteWhole start file journal

@@ -1,11 +1,13 @@
 //! A hub is closed, its transcript written, and its minutes ended.
 
-ghost use Rattle.std.specs.Prelude.{◌≡◌, ◌⊎◌, All, Err, IfErr, IfOk, Ok};
+ghost use Rattle.std.specs.Prelude.{◌≡◌, ◌⊎◌, All, Err, IfErr, IfOk, IfSome, MatchResult, Ok, is_some};
 ghost use Rattle.lv_transcript.specs.Joined.{in_a_row};
 ghost use Rattle.lv_transcript.specs.Transcript.{AreAccepted, IsTrueClaim, greatest};
+ghost use Rattle.livevec.specs.Starting.{Records};
 ghost use Rattle.livevec.specs.Writing.{FailsToClose, IsFreeBuffer, Writes, WritesClosed};
 
 use crate::failures::Failure;
+use crate::files::Streams;
 use crate::minuted::{end_minutes, shown};
 use lv_bodies::Six;
 use lv_edits::Edit;
@@ -14,8 +16,9 @@ use lv_script::Fault;
 use lv_transcript::{Queue, write_joined_transcript};
 use std::io::Write;
 
-/// Closes a hub and writes its transcript by a buffer that was made for it, and ends its minutes. Takes no memory. The transcript's fault comes before that of the minutes. A call drops
-/// the vector, as one above drops the hub: the proof of a body that does so by itself is long.
+/// Closes a hub and writes its transcript by a buffer that was made for it, ends its minutes, and gives their file back. Takes no memory.
+/// The transcript's fault comes before that of the minutes. A call drops the vector, as one above drops the hub: the proof of a body
+/// that does so by itself is long.
 pub fn write_closed<N: Means<Six>, K: Begun, V: Write + Drop, W: Write>(
     hub: Hub<Six, N>,
     share: Share<N>,
@@ -23,19 +26,22 @@ pub fn write_closed<N: Means<Six>, K: Begun, V: Write + Drop, W: Write>(
     minutes: Option<Minutes<N, V, K>>,
     held: &mut Vec<u8>,
     writer: &mut W,
-) -> Result<(), Failure>
+) -> (Option<V>, Result<(), Failure>)
     requires parts { share.parts ≡ N.parts }
     requires all_true { All (IsTrueClaim share.seen) (in_a_row queues.old.items) }
     requires buffer { IsFreeBuffer held.old }
-    ensures written { IfOk result (λ done. WritesClosed N.limits share (in_a_row queues.old.items) (W.contents writer.old) (W.contents writer.new) (Ok done)) }
-    ensures failed { IfErr result (λ failure. FailsToClose N.limits share (in_a_row queues.old.items) (W.contents writer.old) (W.contents writer.new) failure.fault) }
+    ensures written { IfOk result.1 (λ done. WritesClosed N.limits share (in_a_row queues.old.items) (W.contents writer.old) (W.contents writer.new) (Ok done)) }
+    ensures failed { IfErr result.1 (λ failure. FailsToClose N.limits share (in_a_row queues.old.items) (W.contents writer.old) (W.contents writer.new) failure.fault) }
+    ensures back { is_some result.0 ≡ is_some minutes }
+    // The file has the edits of the transcript that was written.
+    ensures recorded { IfOk result.1 (λ done. IfSome result.0 (λ file. Records K.start (V.contents file) (W.contents writer.old) (W.contents writer.new))) }
 {
     let share = shown(&minutes, share);
     let live = hub.close(share);
     let written = write_in_order(live.journal(), queues, held, writer);
-    let ended = end_minutes(minutes, live.journal());
+    let (file, ended) = end_minutes(minutes, live.journal());
     drop(live);
-    first_failure(written, ended)
+    (file, first_failure(written, ended))
 }
 
 // Writes the transcript of a journal, with the reductions in the order of their edits.
@@ -57,6 +63,7 @@ fn write_in_order<W: Write>(
 fn first_failure(written: Result<(), Fault>, ended: Result<(), Fault>) -> Result<(), Failure>
     requires late { IfErr ended (λ fault. fault ≡ Fault.WriteFault) }
     ensures well { IfOk result (λ done. written ≡ Ok done) }
+    ensures both { IfOk result (λ done. ended ≡ Ok done) }
     ensures failed { IfErr result (λ failure. (written ≡ Err failure.fault) ⊎ ((written ≡ Ok tt) × (failure.fault ≡ Fault.WriteFault))) }
 {
     match written {
@@ -65,5 +72,19 @@ fn first_failure(written: Result<(), Fault>, ended: Result<(), Fault>) -> Result
             Err(fault) => Err(Failure::transcript(fault)),
         },
         Err(fault) => Err(Failure::standard(fault)),
+    }
+}
+
+/// The streams and the file, where nothing failed.
+pub fn all_or_failure<F: Drop, V: Drop>(
+    written: Result<(), Failure>,
+    streams: Vec<Streams<F>>,
+    file: Option<V>,
+) -> Result<(Vec<Streams<F>>, Option<V>), Failure>
+    ensures { MatchResult written (λ done. result ≡ Ok (streams, file)) (λ failure. result ≡ Err failure) }
+{
+    match written {
+        Ok(()) => Ok((streams, file)),
+        Err(failure) => Err(failure),
     }
 }

@@ -1,10 +1,11 @@
 //! Sessions whose minutes are kept, or not.
 
-ghost use Rattle.std.specs.Prelude.{◌≡◌, ℕ, All, IfErr, IfOk, IfSome, List, []};
+ghost use Rattle.std.specs.Prelude.{◌≡◌, ℕ, All, IfErr, IfOk, IfSome, List, [], is_some};
 ghost use mathlib.Core.List.{IsPrefix};
 ghost use Rattle.lv_lines.specs.Replies.{Conversed};
 ghost use Rattle.lv_transcript.specs.Transcript.{AreAccepted, AreInOrder, IsTrueClaim, greatest};
 ghost use Rattle.lv_hub.specs.Counting.{having_seen};
+ghost use Rattle.lv_hub.specs.Minuting.{WroteWhole};
 ghost use Rattle.lv_hub.specs.Session.{SessionState, SessionStep, session_at};
 
 use crate::failures::Failure;
@@ -24,6 +25,7 @@ pub fn begin_minutes<N: Means<Six>, K: Begun, V: Write + Drop>(
 ) -> Result<Option<Mutex<Minutes<N, V, K>>>, Failure>
     requires start { IfSome file (λ file. K.start ≡ V.contents file) }
     requires unseen { share.now.seen ≡ [] }
+    ensures { IfOk result (λ minutes. is_some minutes ≡ is_some file) }
 {
     let Some(file) = file else {
         return Ok(None);
@@ -37,7 +39,9 @@ pub fn begin_minutes<N: Means<Six>, K: Begun, V: Write + Drop>(
 /// The minutes, once no session is held any more.
 pub fn unlocked<N: Means<Six>, K: Begun, V: Write + Drop>(
     minutes: Option<Mutex<Minutes<N, V, K>>>,
-) -> Option<Minutes<N, V, K>> {
+) -> Option<Minutes<N, V, K>>
+    ensures { is_some result ≡ is_some minutes }
+{
     match minutes {
         Some(minutes) => Some(minutes.into_inner()),
         None => None,
@@ -60,20 +64,23 @@ pub fn shown<N: Means<Six>, K: Begun, V: Write + Drop>(
     share
 }
 
-/// Ends minutes, if there are any, by the journal of the hub.
+/// Ends minutes, if there are any, by the journal of the hub, and gives their file back.
 pub fn end_minutes<N: Means<Six>, K: Begun, V: Write + Drop>(
     minutes: Option<Minutes<N, V, K>>,
     journal: &[Edit],
-) -> Result<(), Fault>
+) -> (Option<V>, Result<(), Fault>)
     requires begins { IfSome minutes (λ minutes. IsPrefix minutes.seen journal.now) }
     requires accepted { AreAccepted greatest journal.now }
-    ensures { IfErr result (λ fault. fault ≡ Fault.WriteFault) }
+    ensures late { IfErr result.1 (λ fault. fault ≡ Fault.WriteFault) }
+    ensures back { is_some result.0 ≡ is_some minutes }
+    // The file has all edits of the journal, each answer true of those before it, and the last line.
+    ensures whole { IfOk result.1 (λ done. IfSome result.0 (λ file. WroteWhole K.start (V.contents file) journal.now)) }
 {
     let Some(minutes) = minutes else {
-        return Ok(());
+        return (None, Ok(()));
     };
-    let (_file, ended) = minutes.end(journal);
-    ended
+    let (file, ended) = minutes.end(journal);
+    (Some(file), ended)
 }
 
 /// Answers the lines of a session, and has them taken up where minutes are kept.

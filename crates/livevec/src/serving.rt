@@ -1,13 +1,14 @@
 //! Sessions in threads of their own, with workers beside them, and the transcript of it all.
 
-ghost use Rattle.std.specs.Prelude.{◌≡◌, ◌+◌, IfErr, IfOk, IfSome, [], Some, map, vec_len};
+ghost use Rattle.std.specs.Prelude.{◌≡◌, ◌+◌, IfErr, IfOk, IfSome, [], Some, is_some, map, vec_len};
 ghost use Rattle.lv_transcript.specs.Joined.{in_a_row};
 ghost use Rattle.livevec.specs.PlainServed.{ServedPlainly};
+ghost use Rattle.livevec.specs.Starting.{Records, start_of};
 ghost use Rattle.livevec.specs.Writing.{IsFreeBuffer};
 ghost use Rattle.livevec.specs.Served.{FailsToServe, Served, Sides};
 ghost use Rattle.livevec.specs.Tasks.{AreAllHeld, AreHeldFrom, IsHeldFrom};
 
-use crate::closing::write_closed;
+use crate::closing::{all_or_failure, write_closed};
 use crate::failures::{self, Failure};
 use crate::files::Streams;
 use crate::minuted::{begin_minutes, run_minuted, unlocked};
@@ -41,8 +42,8 @@ pub struct Plan {
 /// writes the transcript: the journal, and the sessions' reductions in the order of their edits. Gives the streams back, where
 /// each session has answered all its lines. Where sessions end with faults nothing is written, and the first of them is the fault.
 ///
-/// Where there is a file for it, edits and answers are written there too, as they come. That it can't be written is a fault at the
-/// end, once the transcript is written.
+/// Where there is a file for it, edits and answers are written there too, as they come, and the file is given back with all of them.
+/// That it can't be written is a fault at the end, once the transcript is written.
 pub fn serve<
     F: Read + Write + Send + Drop,
     V: Write + Send + Drop,
@@ -55,11 +56,14 @@ pub fn serve<
     streams: Vec<Streams<F>>,
     file: Option<V>,
     writer: &mut W,
-) -> Result<Vec<Streams<F>>, Failure>
-    ensures served { IfOk result (λ done. Served plan.limits (map (λ s. record { lines = F.remaining s.lines; replies = F.contents s.replies }) streams.items) (map (λ s. record { lines = F.remaining s.lines; replies = F.contents s.replies }) done.items) (W.contents writer.old) (W.contents writer.new)) }
+) -> Result<(Vec<Streams<F>>, Option<V>), Failure>
+    ensures served { IfOk result (λ done. Served plan.limits (map (λ s. record { lines = F.remaining s.lines; replies = F.contents s.replies }) streams.items) (map (λ s. record { lines = F.remaining s.lines; replies = F.contents s.replies }) done.0.items) (W.contents writer.old) (W.contents writer.new)) }
     // Each reply is the plain interpreter's, at a beginning of one list of edits.
-    ensures plain { IfOk result (λ done. ServedPlainly plan.limits (map (λ s. record { lines = F.remaining s.lines; replies = F.contents s.replies }) streams.items) (map (λ s. record { lines = F.remaining s.lines; replies = F.contents s.replies }) done.items) (W.contents writer.old) (W.contents writer.new)) }
+    ensures plain { IfOk result (λ done. ServedPlainly plan.limits (map (λ s. record { lines = F.remaining s.lines; replies = F.contents s.replies }) streams.items) (map (λ s. record { lines = F.remaining s.lines; replies = F.contents s.replies }) done.0.items) (W.contents writer.old) (W.contents writer.new)) }
     ensures failed { IfErr result (λ failure. FailsToServe plan.limits (W.contents writer.old) (W.contents writer.new) failure.fault) }
+    ensures back { IfOk result (λ done. is_some done.1 ≡ is_some file) }
+    // The file has got the edits of the transcript that was written, and true answers between them, in the order of time.
+    ensures recorded { IfOk result (λ done. IfSome done.1 (λ kept. Records (start_of V.contents file) (V.contents kept) (W.contents writer.old) (W.contents writer.new))) }
 {
     let parts = streams.len() as u64 + 1;
     serve_as::<Brand, Brand, F, V, W, R>(
@@ -95,7 +99,7 @@ fn serve_as<
     parts: u64,
     opened: Opened,
     body: Six,
-) -> Result<Vec<Streams<F>>, Failure>
+) -> Result<(Vec<Streams<F>>, Option<V>), Failure>
     requires name { blank.name ≡ N.name }
     requires all { blank.parts ≡ N.parts }
     requires parts { blank.parts ≡ parts }
@@ -104,8 +108,10 @@ fn serve_as<
     requires history { opened ≡ N.history }
     requires body { N.body ≡ Some body }
     requires start { IfSome file (λ file. K.start ≡ V.contents file) }
-    ensures served { IfOk result (λ done. Served plan.limits (map (λ s. record { lines = F.remaining s.lines; replies = F.contents s.replies }) streams.items) (map (λ s. record { lines = F.remaining s.lines; replies = F.contents s.replies }) done.items) (W.contents writer.old) (W.contents writer.new)) }
+    ensures served { IfOk result (λ done. Served plan.limits (map (λ s. record { lines = F.remaining s.lines; replies = F.contents s.replies }) streams.items) (map (λ s. record { lines = F.remaining s.lines; replies = F.contents s.replies }) done.0.items) (W.contents writer.old) (W.contents writer.new)) }
     ensures failed { IfErr result (λ failure. FailsToServe plan.limits (W.contents writer.old) (W.contents writer.new) failure.fault) }
+    ensures back { IfOk result (λ done. is_some done.1 ≡ is_some file) }
+    ensures recorded { IfOk result (λ done. IfSome done.1 (λ kept. Records K.start (V.contents kept) (W.contents writer.old) (W.contents writer.new))) }
 {
     let (hub, mut share) = Hub::<Six, N>::new(alloc, plan.limits, body, blank, parts, opened);
     match serve_all::<N, K, F, V, R>(rt, alloc, plan, &hub, &mut share, streams, file) {
@@ -115,10 +121,8 @@ fn serve_as<
                 streams,
                 mut held,
             } = all;
-            match write_closed(hub, share, &mut claims, minutes, &mut held, writer) {
-                Ok(()) => Ok(streams),
-                Err(failure) => Err(failure),
-            }
+            let (file, written) = write_closed(hub, share, &mut claims, minutes, &mut held, writer);
+            all_or_failure(written, streams, file)
         }
         Err(failure) => {
             drop(hub);
@@ -149,6 +153,7 @@ fn serve_all<
     requires unseen { share.old.seen ≡ [] }
     ensures parts { IfOk result (λ all. share.new.parts ≡ share.old.parts) }
     ensures buffer { IfOk result (λ all. IsFreeBuffer all.0.held) }
+    ensures minuted { IfOk result (λ all. is_some all.1 ≡ is_some file) }
     ensures held { IfOk result (λ all. AreAllHeld N.limits share.new (map (λ s. record { lines = F.remaining s.lines; replies = F.contents s.replies }) streams.items) (map (λ s. record { lines = F.remaining s.lines; replies = F.contents s.replies }) all.0.streams.items) (in_a_row all.0.claims.items)) }
 {
     let minutes = begin_minutes::<N, K, V>(alloc, file, share)?;

@@ -4,6 +4,7 @@ use Rattle.lv_edits.specs.declared.edit.Edit.{Edit}
 use Rattle.lv_transcript.specs.Transcript.{IsTrueClaim}
 use Rattle.lv_hub.proofs.TruthLaws.{all_true_of_more}
 use Rattle.lv_transcript.specs.Joined.{in_a_row}
+use Rattle.livevec.proofs.RecordingLaws.{records_so}
 use Rattle.livevec.proofs.ServedLaws.{begins, closed_more, closed_so, closes_ill, closes_well, if_some}
 use Rattle.livevec.proofs.closing.write_closed.Goals as goal
 
@@ -34,8 +35,14 @@ returns-clause-failed g c =
     closes_ill (λ failure. failure.fault) g.N.Naming.limits c.args.share (in_a_row c.args.queues.now.items) _ _ c.write_in_order-written.result c.first_failure.result c.first_failure.ensures.failed closed
 
 -- what minutes have seen begins the journal
-pub end_minutes-ended-requires-clause-begins : goal.end_minutes-ended-requires-clause-begins
-end_minutes-ended-requires-clause-begins g c =
+pub end_minutes-file-requires-clause-begins : goal.end_minutes-file-requires-clause-begins
+end_minutes-file-requires-clause-begins g c =
     if_some c.args.minutes
     (λ m begun. subst (λ (es : List Edit). IsPrefix m.seen es) (sym c.journal-2.ensures) (begins m.seen c.shown-share.result.seen c.close-live.result.history.journal begun c.close-live.ensures.seen))
     c.shown-share.ensures.minutes
+
+-- the file has the journal of the transcript
+pub returns-clause-recorded : goal.returns-clause-recorded
+returns-clause-recorded g c =
+    records_so g.V.Write.contents g.K.Begun.start c.close-live.result.history.journal c.journal.result.now c.journal-2.result.now (in_a_row c.args.queues.now.items) _ _ c.write_in_order-written.result c.end_minutes-file.result.1 c.first_failure.result c.end_minutes-file.result.0
+    c.journal.ensures c.journal-2.ensures c.first_failure.ensures.well c.first_failure.ensures.both c.write_in_order-written.ensures c.end_minutes-file.ensures.whole

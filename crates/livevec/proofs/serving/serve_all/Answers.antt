@@ -12,3 +12,7 @@ returns-clause-parts g c =
 pub returns-clause-held : goal.returns-clause-held
 returns-clause-held g c =
     all_held_by _ g.N.Naming.limits _ _ c.args.streams.items _ _ _ _ c.in_ok-tasks.ensures.begun c.in_ok-done.ensures c.in_ok-all.ensures.back (c.in_ok-tasks.ensures.count ∙ c.requires.count)
+
+-- minutes are kept where there is a file for them
+pub returns-clause-minuted : goal.returns-clause-minuted
+returns-clause-minuted g c = c.unlocked.ensures ∙ c.in_ok-minutes.ensures

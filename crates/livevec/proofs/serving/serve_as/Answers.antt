@@ -1,10 +1,21 @@
+use Rattle.std.proofs.Common.{◌∙◌}
+use Rattle.livevec.proofs.RecordingLaws.{passes_all, passes_ill, passes_well}
 use Rattle.livevec.proofs.ServedLaws.{failed_so, served_so}
 use Rattle.livevec.proofs.serving.serve_as.Goals as goal
 
-pub returns-in-Ok-write_closed-clause-served : goal.returns-in-Ok-write_closed-clause-served
-returns-in-Ok-write_closed-clause-served g c =
-    rw c.requires.limits (served_so g.N.Naming.limits _ _ _ _ c.in-Ok.ensures.held _ _ _ c.in-Ok-write_closed.ensures.written)
+pub returns-in-Ok-clause-served : goal.returns-in-Ok-clause-served
+returns-in-Ok-clause-served g c =
+    rw c.requires.limits (passes_well _ _ _ c.write_closed-file.result.1 c.all_or_failure.result c.all_or_failure.ensures (λ done. served_so g.N.Naming.limits _ _ _ _ c.in-Ok.ensures.held done _ _) c.write_closed-file.ensures.written)
 
 pub returns-in-Ok-clause-failed : goal.returns-in-Ok-clause-failed
 returns-in-Ok-clause-failed g c =
-    rw c.requires.limits (failed_so g.N.Naming.limits _ _ _ _ c.in-Ok.ensures.held _ _ _ c.in-Err-write_closed.ensures.failed)
+    rw c.requires.limits (passes_ill _ _ _ c.write_closed-file.result.1 c.all_or_failure.result c.all_or_failure.ensures (λ failure. failed_so g.N.Naming.limits _ _ _ _ c.in-Ok.ensures.held failure.fault _ _) c.write_closed-file.ensures.failed)
+
+-- the file is given back with what was written to it
+pub returns-in-Ok-clause-back : goal.returns-in-Ok-clause-back
+returns-in-Ok-clause-back g c =
+    passes_all _ _ c.write_closed-file.result.1 c.all_or_failure.result c.all_or_failure.ensures (c.write_closed-file.ensures.back ∙ c.in-Ok.ensures.minuted)
+
+pub returns-in-Ok-clause-recorded : goal.returns-in-Ok-clause-recorded
+returns-in-Ok-clause-recorded g c =
+    passes_well _ _ _ c.write_closed-file.result.1 c.all_or_failure.result c.all_or_failure.ensures (λ done recorded. recorded) c.write_closed-file.ensures.recorded

@@ -1,0 +1,6 @@
+use Rattle.livevec.proofs.RecordingLaws.{whole_so}
+use Rattle.livevec.proofs.minuted.end_minutes.Goals as goal
+
+-- what ended well was written whole
+pub returns-clause-whole : goal.returns-clause-whole
+returns-clause-whole g c = whole_so g.K.Begun.start _ c.args.journal.now c.end-file.result.1 c.end-file.ensures.ends
