@@ -1,0 +1,4 @@
+mod AskingLaws
+mod NoticeLaws
+pub mod Noticed
+pub mod WatchedLaws

@@ -1,0 +1,18 @@
+use Rattle.std.proofs.Common.{ap, sym, ◌∙◌}
+use Rattle.lv_watchers.specs.Noticing.{NoticesState, told_text}
+use Rattle.lv_watchers.proofs.NoticeLaws.{wrote_more, wrote_nothing, wrote_part}
+use Rattle.lv_watchers.proofs.notices.Notices.tell.Goals as goal
+
+-- a write had failed before
+pub returns-then-self : goal.returns-then-self
+returns-then-self g c = wrote_nothing (told_text c.args.told.now) c.args.self.now (ap (λ (s : NoticesState). s.failed) (sym c.self.view_is) ∙ c.if-self.true)
+
+pub returns-in-Ok : goal.returns-in-Ok
+returns-in-Ok g c =
+    let s : NoticesState = record { contents = g.F.Write.contents c.self.inside.writer; failed = c.self.inside.failed } in
+    rw (← c.self.view_is) (wrote_more (told_text c.args.told.now) s (g.F.Write.contents c.write_told.new.outbox.writer.now) c.write_told.new.outbox.held.now.items c.if-self.false (rw c.self.invariant.0 at c.in-Ok.ensures.ok))
+
+pub returns-in-Err : goal.returns-in-Err
+returns-in-Err g c =
+    let s : NoticesState = record { contents = g.F.Write.contents c.self.inside.writer; failed = c.self.inside.failed } in
+    rw (← c.self.view_is) (wrote_part (told_text c.args.told.now) s (g.F.Write.contents c.write_told.new.outbox.writer.now) c.if-self.false (rw c.self.invariant.0 at c.in-Err.ensures.fault))

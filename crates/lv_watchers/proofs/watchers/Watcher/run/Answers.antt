@@ -1,0 +1,5 @@
+use Rattle.lv_watchers.proofs.Noticed.{watches_both}
+use Rattle.lv_watchers.proofs.watchers.Watcher.run.Goals as goal
+
+pub returns : goal.returns
+returns g c = watches_both g.N.Naming.limits c.args.self.now c.turns.new.self c.look.new.self c.turns.ensures c.look.ensures

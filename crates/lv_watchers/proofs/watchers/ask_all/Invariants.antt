@@ -1,0 +1,11 @@
+use Rattle.std.proofs.Common.{◌≡◌, [], map, take}
+use Rattle.lv_hub.specs.Notes.{answer_to}
+use Rattle.lv_watchers.proofs.watchers.ask_all.Given as goal
+
+-- the questions so far are asked, each told as of no elements
+abbrev pub invariant-loop-question : goal.invariant-loop-question
+invariant-loop-question g l = record {
+  share : l.subscriber.share ≡ l.initial.subscriber.share;
+  questions : l.subscriber.questions ≡ take l.question-index l.questions;
+  told : l.subscriber.told ≡ map (answer_to []) (take l.question-index l.questions);
+}

@@ -1,0 +1,12 @@
+use Rattle.std.proofs.Common.{◌≡◌, ◌+◌, [], length, map}
+use Rattle.lv_watchers.specs.Watchers.{watcher_at}
+use Rattle.lv_watchers.proofs.watchers.subscribe_all.Given as goal
+
+abbrev pub invariant-loop-watch : goal.invariant-loop-watch
+invariant-loop-watch g l =
+    (goal.iterator-loop-watch g).can_next l.watch-iterator ×
+    (goal.iterator-loop-watch g).is_finite l.watch-iterator ×
+    (l.watchers.items ≡ map (λ w. watcher_at (record { questions = w.questions.items; contents = g.F.Write.contents w.notes })) l.yielded) ×
+    (l.share.parts + length l.yielded ≡ l.fn.share.parts) ×
+    (l.share.count ≡ l.fn.share.count) ×
+    (l.share.seen ≡ [])

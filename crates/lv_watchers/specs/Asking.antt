@@ -1,0 +1,70 @@
+-- What the lines of a subscriber's file ask.
+use Rattle.std.specs.Prelude.{◌≡◌, ◌⊎◌, ℕ, Option, Some, None, Result, Ok, Err, List, [], ◌∷◌, ◌++◌, Vec}
+use Rattle.lv_geometry.specs.declared.refusals.Refusal.{Refusal}
+use Rattle.lv_edits.specs.Verdict.{IsRefusal}
+use Rattle.lv_lines.specs.declared.command.Command.TheVariants.{Watch}
+use Rattle.lv_lines.specs.declared.command.Line.{Line}
+use Rattle.lv_lines.specs.declared.command.Line.TheVariants.{Nothing, Do}
+use Rattle.lv_lines.specs.declared.fault.Fault.{Fault}
+use Rattle.lv_lines.specs.Grammar.{line_of}
+use Rattle.lv_lines.specs.Replies.{Conversed}
+use Rattle.lv_hub.specs.declared.questions.Question.{Question}
+use Rattle.lv_hub.specs.Notes.{question_refusal}
+use Rattle.lv_watchers.specs.declared.queries.Damage as damages
+use Rattle.lv_watchers.specs.declared.queries.Unasked.{Unasked}
+use Rattle.lv_watchers.specs.declared.queries.Unasked.TheVariants as unasked
+
+-- what was read: the questions in the order of their lines, and what is wrong with the first line that is wrong
+pub record Asked : Type 0 where
+  pub questions : List Question
+  pub damage : Option damages.Damage
+
+-- before the first line
+abbrev pub no_questions : Asked
+no_questions = record { questions = []; damage = None }
+
+-- some questions, and a line that is wrong
+abbrev pub damaged : List Question → ℕ → Option Refusal → Asked
+damaged questions n refusal = record { questions = questions; damage = Some (record { line = n; refusal = refusal }) }
+
+-- line n asks a question: it stands behind the others, unless it is refused
+abbrev pub Asks : List Question → ℕ → Question → Asked → Type 0
+Asks questions n q new =
+    ((question_refusal questions q ≡ None) × (new ≡ record { questions = questions ++ q ∷ []; damage = None }))
+    ⊎ ((refusal : Refusal) × IsRefusal (question_refusal questions q) refusal × (new ≡ damaged questions n (Some refusal)))
+
+-- line n says this, where no line before it is wrong. One that says nothing changes nothing, and one that is no `watch` is wrong
+abbrev pub Takes : List Question → ℕ → Line → Asked → Type 0
+Takes questions n Nothing new = new ≡ record { questions = questions; damage = None }
+Takes questions n (Do (Watch name kind lo hi)) new = Asks questions n (record { name = name; kind = kind; lo = lo; hi = hi }) new
+Takes questions n _ new = new ≡ damaged questions n None
+
+-- what stands behind a line that is wrong changes nothing
+abbrev pub TakesUnless : Option damages.Damage → Asked → ℕ → Line → Asked → Type 0
+TakesUnless (Some damage) old n line new = new ≡ old
+TakesUnless None old n line new = Takes old.questions n line new
+
+-- a line is taken, and answered by nothing
+unfoldable pub AskStep : Asked → ℕ → List ℕ → List ℕ → Asked → Type 0
+AskStep old n line text new = (text ≡ []) × TakesUnless old.damage old n (line_of line) new
+
+-- the lines of an input were taken in turn, up to its end or to a fault
+pub record AsksAll {T : Type 0} (remaining_old remaining_new : Option (List ℕ)) (asked : Asked) (result : Result T Fault) : Type 0 where
+  pub before : Option (List ℕ)
+  pub after : Option (List ℕ)
+  pub conversed : Conversed AskStep no_questions asked remaining_old remaining_new before after result
+
+-- what is found once all lines were taken
+abbrev pub Finds : {Z : Type 0} → Asked → Result (Vec Question Z) Unasked → Type 0
+Finds asked (Ok questions) = asked ≡ record { questions = questions.items; damage = None }
+Finds asked (Err (unasked.Damage damage)) = asked.damage ≡ Some damage
+Finds asked (Err (unasked.Fault fault)) = ⊥
+
+-- how the questions of an input were read: all lines are right; or the first that is wrong is told; or there was a fault
+abbrev pub ReadsQuestions : {Z : Type 0} → Option (List ℕ) → Option (List ℕ) → Result (Vec Question Z) Unasked → Type 0
+ReadsQuestions remaining_old remaining_new (Ok questions) =
+    AsksAll {T = Unit {0}} remaining_old remaining_new (record { questions = questions.items; damage = None }) (Ok tt)
+ReadsQuestions remaining_old remaining_new (Err (unasked.Damage damage)) =
+    (questions : List Question) × AsksAll {T = Unit {0}} remaining_old remaining_new (record { questions = questions; damage = Some damage }) (Ok tt)
+ReadsQuestions remaining_old remaining_new (Err (unasked.Fault fault)) =
+    (asked : Asked) × AsksAll {T = Unit {0}} remaining_old remaining_new asked (Err fault)

@@ -1,0 +1,4 @@
+pub mod Asking
+pub mod Noticing
+pub mod Watched
+pub mod Watchers

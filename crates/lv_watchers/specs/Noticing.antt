@@ -1,0 +1,53 @@
+-- What a subscriber is told, as text, and as it goes.
+use Rattle.std.specs.Prelude.{◌≡◌, ℕ, Bool, true, false, Option, List, [], ◌∷◌, ◌++◌}
+use Rattle.std.specs.List.{flat_map}
+use Rattle.std.specs.Io.KnownBytes.{Appends}
+use Rattle.lv_geometry.specs.Bounds.{Bounds}
+use Rattle.lv_lines.specs.Output.{WritesFront}
+use Rattle.lv_lines.specs.Texts.{named_text}
+use Rattle.lv_standing.specs.declared.notes.Note.{Note}
+use Rattle.lv_hub.specs.declared.told.Told.{Told}
+use Rattle.lv_hub.specs.Notes.{HasTold, SubscriberState}
+
+-- the lines of some notes at an edit, and of what was told
+abbrev pub notes_at : ℕ → List Note → List ℕ
+notes_at edit notes = flat_map (λ note. named_text edit note.name note.value) notes
+
+abbrev pub told_text : Told → List ℕ
+told_text told = notes_at told.edit told.notes.items
+
+-- the lines of all that was told
+abbrev pub all_told_text : List Told → List ℕ
+all_told_text tolds = flat_map told_text tolds
+
+-- what writes the lines: what its writer has got, and whether a write has failed
+pub record NoticesState : Type 0 where
+  pub contents : Option (List ℕ)
+  pub failed : Bool
+
+-- since a writer had got what it had at the start, it got a text; or a write has failed, after no more than a front of it
+abbrev pub WroteOrPart : Bool → Option (List ℕ) → Option (List ℕ) → List ℕ → Type 0
+WroteOrPart false start contents text = Appends start contents text
+WroteOrPart true start contents text = WritesFront start [] contents text
+
+-- whatever was written, this text was behind it
+abbrev pub WritesMore : List ℕ → NoticesState → NoticesState → Type 0
+WritesMore text old new =
+    (start : Option (List ℕ)) (before : List ℕ) → WroteOrPart old.failed start old.contents before → WroteOrPart new.failed start new.contents (before ++ text)
+
+-- a subscriber, and what writes its lines
+pub record WatcherState : Type 0 where
+  pub subscriber : SubscriberState
+  pub notices : NoticesState
+
+module _ (limits : Bounds) where
+  -- a subscriber of a hub with these limits was told this, one thing after the other
+  abbrev pub AreTold : SubscriberState → List Told → SubscriberState → Type 0
+  AreTold old [] new = new ≡ old
+  AreTold old (told ∷ tolds) new = (mid : SubscriberState) × HasTold limits old mid told × AreTold mid tolds new
+
+  -- it was told some things, and their lines were written
+  pub record Watches (old new : WatcherState) : Type 0 where
+    pub tolds : List Told
+    pub told : AreTold old.subscriber tolds new.subscriber
+    pub written : WritesMore (all_told_text tolds) old.notices new.notices

@@ -1,0 +1,133 @@
+// The lines of what a subscriber is told.
+
+ghost use Rattle.std.specs.Prelude.{◌≡◌, ◌+◌, ◌≤◌, ◌++◌, [], false, IfErr, IfOk, OnOk, vec_len};
+ghost use Rattle.lv_lines.specs.Output.{HasRoom, KeepsRoom, Puts, PutsFront, SamePlaces};
+ghost use Rattle.lv_lines.specs.Texts.{named_text};
+ghost use Rattle.lv_watchers.specs.Noticing.{WritesMore, notes_at, told_text};
+
+use lv_bodies::Shown;
+use lv_hub::Told;
+use lv_lines::{Fault, HELD, LINE, Outbox, put, put_number, put_shown};
+use lv_standing::{Name, Note};
+use std::alloc::{AllocError, Global};
+use std::io::Write;
+use std::marker::Model;
+
+/// What writes the lines of what a subscriber is told, `at E NAME VALUE`, as it comes and whole. A write that fails is its last: what
+/// it has written is a front of the lines then.
+#[derive(Drop)]
+pub struct Notices<F: Write + Drop> {
+    writer: F,
+    held: Vec<u8>,
+    failed: bool,
+}
+
+impl<F: Write + Drop> Model for Notices<F> {
+    ghost use Rattle.std.specs.Prelude.{◌≡◌, ◌≤◌, [], vec_capacity};
+    ghost use Rattle.lv_lines.specs.declared.sender.TheConstants.{HELD};
+    ghost use Rattle.lv_watchers.specs.Noticing.{NoticesState};
+
+    ghost Value = { NoticesState };
+
+    ghost view = { λ n. record { contents = F.contents n.writer; failed = n.failed } };
+
+    ghost invariant = { λ n. (n.held.items ≡ []) × (HELD ≤ vec_capacity n.held) };
+}
+
+impl<F: Write + Drop> Notices<F> {
+    /// What has written nothing yet. All memory that it needs is taken here.
+    pub fn new(alloc: Global, writer: F) -> Result<Notices<F>, AllocError>
+        ensures { IfOk result (λ n. n ≡ record { contents = F.contents writer; failed = false }) }
+    {
+        Ok(Notices {
+            held: Vec::with_capacity(alloc, HELD)?,
+            writer,
+            failed: false,
+        })
+    }
+
+    /// Writes the lines of what was told, unless a write has failed.
+    pub fn tell(&mut self, told: &Told)
+        ensures { WritesMore (told_text told.now) self.old self.new }
+    {
+        if self.failed {
+            return;
+        }
+        let mut outbox = Outbox {
+            writer: &mut self.writer,
+            held: &mut self.held,
+        };
+        match write_told(told, &mut outbox) {
+            Ok(()) => {}
+            Err(_) => {
+                self.held.clear();
+                self.failed = true;
+            }
+        }
+    }
+
+    /// Whether a write has failed.
+    pub fn has_failed(&self) -> bool
+        ensures { result ≡ self.now.failed }
+    {
+        self.failed
+    }
+}
+
+// Writes the lines of what was told.
+fn write_told<W: Write>(told: &Told, outbox: &mut Outbox<'_, W>) -> Result<(), Fault>
+    ensures places { SamePlaces outbox.old outbox.new }
+    ensures ok { OnOk result ((outbox.new.held.now.items ≡ []) × Puts W.contents outbox.old outbox.new (told_text told.now)) }
+    ensures fault { IfErr result (λ fault. PutsFront W.contents outbox.old outbox.new (told_text told.now)) }
+{
+    put_all(told.edit, &told.notes, outbox)?;
+    outbox.send()
+}
+
+// Puts the lines of notes at an edit.
+fn put_all<W: Write>(edit: u32, notes: &[Note], outbox: &mut Outbox<'_, W>) -> Result<(), Fault>
+    ensures places { SamePlaces outbox.old outbox.new }
+    ensures ok { OnOk result (Puts W.contents outbox.old outbox.new (notes_at edit notes.now)) }
+    ensures fault { IfErr result (λ fault. PutsFront W.contents outbox.old outbox.new (notes_at edit notes.now)) }
+{
+    for note in notes {
+        put_one(edit, note, outbox)?;
+    }
+    Ok(())
+}
+
+// Puts the line of a note at an edit.
+fn put_one<W: Write>(edit: u32, note: &Note, outbox: &mut Outbox<'_, W>) -> Result<(), Fault>
+    ensures places { SamePlaces outbox.old outbox.new }
+    ensures ok { OnOk result (Puts W.contents outbox.old outbox.new (named_text edit note.now.name note.now.value)) }
+    ensures fault { IfErr result (λ fault. PutsFront W.contents outbox.old outbox.new []) }
+{
+    outbox.make_room(LINE)?;
+    put_line(outbox.held, edit, note.name, note.value);
+    Ok(())
+}
+
+// The line of a name and its value at an edit.
+fn put_line(held: &mut Vec<u8>, edit: u32, name: Name, value: Shown)
+    requires { HasRoom held.old LINE }
+    ensures text { held.new.items ≡ held.old.items ++ named_text edit name value }
+    ensures room { KeepsRoom held.old held.new }
+{
+    put(held, b"at ");
+    put_number(held, edit.into());
+    put(held, b" ");
+    put_name(held, name);
+    put(held, b" ");
+    put_shown(held, value);
+    put(held, b"\n");
+}
+
+// The bytes of a name, of which there are at most 16.
+fn put_name(held: &mut Vec<u8>, name: Name)
+    requires { HasRoom held.old 16 }
+    ensures text { held.new.items ≡ held.old.items ++ name }
+    ensures len { vec_len held.new ≤ vec_len held.old + 16 }
+    ensures room { KeepsRoom held.old held.new }
+{
+    put(held, name.as_bytes());
+}

@@ -1,0 +1,180 @@
+// Subscribers beside sessions: what each is told goes to its file.
+
+ghost use Rattle.std.specs.Prelude.{◌≡◌, ◌+◌, ◌≤◌, IfOk, [], map, vec_len};
+ghost use Rattle.lv_watchers.specs.Noticing.{Watches};
+ghost use Rattle.lv_hub.specs.Notes.{answer_to};
+ghost use Rattle.lv_watchers.specs.Watchers.{left_by, watcher_at};
+
+use crate::leaving::Left;
+use crate::notices::Notices;
+use lv_bodies::Six;
+use lv_geometry::Refusal;
+use lv_hub::{Hub, Means, Question, Share, Subscriber};
+use std::alloc::Global;
+use std::io::Write;
+use std::marker::Model;
+use std::sync::Wait;
+
+/// A subscriber that is to be.
+#[derive(Drop)]
+pub struct Watch<F: Drop> {
+    /// A number that the caller knows it by.
+    pub number: usize,
+    /// What it asks.
+    pub questions: Vec<Question>,
+    /// Where its lines go.
+    pub notes: F,
+}
+
+/// A subscriber of a hub with one part of it, and what writes its lines.
+#[derive(Drop)]
+pub struct Watcher<N: Means<Six>, F: Write + Drop> {
+    number: usize,
+    subscriber: Subscriber<N>,
+    notices: Notices<F>,
+}
+
+impl<N: Means<Six>, F: Write + Drop> Model for Watcher<N, F> {
+    ghost use Rattle.std.specs.Prelude.{◌≡◌};
+    ghost use Rattle.lv_watchers.specs.Noticing.{WatcherState};
+
+    ghost Value = { WatcherState };
+
+    ghost view = { λ w. record { subscriber = w.subscriber; notices = w.notices } };
+
+    ghost invariant = { λ w. (w.subscriber.share.parts ≡ 1) × (w.subscriber.share.count ≡ 0) };
+}
+
+impl<N: Means<Six>, F: Write + Drop> Watcher<N, F> {
+    /// Has its subscriber told of edits, until the hub's workers are dismissed or a write fails. Where memory is wanting it looks
+    /// again after a pause. At the end it looks once more, without sleep.
+    pub fn run<R: Wait>(&mut self, rt: &R, alloc: Global, hub: &Hub<Six, N>)
+        ensures { Watches N.limits self.old self.new }
+    {
+        self.turns(rt, alloc, hub);
+        self.look(rt, alloc, hub);
+    }
+
+    // Has its subscriber told so, turn by turn.
+    #[tactic(auto, using(crate::proofs::Noticed::watches_both))]
+    fn turns<R: Wait>(&mut self, rt: &R, alloc: Global, hub: &Hub<Six, N>)
+        ensures { Watches N.limits self.old self.new }
+    {
+        for _ in 0..u64::MAX {
+            if !self.turn(rt, alloc, hub) {
+                return;
+            }
+        }
+    }
+
+    // Sleeps until there is an edit to tell of, and tells. Says whether there is another turn.
+    fn turn<R: Wait>(&mut self, rt: &R, alloc: Global, hub: &Hub<Six, N>) -> bool
+        ensures { Watches N.limits self.old self.new }
+    {
+        match self.subscriber.next(rt, alloc, hub) {
+            Ok(Some(told)) => {
+                self.notices.tell(&told);
+                !self.notices.has_failed()
+            }
+            Ok(None) => false,
+            Err(_) => true,
+        }
+    }
+
+    // Tells what there is to tell, unless a write has failed.
+    fn look<R: Wait>(&mut self, rt: &R, alloc: Global, hub: &Hub<Six, N>)
+        ensures { Watches N.limits self.old self.new }
+    {
+        if self.notices.has_failed() {
+            return;
+        }
+        match self.subscriber.look(rt, alloc, hub) {
+            Ok(Some(told)) => self.notices.tell(&told),
+            Ok(None) | Err(_) => {}
+        }
+    }
+
+    /// Its part of the hub, and what it leaves.
+    pub fn end(self) -> (Share<N>, Left<F>)
+        ensures share { result.0 ≡ self.subscriber.share }
+        ensures part { result.0.parts ≡ 1 }
+        ensures count { result.0.count ≡ 0 }
+        ensures left { result.1 ≡ left_by self }
+    {
+        let Watcher {
+            number,
+            subscriber,
+            notices,
+        } = self;
+        let (share, ended) = subscriber.end();
+        (share, Left::new(number, ended, notices))
+    }
+}
+
+// A subscriber with a share, which asks its questions. Refused as they are, and with `NoMemory`.
+#[tactic(auto, using(crate::proofs::Noticed::subscribed))]
+fn subscribe<N: Means<Six>, F: Write + Drop>(
+    alloc: Global,
+    share: Share<N>,
+    watch: Watch<F>,
+) -> Result<Watcher<N, F>, Refusal>
+    requires parts { share.parts ≡ 1 }
+    requires count { share.count ≡ 0 }
+    requires seen { share.seen ≡ [] }
+    ensures { IfOk result (λ w. w ≡ watcher_at (record { questions = watch.questions.items; contents = F.contents watch.notes })) }
+{
+    let Watch {
+        number,
+        questions,
+        notes,
+    } = watch;
+    let Ok(notices) = Notices::new(alloc, notes) else {
+        return Err(Refusal::NoMemory);
+    };
+    let mut subscriber = Subscriber::new(alloc, share);
+    ask_all(&mut subscriber, &questions)?;
+    Ok(Watcher {
+        number,
+        subscriber,
+        notices,
+    })
+}
+
+// Has a subscriber without questions ask these. Refused as `Subscriber::watch` is.
+fn ask_all<N: Means<Six>>(
+    subscriber: &mut Subscriber<N>,
+    questions: &[Question],
+) -> Result<(), Refusal>
+    requires none { subscriber.old.questions ≡ [] }
+    requires untold { subscriber.old.told ≡ [] }
+    ensures { IfOk result (λ done. subscriber.new ≡ record subscriber.old { questions = questions.now; told = map (answer_to []) questions.now }) }
+{
+    for question in questions {
+        subscriber.watch(question)?;
+    }
+    Ok(())
+}
+
+/// Gives each subscriber a part of the hub, of which nobody has seen an edit. The first question that is refused, as
+/// `Subscriber::watch` does, is the refusal; or else `NoMemory`.
+pub fn subscribe_all<N: Means<Six>, F: Write + Drop>(
+    alloc: Global,
+    share: &mut Share<N>,
+    watches: Vec<Watch<F>>,
+) -> Result<Vec<Watcher<N, F>>, Refusal>
+    requires parts { vec_len watches + 1 ≤ share.old.parts }
+    requires unseen { share.old.seen ≡ [] }
+    ensures parts { IfOk result (λ watchers. share.new.parts + vec_len watches ≡ share.old.parts) }
+    ensures count { IfOk result (λ watchers. share.new.count ≡ share.old.count) }
+    ensures seen { IfOk result (λ watchers. share.new.seen ≡ []) }
+    ensures begun { IfOk result (λ watchers. watchers.items ≡ map (λ w. watcher_at (record { questions = w.questions.items; contents = F.contents w.notes })) watches.items) }
+{
+    let mut watchers = Vec::new(alloc);
+    for watch in watches {
+        let watcher = subscribe(alloc, share.split(), watch)?;
+        if watchers.push(watcher).is_err() {
+            return Err(Refusal::NoMemory);
+        }
+    }
+    Ok(watchers)
+}
