@@ -120,3 +120,9 @@ served_watched share watches left news contents_old contents_new are closed = re
   written = closed.written;
   watched = watched_each share.seen closed.journal watches left news closed.seen are closed.last;
 }
+
+-- from their beginning to the last, subscribers were told of one list
+pub watched_of_one_list : (limits : Bounds) (old new : ShareState) (edits : List Edit) (watches : List WatchState) (watchers : List WatcherState) (left : List LeftState) (told : List NoticesState)
+    → AreWatchedFrom limits (map watcher_at watches) watchers → TakesWatchers old new watchers left → IsPrefix new.seen edits → AllTellLast edits left told → AreWatched edits watches told
+watched_of_one_list limits old new edits watches watchers left told are taken begun last =
+    watched_each new.seen edits watches left told begun (subst (AreLeft new.seen watches) (sym taken.left_are) (left_each limits new.seen watches watchers are taken.seen)) last

@@ -5,11 +5,13 @@
 //! about the vector.
 #![tactic(auto)]
 
+mod laws;
 mod leaving;
 mod notices;
 mod queries;
 mod watchers;
 
+pub use laws::lines_are_plain_answers_of_one_list;
 pub use leaving::{Leaving, Left, Watched, leave_all};
 pub use notices::Notices;
 pub use queries::{Damage, Unasked, read_questions};
