@@ -1,0 +1,9 @@
+pub mod ChainCalls
+pub mod ChainFolds
+pub mod ChainLaws
+pub mod ChainReads
+pub mod ChainSteps
+pub mod FreeLaws
+pub mod PlainLaws
+pub mod SeriesLaws
+pub mod ShardLaws

@@ -1,0 +1,10 @@
+use Rattle.std.proofs.Common.{refl}
+use Rattle.lv_series.proofs.ChainSteps.{no_chain}
+use Rattle.lv_series.proofs.chains.Chain.new.Goals as goal
+
+pub invariant_of-result : goal.invariant_of-result
+invariant_of-result g c =
+    rw (c.new.ensures.items, c.new-2.ensures.items, c.new-3.ensures) (no_chain (g.B.Body.operations (g.B.Body.meaning c.args.body)) c.args.body)
+
+pub returns : goal.returns
+returns g c = rw (c.new.ensures.items, c.new-3.ensures) refl

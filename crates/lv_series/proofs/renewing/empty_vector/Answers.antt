@@ -1,0 +1,6 @@
+use Rattle.std.proofs.Common.{ap}
+use Rattle.lv_series.proofs.ShardLaws.{nothing_held, same_holding}
+use Rattle.lv_series.proofs.renewing.empty_vector.Goals as goal
+
+pub returns-clause-holds : goal.returns-clause-holds
+returns-clause-holds g c = same_holding _ _ c.new.ensures.body (nothing_held c.new.result.history (ap (λ h. h.journal) c.new.ensures.history))

@@ -1,0 +1,41 @@
+use Rattle.std.proofs.Common.{◌≡◌, ◌<◌, ◌≤◌, ◌+◌, ◌-◌, None, length, refl, ap, arith, ◌∙◌}
+use Rattle.lv_bodies.specs.Body.{fold_of}
+use Rattle.lv_series.specs.Series.{range_refused}
+use Rattle.lv_series.proofs.FreeLaws.{free_range}
+use Rattle.lv_series.proofs.SeriesLaws.{held_of, range_held, size_held}
+use Rattle.lv_series.proofs.series.Series.fold_kept.Goals as goal
+
+pub overflow_sub-lo : goal.overflow_sub-lo
+overflow_sub-lo g c =
+    let s = c.self.inside in
+    let free : range_refused (held_of s.gone s.skip s.chain.elements) c.args.lo c.args.hi ≡ None = rw (← c.self.view_is) at c.requires in
+    omega (arith, (free_range (held_of s.gone s.skip s.chain.elements) c.args.lo c.args.hi free).1)
+
+pub overflow_sub-hi : goal.overflow_sub-hi
+overflow_sub-hi g c =
+    let s = c.self.inside in
+    let free : range_refused (held_of s.gone s.skip s.chain.elements) c.args.lo c.args.hi ≡ None = rw (← c.self.view_is) at c.requires in
+    omega (arith, (free_range (held_of s.gone s.skip s.chain.elements) c.args.lo c.args.hi free).1, (free_range (held_of s.gone s.skip s.chain.elements) c.args.lo c.args.hi free).0)
+
+pub fold-requires-clause-order : goal.fold-requires-clause-order
+fold-requires-clause-order g c = λ _ _.
+    let s = c.self.inside in
+    let free : range_refused (held_of s.gone s.skip s.chain.elements) c.args.lo c.args.hi ≡ None = rw (← c.self.view_is) at c.requires in
+    omega (arith, (free_range (held_of s.gone s.skip s.chain.elements) c.args.lo c.args.hi free).0)
+
+pub fold-requires-clause-inside : goal.fold-requires-clause-inside
+fold-requires-clause-inside g c = λ _ _.
+    let s = c.self.inside in
+    let free : range_refused (held_of s.gone s.skip s.chain.elements) c.args.lo c.args.hi ≡ None = rw (← c.self.view_is) at c.requires in
+    omega (arith, (free_range (held_of s.gone s.skip s.chain.elements) c.args.lo c.args.hi free).2, size_held s.gone s.skip s.chain.elements c.self.invariant.0)
+
+pub returns : goal.returns
+returns g c =
+    let s = c.self.inside in
+    let free : range_refused (held_of s.gone s.skip s.chain.elements) c.args.lo c.args.hi ≡ None = rw (← c.self.view_is) at c.requires in
+    let kept = free_range (held_of s.gone s.skip s.chain.elements) c.args.lo c.args.hi free in
+    rw (← c.self.view_is) record {
+      granted = free;
+      edit = refl;
+      value = c.fold.ensures ∙ ap (fold_of (g.B.Body.operations (g.B.Body.meaning s.chain.body))) (range_held s.gone s.skip s.chain.elements c.self.invariant.0 c.args.lo c.args.hi kept.1 kept.0);
+    }

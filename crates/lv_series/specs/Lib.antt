@@ -1,0 +1,5 @@
+pub mod Chain
+pub mod Numbers
+pub mod Plain
+pub mod Series
+pub mod Shard

@@ -1,0 +1,113 @@
+ghost use Rattle.std.specs.Prelude.{◌≡◌, ◌^◌, ◌<◌, ◌≤◌, pos, [], ◌∷◌, ◌++◌, length, OnOk, OnErr, All};
+ghost use Rattle.std.specs.List.{slice_index_or, slice_range};
+ghost use Rattle.lv_geometry.specs.Elements.{IsElement};
+ghost use Rattle.lv_bodies.specs.Body.{fold_of};
+
+use crate::folding::{fold_whole, join_three};
+use crate::places::{SHARD, place_of};
+use crate::rolling::roll_over;
+use crate::shards::Shard;
+use crate::walking::shard_at;
+use lv_bodies::LongBody;
+use std::alloc::{AllocError, Global};
+use std::collections::VecDeque;
+use std::marker::Model;
+
+/// Elements in shards, side by side: full ones of 32,760 elements, whose folds are kept, and a last one. An error of its calls is want
+/// of memory, and nothing has changed then.
+#[derive(Drop)]
+pub struct Chain<B: LongBody> {
+    alloc: Global,
+    full: VecDeque<Shard<B>>,
+    sums: VecDeque<B::S>,
+    tail: Shard<B>,
+}
+
+impl<B: LongBody> Model for Chain<B> {
+    ghost use Rattle.lv_series.specs.Shard.{Holding};
+    ghost use Rattle.lv_series.specs.Chain.{IsChain, all_in};
+
+    ghost Value = { Holding B };
+
+    ghost view = { λ a. record { body = a.tail.body; elements = all_in a.full.items a.tail } };
+
+    ghost invariant = { λ a. IsChain (B.operations (B.meaning a.tail.body)) a.full.items a.sums.items a.tail };
+}
+
+impl<B: LongBody> Chain<B> {
+    /// No elements. Takes no memory.
+    pub fn new(alloc: Global, body: B) -> Chain<B>
+        ensures { result ≡ record { body = body; elements = [] } }
+    {
+        Chain {
+            alloc,
+            full: VecDeque::new(alloc),
+            sums: VecDeque::new(alloc),
+            tail: Shard::new(alloc, body),
+        }
+    }
+
+    /// How many elements there are.
+    #[inline(always)]
+    pub fn len(&self) -> u64
+        ensures value { result ≡ length self.now.elements }
+        ensures few { result ≤ 2 ^ 62 }
+        ensures elements { All IsElement self.now.elements }
+    {
+        self.full.len() as u64 * SHARD as u64 + self.tail.len() as u64
+    }
+
+    /// The body by which it reduces.
+    #[inline(always)]
+    pub fn body(&self) -> B
+        ensures { result ≡ self.now.body }
+    {
+        self.tail.body()
+    }
+
+    /// The element at a position.
+    pub fn get(&self, position: u64) -> i64
+        requires { position < length self.now.elements }
+        ensures { result ≡ slice_index_or self.now.elements position (pos 0) }
+    {
+        let place = place_of(position, self.full.len());
+        shard_at(&self.full, &self.tail, place.shard).get(place.index)
+    }
+
+    /// Puts an element at the end.
+    pub fn push(&mut self, x: i64) -> Result<(), AllocError>
+        requires { length self.old.elements < 2 ^ 62 }
+        ensures ok { OnOk result (self.new ≡ record self.old { elements = self.old.elements ++ x ∷ [] }) }
+        ensures err { OnErr result (self.new ≡ self.old) }
+    {
+        if self.tail.len() < SHARD {
+            return self.tail.push(x);
+        }
+        roll_over(
+            self.alloc,
+            &mut self.full,
+            &mut self.sums,
+            &mut self.tail,
+            x,
+        )
+    }
+
+    /// The fold of the elements from one position up to another. Takes no memory.
+    pub fn fold(&self, from: u64, to: u64) -> B::S
+        requires order { from ≤ to }
+        requires inside { to ≤ length self.now.elements }
+        ensures { result ≡ fold_of (B.operations (B.meaning self.now.body)) (slice_range self.now.elements from to) }
+    {
+        let lo = place_of(from, self.full.len());
+        let hi = place_of(to, self.full.len());
+        let first = shard_at(&self.full, &self.tail, lo.shard);
+        if lo.shard == hi.shard {
+            return first.fold(lo.index, hi.index);
+        }
+        let body = self.tail.body();
+        let front = first.fold(lo.index, SHARD);
+        let middle = fold_whole(&body, &self.full, &self.sums, lo.shard + 1, hi.shard);
+        let end = shard_at(&self.full, &self.tail, hi.shard).fold(0, hi.index);
+        join_three(&body, front, middle, end)
+    }
+}

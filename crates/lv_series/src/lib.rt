@@ -1,0 +1,26 @@
+//! A series: a vector whose elements and edits are bounded by memory alone.
+//!
+//! Its elements lie in shards, each a live vector of its own, and the fold of each full shard is kept. A shard whose edits run out is
+//! made anew. No answer shows shards or renewals: the model of `Series` is what is kept and how many edits were accepted.
+#![tactic(auto)]
+
+mod answers;
+mod chains;
+mod edits;
+mod folding;
+mod places;
+mod receipts;
+mod refusals;
+mod renewing;
+mod rolling;
+mod series;
+mod shards;
+mod theorems;
+mod walking;
+
+pub use answers::LongAnswer;
+pub use edits::LongEdit;
+pub use receipts::LongReceipt;
+pub use refusals::LongRefusal;
+pub use series::Series;
+pub use theorems::{every_answer_is_plain, refusals_change_nothing};

@@ -1,0 +1,112 @@
+ghost use Rattle.std.specs.Prelude.{◌≡◌, ◌<◌, ◌≤◌, pos, [], ◌∷◌, ◌++◌, length, OnOk, OnErr, All};
+ghost use Rattle.std.specs.List.{slice_index_or, slice_range};
+ghost use Rattle.lv_geometry.specs.Elements.{IsElement};
+ghost use Rattle.lv_bodies.specs.Body.{fold_of};
+ghost use Rattle.lv_series.specs.Chain.{sum_of};
+
+use crate::renewing::{empty_vector, make_one};
+use lv_bodies::Body;
+use lv_edits::Edit;
+use lv_live::Live;
+use std::alloc::{AllocError, Global};
+use std::marker::Model;
+
+/// Elements of a series that stand side by side, at most 32,760, in a live vector of their own. That is made anew where its edits run
+/// out, so that the number of edits is bounded by memory alone. An error of its calls is want of memory, and nothing has changed then.
+#[derive(Drop)]
+pub struct Shard<B: Body> {
+    alloc: Global,
+    live: Live<B>,
+}
+
+impl<B: Body> Model for Shard<B> {
+    ghost use Rattle.lv_series.specs.Shard.{Holding, IsShard, holding_of};
+
+    ghost Value = { Holding B };
+
+    ghost view = { λ a. holding_of a.live };
+
+    ghost invariant = { λ a. IsShard a.live.history };
+}
+
+impl<B: Body> Shard<B> {
+    /// No elements. Takes no memory.
+    pub fn new(alloc: Global, body: B) -> Shard<B>
+        ensures { result ≡ record { body = body; elements = [] } }
+    {
+        Shard {
+            alloc,
+            live: empty_vector(alloc, body),
+        }
+    }
+
+    /// How many elements there are, at most 32,760.
+    #[inline(always)]
+    pub fn len(&self) -> u32
+        ensures value { result ≡ length self.now.elements }
+        ensures few { result ≤ 32760 }
+        ensures elements { All IsElement self.now.elements }
+    {
+        self.live.size()
+    }
+
+    /// The body by which it reduces.
+    #[inline(always)]
+    pub fn body(&self) -> B
+        ensures { result ≡ self.now.body }
+    {
+        self.live.body()
+    }
+
+    /// The element at an index.
+    #[inline(always)]
+    pub fn get(&self, i: u32) -> i64
+        requires { i < length self.now.elements }
+        ensures { result ≡ slice_index_or self.now.elements i (pos 0) }
+    {
+        self.live.view().cells.read(i)
+    }
+
+    /// Puts an element at the end.
+    pub fn push(&mut self, x: i64) -> Result<(), AllocError>
+        requires { length self.old.elements < 32760 }
+        ensures ok { OnOk result (self.new ≡ record self.old { elements = self.old.elements ++ x ∷ [] }) }
+        ensures err { OnErr result (self.new ≡ self.old) }
+    {
+        make_one(self.alloc, &mut self.live, Edit::Push(x))
+    }
+
+    /// The fold of the elements from `lo` up to `hi`.
+    pub fn fold(&self, lo: u32, hi: u32) -> B::S
+        requires order { lo ≤ hi }
+        requires inside { hi ≤ length self.now.elements }
+        ensures { result ≡ fold_of (B.operations (B.meaning self.now.body)) (slice_range self.now.elements lo hi) }
+    {
+        match self.live.reduce(lo, hi) {
+            Ok(answer) => answer.value,
+            Err(_) => self.live.body().identity(),
+        }
+    }
+
+    /// The same, keeping what is computed for it: until an element of the range changes, it costs little to ask again.
+    pub fn ask(&mut self, lo: u32, hi: u32) -> B::S
+        requires order { lo ≤ hi }
+        requires inside { hi ≤ length self.old.elements }
+        ensures value { result ≡ fold_of (B.operations (B.meaning self.old.body)) (slice_range self.old.elements lo hi) }
+        ensures same { self.new ≡ self.old }
+    {
+        match self.live.ask(lo, hi) {
+            Ok(answer) => answer.value,
+            Err(_) => self.live.body().identity(),
+        }
+    }
+
+    /// The fold of all elements, kept like what `ask` computes.
+    pub fn sum(&mut self) -> B::S
+        ensures value { result ≡ sum_of (B.operations (B.meaning self.old.body)) self.old }
+        ensures same { self.new ≡ self.old }
+    {
+        let len = self.len();
+        self.ask(0, len)
+    }
+}
