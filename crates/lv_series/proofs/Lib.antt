@@ -1,6 +1,8 @@
 pub mod ChainCalls
+pub mod ChainCuts
 pub mod ChainFolds
 pub mod ChainLaws
+pub mod ChainPuts
 pub mod ChainReads
 pub mod ChainSteps
 pub mod FreeLaws

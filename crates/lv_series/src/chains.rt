@@ -1,8 +1,10 @@
-ghost use Rattle.std.specs.Prelude.{◌≡◌, ◌^◌, ◌<◌, ◌≤◌, pos, [], ◌∷◌, ◌++◌, length, OnOk, OnErr, All};
+ghost use Rattle.std.specs.Prelude.{◌≡◌, ◌-◌, ◌^◌, ◌<◌, ◌≤◌, pos, [], ◌∷◌, ◌++◌, length, take, drop, slice_set, OnOk, OnErr, All};
 ghost use Rattle.std.specs.List.{slice_index_or, slice_range};
 ghost use Rattle.lv_geometry.specs.Elements.{IsElement};
 ghost use Rattle.lv_bodies.specs.Body.{fold_of};
 
+use crate::changing::write_in;
+use crate::cutting::{cut, drop_front, unroll};
 use crate::folding::{fold_whole, join_three};
 use crate::places::{SHARD, place_of};
 use crate::rolling::roll_over;
@@ -90,6 +92,69 @@ impl<B: LongBody> Chain<B> {
             &mut self.tail,
             x,
         )
+    }
+
+    /// Drops the last element.
+    pub fn pop(&mut self) -> Result<(), AllocError>
+        requires { 0 < length self.old.elements }
+        ensures ok { OnOk result (self.new ≡ record self.old { elements = take (length self.old.elements - 1) self.old.elements }) }
+        ensures err { OnErr result (self.new ≡ self.old) }
+    {
+        if self.tail.len() > 0 {
+            return self.tail.pop();
+        }
+        unroll(&mut self.full, &mut self.sums, &mut self.tail);
+        self.tail.pop()
+    }
+
+    /// Overwrites the element at a position.
+    pub fn write(&mut self, position: u64, value: i64) -> Result<(), AllocError>
+        requires { position < length self.old.elements }
+        ensures ok { OnOk result (self.new ≡ record self.old { elements = slice_set self.old.elements position value }) }
+        ensures err { OnErr result (self.new ≡ self.old) }
+    {
+        let place = place_of(position, self.full.len());
+        if place.shard < self.full.len() {
+            return write_in(
+                &mut self.full,
+                &mut self.sums,
+                place.shard,
+                place.index,
+                value,
+            );
+        }
+        self.tail.write(place.index, value)
+    }
+
+    /// Keeps so many elements, the first ones.
+    pub fn truncate(&mut self, count: u64) -> Result<(), AllocError>
+        requires { count ≤ length self.old.elements }
+        ensures ok { OnOk result (self.new ≡ record self.old { elements = take count self.old.elements }) }
+        ensures err { OnErr result (self.new ≡ self.old) }
+    {
+        let place = place_of(count, self.full.len());
+        if place.shard < self.full.len() {
+            return cut(
+                &mut self.full,
+                &mut self.sums,
+                &mut self.tail,
+                place.shard,
+                place.index,
+            );
+        }
+        self.tail.truncate(place.index)
+    }
+
+    /// Drops full shards at the front, as many as there are among so many elements. Tells how many elements it dropped. Takes no
+    /// memory.
+    pub fn shed(&mut self, most: u64) -> u64
+        requires { most ≤ length self.old.elements }
+        ensures most { result ≤ most }
+        ensures dropped { self.new ≡ record self.old { elements = drop result self.old.elements } }
+    {
+        let place = place_of(most, self.full.len());
+        drop_front(&mut self.full, &mut self.sums, place.shard);
+        most - place.index as u64
     }
 
     /// The fold of the elements from one position up to another. Takes no memory.

@@ -1,11 +1,14 @@
-//! A series: a vector whose elements and edits are bounded by memory alone.
+//! A series: a vector whose elements and edits are bounded by memory alone, with a window that slides.
 //!
-//! Its elements lie in shards, each a live vector of its own, and the fold of each full shard is kept. A shard whose edits run out is
-//! made anew. No answer shows shards or renewals: the model of `Series` is what is kept and how many edits were accepted.
+//! Its elements lie in shards, each a live vector of its own, and the fold of each full shard is kept. Elements at the front may
+//! expire: the others keep their indices, and the memory of whole shards comes back. A shard whose edits run out is made anew. No
+//! answer shows shards or renewals: the model of `Series` is what is kept and how many edits were accepted.
 #![tactic(auto)]
 
 mod answers;
 mod chains;
+mod changing;
+mod cutting;
 mod edits;
 mod folding;
 mod places;

@@ -1,6 +1,6 @@
 ghost use Rattle.std.specs.Prelude.{◌≡◌, None, true};
 ghost use Rattle.lv_series.specs.Plain.{new_series};
-ghost use Rattle.lv_series.specs.Series.{Answers, IsLongAnswer, Reduces, element_at, element_of, is_border, is_kept, range_refused, refused, refused_on, size_of};
+ghost use Rattle.lv_series.specs.Series.{Accepts, Answers, IsLongAnswer, Reduces, element_at, element_of, is_border, is_kept, range_refused, refused, refused_on, size_of};
 
 use crate::answers::LongAnswer;
 use crate::chains::Chain;
@@ -14,8 +14,8 @@ use std::marker::Model;
 // The most that an index behind the last element may be: 2^62.
 const MOST: u64 = 1 << 62;
 
-/// A vector of `i64` that goes on: its elements and edits are bounded by memory alone. Elements are kept under the indices from `first`
-/// up to `size`.
+/// A vector of `i64` that goes on: its elements and edits are bounded by memory alone, and elements at its front may expire. Elements
+/// are kept under the indices from `first` up to `size`.
 #[derive(Drop)]
 pub struct Series<B: LongBody> {
     chain: Chain<B>,
@@ -167,6 +167,118 @@ impl<B: LongBody> Series<B> {
                 Ok(LongReceipt::Pushed {
                     edit: self.edits,
                     index,
+                })
+            }
+            Err(_) => Err(LongRefusal::NoMemory),
+        }
+    }
+
+    /// Drops the last element. Refused with `Worn`, `Empty`, then `NoMemory`.
+    pub fn pop(&mut self) -> Result<LongReceipt, LongRefusal>
+        ensures { Answers self.old LongEdit.Pop result self.new }
+    {
+        match self.verdict(&LongEdit::Pop) {
+            Some(refusal) => Err(refusal),
+            None => self.make_pop(),
+        }
+    }
+
+    // Drops the last element, where nothing refuses that.
+    fn make_pop(&mut self) -> Result<LongReceipt, LongRefusal>
+        requires { refused self.old LongEdit.Pop ≡ None }
+        ensures { Answers self.old LongEdit.Pop result self.new }
+    {
+        let value = self.chain.get(self.chain.len() - 1);
+        match self.chain.pop() {
+            Ok(()) => {
+                self.edits += 1;
+                Ok(LongReceipt::Popped {
+                    edit: self.edits,
+                    value,
+                })
+            }
+            Err(_) => Err(LongRefusal::NoMemory),
+        }
+    }
+
+    /// Overwrites the element under an index. Refused with `Worn`, `OutOfRange`, then `NoMemory`.
+    pub fn write(&mut self, index: u64, value: i64) -> Result<LongReceipt, LongRefusal>
+        ensures { Answers self.old (LongEdit.Write index value) result self.new }
+    {
+        match self.verdict(&LongEdit::Write { index, value }) {
+            Some(refusal) => Err(refusal),
+            None => self.make_write(index, value),
+        }
+    }
+
+    // Overwrites an element, where nothing refuses that.
+    fn make_write(&mut self, index: u64, value: i64) -> Result<LongReceipt, LongRefusal>
+        requires { refused self.old (LongEdit.Write index value) ≡ None }
+        ensures { Answers self.old (LongEdit.Write index value) result self.new }
+    {
+        let position = index - self.gone;
+        let before = self.chain.get(position);
+        match self.chain.write(position, value) {
+            Ok(()) => {
+                self.edits += 1;
+                Ok(LongReceipt::Written {
+                    edit: self.edits,
+                    before,
+                })
+            }
+            Err(_) => Err(LongRefusal::NoMemory),
+        }
+    }
+
+    /// Drops the elements before an index; the others keep their indices, and the memory of whole shards comes back. Refused with
+    /// `Worn`, then `OutOfRange`. Takes no memory.
+    pub fn expire(&mut self, index: u64) -> Result<LongReceipt, LongRefusal>
+        ensures { Answers self.old (LongEdit.Expire index) result self.new }
+    {
+        match self.verdict(&LongEdit::Expire(index)) {
+            Some(refusal) => Err(refusal),
+            None => Ok(self.make_expiry(index)),
+        }
+    }
+
+    // Drops the elements before an index, where nothing refuses that.
+    fn make_expiry(&mut self, index: u64) -> LongReceipt
+        requires { refused self.old (LongEdit.Expire index) ≡ None }
+        ensures { Accepts self.old (LongEdit.Expire index) result self.new }
+    {
+        let dropped = index - self.first();
+        let shed = self.chain.shed(index - self.gone);
+        self.gone += shed;
+        self.skip = index - self.gone;
+        self.edits += 1;
+        LongReceipt::Expired {
+            edit: self.edits,
+            dropped,
+        }
+    }
+
+    /// Drops the elements from an index on. Refused with `Worn`, `OutOfRange`, then `NoMemory`.
+    pub fn truncate(&mut self, size: u64) -> Result<LongReceipt, LongRefusal>
+        ensures { Answers self.old (LongEdit.Truncate size) result self.new }
+    {
+        match self.verdict(&LongEdit::Truncate(size)) {
+            Some(refusal) => Err(refusal),
+            None => self.make_cut(size),
+        }
+    }
+
+    // Drops the elements from an index on, where nothing refuses that.
+    fn make_cut(&mut self, size: u64) -> Result<LongReceipt, LongRefusal>
+        requires { refused self.old (LongEdit.Truncate size) ≡ None }
+        ensures { Answers self.old (LongEdit.Truncate size) result self.new }
+    {
+        let dropped = self.size() - size;
+        match self.chain.truncate(size - self.gone) {
+            Ok(()) => {
+                self.edits += 1;
+                Ok(LongReceipt::Truncated {
+                    edit: self.edits,
+                    dropped,
                 })
             }
             Err(_) => Err(LongRefusal::NoMemory),

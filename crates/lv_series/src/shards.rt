@@ -1,4 +1,4 @@
-ghost use Rattle.std.specs.Prelude.{◌≡◌, ◌<◌, ◌≤◌, pos, [], ◌∷◌, ◌++◌, length, OnOk, OnErr, All};
+ghost use Rattle.std.specs.Prelude.{◌≡◌, ◌-◌, ◌<◌, ◌≤◌, pos, [], ◌∷◌, ◌++◌, length, take, slice_set, OnOk, OnErr, All};
 ghost use Rattle.std.specs.List.{slice_index_or, slice_range};
 ghost use Rattle.lv_geometry.specs.Elements.{IsElement};
 ghost use Rattle.lv_bodies.specs.Body.{fold_of};
@@ -74,6 +74,33 @@ impl<B: Body> Shard<B> {
         ensures err { OnErr result (self.new ≡ self.old) }
     {
         make_one(self.alloc, &mut self.live, Edit::Push(x))
+    }
+
+    /// Drops the last element.
+    pub fn pop(&mut self) -> Result<(), AllocError>
+        requires { 0 < length self.old.elements }
+        ensures ok { OnOk result (self.new ≡ record self.old { elements = take (length self.old.elements - 1) self.old.elements }) }
+        ensures err { OnErr result (self.new ≡ self.old) }
+    {
+        make_one(self.alloc, &mut self.live, Edit::Pop)
+    }
+
+    /// Overwrites the element at an index.
+    pub fn write(&mut self, index: u32, value: i64) -> Result<(), AllocError>
+        requires { index < length self.old.elements }
+        ensures ok { OnOk result (self.new ≡ record self.old { elements = slice_set self.old.elements index value }) }
+        ensures err { OnErr result (self.new ≡ self.old) }
+    {
+        make_one(self.alloc, &mut self.live, Edit::Write { index, value })
+    }
+
+    /// Keeps so many elements, the first ones.
+    pub fn truncate(&mut self, count: u32) -> Result<(), AllocError>
+        requires { count ≤ length self.old.elements }
+        ensures ok { OnOk result (self.new ≡ record self.old { elements = take count self.old.elements }) }
+        ensures err { OnErr result (self.new ≡ self.old) }
+    {
+        make_one(self.alloc, &mut self.live, Edit::Truncate(count))
     }
 
     /// The fold of the elements from `lo` up to `hi`.
