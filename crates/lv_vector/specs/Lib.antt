@@ -7,3 +7,14 @@ pub use Rattle.lv_live.specs.State
 pub use Rattle.lv_live.specs.Step
 pub use Rattle.lv_geometry.specs.declared.refusals.Refusal
 pub use Rattle.lv_reduce.specs.declared.reductions.Answer as AnswerType
+pub use Rattle.lv_geometry.specs.Bounds
+pub use Rattle.lv_bodies.specs.declared.kinds.Shown
+pub use Rattle.lv_edits.specs.declared.edit.Edit
+pub use Rattle.lv_edits.specs.History
+pub use Rattle.lv_standing.specs.declared.notes.Note
+pub use Rattle.lv_standing.specs.Queries
+pub use Rattle.lv_hub.specs.declared.questions.Question
+pub use Rattle.lv_hub.specs.declared.told.Told as ToldType
+pub use Rattle.lv_hub.specs.Counting
+pub use Rattle.lv_hub.specs.Notes
+pub use Rattle.lv_hub.specs.Told as Hub

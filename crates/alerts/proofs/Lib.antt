@@ -1,0 +1,4 @@
+mod Beginnings
+mod CountingLaws
+mod TellingLaws
+mod WatchingLaws

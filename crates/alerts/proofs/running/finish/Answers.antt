@@ -1,0 +1,8 @@
+use Rattle.std.proofs.Common.{◌∙◌}
+use Rattle.alerts.proofs.TellingLaws.{tells_last}
+use Rattle.alerts.proofs.running.finish.Goals as goal
+
+pub returns-clause-told : goal.returns-clause-told
+returns-clause-told g c =
+    λ questions is. tells_last questions g.N.Naming.limits c.args.gathered.share.seen c.args.gathered.ended.questions c.args.gathered.ended.told c.close-live.result.history _ is c.close-live.ensures.vector c.close-live.ensures.seen
+    c.tell-last.ensures.edit c.tell-last.ensures.notes (c.close-live.ensures.counted ∙ c.requires.count)

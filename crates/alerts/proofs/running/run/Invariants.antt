@@ -1,0 +1,11 @@
+use Rattle.std.proofs.Common.{Some}
+use Rattle.alerts.proofs.running.run.Given as goal
+
+abbrev pub ghosts-run_as-N-Ledger : goal.ghosts-run_as-N-Ledger
+ghosts-run_as-N-Ledger g a = record { name = a.blank.name; parts = a.blank.parts }
+
+abbrev pub ghosts-run_as-N-Naming : goal.ghosts-run_as-N-Naming
+ghosts-run_as-N-Naming g a = record { limits = a.limits; history = a.opened }
+
+abbrev pub ghosts-run_as-N-Means : goal.ghosts-run_as-N-Means
+ghosts-run_as-N-Means g a = record { body = Some a.body }

@@ -1,0 +1,2 @@
+pub mod Alerts
+pub mod Followed

@@ -1,0 +1,113 @@
+//! A subscriber that keeps what it is told.
+ghost use Rattle.std.specs.Prelude.{◌≡◌, [], IfOk, OnOk};
+ghost use Rattle.alerts.specs.Followed.{Follows, IsWatching, KeepsFollowing};
+
+use lv_vector::hub::{Hub, Means, Question, Share, Subscriber, Told};
+use lv_vector::{Refusal, Six};
+use std::alloc::Global;
+use std::sync::Wait;
+use std::time::Duration;
+
+// How long the subscriber pauses between two looks.
+const PAUSE_MICROSECONDS: u64 = 50;
+
+/// A subscriber, what it was told, in order, and whether it ended early for want of memory.
+#[derive(Drop)]
+pub struct Follower<N: Means<Six>> {
+    pub subscriber: Subscriber<N>,
+    pub told: Vec<Told>,
+    pub starved: bool,
+}
+
+/// A subscriber with these questions and a share of its own, which was told nothing yet. Refused as `Subscriber::watch` is.
+pub fn begin<N: Means<Six>>(
+    alloc: Global,
+    share: Share<N>,
+    questions: &[Question],
+) -> Result<Follower<N>, Refusal>
+    ensures follows { IfOk result (λ f. Follows questions.now f.subscriber.share.seen f.subscriber.questions f.subscriber.told f.told.items) }
+    ensures share { IfOk result (λ f. f.subscriber.share ≡ share) }
+{
+    let mut subscriber = Subscriber::new(alloc, share);
+    subscriber.set_pause(Duration::from_micros(PAUSE_MICROSECONDS));
+    match watch_all(&mut subscriber, questions) {
+        Ok(()) => Ok(Follower {
+            subscriber,
+            told: Vec::new(alloc),
+            starved: false,
+        }),
+        Err(refusal) => Err(refusal),
+    }
+}
+
+// Registers questions in order, where there are none yet.
+fn watch_all<N: Means<Six>>(
+    subscriber: &mut Subscriber<N>,
+    questions: &[Question],
+) -> Result<(), Refusal>
+    requires questions { subscriber.old.questions ≡ [] }
+    requires told { subscriber.old.told ≡ [] }
+    ensures watching { OnOk result (IsWatching questions.now subscriber.new) }
+    ensures share { subscriber.new.share ≡ subscriber.old.share }
+{
+    for i in 0..questions.len() {
+        subscriber.watch(&questions[i])?;
+    }
+    Ok(())
+}
+
+/// Keeps what there is to tell until the hub's workers are dismissed, or until memory is wanting.
+pub fn follow<N: Means<Six>, R: Wait>(
+    rt: &R,
+    alloc: Global,
+    hub: &Hub<Six, N>,
+    mut follower: Follower<N>,
+) -> Follower<N>
+    ensures { KeepsFollowing follower.subscriber result.subscriber follower.told.items result.told.items }
+{
+    follow_all(rt, alloc, hub, &mut follower);
+    follower
+}
+
+// The same, where the follower stands.
+fn follow_all<N: Means<Six>, R: Wait>(
+    rt: &R,
+    alloc: Global,
+    hub: &Hub<Six, N>,
+    follower: &mut Follower<N>,
+)
+    ensures { KeepsFollowing follower.old.subscriber follower.new.subscriber follower.old.told.items follower.new.told.items }
+{
+    for _ in 0..u64::MAX {
+        if !follow_once(rt, alloc, hub, follower) {
+            return;
+        }
+    }
+}
+
+// Keeps what there is to tell next. Says whether it goes on: not where the workers are dismissed, nor where memory is wanting.
+fn follow_once<N: Means<Six>, R: Wait>(
+    rt: &R,
+    alloc: Global,
+    hub: &Hub<Six, N>,
+    follower: &mut Follower<N>,
+) -> bool
+    ensures { KeepsFollowing follower.old.subscriber follower.new.subscriber follower.old.told.items follower.new.told.items }
+{
+    // the room comes first, so that nothing that was told is lost
+    if follower.told.reserve(1).is_err() {
+        follower.starved = true;
+        return false;
+    }
+    match follower.subscriber.next(rt, alloc, hub) {
+        Ok(Some(told)) => {
+            follower.told.push_reserved(told);
+            true
+        }
+        Ok(None) => false,
+        Err(_) => {
+            follower.starved = true;
+            false
+        }
+    }
+}

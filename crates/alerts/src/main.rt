@@ -1,0 +1,126 @@
+//! A worked program on the crates as a library: two sensors push their readings onto one vector at a hub, each by a thread of its own,
+//! while a worker refreshes it and a subscriber is told of the hottest and the coldest reading and of their total, as they change.
+//!
+//! Proved by the contract of `run`: each note is the plain value of its question after as many edits as it names; those edits rise;
+//! what each question was told last is its answer at the end; and the edits are as many as the readings that count as accepted.
+#![tactic(auto)]
+
+mod feeding;
+mod following;
+mod running;
+
+use lv_vector::hub::{Question, Told};
+use lv_vector::{Kind, Limits, Name, Refusal, Shown};
+use running::{Report, run};
+use std::{fmt, io};
+
+// Why the program ends early.
+#[derive(Debug, Drop)]
+enum Failure {
+    BadName,
+    Refused(Refusal),
+    NotWritten,
+}
+
+impl From<Refusal> for Failure {
+    fn from(refusal: Refusal) -> Failure {
+        Failure::Refused(refusal)
+    }
+}
+
+impl From<io::Error> for Failure {
+    fn from(_error: io::Error) -> Failure {
+        Failure::NotWritten
+    }
+}
+
+fn main(rt: HostRuntime) -> Result<(), Failure> {
+    let questions = [
+        ask(b"hottest", Kind::Greatest)?,
+        ask(b"coldest", Kind::Least)?,
+        ask(b"total", Kind::Sum)?,
+    ];
+    let report = run(&rt, rt.alloc(), Limits::greatest(), &questions)?;
+    show(&rt, &questions, &report)?;
+    if report.starved {
+        return Err(Failure::Refused(Refusal::NoMemory));
+    }
+    Ok(())
+}
+
+// A question about all readings.
+fn ask(name: &[u8], kind: Kind) -> Result<Question, Failure> {
+    match Name::new(name) {
+        Some(name) => Ok(Question {
+            name,
+            kind,
+            lo: 0,
+            hi: u32::MAX,
+        }),
+        None => Err(Failure::BadName),
+    }
+}
+
+// Shows how many readings there were, what each question was told last, and how many notes are of an edit that doesn't rise.
+fn show<R: Print>(rt: &R, questions: &[Question], report: &Report) -> Result<(), Failure> {
+    println!(rt;
+        "{} readings accepted, {} refused",
+        report.accepted, report.refused
+    )?;
+    println!(rt; "told last, after edit {}:", report.last.edit)?;
+    for question in questions {
+        show_one(rt, question, last_told(question, report))?;
+    }
+    println!(rt; "{} notes went back", falls_in(report))?;
+    Ok(())
+}
+
+// Shows what a question was told last.
+fn show_one<R: Print>(rt: &R, question: &Question, value: Option<Shown>) -> Result<(), Failure> {
+    let what = match question.kind {
+        Kind::Greatest => "hottest",
+        Kind::Least => "coldest",
+        _ => "total",
+    };
+    match value {
+        Some(Shown::Greatest(Some(x)) | Shown::Least(Some(x))) => println!(rt; "{what} {x}")?,
+        Some(Shown::Sum(total)) => println!(rt; "{what} {total}")?,
+        _ => println!(rt; "{what} none")?,
+    }
+    Ok(())
+}
+
+// What a question was told last, if anything.
+fn last_told(question: &Question, report: &Report) -> Option<Shown> {
+    let mut last = None;
+    for told in &report.told {
+        last = told_by(question, told).or(last);
+    }
+    told_by(question, &report.last).or(last)
+}
+
+// What a question was told at an edit, if anything.
+fn told_by(question: &Question, told: &Told) -> Option<Shown> {
+    for note in &told.notes {
+        if note.name == question.name {
+            return Some(note.value);
+        }
+    }
+    None
+}
+
+// How many times the subscriber was told of an edit that isn't after the one before. Where it tells nothing at the end, that edit
+// may be the one before.
+fn falls_in(report: &Report) -> u64 {
+    let (mut edit, mut falls) = (0, 0_u64);
+    for told in &report.told {
+        if told.edit <= edit {
+            falls = falls.wrapping_add(1);
+        }
+        edit = told.edit;
+    }
+    if report.last.edit < edit || (report.last.edit == edit && !report.last.notes.is_empty()) {
+        falls = falls.wrapping_add(1);
+    }
+    falls
+}
