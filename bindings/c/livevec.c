@@ -221,6 +221,9 @@ FREED(free_outcome, livevec_outcome)
 FREED(free_board, livevec_board)
 FREED(free_seat, livevec_seat)
 
+/* All pushes at once, or none. */
+livevec_pushed livevec_proved_push_all(livevec_vector *slot, const int64_t *values, size_t length);
+
 /* Pushes in order at a slot that is entered, until one is refused. */
 static livevec_pushed push_each(livevec_vector *slot, const int64_t *values, size_t length)
 {
@@ -247,7 +250,11 @@ livevec_pushed livevec_push_many(livevec_vector *slot, const int64_t *values, si
     answer.refusal = LIVEVEC_BUSY;
     if (!enter(&slot->busy_))
         return answer;
-    answer = push_each(slot, values, length);
+    /* Where not all can be made, they are made one by one. */
+    if (length)
+        answer = livevec_proved_push_all(slot, values, length);
+    if (answer.refusal)
+        answer = push_each(slot, values, length);
     leave(&slot->busy_);
     return answer;
 }

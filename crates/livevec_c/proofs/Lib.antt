@@ -6,6 +6,7 @@ pub mod KindAnswers
 pub mod KindVectorLaws
 pub mod Openings
 pub mod PlainAnswers
+pub mod PushedLaws
 pub mod Programs
 pub mod Seatless
 pub mod Others

@@ -16,3 +16,4 @@ pub mod Seats
 pub mod Valued
 pub mod Summed
 pub mod Found
+pub mod Pushed

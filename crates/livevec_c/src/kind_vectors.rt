@@ -5,6 +5,7 @@ ghost use Rattle.lv_bodies.specs.Automata.{table_of};
 ghost use Rattle.lv_bodies.specs.Six.{six_operations_by};
 ghost use Rattle.lv_edits.specs.History.{History, list_of, with_edit};
 ghost use Rattle.lv_edits.specs.Kept.{IsLegalInLimits};
+ghost use Rattle.lv_edits.specs.Pushes.{AnswersAll};
 ghost use Rattle.lv_edits.specs.Verdict.{Answers, verdict_of};
 ghost use Rattle.lv_refresh.specs.Claim.{IsNextJob};
 ghost use Rattle.lv_refresh.specs.Delivery.{delivery_of};
@@ -17,6 +18,7 @@ ghost use Rattle.lv_kinds.specs.Kinds.{AreKept, HaveRoomFor};
 ghost use Rattle.lv_where.specs.Where.{IsEndReached, IsPlaceOfBest, IsPlaceOfGreatest, IsPlaceOfLeast};
 ghost use Rattle.livevec_c.specs.KindVectors.{IsSizeAfter};
 
+use crate::pushes::push_beside;
 use lv_bodies::{Automaton, Kind, SixByTable, SixSummary};
 use lv_edits::{Edit, Receipt};
 use lv_geometry::{Limits, Refusal};
@@ -149,6 +151,16 @@ impl KindVector {
             Some(refusal) => Err(refusal),
             None => make_beside(&mut self.live, &mut self.kinds, edit),
         }
+    }
+
+    /// Pushes values in order, all of them or none, and tells the number of the last edit. Refused as the first push that would be
+    /// refused, else with `NoMemory`, and nothing has changed then.
+    pub fn push_all(&mut self, values: &[i64]) -> Result<u32, Refusal>
+        ensures answer { AnswersAll self.old.history values.now result self.new.history }
+        ensures limits { IsLegalInLimits self.new.history }
+        ensures refresh { SameRefresh self.old self.new }
+    {
+        push_beside(&mut self.live, &mut self.kinds, values)
     }
 
     /// The summary by a kind of the elements from index `lo` up to `hi`, with the number of the last edit. What is computed for it is

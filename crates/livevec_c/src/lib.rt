@@ -17,6 +17,7 @@ mod lifetimes;
 mod objects;
 mod only;
 mod places_found;
+mod pushes;
 mod raw;
 mod reads;
 mod results;

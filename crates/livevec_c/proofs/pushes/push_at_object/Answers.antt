@@ -1,0 +1,10 @@
+use Rattle.std.proofs.Common.{refl}
+use Rattle.livevec_c.proofs.PushedLaws.{no_more_pushes}
+use Rattle.livevec_c.proofs.pushes.push_at_object.Goals as goal
+
+pub pushes_answer-requires : goal.pushes_answer-requires
+pushes_answer-requires c = no_more_pushes _ _ c.args.values.now c.push_all-answer.result c.push_all-answer.ensures.answer
+
+pub returns-in-Vector : goal.returns-in-Vector
+returns-in-Vector c =
+    rw c.in-Vector.is (c.push_all-answer.new.self, refl, (c.push_all-answer.ensures.limits, c.push_all-answer.ensures.refresh, (c.push_all-answer.result, c.pushes_answer.ensures, c.push_all-answer.ensures.answer)))
