@@ -123,20 +123,18 @@ added_of t x y e receipt told free is = record {
   receipt_is = is;
 }
 
--- after a look the edit is added to what the actor knew before, too
-pub added_since : (t : Terms) (x m y : Actor) (e : Edit) (h : List Entry) (receipt : Receipt) → HasLooked t x m → HasAdded t m y e h receipt → h ≡ m.seen → HasAdded t x y e h receipt
-added_since t x m y e h receipt looked added same =
-    let number = looked.quiet.number in
-    record {
-      number = added.number ∙ number;
-      seen = added.seen ∙ ap (λ (n : ℕ). record { actor = n; edit = e } ∷ h) number;
-      known = added.known;
-      knew = subst (Ends x.known) (sym same) looked.fresh;
-      own_is = subst (λ n. own n y.known ≡ record { actor = n; edit = e } ∷ own n m.known) number added.own_is ∙ ap (λ k. record { actor = x.number; edit = e } ∷ k) looked.quiet.own_is;
-      legal = added.legal;
-      verdict = added.verdict;
-      receipt_is = added.receipt_is;
-    }
+-- an edit that is added after quiet steps is added to what the actor knew before them, too
+added_quiet : (t : Terms) (x m y : Actor) (e : Edit) (h : List Entry) (receipt : Receipt) → IsQuiet x m → Ends x.known h → HasAdded t m y e h receipt → HasAdded t x y e h receipt
+added_quiet t x m y e h receipt quiet knew added = record {
+  number = added.number ∙ quiet.number;
+  seen = added.seen ∙ ap (λ (n : ℕ). record { actor = n; edit = e } ∷ h) quiet.number;
+  known = added.known;
+  knew = knew;
+  own_is = subst (λ n. own n y.known ≡ record { actor = n; edit = e } ∷ own n m.known) quiet.number added.own_is ∙ ap (λ k. record { actor = x.number; edit = e } ∷ k) quiet.own_is;
+  legal = added.legal;
+  verdict = added.verdict;
+  receipt_is = added.receipt_is;
+}
 
 -- completing a pending write changes nothing of this
 pub accepted_before : (t : Terms) (x u y : Actor) (e : Edit) → u.number ≡ x.number → u.seen ≡ x.seen → u.known ≡ x.known → u.own ≡ x.own → IsAccepted t u y record { actor = u.number; edit = e } → IsAccepted t x y record { actor = x.number; edit = e }
@@ -161,27 +159,28 @@ contended_looked t x u y found quiet told = looked_before t x u y quiet record {
 
 -- what an exchange from a look answers is what a try answers that looked
 pub try_of_looked : (t : Terms) (x m y : Actor) (e : Edit) (r : Result Receipt Refusal) → HasLooked t x m → LookedAnswers t m y e r → TryAnswers t x y e r
-try_of_looked t x m y e (Ok receipt) looked added = (m.seen, added_since t x m y e m.seen receipt looked added refl)
+try_of_looked t x m y e (Ok receipt) looked added = (m.seen, added_quiet t x m y e m.seen receipt looked.quiet looked.fresh added)
 try_of_looked t x m y e (Err refusal) looked (inl (verdict, same)) = (subst (HasLooked t x) (sym same) looked, inl (ap (λ (a : Actor). verdict_of t.limits (edits_of a.seen) e) same ∙ verdict))
-try_of_looked t x m y e (Err refusal) looked (inr (again, contended)) = (
+try_of_looked t x m y e (Err refusal) looked (inr (inl (loads, free, quiet, same, over))) = (looked_then t x m y looked quiet same, inr (inl (loads, ap (λ h. verdict_of t.limits (edits_of h) e) same ∙ free, over)))
+try_of_looked t x m y e (Err refusal) looked (inr (inr (again, contended))) = (
   looked_before t x m y looked.quiet again,
   inr (inr (m.seen, looked.fresh, Ends-trans m.seen m.known y.seen looked.kept again.fresh, contended)),
 )
 
--- why a pop or a write isn't made, as a try that looked tells it
-pub try_of_untaken : (t : Terms) (x m y : Actor) (e : Edit) (i : ℕ) (refusal : Refusal) → LoadsCell e → HasLooked t x m → verdict_of t.limits (edits_of m.seen) e ≡ None → TakeAnswers t m y e i (Err refusal) → TryAnswers t x y e (Err refusal)
-try_of_untaken t x m y e i refusal loads looked free (inl (quiet, same, over)) = (looked_then t x m y looked quiet same, inr (inl (loads, ap (λ h. verdict_of t.limits (edits_of h) e) same ∙ free, over)))
-try_of_untaken t x m y e i refusal loads looked free (inr (u, first, same, again, later, is)) = (
-  looked_before t x m y looked.quiet (looked_before t m u y first again),
-  inr (inr (m.seen, looked.fresh, Ends-trans m.seen u.known y.seen (Ends-trans m.seen m.known u.known looked.kept first.known) again.fresh, record { refusal_is = is; before = later; verdict = free })),
-)
+-- why a pop or a write isn't made from the look that the actor has
+pub looked_of_untaken : (t : Terms) (x y : Actor) (e : Edit) (i : ℕ) (refusal : Refusal) → LoadsCell e → verdict_of t.limits (edits_of x.seen) e ≡ None → TakeAnswers t x y e i (Err refusal) → LookedAnswers t x y e (Err refusal)
+looked_of_untaken t x y e i refusal loads free (inl (quiet, same, over)) = inr (inl (loads, free, quiet, same, over))
+looked_of_untaken t x y e i refusal loads free (inr (u, first, same, again, later, all, is)) = inr (inr (
+  looked_before t x u y first again,
+  record { refusal_is = is; all = all; before = later; verdict = free },
+))
 
 -- and that it is made
-pub try_of_taken : (t : Terms) (x m y : Actor) (e : Edit) (i : ℕ) (taken : ℕ × ℤ) (receipt : Receipt) → HasLooked t x m → verdict_of t.limits (edits_of m.seen) e ≡ None → TakeAnswers t m y e i (Ok taken) → receipt ≡ receipt_of (edits_of m.seen) e → TryAnswers t x y e (Ok receipt)
-try_of_taken t x m y e i taken receipt looked free (u, quiet, same, told, number, value) is =
-    let looked' = looked_then t x m u looked quiet same in
+pub looked_of_taken : (t : Terms) (x y : Actor) (e : Edit) (i : ℕ) (taken : ℕ × ℤ) (receipt : Receipt) → verdict_of t.limits (edits_of x.seen) e ≡ None → TakeAnswers t x y e i (Ok taken) → receipt ≡ receipt_of (edits_of x.seen) e → LookedAnswers t x y e (Ok receipt)
+looked_of_taken t x y e i taken receipt free (u, quiet, same, told, number, value) is =
     let free' = ap (λ h. verdict_of t.limits (edits_of h) e) same ∙ free in
-    (u.seen, added_since t x u y e u.seen receipt looked' (added_of t u y e receipt told free' (is ∙ ap (λ h. receipt_of (edits_of h) e) (sym same))) refl)
+    let added = added_of t u y e receipt told free' (is ∙ ap (λ h. receipt_of (edits_of h) e) (sym same)) in
+    subst (λ h. HasAdded t x y e h receipt) same (added_quiet t x u y e u.seen receipt quiet (subst (Ends x.known) told.current quiet.known) added)
 
 -- what a ready seat reads of a mark
 pub mark_found : (t : Terms) (x y : Actor) (look at found b : ℕ) → IsRead t x y at found → look ≡ descriptor_of x.seen → IsReady x look → 8 * b < capacity_of t.limits.buckets → at ≡ mark_place b → IsMarkRead b x.seen y.known found

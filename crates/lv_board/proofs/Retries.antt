@@ -1,16 +1,35 @@
 -- What several tries of one edit leave behind.
-use Rattle.std.proofs.Common.{◌≡◌, ℕ, zero, suc, ◌+◌, ◌∷◌, Result, Ok, Err, sym, ap, ◌∙◌, subst, arith}
+use Rattle.std.proofs.Common.{rules, ◌≡◌, ℕ, zero, suc, ◌+◌, Some, Result, Ok, Err, List, ◌∷◌, refl, sym, ap, ◌∙◌, subst, inl, inr, arith}
+use Rattle.lv_geometry.specs.Bounds.{Bounds}
 use Rattle.lv_geometry.specs.declared.refusals.Refusal.{Refusal}
+use Rattle.lv_geometry.specs.declared.refusals.Refusal.TheVariants.{Contended}
 use Rattle.lv_edits.specs.declared.edit.Edit.{Edit}
 use Rattle.lv_edits.specs.declared.receipt.Receipt.{Receipt}
-use Rattle.lv_machine.specs.History.{Ends, own}
+use Rattle.lv_edits.specs.Verdict.{verdict_of}
+use Rattle.lv_machine.specs.History.{edits_of, Ends, own}
 use Rattle.lv_machine.specs.Terms.{Terms}
-use Rattle.lv_machine.proofs.EndsLaws.{Ends-cons, Ends-trans}
+use Rattle.lv_machine.proofs.EndsLaws.{Ends-cons, Ends-trans, Ends-whole}
 use Rattle.lv_board.specs.declared.actors.Actor.{Actor}
-use Rattle.lv_board.specs.Calls.{TryAnswers}
+use Rattle.lv_board.specs.Calls.{HasLooked, TryAnswers}
 use Rattle.lv_board.specs.Plays.{IsQuiet}
-use Rattle.lv_board.specs.Retrying.{AreOutrun, HasTried, IsOutrun}
+use Rattle.lv_board.specs.Retrying.{AreOutrun, HasFound, HasTried, IsOutrun}
 use Rattle.lv_board.proofs.Calling.{quiet_same, quiet_then}
+
+-- no verdict is that another edit came first
+no_contended : (limits : Bounds) (es : List Edit) (e : Edit) (n : ℕ) → verdict_of limits es e ≡ Some (Contended n) → ⊥
+no_contended limits es e n is = grind arith
+
+-- where an exchange found another descriptor, the look shows all that is known: it is as good as a look made anew
+pub found_looked : (t : Terms) (e : Edit) (x y : Actor) (result : Result Receipt Refusal) → TryAnswers t x y e result → HasFound result → HasLooked t y y
+found_looked t e x y (Ok receipt) last found = elim found [ ]
+found_looked t e x y (Err refusal) (looked, inl verdict) (n, is) = absurd (no_contended t.limits (edits_of y.seen) e n (verdict ∙ ap Some is))
+found_looked t e x y (Err refusal) (looked, inr (inl (loads, free, over))) (n, is) = search (rules, sym is ∙ over.refusal_is)
+found_looked t e x y (Err refusal) (looked, inr (inr (h, first, then, at))) (n, is) = record {
+  quiet = quiet_same y y refl refl refl;
+  fresh = subst (Ends y.known) at.all (Ends-whole y.known);
+  kept = looked.kept;
+  legal = looked.legal;
+}
 
 -- tries that were outrun made no edit
 outrun_quiet : (t : Terms) (e : Edit) (n : ℕ) (x y : Actor) → AreOutrun t e n x y → IsQuiet x y

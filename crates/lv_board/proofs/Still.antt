@@ -20,7 +20,8 @@ tried_number t x y e (Err refusal) (looked, why) = looked.quiet.number
 pub exchanged_number : (t : Terms) (x y : Actor) (e : Edit) (r : Result Receipt Refusal) → LookedAnswers t x y e r → y.number ≡ x.number
 exchanged_number t x y e (Ok receipt) added = added.number
 exchanged_number t x y e (Err refusal) (inl (verdict, same)) = ap (λ (a : Actor). a.number) same
-exchanged_number t x y e (Err refusal) (inr (looked, why)) = looked.quiet.number
+exchanged_number t x y e (Err refusal) (inr (inl (loads, free, quiet, same, over))) = quiet.number
+exchanged_number t x y e (Err refusal) (inr (inr (looked, why))) = looked.quiet.number
 
 module _ {B : Type 0} where
   pub still_same : (s : Seat B) → IsStill s s

@@ -45,9 +45,10 @@ pub record HasAdded (t : Terms) (x y : Actor) (edit : Edit) (h : List Entry) (re
   pub receipt_is : receipt ≡ receipt_of (edits_of h) edit
 
 -- another edit came between the look that was used, where nothing refused the edit, and the exchange: the answer is the number of the last
--- edit that is seen now, above that of the look
+-- edit that is seen now, above that of the look. What is seen then is all that is known
 pub record IsContendedAt (t : Terms) (y : Actor) (edit : Edit) (looked : List Entry) (refusal : Refusal) : Type 0 where
   pub refusal_is : refusal ≡ Contended (length y.seen)
+  pub all : y.known ≡ y.seen
   pub before : length looked < length y.seen
   pub verdict : verdict_of t.limits (edits_of looked) edit ≡ None
 
@@ -68,16 +69,17 @@ IsTryRefusal t x y edit refusal =
     ⊎ (LoadsCell edit × (verdict_of t.limits (edits_of y.seen) edit ≡ None) × IsOvertaken y refusal)
     ⊎ ((looked : List Entry) × Ends x.known looked × Ends looked y.seen × IsContendedAt t y edit looked refusal)
 
--- what a try that looks first answers
+-- what a try answers whose look shows all that was known before: it looks first, or an exchange has just found another descriptor
 abbrev pub TryAnswers : Terms → Actor → Actor → Edit → Result Receipt Refusal → Type 0
 TryAnswers t x y edit (Ok receipt) = (h : List Entry) × HasAdded t x y edit h receipt
 TryAnswers t x y edit (Err refusal) = HasLooked t x y × IsTryRefusal t x y edit refusal
 
--- what an exchange from the look that a seat has answers: refused at its look, it changes nothing; and it loads no cell
+-- what an exchange from the look that a seat has answers: refused at its look, it changes nothing; a push loads no cell
 abbrev pub LookedAnswers : Terms → Actor → Actor → Edit → Result Receipt Refusal → Type 0
 LookedAnswers t x y edit (Ok receipt) = HasAdded t x y edit x.seen receipt
 LookedAnswers t x y edit (Err refusal) =
     ((verdict_of t.limits (edits_of x.seen) edit ≡ Some refusal) × (y ≡ x))
+    ⊎ (LoadsCell edit × (verdict_of t.limits (edits_of x.seen) edit ≡ None) × IsQuiet x y × (y.seen ≡ x.seen) × IsOvertaken y refusal)
     ⊎ (HasLooked t x y × IsContendedAt t y edit x.seen refusal)
 
 -- what a pop or a write answers that nothing refuses at its look: its number and the element at its index, or why it isn't made
@@ -88,7 +90,7 @@ TakeAnswers t x y edit i (Ok taken) =
     × (taken.1 ≡ slice_index_or (elements_of x.seen) i (pos 0))
 TakeAnswers t x y edit i (Err refusal) =
     (IsQuiet x y × (y.seen ≡ x.seen) × IsOvertaken y refusal)
-    ⊎ ((m : Actor) × IsQuiet x m × (m.seen ≡ x.seen) × HasLooked t m y × (length x.seen < length y.seen) × (refusal ≡ Contended (length y.seen)))
+    ⊎ ((m : Actor) × IsQuiet x m × (m.seen ≡ x.seen) × HasLooked t m y × (length x.seen < length y.seen) × (y.known ≡ y.seen) × (refusal ≡ Contended (length y.seen)))
 
 -- what a read of an element answers
 abbrev pub GetAnswers : ℕ → Actor → Result Read Refusal → Type 0

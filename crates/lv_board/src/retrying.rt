@@ -1,13 +1,13 @@
 //! Tries that are made again where an edit of another seat stood in the way: so many at most, so that no call waits.
-ghost use Rattle.std.specs.Prelude.{◌≡◌, ◌≤◌, ◌↔◌, IsTrue, Err};
+ghost use Rattle.std.specs.Prelude.{◌≡◌, ◌≤◌, ◌↔◌, false, IsTrue, Err};
 ghost use Rattle.lv_geometry.specs.declared.refusals.Refusal.{Refusal};
 ghost use Rattle.lv_bodies.specs.Parts.{IsShort};
 ghost use Rattle.lv_machine.specs.History.{IsShortEdit};
-ghost use Rattle.lv_board.specs.Calls.{TryAnswers};
+ghost use Rattle.lv_board.specs.Calls.{HasLooked, LookedAnswers, TryAnswers};
 ghost use Rattle.lv_board.specs.Closing.{IsStill};
-ghost use Rattle.lv_board.specs.Retrying.{AnswersWithin, IsOutrun};
+ghost use Rattle.lv_board.specs.Retrying.{AnswersWithin, HasFound, IsOutrun};
 ghost use Rattle.lv_board.specs.Rule.{folds, terms_of};
-ghost use Rattle.lv_board.specs.Tells.{actor_of, IsAt, IsSame};
+ghost use Rattle.lv_board.specs.Tells.{actor_of, IsAt, IsSame, Stays};
 
 use crate::board::Board;
 use crate::seats::Seat;
@@ -35,47 +35,73 @@ fn is_outrun(answer: Result<Receipt, Refusal>) -> bool
     )
 }
 
-// A pause after a try that was outrun, so that the seat that was first gets on: it doubles with each try, up to 16
-// microseconds where a turn takes 4 ns, and to 200 on processors whose turns are long.
+// Whether an exchange found another descriptor, which is the look now.
+#[inline(always)]
+fn has_found(answer: Result<Receipt, Refusal>) -> bool
+    ensures { IsTrue result ↔ HasFound answer }
+{
+    let Err(refusal) = answer else {
+        return false;
+    };
+    matches!(refusal, Refusal::Contended { .. })
+}
+
+// A pause after each second try that was outrun, so that the seat that was first gets on. What an exchange found is old after a pause: so
+// the next try mostly finds another descriptor, and the one after that is made from it at once. A pause is 4 turns at first, then 16
+// times as long each time, up to 16 microseconds where a turn takes 4 ns, and to 200 on processors whose turns are long.
 fn pause(outrun: u32) {
-    for _ in 0..1u32 << outrun.min(LONGEST_PAUSE) {
+    if outrun.is_multiple_of(2) {
+        return;
+    }
+    for _ in 0..1u32 << (2 * outrun.min(LONGEST_PAUSE / 2)) {
         hint::spin_loop();
     }
 }
 
 impl<B: Parted> Board<B> {
-    // One try. Where the kind of the edit is known, it is chosen when this is built.
+    // An edit as the seat looked. Where the kind of the edit is known, it is chosen when this is built.
     #[inline(always)]
-    fn try_edit(&self, seat: &mut Seat<B>, edit: Edit) -> Result<Receipt, Refusal>
+    fn edit_looked(&self, seat: &mut Seat<B>, edit: Edit) -> Result<Receipt, Refusal>
         requires here { IsAt self.now.table.shared.table_id self.now.terms seat.old }
         requires short { IsShortEdit edit }
-        ensures still { IsStill seat.old seat.new }
-        ensures answer { TryAnswers (terms_of (folds B.PARTS B.parts_of (λ b. B.operations (B.meaning b))) self.now.terms) (actor_of seat.old) (actor_of seat.new) edit result }
+        ensures stays { Stays seat.old seat.new }
+        ensures answer { LookedAnswers (terms_of (folds B.PARTS B.parts_of (λ b. B.operations (B.meaning b))) self.now.terms) (actor_of seat.old) (actor_of seat.new) edit result }
     {
         match edit {
-            Edit::Push(x) => self.try_push(seat, x),
-            Edit::Pop => self.try_pop(seat),
-            Edit::Write { index, value } => self.try_write(seat, index, value),
+            Edit::Push(x) => self.push_looked(seat, x),
+            Edit::Pop => self.pop_looked(seat),
+            Edit::Write { index, value } => self.write_looked(seat, index, value),
             Edit::Reserve(_) | Edit::Swap { .. } | Edit::Truncate(_) => unreachable!(),
         }
     }
 
-    // One try, and a pause where it was outrun.
+    // A look that loads the descriptor where it is told to; else the look that the seat has shows all that it knows.
     #[inline(always)]
-    fn try_and_pause(&self, seat: &mut Seat<B>, edit: Edit, outrun: u32) -> Result<Receipt, Refusal>
+    fn look_where(&self, seat: &mut Seat<B>, loads: bool)
+        requires here { IsAt self.now.table.shared.table_id self.now.terms seat.old }
+        requires found { loads ≡ false → HasLooked (terms_of (folds B.PARTS B.parts_of (λ b. B.operations (B.meaning b))) self.now.terms) (actor_of seat.old) (actor_of seat.old) }
+        ensures stays { Stays seat.old seat.new }
+        ensures looked { HasLooked (terms_of (folds B.PARTS B.parts_of (λ b. B.operations (B.meaning b))) self.now.terms) (actor_of seat.old) (actor_of seat.new) }
+    {
+        if loads {
+            self.look(seat);
+        }
+    }
+
+    // One try, by such a look.
+    #[inline(always)]
+    fn try_edit(&self, seat: &mut Seat<B>, edit: Edit, loads: bool) -> Result<Receipt, Refusal>
         requires here { IsAt self.now.table.shared.table_id self.now.terms seat.old }
         requires short { IsShortEdit edit }
+        requires found { loads ≡ false → HasLooked (terms_of (folds B.PARTS B.parts_of (λ b. B.operations (B.meaning b))) self.now.terms) (actor_of seat.old) (actor_of seat.old) }
         ensures still { IsStill seat.old seat.new }
         ensures answer { TryAnswers (terms_of (folds B.PARTS B.parts_of (λ b. B.operations (B.meaning b))) self.now.terms) (actor_of seat.old) (actor_of seat.new) edit result }
     {
-        let answer = self.try_edit(seat, edit);
-        if is_outrun(answer) {
-            pause(outrun);
-        }
-        answer
+        self.look_where(seat, loads);
+        self.edit_looked(seat, edit)
     }
 
-    // One try, and further ones while they are outrun.
+    // One try, and further ones while they are outrun. Only the first one loads the descriptor, and one after a word of a later edit.
     #[inline(always)]
     fn edit_within(&self, seat: &mut Seat<B>, edit: Edit, tries: u32) -> Result<Receipt, Refusal>
         requires here { IsAt self.now.table.shared.table_id self.now.terms seat.old }
@@ -84,17 +110,20 @@ impl<B: Parted> Board<B> {
         ensures still { IsStill seat.old seat.new }
         ensures answer { AnswersWithin (terms_of (folds B.PARTS B.parts_of (λ b. B.operations (B.meaning b))) self.now.terms) tries (actor_of seat.old) (actor_of seat.new) edit result }
     {
+        let mut answer = self.try_edit(seat, edit, true);
         for outrun in 0..tries - 1 {
-            let answer = self.try_and_pause(seat, edit, outrun);
             if !is_outrun(answer) {
                 return answer;
             }
+            pause(outrun);
+            let loads = !has_found(answer);
+            answer = self.try_edit(seat, edit, loads);
         }
-        self.try_edit(seat, edit)
+        answer
     }
 
-    /// `try_push`, made again while it is refused with `Contended`: at most `tries` times, which is at least 1. The answer is that of
-    /// the last try. The seat is one of this board's.
+    /// `try_push`, made again while it is refused with `Contended`, from the descriptor that was found then: at most `tries` times,
+    /// which is at least 1. The answer is that of the last try. The seat is one of this board's.
     pub fn push_within(&self, seat: &mut Seat<B>, x: i64, tries: u32) -> Result<Receipt, Refusal>
         requires here { IsAt self.now.table.shared.table_id self.now.terms seat.old }
         requires some { 1 ≤ tries }
@@ -108,8 +137,8 @@ impl<B: Parted> Board<B> {
         self.edit_within(seat, Edit::Push(x), tries)
     }
 
-    /// `try_pop`, made again while it is refused with `Contended` or `Overtaken`: at most `tries` times, which is at least 1. The
-    /// answer is that of the last try. The seat is one of this board's.
+    /// `try_pop`, made again while it is refused with `Contended`, from the descriptor that was found then, or with `Overtaken`, after a
+    /// new look: at most `tries` times, which is at least 1. The answer is that of the last try. The seat is one of this board's.
     pub fn pop_within(&self, seat: &mut Seat<B>, tries: u32) -> Result<Receipt, Refusal>
         requires here { IsAt self.now.table.shared.table_id self.now.terms seat.old }
         requires some { 1 ≤ tries }
@@ -119,8 +148,8 @@ impl<B: Parted> Board<B> {
         self.edit_within(seat, Edit::Pop, tries)
     }
 
-    /// `try_write`, made again while it is refused with `Contended` or `Overtaken`: at most `tries` times, which is at least 1. The
-    /// answer is that of the last try. The seat is one of this board's.
+    /// `try_write`, made again while it is refused with `Contended`, from the descriptor that was found then, or with `Overtaken`, after a
+    /// new look: at most `tries` times, which is at least 1. The answer is that of the last try. The seat is one of this board's.
     pub fn write_within(
         &self,
         seat: &mut Seat<B>,

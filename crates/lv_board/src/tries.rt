@@ -113,14 +113,14 @@ impl<B: Parted> Board<B> {
         }
     }
 
-    /// Looks, and drops the last element. Refused with `Worn`, `Empty`, with `Overtaken` where its cell has a later edit, or with
-    /// `Contended` where another edit came in between. The seat is one of this board's.
-    pub fn try_pop(&self, seat: &mut Seat<B>) -> Result<Receipt, Refusal>
+    /// Drops the last element, where no edit came since the seat looked. Refused with `Worn`, `Empty`, with `Overtaken` where its
+    /// cell has a later edit, or with `Contended` where an edit came first: then the seat has looked again. The seat is one of this
+    /// board's.
+    pub fn pop_looked(&self, seat: &mut Seat<B>) -> Result<Receipt, Refusal>
         requires { IsAt self.now.table.shared.table_id self.now.terms seat.old }
         ensures stays { Stays seat.old seat.new }
-        ensures answer { TryAnswers (terms_of (folds B.PARTS B.parts_of (λ b. B.operations (B.meaning b))) self.now.terms) (actor_of seat.old) (actor_of seat.new) Edit.Pop result }
+        ensures answer { LookedAnswers (terms_of (folds B.PARTS B.parts_of (λ b. B.operations (B.meaning b))) self.now.terms) (actor_of seat.old) (actor_of seat.new) Edit.Pop result }
     {
-        self.look(seat);
         if let Some(refusal) = verdict(&self.terms, seat.look, Edit::Pop) {
             return Err(refusal);
         }
@@ -131,15 +131,25 @@ impl<B: Parted> Board<B> {
         }
     }
 
-    // Overwrites the element at an index with one of 16 bits.
+    /// Looks, and drops the last element. Refused with `Worn`, `Empty`, with `Overtaken` where its cell has a later edit, or with
+    /// `Contended` where another edit came in between. The seat is one of this board's.
+    pub fn try_pop(&self, seat: &mut Seat<B>) -> Result<Receipt, Refusal>
+        requires { IsAt self.now.table.shared.table_id self.now.terms seat.old }
+        ensures stays { Stays seat.old seat.new }
+        ensures answer { TryAnswers (terms_of (folds B.PARTS B.parts_of (λ b. B.operations (B.meaning b))) self.now.terms) (actor_of seat.old) (actor_of seat.new) Edit.Pop result }
+    {
+        self.look(seat);
+        self.pop_looked(seat)
+    }
+
+    // Overwrites the element at an index with one of 16 bits, as the seat looked.
     fn write_short(&self, seat: &mut Seat<B>, index: u32, value: i64) -> Result<Receipt, Refusal>
         requires here { IsAt self.now.table.shared.table_id self.now.terms seat.old }
         requires short { IsShort value }
         ensures stays { Stays seat.old seat.new }
-        ensures answer { TryAnswers (terms_of (folds B.PARTS B.parts_of (λ b. B.operations (B.meaning b))) self.now.terms) (actor_of seat.old) (actor_of seat.new) (Edit.Write index value) result }
+        ensures answer { LookedAnswers (terms_of (folds B.PARTS B.parts_of (λ b. B.operations (B.meaning b))) self.now.terms) (actor_of seat.old) (actor_of seat.new) (Edit.Write index value) result }
     {
         let edit = Edit::Write { index, value };
-        self.look(seat);
         if let Some(refusal) = verdict(&self.terms, seat.look, edit) {
             return Err(refusal);
         }
@@ -147,6 +157,26 @@ impl<B: Parted> Board<B> {
             Err(refusal) => Err(refusal),
             Ok((edit, before)) => Ok(Receipt::Written { edit, before }),
         }
+    }
+
+    /// Overwrites the element at `index`, where no edit came since the seat looked. Refused with `TooWide`, `Worn`, `OutOfRange`, with
+    /// `Overtaken` where its cell has a later edit, or with `Contended` where an edit came first: then the seat has looked again. The
+    /// seat is one of this board's.
+    pub fn write_looked(
+        &self,
+        seat: &mut Seat<B>,
+        index: u32,
+        value: i64,
+    ) -> Result<Receipt, Refusal>
+        requires { IsAt self.now.table.shared.table_id self.now.terms seat.old }
+        ensures stays { Stays seat.old seat.new }
+        ensures short { IsShort value → LookedAnswers (terms_of (folds B.PARTS B.parts_of (λ b. B.operations (B.meaning b))) self.now.terms) (actor_of seat.old) (actor_of seat.new) (Edit.Write index value) result }
+        ensures wide { ¬ IsShort value → (result ≡ Err Refusal.TooWide) × IsSame seat.old seat.new }
+    {
+        if !fits_short(value) {
+            return Err(Refusal::TooWide);
+        }
+        self.write_short(seat, index, value)
     }
 
     /// Looks, and overwrites the element at `index`. Refused with `TooWide`, `Worn`, `OutOfRange`, with `Overtaken` where its cell
@@ -160,6 +190,7 @@ impl<B: Parted> Board<B> {
         if !fits_short(value) {
             return Err(Refusal::TooWide);
         }
+        self.look(seat);
         self.write_short(seat, index, value)
     }
 }

@@ -24,10 +24,10 @@ returns-in-Err-clause-answer g c =
     let x = to_z-of_z w64 c.args.x c.ranges.x in
     let free = sym (verdict_is (limits_of c.args.self.now.terms) c.args.seat.now.look c.args.seat.now.token.me.0.actor.seen (Push c.args.x) c.args.seat.now.looks.edit c.args.seat.now.looks.size) ∙ ap (λ y. verdict_at (limits_of c.args.self.now.terms) c.args.seat.now.look (Push y)) (sym x) ∙ sym c.verdict.ensures ∙ c.in_default.is in
     let told = subst (λ z. IsContended (terms_of (folds g.B.Parted.PARTS g.B.Parted.parts_of (λ b. g.B.Body.operations (g.B.Body.meaning b))) z) c.help.new.seat.token.me.0.actor c.exchange_for.new.seat.token.me.0.actor c.exchange_for.new.seat.look) (c.help.ensures.stays.terms ∙ c.requires.here.terms) c.in-Err.ensures.contended in
-    inr (
+    inr (inr (
       contended_looked (terms_of (folds g.B.Parted.PARTS g.B.Parted.parts_of (λ b. g.B.Body.operations (g.B.Body.meaning b))) c.args.self.now.terms) c.args.seat.now.token.me.0.actor c.help.new.seat.token.me.0.actor c.exchange_for.new.seat.token.me.0.actor c.exchange_for.new.seat.look (helped_quiet c.args.seat.now.token.me.0.actor c.help.new.seat.token.me.0.actor c.help.ensures.made c.help.ensures.known c.help.ensures.number) told,
-      record { refusal_is = c.in-Err.ensures.refusal; before = omega (arith, told.later, ap length c.help.ensures.seen); verdict = free },
-    )
+      record { refusal_is = c.in-Err.ensures.refusal; all = sym told.sees.all; before = omega (arith, told.later, ap length c.help.ensures.seen); verdict = free },
+    ))
 
 pub returns-in-Ok-clause-answer : goal.returns-in-Ok-clause-answer
 returns-in-Ok-clause-answer g c =

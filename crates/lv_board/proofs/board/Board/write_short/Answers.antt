@@ -1,4 +1,4 @@
-use Rattle.std.proofs.Common.{rules, ◌≡◌, ◌+◌, Ok, Err, length, sym, ap, ◌∙◌, subst, inl, arith}
+use Rattle.std.proofs.Common.{rules, ◌≡◌, ◌+◌, Ok, Err, length, refl, sym, ap, ◌∙◌, subst, inl, arith}
 use Rattle.std.specs.Int.{w64, cast_signed, cast_unsigned}
 use Rattle.std.proofs.lemmas.Int.{to_z-of_z}
 use Rattle.lv_geometry.proofs.Capacities.{capacity_of_mono}
@@ -12,37 +12,35 @@ use Rattle.lv_machine.proofs.HistoryLaws.{length-edits_of}
 use Rattle.lv_board.specs.Calls.{TakeAnswers}
 use Rattle.lv_board.specs.Rule.{folds, terms_of}
 use Rattle.lv_board.specs.Stands.{limits_of}
-use Rattle.lv_board.proofs.Calling.{try_of_taken, try_of_untaken, verdict_is}
+use Rattle.lv_board.proofs.Calling.{looked_of_taken, looked_of_untaken, verdict_is}
 use Rattle.lv_board.proofs.board.Board.write_short.Goals as goal
 
 pub returns-in-Some-clause-answer : goal.returns-in-Some-clause-answer
 returns-in-Some-clause-answer g c =
-    let x = to_z-of_z w64 c.args.value c.ranges.value in (
-      c.look.ensures.looked,
-      inl (sym (verdict_is (limits_of c.args.self.now.terms) c.look.new.seat.look c.look.new.seat.token.me.0.actor.seen (Write c.args.index c.args.value) c.look.new.seat.looks.edit c.look.new.seat.looks.size) ∙ ap (λ y. verdict_at (limits_of c.args.self.now.terms) c.look.new.seat.look (Write c.args.index y)) (sym x) ∙ sym c.verdict.ensures ∙ c.in-Some.is),
-    )
+    let x = to_z-of_z w64 c.args.value c.ranges.value in
+    inl (sym (verdict_is (limits_of c.args.self.now.terms) c.args.seat.now.look c.args.seat.now.token.me.0.actor.seen (Write c.args.index c.args.value) c.args.seat.now.looks.edit c.args.seat.now.looks.size) ∙ ap (λ y. verdict_at (limits_of c.args.self.now.terms) c.args.seat.now.look (Write c.args.index y)) (sym x) ∙ sym c.verdict.ensures ∙ c.in-Some.is, refl)
 
 pub take_for-requires-clause-index : goal.take_for-requires-clause-index
 take_for-requires-clause-index g c = λ _ _.
-    let free = sym (verdict_is (limits_of c.args.self.now.terms) c.look.new.seat.look c.look.new.seat.token.me.0.actor.seen (Write c.args.index (cast_signed w64 (cast_unsigned w64 c.args.value))) c.look.new.seat.looks.edit c.look.new.seat.looks.size) ∙ sym c.verdict.ensures ∙ c.in_default.is in
-    let within = unrefused_write (limits_of c.args.self.now.terms) (list_of (edits_of c.look.new.seat.token.me.0.actor.seen)) c.args.index (cast_signed w64 (cast_unsigned w64 c.args.value)) (not_refused (limits_of c.args.self.now.terms) (edits_of c.look.new.seat.token.me.0.actor.seen) (Write c.args.index (cast_signed w64 (cast_unsigned w64 c.args.value))) free).1 in
-    let few = c.look.new.seat.looks.few_cells in
-    let most = capacity_of_mono c.look.new.seat.terms.buckets 9 c.look.new.seat.basis.few_buckets in
-    omega (arith, c.look.new.seat.looks.size)
+    let free = sym (verdict_is (limits_of c.args.self.now.terms) c.args.seat.now.look c.args.seat.now.token.me.0.actor.seen (Write c.args.index (cast_signed w64 (cast_unsigned w64 c.args.value))) c.args.seat.now.looks.edit c.args.seat.now.looks.size) ∙ sym c.verdict.ensures ∙ c.in_default.is in
+    let within = unrefused_write (limits_of c.args.self.now.terms) (list_of (edits_of c.args.seat.now.token.me.0.actor.seen)) c.args.index (cast_signed w64 (cast_unsigned w64 c.args.value)) (not_refused (limits_of c.args.self.now.terms) (edits_of c.args.seat.now.token.me.0.actor.seen) (Write c.args.index (cast_signed w64 (cast_unsigned w64 c.args.value))) free).1 in
+    let few = c.args.seat.now.looks.few_cells in
+    let most = capacity_of_mono c.args.seat.now.terms.buckets 9 c.args.seat.now.basis.few_buckets in
+    omega (arith, c.args.seat.now.looks.size)
 
 pub returns-in-Err-clause-answer : goal.returns-in-Err-clause-answer
 returns-in-Err-clause-answer g c =
     let x = to_z-of_z w64 c.args.value c.ranges.value in
-    let free = sym (verdict_is (limits_of c.args.self.now.terms) c.look.new.seat.look c.look.new.seat.token.me.0.actor.seen (Write c.args.index c.args.value) c.look.new.seat.looks.edit c.look.new.seat.looks.size) ∙ ap (λ y. verdict_at (limits_of c.args.self.now.terms) c.look.new.seat.look (Write c.args.index y)) (sym x) ∙ sym c.verdict.ensures ∙ c.in_default.is in
-    let untaken = subst (λ y. TakeAnswers (terms_of (folds g.B.Parted.PARTS g.B.Parted.parts_of (λ b. g.B.Body.operations (g.B.Body.meaning b))) c.args.self.now.terms) c.look.new.seat.token.me.0.actor c.take_for.new.seat.token.me.0.actor (Write c.args.index y) c.args.index (Err c.in-Err.refusal)) x c.in-Err.ensures.answer in
-    try_of_untaken (terms_of (folds g.B.Parted.PARTS g.B.Parted.parts_of (λ b. g.B.Body.operations (g.B.Body.meaning b))) c.args.self.now.terms) c.args.seat.now.token.me.0.actor c.look.new.seat.token.me.0.actor c.take_for.new.seat.token.me.0.actor (Write c.args.index c.args.value) c.args.index c.in-Err.refusal tt c.look.ensures.looked free untaken
+    let free = sym (verdict_is (limits_of c.args.self.now.terms) c.args.seat.now.look c.args.seat.now.token.me.0.actor.seen (Write c.args.index c.args.value) c.args.seat.now.looks.edit c.args.seat.now.looks.size) ∙ ap (λ y. verdict_at (limits_of c.args.self.now.terms) c.args.seat.now.look (Write c.args.index y)) (sym x) ∙ sym c.verdict.ensures ∙ c.in_default.is in
+    let untaken = subst (λ y. TakeAnswers (terms_of (folds g.B.Parted.PARTS g.B.Parted.parts_of (λ b. g.B.Body.operations (g.B.Body.meaning b))) c.args.self.now.terms) c.args.seat.now.token.me.0.actor c.take_for.new.seat.token.me.0.actor (Write c.args.index y) c.args.index (Err c.in-Err.refusal)) x c.in-Err.ensures.answer in
+    looked_of_untaken (terms_of (folds g.B.Parted.PARTS g.B.Parted.parts_of (λ b. g.B.Body.operations (g.B.Body.meaning b))) c.args.self.now.terms) c.args.seat.now.token.me.0.actor c.take_for.new.seat.token.me.0.actor (Write c.args.index c.args.value) c.args.index c.in-Err.refusal tt free untaken
 
 pub returns-in-Ok-clause-answer : goal.returns-in-Ok-clause-answer
 returns-in-Ok-clause-answer g c =
     let x = to_z-of_z w64 c.args.value c.ranges.value in
-    let free = sym (verdict_is (limits_of c.args.self.now.terms) c.look.new.seat.look c.look.new.seat.token.me.0.actor.seen (Write c.args.index c.args.value) c.look.new.seat.looks.edit c.look.new.seat.looks.size) ∙ ap (λ y. verdict_at (limits_of c.args.self.now.terms) c.look.new.seat.look (Write c.args.index y)) (sym x) ∙ sym c.verdict.ensures ∙ c.in_default.is in
-    let taken : TakeAnswers (terms_of (folds g.B.Parted.PARTS g.B.Parted.parts_of (λ b. g.B.Body.operations (g.B.Body.meaning b))) c.args.self.now.terms) c.look.new.seat.token.me.0.actor c.take_for.new.seat.token.me.0.actor (Write c.args.index c.args.value) c.args.index (Ok (c.in-Ok.edit, c.in-Ok.before)) = subst (λ y. TakeAnswers (terms_of (folds g.B.Parted.PARTS g.B.Parted.parts_of (λ b. g.B.Body.operations (g.B.Body.meaning b))) c.args.self.now.terms) c.look.new.seat.token.me.0.actor c.take_for.new.seat.token.me.0.actor (Write c.args.index y) c.args.index (Ok (c.in-Ok.edit, c.in-Ok.before))) x c.in-Ok.ensures.answer in
+    let free = sym (verdict_is (limits_of c.args.self.now.terms) c.args.seat.now.look c.args.seat.now.token.me.0.actor.seen (Write c.args.index c.args.value) c.args.seat.now.looks.edit c.args.seat.now.looks.size) ∙ ap (λ y. verdict_at (limits_of c.args.self.now.terms) c.args.seat.now.look (Write c.args.index y)) (sym x) ∙ sym c.verdict.ensures ∙ c.in_default.is in
+    let taken : TakeAnswers (terms_of (folds g.B.Parted.PARTS g.B.Parted.parts_of (λ b. g.B.Body.operations (g.B.Body.meaning b))) c.args.self.now.terms) c.args.seat.now.token.me.0.actor c.take_for.new.seat.token.me.0.actor (Write c.args.index c.args.value) c.args.index (Ok (c.in-Ok.edit, c.in-Ok.before)) = subst (λ y. TakeAnswers (terms_of (folds g.B.Parted.PARTS g.B.Parted.parts_of (λ b. g.B.Body.operations (g.B.Body.meaning b))) c.args.self.now.terms) c.args.seat.now.token.me.0.actor c.take_for.new.seat.token.me.0.actor (Write c.args.index y) c.args.index (Ok (c.in-Ok.edit, c.in-Ok.before))) x c.in-Ok.ensures.answer in
     let (u, quiet, same, told, number, value) = taken in
-    let edit : c.in-Ok.edit ≡ length (edits_of c.look.new.seat.token.me.0.actor.seen) + 1 = omega (arith, number, ap length told.seen, ap length same, length-edits_of c.look.new.seat.token.me.0.actor.seen) in
-    try_of_taken (terms_of (folds g.B.Parted.PARTS g.B.Parted.parts_of (λ b. g.B.Body.operations (g.B.Body.meaning b))) c.args.self.now.terms) c.args.seat.now.token.me.0.actor c.look.new.seat.token.me.0.actor c.take_for.new.seat.token.me.0.actor (Write c.args.index c.args.value) c.args.index (c.in-Ok.edit, c.in-Ok.before) (Written c.in-Ok.edit (cast_signed w64 (cast_unsigned w64 c.in-Ok.before))) c.look.ensures.looked free taken
-    (ap (λ n. Written n (cast_signed w64 (cast_unsigned w64 c.in-Ok.before))) edit ∙ ap (Written (length (edits_of c.look.new.seat.token.me.0.actor.seen) + 1)) (to_z-of_z w64 c.in-Ok.before (search rules) ∙ value))
+    let edit : c.in-Ok.edit ≡ length (edits_of c.args.seat.now.token.me.0.actor.seen) + 1 = omega (arith, number, ap length told.seen, ap length same, length-edits_of c.args.seat.now.token.me.0.actor.seen) in
+    looked_of_taken (terms_of (folds g.B.Parted.PARTS g.B.Parted.parts_of (λ b. g.B.Body.operations (g.B.Body.meaning b))) c.args.self.now.terms) c.args.seat.now.token.me.0.actor c.take_for.new.seat.token.me.0.actor (Write c.args.index c.args.value) c.args.index (c.in-Ok.edit, c.in-Ok.before) (Written c.in-Ok.edit (cast_signed w64 (cast_unsigned w64 c.in-Ok.before))) free taken
+    (ap (λ n. Written n (cast_signed w64 (cast_unsigned w64 c.in-Ok.before))) edit ∙ ap (Written (length (edits_of c.args.seat.now.token.me.0.actor.seen) + 1)) (to_z-of_z w64 c.in-Ok.before (search rules) ∙ value))
