@@ -5,7 +5,9 @@ pub mod ChainLaws
 pub mod ChainPuts
 pub mod ChainReads
 pub mod ChainSteps
+pub mod ChainSwaps
 pub mod FreeLaws
 pub mod PlainLaws
 pub mod SeriesLaws
 pub mod ShardLaws
+pub mod SwapLaws

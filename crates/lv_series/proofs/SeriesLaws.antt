@@ -7,6 +7,7 @@ use Rattle.lv_series.specs.declared.edits.LongEdit.{LongEdit}
 use Rattle.lv_series.specs.declared.edits.LongEdit.TheVariants.{Push, Pop, Write, Expire, Swap, Truncate}
 use Rattle.lv_series.specs.declared.refusals.LongRefusal.{LongRefusal}
 use Rattle.lv_series.specs.Series.{Held, changed, is_border, is_kept, refused_on, size_of}
+use Rattle.lv_series.proofs.SwapLaws.{swap_dropped}
 
 -- what is kept where so many elements are gone, and so many more are skipped
 abbrev pub held_of : ℕ → ℕ → List ℤ → Held
@@ -64,6 +65,14 @@ module _ (gone skip : ℕ) (els : List ℤ) (inside : skip ≤ length els) where
   write_held i x low =
       let place : i - gone ≡ skip + (i - (gone + skip)) = omega arith in
       ap (λ ys. record { first = gone + skip; elements = ys }) (ap (λ k. drop skip (slice_set els k x)) place ∙ drop-set-add skip els (i - (gone + skip)) x)
+
+  -- two elements exchanged
+  pub swap_held : (i j : ℕ) → gone + skip ≤ i → i < gone + length els → gone + skip ≤ j → j < gone + length els → held_of gone skip (swap els (i - gone) (j - gone)) ≡ changed (held_of gone skip els) (Swap i j)
+  swap_held i j low within other inside_too =
+      let place : i - gone ≡ skip + (i - (gone + skip)) = omega arith in
+      let second : j - gone ≡ skip + (j - (gone + skip)) = omega arith in
+      ap (λ ys. record { first = gone + skip; elements = ys })
+      (ap (λ k. drop skip (swap els k (j - gone))) place ∙ ap (λ k. drop skip (swap els (skip + (i - (gone + skip))) k)) second ∙ swap_dropped skip els (i - (gone + skip)) (j - (gone + skip)) (omega arith) (omega arith))
 
   -- elements expired, of which so many left the chain
   pub expire_held : (i shed : ℕ) → gone + skip ≤ i → shed ≤ i - gone → held_of (gone + shed) (i - (gone + shed)) (drop shed els) ≡ changed (held_of gone skip els) (Expire i)

@@ -1,9 +1,9 @@
-ghost use Rattle.std.specs.Prelude.{◌≡◌, ◌-◌, ◌^◌, ◌<◌, ◌≤◌, pos, [], ◌∷◌, ◌++◌, length, take, drop, slice_set, OnOk, OnErr, All};
-ghost use Rattle.std.specs.List.{slice_index_or, slice_range};
+ghost use Rattle.std.specs.Prelude.{◌≡◌, ◌+◌, ◌-◌, ◌*◌, ◌/◌, ◌^◌, ◌<◌, ◌≤◌, pos, [], ◌∷◌, ◌++◌, length, take, drop, slice_set, OnOk, OnErr, All};
+ghost use Rattle.std.specs.List.{slice_index_or, slice_range, swap};
 ghost use Rattle.lv_geometry.specs.Elements.{IsElement};
 ghost use Rattle.lv_bodies.specs.Body.{fold_of};
 
-use crate::changing::write_in;
+use crate::changing::{put_shard, swap_in, write_in, written_copy};
 use crate::cutting::{cut, drop_front, unroll};
 use crate::folding::{fold_whole, join_three};
 use crate::places::{SHARD, place_of};
@@ -124,6 +124,96 @@ impl<B: LongBody> Chain<B> {
             );
         }
         self.tail.write(place.index, value)
+    }
+
+    /// Exchanges the elements at two positions.
+    pub fn swap(&mut self, first: u64, second: u64) -> Result<(), AllocError>
+        requires first { first < length self.old.elements }
+        requires second { second < length self.old.elements }
+        ensures ok { OnOk result (self.new ≡ record self.old { elements = swap self.old.elements first second }) }
+        ensures err { OnErr result (self.new ≡ self.old) }
+    {
+        let shard = first / SHARD as u64;
+        let other = second / SHARD as u64;
+        if shard == other {
+            self.swap_inside(first, second)
+        } else if shard < other {
+            self.swap_across(first, second)
+        } else {
+            self.swap_across(second, first)
+        }
+    }
+
+    // Exchanges two elements of one shard.
+    fn swap_inside(&mut self, first: u64, second: u64) -> Result<(), AllocError>
+        requires first { first < length self.old.elements }
+        requires second { second < length self.old.elements }
+        requires one { first / 32760 ≡ second / 32760 }
+        ensures ok { OnOk result (self.new ≡ record self.old { elements = swap self.old.elements first second }) }
+        ensures err { OnErr result (self.new ≡ self.old) }
+    {
+        let place = place_of(first, self.full.len());
+        let other = place_of(second, self.full.len());
+        if place.shard < self.full.len() {
+            return swap_in(
+                &mut self.full,
+                &mut self.sums,
+                place.shard,
+                place.index,
+                other.index,
+            );
+        }
+        self.tail.swap(place.index, other.index)
+    }
+
+    // Exchanges an element of a full shard and one of a later shard. The first shard is made anew with what it will hold, so that
+    // nothing can be wanting once the other has changed.
+    fn swap_across(&mut self, low: u64, high: u64) -> Result<(), AllocError>
+        requires inside { high < length self.old.elements }
+        requires apart { low / 32760 < high / 32760 }
+        ensures ok { OnOk result (self.new ≡ record self.old { elements = swap self.old.elements low high }) }
+        ensures err { OnErr result (self.new ≡ self.old) }
+    {
+        let value = self.get(high);
+        let before = self.get(low);
+        let place = place_of(low, self.full.len());
+        let mut shard = written_copy(&self.full[place.shard], place.index, value)?;
+        let done = self.change_both(high, before, place.shard, &mut shard);
+        drop(shard);
+        done
+    }
+
+    // Overwrites an element, and then puts a shard in the place of a full one before it.
+    fn change_both(
+        &mut self,
+        position: u64,
+        value: i64,
+        number: usize,
+        shard: &mut Shard<B>,
+    ) -> Result<(), AllocError>
+        requires inside { position < length self.old.elements }
+        requires before { 32760 * number + 32760 ≤ position }
+        requires body { shard.old.body ≡ self.old.body }
+        requires full { length shard.old.elements ≡ 32760 }
+        ensures ok { OnOk result (self.new ≡ record self.old {
+          elements = take (32760 * number) (slice_set self.old.elements position value)
+              ++ (shard.old.elements ++ drop (32760 * number + 32760) (slice_set self.old.elements position value));
+        }) }
+        ensures err { OnErr result (self.new ≡ self.old) }
+    {
+        self.write(position, value)?;
+        self.put_back(number, shard);
+        Ok(())
+    }
+
+    // Puts a shard in the place of a full one.
+    fn put_back(&mut self, number: usize, shard: &mut Shard<B>)
+        requires inside { 32760 * number + 32760 < length self.old.elements }
+        requires body { shard.old.body ≡ self.old.body }
+        requires full { length shard.old.elements ≡ 32760 }
+        ensures { self.new ≡ record self.old { elements = take (32760 * number) self.old.elements ++ (shard.old.elements ++ drop (32760 * number + 32760) self.old.elements) } }
+    {
+        put_shard(&mut self.full, &mut self.sums, number, shard);
     }
 
     /// Keeps so many elements, the first ones.

@@ -1,5 +1,6 @@
-ghost use Rattle.std.specs.Prelude.{◌≡◌, ◌+◌, ◌<◌, ◌≤◌, length, slice_set, IfOk, OnOk, OnErr};
-ghost use Rattle.std.specs.List.{slice_index_or};
+ghost use Rattle.std.specs.Prelude.{◌≡◌, ◌+◌, ◌<◌, ◌≤◌, length, slice_set, All, IfOk, OnOk, OnErr};
+ghost use Rattle.std.specs.List.{slice_index_or, swap};
+ghost use Rattle.lv_geometry.specs.Elements.{IsElement};
 ghost use Rattle.lv_series.specs.Chain.{IsPut, sum_of};
 ghost use Rattle.lv_series.specs.Shard.{Holding};
 
@@ -7,6 +8,7 @@ use crate::shards::Shard;
 use lv_bodies::Body;
 use std::alloc::AllocError;
 use std::collections::VecDeque;
+use std::mem;
 
 /// Overwrites an element of a full shard, and renews its fold.
 pub fn write_in<B: Body>(
@@ -39,4 +41,74 @@ fn write_one<B: Body>(shard: &mut Shard<B>, index: u32, value: i64) -> Result<B:
 {
     shard.write(index, value)?;
     Ok(shard.sum())
+}
+
+/// Exchanges two elements of a full shard, and renews its fold.
+pub fn swap_in<B: Body>(
+    full: &mut VecDeque<Shard<B>>,
+    sums: &mut VecDeque<B::S>,
+    number: usize,
+    first: u32,
+    second: u32,
+) -> Result<(), AllocError>
+    requires number { number < length full.old.items }
+    requires sums { length sums.old.items ≡ length full.old.items }
+    requires first { (d : Holding B) → first < length (slice_index_or full.old.items number d).elements }
+    requires second { (d : Holding B) → second < length (slice_index_or full.old.items number d).elements }
+    ensures ok { OnOk result ((d : Holding B) → IsPut full.old.items sums.old.items full.new.items sums.new.items number
+        (sum_of (B.operations (B.meaning (slice_index_or full.old.items number d).body)))
+        (record (slice_index_or full.old.items number d) { elements = swap (slice_index_or full.old.items number d).elements first second })) }
+    ensures full { OnErr result (full.new.items ≡ full.old.items) }
+    ensures same { OnErr result (sums.new.items ≡ sums.old.items) }
+{
+    let sum = swap_one(&mut full[number], first, second)?;
+    sums[number] = sum;
+    Ok(())
+}
+
+// Exchanges two elements of a full shard, and gives the shard's fold after that.
+fn swap_one<B: Body>(shard: &mut Shard<B>, first: u32, second: u32) -> Result<B::S, AllocError>
+    requires first { first < length shard.old.elements }
+    requires second { second < length shard.old.elements }
+    ensures ok { OnOk result (shard.new ≡ record shard.old { elements = swap shard.old.elements first second }) }
+    ensures sum { IfOk result (λ sum. sum ≡ sum_of (B.operations (B.meaning shard.old.body)) shard.new) }
+    ensures err { OnErr result (shard.new ≡ shard.old) }
+{
+    shard.swap(first, second)?;
+    Ok(shard.sum())
+}
+
+/// A shard of its own that holds the elements of another, one of them overwritten. An error is want of memory.
+pub fn written_copy<B: Body>(
+    shard: &Shard<B>,
+    index: u32,
+    value: i64,
+) -> Result<Shard<B>, AllocError>
+    requires { index < length shard.now.elements }
+    ensures { IfOk result (λ copy. copy ≡ record shard.now { elements = slice_set shard.now.elements index value }) }
+{
+    let mut copy = shard.copy()?;
+    match copy.write(index, value) {
+        Ok(()) => Ok(copy),
+        Err(error) => {
+            drop(copy);
+            Err(error)
+        }
+    }
+}
+
+/// Puts a shard in the place of a full one, and its fold in the place of the other's. Takes no memory.
+pub fn put_shard<B: Body>(
+    full: &mut VecDeque<Shard<B>>,
+    sums: &mut VecDeque<B::S>,
+    number: usize,
+    shard: &mut Shard<B>,
+)
+    requires number { number < length full.old.items }
+    requires sums { length sums.old.items ≡ length full.old.items }
+    ensures put { IsPut full.old.items sums.old.items full.new.items sums.new.items number (sum_of (B.operations (B.meaning shard.old.body))) shard.old }
+    ensures elements { All IsElement shard.old.elements }
+{
+    sums[number] = shard.sum();
+    mem::swap(&mut full[number], shard);
 }

@@ -5,7 +5,9 @@
 //! answer shows shards or renewals: the model of `Series` is what is kept and how many edits were accepted.
 #![tactic(auto)]
 
+mod accepting;
 mod answers;
+mod asking;
 mod chains;
 mod changing;
 mod cutting;

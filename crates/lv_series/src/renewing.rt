@@ -1,4 +1,4 @@
-ghost use Rattle.std.specs.Prelude.{◌≡◌, ◌+◌, ◌<◌, ◌≤◌, None, Some, [], ◌∷◌, ◌++◌, length, OnOk, OnErr};
+ghost use Rattle.std.specs.Prelude.{◌≡◌, ◌+◌, ◌<◌, ◌≤◌, None, Some, [], ◌∷◌, ◌++◌, length, IfOk, OnOk, OnErr};
 ghost use Rattle.lv_edits.specs.History.{applied, list_of};
 ghost use Rattle.lv_edits.specs.Verdict.{refused_on};
 ghost use Rattle.lv_series.specs.Shard.{IsShard, holding_of};
@@ -76,6 +76,22 @@ fn renew<B: Body>(alloc: Global, live: &mut Live<B>) -> Result<(), AllocError>
     }
     drop(fresh);
     copied
+}
+
+/// A vector of its own with the same elements. An error is want of memory.
+pub fn copy_of<B: Body>(alloc: Global, live: &Live<B>) -> Result<Live<B>, AllocError>
+    requires { IsShard live.now.history }
+    ensures shard { IfOk result (λ copy. IsShard copy.history) }
+    ensures holds { IfOk result (λ copy. holding_of copy ≡ holding_of live.now) }
+{
+    let mut copy = empty_vector(alloc, live.body());
+    match copy_into(&mut copy, live) {
+        Ok(()) => Ok(copy),
+        Err(error) => {
+            drop(copy);
+            Err(error)
+        }
+    }
 }
 
 // Pushes the elements of a vector to an empty one.

@@ -1,10 +1,10 @@
-ghost use Rattle.std.specs.Prelude.{◌≡◌, ◌-◌, ◌<◌, ◌≤◌, pos, [], ◌∷◌, ◌++◌, length, take, slice_set, OnOk, OnErr, All};
-ghost use Rattle.std.specs.List.{slice_index_or, slice_range};
+ghost use Rattle.std.specs.Prelude.{◌≡◌, ◌-◌, ◌<◌, ◌≤◌, pos, [], ◌∷◌, ◌++◌, length, take, slice_set, IfOk, OnOk, OnErr, All};
+ghost use Rattle.std.specs.List.{slice_index_or, slice_range, swap};
 ghost use Rattle.lv_geometry.specs.Elements.{IsElement};
 ghost use Rattle.lv_bodies.specs.Body.{fold_of};
 ghost use Rattle.lv_series.specs.Chain.{sum_of};
 
-use crate::renewing::{empty_vector, make_one};
+use crate::renewing::{copy_of, empty_vector, make_one};
 use lv_bodies::Body;
 use lv_edits::Edit;
 use lv_live::Live;
@@ -94,6 +94,27 @@ impl<B: Body> Shard<B> {
         make_one(self.alloc, &mut self.live, Edit::Write { index, value })
     }
 
+    /// Exchanges the elements at two indices.
+    pub fn swap(&mut self, first: u32, second: u32) -> Result<(), AllocError>
+        requires first { first < length self.old.elements }
+        requires second { second < length self.old.elements }
+        ensures ok { OnOk result (self.new ≡ record self.old { elements = swap self.old.elements first second }) }
+        ensures err { OnErr result (self.new ≡ self.old) }
+    {
+        make_one(self.alloc, &mut self.live, Edit::Swap { first, second })
+    }
+
+    /// A shard of its own with the same elements. An error is want of memory.
+    pub fn copy(&self) -> Result<Shard<B>, AllocError>
+        ensures { IfOk result (λ shard. shard ≡ self.now) }
+    {
+        let live = copy_of(self.alloc, &self.live)?;
+        Ok(Shard {
+            alloc: self.alloc,
+            live,
+        })
+    }
+
     /// Keeps so many elements, the first ones.
     pub fn truncate(&mut self, count: u32) -> Result<(), AllocError>
         requires { count ≤ length self.old.elements }
@@ -130,6 +151,7 @@ impl<B: Body> Shard<B> {
 
     /// The fold of all elements, kept like what `ask` computes.
     pub fn sum(&mut self) -> B::S
+        ensures elements { All IsElement self.old.elements }
         ensures value { result ≡ sum_of (B.operations (B.meaning self.old.body)) self.old }
         ensures same { self.new ≡ self.old }
     {

@@ -1,0 +1,12 @@
+use Rattle.std.proofs.Common.{◌≡◌, ◌<◌, ◌/◌, OnOk, arith, ap, sym, subst}
+use Rattle.std.specs.List.{swap}
+use Rattle.lv_series.proofs.SwapLaws.{swap_turned}
+use Rattle.lv_series.proofs.chains.Chain.swap.Goals as goal
+
+pub swap_across-requires-else-shard-other-2-clause-apart : goal.swap_across-requires-else-shard-other-2-clause-apart
+swap_across-requires-else-shard-other-2-clause-apart g c = λ _ _. omega (arith, c.if-shard-other.false, c.if-shard-other-2.false)
+
+pub returns-else-shard-other-2-clause-ok : goal.returns-else-shard-other-2-clause-ok
+returns-else-shard-other-2-clause-ok g c =
+    let els = c.args.self.now.elements in
+    subst (λ ys. OnOk c.swap_across-else-shard-other-2.result (c.swap_across-else-shard-other-2.new.self ≡ record c.args.self.now { elements = ys })) (swap_turned els c.args.second c.args.first c.requires.second c.requires.first (omega (arith, c.if-shard-other.false))) c.swap_across-else-shard-other-2.ensures.ok
