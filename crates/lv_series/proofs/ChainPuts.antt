@@ -17,7 +17,7 @@ module _ {B S : Type 0} (ops : B → Operations S) (full : List (Holding B)) (su
   written_in k r x d = record (slice_index_or full k d) { elements = slice_set (slice_index_or full k d).elements r x }
 
   -- what was written into a full shard
-  put_one : (k r position : ℕ) (x : ℤ) (after : List (Holding B)) (folds : List S) → k < length full → r < 32760 → 32760 * k + r ≡ position → IsElement x
+  pub put_one : (k r position : ℕ) (x : ℤ) (after : List (Holding B)) (folds : List S) → k < length full → r < 32760 → 32760 * k + r ≡ position → IsElement x
       → IsPut full sums after folds k (sum_of (ops (slice_index_or full k tail).body)) (written_in k r x tail) → IsChain (ops tail.body) after folds tail × (all_in after tail ≡ slice_set (all_in full tail) position x)
   put_one k r position x after folds here small place element is =
       let shard = slice_index_or full k tail in

@@ -118,7 +118,7 @@ module _ {B S : Type 0} (ops : B → Operations S) (full : List (Holding B)) (su
   pub all_tail_swapped : (a b : ℕ) → a < length tail.elements → b < length tail.elements → all_in full (record tail { elements = swap tail.elements a b }) ≡ swap (all_in full tail) (32760 * length full + a) (32760 * length full + b)
   all_tail_swapped a b first second = sym (swap_behind (elements_in full) tail.elements (32760 * length full) a b (length_full tail.body full chain.each) first second)
 
-  swap_one : (k a b i j : ℕ) (after : List (Holding B)) (folds : List S) → k < length full → a < 32760 → b < 32760 → 32760 * k + a ≡ i → 32760 * k + b ≡ j
+  pub swap_one : (k a b i j : ℕ) (after : List (Holding B)) (folds : List S) → k < length full → a < 32760 → b < 32760 → 32760 * k + a ≡ i → 32760 * k + b ≡ j
       → IsPut full sums after folds k (sum_of (ops (slice_index_or full k tail).body)) (swapped_in k a b tail) → IsChain (ops tail.body) after folds tail × (all_in after tail ≡ swap (all_in full tail) i j)
   swap_one k a b i j after folds here first second place other is =
       let shard = slice_index_or full k tail in

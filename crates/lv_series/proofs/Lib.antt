@@ -6,8 +6,11 @@ pub mod ChainPuts
 pub mod ChainReads
 pub mod ChainSteps
 pub mod ChainSwaps
+pub mod ChainTrees
 pub mod FreeLaws
 pub mod PlainLaws
+pub mod ScanSteps
 pub mod SeriesLaws
 pub mod ShardLaws
 pub mod SwapLaws
+pub mod TreePuts

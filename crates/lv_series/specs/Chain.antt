@@ -5,6 +5,7 @@ use Rattle.lv_geometry.specs.Elements.{IsElement}
 use Rattle.lv_bodies.specs.Body.{Operations, fold_of}
 use Rattle.lv_bodies.specs.Long.{CanFoldLong}
 use Rattle.lv_series.specs.Shard.{Holding}
+use Rattle.lv_sums.specs.Sums.{SumsState}
 
 -- the elements of some shards
 abbrev pub elements_in : {B : Type 0} → List (Holding B) → List ℤ
@@ -29,6 +30,12 @@ pub record IsChain {B S : Type 0} (o : Operations S) (full : List (Holding B)) (
   pub short : length tail.elements ≤ 32760
   pub elements : All IsElement (all_in full tail)
   pub few : length (all_in full tail) ≤ 2 ^ 62
+
+-- a chain whose folds lie in a tree, numbered from 0 on
+pub record IsSummed {B S : Type 0} (ops : B → Operations S) (full : List (Holding B)) (sums : SumsState B S) (tail : Holding B) : Type 0 where
+  pub chain : IsChain (ops tail.body) full sums.sums tail
+  pub body : sums.body ≡ tail.body
+  pub first : sums.first ≡ 0
 
 -- three summaries are the folds of lists that can be folded end to end
 pub record Joinable {S : Type 0} (o : Operations S) (front middle end : S) : Type 0 where

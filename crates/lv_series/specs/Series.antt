@@ -1,8 +1,10 @@
 -- A series: what it keeps, what each edit does to that, why an edit or a range is refused, and what is answered.
-use Rattle.std.specs.Prelude.{◌≡◌, ℕ, ℤ, pos, ◌+◌, ◌-◌, ◌^◌, Bool, ◌&&◌, Option, Some, None, Result, Ok, Err, is_ok, ◌⊎◌, List, [], ◌∷◌, ◌++◌, length, take, drop, fold, slice_set, nat_le, nat_lt, nat_eq, if◌then◌else◌}
-use Rattle.std.specs.List.{slice_index_or, slice_range, swap}
+use Rattle.std.specs.Prelude.{◌≡◌, ℕ, ℤ, pos, ◌+◌, ◌-◌, ◌^◌, ◌≤◌, Bool, ◌&&◌, Option, Some, None, Result, Ok, Err, is_ok, ◌⊎◌, List, [], ◌∷◌, ◌++◌, length, take, drop, map, min, fold, slice_set, All, nat_le, nat_lt, nat_eq, if◌then◌else◌}
+use Rattle.std.specs.List.{range_with_len, slice_index_or, slice_range, swap}
+use Rattle.lv_geometry.specs.Elements.{IsElement}
 use Rattle.lv_bodies.specs.Body.{Operations, fold_of}
 use Rattle.lv_series.specs.declared.answers.LongAnswer.{LongAnswer}
+use Rattle.lv_series.specs.declared.answers.LongScan.{LongScan}
 use Rattle.lv_series.specs.declared.edits.LongEdit.{LongEdit}
 use Rattle.lv_series.specs.declared.edits.LongEdit.TheVariants.{Push, Pop, Write, Expire, Swap, Truncate}
 use Rattle.lv_series.specs.declared.receipts.LongReceipt.{LongReceipt}
@@ -61,6 +63,23 @@ element_of h i = slice_index_or h.elements (i - h.first) (pos 0)
 abbrev pub slice_of : Held → ℕ → ℕ → List ℤ
 slice_of h lo hi = slice_range h.elements (lo - h.first) (hi - h.first)
 
+-- the left fold of a list that goes on from a summary; the one at place i of a scan, with its own element or without it; and all of them
+abbrev pub fold_on : {S : Type 0} → Operations S → S → List ℤ → S
+fold_on o s xs = fold (λ t x. o.join t (o.lift x)) s xs
+
+abbrev pub running_fold : {S : Type 0} → Bool → Operations S → S → List ℤ → ℕ → S
+running_fold inclusive o s xs i = fold_on o s (take (if inclusive then i + 1 else i) xs)
+
+abbrev pub running_folds : {S : Type 0} → Bool → Operations S → S → List ℤ → List S
+running_folds inclusive o s xs = map (running_fold inclusive o s xs) (range_with_len 0 (length xs))
+
+-- what stands in front of a scan that goes on: the fold of some elements, at most 2 ^ 62 with those to come
+pub record StandsBefore {S : Type 0} (o : Operations S) (before : S) (more : ℕ) : Type 0 where
+  pub front : List ℤ
+  pub is_fold : before ≡ fold_of o front
+  pub elements : All IsElement front
+  pub few : length front + more ≤ 2 ^ 62
+
 -- the element under an index, or the refusal that tells what is kept
 abbrev pub element_at : Held → ℕ → Result ℤ LongRefusal
 element_at h i = if is_kept h i then Ok (element_of h i) else Err (OutOfRange h.first (size_of h))
@@ -109,3 +128,15 @@ module _ {B : Type 0} where
   abbrev pub Reduces : {S : Type 0} → Operations S → SeriesState B → ℕ → ℕ → Result (LongAnswer S) LongRefusal → Type 0
   Reduces o s lo hi (Ok answer) = IsLongAnswer o s lo hi answer
   Reduces o s lo hi (Err refusal) = range_refused s.held lo hi ≡ Some refusal
+
+  -- a piece of a scan: as many running folds of the range as there is room for, and the rest of the buffer as it was
+  pub record IsLongScan {S : Type 0} (o : Operations S) (s : SeriesState B) (lo hi : ℕ) (inclusive : Bool) (before : S) (old : List S) (scan : LongScan) (new : List S) : Type 0 where
+    pub granted : range_refused s.held lo hi ≡ None
+    pub edit : scan.edit ≡ s.edits
+    pub count : scan.count ≡ min (length old) (hi - lo)
+    pub values : new ≡ running_folds inclusive o before (slice_of s.held lo (lo + scan.count)) ++ drop scan.count old
+
+  -- a scan, or why its range is refused, with the buffer as it was
+  abbrev pub Scans : {S : Type 0} → Operations S → SeriesState B → ℕ → ℕ → Bool → S → List S → Result LongScan LongRefusal → List S → Type 0
+  Scans o s lo hi inclusive before old (Ok scan) new = IsLongScan o s lo hi inclusive before old scan new
+  Scans o s lo hi inclusive before old (Err refusal) new = (range_refused s.held lo hi ≡ Some refusal) × (new ≡ old)

@@ -18,3 +18,27 @@ impl<S: Copy> Clone for LongAnswer<S> {
         Ok(*self)
     }
 }
+
+/// The answer to a reduction, with how many joins it took beyond those in the two shards at its ends.
+#[derive(Copy, Debug, PartialEq, Eq)]
+pub struct Counted<S> {
+    pub answer: LongAnswer<S>,
+    pub joins: u64,
+}
+
+impl<S: Copy> Clone for Counted<S> {
+    ghost is_clone = { λ x y. y ≡ x };
+
+    ghost is_infallible = { λ _. ⊤ };
+
+    fn clone(&self) -> Result<Counted<S>, AllocError> {
+        Ok(*self)
+    }
+}
+
+/// The answer to a piece of a scan: the number of the last edit, and how many values were put into the buffer.
+#[derive(Clone, Copy, Debug, PartialEq, Eq)]
+pub struct LongScan {
+    pub edit: u64,
+    pub count: usize,
+}

@@ -1,16 +1,15 @@
 ghost use Rattle.std.specs.Prelude.{◌≡◌, ◌+◌, ◌-◌, ◌*◌, ◌/◌, ◌^◌, ◌<◌, ◌≤◌, pos, [], ◌∷◌, ◌++◌, length, take, drop, slice_set, OnOk, OnErr, All};
-ghost use Rattle.std.specs.List.{slice_index_or, slice_range, swap};
+ghost use Rattle.std.specs.List.{slice_index_or, swap};
 ghost use Rattle.lv_geometry.specs.Elements.{IsElement};
-ghost use Rattle.lv_bodies.specs.Body.{fold_of};
 
 use crate::changing::{put_shard, swap_in, write_in, written_copy};
 use crate::cutting::{cut, drop_front, unroll};
-use crate::folding::{fold_whole, join_three};
 use crate::places::{SHARD, place_of};
 use crate::rolling::roll_over;
 use crate::shards::Shard;
 use crate::walking::shard_at;
 use lv_bodies::LongBody;
+use lv_sums::Sums;
 use std::alloc::{AllocError, Global};
 use std::collections::VecDeque;
 use std::marker::Model;
@@ -19,21 +18,21 @@ use std::marker::Model;
 /// of memory, and nothing has changed then.
 #[derive(Drop)]
 pub struct Chain<B: LongBody> {
-    alloc: Global,
-    full: VecDeque<Shard<B>>,
-    sums: VecDeque<B::S>,
-    tail: Shard<B>,
+    pub(crate) alloc: Global,
+    pub(crate) full: VecDeque<Shard<B>>,
+    pub(crate) sums: Sums<B>,
+    pub(crate) tail: Shard<B>,
 }
 
 impl<B: LongBody> Model for Chain<B> {
     ghost use Rattle.lv_series.specs.Shard.{Holding};
-    ghost use Rattle.lv_series.specs.Chain.{IsChain, all_in};
+    ghost use Rattle.lv_series.specs.Chain.{IsSummed, all_in};
 
     ghost Value = { Holding B };
 
     ghost view = { λ a. record { body = a.tail.body; elements = all_in a.full.items a.tail } };
 
-    ghost invariant = { λ a. IsChain (B.operations (B.meaning a.tail.body)) a.full.items a.sums.items a.tail };
+    ghost invariant = { λ a. IsSummed (λ b. B.operations (B.meaning b)) a.full.items a.sums a.tail };
 }
 
 impl<B: LongBody> Chain<B> {
@@ -44,7 +43,7 @@ impl<B: LongBody> Chain<B> {
         Chain {
             alloc,
             full: VecDeque::new(alloc),
-            sums: VecDeque::new(alloc),
+            sums: Sums::new(alloc, body),
             tail: Shard::new(alloc, body),
         }
     }
@@ -57,6 +56,13 @@ impl<B: LongBody> Chain<B> {
         ensures elements { All IsElement self.now.elements }
     {
         self.full.len() as u64 * SHARD as u64 + self.tail.len() as u64
+    }
+
+    /// How many shards there are.
+    pub fn shards(&self) -> usize
+        ensures { 32760 * result ≤ length self.now.elements + 32760 }
+    {
+        self.full.len() + 1
     }
 
     /// The body by which it reduces.
@@ -195,6 +201,7 @@ impl<B: LongBody> Chain<B> {
         requires before { 32760 * number + 32760 ≤ position }
         requires body { shard.old.body ≡ self.old.body }
         requires full { length shard.old.elements ≡ 32760 }
+        requires elements { All IsElement shard.old.elements }
         ensures ok { OnOk result (self.new ≡ record self.old {
           elements = take (32760 * number) (slice_set self.old.elements position value)
               ++ (shard.old.elements ++ drop (32760 * number + 32760) (slice_set self.old.elements position value));
@@ -211,6 +218,7 @@ impl<B: LongBody> Chain<B> {
         requires inside { 32760 * number + 32760 < length self.old.elements }
         requires body { shard.old.body ≡ self.old.body }
         requires full { length shard.old.elements ≡ 32760 }
+        requires elements { All IsElement shard.old.elements }
         ensures { self.new ≡ record self.old { elements = take (32760 * number) self.old.elements ++ (shard.old.elements ++ drop (32760 * number + 32760) self.old.elements) } }
     {
         put_shard(&mut self.full, &mut self.sums, number, shard);
@@ -240,29 +248,11 @@ impl<B: LongBody> Chain<B> {
     pub fn shed(&mut self, most: u64) -> u64
         requires { most ≤ length self.old.elements }
         ensures most { result ≤ most }
+        ensures least { most ≤ result + 32760 }
         ensures dropped { self.new ≡ record self.old { elements = drop result self.old.elements } }
     {
         let place = place_of(most, self.full.len());
         drop_front(&mut self.full, &mut self.sums, place.shard);
         most - place.index as u64
-    }
-
-    /// The fold of the elements from one position up to another. Takes no memory.
-    pub fn fold(&self, from: u64, to: u64) -> B::S
-        requires order { from ≤ to }
-        requires inside { to ≤ length self.now.elements }
-        ensures { result ≡ fold_of (B.operations (B.meaning self.now.body)) (slice_range self.now.elements from to) }
-    {
-        let lo = place_of(from, self.full.len());
-        let hi = place_of(to, self.full.len());
-        let first = shard_at(&self.full, &self.tail, lo.shard);
-        if lo.shard == hi.shard {
-            return first.fold(lo.index, hi.index);
-        }
-        let body = self.tail.body();
-        let front = first.fold(lo.index, SHARD);
-        let middle = fold_whole(&body, &self.full, &self.sums, lo.shard + 1, hi.shard);
-        let end = shard_at(&self.full, &self.tail, hi.shard).fold(0, hi.index);
-        join_three(&body, front, middle, end)
     }
 }

@@ -1,34 +1,40 @@
-ghost use Rattle.std.specs.Prelude.{◌≡◌, ◌+◌, ◌<◌, ◌≤◌, length, slice_set, All, IfOk, OnOk, OnErr};
+ghost use Rattle.std.specs.Prelude.{◌≡◌, ◌+◌, ◌<◌, ◌≤◌, length, slice_set, IfOk, OnOk, OnErr};
 ghost use Rattle.std.specs.List.{slice_index_or, swap};
-ghost use Rattle.lv_geometry.specs.Elements.{IsElement};
 ghost use Rattle.lv_series.specs.Chain.{IsPut, sum_of};
 ghost use Rattle.lv_series.specs.Shard.{Holding};
+ghost use Rattle.lv_sums.specs.Sums.{AreFolds};
 
 use crate::shards::Shard;
-use lv_bodies::Body;
+use lv_bodies::{Body, LongBody};
+use lv_sums::Sums;
 use std::alloc::AllocError;
 use std::collections::VecDeque;
 use std::mem;
 
 /// Overwrites an element of a full shard, and renews its fold.
-pub fn write_in<B: Body>(
+pub fn write_in<B: LongBody>(
     full: &mut VecDeque<Shard<B>>,
-    sums: &mut VecDeque<B::S>,
+    sums: &mut Sums<B>,
     number: usize,
     index: u32,
     value: i64,
 ) -> Result<(), AllocError>
     requires number { number < length full.old.items }
-    requires sums { length sums.old.items ≡ length full.old.items }
+    requires sums { length sums.old.sums ≡ length full.old.items }
+    requires numbered { sums.old.first ≡ 0 }
     requires index { (d : Holding B) → index < length (slice_index_or full.old.items number d).elements }
-    ensures ok { OnOk result ((d : Holding B) → IsPut full.old.items sums.old.items full.new.items sums.new.items number
+    requires folds { (d : Holding B) → AreFolds (B.operations (B.meaning sums.old.body)) (slice_set sums.old.sums number (sum_of (B.operations (B.meaning (slice_index_or full.old.items number d).body))
+        (record (slice_index_or full.old.items number d) { elements = slice_set (slice_index_or full.old.items number d).elements index value }))) }
+    ensures ok { OnOk result ((d : Holding B) → IsPut full.old.items sums.old.sums full.new.items sums.new.sums number
         (sum_of (B.operations (B.meaning (slice_index_or full.old.items number d).body)))
         (record (slice_index_or full.old.items number d) { elements = slice_set (slice_index_or full.old.items number d).elements index value })) }
     ensures full { OnErr result (full.new.items ≡ full.old.items) }
-    ensures same { OnErr result (sums.new.items ≡ sums.old.items) }
+    ensures same { OnErr result (sums.new.sums ≡ sums.old.sums) }
+    ensures body { sums.new.body ≡ sums.old.body }
+    ensures first { sums.new.first ≡ sums.old.first }
 {
     let sum = write_one(&mut full[number], index, value)?;
-    sums[number] = sum;
+    put_sum(sums, number, sum);
     Ok(())
 }
 
@@ -44,25 +50,30 @@ fn write_one<B: Body>(shard: &mut Shard<B>, index: u32, value: i64) -> Result<B:
 }
 
 /// Exchanges two elements of a full shard, and renews its fold.
-pub fn swap_in<B: Body>(
+pub fn swap_in<B: LongBody>(
     full: &mut VecDeque<Shard<B>>,
-    sums: &mut VecDeque<B::S>,
+    sums: &mut Sums<B>,
     number: usize,
     first: u32,
     second: u32,
 ) -> Result<(), AllocError>
     requires number { number < length full.old.items }
-    requires sums { length sums.old.items ≡ length full.old.items }
+    requires sums { length sums.old.sums ≡ length full.old.items }
+    requires numbered { sums.old.first ≡ 0 }
     requires first { (d : Holding B) → first < length (slice_index_or full.old.items number d).elements }
     requires second { (d : Holding B) → second < length (slice_index_or full.old.items number d).elements }
-    ensures ok { OnOk result ((d : Holding B) → IsPut full.old.items sums.old.items full.new.items sums.new.items number
+    requires folds { (d : Holding B) → AreFolds (B.operations (B.meaning sums.old.body)) (slice_set sums.old.sums number (sum_of (B.operations (B.meaning (slice_index_or full.old.items number d).body))
+        (record (slice_index_or full.old.items number d) { elements = swap (slice_index_or full.old.items number d).elements first second }))) }
+    ensures ok { OnOk result ((d : Holding B) → IsPut full.old.items sums.old.sums full.new.items sums.new.sums number
         (sum_of (B.operations (B.meaning (slice_index_or full.old.items number d).body)))
         (record (slice_index_or full.old.items number d) { elements = swap (slice_index_or full.old.items number d).elements first second })) }
     ensures full { OnErr result (full.new.items ≡ full.old.items) }
-    ensures same { OnErr result (sums.new.items ≡ sums.old.items) }
+    ensures same { OnErr result (sums.new.sums ≡ sums.old.sums) }
+    ensures body { sums.new.body ≡ sums.old.body }
+    ensures first { sums.new.first ≡ sums.old.first }
 {
     let sum = swap_one(&mut full[number], first, second)?;
-    sums[number] = sum;
+    put_sum(sums, number, sum);
     Ok(())
 }
 
@@ -98,17 +109,33 @@ pub fn written_copy<B: Body>(
 }
 
 /// Puts a shard in the place of a full one, and its fold in the place of the other's. Takes no memory.
-pub fn put_shard<B: Body>(
+pub fn put_shard<B: LongBody>(
     full: &mut VecDeque<Shard<B>>,
-    sums: &mut VecDeque<B::S>,
+    sums: &mut Sums<B>,
     number: usize,
     shard: &mut Shard<B>,
 )
     requires number { number < length full.old.items }
-    requires sums { length sums.old.items ≡ length full.old.items }
-    ensures put { IsPut full.old.items sums.old.items full.new.items sums.new.items number (sum_of (B.operations (B.meaning shard.old.body))) shard.old }
-    ensures elements { All IsElement shard.old.elements }
+    requires sums { length sums.old.sums ≡ length full.old.items }
+    requires numbered { sums.old.first ≡ 0 }
+    requires folds { AreFolds (B.operations (B.meaning sums.old.body)) (slice_set sums.old.sums number (sum_of (B.operations (B.meaning shard.old.body)) shard.old)) }
+    ensures put { IsPut full.old.items sums.old.sums full.new.items sums.new.sums number (sum_of (B.operations (B.meaning shard.old.body))) shard.old }
+    ensures body { sums.new.body ≡ sums.old.body }
+    ensures first { sums.new.first ≡ sums.old.first }
 {
-    sums[number] = shard.sum();
+    let sum = shard.sum();
+    put_sum(sums, number, sum);
     mem::swap(&mut full[number], shard);
+}
+
+// Puts a fold in the place of another.
+fn put_sum<B: LongBody>(sums: &mut Sums<B>, number: usize, sum: B::S)
+    requires number { number < length sums.old.sums }
+    requires numbered { sums.old.first ≡ 0 }
+    requires folds { AreFolds (B.operations (B.meaning sums.old.body)) (slice_set sums.old.sums number sum) }
+    ensures sums { sums.new.sums ≡ slice_set sums.old.sums number sum }
+    ensures body { sums.new.body ≡ sums.old.body }
+    ensures first { sums.new.first ≡ sums.old.first }
+{
+    sums.replace(number as u64, sum);
 }

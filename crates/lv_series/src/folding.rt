@@ -1,33 +1,40 @@
-ghost use Rattle.std.specs.Prelude.{◌≡◌, ◌≤◌, ℤ, List, ◌++◌, length, map};
-ghost use Rattle.std.specs.List.{slice_range};
+ghost use Rattle.std.specs.Prelude.{◌≡◌, ◌+◌, ◌^◌, ◌<◌, ◌≤◌, ℤ, List, ◌++◌, length};
+ghost use Rattle.std.specs.List.{slice_index_or, slice_range};
 ghost use Rattle.lv_bodies.specs.Body.{fold_of};
 ghost use Rattle.lv_bodies.specs.Long.{CanFoldLong};
-ghost use Rattle.lv_series.specs.Chain.{Joinable, elements_in, sum_of};
+ghost use Rattle.lv_series.specs.Chain.{Joinable};
 
 use crate::shards::Shard;
-use lv_bodies::{LongBody, long_laws};
+use lv_bodies::{Body, LongBody, long_laws};
+use lv_sums::Joined;
 use std::collections::VecDeque;
 
-/// The fold of the full shards from one number up to another, made from their folds.
-pub fn fold_whole<B: LongBody>(
-    body: &B,
-    _full: &VecDeque<Shard<B>>,
-    sums: &VecDeque<B::S>,
-    from: usize,
-    to: usize,
-) -> B::S
-    requires sums { sums.now.items ≡ map (sum_of (B.operations (B.meaning body.now))) _full.now.items }
-    requires can { CanFoldLong (elements_in _full.now.items) }
-    requires order { from ≤ to }
-    requires inside { to ≤ length _full.now.items }
-    ensures { result ≡ fold_of (B.operations (B.meaning body.now)) (elements_in (slice_range _full.now.items from to)) }
+/// A summary that took no join.
+pub fn unjoined<S: Copy>(summary: S) -> Joined<S>
+    ensures summary { result.summary ≡ summary }
+    ensures joins { result.joins ≡ 0 }
 {
-    long_laws(body);
-    let mut value = body.identity();
-    for k in from..to {
-        value = body.combine_long(value, sums[k]);
+    Joined { summary, joins: 0 }
+}
+
+/// What a shard answers that was told its number, keeping what is computed for it; the last one where no full shard has that number.
+pub fn ask_at<B: Body>(
+    full: &mut VecDeque<Shard<B>>,
+    tail: &mut Shard<B>,
+    number: usize,
+    lo: u32,
+    hi: u32,
+) -> B::S
+    requires order { lo ≤ hi }
+    requires inside { hi ≤ length (slice_index_or full.old.items number tail.old).elements }
+    ensures value { result ≡ fold_of (B.operations (B.meaning (slice_index_or full.old.items number tail.old).body)) (slice_range (slice_index_or full.old.items number tail.old).elements lo hi) }
+    ensures full { full.new.items ≡ full.old.items }
+    ensures tail { tail.new ≡ tail.old }
+{
+    if number < full.len() {
+        return full[number].ask(lo, hi);
     }
-    value
+    tail.ask(lo, hi)
 }
 
 /// The fold of three ranges side by side, from the fold of each.
@@ -39,4 +46,23 @@ pub fn join_three<B: LongBody>(body: &B, front: B::S, middle: B::S, end: B::S) -
     long_laws(body);
     let begun = body.combine_long(front, middle);
     body.combine_long(begun, end)
+}
+
+/// The same where the middle was joined, with how many joins it took in all.
+pub fn join_ends<B: LongBody>(
+    body: &B,
+    front: B::S,
+    middle: Joined<B::S>,
+    end: B::S,
+) -> Joined<B::S>
+    requires joinable { Joinable (B.operations (B.meaning body.now)) front middle.summary end }
+    requires few { middle.joins < 2 ^ 62 }
+    ensures summary { (xs ys zs : List ℤ) → CanFoldLong (xs ++ ys ++ zs) → front ≡ fold_of (B.operations (B.meaning body.now)) xs → middle.summary ≡ fold_of (B.operations (B.meaning body.now)) ys
+        → end ≡ fold_of (B.operations (B.meaning body.now)) zs → result.summary ≡ fold_of (B.operations (B.meaning body.now)) (xs ++ ys ++ zs) }
+    ensures joins { result.joins ≡ middle.joins + 2 }
+{
+    Joined {
+        summary: join_three(body, front, middle.summary, end),
+        joins: middle.joins + 2,
+    }
 }

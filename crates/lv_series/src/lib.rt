@@ -14,6 +14,7 @@ mod cutting;
 mod edits;
 mod folding;
 mod places;
+mod reading;
 mod receipts;
 mod refusals;
 mod renewing;
@@ -23,7 +24,7 @@ mod shards;
 mod theorems;
 mod walking;
 
-pub use answers::LongAnswer;
+pub use answers::{Counted, LongAnswer, LongScan};
 pub use edits::LongEdit;
 pub use receipts::LongReceipt;
 pub use refusals::LongRefusal;

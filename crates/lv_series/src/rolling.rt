@@ -1,34 +1,46 @@
-ghost use Rattle.std.specs.Prelude.{◌≡◌, [], ◌∷◌, ◌++◌, IfOk, OnOk, OnErr};
+ghost use Rattle.std.specs.Prelude.{◌≡◌, ◌+◌, ◌^◌, ◌<◌, length, [], ◌∷◌, ◌++◌, IfOk, OnOk, OnErr};
 ghost use Rattle.lv_series.specs.Chain.{sum_of};
+ghost use Rattle.lv_sums.specs.Sums.{AreFolds};
 
 use crate::shards::Shard;
-use lv_bodies::Body;
+use lv_bodies::{Body, LongBody};
+use lv_sums::Sums;
 use std::alloc::{AllocError, Global};
 use std::collections::VecDeque;
 use std::mem;
 
 /// Puts a full last shard among the full ones, and an element into a new last one. All room is made before anything changes.
-pub fn roll_over<B: Body>(
+pub fn roll_over<B: LongBody>(
     alloc: Global,
     full: &mut VecDeque<Shard<B>>,
-    sums: &mut VecDeque<B::S>,
+    sums: &mut Sums<B>,
     tail: &mut Shard<B>,
     x: i64,
 ) -> Result<(), AllocError>
+    requires folds { AreFolds (B.operations (B.meaning sums.old.body)) (sums.old.sums ++ sum_of (B.operations (B.meaning tail.old.body)) tail.old ∷ []) }
+    requires numbered { sums.old.first + length sums.old.sums + 1 < 2 ^ 64 }
     ensures full { OnOk result (full.new.items ≡ full.old.items ++ tail.old ∷ []) }
-    ensures sums { OnOk result (sums.new.items ≡ sums.old.items ++ sum_of (B.operations (B.meaning tail.old.body)) tail.old ∷ []) }
+    ensures sums { OnOk result (sums.new.sums ≡ sums.old.sums ++ sum_of (B.operations (B.meaning tail.old.body)) tail.old ∷ []) }
     ensures tail { OnOk result (tail.new ≡ record { body = tail.old.body; elements = x ∷ [] }) }
     ensures same_full { OnErr result (full.new.items ≡ full.old.items) }
-    ensures same_sums { OnErr result (sums.new.items ≡ sums.old.items) }
+    ensures same_sums { OnErr result (sums.new.sums ≡ sums.old.sums) }
+    ensures body { sums.new.body ≡ sums.old.body }
+    ensures first { sums.new.first ≡ sums.old.first }
     ensures same_tail { OnErr result (tail.new ≡ tail.old) }
 {
     full.reserve(1)?;
-    sums.reserve(1)?;
     let mut fresh = shard_of_one(alloc, tail.body(), x)?;
-    sums.push_back_reserved(tail.sum());
-    mem::swap(tail, &mut fresh);
-    full.push_back_reserved(fresh);
-    Ok(())
+    match sums.push(tail.sum()) {
+        Ok(()) => {
+            mem::swap(tail, &mut fresh);
+            full.push_back_reserved(fresh);
+            Ok(())
+        }
+        Err(_) => {
+            drop(fresh);
+            Err(AllocError)
+        }
+    }
 }
 
 // A shard with one element.

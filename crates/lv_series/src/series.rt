@@ -1,4 +1,4 @@
-ghost use Rattle.std.specs.Prelude.{◌≡◌, true};
+ghost use Rattle.std.specs.Prelude.{◌≡◌, ◌+◌, ◌/◌, ◌≤◌, length, true};
 ghost use Rattle.lv_series.specs.Plain.{new_series};
 ghost use Rattle.lv_series.specs.Series.{element_at, element_of, is_border, is_kept, refused, refused_on, size_of};
 
@@ -30,7 +30,7 @@ impl<B: LongBody> Model for Series<B> {
 
     ghost view = { λ a. record { body = a.chain.body; held = record { first = a.gone + a.skip; elements = drop a.skip a.chain.elements }; edits = a.edits } };
 
-    ghost invariant = { λ a. (a.skip ≤ length a.chain.elements) × (a.gone + length a.chain.elements ≤ 2 ^ 62) };
+    ghost invariant = { λ a. (a.skip ≤ length a.chain.elements) × (a.gone + length a.chain.elements ≤ 2 ^ 62) × (a.skip ≤ 32760) };
 }
 
 impl<B: LongBody> Series<B> {
@@ -58,6 +58,13 @@ impl<B: LongBody> Series<B> {
         ensures { result ≡ size_of self.now.held }
     {
         self.gone + self.chain.len()
+    }
+
+    /// How many shards lie in memory: at most two more than its elements fill, so that the memory of expired ones comes back.
+    pub fn shards(&self) -> usize
+        ensures { result ≤ length self.now.held.elements / 32760 + 2 }
+    {
+        self.chain.shards()
     }
 
     /// The number of the last accepted edit, 0 before any.

@@ -151,7 +151,6 @@ impl<B: Body> Shard<B> {
 
     /// The fold of all elements, kept like what `ask` computes.
     pub fn sum(&mut self) -> B::S
-        ensures elements { All IsElement self.old.elements }
         ensures value { result ≡ sum_of (B.operations (B.meaning self.old.body)) self.old }
         ensures same { self.new ≡ self.old }
     {

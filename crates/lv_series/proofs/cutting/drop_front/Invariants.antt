@@ -3,7 +3,4 @@ use Rattle.lv_series.proofs.cutting.drop_front.Given as goal
 
 -- so many are gone
 abbrev pub invariant-loop-shard : goal.invariant-loop-shard
-invariant-loop-shard g l = record {
-  full : l.full.items ≡ drop l._shard l.initial.full.items;
-  sums : l.sums.items ≡ drop l._shard l.initial.sums.items;
-}
+invariant-loop-shard g l = l.full.items ≡ drop l._shard l.initial.full.items

@@ -10,14 +10,14 @@ pub place_of-place-requires : goal.place_of-place-requires
 place_of-place-requires g c =
     let s = c.self.inside in
     let inside : c.args.position < length (all_in s.full.items s.tail) = rw (← c.self.view_is) at c.requires in
-    omega (arith, place_fits (λ b. g.B.Body.operations (g.B.Body.meaning b)) s.full.items s.sums.items s.tail c.self.invariant c.args.position (omega arith), c.len.ensures, s.full.ok.0)
+    omega (arith, place_fits (λ b. g.B.Body.operations (g.B.Body.meaning b)) s.full.items s.sums.sums s.tail c.self.invariant.chain c.args.position (omega arith), c.len.ensures, s.full.ok.0)
 
 pub get-requires-after_bounds : goal.get-requires-after_bounds
 get-requires-after_bounds g c = λ _ _.
     let s = c.self.inside in
     let p = c.place_of-place in
     let inside : c.args.position < length (all_in s.full.items s.tail) = rw (← c.self.view_is) at c.requires in
-    rw c.shard_at.ensures (inside_at s.tail.body s.full.items s.tail c.self.invariant.each p.result.shard p.result.index c.args.position (omega (arith, p.ensures.shard, c.len.ensures, s.full.ok.0)) p.ensures.place
+    rw c.shard_at.ensures (inside_at s.tail.body s.full.items s.tail c.self.invariant.chain.each p.result.shard p.result.index c.args.position (omega (arith, p.ensures.shard, c.len.ensures, s.full.ok.0)) p.ensures.place
     (λ less. p.ensures.inside (omega (arith, less, c.len.ensures, s.full.ok.0))) inside)
 
 pub returns : goal.returns
@@ -26,10 +26,10 @@ returns g c =
     let p = c.place_of-place in
     let inside : c.args.position < length (all_in s.full.items s.tail) = rw (← c.self.view_is) at c.requires in
     let few : p.result.shard ≤ length s.full.items = omega (arith, p.ensures.shard, c.len.ensures, s.full.ok.0) in
-    let small = inside_at s.tail.body s.full.items s.tail c.self.invariant.each p.result.shard p.result.index c.args.position few p.ensures.place (λ less. p.ensures.inside (omega (arith, less, c.len.ensures, s.full.ok.0))) inside in
+    let small = inside_at s.tail.body s.full.items s.tail c.self.invariant.chain.each p.result.shard p.result.index c.args.position few p.ensures.place (λ less. p.ensures.inside (omega (arith, less, c.len.ensures, s.full.ok.0))) inside in
     let fits : FitsSigned w64 c.get.result = search rules in
     rw (to_z-of_z w64 c.get.result fits, ← c.self.view_is)
     (c.get.ensures
     ∙ ap (λ t. slice_index_or t.elements p.result.index (pos 0)) c.shard_at.ensures
-    ∙ sym (element_there s.tail.body s.full.items s.tail c.self.invariant.each p.result.shard p.result.index (pos 0) few small)
+    ∙ sym (element_there s.tail.body s.full.items s.tail c.self.invariant.chain.each p.result.shard p.result.index (pos 0) few small)
     ∙ ap (λ n. slice_index_or (all_in s.full.items s.tail) n (pos 0)) p.ensures.place)

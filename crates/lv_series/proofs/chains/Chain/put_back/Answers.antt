@@ -1,27 +1,40 @@
-use Rattle.std.proofs.Common.{◌≡◌, ◌<◌, ◌+◌, ◌*◌, length, map, arith, ap, ◌∙◌}
-use Rattle.std.proofs.lemmas.List.{length-map}
-use Rattle.lv_series.specs.Chain.{all_in, sum_of}
+use Rattle.std.proofs.Common.{◌≡◌, ◌<◌, ◌+◌, ◌*◌, length, refl, arith, ap, ◌∙◌}
+use Rattle.lv_series.specs.Chain.{all_in}
 use Rattle.lv_series.proofs.ChainSwaps.{is_full_there, put_back_chain, put_back_held}
+use Rattle.lv_series.proofs.ChainTrees.{as_many, summed}
+use Rattle.lv_series.proofs.TreePuts.{folds_put}
 use Rattle.lv_series.proofs.chains.Chain.put_back.Goals as goal
 
 pub put_shard-requires-clause-number : goal.put_shard-requires-clause-number
 put_shard-requires-clause-number g c = λ _ _.
     let s = c.self.inside in
-    is_full_there (λ b. g.B.Body.operations (g.B.Body.meaning b)) s.full.items s.sums.items s.tail c.self.invariant c.args.number (rw (← c.self.view_is) at c.requires.inside)
+    is_full_there (λ b. g.B.Body.operations (g.B.Body.meaning b)) s.full.items s.sums.sums s.tail c.self.invariant.chain c.args.number (rw (← c.self.view_is) at c.requires.inside)
 
 pub put_shard-requires-clause-sums : goal.put_shard-requires-clause-sums
 put_shard-requires-clause-sums g c = λ _ _.
     let s = c.self.inside in
-    ap length c.self.invariant.sums_are ∙ length-map s.full.items (sum_of (g.B.Body.operations (g.B.Body.meaning s.tail.body)))
+    as_many (λ b. g.B.Body.operations (g.B.Body.meaning b)) s.full.items s.sums s.tail c.self.invariant
+
+pub put_shard-requires-clause-numbered : goal.put_shard-requires-clause-numbered
+put_shard-requires-clause-numbered g c = λ _ _. c.self.invariant.first
+
+pub put_shard-requires-clause-folds : goal.put_shard-requires-clause-folds
+put_shard-requires-clause-folds g c = λ _ _.
+    let s = c.self.inside in
+    let here = is_full_there (λ b. g.B.Body.operations (g.B.Body.meaning b)) s.full.items s.sums.sums s.tail c.self.invariant.chain c.args.number (rw (← c.self.view_is) at c.requires.inside) in
+    folds_put (λ b. g.B.Body.operations (g.B.Body.meaning b)) s.full.items s.sums s.tail c.self.invariant c.args.number c.args.shard.now here (rw (← c.self.view_is) at c.requires.body) c.requires.full c.requires.elements
 
 pub invariant_of-self : goal.invariant_of-self
 invariant_of-self g c =
     let s = c.self.inside in
-    let here = is_full_there (λ b. g.B.Body.operations (g.B.Body.meaning b)) s.full.items s.sums.items s.tail c.self.invariant c.args.number (rw (← c.self.view_is) at c.requires.inside) in
-    put_back_chain (λ b. g.B.Body.operations (g.B.Body.meaning b)) s.full.items s.sums.items s.tail c.self.invariant c.args.number c.args.shard.now c.put_shard.new.full.items c.put_shard.new.sums.items here c.put_shard.ensures.put (rw (← c.self.view_is) at c.requires.body) c.requires.full c.put_shard.ensures.elements
+    let here = is_full_there (λ b. g.B.Body.operations (g.B.Body.meaning b)) s.full.items s.sums.sums s.tail c.self.invariant.chain c.args.number (rw (← c.self.view_is) at c.requires.inside) in
+    summed (λ b. g.B.Body.operations (g.B.Body.meaning b)) s.full.items s.sums s.tail c.self.invariant c.put_shard.new.full.items c.put_shard.new.sums s.tail
+    (put_back_chain (λ b. g.B.Body.operations (g.B.Body.meaning b)) s.full.items s.sums.sums s.tail c.self.invariant.chain c.args.number c.args.shard.now c.put_shard.new.full.items c.put_shard.new.sums.sums here c.put_shard.ensures.put (rw (← c.self.view_is) at c.requires.body) c.requires.full c.requires.elements)
+    c.put_shard.ensures.body c.put_shard.ensures.first
+    refl
 
 pub returns : goal.returns
 returns g c =
     let s = c.self.inside in
-    let here = is_full_there (λ b. g.B.Body.operations (g.B.Body.meaning b)) s.full.items s.sums.items s.tail c.self.invariant c.args.number (rw (← c.self.view_is) at c.requires.inside) in
-    rw (← c.self.view_is) (put_back_held (λ b. g.B.Body.operations (g.B.Body.meaning b)) s.full.items s.sums.items s.tail c.self.invariant c.args.number c.args.shard.now c.put_shard.new.full.items c.put_shard.new.sums.items here c.put_shard.ensures.put (rw (← c.self.view_is) at c.requires.body) c.requires.full c.put_shard.ensures.elements)
+    let here = is_full_there (λ b. g.B.Body.operations (g.B.Body.meaning b)) s.full.items s.sums.sums s.tail c.self.invariant.chain c.args.number (rw (← c.self.view_is) at c.requires.inside) in
+    rw (← c.self.view_is) (put_back_held (λ b. g.B.Body.operations (g.B.Body.meaning b)) s.full.items s.sums.sums s.tail c.self.invariant.chain c.args.number c.args.shard.now c.put_shard.new.full.items c.put_shard.new.sums.sums here c.put_shard.ensures.put (rw (← c.self.view_is) at c.requires.body) c.requires.full c.requires.elements)

@@ -1,16 +1,16 @@
-use Rattle.std.proofs.Common.{◌≡◌, ◌≤◌, ◌+◌, ◌-◌, ◌*◌, length, drop, map, arith, ap, ◌∙◌}
-use Rattle.std.proofs.lemmas.List.{length-map}
-use Rattle.lv_series.specs.Chain.{all_in, sum_of}
+use Rattle.std.proofs.Common.{◌≡◌, ◌≤◌, ◌+◌, ◌-◌, ◌*◌, length, drop, refl, arith, ap, ◌∙◌}
+use Rattle.lv_series.specs.Chain.{all_in}
 use Rattle.lv_series.proofs.ChainCalls.{held_in}
 use Rattle.lv_series.proofs.ChainPuts.{shed_all, shed_chain}
 use Rattle.lv_series.proofs.ChainReads.{place_fits}
+use Rattle.lv_series.proofs.ChainTrees.{as_many, summed}
 use Rattle.lv_series.proofs.chains.Chain.shed.Goals as goal
 
 pub place_of-place-requires : goal.place_of-place-requires
 place_of-place-requires g c =
     let s = c.self.inside in
     let last : c.args.most ≤ length (all_in s.full.items s.tail) = rw (← c.self.view_is) at c.requires in
-    omega (arith, place_fits (λ b. g.B.Body.operations (g.B.Body.meaning b)) s.full.items s.sums.items s.tail c.self.invariant c.args.most last, c.len.ensures, s.full.ok.0)
+    omega (arith, place_fits (λ b. g.B.Body.operations (g.B.Body.meaning b)) s.full.items s.sums.sums s.tail c.self.invariant.chain c.args.most last, c.len.ensures, s.full.ok.0)
 
 pub drop_front-requires-clause-full : goal.drop_front-requires-clause-full
 drop_front-requires-clause-full g c = λ _ _.
@@ -20,7 +20,10 @@ drop_front-requires-clause-full g c = λ _ _.
 pub drop_front-requires-clause-sums : goal.drop_front-requires-clause-sums
 drop_front-requires-clause-sums g c = λ _ _.
     let s = c.self.inside in
-    ap length c.self.invariant.sums_are ∙ length-map s.full.items (sum_of (g.B.Body.operations (g.B.Body.meaning s.tail.body)))
+    as_many (λ b. g.B.Body.operations (g.B.Body.meaning b)) s.full.items s.sums s.tail c.self.invariant
+
+pub drop_front-requires-clause-numbered : goal.drop_front-requires-clause-numbered
+drop_front-requires-clause-numbered g c = λ _ _. c.self.invariant.first
 
 pub overflow_sub-result : goal.overflow_sub-result
 overflow_sub-result g c = omega (arith, c.place_of-place.ensures.place)
@@ -29,10 +32,16 @@ pub invariant_of-self : goal.invariant_of-self
 invariant_of-self g c =
     let s = c.self.inside in
     let few : c.place_of-place.result.shard ≤ length s.full.items = omega (arith, c.place_of-place.ensures.shard, c.len.ensures, s.full.ok.0) in
-    shed_chain (λ b. g.B.Body.operations (g.B.Body.meaning b)) s.full.items s.sums.items s.tail c.self.invariant c.place_of-place.result.shard c.drop_front.new.full.items c.drop_front.new.sums.items few c.drop_front.ensures.full c.drop_front.ensures.sums
+    summed (λ b. g.B.Body.operations (g.B.Body.meaning b)) s.full.items s.sums s.tail c.self.invariant c.drop_front.new.full.items c.drop_front.new.sums s.tail
+    (shed_chain (λ b. g.B.Body.operations (g.B.Body.meaning b)) s.full.items s.sums.sums s.tail c.self.invariant.chain c.place_of-place.result.shard c.drop_front.new.full.items c.drop_front.new.sums.sums few c.drop_front.ensures.full c.drop_front.ensures.sums)
+    c.drop_front.ensures.body c.drop_front.ensures.first
+    refl
 
 pub returns-clause-most : goal.returns-clause-most
 returns-clause-most g c = omega arith
+
+pub returns-clause-least : goal.returns-clause-least
+returns-clause-least g c = omega (arith, c.place_of-place.ensures.small)
 
 pub returns-clause-dropped : goal.returns-clause-dropped
 returns-clause-dropped g c =
@@ -41,4 +50,4 @@ returns-clause-dropped g c =
     let few : p.result.shard ≤ length s.full.items = omega (arith, p.ensures.shard, c.len.ensures, s.full.ok.0) in
     let many : 32760 * p.result.shard ≡ c.args.most - p.result.index = omega (arith, p.ensures.place) in
     rw (← c.self.view_is) (ap (λ ys. record (held_in s.full.items s.tail) { elements = ys })
-    (shed_all (λ b. g.B.Body.operations (g.B.Body.meaning b)) s.full.items s.sums.items s.tail c.self.invariant p.result.shard c.drop_front.new.full.items few c.drop_front.ensures.full ∙ ap (λ n. drop n (all_in s.full.items s.tail)) many))
+    (shed_all (λ b. g.B.Body.operations (g.B.Body.meaning b)) s.full.items s.sums.sums s.tail c.self.invariant.chain p.result.shard c.drop_front.new.full.items few c.drop_front.ensures.full ∙ ap (λ n. drop n (all_in s.full.items s.tail)) many))

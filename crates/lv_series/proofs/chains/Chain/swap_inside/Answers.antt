@@ -1,24 +1,26 @@
-use Rattle.std.proofs.Common.{◌≡◌, ◌<◌, ◌≤◌, ◌+◌, ◌*◌, ◌/◌, length, map, slice_index_or, arith, ap, ◌∙◌}
-use Rattle.std.proofs.lemmas.List.{length-map}
+use Rattle.std.proofs.Common.{◌≡◌, ◌<◌, ◌≤◌, ◌+◌, ◌*◌, ◌/◌, length, slice_index_or, refl, arith, ap, ◌∙◌}
+use Rattle.std.specs.List.{swap}
 use Rattle.std.proofs.lemmas.List.Elements.{All-get_or}
-use Rattle.lv_series.specs.Chain.{IsFull, all_in, sum_of}
+use Rattle.lv_series.specs.Chain.{IsFull, all_in}
 use Rattle.lv_series.proofs.ChainCalls.{tail_err}
 use Rattle.lv_series.proofs.ChainLaws.{length_all}
 use Rattle.lv_series.proofs.ChainReads.{place_fits}
 use Rattle.lv_series.proofs.ChainSwaps.{last_place, one_place, swap_chain, swap_err, swap_ok, swap_tail_chain, swap_tail_ok}
+use Rattle.lv_series.proofs.ChainTrees.{as_many, kept_body, summed}
+use Rattle.lv_series.proofs.TreePuts.{folds_swapped}
 use Rattle.lv_series.proofs.chains.Chain.swap_inside.Goals as goal
 
 pub place_of-place-requires : goal.place_of-place-requires
 place_of-place-requires g c =
     let s = c.self.inside in
     let inside : c.args.first < length (all_in s.full.items s.tail) = rw (← c.self.view_is) at c.requires.first in
-    omega (arith, place_fits (λ b. g.B.Body.operations (g.B.Body.meaning b)) s.full.items s.sums.items s.tail c.self.invariant c.args.first (omega arith), c.len.ensures, s.full.ok.0)
+    omega (arith, place_fits (λ b. g.B.Body.operations (g.B.Body.meaning b)) s.full.items s.sums.sums s.tail c.self.invariant.chain c.args.first (omega arith), c.len.ensures, s.full.ok.0)
 
 pub place_of-other-requires : goal.place_of-other-requires
 place_of-other-requires g c =
     let s = c.self.inside in
     let inside : c.args.second < length (all_in s.full.items s.tail) = rw (← c.self.view_is) at c.requires.second in
-    omega (arith, place_fits (λ b. g.B.Body.operations (g.B.Body.meaning b)) s.full.items s.sums.items s.tail c.self.invariant c.args.second (omega arith), c.len-2.ensures, s.full.ok.0)
+    omega (arith, place_fits (λ b. g.B.Body.operations (g.B.Body.meaning b)) s.full.items s.sums.sums s.tail c.self.invariant.chain c.args.second (omega arith), c.len-2.ensures, s.full.ok.0)
 
 pub swap_in-requires-clause-number : goal.swap_in-requires-clause-number
 swap_in-requires-clause-number g c = λ _ _.
@@ -28,14 +30,27 @@ swap_in-requires-clause-number g c = λ _ _.
 pub swap_in-requires-clause-sums : goal.swap_in-requires-clause-sums
 swap_in-requires-clause-sums g c = λ _ _.
     let s = c.self.inside in
-    ap length c.self.invariant.sums_are ∙ length-map s.full.items (sum_of (g.B.Body.operations (g.B.Body.meaning s.tail.body)))
+    as_many (λ b. g.B.Body.operations (g.B.Body.meaning b)) s.full.items s.sums s.tail c.self.invariant
+
+pub swap_in-requires-clause-numbered : goal.swap_in-requires-clause-numbered
+swap_in-requires-clause-numbered g c = λ _ _. c.self.invariant.first
+
+pub swap_in-requires-clause-folds : goal.swap_in-requires-clause-folds
+swap_in-requires-clause-folds g c = λ _ _ d.
+    let s = c.self.inside in
+    let p = c.place_of-place in
+    let q = c.place_of-other in
+    let here : p.result.shard < length s.full.items = omega (arith, c.if-place-len.true, c.len-3.ensures, s.full.ok.0) in
+    let small : p.result.index < 32760 = p.ensures.inside (omega (arith, here, c.len.ensures, s.full.ok.0)) in
+    let same = one_place p.result.shard p.result.index q.result.shard q.result.index (length s.full.items) c.args.first c.args.second p.ensures.place q.ensures.place here (omega (arith, q.ensures.shard, c.len-2.ensures, s.full.ok.0)) small (λ less. q.ensures.inside (omega (arith, less, c.len-2.ensures, s.full.ok.0))) c.requires.one in
+    folds_swapped (λ b. g.B.Body.operations (g.B.Body.meaning b)) s.full.items s.sums s.tail c.self.invariant p.result.shard p.result.index q.result.index c.args.first c.args.second here small same.1 p.ensures.place (omega (arith, q.ensures.place, same.0)) d
 
 pub swap_in-requires-clause-first : goal.swap_in-requires-clause-first
 swap_in-requires-clause-first g c = λ _ _ d.
     let s = c.self.inside in
     let p = c.place_of-place in
     let here : p.result.shard < length s.full.items = omega (arith, c.if-place-len.true, c.len-3.ensures, s.full.ok.0) in
-    omega (arith, (All-get_or (IsFull s.tail.body) s.full.items p.result.shard d here c.self.invariant.each).1, p.ensures.inside (omega (arith, here, c.len.ensures, s.full.ok.0)))
+    omega (arith, (All-get_or (IsFull s.tail.body) s.full.items p.result.shard d here c.self.invariant.chain.each).1, p.ensures.inside (omega (arith, here, c.len.ensures, s.full.ok.0)))
 
 pub swap_in-requires-clause-second : goal.swap_in-requires-clause-second
 swap_in-requires-clause-second g c = λ _ _ d.
@@ -45,7 +60,7 @@ swap_in-requires-clause-second g c = λ _ _ d.
     let here : p.result.shard < length s.full.items = omega (arith, c.if-place-len.true, c.len-3.ensures, s.full.ok.0) in
     let small : p.result.index < 32760 = p.ensures.inside (omega (arith, here, c.len.ensures, s.full.ok.0)) in
     let same = one_place p.result.shard p.result.index q.result.shard q.result.index (length s.full.items) c.args.first c.args.second p.ensures.place q.ensures.place here (omega (arith, q.ensures.shard, c.len-2.ensures, s.full.ok.0)) small (λ less. q.ensures.inside (omega (arith, less, c.len-2.ensures, s.full.ok.0))) c.requires.one in
-    omega (arith, (All-get_or (IsFull s.tail.body) s.full.items p.result.shard d here c.self.invariant.each).1, same.1)
+    omega (arith, (All-get_or (IsFull s.tail.body) s.full.items p.result.shard d here c.self.invariant.chain.each).1, same.1)
 
 pub invariant_of-self : goal.invariant_of-self
 invariant_of-self g c =
@@ -56,7 +71,10 @@ invariant_of-self g c =
     let small : p.result.index < 32760 = p.ensures.inside (omega (arith, here, c.len.ensures, s.full.ok.0)) in
     let same = one_place p.result.shard p.result.index q.result.shard q.result.index (length s.full.items) c.args.first c.args.second p.ensures.place q.ensures.place here (omega (arith, q.ensures.shard, c.len-2.ensures, s.full.ok.0)) small (λ less. q.ensures.inside (omega (arith, less, c.len-2.ensures, s.full.ok.0))) c.requires.one in
     let w = c.swap_in in
-    swap_chain (λ b. g.B.Body.operations (g.B.Body.meaning b)) s.full.items s.sums.items s.tail c.self.invariant w.result p.result.shard p.result.index q.result.index c.args.first c.args.second w.new.full.items w.new.sums.items w.ensures.ok w.ensures.full w.ensures.same here small same.1 p.ensures.place (omega (arith, q.ensures.place, same.0))
+    summed (λ b. g.B.Body.operations (g.B.Body.meaning b)) s.full.items s.sums s.tail c.self.invariant w.new.full.items w.new.sums s.tail
+    (swap_chain (λ b. g.B.Body.operations (g.B.Body.meaning b)) s.full.items s.sums.sums s.tail c.self.invariant.chain w.result p.result.shard p.result.index q.result.index c.args.first c.args.second w.new.full.items w.new.sums.sums w.ensures.ok w.ensures.full w.ensures.same here small same.1 p.ensures.place (omega (arith, q.ensures.place, same.0)))
+    w.ensures.body w.ensures.first
+    refl
 
 pub returns-then-place-len-clause-ok : goal.returns-then-place-len-clause-ok
 returns-then-place-len-clause-ok g c =
@@ -67,7 +85,7 @@ returns-then-place-len-clause-ok g c =
     let small : p.result.index < 32760 = p.ensures.inside (omega (arith, here, c.len.ensures, s.full.ok.0)) in
     let same = one_place p.result.shard p.result.index q.result.shard q.result.index (length s.full.items) c.args.first c.args.second p.ensures.place q.ensures.place here (omega (arith, q.ensures.shard, c.len-2.ensures, s.full.ok.0)) small (λ less. q.ensures.inside (omega (arith, less, c.len-2.ensures, s.full.ok.0))) c.requires.one in
     let w = c.swap_in in
-    rw (← c.self.view_is) (swap_ok (λ b. g.B.Body.operations (g.B.Body.meaning b)) s.full.items s.sums.items s.tail c.self.invariant w.result p.result.shard p.result.index q.result.index c.args.first c.args.second w.new.full.items w.new.sums.items w.ensures.ok w.ensures.full w.ensures.same here small same.1 p.ensures.place (omega (arith, q.ensures.place, same.0)))
+    rw (← c.self.view_is) (swap_ok (λ b. g.B.Body.operations (g.B.Body.meaning b)) s.full.items s.sums.sums s.tail c.self.invariant.chain w.result p.result.shard p.result.index q.result.index c.args.first c.args.second w.new.full.items w.new.sums.sums w.ensures.ok w.ensures.full w.ensures.same here small same.1 p.ensures.place (omega (arith, q.ensures.place, same.0)))
 
 pub returns-then-place-len-clause-err : goal.returns-then-place-len-clause-err
 returns-then-place-len-clause-err g c =
@@ -78,14 +96,14 @@ returns-then-place-len-clause-err g c =
     let small : p.result.index < 32760 = p.ensures.inside (omega (arith, here, c.len.ensures, s.full.ok.0)) in
     let same = one_place p.result.shard p.result.index q.result.shard q.result.index (length s.full.items) c.args.first c.args.second p.ensures.place q.ensures.place here (omega (arith, q.ensures.shard, c.len-2.ensures, s.full.ok.0)) small (λ less. q.ensures.inside (omega (arith, less, c.len-2.ensures, s.full.ok.0))) c.requires.one in
     let w = c.swap_in in
-    rw (← c.self.view_is) (swap_err (λ b. g.B.Body.operations (g.B.Body.meaning b)) s.full.items s.sums.items s.tail c.self.invariant w.result p.result.shard p.result.index q.result.index c.args.first c.args.second w.new.full.items w.new.sums.items w.ensures.ok w.ensures.full w.ensures.same here small same.1 p.ensures.place (omega (arith, q.ensures.place, same.0)))
+    rw (← c.self.view_is) (swap_err (λ b. g.B.Body.operations (g.B.Body.meaning b)) s.full.items s.sums.sums s.tail c.self.invariant.chain w.result p.result.shard p.result.index q.result.index c.args.first c.args.second w.new.full.items w.new.sums.sums w.ensures.ok w.ensures.full w.ensures.same here small same.1 p.ensures.place (omega (arith, q.ensures.place, same.0)))
 
 pub swap-requires-clause-first : goal.swap-requires-clause-first
 swap-requires-clause-first g c = λ _ _.
     let s = c.self.inside in
     let p = c.place_of-place in
     let inside : c.args.first < length (all_in s.full.items s.tail) = rw (← c.self.view_is) at c.requires.first in
-    omega (arith, inside, length_all s.tail.body s.full.items s.tail c.self.invariant.each, c.if-place-len.false, p.ensures.place, p.ensures.shard, c.len.ensures, c.len-3.ensures, s.full.ok.0)
+    omega (arith, inside, length_all s.tail.body s.full.items s.tail c.self.invariant.chain.each, c.if-place-len.false, p.ensures.place, p.ensures.shard, c.len.ensures, c.len-3.ensures, s.full.ok.0)
 
 pub swap-requires-clause-second : goal.swap-requires-clause-second
 swap-requires-clause-second g c = λ _ _.
@@ -97,7 +115,7 @@ swap-requires-clause-second g c = λ _ _.
     let place : 32760 * length s.full.items + p.result.index ≡ c.args.first = omega (arith, c.if-place-len.false, p.ensures.place, p.ensures.shard, c.len.ensures, c.len-3.ensures, s.full.ok.0) in
     let there : q.result.shard ≡ length s.full.items = last_place p.result.index q.result.shard q.result.index (length s.full.items) c.args.first c.args.second place q.ensures.place (omega (arith, q.ensures.shard, c.len-2.ensures, s.full.ok.0)) (λ less. q.ensures.inside (omega (arith, less, c.len-2.ensures, s.full.ok.0))) c.requires.one in
     let other : 32760 * length s.full.items + q.result.index ≡ c.args.second = omega (arith, q.ensures.place, there) in
-    let long = length_all s.tail.body s.full.items s.tail c.self.invariant.each in
+    let long = length_all s.tail.body s.full.items s.tail c.self.invariant.chain.each in
     omega (arith, other, inside_too, long)
 
 pub invariant_of-self-2 : goal.invariant_of-self-2
@@ -111,8 +129,11 @@ invariant_of-self-2 g c =
     let place : 32760 * length s.full.items + p.result.index ≡ c.args.first = omega (arith, c.if-place-len.false, p.ensures.place, p.ensures.shard, c.len.ensures, c.len-3.ensures, s.full.ok.0) in
     let there : q.result.shard ≡ length s.full.items = last_place p.result.index q.result.shard q.result.index (length s.full.items) c.args.first c.args.second place q.ensures.place (omega (arith, q.ensures.shard, c.len-2.ensures, s.full.ok.0)) (λ less. q.ensures.inside (omega (arith, less, c.len-2.ensures, s.full.ok.0))) c.requires.one in
     let other : 32760 * length s.full.items + q.result.index ≡ c.args.second = omega (arith, q.ensures.place, there) in
-    let long = length_all s.tail.body s.full.items s.tail c.self.invariant.each in
-    swap_tail_chain (λ b. g.B.Body.operations (g.B.Body.meaning b)) s.full.items s.sums.items s.tail c.self.invariant w.result w.new.self p.result.index q.result.index c.args.first c.args.second w.ensures.ok w.ensures.err (omega (arith, place, inside, long)) (omega (arith, other, inside_too, long)) place other
+    let long = length_all s.tail.body s.full.items s.tail c.self.invariant.chain.each in
+    summed (λ b. g.B.Body.operations (g.B.Body.meaning b)) s.full.items s.sums s.tail c.self.invariant s.full.items s.sums w.new.self
+    (swap_tail_chain (λ b. g.B.Body.operations (g.B.Body.meaning b)) s.full.items s.sums.sums s.tail c.self.invariant.chain w.result w.new.self p.result.index q.result.index c.args.first c.args.second w.ensures.ok w.ensures.err (omega (arith, place, inside, long)) (omega (arith, other, inside_too, long)) place other)
+    refl refl
+    (kept_body w.result s.tail w.new.self (swap s.tail.elements p.result.index q.result.index) w.ensures.ok w.ensures.err)
 
 pub returns-clause-ok : goal.returns-clause-ok
 returns-clause-ok g c =
@@ -125,10 +146,10 @@ returns-clause-ok g c =
     let place : 32760 * length s.full.items + p.result.index ≡ c.args.first = omega (arith, c.if-place-len.false, p.ensures.place, p.ensures.shard, c.len.ensures, c.len-3.ensures, s.full.ok.0) in
     let there : q.result.shard ≡ length s.full.items = last_place p.result.index q.result.shard q.result.index (length s.full.items) c.args.first c.args.second place q.ensures.place (omega (arith, q.ensures.shard, c.len-2.ensures, s.full.ok.0)) (λ less. q.ensures.inside (omega (arith, less, c.len-2.ensures, s.full.ok.0))) c.requires.one in
     let other : 32760 * length s.full.items + q.result.index ≡ c.args.second = omega (arith, q.ensures.place, there) in
-    let long = length_all s.tail.body s.full.items s.tail c.self.invariant.each in
-    rw (← c.self.view_is) (swap_tail_ok (λ b. g.B.Body.operations (g.B.Body.meaning b)) s.full.items s.sums.items s.tail c.self.invariant w.result w.new.self p.result.index q.result.index c.args.first c.args.second w.ensures.ok w.ensures.err (omega (arith, place, inside, long)) (omega (arith, other, inside_too, long)) place other)
+    let long = length_all s.tail.body s.full.items s.tail c.self.invariant.chain.each in
+    rw (← c.self.view_is) (swap_tail_ok (λ b. g.B.Body.operations (g.B.Body.meaning b)) s.full.items s.sums.sums s.tail c.self.invariant.chain w.result w.new.self p.result.index q.result.index c.args.first c.args.second w.ensures.ok w.ensures.err (omega (arith, place, inside, long)) (omega (arith, other, inside_too, long)) place other)
 
 pub returns-clause-err : goal.returns-clause-err
 returns-clause-err g c =
     let s = c.self.inside in
-    rw (← c.self.view_is) (tail_err (λ b. g.B.Body.operations (g.B.Body.meaning b)) s.full.items s.sums.items s.tail c.self.invariant c.swap.result c.swap.new.self c.swap.ensures.err)
+    rw (← c.self.view_is) (tail_err (λ b. g.B.Body.operations (g.B.Body.meaning b)) s.full.items s.sums.sums s.tail c.self.invariant.chain c.swap.result c.swap.new.self c.swap.ensures.err)

@@ -1,4 +1,4 @@
-use Rattle.std.proofs.Common.{◌≡◌, ◌<◌, ◌≤◌, ◌+◌, ◌-◌, None, length, refl, ap, arith, ◌∙◌}
+use Rattle.std.proofs.Common.{◌≡◌, ◌<◌, ◌≤◌, ◌+◌, ◌-◌, ◌/◌, None, length, refl, subst, ap, arith, ◌∙◌}
 use Rattle.lv_bodies.specs.Body.{fold_of}
 use Rattle.lv_series.specs.Series.{range_refused}
 use Rattle.lv_series.proofs.FreeLaws.{free_range}
@@ -17,25 +17,33 @@ overflow_sub-hi g c =
     let free : range_refused (held_of s.gone s.skip s.chain.elements) c.args.lo c.args.hi ≡ None = rw (← c.self.view_is) at c.requires in
     omega (arith, (free_range (held_of s.gone s.skip s.chain.elements) c.args.lo c.args.hi free).1, (free_range (held_of s.gone s.skip s.chain.elements) c.args.lo c.args.hi free).0)
 
-pub fold-requires-clause-order : goal.fold-requires-clause-order
-fold-requires-clause-order g c = λ _ _.
+pub fold-folded-requires-clause-order : goal.fold-folded-requires-clause-order
+fold-folded-requires-clause-order g c = λ _ _.
     let s = c.self.inside in
     let free : range_refused (held_of s.gone s.skip s.chain.elements) c.args.lo c.args.hi ≡ None = rw (← c.self.view_is) at c.requires in
     omega (arith, (free_range (held_of s.gone s.skip s.chain.elements) c.args.lo c.args.hi free).0)
 
-pub fold-requires-clause-inside : goal.fold-requires-clause-inside
-fold-requires-clause-inside g c = λ _ _.
+pub fold-folded-requires-clause-inside : goal.fold-folded-requires-clause-inside
+fold-folded-requires-clause-inside g c = λ _ _.
     let s = c.self.inside in
     let free : range_refused (held_of s.gone s.skip s.chain.elements) c.args.lo c.args.hi ≡ None = rw (← c.self.view_is) at c.requires in
     omega (arith, (free_range (held_of s.gone s.skip s.chain.elements) c.args.lo c.args.hi free).2, size_held s.gone s.skip s.chain.elements c.self.invariant.0)
 
-pub returns : goal.returns
-returns g c =
+pub returns-clause-answer : goal.returns-clause-answer
+returns-clause-answer g c =
     let s = c.self.inside in
     let free : range_refused (held_of s.gone s.skip s.chain.elements) c.args.lo c.args.hi ≡ None = rw (← c.self.view_is) at c.requires in
     let kept = free_range (held_of s.gone s.skip s.chain.elements) c.args.lo c.args.hi free in
     rw (← c.self.view_is) record {
       granted = free;
       edit = refl;
-      value = c.fold.ensures ∙ ap (fold_of (g.B.Body.operations (g.B.Body.meaning s.chain.body))) (range_held s.gone s.skip s.chain.elements c.self.invariant.0 c.args.lo c.args.hi kept.1 kept.0);
+      value = c.fold-folded.ensures.fold ∙ ap (fold_of (g.B.Body.operations (g.B.Body.meaning s.chain.body))) (range_held s.gone s.skip s.chain.elements c.self.invariant.0 c.args.lo c.args.hi kept.1 kept.0);
     }
+
+pub returns-clause-joins : goal.returns-clause-joins
+returns-clause-joins g c =
+    let s = c.self.inside in
+    let free : range_refused (held_of s.gone s.skip s.chain.elements) c.args.lo c.args.hi ≡ None = rw (← c.self.view_is) at c.requires in
+    let kept = free_range (held_of s.gone s.skip s.chain.elements) c.args.lo c.args.hi free in
+    let same : c.args.hi - s.gone - (c.args.lo - s.gone) ≡ c.args.hi - c.args.lo = omega (arith, kept.0, kept.1) in
+    subst (λ n. c.fold-folded.result.joins ≤ 126 + n / 33546240) same c.fold-folded.ensures.joins
