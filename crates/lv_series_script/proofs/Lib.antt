@@ -1,0 +1,10 @@
+mod Finding
+mod KnownLaws
+mod LongShown
+mod Longs
+mod Notes
+mod Scanning
+mod Simulation
+mod Sizes
+mod Telling
+mod WholeText

@@ -1,0 +1,15 @@
+use Rattle.std.proofs.Common.{◌≡◌, [], ap₂, rules}
+use Rattle.lv_series_script.specs.Inside.{known_of}
+use Rattle.lv_series_script.proofs.Simulation.{conversed_plain}
+use Rattle.lv_series_script.proofs.WholeText.{written_plain}
+use Rattle.lv_series_script.proofs.series_scripts.run_series_script.Goals as goal
+
+pub returns-clause-plain : goal.returns-clause-plain
+returns-clause-plain g c =
+    let none : c.new-2.result.items ≡ [] = search rules in
+    conversed_plain _ _ _ _ _ _ _ (ap₂ known_of c.new.ensures none) c.converse-ended.ensures
+
+pub returns-clause-text : goal.returns-clause-text
+returns-clause-text g c =
+    let plain = returns-clause-plain g c in
+    written_plain plain.0 _ _ _ _ _ plain.1

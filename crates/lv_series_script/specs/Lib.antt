@@ -1,0 +1,6 @@
+pub mod Inside
+pub mod LongGrammar
+pub mod LongQueries
+pub mod LongTexts
+pub mod PlainSeriesScript
+pub mod SeriesRuns

@@ -1,0 +1,30 @@
+-- The texts of replies that only a series' script has.
+use Rattle.std.specs.Prelude.{ℕ, ℤ, Result, Ok, Err, List, ◌++◌, codes, decimal}
+use Rattle.std.specs.Fmt.{signed_decimal}
+use Rattle.lv_series.specs.declared.receipts.LongReceipt.{LongReceipt}
+use Rattle.lv_series.specs.declared.receipts.LongReceipt.TheVariants.{Pushed, Popped, Written, Expired, Swapped, Truncated}
+use Rattle.lv_series.specs.declared.refusals.LongRefusal.{LongRefusal}
+use Rattle.lv_series.specs.Numbers.{number_of}
+use Rattle.lv_lines.specs.Texts.{reply_line, value_text}
+
+-- a refusal, by its number
+abbrev pub refused_by : ℕ → List ℕ
+refused_by number = reply_line (codes "refused " ++ decimal number)
+
+-- what an accepted edit is answered, by its receipt and the first index that is kept after it
+abbrev pub long_receipt_text : LongReceipt → ℕ → List ℕ
+long_receipt_text (Pushed edit index) first = reply_line (codes "edit " ++ decimal edit ++ codes " at " ++ decimal index)
+long_receipt_text (Popped edit value) first = reply_line (codes "edit " ++ decimal edit ++ codes " value " ++ signed_decimal value)
+long_receipt_text (Written edit before) first = reply_line (codes "edit " ++ decimal edit ++ codes " was " ++ signed_decimal before)
+long_receipt_text (Expired edit dropped) first = reply_line (codes "edit " ++ decimal edit ++ codes " first " ++ decimal first)
+long_receipt_text (Swapped edit a b) first = reply_line (codes "edit " ++ decimal edit ++ codes " now " ++ signed_decimal a ++ codes " " ++ signed_decimal b)
+long_receipt_text (Truncated edit dropped) first = reply_line (codes "edit " ++ decimal edit ++ codes " dropped " ++ decimal dropped)
+
+-- an element, or why there is none
+abbrev pub long_element_text : Result ℤ LongRefusal → List ℕ
+long_element_text (Ok x) = value_text x
+long_element_text (Err refusal) = refused_by (number_of refusal)
+
+-- the first index that is kept, and the number of the last edit
+abbrev pub first_text : ℕ → ℕ → List ℕ
+first_text first edit = reply_line (codes "first " ++ decimal first ++ codes " edit " ++ decimal edit)

@@ -1,0 +1,61 @@
+//! What lines of a series' script ask for.
+
+use lv_bodies::Kind;
+use lv_series::LongEdit;
+use lv_standing::Name;
+
+/// The elements that a standing query is asked of, as many of them as are kept.
+#[derive(Clone, Copy)]
+pub enum Span {
+    /// Those under the indices from `lo` up to `hi`.
+    Between { lo: u64, hi: u64 },
+    /// The last so many.
+    Last(u64),
+}
+
+/// What a line of a series' script asks for. Its numbers are at most 2^62.
+#[derive(Clone, Copy)]
+pub enum LongCommand {
+    /// Change the series.
+    Edit(LongEdit),
+    /// Show the first index that is kept.
+    First,
+    /// Show the index behind the last element.
+    Size,
+    /// Show the element under an index.
+    Get(u64),
+    /// Reduce the elements from `lo` on, below `hi`.
+    Reduce {
+        kind: Kind,
+        lo: u64,
+        hi: u64,
+    },
+    /// The reductions of each front of the range: up to each element, and with it where the scan is inclusive.
+    Scan {
+        inclusive: bool,
+        kind: Kind,
+        lo: u64,
+        hi: u64,
+    },
+    /// Keep the answer of a reduction under a name.
+    Watch {
+        name: Name,
+        kind: Kind,
+        span: Span,
+    },
+    /// Forget the name.
+    Unwatch(Name),
+    /// Show the answer that goes by the name.
+    Answer(Name),
+}
+
+/// What a line of a series' script is.
+#[derive(Clone, Copy)]
+pub enum LongLine {
+    /// Blank, or a comment. It has no reply.
+    Nothing,
+    /// No line of the grammar, or too long.
+    Bad,
+    /// A command.
+    Do(LongCommand),
+}

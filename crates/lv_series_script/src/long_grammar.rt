@@ -1,0 +1,196 @@
+//! The grammar of a series' script: what the words of a line say.
+ghost use Rattle.std.specs.Prelude.{◌≡◌, ◌∷◌, ◌++◌, option_copied};
+ghost use Rattle.lv_lines.specs.Grammar.{lone_element, lone_name};
+ghost use Rattle.lv_lines.specs.Words.{only_word, words_of};
+ghost use Rattle.lv_series_script.specs.LongGrammar.{alone, element_forms, lone_long, long_bounds_in, long_command_in, long_line_of, long_range_in, other_forms, read_by, span_in, watch_in, with_range, write_in};
+
+use crate::long_commands::{LongCommand, LongLine, Span};
+use crate::long_numbers::{element, long_number};
+use lv_bodies::Kind;
+use lv_lines::grammar::{kind, spells};
+use lv_lines::{is_comment, next_word, without_cr};
+use lv_series::LongEdit;
+use lv_standing::Name;
+
+// The one word, where there is one and no other.
+fn lone_word(words: &[u8]) -> Option<&[u8]>
+    ensures { option_copied result ≡ only_word (words_of words.now) }
+{
+    let (word, rest) = next_word(words)?;
+    if next_word(rest).is_some() {
+        return None;
+    }
+    Some(word)
+}
+
+fn lone_long(words: &[u8]) -> Option<u64>
+    ensures { result ≡ lone_long (words_of words.now) }
+{
+    long_number(lone_word(words)?)
+}
+
+fn lone_element(words: &[u8]) -> Option<i64>
+    ensures { result ≡ lone_element (words_of words.now) }
+{
+    element(lone_word(words)?)
+}
+
+fn lone_name(words: &[u8]) -> Option<Name>
+    ensures { result ≡ lone_name (words_of words.now) }
+{
+    Name::new(lone_word(words)?)
+}
+
+#[tactic(auto, unfolding(crate::specs::LongGrammar::long_bounds_in))]
+fn bounds(words: &[u8]) -> Option<(u64, u64)>
+    ensures { result ≡ long_bounds_in (words_of words.now) }
+{
+    let (word, rest) = next_word(words)?;
+    let lo = long_number(word)?;
+    let hi = lone_long(rest)?;
+    Some((lo, hi))
+}
+
+#[tactic(auto, unfolding(crate::specs::LongGrammar::long_range_in))]
+fn range(words: &[u8]) -> Option<(Kind, u64, u64)>
+    ensures { result ≡ long_range_in (words_of words.now) }
+{
+    let (word, rest) = next_word(words)?;
+    let kind = kind(word)?;
+    let (lo, hi) = bounds(rest)?;
+    Some((kind, lo, hi))
+}
+
+#[tactic(auto, unfolding(crate::specs::LongGrammar::span_in))]
+fn span(words: &[u8]) -> Option<Span>
+    ensures { result ≡ span_in (words_of words.now) }
+{
+    let (word, rest) = next_word(words)?;
+    if spells(word, "last") {
+        return lone_long(rest).map(Span::Last);
+    }
+    bounds(words).map(|(lo, hi)| Span::Between { lo, hi })
+}
+
+fn alone(command: LongCommand, words: &[u8]) -> Option<LongCommand>
+    ensures { result ≡ alone command (words_of words.now) }
+{
+    if next_word(words).is_some() {
+        return None;
+    }
+    Some(command)
+}
+
+#[tactic(auto, unfolding(crate::specs::LongGrammar::write_in))]
+fn write(words: &[u8]) -> Option<LongCommand>
+    ensures { result ≡ write_in (words_of words.now) }
+{
+    let (word, rest) = next_word(words)?;
+    let index = long_number(word)?;
+    let value = lone_element(rest)?;
+    Some(LongCommand::Edit(LongEdit::Write { index, value }))
+}
+
+#[tactic(auto, unfolding(crate::specs::LongGrammar::watch_in))]
+fn watch(words: &[u8]) -> Option<LongCommand>
+    ensures { result ≡ watch_in (words_of words.now) }
+{
+    let (word, rest) = next_word(words)?;
+    let (second, rest) = next_word(rest)?;
+    let name = Name::new(word)?;
+    let kind = kind(second)?;
+    let span = span(rest)?;
+    Some(LongCommand::Watch { name, kind, span })
+}
+
+fn scan(inclusive: bool, words: &[u8]) -> Option<LongCommand>
+    ensures { result ≡ with_range (LongCommand.Scan inclusive) (words_of words.now) }
+{
+    range(words).map(|(kind, lo, hi)| LongCommand::Scan {
+        inclusive,
+        kind,
+        lo,
+        hi,
+    })
+}
+
+fn other_command(verb: &[u8], words: &[u8]) -> Option<LongCommand>
+    ensures { result ≡ read_by other_forms verb.now (words_of words.now) }
+{
+    if spells(verb, "reduce") {
+        return range(words).map(|(kind, lo, hi)| LongCommand::Reduce { kind, lo, hi });
+    }
+    if spells(verb, "inc") {
+        return scan(true, words);
+    }
+    if spells(verb, "exc") {
+        return scan(false, words);
+    }
+    if spells(verb, "watch") {
+        return watch(words);
+    }
+    if spells(verb, "unwatch") {
+        return lone_name(words).map(LongCommand::Unwatch);
+    }
+    if spells(verb, "answer") {
+        return lone_name(words).map(LongCommand::Answer);
+    }
+    None
+}
+
+#[tactic(auto, unfolding(crate::specs::LongGrammar::long_command_in))]
+fn long_command(verb: &[u8], words: &[u8]) -> Option<LongCommand>
+    ensures { result ≡ long_command_in (verb.now ∷ words_of words.now) }
+{
+    if spells(verb, "push") {
+        return lone_element(words).map(|value| LongCommand::Edit(LongEdit::Push(value)));
+    }
+    if spells(verb, "pop") {
+        return alone(LongCommand::Edit(LongEdit::Pop), words);
+    }
+    if spells(verb, "write") {
+        return write(words);
+    }
+    if spells(verb, "swap") {
+        return bounds(words).map(|(first, second)| LongCommand::Edit(LongEdit::Swap {
+            first,
+            second,
+        }));
+    }
+    if spells(verb, "truncate") {
+        return lone_long(words).map(|size| LongCommand::Edit(LongEdit::Truncate(size)));
+    }
+    if spells(verb, "expire") {
+        return lone_long(words).map(|first| LongCommand::Edit(LongEdit::Expire(first)));
+    }
+    if spells(verb, "get") {
+        return lone_long(words).map(LongCommand::Get);
+    }
+    if spells(verb, "size") {
+        return alone(LongCommand::Size, words);
+    }
+    if spells(verb, "first") {
+        return alone(LongCommand::First, words);
+    }
+    other_command(verb, words)
+}
+
+/// What a line of a series' script says. The bytes are those of one line, without the LF at its end.
+#[tactic(auto, unfolding(crate::specs::LongGrammar::long_line_of))]
+pub fn read_long_line(bytes: &[u8]) -> LongLine
+    ensures { result ≡ long_line_of bytes.now }
+{
+    if bytes.len() > 120 {
+        return LongLine::Bad;
+    }
+    let Some((verb, rest)) = next_word(without_cr(bytes)) else {
+        return LongLine::Nothing;
+    };
+    if is_comment(verb) {
+        return LongLine::Nothing;
+    }
+    match long_command(verb, rest) {
+        Some(command) => LongLine::Do(command),
+        None => LongLine::Bad,
+    }
+}

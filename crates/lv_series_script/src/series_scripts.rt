@@ -1,0 +1,114 @@
+//! The loop of a series' script.
+ghost use Rattle.std.specs.Prelude.{◌≡◌, List, ℕ, IfErr, OnOk};
+ghost use Rattle.std.specs.Io.KnownBytes.{Appends, Consumes, IsAtEnd};
+ghost use Rattle.lv_lines.specs.Output.{HasRoom, Puts, PutsFront, SamePlaces};
+ghost use Rattle.lv_lines.specs.Replies.{Conversed};
+ghost use Rattle.lv_script.specs.PlainRuns.{NeverWants};
+ghost use Rattle.lv_series_script.specs.Inside.{IsReady, KnownStep, Tells, known_of};
+ghost use Rattle.lv_series_script.specs.PlainSeriesScript.{Known, Plain, start};
+ghost use Rattle.lv_series_script.specs.SeriesRuns.{IsPlainText, PlainStep};
+
+use crate::answers::{ROOM, answer};
+use crate::long_commands::LongLine;
+use crate::long_grammar::read_long_line;
+use crate::watched::Watched;
+use lv_bodies::Six;
+use lv_lines::{Fault, Outbox, Responder, converse, put_bad};
+use lv_series::Series;
+use std::alloc::Global;
+use std::io::{Read, Write};
+use std::marker::Model;
+
+/// Answers a script on a new series: reads its lines, and writes the reply to each, until the reader ends.
+///
+/// Ends with `NoMemory` where there was no memory to begin with: nothing is read or written then; with `ReadFault` where a
+/// read fails, and with `TooLong` where the input has more than 2^30 bytes: the replies to all whole lines that were read
+/// are written; with `WriteFault` where a write fails or takes no byte: what went out is a front of the replies.
+pub fn run_series_script<R: Read, W: Write>(
+    alloc: Global,
+    reader: &mut R,
+    writer: &mut W,
+) -> Result<(), Fault>
+    // Line by line the replies are those of the plain interpreter, which knows edits and standing queries alone.
+    ensures plain { (last : Plain) × Conversed PlainStep start last
+        (R.remaining reader.old) (R.remaining reader.new) (W.contents writer.old) (W.contents writer.new) result }
+    // At the end of the input all that was written is the plain interpreter's text, unless a line of it tells that memory was wanting.
+    ensures text { OnOk result ((input : List ℕ) × (text : List ℕ) × Consumes (R.remaining reader.old) (R.remaining reader.new) input × IsAtEnd (R.remaining reader.new)
+        × Appends (W.contents writer.old) (W.contents writer.new) text × (NeverWants text → IsPlainText input text)) }
+{
+    let mut script = SeriesScript {
+        series: Series::new(alloc, Six),
+        entries: Vec::new(alloc),
+    };
+    let ended = converse(alloc, &mut script, reader, writer);
+    drop(script);
+    ended
+}
+
+// What answers the lines of a script: a series, and the queries that stand.
+#[derive(Drop)]
+struct SeriesScript {
+    series: Series<Six>,
+    entries: Vec<Watched>,
+}
+
+impl Model for SeriesScript {
+    ghost use Rattle.lv_series_script.specs.Inside.{IsReady, known_of};
+    ghost use Rattle.lv_series_script.specs.PlainSeriesScript.{Known};
+
+    ghost Value = { Known };
+
+    ghost view = { λ a. known_of a.series a.entries.items };
+
+    ghost invariant = { λ a. IsReady a.series.held a.entries.items };
+}
+
+impl Responder for SeriesScript {
+    ghost State = { Known };
+
+    ghost state = { λ s. s };
+
+    ghost step = { KnownStep };
+
+    fn respond<W: Write>(
+        &mut self,
+        number: u32,
+        line: &[u8],
+        outbox: &mut Outbox<'_, W>,
+    ) -> Result<(), Fault> {
+        outbox.make_room(ROOM)?;
+        answer_line(
+            &mut self.series,
+            &mut self.entries,
+            number,
+            read_long_line(line),
+            outbox,
+        )
+    }
+}
+
+// Answers a line.
+fn answer_line<W: Write>(
+    series: &mut Series<Six>,
+    entries: &mut Vec<Watched>,
+    number: u32,
+    line: LongLine,
+    outbox: &mut Outbox<'_, W>,
+) -> Result<(), Fault>
+    requires ready { IsReady series.old.held entries.old.items }
+    requires room { HasRoom outbox.old.held.now ROOM }
+    ensures places { SamePlaces outbox.old outbox.new }
+    ensures ok { OnOk result ((reply : List ℕ) × Tells (known_of series.old entries.old.items) number line reply (known_of series.new entries.new.items)
+        × Puts W.contents outbox.old outbox.new reply) }
+    ensures fault { IfErr result (λ fault. (fault ≡ Fault.WriteFault) × (reply : List ℕ)
+        × Tells (known_of series.old entries.old.items) number line reply (known_of series.new entries.new.items)
+        × PutsFront W.contents outbox.old outbox.new reply) }
+    ensures ready { IsReady series.new.held entries.new.items }
+{
+    match line {
+        LongLine::Nothing => {}
+        LongLine::Bad => put_bad(outbox.held, number),
+        LongLine::Do(command) => return answer(series, entries, command, outbox),
+    }
+    Ok(())
+}

@@ -1,0 +1,12 @@
+use crate::long_commands::Span;
+use lv_bodies::{Kind, Shown};
+use lv_standing::Name;
+
+/// A standing query, and what it answers at the last edit.
+#[derive(Clone, Copy)]
+pub struct Watched {
+    pub name: Name,
+    pub kind: Kind,
+    pub span: Span,
+    pub value: Shown,
+}
