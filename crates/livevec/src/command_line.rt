@@ -59,20 +59,23 @@ fn with_arguments<'a>(
 ) -> Result<Command<'a>, AllocError> {
     let mut command = command;
     for argument in arguments {
-        command = command.arg(arg_of(alloc, argument))?;
+        command = command.arg(arg_of(alloc, argument)?)?;
     }
     Ok(command)
 }
 
 // What a command takes, as `clap` has it.
-fn arg_of<'a>(alloc: Global, argument: &Argument) -> Arg<'a> {
+fn arg_of<'a>(alloc: Global, argument: &Argument) -> Result<Arg<'a>, AllocError> {
     match argument {
-        Argument::Number(number) => number_arg(alloc, number),
-        Argument::Body => body(alloc),
-        Argument::Files(most) => files(alloc, *most),
-        Argument::Flag(name, says) => flag(alloc, name, says),
-        Argument::File(name, says) => file(alloc, name, says),
-        Argument::Front => front(alloc),
+        Argument::Number(number) => Ok(number_arg(alloc, number)),
+        Argument::Body => Ok(body(alloc)),
+        Argument::Files(most) => Ok(files(alloc, *most)),
+        Argument::Flag(name, says) => Ok(flag(alloc, name, says)),
+        Argument::FlagWithout(name, says, others) => {
+            flag(alloc, name, says).conflicts_with_all(others)
+        }
+        Argument::File(name, says) => Ok(file(alloc, name, says)),
+        Argument::Front => Ok(front(alloc)),
     }
 }
 

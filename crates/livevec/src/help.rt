@@ -57,7 +57,16 @@ A line that can't be obeyed is answered `refused N`, and changes nothing:
    4 TooLarge: a reserve above the limit    12 TooMany: 64 names
    5 Full: as many elements as may be       19 NoJob: no job of that number
    6 NoMemory; also of a claim past --jobs
-Any other line is answered `bad N`, N the line's number.";
+Any other line is answered `bad N`, N the line's number.
+
+With --series the lines are about a series: indices go up to 2^62, and there is no limit but memory.
+  expire I            edit E first I: the elements before index I go, the others keep their indices
+  first               first I edit E
+  watch NAME KIND last N
+                      watching NAME: the last N elements
+A size is the index behind the last element. Refused 3 is also what lies before the first that is kept; of a
+query's range what is kept is asked. The lines reserve, capacity, settle, cost, claim, deliver and forget are
+bad.";
 
 /// What `serve` does.
 pub const SERVE: &str =

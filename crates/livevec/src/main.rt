@@ -36,6 +36,7 @@ use clap::{ArgMatches, Error};
 use lv_bodies::Sum;
 use lv_machine::Machine;
 use lv_script::{Fault, audit, audit_front, run_schedule, run_script_within};
+use lv_series_script::run_series_script;
 use std::alloc::Global;
 use std::fs::Files;
 use std::io::{Read, Write};
@@ -135,6 +136,10 @@ where
         return Ok(show_misuse(rt, misuse));
     }
     match name {
+        "run" if asked.get_flag("series") => {
+            run_series_script(alloc, &mut lines_of(rt), writer)?;
+            Ok(0)
+        }
         "run" => {
             run_script_within(
                 alloc,

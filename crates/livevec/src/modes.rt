@@ -90,6 +90,8 @@ pub enum Argument {
     Files(usize),
     /// An option without a value: its name, and what it says.
     Flag(&'static str, &'static str),
+    /// The same, which is not given beside others: their names.
+    FlagWithout(&'static str, &'static str, &'static [&'static str]),
     /// An option whose value is a file: its name, and what it says.
     File(&'static str, &'static str),
     /// The file of a transcript's front.
@@ -114,6 +116,11 @@ pub const RUN: Mode = Mode {
         Argument::Number(BUCKETS),
         Argument::Number(EDITS),
         Argument::Number(JOBS),
+        Argument::FlagWithout(
+            "series",
+            "Answers on a series: see below",
+            &["buckets", "edits", "jobs"],
+        ),
     ],
 };
 
