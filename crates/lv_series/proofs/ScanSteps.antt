@@ -1,5 +1,5 @@
 -- One element further in a scan that goes on from what stands before it.
-use Rattle.std.proofs.Common.{◌≡◌, ℕ, ℤ, pos, ◌+◌, ◌-◌, ◌^◌, ◌<◌, ◌≤◌, Bool, true, false, if◌then◌else◌, List, [], ◌∷◌, ◌++◌, length, map, take, drop, slice_index_or, slice_range, All, refl, sym, ap, ◌∙◌, arith, length-append, length-drop, length-take}
+use Rattle.std.proofs.Common.{◌≡◌, ℕ, ℤ, pos, ◌+◌, ◌-◌, ◌^◌, ◌<◌, ◌≤◌, Bool, true, false, if◌then◌else◌, List, [], ◌∷◌, ◌++◌, length, fold, map, take, drop, slice_index_or, slice_range, All, refl, sym, ap, ◌∙◌, arith, length-append, length-drop, length-take}
 use Rattle.std.specs.List.{range_with_len}
 use Rattle.std.proofs.lemmas.List.{get_or-drop, get_or-take, length-take-le, take_all, take_more}
 use Rattle.std.proofs.lemmas.List.Elements.{All-append, All-cons, All-drop, All-nil, All-take}
@@ -8,8 +8,12 @@ use Rattle.std.proofs.lemmas.List.Sums.{fold-append, fold_push}
 use Rattle.lv_geometry.specs.Elements.{IsElement}
 use Rattle.lv_bodies.specs.Body.{Operations, fold_of}
 use Rattle.lv_bodies.specs.Long.{CanFoldLong, CanJoinLong, LongLaws}
-use Rattle.lv_series.specs.Series.{StandsBefore, fold_on, running_fold, running_folds}
+use Rattle.lv_series.specs.Series.{StandsBefore, running_fold, running_folds}
 use Rattle.lv_series.proofs.ChainFolds.{folds_can_join}
+
+-- the left fold of a list that goes on from a summary
+abbrev pub fold_on : {S : Type 0} → Operations S → S → List ℤ → S
+fold_on o s xs = fold (λ t x. o.join t (o.lift x)) s xs
 
 module _ {S : Type 0} (o : Operations S) (before : S) (els : List ℤ) (from more : ℕ) (inside : from + more ≤ length els) where
   -- what is scanned

@@ -1,5 +1,5 @@
-ghost use Rattle.std.specs.Prelude.{◌≡◌, ◌+◌, ◌/◌, ◌≤◌, length, true};
-ghost use Rattle.lv_series.specs.Plain.{new_series};
+ghost use Rattle.std.specs.Prelude.{◌≡◌, ◌+◌, ◌/◌, ◌≤◌, [], length, true};
+ghost use Rattle.lv_series.specs.Plain.{plain_series};
 ghost use Rattle.lv_series.specs.Series.{element_at, element_of, is_border, is_kept, refused, refused_on, size_of};
 
 use crate::chains::Chain;
@@ -36,7 +36,7 @@ impl<B: LongBody> Model for Series<B> {
 impl<B: LongBody> Series<B> {
     /// A series without elements. Takes no memory.
     pub fn new(alloc: Global, body: B) -> Series<B>
-        ensures { result ≡ new_series body }
+        ensures { result ≡ plain_series body [] }
     {
         Series {
             chain: Chain::new(alloc, body),

@@ -1,15 +1,19 @@
-ghost use Rattle.std.specs.Prelude.{◌≡◌, Err};
-ghost use Rattle.lv_series.specs.Plain.{IsPlain};
-ghost use Rattle.lv_series.specs.Series.{Answers, SeriesState};
+//! What holds of every series.
+ghost use Rattle.std.specs.Prelude.{◌≡◌, [], Err, List, Result};
+ghost use Rattle.lv_series.specs.Plain.{Asked, IsPlain, Run, SeriesState, Step, plain_series};
+ghost use Rattle.lv_series.specs.Series.{Answers};
 ghost use Rattle.lv_series.specs.declared.edits.LongEdit.{LongEdit};
+ghost use Rattle.lv_series.specs.declared.receipts.LongReceipt.{LongReceipt};
 ghost use Rattle.lv_series.specs.declared.refusals.LongRefusal.{LongRefusal};
 
 use lv_bodies::LongBody;
 
-/// Whatever the edits to a new series, and whatever each was answered, want of memory included, each reduction at the end tells how
-/// many of them were accepted, and is the plain left fold of its range after these. Renewals and shards show in no answer.
+/// Whatever the edits to a new series, and whatever each was answered, want of memory included, each reduction and each scan at the end
+/// tells how many of them were accepted, and is the plain left fold of its range after these: so it was after each of the first of
+/// them too. Renewals and shards show in no answer. What each call on a series ensures is a step of such a run.
 pub fn every_answer_is_plain<B: LongBody>()
-    ensures { (m : B.Meaning) → IsPlain (B.operations m) B }
+    ensures plain { (m : B.Meaning) (body : B) (steps : List Asked) (s : SeriesState B) → Run (plain_series body []) steps s → IsPlain (B.operations m) body steps s }
+    ensures steps { (old new : SeriesState B) (edit : LongEdit) (answer : Result LongReceipt LongRefusal) → Answers old edit answer new → Step old edit answer new }
 {}
 
 /// Whatever is refused changes nothing.

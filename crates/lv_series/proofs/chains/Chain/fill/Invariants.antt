@@ -1,6 +1,7 @@
 use Rattle.std.proofs.Common.{◌≡◌, ◌+◌, length, map, slice_range, take}
 use Rattle.std.specs.List.{range_with_len}
-use Rattle.lv_series.specs.Series.{fold_on, running_fold}
+use Rattle.lv_series.specs.Series.{running_fold}
+use Rattle.lv_series.proofs.ScanSteps.{fold_on}
 use Rattle.lv_series.proofs.chains.Chain.fill.Given as goal
 
 -- the folds of the elements so far, and what they lead to
