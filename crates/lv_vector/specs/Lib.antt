@@ -18,3 +18,5 @@ pub use Rattle.lv_hub.specs.declared.told.Told as ToldType
 pub use Rattle.lv_hub.specs.Counting
 pub use Rattle.lv_hub.specs.Notes
 pub use Rattle.lv_hub.specs.Told as Hub
+pub use Rattle.lv_series.specs.Plain as PlainSeries
+pub use Rattle.lv_series.specs.Series

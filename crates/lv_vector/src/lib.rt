@@ -4,10 +4,11 @@
 
 pub mod board;
 pub mod hub;
+pub mod series;
 
 pub use lv_bodies::{
-    Affine, Automaton, Best, Body, Greatest, Kind, Least, Pair, Shown, Six, SixSummary, Sum,
-    fold_slice,
+    Affine, Automaton, Best, Body, Greatest, Kind, Least, LongBody, Pair, Shown, Six, SixSummary,
+    Sum, fold_slice,
 };
 pub use lv_edits::{Edit, Receipt};
 pub use lv_geometry::{Limits, Node, Refusal};
