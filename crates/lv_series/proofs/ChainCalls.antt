@@ -1,10 +1,10 @@
 -- What the calls of a chain leave and answer, whether there was memory or not.
-use Rattle.std.proofs.Common.{◌≡◌, ℕ, ℤ, ◌+◌, ◌-◌, ◌*◌, ◌^◌, ◌<◌, ◌≤◌, Result, Ok, Err, OnOk, OnErr, List, [], ◌∷◌, ◌++◌, length, take, drop, map, slice_index_or, slice_set, All, refl, sym, ap, subst, ◌∙◌, arith, length-set, length-take}
+use Rattle.std.proofs.Common.{◌≡◌, ℕ, ℤ, ◌+◌, ◌-◌, ◌*◌, ◌^◌, ◌<◌, ◌≤◌, Result, Ok, Err, OnOk, OnErr, List, [], ◌∷◌, ◌++◌, length, take, slice_set, All, refl, sym, ap, subst, ◌∙◌, arith, length-set, length-take}
 use Rattle.std.proofs.lemmas.List.{length_push}
 use Rattle.std.proofs.lemmas.List.Elements.{All-push, All-set, All-take}
 use Rattle.lv_geometry.specs.Elements.{IsElement}
 use Rattle.lv_bodies.specs.Body.{Operations}
-use Rattle.lv_series.specs.Chain.{IsChain, IsFull, all_in, elements_in, sum_of}
+use Rattle.lv_series.specs.Chain.{IsChain, all_in, sum_of}
 use Rattle.lv_series.specs.Shard.{Holding}
 use Rattle.lv_series.proofs.ChainSteps.{all_pushed, all_rolled, all_tail_cut, all_tail_popped, all_tail_written, rolled, with_tail}
 

@@ -1,13 +1,13 @@
 -- What a write into a full shard, a cut inside one, and shards dropped at the front leave of a chain.
-use Rattle.std.proofs.Common.{◌≡◌, ℕ, ℤ, ◌+◌, ◌-◌, ◌*◌, ◌^◌, ◌<◌, ◌≤◌, Result, Ok, Err, OnOk, OnErr, List, [], ◌∷◌, ◌++◌, length, take, drop, map, slice_index_or, slice_set, All, refl, sym, ap, subst, ◌∙◌, arith, length-set, length-take, length-drop}
+use Rattle.std.proofs.Common.{◌≡◌, ℕ, ℤ, ◌+◌, ◌*◌, ◌<◌, ◌≤◌, Result, Ok, Err, OnOk, OnErr, List, length, drop, map, slice_index_or, slice_set, All, sym, ap, subst, ◌∙◌, arith, length-set, length-drop}
 use Rattle.std.proofs.lemmas.List.{drop-map}
-use Rattle.std.proofs.lemmas.List.Elements.{All-drop, All-get_or, All-set, All-take}
+use Rattle.std.proofs.lemmas.List.Elements.{All-drop, All-get_or, All-set}
 use Rattle.lv_geometry.specs.Elements.{IsElement}
 use Rattle.lv_bodies.specs.Body.{Operations}
-use Rattle.lv_series.specs.Chain.{IsChain, IsFull, IsPut, all_in, elements_in, sum_of}
+use Rattle.lv_series.specs.Chain.{IsChain, IsFull, IsPut, all_in, sum_of}
 use Rattle.lv_series.specs.Shard.{Holding}
 use Rattle.lv_series.proofs.ChainCalls.{held_in}
-use Rattle.lv_series.proofs.ChainLaws.{cut_there, dropped_there}
+use Rattle.lv_series.proofs.ChainLaws.{dropped_there}
 use Rattle.lv_series.proofs.ChainReads.{body_at}
 use Rattle.lv_series.proofs.ChainSteps.{all_written, put}
 

@@ -1,13 +1,13 @@
 -- What reads of a chain give: an element, and the fold of a range.
-use Rattle.std.proofs.Common.{◌≡◌, ◌≢◌, ℕ, ℤ, ◌+◌, ◌-◌, ◌*◌, ◌^◌, ◌<◌, ◌≤◌, List, [], ◌∷◌, ◌++◌, length, take, drop, map, slice_index_or, slice_range, All, refl, sym, ap, subst, ◌∙◌, arith, inl, inr, length-append}
+use Rattle.std.proofs.Common.{◌≡◌, ◌≢◌, ℕ, ℤ, ◌+◌, ◌*◌, ◌<◌, ◌≤◌, List, ◌++◌, length, slice_index_or, slice_range, sym, ap, subst, ◌∙◌, arith, inl, inr}
 use Rattle.std.proofs.lemmas.List.{get_or_past}
 use Rattle.std.proofs.lemmas.List.Elements.{All-get_or}
 use Rattle.lv_bodies.specs.Body.{Operations, fold_of}
 use Rattle.lv_bodies.specs.Long.{CanFoldLong}
-use Rattle.lv_series.specs.Chain.{IsChain, IsFull, Joinable, all_in, elements_in, sum_of}
+use Rattle.lv_series.specs.Chain.{IsChain, IsFull, Joinable, all_in, elements_in}
 use Rattle.lv_series.specs.Shard.{Holding}
 use Rattle.lv_series.proofs.ChainFolds.{across, can_front, can_slice}
-use Rattle.lv_series.proofs.ChainLaws.{element_there, fits_at, inside_at, length_all, lt_or_le, range_there}
+use Rattle.lv_series.proofs.ChainLaws.{length_all, lt_or_le, range_there}
 
 -- where a range ends in another shard than it begins in, that is a later one
 pub later_shard : (k r m q n from to : ℕ) → 32760 * k + r ≡ from → 32760 * m + q ≡ to → k ≤ n → (m < n → q < 32760) → k ≢ m → from ≤ to → k < m

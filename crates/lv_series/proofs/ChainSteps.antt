@@ -1,5 +1,5 @@
 -- What the calls of a chain leave: it is a chain still, and has the elements that it should.
-use Rattle.std.proofs.Common.{◌≡◌, ℕ, ℤ, ◌+◌, ◌-◌, ◌*◌, ◌^◌, ◌<◌, ◌≤◌, List, [], ◌∷◌, ◌++◌, length, take, drop, map, slice_index_or, slice_set, All, refl, sym, ap, subst, ◌∙◌, arith, append_assoc, append-nil, length-append, length-set}
+use Rattle.std.proofs.Common.{◌≡◌, ℕ, ℤ, ◌+◌, ◌-◌, ◌*◌, ◌^◌, ◌<◌, ◌≤◌, List, [], ◌∷◌, ◌++◌, length, take, slice_index_or, slice_set, All, refl, sym, ap, subst, ◌∙◌, arith, append_assoc, append-nil}
 use Rattle.std.proofs.lemmas.Grind.{flat_map-append}
 use Rattle.std.proofs.Math.Seq.{take-append-add}
 use Rattle.std.proofs.lemmas.List.{length_push, map-append, map-set, set-append_right}
@@ -8,7 +8,7 @@ use Rattle.lv_geometry.specs.Elements.{IsElement}
 use Rattle.lv_bodies.specs.Body.{Operations}
 use Rattle.lv_series.specs.Chain.{IsChain, IsFull, IsPut, all_in, elements_in, sum_of}
 use Rattle.lv_series.specs.Shard.{Holding}
-use Rattle.lv_series.proofs.ChainLaws.{length_all, length_full, split_at, split_set, written_there}
+use Rattle.lv_series.proofs.ChainLaws.{length_all, length_full, split_set, written_there}
 
 module _ {B S : Type 0} (o : Operations S) (full : List (Holding B)) (sums : List S) (tail : Holding B) (chain : IsChain o full sums tail) where
   -- with another last shard

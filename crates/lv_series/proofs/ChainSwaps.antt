@@ -1,5 +1,5 @@
 -- What a swap leaves of a chain, and a shard put in the place of another.
-use Rattle.std.proofs.Common.{◌≡◌, ℕ, ℤ, ◌+◌, ◌-◌, ◌*◌, ◌/◌, ◌^◌, ◌<◌, ◌≤◌, Result, Ok, Err, OnOk, OnErr, List, [], ◌∷◌, ◌++◌, length, take, drop, slice_index_or, slice_range, slice_set, All, refl, sym, ap, subst, ◌∙◌, arith, inl, inr, length-append, length-drop}
+use Rattle.std.proofs.Common.{◌≡◌, ℕ, ℤ, ◌+◌, ◌*◌, ◌/◌, ◌<◌, ◌≤◌, Result, Ok, Err, OnOk, OnErr, List, ◌++◌, length, take, drop, slice_index_or, slice_range, slice_set, All, refl, sym, ap, subst, ◌∙◌, arith, inl, inr, length-append, length-drop}
 use Rattle.std.specs.List.{swap}
 use Rattle.std.proofs.Math.Seq.{drop-append-add, drop-append_seam, take-append_seam}
 use Rattle.std.proofs.lemmas.List.{length-take-le, take_all}

@@ -1,13 +1,12 @@
 -- The tree over a chain's folds: what it may be asked, and that it stays the chain's.
-use Rattle.std.proofs.Common.{◌≡◌, ℕ, ℤ, ◌+◌, ◌-◌, ◌*◌, ◌/◌, ◌<◌, ◌≤◌, Result, Ok, Err, OnOk, OnErr, List, [], ◌∷◌, ◌++◌, length, map, take, drop, slice_index_or, slice_range, slice_set, refl, sym, ap, subst, ◌∙◌, arith, append-nil}
-use Rattle.std.specs.List.{flat_map}
+use Rattle.std.proofs.Common.{◌≡◌, ℕ, ℤ, ◌+◌, ◌-◌, ◌*◌, ◌/◌, ◌<◌, ◌≤◌, Result, Ok, Err, OnOk, OnErr, List, [], ◌∷◌, ◌++◌, length, map, take, drop, slice_range, refl, sym, ap, subst, ◌∙◌, arith, append-nil}
 use Rattle.std.proofs.lemmas.Grind.{flat_map-append}
-use Rattle.std.proofs.lemmas.List.{drop-map, get_or_default, length-map, map-append, take-map}
+use Rattle.std.proofs.lemmas.List.{drop-map, length-map, map-append, take-map}
 use Rattle.std.proofs.lemmas.List.Folds.{flat_map-map}
 use Rattle.lv_bodies.specs.Body.{Operations, fold_of}
 use Rattle.lv_bodies.specs.ElementLaws.{map-map}
 use Rattle.lv_bodies.specs.Long.{CanFoldLong}
-use Rattle.lv_series.specs.Chain.{IsChain, IsFull, IsSummed, all_in, elements_in, sum_of}
+use Rattle.lv_series.specs.Chain.{IsChain, IsSummed, all_in, elements_in, sum_of}
 use Rattle.lv_series.specs.Shard.{Holding}
 use Rattle.lv_series.proofs.ChainCalls.{held_in}
 use Rattle.lv_series.proofs.ChainFolds.{can_front}

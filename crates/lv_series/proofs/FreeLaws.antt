@@ -1,11 +1,10 @@
 -- What an edit that nothing refuses finds, and what an accepted one leaves.
-use Rattle.std.proofs.Common.{◌≡◌, ◌≢◌, ℕ, ℤ, ◌+◌, ◌-◌, ◌^◌, ◌&&◌, ◌<◌, ◌≤◌, Bool, true, false, cond, Option, Some, None, List, [], ◌∷◌, drop, length, nat_eq, nat_lt, refl, sym, ap, ◌∙◌, arith, inl, inr}
+use Rattle.std.proofs.Common.{◌≡◌, ◌≢◌, ℕ, ℤ, ◌+◌, ◌-◌, ◌^◌, ◌&&◌, ◌<◌, ◌≤◌, Bool, true, false, cond, Some, None, List, drop, length, nat_eq, nat_lt, refl, sym, ap, ◌∙◌, arith, inl, inr}
 use Rattle.std.proofs.lemmas.Bool.{and_parts, cases_Bool, cond-false, cond-true, eqb-false, ltb-false, ltb-true}
 use Rattle.std.proofs.lemmas.Option.{none-some}
 use Rattle.lv_series.specs.declared.edits.LongEdit.{LongEdit}
 use Rattle.lv_series.specs.declared.edits.LongEdit.TheVariants.{Push, Pop, Write, Expire, Swap, Truncate}
 use Rattle.lv_series.specs.declared.receipts.LongReceipt.{LongReceipt}
-use Rattle.lv_series.specs.declared.refusals.LongRefusal.{LongRefusal}
 use Rattle.lv_series.specs.declared.refusals.LongRefusal.TheVariants.{Worn, Empty, OutOfRange, Full, BadRange}
 use Rattle.lv_series.specs.Series.{Accepts, Held, SeriesState, changed, is_border, is_kept, range_refused, receipt_of, refused, refused_on, size_of}
 use Rattle.lv_series.specs.Shard.{Holding}

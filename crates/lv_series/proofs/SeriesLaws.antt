@@ -1,12 +1,10 @@
 -- What a series keeps, as a chain without its first elements: what each edit does to it.
-use Rattle.std.proofs.Common.{◌≡◌, ℕ, ℤ, pos, ◌+◌, ◌-◌, ◌^◌, ◌&&◌, ◌<◌, ◌≤◌, Bool, true, false, not, Option, Some, None, List, [], ◌∷◌, ◌++◌, length, take, drop, slice_index_or, slice_range, slice_set, nat_le, nat_lt, nat_eq, if◌then◌else◌, refl, sym, ap, subst, ◌∙◌, arith, length-append, length-drop, length-take}
+use Rattle.std.proofs.Common.{◌≡◌, ℕ, ℤ, ◌+◌, ◌-◌, ◌<◌, ◌≤◌, true, List, [], ◌∷◌, ◌++◌, length, take, drop, slice_index_or, slice_range, slice_set, nat_le, nat_lt, sym, ap, ◌∙◌, arith, length-drop}
 use Rattle.std.specs.List.{swap}
-use Rattle.std.proofs.lemmas.Bool.{and_parts, cond-true, leb-true, ltb-true}
+use Rattle.std.proofs.lemmas.Bool.{and_parts, leb-true, ltb-true}
 use Rattle.std.proofs.lemmas.List.{drop-append-le, drop-drop, drop-set-add, drop-take, get_or-drop}
-use Rattle.lv_series.specs.declared.edits.LongEdit.{LongEdit}
 use Rattle.lv_series.specs.declared.edits.LongEdit.TheVariants.{Push, Pop, Write, Expire, Swap, Truncate}
-use Rattle.lv_series.specs.declared.refusals.LongRefusal.{LongRefusal}
-use Rattle.lv_series.specs.Series.{Held, changed, is_border, is_kept, refused_on, size_of}
+use Rattle.lv_series.specs.Series.{Held, changed, is_border, is_kept, size_of}
 use Rattle.lv_series.proofs.SwapLaws.{swap_dropped}
 
 -- what is kept where so many elements are gone, and so many more are skipped

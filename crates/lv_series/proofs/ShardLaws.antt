@@ -1,19 +1,16 @@
 -- What a shard's vector allows, and what an edit of it leaves.
-use Rattle.std.proofs.Common.{◌≡◌, ℕ, ℤ, pos, ◌+◌, ◌-◌, ◌^◌, ◌*◌, ◌<◌, ◌≤◌, Some, None, List, [], ◌∷◌, ◌++◌, length, All, take, refl, sym, ap, subst, ◌∙◌, arith, slice_set, length-append, Result, Ok, Err, OnOk}
-use Rattle.std.specs.List.{swap}
+use Rattle.std.proofs.Common.{◌≡◌, ℕ, ℤ, ◌+◌, ◌-◌, ◌^◌, ◌*◌, ◌<◌, ◌≤◌, Some, None, List, [], ◌∷◌, ◌++◌, length, sym, ap, subst, ◌∙◌, arith, length-append, Result, Ok, Err, OnOk}
 use Rattle.std.proofs.lemmas.Bool.{and_from, cond-false, cond-true, le-ltb, lt-ltb, ne_eqb}
 use Rattle.std.proofs.lemmas.Option.{same_Some}
 use Rattle.lv_geometry.specs.Bounds.{Bounds}
-use Rattle.lv_geometry.specs.Elements.{IsElement}
-use Rattle.lv_geometry.specs.declared.refusals.Refusal.TheVariants.{Empty, Full, OutOfRange, Worn}
 use Rattle.lv_edits.specs.declared.edit.Edit.{Edit}
 use Rattle.lv_edits.specs.declared.edit.Edit.TheVariants.{Push, Pop, Write, Swap, Truncate}
 use Rattle.lv_edits.specs.declared.receipt.Receipt.{Receipt}
-use Rattle.lv_edits.specs.History.{History, applied, list_of, with_edit}
+use Rattle.lv_edits.specs.History.{History, applied, list_of}
 use Rattle.lv_edits.specs.Kept.{IsLegalInLimits}
 use Rattle.lv_edits.specs.Verdict.{Accepts, refused_on, verdict_of}
-use Rattle.lv_edits.proofs.HistoryLaws.{accepted_is_possible, applied_pop, applied_swap, applied_truncate, applied_write, list_of_replayed, list_of-snoc, replayed-nil}
-use Rattle.lv_series.specs.Shard.{Holding, IsShard, holding_of}
+use Rattle.lv_edits.proofs.HistoryLaws.{accepted_is_possible, list_of_replayed, list_of-snoc, replayed-nil}
+use Rattle.lv_series.specs.Shard.{Holding, IsShard}
 
 -- the limits of a shard
 abbrev pub limits_of_shard : Bounds

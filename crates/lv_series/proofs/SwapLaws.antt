@@ -1,5 +1,5 @@
 -- Two elements exchanged, in a list and in its parts.
-use Rattle.std.proofs.Common.{◌≡◌, ◌≢◌, ℕ, ℤ, pos, ◌+◌, ◌-◌, ◌<◌, ◌≤◌, List, [], ◌∷◌, ◌++◌, length, take, drop, slice_index_or, slice_range, slice_set, All, refl, sym, ap, subst, ◌∙◌, arith, append_assoc, length-append, length-drop, length-set}
+use Rattle.std.proofs.Common.{◌≡◌, ◌≢◌, ℕ, ℤ, pos, ◌+◌, ◌-◌, ◌<◌, ◌≤◌, List, ◌++◌, length, take, drop, slice_index_or, slice_range, slice_set, All, sym, ap, subst, ◌∙◌, arith, length-append, length-drop, length-set}
 use Rattle.std.specs.List.{swap}
 use Rattle.std.proofs.Math.ListN.{get_or-append}
 use Rattle.std.proofs.lemmas.List.{drop-drop, drop-set-add, get_or-append-add, get_or-drop, length-take-le, set-append_left, set-append_right, set_comm, take-append-drop, take-set-le}

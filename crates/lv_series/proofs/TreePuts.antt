@@ -1,5 +1,5 @@
 -- The tree over a chain's folds may be told the fold of a full shard that has changed.
-use Rattle.std.proofs.Common.{◌≡◌, ℕ, ℤ, ◌+◌, ◌*◌, ◌<◌, List, length, slice_index_or, slice_set, All, refl, sym, ap, subst, ◌∙◌}
+use Rattle.std.proofs.Common.{◌≡◌, ℕ, ℤ, ◌+◌, ◌*◌, ◌<◌, List, length, slice_index_or, slice_set, All, refl, subst}
 use Rattle.std.specs.List.{swap}
 use Rattle.std.proofs.lemmas.List.{get_or_default}
 use Rattle.lv_geometry.specs.Elements.{IsElement}

@@ -1,4 +1,4 @@
-use Rattle.std.proofs.Common.{◌≡◌, ◌<◌, ◌≤◌, length, take, arith, refl, ap, sym, ◌∙◌, length-take}
+use Rattle.std.proofs.Common.{length, arith, refl, ap, length-take}
 use Rattle.lv_edits.specs.History.{list_of}
 use Rattle.lv_series.proofs.ShardLaws.{few_in_shard, nothing_held}
 use Rattle.lv_series.proofs.renewing.copy_into.Goals as goal

@@ -1,9 +1,8 @@
-use Rattle.std.proofs.Common.{◌≡◌, ◌≢◌, ◌<◌, ◌≤◌, ◌+◌, ◌-◌, ◌*◌, ◌/◌, length, slice_index_or, slice_range, refl, arith, ap, sym, subst, ◌∙◌}
+use Rattle.std.proofs.Common.{◌≡◌, ◌<◌, ◌≤◌, ◌+◌, ◌*◌, length, arith, ◌∙◌}
 use Rattle.std.proofs.lemmas.List.Elements.{All-get_or}
-use Rattle.lv_bodies.specs.Body.{fold_of}
-use Rattle.lv_series.specs.Chain.{IsFull, Joinable, all_in, elements_in, sum_of}
+use Rattle.lv_series.specs.Chain.{IsFull, all_in}
 use Rattle.lv_series.proofs.ChainLaws.{fits_at}
-use Rattle.lv_series.proofs.ChainReads.{can_full, folded_across, folded_inside, later_shard, parts_joinable, place_fits}
+use Rattle.lv_series.proofs.ChainReads.{folded_across, folded_inside, later_shard, parts_joinable, place_fits}
 use Rattle.lv_series.proofs.ChainTrees.{as_many, asked_chain, asked_held, folds_here, range_folded}
 use Rattle.lv_series.proofs.chains.Chain.ask.Goals as goal
 

@@ -1,4 +1,4 @@
-use Rattle.std.proofs.Common.{◌≡◌, ◌<◌, ◌-◌, [], OnOk, OnErr, length, take, arith, ap, refl, subst, ◌∙◌}
+use Rattle.std.proofs.Common.{◌≡◌, ◌<◌, ◌-◌, [], OnOk, OnErr, length, take, arith, refl, subst, ◌∙◌}
 use Rattle.std.proofs.lemmas.List.{nil_from_length}
 use Rattle.lv_series.specs.Chain.{all_in}
 use Rattle.lv_series.proofs.ChainCalls.{held_in, pop_chain, pop_ok, tail_err}

@@ -1,5 +1,4 @@
-use Rattle.std.proofs.Common.{◌≡◌, ◌<◌, ◌+◌, ◌*◌, length, refl, arith, ap, ◌∙◌}
-use Rattle.lv_series.specs.Chain.{all_in}
+use Rattle.std.proofs.Common.{refl}
 use Rattle.lv_series.proofs.ChainSwaps.{is_full_there, put_back_chain, put_back_held}
 use Rattle.lv_series.proofs.ChainTrees.{as_many, summed}
 use Rattle.lv_series.proofs.TreePuts.{folds_put}

@@ -1,4 +1,4 @@
-use Rattle.std.proofs.Common.{◌≤◌, ◌+◌, ◌*◌, length, arith}
+use Rattle.std.proofs.Common.{arith}
 use Rattle.lv_series.proofs.ChainLaws.{length_all}
 use Rattle.lv_series.proofs.chains.Chain.shards.Goals as goal
 

@@ -1,4 +1,4 @@
-use Rattle.std.proofs.Common.{◌≡◌, ◌≤◌, ◌+◌, ◌-◌, ◌*◌, length, drop, refl, arith, ap, ◌∙◌}
+use Rattle.std.proofs.Common.{◌≡◌, ◌≤◌, ◌-◌, ◌*◌, length, drop, refl, arith, ap, ◌∙◌}
 use Rattle.lv_series.specs.Chain.{all_in}
 use Rattle.lv_series.proofs.ChainCalls.{held_in}
 use Rattle.lv_series.proofs.ChainPuts.{shed_all, shed_chain}

@@ -1,5 +1,4 @@
-use Rattle.std.proofs.Common.{◌≡◌, ◌<◌, ◌/◌, OnOk, arith, ap, sym, subst}
-use Rattle.std.specs.List.{swap}
+use Rattle.std.proofs.Common.{◌≡◌, OnOk, arith, subst}
 use Rattle.lv_series.proofs.SwapLaws.{swap_turned}
 use Rattle.lv_series.proofs.chains.Chain.swap.Goals as goal
 

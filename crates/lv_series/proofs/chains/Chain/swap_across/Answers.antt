@@ -1,13 +1,12 @@
-use Rattle.std.proofs.Common.{◌≡◌, ◌<◌, ◌≤◌, ◌+◌, ◌-◌, ◌*◌, ◌/◌, ◌++◌, FitsSigned, OnOk, rules, length, pos, take, drop, slice_index_or, slice_range, slice_set, All, arith, ap, sym, subst, ◌∙◌, length-set}
+use Rattle.std.proofs.Common.{◌≡◌, ◌<◌, ◌+◌, ◌-◌, ◌*◌, FitsSigned, OnOk, rules, length, pos, drop, slice_index_or, slice_set, All, arith, ap, sym, subst, ◌∙◌, length-set}
 use Rattle.std.specs.Int.{w64}
-use Rattle.std.specs.List.{swap}
 use Rattle.std.proofs.lemmas.Int.{to_z-of_z}
 use Rattle.std.proofs.lemmas.List.{get_or_default}
 use Rattle.std.proofs.lemmas.List.Elements.{All-drop, All-get_or, All-set, All-take}
 use Rattle.lv_geometry.specs.Elements.{IsElement}
 use Rattle.lv_series.specs.Chain.{IsFull, all_in}
 use Rattle.lv_series.proofs.ChainLaws.{length_all}
-use Rattle.lv_series.proofs.ChainReads.{body_at, place_fits}
+use Rattle.lv_series.proofs.ChainReads.{place_fits}
 use Rattle.lv_series.proofs.ChainSwaps.{low_place, shard_is}
 use Rattle.lv_series.proofs.SwapLaws.{swapped_by}
 use Rattle.lv_series.proofs.chains.Chain.swap_across.Goals as goal

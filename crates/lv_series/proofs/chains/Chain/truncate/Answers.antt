@@ -1,4 +1,4 @@
-use Rattle.std.proofs.Common.{◌≡◌, ◌<◌, ◌≤◌, ◌+◌, ◌*◌, length, take, slice_index_or, refl, arith, ap, ◌∙◌}
+use Rattle.std.proofs.Common.{◌<◌, ◌≤◌, length, take, refl, arith}
 use Rattle.std.proofs.lemmas.List.Elements.{All-get_or}
 use Rattle.lv_series.specs.Chain.{IsFull, all_in}
 use Rattle.lv_series.proofs.ChainCalls.{cut_chain, cut_ok, held_in, tail_err}

@@ -1,10 +1,10 @@
-use Rattle.std.proofs.Common.{◌≡◌, ◌<◌, ◌≤◌, ◌+◌, ◌*◌, length, slice_set, slice_index_or, refl, arith, ap, ◌∙◌}
+use Rattle.std.proofs.Common.{◌<◌, length, slice_set, refl, arith}
 use Rattle.std.specs.Int.{w64}
 use Rattle.std.proofs.lemmas.Int.{to_z-of_z}
 use Rattle.std.proofs.lemmas.List.Elements.{All-get_or}
 use Rattle.lv_series.specs.Chain.{IsFull, all_in}
 use Rattle.lv_series.proofs.ChainCalls.{tail_err, write_chain, write_ok}
-use Rattle.lv_series.proofs.ChainLaws.{inside_at, length_all}
+use Rattle.lv_series.proofs.ChainLaws.{length_all}
 use Rattle.lv_series.proofs.ChainPuts.{put_chain, put_err, put_ok}
 use Rattle.lv_series.proofs.ChainReads.{place_fits}
 use Rattle.lv_series.proofs.ChainTrees.{as_many, kept_body, summed}

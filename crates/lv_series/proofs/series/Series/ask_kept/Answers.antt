@@ -1,4 +1,4 @@
-use Rattle.std.proofs.Common.{◌≡◌, ◌<◌, ◌≤◌, ◌+◌, ◌-◌, ◌/◌, None, length, refl, subst, ap, arith, ◌∙◌}
+use Rattle.std.proofs.Common.{◌≡◌, None, refl, ap, arith, ◌∙◌}
 use Rattle.lv_bodies.specs.Body.{fold_of}
 use Rattle.lv_series.specs.Series.{range_refused}
 use Rattle.lv_series.proofs.FreeLaws.{free_range, state_of}

@@ -1,7 +1,7 @@
-use Rattle.std.proofs.Common.{◌≡◌, ◌<◌, ◌≤◌, ◌+◌, ◌-◌, ◌++◌, None, length, drop, min, refl, ap, arith, ◌∙◌}
-use Rattle.lv_series.specs.Series.{StandsBefore, range_refused, running_folds}
+use Rattle.std.proofs.Common.{◌≡◌, None, arith}
+use Rattle.lv_series.specs.Series.{range_refused}
 use Rattle.lv_series.proofs.FreeLaws.{free_range}
-use Rattle.lv_series.proofs.SeriesLaws.{held_of, range_held, size_held}
+use Rattle.lv_series.proofs.SeriesLaws.{held_of}
 use Rattle.lv_series.proofs.series.Series.fill_kept.Goals as goal
 
 pub overflow_sub-lo : goal.overflow_sub-lo

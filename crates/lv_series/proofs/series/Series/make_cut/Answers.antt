@@ -1,4 +1,4 @@
-use Rattle.std.proofs.Common.{◌≡◌, ◌<◌, ◌≤◌, ◌+◌, ◌-◌, ◌^◌, None, length, take, inr, refl, ap, arith, ◌∙◌, length-take}
+use Rattle.std.proofs.Common.{◌≡◌, ◌+◌, ◌-◌, None, length, take, inr, refl, ap, arith, length-take}
 use Rattle.lv_series.specs.declared.edits.LongEdit.TheVariants.{Truncate}
 use Rattle.lv_series.specs.declared.receipts.LongReceipt.TheVariants.{Truncated}
 use Rattle.lv_series.specs.Series.{refused, size_of}

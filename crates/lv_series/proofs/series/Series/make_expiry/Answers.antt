@@ -1,7 +1,7 @@
-use Rattle.std.proofs.Common.{◌≡◌, ◌<◌, ◌≤◌, ◌+◌, ◌-◌, ◌^◌, None, length, drop, refl, ap, arith, ◌∙◌, length-drop}
+use Rattle.std.proofs.Common.{◌≡◌, ◌+◌, ◌-◌, None, length, ap, arith, length-drop}
 use Rattle.lv_series.specs.declared.edits.LongEdit.TheVariants.{Expire}
 use Rattle.lv_series.specs.declared.receipts.LongReceipt.TheVariants.{Expired}
-use Rattle.lv_series.specs.Series.{refused, size_of}
+use Rattle.lv_series.specs.Series.{refused}
 use Rattle.lv_series.proofs.FreeLaws.{expired, free_edit, free_expire, state_of}
 use Rattle.lv_series.proofs.SeriesLaws.{held_of, size_held}
 use Rattle.lv_series.proofs.series.Series.make_expiry.Goals as goal

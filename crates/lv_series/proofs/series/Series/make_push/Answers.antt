@@ -1,10 +1,10 @@
-use Rattle.std.proofs.Common.{◌≡◌, ◌<◌, ◌+◌, ◌^◌, None, [], ◌∷◌, ◌++◌, length, inr, refl, ap, arith}
+use Rattle.std.proofs.Common.{◌≡◌, ◌+◌, None, [], ◌∷◌, ◌++◌, length, inr, refl, ap, arith}
 use Rattle.std.specs.Int.{w64}
 use Rattle.std.proofs.lemmas.Int.{to_z-of_z}
 use Rattle.std.proofs.lemmas.List.{length_push}
 use Rattle.lv_series.specs.declared.edits.LongEdit.TheVariants.{Push}
 use Rattle.lv_series.specs.declared.receipts.LongReceipt.TheVariants.{Pushed}
-use Rattle.lv_series.specs.Series.{refused, size_of}
+use Rattle.lv_series.specs.Series.{refused}
 use Rattle.lv_series.proofs.FreeLaws.{accepted, free_edit, free_push, state_of}
 use Rattle.lv_series.proofs.SeriesLaws.{held_of, push_held, size_held}
 use Rattle.lv_series.proofs.series.Series.make_push.Goals as goal

@@ -1,11 +1,11 @@
-use Rattle.std.proofs.Common.{◌≡◌, ◌<◌, ◌≤◌, ◌+◌, ◌-◌, ◌^◌, None, FitsSigned, rules, length, pos, inr, refl, ap, arith, ◌∙◌}
+use Rattle.std.proofs.Common.{◌≡◌, ◌+◌, ◌-◌, None, FitsSigned, rules, length, pos, inr, refl, ap, arith, ◌∙◌}
 use Rattle.std.specs.Int.{w64}
 use Rattle.std.specs.List.{swap}
 use Rattle.std.proofs.lemmas.Int.{to_z-of_z}
 use Rattle.std.proofs.lemmas.List.Edits.{length-swap}
 use Rattle.lv_series.specs.declared.edits.LongEdit.TheVariants.{Swap}
 use Rattle.lv_series.specs.declared.receipts.LongReceipt.TheVariants.{Swapped}
-use Rattle.lv_series.specs.Series.{element_of, refused, size_of}
+use Rattle.lv_series.specs.Series.{element_of, refused}
 use Rattle.lv_series.proofs.FreeLaws.{accepted, free_edit, free_swap, state_of}
 use Rattle.lv_series.proofs.SeriesLaws.{element_held, held_of, size_held, swap_held}
 use Rattle.lv_series.proofs.series.Series.make_swap.Goals as goal

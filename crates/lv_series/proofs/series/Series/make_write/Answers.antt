@@ -1,9 +1,9 @@
-use Rattle.std.proofs.Common.{◌≡◌, ◌<◌, ◌≤◌, ◌+◌, ◌-◌, ◌^◌, None, FitsSigned, rules, length, slice_set, pos, inr, refl, ap, arith, ◌∙◌, length-set}
+use Rattle.std.proofs.Common.{◌≡◌, ◌+◌, ◌-◌, None, FitsSigned, rules, length, slice_set, pos, inr, refl, ap, arith, ◌∙◌, length-set}
 use Rattle.std.specs.Int.{w64}
 use Rattle.std.proofs.lemmas.Int.{to_z-of_z}
 use Rattle.lv_series.specs.declared.edits.LongEdit.TheVariants.{Write}
 use Rattle.lv_series.specs.declared.receipts.LongReceipt.TheVariants.{Written}
-use Rattle.lv_series.specs.Series.{refused, size_of}
+use Rattle.lv_series.specs.Series.{refused}
 use Rattle.lv_series.proofs.FreeLaws.{accepted, free_edit, free_write, state_of}
 use Rattle.lv_series.proofs.SeriesLaws.{element_held, held_of, size_held, write_held}
 use Rattle.lv_series.proofs.series.Series.make_write.Goals as goal

@@ -1,5 +1,4 @@
-use Rattle.std.proofs.Common.{◌-◌, [], ◌∷◌, ◌++◌, length, take, slice_set, refl}
-use Rattle.std.specs.List.{swap}
+use Rattle.std.proofs.Common.{◌-◌, length, take}
 use Rattle.lv_edits.specs.History.{list_of}
 use Rattle.lv_edits.specs.declared.edit.Edit.TheVariants.{Pop}
 use Rattle.lv_edits.proofs.HistoryLaws.{applied_pop}

@@ -1,7 +1,6 @@
-use Rattle.std.proofs.Common.{◌-◌, [], ◌∷◌, ◌++◌, length, take, slice_set, refl}
+use Rattle.std.proofs.Common.{[], ◌∷◌, ◌++◌, refl}
 use Rattle.std.specs.Int.{w64}
 use Rattle.std.proofs.lemmas.Int.{to_z-of_z}
-use Rattle.std.specs.List.{swap}
 use Rattle.lv_edits.specs.History.{list_of}
 use Rattle.lv_edits.specs.declared.edit.Edit.TheVariants.{Push}
 use Rattle.lv_series.specs.Shard.{holding_of}
