@@ -1,4 +1,5 @@
-ghost use Rattle.std.specs.Prelude.{◌≡◌, ◌+◌, ◌/◌, ◌≤◌, [], length, true};
+ghost use Rattle.std.specs.Prelude.{◌≡◌, ◌+◌, ◌/◌, ◌^◌, ◌≤◌, [], length, All, true};
+ghost use Rattle.lv_geometry.specs.Elements.{IsElement};
 ghost use Rattle.lv_series.specs.Plain.{plain_series};
 ghost use Rattle.lv_series.specs.Series.{element_at, element_of, is_border, is_kept, refused, refused_on, size_of};
 
@@ -58,6 +59,14 @@ impl<B: LongBody> Series<B> {
         ensures { result ≡ size_of self.now.held }
     {
         self.gone + self.chain.len()
+    }
+
+    /// What holds of every series, for who goes on with a scan: each element has 64 bits, and no index is above 2^62. Computes nothing.
+    pub fn holds(&self)
+        ensures elements { All IsElement self.now.held.elements }
+        ensures few { size_of self.now.held ≤ 2 ^ 62 }
+    {
+        let _len = self.chain.len();
     }
 
     /// How many shards lie in memory: at most two more than its elements fill, so that the memory of expired ones comes back.
