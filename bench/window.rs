@@ -56,7 +56,8 @@ impl Window {
             return mixed(self.edit(), dropped);
         }
         let place = |number: u64| self.first + (number >> 8) % held.max(1);
-        let (here, there) = (place(number), place(other(number)));
+        let here = place(number);
+        let there = if (number >> 20) % 1024 == 0 { place(other(number)) } else { here + other(number) % 50 };
         match (number >> 33) % 64 {
             0..=51 => {
                 self.items.push_back(element(number));
