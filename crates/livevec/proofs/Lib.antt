@@ -1,3 +1,4 @@
+mod BesideLaws
 mod PlainServedLaws
 mod RecordingLaws
 mod Seats

@@ -75,6 +75,7 @@ fn arg_of<'a>(alloc: Global, argument: &Argument) -> Result<Arg<'a>, AllocError>
             flag(alloc, name, says).conflicts_with_all(others)
         }
         Argument::File(name, says) => Ok(file(alloc, name, says)),
+        Argument::Several(name, says) => Ok(file(alloc, name, says).action(ArgAction::Append)),
         Argument::Front => Ok(front(alloc)),
     }
 }

@@ -4,6 +4,7 @@ ghost use Rattle.std.specs.Prelude.{◌≡◌};
 
 use crate::escaped::Escaped;
 use lv_script::Fault;
+use lv_watchers::Damage;
 use std::fmt;
 
 /// Where a fault came up. Files are counted from 0, as the command line names them.
@@ -21,6 +22,8 @@ pub enum Place {
     False(u32),
     /// At the line of this number of a transcript, which is not of the form that may stand there.
     Misspelt(u32),
+    /// At a line of the file of this number, whose lines should be queries.
+    Asking(usize, Damage),
 }
 
 /// A fault, and where it came up.
@@ -98,6 +101,21 @@ impl Told<'_> {
                 line,
                 "is not of a form that may stand there",
             ),
+            Place::Asking(number, damage) => self.tell_damage(f, number, damage),
+        }
+    }
+
+    // What is wrong with a line that should be a query.
+    fn tell_damage<W: fmt::Write>(
+        &self,
+        f: &mut fmt::Formatter<W>,
+        number: usize,
+        damage: Damage,
+    ) -> fmt::Result {
+        write!(f, "line {} of '{}' ", damage.line, self.file(number))?;
+        match damage.refusal {
+            Some(refusal) => write!(f, "can't be watched: {refusal}"),
+            None => f.write_str("is not of the form 'watch NAME KIND LO HI'"),
         }
     }
 

@@ -1,15 +1,19 @@
-//! The files of sessions, and how they are opened: none is changed before all are found fit.
+//! The files of sessions and subscribers, and how they are opened: none is changed before all are found fit.
 
-use crate::clashes::{Clash, REPLIES};
+use crate::asking::ask_each;
+use crate::clashes::{Clash, REPLIES, first_clash};
+use crate::emptying::empty_with;
 use crate::failures::{Failure, Place};
 use crate::identities::{Identity, is_written, standard_files};
-use crate::transcript_files::{emptied, open_transcript};
+use crate::parties::Parties;
+use crate::transcript_files::open_transcript;
+use lv_hub::Question;
 use lv_script::Fault;
 use std::alloc::Global;
 use std::fs::{File, Files, Metadata, OpenFile, OpenOptions, remove_file, symlink_metadata};
 use std::io::ErrorKind;
 
-/// A session's file, and that of its replies.
+/// A session's file, and that of its replies; or a subscriber's, and that of its notes.
 #[derive(Drop)]
 pub struct Streams<F: Drop> {
     /// Which of the files it is, counted from 0.
@@ -38,12 +42,13 @@ pub fn open_front<'a, R: Files>(rt: &R, file: &'a str) -> Result<R::File, Unopen
     Ok(front)
 }
 
-/// The file of a session and that of its replies, opened and not yet changed.
+/// The file of a session and that of its replies, opened and not yet changed; so with a subscriber's, and then what it asks.
 #[derive(Drop)]
 pub struct Opened<F: Drop> {
-    streams: Streams<F>,
+    pub streams: Streams<F>,
     pub input: Identity,
     pub output: Output,
+    pub asked: Option<Vec<Question>>,
     name: String,
 }
 
@@ -61,30 +66,32 @@ pub enum Unfit {
     Failed,
 }
 
-/// Opens each file and that of its replies, in order. Files of replies are emptied once all are open and each is found to be a
-/// regular file that nothing else here reads or writes, under whatever name; standard streams count.
+/// Opens each file and that of its replies, in order: so many of sessions, and then those of subscribers. Files of replies are emptied once
+/// all are open, each is found to be a regular file that nothing else here reads or writes, under whatever name, where standard streams
+/// count, and it is known what subscribers ask.
 ///
 /// The first that fails is the fault: `ReadFault` where a file can't be opened or is a directory, `WriteFault` where that of its
-/// replies can't be made, or is there and no regular file. Those that were made here are removed then. So it is with the file of a
-/// transcript, which comes last.
+/// replies can't be made, or is there and no regular file. Those that were made here are removed then. So it is with what a
+/// subscriber's file asks, which is read next, and with the file of a transcript, which comes last. Names that clash are told before any file
+/// is opened.
 pub fn open_all<'a, R: Files>(
     rt: &R,
     alloc: Global,
     files: &[&'a str],
+    sessions: usize,
     transcript: Option<&'a str>,
-) -> Result<(Vec<Streams<R::File>>, Option<R::File>), Unopened<'a>> {
-    let (Ok(streams), Ok(mut all)) = (
-        Vec::with_capacity(alloc, files.len()),
+) -> Result<(Parties<R::File>, Option<R::File>), Unopened<'a>> {
+    if let Some(clash) = first_clash(files) {
+        return Err(Unopened::Clashes(clash));
+    }
+    let (Ok(parties), Ok(mut all)) = (
+        Parties::with_room(alloc, sessions, files.len().saturating_sub(sessions)),
         Vec::with_capacity(alloc, files.len()),
     ) else {
         return Err(Unopened::Failed(Failure::memory()));
     };
-    let opened = match open_each(rt, alloc, files, &mut all) {
-        Ok(()) => open_transcript(rt, transcript, &all),
-        Err(unopened) => Err(unopened),
-    };
-    match opened {
-        Ok(last) => empty_with(all, streams, last),
+    match open_and_ask(rt, alloc, files, sessions, transcript, &mut all) {
+        Ok(last) => empty_with(all, parties, last),
         Err(unopened) => {
             remove_new(rt, &all);
             Err(unopened)
@@ -92,14 +99,18 @@ pub fn open_all<'a, R: Files>(
     }
 }
 
-// Empties the files of replies that were there before, and then that of the transcript.
-fn empty_with<'a, F: OpenFile + Drop>(
-    all: Vec<Opened<F>>,
-    streams: Vec<Streams<F>>,
-    last: Option<(F, Output)>,
-) -> Result<(Vec<Streams<F>>, Option<F>), Unopened<'a>> {
-    let streams = empty_all(all, streams)?;
-    Ok((streams, emptied(last)?))
+// Opens them, reads what subscribers ask, and opens the file of a transcript if there is to be one.
+fn open_and_ask<'a, R: Files>(
+    rt: &R,
+    alloc: Global,
+    files: &[&'a str],
+    sessions: usize,
+    transcript: Option<&'a str>,
+    all: &mut Vec<Opened<R::File>>,
+) -> Result<Option<(R::File, Output)>, Unopened<'a>> {
+    open_each(rt, alloc, files, all)?;
+    ask_each(alloc, all, sessions)?;
+    open_transcript(rt, transcript, all)
 }
 
 // Opens them in order, and sees that none is written that is read or written otherwise.
@@ -146,6 +157,7 @@ fn open<'a, R: Files>(
             },
             input,
             output,
+            asked: None,
             name,
         }),
         Err(Unfit::Failed) => Err(failed(number, Fault::WriteFault)),
@@ -251,39 +263,6 @@ fn is_used<F: Drop>(all: &[Opened<F>], number: usize, output: Identity) -> bool 
         }
     }
     false
-}
-
-// Empties the files of replies that were there before.
-fn empty_all<'a, F: OpenFile + Drop>(
-    all: Vec<Opened<F>>,
-    mut streams: Vec<Streams<F>>,
-) -> Result<Vec<Streams<F>>, Unopened<'a>> {
-    for opened in all {
-        let one = match empty(opened) {
-            Ok(one) => one,
-            Err(failure) => return Err(Unopened::Failed(failure)),
-        };
-        if streams.push(one).is_err() {
-            return Err(Unopened::Failed(Failure::memory()));
-        }
-    }
-    Ok(streams)
-}
-
-// Empties one of them.
-fn empty<F: OpenFile + Drop>(opened: Opened<F>) -> Result<Streams<F>, Failure> {
-    let Opened {
-        streams,
-        output,
-        ..
-    } = opened;
-    if output.is_new || streams.replies.set_len(0).is_ok() {
-        return Ok(streams);
-    }
-    Err(Failure {
-        fault: Fault::WriteFault,
-        place: Place::Opening(streams.number),
-    })
 }
 
 // Removes the files of replies that were made here.

@@ -94,6 +94,13 @@ emptied last. Whenever `serve` is killed, `livevec audit --front` says how much 
 restore` goes on from it; at a good end its last line is `end`. With --sync it is on the disk by then.
 That FILE can't be written is a fault at the end.
 
+With --watch FILE, up to 4 times, a subscriber is told beside the sessions. Lines of FILE are `watch NAME KIND
+LO HI`, at most 64, blank ones and comments; a line that is wrong is a fault, told by its number before a
+session begins. Of each name whose answer changed since it was told last, `at E NAME VALUE` goes to FILE.out as
+it comes: VALUE is the answer at edit E. Edits may be skipped; at the end each name's answer is as told. Before its
+first note a name counts as told its answer of no elements. FILE and FILE.out are opened behind those of the
+sessions, as they are. That FILE.out can't be written ends its subscriber alone, and is a fault at the end.
+
 With --answers N each session keeps at most N answers for the transcript: past that a `reduce` is
 `refused 6`. Where memory gives out, lines are `refused 6` too, and the transcript is whole.
 

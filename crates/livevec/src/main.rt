@@ -2,19 +2,26 @@
 //! nothing else.
 #![tactic(auto)]
 
+mod asking;
+mod beginning;
+mod beside;
 mod boards;
 mod clashes;
 mod closing;
 mod command_line;
+mod emptying;
 mod escaped;
 mod failures;
 mod files;
 mod help;
+mod holding;
 mod identities;
 mod minuted;
 mod modes;
+mod parties;
 mod piped;
 mod restoring;
+mod serve_files;
 mod serving;
 mod tasks;
 mod telling;
@@ -22,15 +29,15 @@ mod transcript_files;
 mod usage;
 mod waited;
 
-use crate::clashes::first_clash;
 use crate::failures::Failure;
-use crate::files::{Streams, Unopened};
+use crate::files::{Unopened, open_all};
+use crate::parties::Parties;
 use crate::piped::{Piped, null_files};
+use crate::serve_files::serve;
 use crate::telling::{
     CUT, show, show_clash, show_misuse, status_of, status_of_front, status_told, tell,
 };
-use crate::transcript_files::Kept;
-use crate::usage::{Misuse, NAME_BYTES, plus_in, unreadable_in, unshown_in};
+use crate::usage::{Misuse, NAME_BYTES, misuse_in, unreadable_in, unshown_in};
 use crate::waited::Waited;
 use clap::{ArgMatches, Error};
 use lv_bodies::Sum;
@@ -132,7 +139,7 @@ where
     let Some((name, asked)) = matches.subcommand() else {
         return Ok(0);
     };
-    if let Some(misuse) = plus_in(asked) {
+    if let Some(misuse) = misuse_in(asked) {
         return Ok(show_misuse(rt, misuse));
     }
     match name {
@@ -192,23 +199,6 @@ fn schedule<R: Read, W: Write>(
     ended
 }
 
-// Serves the sessions that a command line names.
-fn serve<R: AllocGlobal + Clock + Eprint + Files + Print + Sync + Threads + Wait, W: Write>(
-    rt: &R,
-    asked: &ArgMatches<'_>,
-    writer: &mut Piped<W>,
-) -> Result<u8, Fault>
-where
-    R::File: Send,
-{
-    let alloc = rt.alloc();
-    let files = asked.get_strs("files").unwrap_or(&[]);
-    match serve_files(rt, alloc, asked, files, writer) {
-        Err(Unopened::Clashes(clash)) => { show_clash(rt, command_line::serve_error(alloc, clash)) }
-        ended => Ok(status_told(rt, files, writer.is_cut(), ended)),
-    }
-}
-
 // Restores a vector from the file that a command line names, and answers a script.
 fn restore<R: AllocGlobal + Clock + Eprint + Files + Input + Print, W: Write>(
     rt: &R,
@@ -222,42 +212,6 @@ fn restore<R: AllocGlobal + Clock + Eprint + Files + Input + Print, W: Write>(
             show_clash(rt, command_line::restore_error(alloc, clash))
         }
         ended => Ok(status_told(rt, &[file], writer.is_cut(), ended)),
-    }
-}
-
-// Opens the files of sessions and serves them.
-fn serve_files<'a, R: Files + Sync + Threads + Wait, W: Write>(
-    rt: &R,
-    alloc: Global,
-    asked: &'a ArgMatches<'_>,
-    files: &[&'a str],
-    writer: &mut W,
-) -> Result<(), Unopened<'a>>
-where
-    R::File: Send,
-{
-    let (streams, file) = open_named(rt, alloc, files, asked.get_str("transcript"))?;
-    let syncs = asked.get_flag("sync");
-    let kept = file.map(|file| Kept { file, syncs });
-    match serving::serve(rt, alloc, command_line::plan(asked), streams, kept, writer) {
-        Ok(served) => {
-            drop(served);
-            Ok(())
-        }
-        Err(failure) => Err(Unopened::Failed(failure)),
-    }
-}
-
-// Opens the files of sessions, where their names don't clash, and that of a transcript.
-fn open_named<'a, R: Files>(
-    rt: &R,
-    alloc: Global,
-    files: &[&'a str],
-    transcript: Option<&'a str>,
-) -> Result<(Vec<Streams<R::File>>, Option<R::File>), Unopened<'a>> {
-    match first_clash(files) {
-        Some(clash) => Err(Unopened::Clashes(clash)),
-        None => files::open_all(rt, alloc, files, transcript),
     }
 }
 
@@ -287,7 +241,7 @@ fn hold_files<'a, R: Files + Sync + Threads>(
 where
     R::File: Send,
 {
-    let (streams, _) = open_named(rt, alloc, files, None)?;
+    let (Parties { streams, .. }, _) = open_all(rt, alloc, files, files.len(), None)?;
     let limits = command_line::limits(asked);
     match boards::hold_sessions(rt, alloc, limits, command_line::kind(asked), streams) {
         Ok(()) => Ok(()),

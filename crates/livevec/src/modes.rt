@@ -94,6 +94,8 @@ pub enum Argument {
     FlagWithout(&'static str, &'static str, &'static [&'static str]),
     /// An option whose value is a file: its name, and what it says.
     File(&'static str, &'static str),
+    /// An option that may be given several times, each with a file: its name, and what it says.
+    Several(&'static str, &'static str),
     /// The file of a transcript's front.
     Front,
 }
@@ -140,6 +142,10 @@ pub const SERVE: Mode = Mode {
             "Writes edits and answers there as they come, in the order of time",
         ),
         Argument::Flag("sync", "Flushes what --transcript writes to the disk"),
+        Argument::Several(
+            "watch",
+            "A file of queries: notes of their answers are written to FILE.out; up to 4 times",
+        ),
         Argument::Files(16),
     ],
 };

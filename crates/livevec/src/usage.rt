@@ -10,6 +10,9 @@ use std::{fmt, str};
 /// Up to how many bytes a word that isn't UTF-8 is shown.
 pub const NAME_BYTES: usize = 4096;
 
+/// How often --watch may be given.
+pub const WATCHES: usize = 4;
+
 // The options whose values are numbers.
 const NUMBERS: [&str; 7] = [
     "buckets", "edits", "jobs", "actors", "workers", "turns", "answers",
@@ -24,6 +27,8 @@ pub enum Misuse<'a> {
     Plus(&'a str),
     /// A word that isn't understood has letters that can't be shown as they are.
     Unshown(&'a str),
+    /// An option is given so often.
+    TooOften(&'static str, usize),
 }
 
 impl fmt::Display for Misuse<'_> {
@@ -44,13 +49,25 @@ impl fmt::Display for Misuse<'_> {
                 "error: '{}' isn't understood where it stands",
                 Escaped(word)
             )?,
+            Misuse::TooOften(name, most) => {
+                write!(f, "error: --{name} may be given {most} times at most")?
+            }
         }
         f.write_str("\n\nFor more information, try '--help'.")
     }
 }
 
-/// The first number of a command's options that is written with a plus, if one is.
-pub fn plus_in<'a>(matches: &ArgMatches<'a>) -> Option<Misuse<'a>> {
+/// What a command's options say that is refused, if they do.
+pub fn misuse_in<'a>(matches: &ArgMatches<'a>) -> Option<Misuse<'a>> {
+    let watches = matches.get_strs("watch").unwrap_or(&[]);
+    if watches.len() > WATCHES {
+        return Some(Misuse::TooOften("watch", WATCHES));
+    }
+    plus_in(matches)
+}
+
+// The first number of a command's options that is written with a plus, if one is.
+fn plus_in<'a>(matches: &ArgMatches<'a>) -> Option<Misuse<'a>> {
     for name in &NUMBERS {
         if let Some(word) = matches.get_str(name) {
             if word.starts_with('+') {

@@ -6,6 +6,7 @@ use Rattle.lv_hub.proofs.TruthLaws.{all_true_of_more}
 use Rattle.lv_transcript.specs.Joined.{in_a_row}
 use Rattle.livevec.proofs.RecordingLaws.{records_so}
 use Rattle.livevec.proofs.ServedLaws.{begins, closed_more, closed_so, closes_ill, closes_well, if_some}
+use Rattle.livevec.proofs.BesideLaws.{closes_telling}
 use Rattle.livevec.proofs.closing.write_closed.Goals as goal
 
 -- what is true of what the share has seen is true of the journal
@@ -46,3 +47,9 @@ pub returns-clause-recorded : goal.returns-clause-recorded
 returns-clause-recorded g c =
     records_so g.V.Write.contents g.K.Begun.start c.close-live.result.history.journal c.journal.result.now c.journal-2.result.now (in_a_row c.args.queues.now.items) _ _ c.write_in_order-written.result c.end_minutes-file.result.1 c.first_failure.result c.end_minutes-file.result.0
     c.journal.ensures c.journal-2.ensures c.first_failure.ensures.well c.first_failure.ensures.both c.write_in_order-written.ensures c.end_minutes-file.ensures.whole
+
+-- what is told last is of the journal too
+pub returns-clause-told : goal.returns-clause-told
+returns-clause-told g c =
+    closes_telling c.args.share c.shown-share.result.seen c.close-live.result.history.journal c.journal.result.now (in_a_row c.args.queues.now.items) c.args.leaving.left.items _ _ _ c.write_in_order-written.result c.first_failure.result
+    c.journal.ensures c.shown-share.ensures.more c.close-live.ensures.seen c.tell-watched.ensures.last c.first_failure.ensures.well c.write_in_order-written.ensures

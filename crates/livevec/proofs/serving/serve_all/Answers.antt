@@ -1,17 +1,42 @@
-use Rattle.std.proofs.Common.{◌∙◌, arith}
+use Rattle.std.proofs.Common.{◌∙◌, ap, arith, vec_capacity}
+use Rattle.lv_watchers.proofs.WatchedLaws.{all_left, watched_as_many}
+use Rattle.livevec.proofs.BesideLaws.{held_more, taken_as_many}
 use Rattle.livevec.proofs.ServedLaws.{all_held_by, begun_as_many}
 use Rattle.livevec.proofs.serving.serve_all.Goals as goal
+
+-- there is room for what each subscriber leaves
+pub leave_all-left-requires-clause-room : goal.leave_all-left-requires-clause-room
+leave_all-left-requires-clause-room g c =
+    let many = watched_as_many _ _ c.args.parties.watches.items c.in_ok-present.ensures.watchers in
+    omega (arith, many, c.in_ok-held.ensures.watched.len, c.in_ok-present.ensures.left_room, c.args.parties.watches.ok.0, c.in_ok-held.held.1.ok.0)
 
 -- as many parts come back as were cut off
 pub returns-clause-parts : goal.returns-clause-parts
 returns-clause-parts g c =
-    let many = begun_as_many _ _ c.args.streams.items c.in_ok-tasks.ensures.begun in
+    let sessions = begun_as_many _ _ c.args.parties.streams.items c.in_ok-present.ensures.sessions in
+    let many = watched_as_many _ _ c.args.parties.watches.items c.in_ok-present.ensures.watchers in
     let back = c.in_ok-all.ensures.back in
-    omega (arith, back.parts, c.in_ok-done.ensures.len, many, c.in_ok-tasks.ensures.parts, c.requires.parts, c.args.streams.ok.0)
+    let left = c.leave_all-left.ensures.left in
+    omega (arith, back.parts, c.in_ok-held.ensures.held.len, sessions, left.parts, c.in_ok-held.ensures.watched.len, many, c.in_ok-present.ensures.parts, c.requires.parts, c.args.parties.streams.ok.0, c.args.parties.watches.ok.0)
 
 pub returns-clause-held : goal.returns-clause-held
 returns-clause-held g c =
-    all_held_by _ g.N.Naming.limits _ _ c.args.streams.items _ _ _ _ c.in_ok-tasks.ensures.begun c.in_ok-done.ensures c.in_ok-all.ensures.back (c.in_ok-tasks.ensures.count ∙ c.requires.count)
+    let left = c.leave_all-left.ensures.left in
+    held_more g.N.Naming.limits _ _ _ _ _
+    (all_held_by _ g.N.Naming.limits _ _ c.args.parties.streams.items _ _ _ _ c.in_ok-present.ensures.sessions c.in_ok-held.ensures.held c.in_ok-all.ensures.back (c.in_ok-present.ensures.count ∙ c.requires.count))
+    left.count left.more
+
+-- what each subscriber has left is told of all that was seen
+pub returns-clause-left : goal.returns-clause-left
+returns-clause-left g c =
+    all_left _ g.N.Naming.limits _ _ c.args.parties.watches.items _ _ _ c.in_ok-present.ensures.watchers c.in_ok-held.ensures.watched c.leave_all-left.ensures.left
+
+-- and what they tell last has room
+pub returns-clause-room : goal.returns-clause-room
+returns-clause-room g c =
+    let many = watched_as_many _ _ c.args.parties.watches.items c.in_ok-present.ensures.watchers in
+    let left = taken_as_many g.N.Naming.limits _ _ _ _ _ c.in_ok-held.ensures.watched c.leave_all-left.ensures.left in
+    omega (arith, many, left, c.in_ok-present.ensures.room, ap vec_capacity c.leave_all-left.ensures.room, c.args.parties.watches.ok.0, c.leave_all-left.result.left.ok.0)
 
 -- minutes are kept where there is a file for them
 pub returns-clause-minuted : goal.returns-clause-minuted

@@ -1,4 +1,5 @@
 use Rattle.std.proofs.Common.{◌∙◌}
+use Rattle.lv_watchers.proofs.WatchedLaws.{served_watched}
 use Rattle.livevec.proofs.RecordingLaws.{passes_all, passes_ill, passes_well}
 use Rattle.livevec.proofs.ServedLaws.{failed_so, served_so}
 use Rattle.livevec.proofs.serving.serve_as.Goals as goal
@@ -19,3 +20,8 @@ returns-in-Ok-clause-back g c =
 pub returns-in-Ok-clause-recorded : goal.returns-in-Ok-clause-recorded
 returns-in-Ok-clause-recorded g c =
     passes_well _ _ _ c.write_closed-file.result.1 c.all_or_failure.result c.all_or_failure.ensures (λ done recorded. recorded) c.write_closed-file.ensures.recorded
+
+-- what subscribers were told last goes with what they have left
+pub returns-in-Ok-clause-watched : goal.returns-in-Ok-clause-watched
+returns-in-Ok-clause-watched g c =
+    passes_well _ _ _ c.write_closed-file.result.1 c.all_or_failure.result c.all_or_failure.ensures (λ done closed. served_watched _ _ _ _ _ _ c.in-Ok.ensures.left closed) c.write_closed-file.ensures.told

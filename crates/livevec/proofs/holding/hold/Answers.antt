@@ -1,5 +1,5 @@
 use Rattle.livevec.proofs.ServedLaws.{ended_so}
-use Rattle.livevec.proofs.serving.hold.Goals as goal
+use Rattle.livevec.proofs.holding.hold.Goals as goal
 
 -- the share counts and has seen what the session's last state does
 pub returns-in-Ok : goal.returns-in-Ok

@@ -1,0 +1,6 @@
+use Rattle.std.specs.Prelude.{◌≡◌, All, false, take}
+use Rattle.livevec.proofs.closing.first_unwritten.Given as goal
+
+-- the output of none so far has failed
+abbrev pub invariant-loop-one : goal.invariant-loop-one
+invariant-loop-one g l = All (λ w. w.notices.failed ≡ false) (take l.one-index l.watched)
