@@ -7,7 +7,7 @@ use Rattle.lv_geometry.specs.Numbers.{number_of as name_number}
 use Rattle.lv_bodies.specs.Plain.{plain_value}
 use Rattle.lv_series.specs.declared.edits.LongEdit.{LongEdit}
 use Rattle.lv_series.specs.Numbers.{number_of}
-use Rattle.lv_series.specs.Plain.{kept_after}
+use Rattle.lv_series.specs.Plain.{plain_series}
 use Rattle.lv_series.specs.Series.{Held, SeriesState, changed, element_at, range_refused, receipt_of, refused, size_of, slice_of}
 use Rattle.lv_lines.specs.Texts.{answer_text, bad_text, named_text, note_text, scan_text, size_text, unwatched_text, watching_text}
 use Rattle.lv_script.specs.PlainScript.{same_value, scan_by}
@@ -36,7 +36,7 @@ pub record Known : Type 0 where
 
 -- what some edits leave, and how many they are
 abbrev pub known_by : Plain → Known
-known_by s = record { held = kept_after s.edits; edit = length s.edits; queries = s.queries }
+known_by s = record { held = (plain_series {B = Unit {0}} tt s.edits).held; edit = length s.edits; queries = s.queries }
 
 -- ---- what a command is answered
 

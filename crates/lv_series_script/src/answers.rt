@@ -145,13 +145,14 @@ fn put_element_at(series: &Series<Six>, i: u64, held: &mut Vec<u8>)
 }
 
 // The value of a kind over a range, or why the range is refused.
-fn put_reduced(series: &Series<Six>, kind: Kind, lo: u64, hi: u64, held: &mut Vec<u8>)
+fn put_reduced(series: &mut Series<Six>, kind: Kind, lo: u64, hi: u64, held: &mut Vec<u8>)
     requires { HasRoom held.old ROOM }
-    ensures answer { (reply : List ℕ) × ((entries : List Entry) → Told (known_of series.now entries) (LongCommand.Reduce kind lo hi) reply (known_of series.now entries))
+    ensures same { series.new ≡ series.old }
+    ensures answer { (reply : List ℕ) × ((entries : List Entry) → Told (known_of series.old entries) (LongCommand.Reduce kind lo hi) reply (known_of series.old entries))
         × (held.new.items ≡ held.old.items ++ reply) }
     ensures room { KeepsRoom held.old held.new }
 {
-    match series.reduce(lo, hi) {
+    match series.ask(lo, hi) {
         Ok(answer) => put_answer(held, answer.edit, kind, face(kind, answer.value)),
         Err(refusal) => put_refused(held, refusal.number()),
     }
@@ -184,18 +185,19 @@ fn answer_scan<W: Write>(
 
 // Registers a query.
 fn put_watch(
-    series: &Series<Six>,
+    series: &mut Series<Six>,
     entries: &mut Vec<Watched>,
     name: Name,
     kind: Kind,
     span: Span,
     held: &mut Vec<u8>,
 )
-    requires ready { IsReady series.now.held entries.old.items }
+    requires ready { IsReady series.old.held entries.old.items }
     requires room { HasRoom held.old ROOM }
-    ensures answer { (reply : List ℕ) × Told (known_of series.now entries.old.items) (LongCommand.Watch name kind span) reply (known_of series.now entries.new.items)
+    ensures same { series.new ≡ series.old }
+    ensures answer { (reply : List ℕ) × Told (known_of series.old entries.old.items) (LongCommand.Watch name kind span) reply (known_of series.old entries.new.items)
         × (held.new.items ≡ held.old.items ++ reply) }
-    ensures ready { IsReady series.now.held entries.new.items }
+    ensures ready { IsReady series.old.held entries.new.items }
     ensures room { KeepsRoom held.old held.new }
 {
     match register(series, entries, name, kind, span) {

@@ -32,7 +32,7 @@ pub fn find(entries: &[Watched], name: Name) -> Option<Watched>
 
 /// Registers a query. Refused with `BadRange`, `NameTaken`, `TooMany`, then `NoMemory`.
 pub fn register(
-    series: &Series<Six>,
+    series: &mut Series<Six>,
     entries: &mut Vec<Watched>,
     name: Name,
     kind: Kind,
@@ -40,7 +40,8 @@ pub fn register(
 ) -> Result<(), Refusal>
     ensures free { OnOk result (long_watch_refusal (queries_of entries.old.items) name span ≡ None) }
     ensures added { OnOk result (entries.new.items ≡ entries.old.items
-        ++ record { name = name; kind = kind; span = span; value = long_answer series.now.held record { name = name; kind = kind; span = span } } ∷ []) }
+        ++ record { name = name; kind = kind; span = span; value = long_answer series.old.held record { name = name; kind = kind; span = span } } ∷ []) }
+    ensures same { series.new ≡ series.old }
     ensures few { OnOk result (length entries.old.items + 1 ≤ 64) }
     ensures err { IfErr result (λ refusal. IsRefusal (long_watch_refusal (queries_of entries.old.items) name span) refusal) }
     ensures unchanged { OnErr result (entries.new.items ≡ entries.old.items) }
@@ -103,11 +104,12 @@ pub fn forget(entries: &mut Vec<Watched>, name: Name) -> Result<(), Refusal>
 }
 
 /// Brings each query up to what is kept now, in order of registration, and tells of those whose answer is another than before.
-pub fn tell(series: &Series<Six>, entries: &mut [Watched], held: &mut Vec<u8>)
+pub fn tell(series: &mut Series<Six>, entries: &mut [Watched], held: &mut Vec<u8>)
     requires values { All HasValue entries.old }
     requires room { HasRoom held.old (LINE * length entries.old) }
-    ensures entries { entries.new ≡ map (brought_up series.now.held) entries.old }
-    ensures text { held.new.items ≡ held.old.items ++ flat_map (told_of series.now.held) entries.old }
+    ensures same { series.new ≡ series.old }
+    ensures entries { entries.new ≡ map (brought_up series.old.held) entries.old }
+    ensures text { held.new.items ≡ held.old.items ++ flat_map (told_of series.old.held) entries.old }
     ensures room { KeepsRoom held.old held.new }
 {
     for entry in entries.iter_mut() {
@@ -116,11 +118,12 @@ pub fn tell(series: &Series<Six>, entries: &mut [Watched], held: &mut Vec<u8>)
 }
 
 // Brings one query up, and tells of its answer where that is another than before.
-fn tell_one(series: &Series<Six>, entry: &mut Watched, held: &mut Vec<u8>)
+fn tell_one(series: &mut Series<Six>, entry: &mut Watched, held: &mut Vec<u8>)
     requires value { HasValue entry.old }
     requires room { HasRoom held.old LINE }
-    ensures entry { entry.new ≡ brought_up series.now.held entry.old }
-    ensures text { held.new.items ≡ held.old.items ++ told_of series.now.held entry.old }
+    ensures same { series.new ≡ series.old }
+    ensures entry { entry.new ≡ brought_up series.old.held entry.old }
+    ensures text { held.new.items ≡ held.old.items ++ told_of series.old.held entry.old }
     ensures len { vec_len held.new ≤ vec_len held.old + LINE }
     ensures room { KeepsRoom held.old held.new }
 {

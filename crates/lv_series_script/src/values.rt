@@ -8,9 +8,10 @@ use crate::long_commands::Span;
 use lv_bodies::{Kind, Shown, Six, face};
 use lv_series::Series;
 
-/// The value of a kind over what is kept of a span.
-pub fn value_of(series: &Series<Six>, kind: Kind, span: Span) -> Shown
-    ensures { result ≡ plain_value kind (span_of series.now.held span) }
+/// The value of a kind over what is kept of a span. What is computed for it is kept.
+pub fn value_of(series: &mut Series<Six>, kind: Kind, span: Span) -> Shown
+    ensures value { result ≡ plain_value kind (span_of series.old.held span) }
+    ensures same { series.new ≡ series.old }
 {
     let kept = kept_of(series, span);
     value_between(series, kind, kept.lo, kept.hi)
@@ -44,11 +45,12 @@ fn kept_of(series: &Series<Six>, span: Span) -> Kept
 }
 
 // The value of a kind over a range that nothing refuses.
-fn value_between(series: &Series<Six>, kind: Kind, lo: u64, hi: u64) -> Shown
-    requires { range_refused series.now.held lo hi ≡ None }
-    ensures { result ≡ plain_value kind (slice_of series.now.held lo hi) }
+fn value_between(series: &mut Series<Six>, kind: Kind, lo: u64, hi: u64) -> Shown
+    requires { range_refused series.old.held lo hi ≡ None }
+    ensures value { result ≡ plain_value kind (slice_of series.old.held lo hi) }
+    ensures same { series.new ≡ series.old }
 {
-    match series.reduce(lo, hi) {
+    match series.ask(lo, hi) {
         Ok(answer) => face(kind, answer.value),
         Err(_) => unreachable!(),
     }

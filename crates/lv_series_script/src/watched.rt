@@ -1,3 +1,4 @@
+//! A standing query with the value that it was told.
 use crate::long_commands::Span;
 use lv_bodies::{Kind, Shown};
 use lv_standing::Name;

@@ -9,8 +9,8 @@ pub returns-in-Ok-clause-answer : goal.returns-in-Ok-clause-answer
 returns-in-Ok-clause-answer c =
     let s = c.args.series.now in
     let kind = c.args.kind in
-    let value = c.face.ensures.shown ∙ face_of-any_fold kind _ (slice_of s.held c.args.lo c.args.hi) c.in-Ok.ensures.value in (
+    let value = c.face.ensures.shown ∙ face_of-any_fold kind _ (slice_of s.held c.args.lo c.args.hi) c.in-Ok.ensures.answer.value in (
       answer_text c.in-Ok.answer.edit kind c.face.result,
-      reduce_granted s kind c.args.lo c.args.hi (answer_text c.in-Ok.answer.edit kind c.face.result) c.in-Ok.ensures.granted (ap₂ (λ edit value. answer_text edit kind value) c.in-Ok.ensures.edit value),
+      reduce_granted s kind c.args.lo c.args.hi (answer_text c.in-Ok.answer.edit kind c.face.result) c.in-Ok.ensures.answer.granted (ap₂ (λ edit value. answer_text edit kind value) c.in-Ok.ensures.answer.edit value),
       c.put_answer.ensures.text,
     )

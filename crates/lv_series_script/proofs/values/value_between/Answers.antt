@@ -3,7 +3,7 @@ use Rattle.lv_series.specs.Series.{slice_of}
 use Rattle.lv_series_script.proofs.LongShown.{face_of-any_fold}
 use Rattle.lv_series_script.proofs.values.value_between.Goals as goal
 
-pub returns : goal.returns
-returns c =
+pub returns-clause-value : goal.returns-clause-value
+returns-clause-value c =
     c.face.ensures.shown
-    ∙ face_of-any_fold c.args.kind _ (slice_of c.args.series.now.held c.args.lo c.args.hi) c.in-Ok.ensures.value
+    ∙ face_of-any_fold c.args.kind _ (slice_of c.args.series.now.held c.args.lo c.args.hi) c.in-Ok.ensures.answer.value
