@@ -36,6 +36,12 @@ pub fn hold_beside<
     ensures held { IfOk result (λ all. AreHeldFrom N.limits tasks.items all.0.items) }
     ensures watched { IfOk result (λ all. AreWatchedFrom N.limits watchers.items all.1.items) }
 {
+    if watchers.len() == 0 {
+        return match hold_and_dismiss(rt, alloc, hub, minutes, answers, tasks) {
+            Ok(done) => Ok((done, watchers)),
+            Err(failure) => Err(failure),
+        };
+    }
     let (watchers, done) = thread::join(
         rt,
         move || -> Vec<Watcher<N, F>>
@@ -43,16 +49,34 @@ pub fn hold_beside<
         { watch_all(rt, alloc, hub, watchers) },
         move || -> Result<Vec<Done<N, F>>, Failure>
             ensures { IfOk result (λ done. AreHeldFrom N.limits tasks.items done.items) }
-        {
-            let done = hold_each(rt, alloc, hub, minutes, answers, tasks);
-            hub.dismiss(rt);
-            done
-        },
+        { hold_and_dismiss(rt, alloc, hub, minutes, answers, tasks) },
     );
     match done {
         Ok(done) => Ok((done, watchers)),
         Err(failure) => Err(failure),
     }
+}
+
+// Holds the sessions, and dismisses workers and subscribers once all have ended.
+fn hold_and_dismiss<
+    N: Means<Six> + Send + Sync,
+    K: Begun + Send + Sync,
+    F: Read + Write + Send + Drop,
+    V: Write + Send + Drop,
+    R: Threads + Wait + Sync,
+>(
+    rt: &R,
+    alloc: Global,
+    hub: &Hub<Six, N>,
+    minutes: Option<&Mutex<Minutes<N, V, K>>>,
+    answers: usize,
+    tasks: Vec<Task<N, F>>,
+) -> Result<Vec<Done<N, F>>, Failure>
+    ensures { IfOk result (λ done. AreHeldFrom N.limits tasks.items done.items) }
+{
+    let done = hold_each(rt, alloc, hub, minutes, answers, tasks);
+    hub.dismiss(rt);
+    done
 }
 
 // Has each subscriber told so, and gives them back. Takes no memory.
