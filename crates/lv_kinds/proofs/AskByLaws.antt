@@ -2,7 +2,6 @@
 use Rattle.std.proofs.Common.{◌≡◌, ℕ, zero, suc, ◌+◌, ◌-◌, ◌*◌, ◌/◌, ◌^◌, ◌<◌, ◌≤◌, true, [], length, List, slice_range, refl, subst, sym, ap, ◌∙◌, inl, inr, arith}
 use Rattle.std.proofs.lemmas.Bool.{cases_lt, true≢false}
 use Rattle.std.proofs.Math.Nat.{mul-div_left}
-use Rattle.lv_geometry.specs.declared.nodes.Node.{Node}
 use Rattle.lv_geometry.specs.Nodes.{first_index, over}
 use Rattle.lv_geometry.proofs.NodeLaws.{some_width}
 use Rattle.lv_bodies.specs.Body.{BodyLaws, CanFold, CanGrow, CanJoin, Operations, fold_of}

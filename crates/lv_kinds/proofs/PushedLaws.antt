@@ -1,5 +1,5 @@
 -- What is kept after many pushes, once the bytes of the nodes that have one of their indices were cleared.
-use Rattle.std.proofs.Common.{◌≡◌, ℕ, ℤ, zero, suc, ◌+◌, ◌-◌, ◌*◌, ◌/◌, ◌<◌, ◌≤◌, ◌&&◌, ◌||◌, Bool, true, false, cond, Some, List, [], ◌∷◌, ◌++◌, length, nat_eq, if◌then◌else◌, refl, sym, ap, subst, ◌∙◌, inl, inr, arith}
+use Rattle.std.proofs.Common.{◌≡◌, ℕ, ℤ, zero, suc, ◌+◌, ◌-◌, ◌<◌, ◌≤◌, ◌&&◌, ◌||◌, Bool, true, false, cond, Some, List, [], ◌∷◌, ◌++◌, length, nat_eq, refl, sym, ap, subst, ◌∙◌, inl, inr, arith}
 use Rattle.std.specs.Int.{bit_at}
 use Rattle.std.specs.List.{list_any, range_with_len}
 use Rattle.std.proofs.Math.Bool.{and-false}
@@ -22,7 +22,7 @@ use Rattle.lv_edits.proofs.PushLaws.{size_pushed}
 use Rattle.lv_edits.proofs.RunLaws.{AreOfBlock, block_first, block_rest, covers_block}
 use Rattle.lv_edits.proofs.TouchLaws.{touches_there, untouched_keeps}
 use Rattle.lv_kinds.specs.Inner.{ClearsEach}
-use Rattle.lv_kinds.specs.Kinds.{AreFolds, AreKept, HaveRoomFor, KindsState, is_flagged}
+use Rattle.lv_kinds.specs.Kinds.{AreFolds, AreKept, HaveRoomFor, KindsState}
 use Rattle.lv_kinds.specs.NodeRows.{ClearsNodes, NodeRowsState, value_at}
 use Rattle.lv_kinds.proofs.KeptLaws.{unflagged}
 

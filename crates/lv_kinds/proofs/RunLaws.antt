@@ -1,11 +1,11 @@
 -- The runs of neighbours that a question by one kind takes: which nodes they have, and the join of their summaries.
-use Rattle.std.proofs.Common.{◌≡◌, ◌≢◌, ℕ, ◌+◌, ◌-◌, ◌*◌, ◌/◌, ◌%◌, ◌^◌, ◌<◌, ◌≤◌, min, true, length, List, slice_range, refl, sym, ap, ◌∙◌, inl, inr, arith}
+use Rattle.std.proofs.Common.{◌≡◌, ◌≢◌, ℕ, ◌+◌, ◌-◌, ◌*◌, ◌/◌, ◌%◌, ◌^◌, ◌<◌, ◌≤◌, min, true, length, List, slice_range, sym, ap, ◌∙◌, inl, inr, arith}
 use Rattle.std.proofs.lemmas.Bool.{and_from, cases_lt, le-leb}
 use Rattle.std.proofs.lemmas.Grind.{pow_more}
 use Rattle.std.proofs.lemmas.Nat.{le-div}
-use Rattle.std.proofs.Math.Nat.{div-mul-le_self, mod-add-div, mul-le-mul_right, mul-mod_left, mod-eq-sub-div-mul, mul-div_left}
+use Rattle.std.proofs.Math.Nat.{div-mul-le_self, mod-add-div, mul-le-mul_right, mul-mod_left, mul-div_left}
 use Rattle.lv_geometry.specs.declared.nodes.Node.{Node}
-use Rattle.lv_geometry.specs.Nodes.{first_index, is_below, is_node, over}
+use Rattle.lv_geometry.specs.Nodes.{first_index, is_below, is_node}
 use Rattle.lv_geometry.proofs.NodeLaws.{node_of_level, some_width}
 use Rattle.lv_bodies.specs.Body.{BodyLaws, CanFold, CanJoin, Operations, fold_of}
 use Rattle.lv_edits.specs.declared.edit.Edit.{Edit}
@@ -15,7 +15,7 @@ use Rattle.lv_reduce.specs.Pieces.{Fits}
 use Rattle.lv_reduce.proofs.KnowLaws.{node_slice}
 use Rattle.lv_reduce.proofs.NodeLaws.{lesser_aligned, no_wider}
 use Rattle.lv_reduce.proofs.PieceLaws.{slice-joined, slices_can_join}
-use Rattle.lv_kinds.specs.Asked.{CanAskBy, KnowsBy, LearnsBy}
+use Rattle.lv_kinds.specs.Asked.{CanAskBy, KnowsBy}
 use Rattle.lv_kinds.specs.Kinds.{is_flagged}
 use Rattle.lv_kinds.specs.NodeRows.{NodeRowsState, value_at}
 use Rattle.lv_kinds.specs.Runs.{FoldGoesOn, IsInside, IsRun, IsSomeFold, KnowsRun}
@@ -151,16 +151,44 @@ module _ {S : Type 0} (o : Operations S) (edits : List Edit) (bit : ℕ) (first 
   kept_of_run k x below flagged is =
       is ∙ can_ask.folds (record { level = first.level; number = first.number + k }) (run_is_whole edits first end (first.number + k) inside below) flagged
 
-  -- where all of a run is kept, its summaries are joined so
-  pub kept_run : (count : ℕ) (s r : S) → first.number + count ≡ end → FoldGoesOn o edits s (first_index first) r ((first.number + count) * 8 ^ first.level)
-      → ((j : ℕ) → j < count → is_flagged flags bit (record { level = first.level; number = first.number + j }) ≡ true) → KnowsRun o edits bit first end s r flags flags rows rows
-  kept_run count s r all goes_on kept = record {
-    goes_on = λ lo low fold. goes_on lo low fold ∙ ap (λ n. fold_of o (slice_range (list_of edits) lo (n * 8 ^ first.level))) all;
-    can = can_ask;
-    learns = learns_nothing bit flags rows;
+-- where the first nodes of a run are kept, their summaries are joined so
+pub kept_run : {S : Type 0} (o : Operations S) (edits : List Edit) (bit : ℕ) (first : Node) (flags : NodeRowsState ℕ) (rows : NodeRowsState S) → CanAskBy o edits bit flags rows → (count end : ℕ) (s r : S) → first.number + count ≡ end
+    → FoldGoesOn o edits s (first_index first) r ((first.number + count) * 8 ^ first.level)
+    → ((j : ℕ) → j < count → is_flagged flags bit (record { level = first.level; number = first.number + j }) ≡ true) → KnowsRun o edits bit first end s r flags flags rows rows
+kept_run o edits bit first flags rows can_ask count end s r all goes_on kept = record {
+  goes_on = λ lo low fold. goes_on lo low fold ∙ ap (λ n. fold_of o (slice_range (list_of edits) lo (n * 8 ^ first.level))) all;
+  can = can_ask;
+  learns = learns_nothing bit flags rows;
+  kept_now = λ k from below.
+      let here : first.number + (k - first.number) ≡ k = omega arith in
+      ap (λ n. is_flagged flags bit (record { level = first.level; number = n })) (sym here) ∙ kept (k - first.number) (omega arith);
+}
+
+-- the nodes of a run from a number on
+abbrev pub from_number : Node → ℕ → Node
+from_number first number = record { level = first.level; number = number }
+
+-- they are nodes of the vector too
+pub rest_is_inside : (edits : List Edit) (first : Node) (mid end : ℕ) → IsInside edits first end → mid < end → IsInside edits (from_number first mid) end
+rest_is_inside edits first mid end inside some = record { low = inside.low; high = inside.high; some = some; inside = inside.inside }
+
+module _ {S : Type 0} (o : Operations S) (edits : List Edit) (bit : ℕ) (first : Node) (mid : ℕ) (low : first.number ≤ mid) where
+  -- what was joined up to a number is a fold up to there
+  pub joined_is_fold : (s sum : S) → IsSomeFold o edits s (first_index first) → FoldGoesOn o edits s (first_index first) sum (mid * 8 ^ first.level) → IsSomeFold o edits sum (first_index (from_number first mid))
+  joined_is_fold s sum some goes_on = (some.0, omega (arith, some.1, mul-le-mul_right (8 ^ first.level) low), goes_on some.0 some.1 some.2)
+
+  -- where the nodes before the number are known, and then those from it on, all are
+  pub knows_run_along : (end : ℕ) (s sum r : S) (old between new : NodeRowsState ℕ) (old_rows between_rows new_rows : NodeRowsState S) → KnowsRun o edits bit first mid s sum old between old_rows between_rows
+      → KnowsRun o edits bit (from_number first mid) end sum r between new between_rows new_rows → KnowsRun o edits bit first end s r old new old_rows new_rows
+  knows_run_along end s sum r old between new old_rows between_rows new_rows before behind = record {
+    goes_on = λ lo small fold. behind.goes_on lo (omega (arith, small, mul-le-mul_right (8 ^ first.level) low)) (before.goes_on lo small fold);
+    can = behind.can;
+    learns = learns_along bit old between new old_rows between_rows new_rows before.learns behind.learns;
     kept_now = λ k from below.
-        let here : first.number + (k - first.number) ≡ k = omega arith in
-        ap (λ n. is_flagged flags bit (record { level = first.level; number = n })) (sym here) ∙ kept (k - first.number) (omega arith);
+        elim (cases_lt k mid) [
+          | inl earlier ↦ behind.learns.kept (record { level = first.level; number = k }) (before.kept_now k from earlier)
+          | inr later ↦ behind.kept_now k later below
+        ];
   }
 
 -- the folds up to a node of a run, told by its place in the run, go on to the next one

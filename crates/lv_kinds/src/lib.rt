@@ -6,6 +6,7 @@
 #![tactic(auto)]
 
 mod asking;
+mod joining;
 mod kind_summaries;
 mod kinds;
 mod node_rows;

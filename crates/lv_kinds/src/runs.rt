@@ -1,16 +1,15 @@
 //! The walk of a question by one kind: runs of neighbours on each level, up from the start of the range and down to its end.
-ghost use Rattle.std.specs.Prelude.{◌≡◌, ◌^◌, ◌≤◌, IfSome};
-ghost use Rattle.lv_geometry.specs.Nodes.{first_index};
-ghost use Rattle.lv_kinds.specs.Asked.{ArePartsFolds, CanAskBy};
-ghost use Rattle.lv_kinds.specs.Runs.{GoesOnBy, IsInside, IsRun, IsSomeFold, KnowsRun, StandsBy};
+ghost use Rattle.std.specs.Prelude.{◌≡◌, ◌^◌, ◌≤◌};
+ghost use Rattle.lv_kinds.specs.Asked.{ArePartsFolds};
+ghost use Rattle.lv_kinds.specs.Runs.{GoesOnBy, IsRun, StandsBy};
 
-use crate::asking::{has_bit, know};
+use crate::joining::join_run;
 use crate::node_rows::NodeRows;
 use crate::of_six::OfSix;
 use crate::walks::Walk;
 use lv_bodies::{SixSummary, fold_more};
 use lv_geometry::{Node, width};
-use lv_reduce::{View, join};
+use lv_reduce::View;
 
 /// Takes a run of each level in turn, up and down again. So it comes to the end of the range.
 #[inline(always)]
@@ -140,90 +139,6 @@ fn run_end(at: u32, hi: u32, level: u32) -> u32
         return number;
     }
     end
-}
-
-// Joins the summaries of a run to a fold. Where one isn't kept, it is computed and kept.
-#[inline(always)]
-fn join_run<K: OfSix>(
-    view: View<'_, SixSummary>,
-    body: &K,
-    flags: &mut NodeRows<u8>,
-    rows: &mut NodeRows<K::S>,
-    value: K::S,
-    first: Node,
-    end: u32,
-) -> K::S
-    requires parts { ArePartsFolds (K.operations (K.meaning body.now)) K.part_in view.cells.now.journal view.table.now }
-    requires can { CanAskBy (K.operations (K.meaning body.now)) view.cells.now.journal K.bit flags.old rows.old }
-    requires inside { IsInside view.cells.now.journal first end }
-    requires so_far { IsSomeFold (K.operations (K.meaning body.now)) view.cells.now.journal value (first_index first) }
-    ensures { KnowsRun (K.operations (K.meaning body.now)) view.entry.cells.now.journal K.bit first end value result flags.old flags.new rows.old rows.new }
-{
-    if let Some(joined) = join_kept(view, body, flags, rows, value, first, end) {
-        return joined;
-    }
-    learn_run(view, body, flags, rows, value, first, end)
-}
-
-// Joins the summaries of a run to a fold, where all of them are kept.
-#[inline(always)]
-fn join_kept<K: OfSix>(
-    view: View<'_, SixSummary>,
-    body: &K,
-    flags: &NodeRows<u8>,
-    rows: &NodeRows<K::S>,
-    value: K::S,
-    first: Node,
-    end: u32,
-) -> Option<K::S>
-    requires can { CanAskBy (K.operations (K.meaning body.now)) view.cells.now.journal K.bit flags.now rows.now }
-    requires inside { IsInside view.cells.now.journal first end }
-    requires so_far { IsSomeFold (K.operations (K.meaning body.now)) view.cells.now.journal value (first_index first) }
-    ensures { IfSome result (λ joined. KnowsRun (K.operations (K.meaning body.now)) view.entry.cells.now.journal K.bit first end value joined flags.now flags.now rows.now rows.now) }
-{
-    // The elements are few enough for a fold.
-    let _size = view.cells.size();
-    let bytes = flags.run(first, end)?;
-    let kept = rows.run(first, end)?;
-    let mut sum = value;
-    for k in 0..bytes.len() {
-        if !has_bit::<K>(bytes[k]) {
-            return None;
-        }
-        sum = join(body, sum, kept[k]);
-    }
-    Some(sum)
-}
-
-// Joins the summaries of a run to a fold, one after another. It stays out of the walk, so that a walk over what is kept is short.
-#[inline(never)]
-fn learn_run<K: OfSix>(
-    view: View<'_, SixSummary>,
-    body: &K,
-    flags: &mut NodeRows<u8>,
-    rows: &mut NodeRows<K::S>,
-    value: K::S,
-    first: Node,
-    end: u32,
-) -> K::S
-    requires parts { ArePartsFolds (K.operations (K.meaning body.now)) K.part_in view.cells.now.journal view.table.now }
-    requires can { CanAskBy (K.operations (K.meaning body.now)) view.cells.now.journal K.bit flags.old rows.old }
-    requires inside { IsInside view.cells.now.journal first end }
-    requires so_far { IsSomeFold (K.operations (K.meaning body.now)) view.cells.now.journal value (first_index first) }
-    ensures { KnowsRun (K.operations (K.meaning body.now)) view.entry.cells.now.journal K.bit first end value result flags.old flags.new rows.old rows.new }
-{
-    // The elements are few enough for a fold.
-    let _size = view.cells.size();
-    let mut sum = value;
-    for number in first.number..end {
-        let node = Node {
-            level: first.level,
-            number,
-        };
-        let summary = know(view, body, flags, rows, node);
-        sum = join(body, sum, summary);
-    }
-    sum
 }
 
 // Takes the elements before the next block, or those behind the last one that ends in the range.

@@ -1,4 +1,4 @@
-//! Where a walk over a range stands.
+//! Where a walk over a range stands, and how far the summaries of a run were joined.
 ghost use Rattle.std.specs.Prelude.{◌≡◌, ⊤};
 
 use std::alloc::AllocError;
@@ -18,6 +18,23 @@ impl<S: Copy> Clone for Walk<S> {
     ghost is_infallible = { λ _. ⊤ };
 
     fn clone(&self) -> Result<Walk<S>, AllocError> {
+        Ok(*self)
+    }
+}
+
+/// The number behind the nodes of a run whose summaries were joined, with the fold so far.
+#[derive(Copy)]
+pub struct Joined<S> {
+    pub end: u32,
+    pub value: S,
+}
+
+impl<S: Copy> Clone for Joined<S> {
+    ghost is_clone = { λ x y. y ≡ x };
+
+    ghost is_infallible = { λ _. ⊤ };
+
+    fn clone(&self) -> Result<Joined<S>, AllocError> {
         Ok(*self)
     }
 }

@@ -1,7 +1,6 @@
-use Rattle.std.proofs.Common.{◌≡◌, ◌^◌, ◌≤◌, ◌∙◌, arith}
+use Rattle.std.proofs.Common.{arith}
 use Rattle.lv_known.proofs.FoldableLaws.{can_fold}
-use Rattle.lv_kinds.specs.Runs.{EndsBy}
-use Rattle.lv_kinds.proofs.AskByLaws.{ends_along, stands_at_start}
+use Rattle.lv_kinds.proofs.AskByLaws.{stands_at_start}
 use Rattle.lv_kinds.proofs.asking.ask_by.Goals as goal
 
 pub take_runs-walk-requires-clause-stands : goal.take_runs-walk-requires-clause-stands

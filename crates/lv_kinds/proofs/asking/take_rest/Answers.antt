@@ -1,4 +1,4 @@
-use Rattle.std.proofs.Common.{◌≡◌, ◌+◌, ◌^◌, ◌<◌, ◌≤◌, FitsSigned, length, rules, subst, ap, ◌∙◌, w64, arith}
+use Rattle.std.proofs.Common.{◌<◌, ◌≤◌, FitsSigned, length, rules, ap, ◌∙◌, w64, arith}
 use Rattle.std.proofs.lemmas.Int.{to_z-of_z}
 use Rattle.lv_geometry.proofs.NodeLaws.{some_width}
 use Rattle.lv_geometry.specs.Nodes.{over}

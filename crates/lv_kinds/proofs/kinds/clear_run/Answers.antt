@@ -1,7 +1,5 @@
 use Rattle.std.proofs.Common.{◌≡◌, ◌+◌, ◌-◌, ◌/◌, ◌<◌, refl, arith}
-use Rattle.std.specs.List.{range_with_len}
 use Rattle.lv_edits.proofs.RunLaws.{AreOfBlock-from}
-use Rattle.lv_kinds.specs.Inner.{ClearsEach}
 use Rattle.lv_kinds.proofs.PushedLaws.{ClearsEach-more, ClearsEach-none}
 use Rattle.lv_kinds.proofs.kinds.clear_run.Goals as goal
 

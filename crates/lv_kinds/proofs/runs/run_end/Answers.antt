@@ -1,6 +1,6 @@
-use Rattle.std.proofs.Common.{◌≡◌, ◌≢◌, ◌+◌, ◌*◌, ◌/◌, ◌%◌, ◌^◌, ◌<◌, min, ap, ◌∙◌, sym, arith}
+use Rattle.std.proofs.Common.{◌≡◌, ◌+◌, ◌*◌, ◌/◌, ◌%◌, ◌^◌, min, ap, ◌∙◌, sym, arith}
 use Rattle.lv_geometry.proofs.NodeLaws.{some_width}
-use Rattle.lv_kinds.proofs.RunLaws.{neighbours_run, no_run}
+use Rattle.lv_kinds.proofs.RunLaws.{neighbours_run}
 use Rattle.lv_kinds.proofs.runs.run_end.Goals as goal
 
 pub nonzero_rem-at : goal.nonzero_rem-at

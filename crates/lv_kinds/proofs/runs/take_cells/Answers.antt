@@ -1,10 +1,9 @@
-use Rattle.std.proofs.Common.{◌≡◌, ◌+◌, ◌*◌, ◌^◌, ◌<◌, ◌≤◌, FitsSigned, length, rules, refl, subst, ap, sym, ◌∙◌, w64, arith}
+use Rattle.std.proofs.Common.{◌≡◌, ◌+◌, ◌<◌, FitsSigned, length, rules, refl, subst, w64, arith}
 use Rattle.std.proofs.lemmas.Int.{to_z-of_z}
-use Rattle.lv_bodies.specs.Body.{fold_of}
 use Rattle.lv_edits.specs.History.{list_of}
 use Rattle.lv_known.proofs.FoldableLaws.{can_fold}
 use Rattle.lv_reduce.proofs.ScanLaws.{fold_of-slice-more}
-use Rattle.lv_kinds.specs.Runs.{GoesOnBy, StandsBy}
+use Rattle.lv_kinds.specs.Runs.{StandsBy}
 use Rattle.lv_kinds.specs.declared.walks.Walk.{Walk}
 use Rattle.lv_kinds.proofs.AskByLaws.{cells_greatest, cells_inside, passes_cell, passing_can_grow, stands_here, stands_passes}
 use Rattle.lv_kinds.proofs.KnowByLaws.{learns_nothing}

@@ -1,6 +1,6 @@
-use Rattle.std.proofs.Common.{rules, ◌≡◌, ◌*◌, ◌/◌, ◌^◌, ◌<◌, ◌≤◌, Fits, w32, subst, ap, sym, ◌∙◌, arith}
+use Rattle.std.proofs.Common.{◌≡◌, ◌*◌, ◌/◌, ◌^◌, ◌<◌, ◌≤◌, ap, arith}
 use Rattle.lv_geometry.specs.Nodes.{over}
-use Rattle.lv_kinds.specs.Runs.{GoesOnBy, IsInside, KnowsRun}
+use Rattle.lv_kinds.specs.Runs.{KnowsRun}
 use Rattle.lv_kinds.proofs.AskByLaws.{goes_on_run, run_ends, run_is_inside, some_fold}
 use Rattle.lv_kinds.proofs.runs.take_run.Goals as goal
 

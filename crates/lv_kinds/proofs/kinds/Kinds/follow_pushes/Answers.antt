@@ -1,14 +1,10 @@
-use Rattle.std.proofs.Common.{◌≡◌, ◌+◌, ◌&&◌, ap, arith, length, nat_eq, subst, sym, ◌∙◌}
-use Rattle.std.specs.Int.{bit_at}
-use Rattle.std.specs.List.{list_any, range_with_len}
-use Rattle.std.proofs.Math.Bool.{and-false}
-use Rattle.std.proofs.lemmas.Bool.{cond-false}
-use Rattle.lv_geometry.specs.Nodes.{covers, is_node}
+use Rattle.std.proofs.Common.{◌≡◌, ◌+◌, arith, length, sym}
+use Rattle.std.specs.List.{range_with_len}
 use Rattle.lv_edits.specs.History.{list_of}
 use Rattle.lv_edits.specs.Pushes.{with_pushes}
 use Rattle.lv_edits.proofs.RunLaws.{grown}
 use Rattle.lv_kinds.specs.Inner.{ClearsEach}
-use Rattle.lv_kinds.specs.Kinds.{AreKept, HaveRoomFor, KindsState, bit_of}
+use Rattle.lv_kinds.specs.Kinds.{HaveRoomFor, KindsState}
 use Rattle.lv_kinds.proofs.PushedLaws.{AreKept-pushed}
 use Rattle.lv_kinds.proofs.kinds.Kinds.follow_pushes.Goals as goal
 
