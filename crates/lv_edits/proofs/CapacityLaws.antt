@@ -157,7 +157,7 @@ unfolding most_reserved
 AreNeeded-empty = record { enough = omega (arith, longest-nil); fewest = λ fewer enough. omega arith }
 
 -- nothing needs no bucket
-fewest_of_none : AreFewest 0 0
+pub fewest_of_none : AreFewest 0 0
 fewest_of_none = record { enough = omega arith; fewest = λ fewer enough. omega arith }
 
 -- the buckets that are needed after one more edit, where m stands for what it needs beyond the capacity before it

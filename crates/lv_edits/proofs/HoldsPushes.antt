@@ -1,5 +1,5 @@
 -- A store that holds what a journal leaves goes on to hold it through many pushes at once.
-use Rattle.std.proofs.Common.{◌≡◌, ℕ, ℤ, ◌+◌, ◌≤◌, max, All, Some, None, Result, List, length, ◌++◌, inr, refl, sym, ap, subst, ◌∙◌, arith}
+use Rattle.std.proofs.Common.{◌≡◌, ℕ, ℤ, ◌+◌, ◌≤◌, max, All, None, Result, List, length, ◌++◌, inr, refl, sym, ap, subst, ◌∙◌, arith}
 use Rattle.std.specs.Prelude.{IsErrAnd}
 use Rattle.std.proofs.lemmas.Result.{err_from_is_err_and}
 use Rattle.lv_geometry.specs.Bounds.{Bounds}
@@ -9,8 +9,8 @@ use Rattle.lv_geometry.specs.declared.refusals.Refusal.{Refusal}
 use Rattle.lv_geometry.specs.declared.refusals.Refusal.TheVariants.{NoMemory}
 use Rattle.lv_geometry.proofs.Capacities.{capacity_of_most}
 use Rattle.lv_store.specs.Inner.{IsStore}
-use Rattle.lv_store.specs.State.{AreAlike, StoreState, elements_of, pushed_all}
-use Rattle.lv_store.proofs.ElementsLaws.{elements_alike, length-elements}
+use Rattle.lv_store.specs.State.{AreAlike, StoreState, pushed_all}
+use Rattle.lv_store.proofs.ElementsLaws.{elements_alike}
 use Rattle.lv_store.proofs.PushLaws.{pushed_all_has, pushed_all_is, with_all}
 use Rattle.lv_edits.specs.declared.edit.Edit.{Edit}
 use Rattle.lv_edits.specs.History.{History, list_of}

@@ -1,7 +1,9 @@
+pub mod BatchLaws
 pub mod CapacityLaws
 pub mod HistoryLaws
 pub mod HoldsLaws
 pub mod HoldsPushes
+pub mod HoldsWrites
 pub mod TouchLaws
 pub mod PushLaws
 pub mod RunLaws

@@ -1,5 +1,5 @@
 -- Many pushes, one after another: which refusal comes first, and what they make of a history.
-use Rattle.std.proofs.Common.{◌≡◌, ◌≢◌, ℕ, ℤ, ◌+◌, ◌-◌, ◌<◌, ◌≤◌, min, max, All, Some, None, Option, List, [], ◌∷◌, ◌++◌, length, map, nat_eq, refl, sym, ap, subst, ◌∙◌, inl, inr, arith}
+use Rattle.std.proofs.Common.{◌≡◌, ◌≢◌, ℕ, ℤ, ◌+◌, ◌-◌, ◌<◌, ◌≤◌, max, All, Some, None, Option, List, [], ◌∷◌, ◌++◌, length, map, refl, sym, ap, subst, ◌∙◌, inl, inr, arith}
 use Rattle.std.proofs.lemmas.Bool.{cases_eq, cond-false, cond-true, eq-eqb, ne_eqb}
 use Rattle.std.proofs.lemmas.List.{append-nil, append_assoc, length_push, take_all}
 use Rattle.std.proofs.lemmas.List.Elements.{All-head, All-tail}
@@ -86,7 +86,7 @@ full_first h (x ∷ xs) kept more first =
     ]
 
 -- where the first of two refusals doesn't come, and neither does the second, neither comes
-neither : (first later : Option Refusal) → first_refusal first later ≡ None → (first ≡ None) × (later ≡ None)
+pub neither : (first later : Option Refusal) → first_refusal first later ≡ None → (first ≡ None) × (later ≡ None)
 neither None later none = (refl, none)
 neither (Some refusal) later none = absurd (none-some refusal (sym none))
 

@@ -1,3 +1,4 @@
+pub mod Batches
 pub mod Capacity
 pub mod History
 pub mod Inner

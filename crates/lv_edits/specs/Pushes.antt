@@ -1,8 +1,6 @@
 -- Many pushes at once: what they make of a history, and what they answer.
-use Rattle.std.specs.Prelude.{◌≡◌, ℕ, ℤ, ◌+◌, Option, Some, None, Result, Ok, Err, List, [], ◌∷◌, ◌++◌, length, map}
-use Rattle.lv_geometry.specs.Bounds.{Bounds}
+use Rattle.std.specs.Prelude.{◌≡◌, ℕ, ℤ, ◌+◌, Option, Some, None, Result, Ok, Err, List, [], ◌∷◌, length}
 use Rattle.lv_geometry.specs.declared.refusals.Refusal.{Refusal}
-use Rattle.lv_edits.specs.declared.edit.Edit.{Edit}
 use Rattle.lv_edits.specs.declared.edit.Edit.TheVariants.{Push}
 use Rattle.lv_edits.specs.History.{History, with_edit}
 use Rattle.lv_edits.specs.Verdict.{IsRefusal, verdict_of}

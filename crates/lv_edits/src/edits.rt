@@ -1,5 +1,6 @@
-ghost use Rattle.std.specs.Prelude.{◌≡◌, ◌+◌, ◌*◌, ◌<◌, ◌≤◌, None, [], length, take, drop};
+ghost use Rattle.std.specs.Prelude.{◌≡◌, ℤ, ◌+◌, ◌*◌, ◌<◌, ◌≤◌, None, List, [], length, take, drop};
 ghost use Rattle.std.specs.List.{slice_index_or, slice_range};
+ghost use Rattle.lv_edits.specs.Batches.{AnswersEdits, verdict_of_edits, writes_at};
 ghost use Rattle.lv_edits.specs.Capacity.{capacity_after, IsCapacityAfter};
 ghost use Rattle.lv_edits.specs.History.{History, list_of};
 ghost use Rattle.lv_edits.specs.Kept.{IsLegalInLimits};
@@ -10,6 +11,7 @@ use crate::edit::Edit;
 use crate::making::make_edit;
 use crate::pushing::make_pushes;
 use crate::receipt::Receipt;
+use crate::writing::make_writes;
 use lv_geometry::{Limits, Refusal, capacity};
 use lv_store::Store;
 use std::alloc::Global;
@@ -147,6 +149,38 @@ impl Edits {
         } else {
             Some(Refusal::Full)
         }
+    }
+
+    /// Writes values at indices in order, all of them or none, and tells the number of the last edit. An index may come twice: the later
+    /// value stays. Refused as the first write that would be refused, with `Worn` or `OutOfRange`, then with `NoMemory`: nothing has
+    /// changed then.
+    pub fn write_all(&mut self, indices: &[u32], values: &[i64]) -> Result<u32, Refusal>
+        requires paired { length indices.now ≡ length values.now }
+        ensures answer { AnswersEdits self.old (writes_at indices.now values.now) result self.new }
+        ensures limits { IsLegalInLimits self.new }
+    {
+        let _ = &self.store;
+        match self.verdict_of_writes(indices) {
+            Some(refusal) => Err(refusal),
+            None => make_writes(&mut self.store, &mut self.journal, indices, values),
+        }
+    }
+
+    /// The refusal of the first write that would be refused, of writes at indices one after another, want of memory apart, or none.
+    pub fn verdict_of_writes(&self, indices: &[u32]) -> Option<Refusal>
+        ensures { (xs : List ℤ) → length indices.now ≡ length xs → result ≡ verdict_of_edits self.now (writes_at indices.now xs) }
+    {
+        let left = (self.store.limits().edits() - self.edit()) as usize;
+        let size = self.size();
+        for place in 0..indices.len() {
+            if place == left {
+                return Some(Refusal::Worn);
+            }
+            if indices[place] >= size {
+                return Some(Refusal::OutOfRange { size });
+            }
+        }
+        None
     }
 
     /// The first refusal that applies to an edit, want of memory apart, or none.

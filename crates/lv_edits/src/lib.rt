@@ -10,6 +10,7 @@ mod edits;
 mod making;
 mod pushing;
 mod receipt;
+mod writing;
 
 pub use edit::Edit;
 pub use edits::Edits;

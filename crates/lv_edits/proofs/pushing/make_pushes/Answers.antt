@@ -1,5 +1,4 @@
-use Rattle.std.proofs.Common.{◌≡◌, ◌+◌, ◌++◌, ◌≤◌, ap, arith, length, map, subst, sym, ◌∙◌}
-use Rattle.lv_store.specs.State.{pushed_all}
+use Rattle.std.proofs.Common.{◌+◌, ◌++◌, ap, arith, length, map, subst, sym, ◌∙◌}
 use Rattle.lv_store.proofs.PushLaws.{pushed_all_is}
 use Rattle.lv_edits.specs.declared.edit.Edit.TheVariants.{Push}
 use Rattle.lv_edits.specs.Inner.{HoldsReplay, history_of}
