@@ -14,3 +14,4 @@ pub mod RunLaws
 mod TurnLaws
 pub mod VouchLaws
 pub mod WorldLaws
+pub mod WrittenLaws

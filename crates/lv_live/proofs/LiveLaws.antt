@@ -94,13 +94,13 @@ module _ {S : Type 0} (o : Operations S) where
       }
 
   -- the table that follows an edit agrees with the journal that has it
-  agrees_followed : (es : List Edit) (e : Edit) (ys : List ℤ) (t u : Table S) (indices : List ℕ) → replayed es ≡ Some (list_of es) → applied (list_of es) e ≡ Some ys → indices_written (list_of es) e ≡ indices → Agrees o es t
+  pub agrees_followed : (es : List Edit) (e : Edit) (ys : List ℤ) (t u : Table S) (indices : List ℕ) → replayed es ≡ Some (list_of es) → applied (list_of es) e ≡ Some ys → indices_written (list_of es) e ≡ indices → Agrees o es t
       → TableFollows t u indices (length es + 1) (length ys) → Agrees o (es ++ e ∷ []) u
   agrees_followed es e ys t u indices legal possible written agrees (mid, touch, sized) =
       agrees_after_touches o es e ys t mid u legal possible agrees (subst (λ is. TouchesEach t mid is (length es + 1)) (sym written) touch) sized
 
   -- every node that wants a job after an edit is hinted: of those that it touched, only blocks may want one
-  hints_followed : (es : List Edit) (e : Edit) (ys : List ℤ) (t u : Table S) (c d : ClaimTable) (indices : List ℕ) → replayed es ≡ Some (list_of es) → applied (list_of es) e ≡ Some ys → indices_written (list_of es) e ≡ indices
+  pub hints_followed : (es : List Edit) (e : Edit) (ys : List ℤ) (t u : Table S) (c d : ClaimTable) (indices : List ℕ) → replayed es ≡ Some (list_of es) → applied (list_of es) e ≡ Some ys → indices_written (list_of es) e ≡ indices
       → Agrees o es t → TableFollows t u indices (length es + 1) (length ys) → ClaimsFollow c d indices → AreHints (record_of es t c) c → AreHints (record_of (es ++ e ∷ []) u d) d
   hints_followed es e ys t u c d indices legal possible written agrees follows claims hints n wants =
       let next = record_of (es ++ e ∷ []) u d in

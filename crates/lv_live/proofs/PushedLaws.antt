@@ -1,5 +1,5 @@
 -- What pushes whose indices are all of one block make of table and claims, and many such runs.
-use Rattle.std.proofs.Common.{◌≡◌, ℕ, ℤ, ◌+◌, ◌-◌, ◌*◌, ◌/◌, ◌^◌, ◌<◌, ◌≤◌, true, false, Some, None, option_map, List, [], ◌∷◌, ◌++◌, length, take, drop, refl, sym, ap, subst, ◌∙◌, inl, inr, arith}
+use Rattle.std.proofs.Common.{◌≡◌, ℕ, ℤ, ◌+◌, ◌-◌, ◌*◌, ◌/◌, ◌^◌, ◌<◌, ◌≤◌, true, Some, None, option_map, List, [], ◌∷◌, ◌++◌, length, take, drop, refl, sym, ap, subst, ◌∙◌, inl, inr, arith}
 use Rattle.std.proofs.lemmas.Bool.{and_parts, cases_Bool, cases_lt}
 use Rattle.std.proofs.lemmas.List.{length-drop, length-take-le, length_push, take-append-drop}
 use Rattle.lv_geometry.specs.declared.nodes.Node.{Node}
@@ -20,7 +20,7 @@ use Rattle.lv_edits.proofs.RunLaws.{AreOfBlock, AreOfBlock-from, block_first, bl
 use Rattle.lv_known.specs.Agrees.{Agrees}
 use Rattle.lv_known.proofs.PushedLaws.{agrees_pushed}
 use Rattle.lv_summary.specs.Changes.{AnswersAlike}
-use Rattle.lv_summary.specs.Table.{Table, computed_in, kept_in}
+use Rattle.lv_summary.specs.Table.{Table}
 use Rattle.lv_refresh.specs.Claim.{wants_job}
 use Rattle.lv_refresh.specs.Claimed.{AreHints, ClaimTable, claim_blocks, is_hinted, record_of}
 use Rattle.lv_refresh.specs.Record.{Record, SameRecord}

@@ -6,3 +6,4 @@ pub mod Pushed
 pub mod State
 pub mod Step
 pub mod Turns
+pub mod Written

@@ -17,6 +17,7 @@ mod replies;
 mod theorems;
 mod vouching;
 mod worlds;
+mod writing;
 
 pub use events::Event;
 pub use following::{Touched, touched_indices};

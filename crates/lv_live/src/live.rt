@@ -1,5 +1,6 @@
-ghost use Rattle.std.specs.Prelude.{◌≡◌, ◌↔◌, ◌+◌, ◌*◌, ◌/◌, ◌<◌, ◌≤◌, IsTrue, None, Some, option_map, [], length, IfOk, IfSome, OnOk, OnErr, IfErr, true, false};
+ghost use Rattle.std.specs.Prelude.{◌≡◌, ℤ, ◌↔◌, ◌+◌, ◌*◌, ◌/◌, ◌<◌, ◌≤◌, IsTrue, None, Some, option_map, List, [], length, IfOk, IfSome, OnOk, OnErr, IfErr, true, false};
 ghost use Rattle.lv_geometry.specs.declared.nodes.Node.{Node};
+ghost use Rattle.lv_edits.specs.Batches.{AnswersEdits, verdict_of_edits, writes_at};
 ghost use Rattle.lv_edits.specs.Capacity.{capacity_after};
 ghost use Rattle.lv_edits.specs.History.{list_of};
 ghost use Rattle.lv_edits.specs.Kept.{IsLegalInLimits};
@@ -25,6 +26,7 @@ use crate::delivering::deliver_anew;
 use crate::following::{Touched, follow, make_room, touched_indices};
 use crate::pushing::follow_pushes;
 use crate::vouching::stands_here;
+use crate::writing::follow_writes;
 use lv_bodies::Body;
 use lv_edits::{Edit, Edits, Receipt};
 use lv_geometry::{Limits, Node, Refusal};
@@ -135,6 +137,22 @@ impl<B: Body> Live<B> {
         Ok(last)
     }
 
+    /// Writes values at indices in order, all of them or none, and tells the number of the last edit. An index may come twice: the later
+    /// value stays. Refused as the first write that would be refused, with `Worn` or `OutOfRange`, then with `NoMemory`: nothing has
+    /// changed then.
+    pub fn write_all(&mut self, indices: &[u32], values: &[i64]) -> Result<u32, Refusal>
+        requires paired { length indices.now ≡ length values.now }
+        ensures answer { AnswersEdits self.old.history (writes_at indices.now values.now) result self.new.history }
+        ensures limits { IsLegalInLimits self.new.history }
+        ensures refresh { SameRefresh self.old self.new }
+        ensures remembers { Remembers self.old self.new }
+    {
+        let edit = self.cells.edit();
+        let last = self.cells.write_all(indices, values)?;
+        follow_writes(&mut self.table, &mut self.claims, indices, edit);
+        Ok(last)
+    }
+
     /// Why an edit would be refused, for want of memory apart; none where it would be accepted.
     pub fn verdict(&self, edit: &Edit) -> Option<Refusal>
         ensures { result ≡ verdict_of self.now.history.limits self.now.history.journal edit.now }
@@ -147,6 +165,13 @@ impl<B: Body> Live<B> {
         ensures { result ≡ verdict_of_pushes self.now.history values.now }
     {
         self.cells.verdict_of_pushes(values)
+    }
+
+    /// Why writes at indices, one after another, would be refused, want of memory apart; none where all would be accepted.
+    pub fn verdict_of_writes(&self, indices: &[u32]) -> Option<Refusal>
+        ensures { (xs : List ℤ) → length indices.now ≡ length xs → result ≡ verdict_of_edits self.now.history (writes_at indices.now xs) }
+    {
+        self.cells.verdict_of_writes(indices)
     }
 
     /// Completes what is pending. Changes no answer.

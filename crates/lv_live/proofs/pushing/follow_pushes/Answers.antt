@@ -1,5 +1,4 @@
-use Rattle.std.proofs.Common.{◌≡◌, ◌+◌, ◌-◌, ◌*◌, ◌/◌, ◌%◌, ◌<◌, ◌≤◌, min, refl, arith}
-use Rattle.lv_live.specs.Pushed.{PushesFollow}
+use Rattle.std.proofs.Common.{◌≡◌, ◌+◌, ◌-◌, ◌/◌, ◌<◌, refl, arith}
 use Rattle.lv_live.proofs.PushedLaws.{PushesFollow-more, PushesFollow-none}
 use Rattle.lv_live.proofs.pushing.follow_pushes.Goals as goal
 

@@ -1,6 +1,5 @@
-use Rattle.std.proofs.Common.{◌≡◌, ◌+◌, ◌*◌, ◌<◌, ◌≤◌, None, refl, sym, ap, ◌∙◌, length, arith}
+use Rattle.std.proofs.Common.{◌≡◌, ◌<◌, None, refl, sym, ◌∙◌, length, arith}
 use Rattle.std.proofs.lemmas.Bool.{eqb-false}
-use Rattle.lv_edits.specs.History.{list_of}
 use Rattle.lv_edits.specs.Pushes.{verdict_of_pushes}
 use Rattle.lv_live.specs.Pushed.{ArePushesAt}
 use Rattle.lv_live.proofs.LiveLaws.{live_alike}
