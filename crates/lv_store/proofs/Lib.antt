@@ -1,3 +1,4 @@
+-- Names the files of lemmas of `lv_store`.
 mod Blocks
 pub mod BucketLaws
 pub mod ElementsLaws

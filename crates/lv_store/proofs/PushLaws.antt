@@ -1,14 +1,14 @@
 -- Values that are put one after another, and what pushes of them make of a store.
-use Rattle.std.proofs.Common.{◌≡◌, ℕ, ℤ, pos, ◌+◌, ◌*◌, ◌/◌, ◌<◌, ◌≤◌, Some, None, List, [], ◌∷◌, ◌++◌, length, slice_set, refl, sym, ap, ◌∙◌, arith}
+use Rattle.std.proofs.Common.{◌≡◌, ℕ, ℤ, ◌+◌, ◌/◌, ◌<◌, ◌≤◌, Some, None, List, [], ◌∷◌, ◌++◌, length, slice_set, refl, sym, ap, ◌∙◌, arith}
 use Rattle.std.specs.Prelude.{All}
-use Rattle.std.proofs.lemmas.List.{append-nil, append_assoc, length-append, length-set, length_push}
+use Rattle.std.proofs.lemmas.List.{append-nil, append_assoc, length-set}
 use Rattle.std.proofs.lemmas.List.Elements.{All-head, All-tail, All-weaker}
 use Rattle.lv_geometry.specs.Cells.{capacity_of}
 use Rattle.lv_geometry.specs.Elements.{IsElement}
 use Rattle.lv_store.specs.Announced.{Announcements, Shows, pushes_at}
 use Rattle.lv_store.specs.Directory.{with_run}
 use Rattle.lv_store.specs.Inner.{IsStore}
-use Rattle.lv_store.specs.State.{StoreState, announced, blocks_of, elements_of, pushed, pushed_all, settled, with_versions, writes_of}
+use Rattle.lv_store.specs.State.{StoreState, announced, elements_of, pushed, pushed_all, settled, with_versions, writes_of}
 use Rattle.lv_store.proofs.ElementsLaws.{elements-pushed, elements_alike, settled_alike}
 use Rattle.lv_store.proofs.ShowsLaws.{IsStore-completed, Shows-announced, Shows-completed}
 

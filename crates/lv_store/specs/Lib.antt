@@ -1,3 +1,4 @@
+-- Names the files of definitions of `lv_store`.
 pub mod Announced
 pub mod Directory
 pub mod Inner

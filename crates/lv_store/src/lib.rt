@@ -8,6 +8,7 @@
 
 mod descriptors;
 mod directories;
+mod pending;
 mod pushing;
 mod stores;
 

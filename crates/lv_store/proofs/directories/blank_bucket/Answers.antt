@@ -1,3 +1,4 @@
+-- Proof of `blank_bucket`: a bucket of a number, with a blank in each of its cells.
 use Rattle.std.proofs.Common.{◌≡◌, ℕ, take, ◌-◌, ◌*◌, ◌^◌, ◌%◌, ◌≤◌, [], arith}
 use Rattle.std.proofs.Math.Pow.{pow_mono}
 use Rattle.std.proofs.lemmas.List.{take_all}

@@ -1,4 +1,5 @@
-use Rattle.std.proofs.Common.{◌≡◌, ◌+◌, ◌/◌, ◌<◌, refl, ◌++◌, ◌∷◌, [], length, pos, slice_index_or, slice_set, take, rules, subst, sym, ap, ◌∙◌, arith}
+-- Proof of `put_all`: puts values into the cells from an index on, and the number of the edit of each for its block.
+use Rattle.std.proofs.Common.{◌≡◌, ◌+◌, ◌/◌, ◌<◌, refl, length, pos, slice_index_or, slice_set, take, rules, subst, sym, ap, ◌∙◌, arith}
 use Rattle.std.specs.Int.{w64}
 use Rattle.std.proofs.lemmas.Int.{to_z-of_z}
 use Rattle.std.specs.Prelude.{All}
@@ -7,7 +8,7 @@ use Rattle.std.proofs.lemmas.List.{length-take-le, take_all, take_more}
 use Rattle.lv_geometry.specs.Elements.{IsElement}
 use Rattle.lv_store.specs.Directory.{with_run}
 use Rattle.lv_store.specs.State.{with_versions}
-use Rattle.lv_store.proofs.PushLaws.{length-with_run, length-with_versions, with_run-push, with_versions-push}
+use Rattle.lv_store.proofs.PushLaws.{length-with_run, with_run-push, with_versions-push}
 use Rattle.lv_store.proofs.pushing.put_all.Goals as goal
 
 pub set-requires : goal.set-requires

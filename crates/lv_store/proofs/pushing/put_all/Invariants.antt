@@ -1,3 +1,4 @@
+-- What the loop keeps in `put_all`: puts values into the cells from an index on, and the number of the edit of each for its block.
 use Rattle.std.proofs.Common.{◌≡◌, take}
 use Rattle.std.specs.Prelude.{All}
 use Rattle.lv_geometry.specs.Elements.{IsElement}

@@ -1,3 +1,4 @@
+-- Proof of `Directory::buckets`: how many buckets are open.
 use Rattle.lv_store.proofs.BucketLaws.{length-cells}
 use Rattle.lv_store.proofs.directories.Directory.buckets.Goals as goal
 

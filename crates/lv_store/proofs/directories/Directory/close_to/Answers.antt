@@ -1,3 +1,4 @@
+-- Proof of `Directory::close_to`: gives back all buckets but the first so many.
 use Rattle.std.proofs.Common.{◌≡◌, ap, length, ◌∙◌}
 use Rattle.std.proofs.lemmas.List.{length-take-le}
 use Rattle.std.specs.List.{flat_map}

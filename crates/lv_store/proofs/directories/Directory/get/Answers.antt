@@ -1,3 +1,4 @@
+-- Proof of `Directory::get`: what is in the cell of an index.
 use Rattle.std.proofs.Common.{◌<◌, arith, length}
 use Rattle.lv_store.proofs.BucketLaws.{bucket_open, cells_few, read_at, size_of_read}
 use Rattle.lv_store.proofs.directories.Directory.get.Given.{Over}

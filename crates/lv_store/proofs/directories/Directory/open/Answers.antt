@@ -1,3 +1,4 @@
+-- Proof of `Directory::open`: opens the next bucket, with a blank in each of its cells.
 use Rattle.std.proofs.Common.{◌≡◌, ◌++◌, ◌∷◌, [], arith, length, replicate, ap, ◌∙◌}
 use Rattle.std.specs.List.{flat_map}
 use Rattle.std.proofs.lemmas.List.{length-replicate, length_push}

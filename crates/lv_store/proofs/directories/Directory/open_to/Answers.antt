@@ -1,3 +1,4 @@
+-- Proof of `Directory::open_to`: opens buckets until so many are open, with a blank in each of their cells.
 use Rattle.std.proofs.Common.{arith, ◌∙◌}
 use Rattle.lv_store.proofs.BucketLaws.{as_many, buckets_of_more, closed_again, with_bucket_more}
 use Rattle.lv_store.proofs.directories.Directory.open_to.Goals as goal

@@ -1,3 +1,4 @@
+-- What the loop keeps in `Directory::open_to`: opens buckets until so many are open, with a blank in each of their cells.
 use Rattle.std.proofs.Common.{◌≡◌, ◌≤◌, max}
 use Rattle.lv_store.specs.Directory.{with_buckets}
 use Rattle.lv_store.proofs.directories.Directory.open_to.Given as goal

@@ -1,3 +1,4 @@
+-- Proof of `Directory::set`: puts a value into the cell of an index.
 use Rattle.std.proofs.Common.{◌<◌, arith, length, refl}
 use Rattle.std.specs.Vec.{with_item}
 use Rattle.std.proofs.lemmas.List.{length-set}

@@ -1,3 +1,4 @@
+-- Proof of `Store::announce`: the next edit: it has the next number, leaves so many elements, and announces writes.
 use Rattle.lv_store.proofs.ShowsLaws.{Shows-announced}
 use Rattle.lv_store.proofs.stores.Store.announce.Goals as goal
 

@@ -1,3 +1,4 @@
+-- Proof of `Store::cells`: the elements of a block, all of whose indices are below the size.
 use Rattle.std.proofs.Common.{◌≡◌, ◌*◌, ℕ, Some, ap, get_or, map, pos, subst, sym, take, drop, arith, ◌∙◌}
 use Rattle.lv_store.specs.Inner.{IsStore}
 use Rattle.lv_store.specs.State.{indices_of, written, written_by}

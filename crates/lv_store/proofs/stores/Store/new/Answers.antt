@@ -1,3 +1,4 @@
+-- Proof of `Store::new`: an empty store, with no bucket open.
 use Rattle.lv_store.proofs.ShowsLaws.{Shows-empty}
 use Rattle.lv_store.proofs.stores.Store.new.Goals as goal
 

@@ -1,3 +1,4 @@
+-- Proof of `Store::open_to`: opens the buckets that so many cells need, and that are not open yet.
 use Rattle.std.proofs.Common.{◌≡◌, ◌-◌, ◌++◌, ap, arith, replicate, ◌∙◌}
 use Rattle.lv_geometry.proofs.Capacities.{capacity_of_mono, capacity_of_most}
 use Rattle.lv_store.specs.State.{blocks_of}

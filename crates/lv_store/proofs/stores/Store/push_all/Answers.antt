@@ -1,9 +1,7 @@
-use Rattle.std.proofs.Common.{◌≡◌, ◌+◌, ◌≤◌, None, length, refl, rules, subst, sym, ap, ◌∙◌, arith}
-use Rattle.lv_geometry.specs.Elements.{IsElement}
+-- Proof of `Store::push_all`: as many edits as there are values, each of which announces the next of them at the end and is completed at once.
+use Rattle.std.proofs.Common.{◌≡◌, None, subst, sym, arith}
 use Rattle.lv_geometry.proofs.Capacities.{capacity_of_most}
-use Rattle.lv_store.specs.Announced.{Announcements, Shows, pushes_at}
-use Rattle.lv_store.specs.Inner.{IsStore}
-use Rattle.lv_store.specs.State.{StoreState, pushed_all}
+use Rattle.lv_store.specs.State.{StoreState}
 use Rattle.lv_store.proofs.PushLaws.{PushedAll, pushed_all_has, pushed_all_is, with_all}
 use Rattle.lv_store.proofs.stores.Store.push_all.Goals as goal
 use Rattle.lv_store.proofs.stores.Store.push_all.Goals.{After-put_all}

@@ -1,3 +1,4 @@
+-- Proof of `Store::settle`: completes the writes that are pending, if any are.
 use Rattle.std.proofs.Common.{Some}
 use Rattle.lv_store.proofs.ShowsLaws.{IsStore-completed, Shows-completed}
 use Rattle.lv_store.proofs.stores.Store.settle.Goals as goal

@@ -1,3 +1,4 @@
+-- Proof of `Store::stretch`: the elements from index `from` on, before `to`.
 use Rattle.std.proofs.Common.{◌+◌, ◌≤◌, ap, arith, drop, length, subst, take, ◌∙◌}
 use Rattle.lv_store.specs.Inner.{IsStore}
 use Rattle.lv_store.proofs.ElementsLaws.{free_of_writes}

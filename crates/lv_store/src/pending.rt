@@ -1,0 +1,96 @@
+//! The writes of one edit, one or two, that are pending: where they are put, and which indices and blocks they are at.
+ghost use Rattle.std.specs.Prelude.{◌≡◌, ℕ, ℤ, ◌/◌, ◌<◌, ◌≤◌, None, length, map, IfSome};
+ghost use Rattle.lv_store.specs.Inner.{EndsBefore};
+ghost use Rattle.lv_store.specs.State.{are_at, are_in, indices_of, is_at, is_in, with_element, with_version, writes_of, written};
+
+use crate::descriptors::Writes;
+use crate::directories::Directory;
+
+/// The writes of an edit that announces a first and a second, or one, or none.
+#[inline(always)]
+pub fn writes_of(first: Option<(u32, i64)>, second: Option<(u32, i64)>) -> Option<Writes>
+    ensures { result ≡ writes_of first second }
+{
+    match first {
+        Some(first) => Some(Writes { first, second }),
+        None => None,
+    }
+}
+
+/// Puts a write of an edit, if there is one, into its cell, and the edit's number for its block.
+#[inline(always)]
+pub fn put(
+    values: &mut Directory<i64>,
+    versions: &mut Vec<u32>,
+    edit: u32,
+    write: Option<(u32, i64)>,
+)
+    requires values { IfSome write (λ write. write.0 < length values.old.cells) }
+    requires versions { IfSome write (λ write. write.0 / 8 < length versions.old.items) }
+    ensures values { values.new ≡ record values.old { cells = with_element write values.old.cells } }
+    ensures versions { versions.new.items ≡ with_version write edit versions.old.items }
+{
+    if let Some((index, element)) = write {
+        values.set(index, element);
+        versions[(index / 8) as usize] = edit;
+    }
+}
+
+/// Puts a write, if there is one, among the cells of its block, where it is this one.
+#[inline(always)]
+pub fn put_among(cells: &mut [i64; 8], block: u32, write: Option<(u32, i64)>)
+    ensures { (f : ℕ → ℤ) → cells.old ≡ map f (indices_of block) → cells.new ≡ map (λ i. written write i (f i)) (indices_of block) }
+{
+    if let Some((index, element)) = write {
+        if index / 8 == block {
+            cells[(index % 8) as usize] = element;
+        }
+    }
+}
+
+/// Where a range ends that goes on, from one index up to another, until the first of an edit's writes, if it has any.
+pub fn end_before_writes(writes: Option<Writes>, from: u32, to: u32) -> u32
+    requires { from ≤ to }
+    ensures { EndsBefore (λ i. are_at i writes) from to result }
+{
+    match writes {
+        Some(writes) => {
+            let end = end_before(Some(writes.first), from, to);
+            end_before(writes.second, from, end)
+        }
+        None => to,
+    }
+}
+
+/// The same for one write, if there is one.
+pub fn end_before(write: Option<(u32, i64)>, from: u32, to: u32) -> u32
+    requires { from ≤ to }
+    ensures { EndsBefore (λ i. is_at i write) from to result }
+{
+    match write {
+        Some((index, _)) if from <= index && index < to => index,
+        _ => to,
+    }
+}
+
+/// Whether one of an edit's writes, if it has any, is in a block.
+#[inline(always)]
+pub fn are_in(block: u32, writes: Option<Writes>) -> bool
+    ensures { result ≡ are_in block writes }
+{
+    match writes {
+        Some(writes) => is_in(block, writes.second) || is_in(block, Some(writes.first)),
+        None => false,
+    }
+}
+
+/// Whether a write, if there is one, is in a block.
+#[inline(always)]
+pub fn is_in(block: u32, write: Option<(u32, i64)>) -> bool
+    ensures { result ≡ is_in block write }
+{
+    match write {
+        Some((index, _)) => index / 8 == block,
+        None => false,
+    }
+}
