@@ -29,7 +29,7 @@ use Rattle.lv_machine.specs.declared.outcomes.Read.{Read}
 use Rattle.lv_machine.specs.declared.outcomes.Refreshed.{Refreshed}
 use Rattle.lv_machine.specs.declared.outcomes.Said.{Said}
 use Rattle.lv_machine.specs.History.{edits_of, elements_of, Ends, IsLegalHistory, own}
-use Rattle.lv_machine.specs.Machine.{is_short}
+use Rattle.lv_machine.specs.Calls.{is_short}
 use Rattle.lv_machine.specs.Shows.{block, mark_of}
 use Rattle.lv_machine.specs.Terms.{AreTerms, Terms}
 use Rattle.lv_machine.proofs.EndsLaws.{Ends-length, Ends-trans, Ends-whole}

@@ -2,7 +2,7 @@
 use Rattle.std.proofs.Common.{◌≡◌, ℤ, Bool, true, false, sym, ap, ◌∙◌, arith}
 use Rattle.std.proofs.lemmas.Int.{ints}
 use Rattle.lv_bodies.specs.Parts.{IsShort}
-use Rattle.lv_machine.specs.Machine.{is_short}
+use Rattle.lv_machine.specs.Calls.{is_short}
 
 pub short_is : (x : ℤ) → is_short x ≡ true → IsShort x
 short_is x is = grind (arith, ints)

@@ -14,7 +14,7 @@ use Rattle.lv_machine.specs.declared.entries.Entry.{Entry}
 use Rattle.lv_machine.specs.declared.events.Call.{Call}
 use Rattle.lv_machine.specs.declared.events.Call.TheVariants.{Push, Pop, Write, Get, Size, Reduce, Refresh}
 use Rattle.lv_machine.specs.History.{edits_of, elements_of, Ends, own}
-use Rattle.lv_machine.specs.Machine.{is_short}
+use Rattle.lv_machine.specs.Calls.{is_short}
 use Rattle.lv_machine.specs.Shows.{block, mark_of}
 use Rattle.lv_lines.specs.Texts.{answer_text, bad_text, element_text, fresh_text, receipt_text, refused_text, size_text}
 use Rattle.lv_reduce.specs.Answer.{range_refusal, slice_of}

@@ -5,7 +5,7 @@ use Rattle.std.proofs.lemmas.Bool.{cond-true, cond-false, eq-eqb, eqb-true, case
 use Rattle.lv_edits.specs.declared.edit.Edit.{Edit}
 use Rattle.lv_machine.specs.declared.tasks.Task.{Task}
 use Rattle.lv_machine.specs.declared.tasks.Task.TheVariants as task
-use Rattle.lv_machine.specs.Machine.{move_of, sees, sees_next}
+use Rattle.lv_machine.specs.Calls.{move_of, sees, sees_next}
 use Rattle.lv_machine.specs.Moves.{accepted, Config, look_set, looked, moved}
 
 module _ (c : Config) (a : ℕ) where

@@ -1,3 +1,4 @@
+-- Names the files of lemmas of `lv_machine`.
 pub mod EndsLaws
 pub mod HistoryLaws
 pub mod ShowsLaws

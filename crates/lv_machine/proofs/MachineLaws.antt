@@ -26,7 +26,8 @@ use Rattle.lv_machine.specs.declared.tasks.Goal.TheVariants as goal
 use Rattle.lv_machine.specs.declared.tasks.Task.{Task}
 use Rattle.lv_machine.specs.declared.tasks.Task.TheVariants as task
 use Rattle.lv_machine.specs.History.{descriptor_of, Ends}
-use Rattle.lv_machine.specs.Machine.{advanced, goal_of, idle, is_short, move_of, outcome_of, place_of, sees_next, task_after}
+use Rattle.lv_machine.specs.Calls.{advanced, goal_of, is_short, move_of, outcome_of, place_of, sees_next, task_after}
+use Rattle.lv_machine.specs.Machine.{idle}
 use Rattle.lv_machine.specs.declared.moves.Move.{Move}
 use Rattle.lv_machine.specs.Moves.{Config, IsReachable, MayMove, moved, reached, Shows, start}
 use Rattle.lv_machine.specs.Progress.{Follows, goal_under, IsGoal, IsReached, IsRight, Knows, StandsAt, terms_of}

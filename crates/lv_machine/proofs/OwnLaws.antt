@@ -20,7 +20,7 @@ use Rattle.lv_machine.specs.declared.tasks.Task.TheVariants as task
 use Rattle.lv_machine.specs.declared.tasks.Walk.{Walk}
 use Rattle.lv_machine.specs.History.{descriptor_of, edits_of, elements_of, Ends, IsLegalHistory}
 use Rattle.lv_machine.specs.Layout.{cell_place, mark_place}
-use Rattle.lv_machine.specs.Machine.{advanced, move_of, place_of, refusal_at, sees_next}
+use Rattle.lv_machine.specs.Calls.{advanced, move_of, place_of, refusal_at, sees_next}
 use Rattle.lv_machine.specs.Moves.{completing, Config, IsComplete, moved, Shows}
 use Rattle.lv_machine.specs.Progress.{goal_under, IsRight, Knows, terms_of}
 use Rattle.lv_machine.specs.Terms.{AreTerms, blocks_of}

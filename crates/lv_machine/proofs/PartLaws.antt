@@ -16,7 +16,7 @@ use Rattle.lv_machine.specs.declared.tasks.Parts.{Parts}
 use Rattle.lv_machine.specs.declared.tasks.Walk.{Walk}
 use Rattle.lv_machine.specs.History.{descriptor_of, edits_of, elements_of, Ends, IsLegalHistory}
 use Rattle.lv_machine.specs.Layout.{part_place}
-use Rattle.lv_machine.specs.Machine.{part_loaded, with_block, with_part}
+use Rattle.lv_machine.specs.Calls.{part_loaded, with_block, with_part}
 use Rattle.lv_machine.specs.Moves.{Config, Shows}
 use Rattle.lv_machine.specs.Progress.{AreTaken, block_fold, IsRight, terms_of, WalksBlock}
 use Rattle.lv_machine.specs.Shows.{block}

@@ -14,7 +14,7 @@ use Rattle.lv_machine.specs.declared.entries.Entry.{Entry}
 use Rattle.lv_machine.specs.declared.tasks.Goal.TheVariants as goal
 use Rattle.lv_machine.specs.History.{descriptor_of, edits_of, elements_of, IsLegalHistory}
 use Rattle.lv_machine.specs.declared.tasks.Task.TheVariants as task
-use Rattle.lv_machine.specs.Machine.{edit_begun}
+use Rattle.lv_machine.specs.Calls.{edit_begun}
 use Rattle.lv_machine.specs.Progress.{IsGranted}
 use Rattle.lv_machine.specs.Shows.{block}
 use Rattle.lv_machine.specs.Terms.{AreTerms, blocks_of, Terms}

@@ -23,7 +23,7 @@ use Rattle.lv_machine.specs.declared.tasks.Parts.{Parts}
 use Rattle.lv_machine.specs.declared.tasks.Task.TheVariants as task
 use Rattle.lv_machine.specs.declared.tasks.Walk.{Walk}
 use Rattle.lv_machine.specs.History.{descriptor_of, edits_of, elements_of, IsLegalHistory}
-use Rattle.lv_machine.specs.Machine.{begun, cell_kept, edit_begun, looked_at, needs_help, part_kept, refusal_at, unless_later, walked, with_cell, with_kept}
+use Rattle.lv_machine.specs.Calls.{begun, cell_kept, edit_begun, looked_at, needs_help, part_kept, refusal_at, unless_later, walked, with_cell, with_kept}
 use Rattle.lv_machine.specs.Moves.{IsComplete}
 use Rattle.lv_machine.specs.Progress.{IsGoal, IsGranted, IsRight, KeepsCells, KeepsParts, MayEdit, refusal_after, terms_of, Walks}
 use Rattle.lv_machine.specs.Terms.{AreTerms, Terms}

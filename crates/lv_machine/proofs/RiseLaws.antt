@@ -12,7 +12,7 @@ use Rattle.lv_machine.specs.declared.tasks.Task.{Task}
 use Rattle.lv_machine.specs.declared.tasks.Task.TheVariants as task
 use Rattle.lv_machine.specs.History.{descriptor_of, Ends}
 use Rattle.lv_machine.specs.Layout.{cell_place, mark_place, place}
-use Rattle.lv_machine.specs.Machine.{move_of}
+use Rattle.lv_machine.specs.Calls.{move_of}
 use Rattle.lv_machine.specs.Moves.{accepted, Config, IsComplete, looked, moved}
 use Rattle.lv_machine.specs.Progress.{AreTaken, Keeps, Knows, MayEdit, Walks, WalksBlock}
 use Rattle.lv_machine.specs.Words.{index_of}

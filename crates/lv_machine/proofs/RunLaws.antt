@@ -9,7 +9,8 @@ use Rattle.lv_machine.specs.declared.actors.Actor.{Actor}
 use Rattle.lv_machine.specs.declared.outcomes.Outcome.{Outcome}
 use Rattle.lv_machine.specs.declared.tasks.Goal.{Goal}
 use Rattle.lv_machine.specs.declared.tasks.Task.{Task}
-use Rattle.lv_machine.specs.Machine.{begins, called, called_of, gone_on, goal_of, machine_run, machine_step, MachineState, stepped_on}
+use Rattle.lv_machine.specs.Calls.{goal_of}
+use Rattle.lv_machine.specs.Machine.{begins, called, called_of, gone_on, machine_run, machine_step, MachineState, stepped_on}
 use Rattle.lv_geometry.specs.declared.refusals.Refusal.{Refusal}
 
 -- what no event changes: the body and the limits

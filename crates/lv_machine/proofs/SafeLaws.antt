@@ -14,7 +14,7 @@ use Rattle.lv_machine.specs.declared.tasks.Task.TheVariants as task
 use Rattle.lv_machine.specs.declared.tasks.Walk.{Walk}
 use Rattle.lv_machine.specs.History.{descriptor_of, edits_of, elements_of, Ends, IsLegalHistory}
 use Rattle.lv_machine.specs.Layout.{cell_place, mark_place, part_place, place}
-use Rattle.lv_machine.specs.Machine.{place_of}
+use Rattle.lv_machine.specs.Calls.{place_of}
 use Rattle.lv_machine.specs.Moves.{Config, IsComplete, Shows}
 use Rattle.lv_machine.specs.Progress.{Knows, MayEdit, terms_of, Walks, WalksBlock}
 use Rattle.lv_machine.specs.Ready.{CanAdvance, CanMove, CanPack, CanWalk, Holds, IsIndexShort}

@@ -25,7 +25,8 @@ use Rattle.lv_machine.specs.declared.tasks.Goal.{Goal}
 use Rattle.lv_machine.specs.declared.tasks.Task.{Task}
 use Rattle.lv_machine.specs.declared.tasks.Task.TheVariants as task
 use Rattle.lv_machine.specs.History.{descriptor_of}
-use Rattle.lv_machine.specs.Machine.{begins, called, called_of, first_state, goal_of, gone_on, idle, machine_run, machine_step, MachineState, move_of, outcome_of, sees_next, stepped, stepped_on}
+use Rattle.lv_machine.specs.Calls.{goal_of, move_of, outcome_of, sees_next}
+use Rattle.lv_machine.specs.Machine.{begins, called, called_of, first_state, gone_on, idle, machine_run, machine_step, MachineState, stepped, stepped_on}
 use Rattle.lv_machine.specs.declared.moves.Move.{Move}
 use Rattle.lv_machine.specs.Moves.{accepted, Config, looked, moved, start}
 use Rattle.lv_machine.specs.Progress.{IsReached, StandsAt, terms_of}

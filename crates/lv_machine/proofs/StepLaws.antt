@@ -9,7 +9,7 @@ use Rattle.lv_machine.specs.declared.tasks.Task.{Task}
 use Rattle.lv_machine.specs.declared.tasks.Task.TheVariants as task
 use Rattle.lv_machine.specs.History.{cell_of, descriptor_of, elements_of, Ends, IsLegalHistory}
 use Rattle.lv_machine.specs.Layout.{cell_place, mark_place, part_place}
-use Rattle.lv_machine.specs.Machine.{move_of}
+use Rattle.lv_machine.specs.Calls.{move_of}
 use Rattle.lv_machine.specs.Moves.{Config, IsComplete, MayMove, Shows}
 use Rattle.lv_machine.specs.Progress.{Knows, terms_of}
 use Rattle.lv_machine.specs.Shows.{Fits, FitsPart, IsCellRead, IsMarkRead, mark_of}

@@ -1,3 +1,5 @@
+-- Names the files of definitions of `lv_machine`.
+pub mod Calls
 pub mod History
 pub mod Layout
 pub mod Machine

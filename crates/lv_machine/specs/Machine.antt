@@ -1,156 +1,22 @@
--- The lock-free form, one atomic step an event.
-use Rattle.std.specs.Prelude.{ℕ, ℤ, pos, negsuc, int_le, ◌+◌, ◌-◌, ◌*◌, ◌/◌, ◌%◌, Bool, false, ◌&&◌, Option, option_and_then, Some, None, Result, Ok, Err, List, [], ◌∷◌, nat_eq, nat_le, nat_lt, slice_get, slice_index, slice_set, replicate, if◌then◌else◌}
+-- A machine: the words and its actors, one atomic step an event.
+use Rattle.std.specs.Prelude.{ℕ, ◌*◌, ◌&&◌, Option, option_and_then, Some, None, Result, Ok, Err, List, [], ◌∷◌, nat_le, slice_get, slice_index, slice_set, replicate, if◌then◌else◌}
 use Rattle.lv_geometry.specs.Bounds.{Bounds}
 use Rattle.lv_geometry.specs.declared.refusals.Refusal.{Refusal}
-use Rattle.lv_geometry.specs.declared.refusals.Refusal.TheVariants.{BadLimits, BadRange, Contended, NotNow, OutOfRange, Overtaken, TooWide}
+use Rattle.lv_geometry.specs.declared.refusals.Refusal.TheVariants.{BadLimits, NotNow}
 use Rattle.lv_bodies.specs.Body.{Operations}
-use Rattle.lv_edits.specs.declared.edit.Edit.{Edit}
-use Rattle.lv_edits.specs.declared.edit.Edit.TheVariants.{Push, Pop, Write, Reserve, Swap, Truncate}
-use Rattle.lv_edits.specs.declared.receipt.Receipt.{Receipt}
-use Rattle.lv_edits.specs.declared.receipt.Receipt.TheVariants.{Pushed, Popped, Written, Reserved, Swapped, Truncated}
 use Rattle.lv_machine.specs.declared.events.Call.{Call}
-use Rattle.lv_machine.specs.declared.events.Call.TheVariants as call
 use Rattle.lv_machine.specs.declared.events.Event.{Event}
 use Rattle.lv_machine.specs.declared.events.Event.TheVariants as event
 use Rattle.lv_machine.specs.declared.outcomes.Outcome.{Outcome}
 use Rattle.lv_machine.specs.declared.outcomes.Outcome.TheVariants as outcome
 use Rattle.lv_machine.specs.declared.outcomes.Said.TheVariants as said
-use Rattle.lv_machine.specs.declared.tasks.Advance.{Advance}
-use Rattle.lv_machine.specs.declared.tasks.Advance.TheVariants.{Ends, Goes}
 use Rattle.lv_machine.specs.declared.tasks.Goal.{Goal}
-use Rattle.lv_machine.specs.declared.tasks.Goal.TheVariants as goal
 use Rattle.lv_machine.specs.declared.tasks.Task.{Task}
 use Rattle.lv_machine.specs.declared.tasks.Task.TheVariants as task
-use Rattle.lv_machine.specs.declared.tasks.Keep.{Keep}
-use Rattle.lv_machine.specs.declared.tasks.Parts.{Parts}
-use Rattle.lv_machine.specs.declared.tasks.Walk.{Walk}
 use Rattle.lv_machine.specs.declared.actors.Actor.{Actor}
 use Rattle.lv_machine.specs.History.{descriptor_of}
-use Rattle.lv_machine.specs.Layout.{cell_place, mark_place, part_place}
-use Rattle.lv_machine.specs.declared.moves.Move.{Move}
-use Rattle.lv_machine.specs.declared.moves.Move.TheVariants.{Look, Exchange, HelpCell, HelpMark, Install, Read}
-use Rattle.lv_machine.specs.Moves.{Config, moved, verdict_at}
 use Rattle.lv_machine.specs.Terms.{blocks_of}
-use Rattle.lv_machine.specs.Words.{cell_version, edit_of, index_of, part_value, part_version, part_word, signed, size_of, value_of}
-
--- whether a number fits 16 bits
-abbrev pub is_short : ℤ → Bool
-is_short x = int_le (negsuc 32767) x && int_le x (pos 32767)
-
--- what a call is for, or why it ends before its first step
-abbrev pub goal_of : Call → Result Goal Refusal
-goal_of (call.Push x) = if is_short x then Ok (goal.Edit (Push x)) else Err TooWide
-goal_of call.Pop = Ok (goal.Edit Pop)
-goal_of (call.Write i x) = if is_short x then Ok (goal.Edit (Write i x)) else Err TooWide
-goal_of (call.Get i) = Ok (goal.Get i)
-goal_of call.Size = Ok goal.Size
-goal_of (call.Reduce lo hi) = if nat_lt hi lo then Err BadRange else Ok (goal.Reduce lo hi)
-goal_of (call.Refresh b) = Ok (goal.Refresh b)
-
--- why a call is refused at its look, if it is
-abbrev pub refusal_at : Bounds → ℕ → Goal → Option Refusal
-refusal_at limits look (goal.Edit edit) = verdict_at limits look edit
-refusal_at limits look (goal.Get i) = if nat_lt i (size_of look) then None else Some (OutOfRange (size_of look))
-refusal_at limits look goal.Size = None
-refusal_at limits look (goal.Reduce lo hi) = if nat_lt (size_of look) hi then Some (OutOfRange (size_of look)) else None
-refusal_at limits look (goal.Refresh b) = if nat_lt b (size_of look / 8) then None else Some (OutOfRange (size_of look))
-
--- whether a call completes its look's pending write: there is one, and the size alone isn't what it asks for
-abbrev pub needs_help : ℕ → Goal → Bool
-needs_help look (goal.Edit edit) = nat_lt (index_of look) 4088
-needs_help look (goal.Get i) = nat_lt (index_of look) 4088
-needs_help look goal.Size = false
-needs_help look (goal.Reduce lo hi) = nat_lt (index_of look) 4088
-needs_help look (goal.Refresh b) = nat_lt (index_of look) 4088
-
--- what an accepted edit is answered. The lock-free form has no reserve, no swap and no truncate
-abbrev pub receipt_at : ℕ → Edit → ℤ → Receipt
-receipt_at look (Push x) before = Pushed (edit_of look + 1) (size_of look)
-receipt_at look Pop before = Popped (edit_of look + 1) before
-receipt_at look (Write i x) before = Written (edit_of look + 1) before
-receipt_at look (Reserve n) before = Reserved (edit_of look + 1) 0
-receipt_at look (Swap i j) before = Swapped (edit_of look + 1) before before
-receipt_at look (Truncate n) before = Truncated (edit_of look + 1) 0
-
-module _ {S : Type 0} where
-  -- the move that an actor's call makes next
-  abbrev pub move_of : ℕ → Task S → Move
-  move_of a (task.Look g) = Look a
-  move_of a (task.CompleteCell g) = HelpCell a
-  move_of a (task.CompleteMark g) = HelpMark a
-  move_of a (task.ReadBefore edit i) = Read a
-  move_of a (task.Exchange edit before) = Exchange a edit
-  move_of a (task.ReadCell i) = Read a
-  move_of a (task.SumCell walk) = Read a
-  move_of a (task.SumMark walk) = Read a
-  move_of a (task.SumPart walk parts) = Read a
-  move_of a (task.KeepMark b) = Read a
-  move_of a (task.KeepCell keep) = Read a
-  move_of a (task.KeepPart b parts) = Install a b parts.number (part_word parts.version (slice_index parts.values parts.number))
-
-  -- where the word lies that this step is on
-  abbrev pub place_of : ℕ → Task S → ℕ
-  place_of look (task.Look g) = 0
-  place_of look (task.CompleteCell g) = cell_place (index_of look)
-  place_of look (task.CompleteMark g) = mark_place (index_of look / 8)
-  place_of look (task.ReadBefore edit i) = cell_place i
-  place_of look (task.Exchange edit before) = 0
-  place_of look (task.ReadCell i) = cell_place i
-  place_of look (task.SumCell walk) = cell_place walk.at
-  place_of look (task.SumMark walk) = mark_place (walk.at / 8)
-  place_of look (task.SumPart walk parts) = part_place (walk.at / 8) parts.number
-  place_of look (task.KeepMark b) = mark_place b
-  place_of look (task.KeepCell keep) = cell_place keep.at
-  place_of look (task.KeepPart b parts) = part_place b parts.number
-
-  -- what an edit does once its look's pending write is complete: a pop and a write load the cell that they drop or overwrite
-  abbrev pub edit_begun : ℕ → Edit → Task S
-  edit_begun look (Push x) = task.Exchange (Push x) (pos 0)
-  edit_begun look Pop = task.ReadBefore Pop (size_of look - 1)
-  edit_begun look (Write i x) = task.ReadBefore (Write i x) i
-  edit_begun look (Reserve n) = task.Exchange (Reserve n) (pos 0)
-  edit_begun look (Swap i j) = task.Exchange (Swap i j) (pos 0)
-  edit_begun look (Truncate n) = task.Exchange (Truncate n) (pos 0)
-
-  -- what a reduction does next: the mark of a whole block that begins where it stands, or else the cell there; or it is over
-  abbrev pub walked : ℕ → Walk S → Advance S
-  walked look walk =
-      if nat_lt walk.at walk.hi
-      then (if nat_eq (walk.at % 8) 0 && nat_le 8 (walk.hi - walk.at) then Goes (task.SumMark walk) else Goes (task.SumCell walk))
-      else Ends (said.Answered record { edit = edit_of look; value = walk.sum; cells_read = walk.cells; summaries_read = walk.summaries })
-
-  -- the end of an exchange: another descriptor was found, or else the edit is accepted
-  abbrev pub exchanged : ℕ → Edit → ℤ → ℕ → Advance S
-  exchanged look edit before found =
-      if nat_eq found look then Ends (said.Did (receipt_at look edit before)) else Ends (said.Refused (Contended (edit_of found)))
-
-  -- a call that loaded a word of a later version than its look ends there; else it goes on
-  abbrev pub unless_later : ℕ → ℕ → Advance S → Advance S
-  unless_later look version next = if nat_lt (edit_of look) version then Ends (said.Refused (Overtaken version)) else next
-
-  -- what a refresh does after a part of so many: the next one, or it is over
-  abbrev pub part_kept : ℕ → ℕ → ℕ → Parts → Advance S
-  part_kept count look b parts =
-      if nat_lt (parts.number + 1) count
-      then Goes (task.KeepPart b (record parts { number = parts.number + 1 }))
-      else Ends (said.Refreshed record { edit = edit_of look; version = parts.version })
-
-  -- what an actor has once its call goes on, or has ended
-  abbrev pub task_after : Advance S → Option (Task S)
-  task_after (Goes t) = Some t
-  task_after (Ends answer) = None
-
-  abbrev pub outcome_of : Advance S → Outcome S
-  outcome_of (Goes t) = outcome.Going
-  outcome_of (Ends answer) = outcome.Done answer
-
--- the words with one look: what an actor sees. Alone there, it goes by the number 0
-abbrev pub sees : List ℕ → ℕ → Config
-sees words look = record { words = words; history = []; looks = λ a. look }
-
--- the same after an actor's next step
-abbrev pub sees_next : {S : Type 0} → List ℕ → ℕ → Task S → Config
-sees_next words look t = moved (sees words look) (move_of 0 t)
+use Rattle.lv_machine.specs.Calls.{advanced, block_of, goal_of, outcome_of, place_of, sees_next, task_after}
 
 -- a machine: its body and limits, the words, and of each actor its look, and its call, if one is under way
 pub record MachineState (B S : Type 0) : Type 0 where
@@ -176,29 +42,6 @@ first_state body limits actors = record {
   actors = replicate actors idle;
 }
 
--- the block that is to be refreshed, if that is what a call is for
-abbrev pub block_of_goal : Goal → Option ℕ
-block_of_goal (goal.Edit edit) = None
-block_of_goal (goal.Get i) = None
-block_of_goal goal.Size = None
-block_of_goal (goal.Reduce lo hi) = None
-block_of_goal (goal.Refresh b) = Some b
-
--- the block that a call refreshes, if it does
-abbrev pub block_of : {S : Type 0} → Task S → Option ℕ
-block_of (task.Look g) = block_of_goal g
-block_of (task.CompleteCell g) = block_of_goal g
-block_of (task.CompleteMark g) = block_of_goal g
-block_of (task.ReadBefore edit i) = None
-block_of (task.Exchange edit before) = None
-block_of (task.ReadCell i) = None
-block_of (task.SumCell walk) = None
-block_of (task.SumMark walk) = None
-block_of (task.SumPart walk parts) = None
-block_of (task.KeepMark b) = Some b
-block_of (task.KeepCell keep) = Some keep.block
-block_of (task.KeepPart b parts) = Some b
-
 -- the block that an actor's call refreshes, if it does
 unfoldable pub block_refreshed : {B S : Type 0} → MachineState B S → ℕ → Option ℕ
 block_refreshed m a = option_and_then (λ actor. option_and_then block_of actor.task) (slice_get m.actors a)
@@ -207,112 +50,46 @@ block_refreshed m a = option_and_then (λ actor. option_and_then block_of actor.
 abbrev pub with_actor : {B S : Type 0} → MachineState B S → List ℕ → ℕ → Actor S → MachineState B S
 with_actor m words a actor = record m { words = words; actors = slice_set m.actors a actor }
 
-module _ {S : Type 0} (o : Operations S) (count : ℕ) (parts_of : S → List ℕ) (whole_of : List ℕ → S) where
-  -- what a call does once its look's pending write is complete, or there is none
-  abbrev pub begun : ℕ → Goal → Advance S
-  begun look (goal.Edit edit) = Goes (edit_begun look edit)
-  begun look (goal.Get i) = Goes (task.ReadCell i)
-  begun look goal.Size = Ends (said.Sized record { edit = edit_of look; size = size_of look })
-  begun look (goal.Reduce lo hi) = walked look record { lo = lo; at = lo; hi = hi; sum = o.identity; cells = 0; summaries = 0 }
-  begun look (goal.Refresh b) = Goes (task.KeepMark b)
+module _ {B S : Type 0} (o : Operations S) (count : ℕ) (parts_of : S → List ℕ) (whole_of : List ℕ → S) where
+  -- a call of an idle actor: it begins, or ends before its first step
+  abbrev pub begins : MachineState B S → ℕ → ℕ → Result Goal Refusal → MachineState B S × Outcome S
+  begins m a look (Ok g) = (with_actor m m.words a record { look = look; task = Some (task.Look g) }, outcome.Started)
+  begins m a look (Err refusal) = (m, outcome.Done (said.Refused refusal))
 
-  -- what a call does after its look, where it isn't refused there
-  abbrev pub looked_at : ℕ → Goal → Option Refusal → Advance S
-  looked_at look g (Some refusal) = Ends (said.Refused refusal)
-  looked_at look g None = if needs_help look g then Goes (task.CompleteCell g) else begun look g
+  -- a call, asked of an actor that may be unknown, or busy
+  abbrev pub called_of : MachineState B S → ℕ → Call → ℕ → Option (Task S) → MachineState B S × Outcome S
+  called_of m a c look None = begins m a look (goal_of c)
+  called_of m a c look (Some t) = (m, outcome.Refused NotNow)
 
-  -- a walk with one more cell
-  abbrev pub with_cell : Walk S → ℕ → Walk S
-  with_cell walk found = record walk { at = walk.at + 1; sum = o.join walk.sum (o.lift (signed (value_of found))); cells = walk.cells + 1 }
+  abbrev pub called : MachineState B S → ℕ → Call → Option (Actor S) → MachineState B S × Outcome S
+  called m a c None = (m, outcome.Refused NotNow)
+  called m a c (Some actor) = called_of m a c actor.look actor.task
 
-  -- a walk with a block, taken from its parts
-  abbrev pub with_block : Walk S → List ℕ → Walk S
-  with_block walk parts = record walk { at = walk.at + 8; sum = o.join walk.sum (whole_of parts); summaries = walk.summaries + 1 }
+  -- a step of a busy actor's call: one move of the words and its look, and what becomes of the call
+  abbrev pub stepped : MachineState B S → ℕ → ℕ → Task S → MachineState B S × Outcome S
+  stepped m a look t =
+      let after = sees_next m.words look t in
+      let next = advanced o count parts_of whole_of m.limits look t (slice_index m.words (place_of look t)) in
+      (with_actor m after.words a record { look = after.looks 0; task = task_after next }, outcome_of next)
 
-  -- parts with one more that was loaded
-  abbrev pub with_part : Parts → ℕ → Parts
-  with_part parts found = record parts { number = parts.number + 1; values = slice_set parts.values parts.number (part_value found) }
+  -- a step, asked of an actor that may be unknown, or idle
+  abbrev pub stepped_on : MachineState B S → ℕ → ℕ → Option (Task S) → MachineState B S × Outcome S
+  stepped_on m a look None = (m, outcome.Refused NotNow)
+  stepped_on m a look (Some t) = stepped m a look t
 
-  -- what a reduction does with a part: of another version than the mark, it goes on with the block's cells; after the last part it
-  -- takes the block from them
-  abbrev pub part_loaded : ℕ → Walk S → Parts → ℕ → Advance S
-  part_loaded look walk parts found =
-      if nat_eq (part_version found) parts.version
-      then (if nat_lt (parts.number + 1) count
-      then Goes (task.SumPart walk (with_part parts found))
-      else walked look (with_block walk (with_part parts found).values))
-      else Goes (task.SumCell walk)
+  abbrev pub gone_on : MachineState B S → ℕ → Option (Actor S) → MachineState B S × Outcome S
+  gone_on m a None = (m, outcome.Refused NotNow)
+  gone_on m a (Some actor) = stepped_on m a actor.look actor.task
 
-  -- a refresh with one more cell
-  abbrev pub with_kept : Keep S → ℕ → Keep S
-  with_kept keep found = record keep { at = keep.at + 1; sum = o.join keep.sum (o.lift (signed (value_of found))) }
+  -- one event: the machine after it, and what it comes to
+  unfoldable pub machine_step : MachineState B S → Event → MachineState B S × Outcome S
+  machine_step m (event.Call a c) = called m a c (slice_get m.actors a)
+  machine_step m (event.Step a) = gone_on m a (slice_get m.actors a)
 
-  -- what a refresh does after a cell: once it has all eight, it has the parts
-  abbrev pub cell_kept : Keep S → Advance S
-  cell_kept keep =
-      if nat_eq (keep.at % 8) 0
-      then Goes (task.KeepPart keep.block record { version = keep.version; number = 0; values = parts_of keep.sum })
-      else Goes (task.KeepCell keep)
-
-  -- what becomes of a call by its step, which was on a word; the look is the one before the step
-  abbrev pub advanced : Bounds → ℕ → Task S → ℕ → Advance S
-  advanced limits look (task.Look g) found = looked_at found g (refusal_at limits found g)
-  advanced limits look (task.CompleteCell g) found = Goes (task.CompleteMark g)
-  advanced limits look (task.CompleteMark g) found = begun look g
-  advanced limits look (task.ReadBefore edit i) found =
-      unless_later look (cell_version found) (Goes (task.Exchange edit (signed (value_of found))))
-  advanced limits look (task.Exchange edit before) found = exchanged look edit before found
-  advanced limits look (task.ReadCell i) found =
-      unless_later look (cell_version found) (Ends (said.Read record { edit = edit_of look; value = signed (value_of found) }))
-  advanced limits look (task.SumCell walk) found = unless_later look (cell_version found) (walked look (with_cell walk found))
-  advanced limits look (task.SumMark walk) found =
-      unless_later look found (Goes (task.SumPart walk record { version = found; number = 0; values = replicate 4 0 }))
-  advanced limits look (task.SumPart walk parts) found = part_loaded look walk parts found
-  advanced limits look (task.KeepMark b) found =
-      unless_later look found (Goes (task.KeepCell record { block = b; version = found; at = 8 * b; sum = o.identity }))
-  advanced limits look (task.KeepCell keep) found = unless_later look (cell_version found) (cell_kept (with_kept keep found))
-  advanced limits look (task.KeepPart b parts) found = part_kept count look b parts
-
-  module _ {B : Type 0} where
-    -- a call of an idle actor: it begins, or ends before its first step
-    abbrev pub begins : MachineState B S → ℕ → ℕ → Result Goal Refusal → MachineState B S × Outcome S
-    begins m a look (Ok g) = (with_actor m m.words a record { look = look; task = Some (task.Look g) }, outcome.Started)
-    begins m a look (Err refusal) = (m, outcome.Done (said.Refused refusal))
-
-    -- a call, asked of an actor that may be unknown, or busy
-    abbrev pub called_of : MachineState B S → ℕ → Call → ℕ → Option (Task S) → MachineState B S × Outcome S
-    called_of m a c look None = begins m a look (goal_of c)
-    called_of m a c look (Some t) = (m, outcome.Refused NotNow)
-
-    abbrev pub called : MachineState B S → ℕ → Call → Option (Actor S) → MachineState B S × Outcome S
-    called m a c None = (m, outcome.Refused NotNow)
-    called m a c (Some actor) = called_of m a c actor.look actor.task
-
-    -- a step of a busy actor's call: one move of the words and its look, and what becomes of the call
-    abbrev pub stepped : MachineState B S → ℕ → ℕ → Task S → MachineState B S × Outcome S
-    stepped m a look t =
-        let after = sees_next m.words look t in
-        let next = advanced m.limits look t (slice_index m.words (place_of look t)) in
-        (with_actor m after.words a record { look = after.looks 0; task = task_after next }, outcome_of next)
-
-    -- a step, asked of an actor that may be unknown, or idle
-    abbrev pub stepped_on : MachineState B S → ℕ → ℕ → Option (Task S) → MachineState B S × Outcome S
-    stepped_on m a look None = (m, outcome.Refused NotNow)
-    stepped_on m a look (Some t) = stepped m a look t
-
-    abbrev pub gone_on : MachineState B S → ℕ → Option (Actor S) → MachineState B S × Outcome S
-    gone_on m a None = (m, outcome.Refused NotNow)
-    gone_on m a (Some actor) = stepped_on m a actor.look actor.task
-
-    -- one event: the machine after it, and what it comes to
-    unfoldable pub machine_step : MachineState B S → Event → MachineState B S × Outcome S
-    machine_step m (event.Call a c) = called m a c (slice_get m.actors a)
-    machine_step m (event.Step a) = gone_on m a (slice_get m.actors a)
-
-    -- a list of events: the machine after them, and what each comes to
-    unfoldable pub machine_run : MachineState B S → List Event → MachineState B S × List (Outcome S)
-    machine_run m [] = (m, [])
-    machine_run m (e ∷ events) =
-        let next = machine_step m e in
-        let rest = machine_run next.0 events in
-        (rest.0, next.1 ∷ rest.1)
+  -- a list of events: the machine after them, and what each comes to
+  unfoldable pub machine_run : MachineState B S → List Event → MachineState B S × List (Outcome S)
+  machine_run m [] = (m, [])
+  machine_run m (e ∷ events) =
+      let next = machine_step m e in
+      let rest = machine_run next.0 events in
+      (rest.0, next.1 ∷ rest.1)

@@ -29,7 +29,7 @@ use Rattle.lv_machine.specs.declared.tasks.Task.TheVariants as task
 use Rattle.lv_machine.specs.declared.tasks.Walk.{Walk}
 use Rattle.lv_machine.specs.History.{descriptor_of, edits_of, elements_of, Ends, IsShortEdit}
 use Rattle.lv_machine.specs.Layout.{cell_place}
-use Rattle.lv_machine.specs.Machine.{edit_begun, receipt_at, refusal_at}
+use Rattle.lv_machine.specs.Calls.{edit_begun, receipt_at, refusal_at}
 use Rattle.lv_machine.specs.Moves.{Config, IsComplete, IsReachable}
 use Rattle.lv_machine.specs.Shows.{block, mark_of}
 use Rattle.lv_machine.specs.Terms.{AreTerms, Folding, Terms}

@@ -8,7 +8,7 @@ use Rattle.lv_machine.specs.declared.tasks.Keep.{Keep}
 use Rattle.lv_machine.specs.declared.tasks.Parts.{Parts}
 use Rattle.lv_machine.specs.declared.tasks.Walk.{Walk}
 use Rattle.lv_machine.specs.History.{IsShortEdit}
-use Rattle.lv_machine.specs.Machine.{place_of}
+use Rattle.lv_machine.specs.Calls.{place_of}
 use Rattle.lv_machine.specs.Words.{cell_version, edit_of, part_value, part_version, size_of}
 
 -- an index of twelve bits, where an edit has one

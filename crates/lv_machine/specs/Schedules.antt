@@ -13,7 +13,8 @@ use Rattle.lv_machine.specs.declared.outcomes.Said.{Said}
 use Rattle.lv_machine.specs.declared.tasks.Task.{Task}
 use Rattle.lv_machine.specs.declared.tasks.Task.TheVariants as task
 use Rattle.lv_machine.specs.History.{descriptor_of, Ends}
-use Rattle.lv_machine.specs.Machine.{first_state, machine_run, machine_step, MachineState, move_of}
+use Rattle.lv_machine.specs.Calls.{move_of}
+use Rattle.lv_machine.specs.Machine.{first_state, machine_run, machine_step, MachineState}
 use Rattle.lv_machine.specs.declared.moves.Move.{Move}
 use Rattle.lv_machine.specs.Moves.{Config, MayMove, moved}
 use Rattle.lv_machine.specs.Progress.{goal_under, StandsAt, terms_of, WasSaid}

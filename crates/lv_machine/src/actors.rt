@@ -1,3 +1,4 @@
+//! An actor: its look, and its call, if one is under way.
 ghost use Rattle.std.specs.Prelude.{◌≡◌, ⊤};
 
 use crate::tasks::Task;

@@ -1,3 +1,4 @@
+//! An entry of a history: an edit, and who made it.
 use lv_edits::Edit;
 
 /// One accepted edit of a history, and the number of the actor that made it.

@@ -1,3 +1,5 @@
+//! Events: calls that are started, and steps of them.
+
 /// What an actor may ask of a machine.
 #[derive(Clone, Copy)]
 pub enum Call {

@@ -1,3 +1,4 @@
+//! Laws of all reachable states, as functions that do nothing.
 ghost use Rattle.std.specs.Prelude.{◌≡◌, List, length, take};
 ghost use Rattle.lv_machine.specs.declared.entries.Entry.{Entry};
 ghost use Rattle.lv_machine.specs.History.{edits_of, Ends};

@@ -10,14 +10,18 @@ mod actors;
 mod advances;
 mod entries;
 mod events;
+mod exchanges;
 mod laws;
+mod looks;
 mod machines;
 mod moves;
 mod outcomes;
 mod packing;
+mod refreshes;
 mod schedules;
 mod steps;
 mod tasks;
+mod walks;
 
 pub use entries::Entry;
 pub use events::{Call, Event};

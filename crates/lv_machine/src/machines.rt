@@ -1,7 +1,9 @@
+//! The machine: its words and actors, and what each event makes of them.
 ghost use Rattle.std.specs.Prelude.{◌≡◌, ◌+◌, ◌*◌, ◌<◌, ◌≤◌, [], ◌∷◌, length, replicate, slice_get, slice_set, Some, None, IfOk, IfErr, OnOk, OnErr, if◌then◌else◌};
 ghost use Rattle.lv_edits.specs.Verdict.{IsRefusal};
 ghost use Rattle.lv_machine.specs.History.{descriptor_of};
-ghost use Rattle.lv_machine.specs.Machine.{begins, block_of, block_of_goal, block_refreshed, called, first_state, goal_of, gone_on, idle, is_short, machine_run, machine_step, outcome_of, setting_refusal, stepped, task_after};
+ghost use Rattle.lv_machine.specs.Calls.{block_of, block_of_goal, goal_of, is_short, outcome_of, task_after};
+ghost use Rattle.lv_machine.specs.Machine.{begins, block_refreshed, called, first_state, gone_on, idle, machine_run, machine_step, setting_refusal, stepped};
 ghost use Rattle.lv_machine.specs.Progress.{IsGoal};
 ghost use Rattle.lv_machine.specs.Terms.{blocks_of};
 

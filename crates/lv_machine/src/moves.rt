@@ -1,3 +1,4 @@
+//! The atomic steps, each with who makes it.
 use lv_edits::Edit;
 
 /// One atomic step on one word, by the actor of a number. No value of it is made: definitions and clauses name steps by it.

@@ -1,3 +1,4 @@
+//! What calls end with, and what events come to.
 ghost use Rattle.std.specs.Prelude.{◌≡◌, ⊤};
 
 use lv_edits::Receipt;

@@ -4,7 +4,7 @@
 ghost use Rattle.std.specs.Prelude.{◌≡◌, ◌+◌, ◌*◌, ◌<◌};
 ghost use Rattle.lv_machine.specs.Layout.{cell_place, mark_place, part_place};
 ghost use Rattle.lv_bodies.specs.Parts.{IsShort};
-ghost use Rattle.lv_machine.specs.Machine.{is_short};
+ghost use Rattle.lv_machine.specs.Calls.{is_short};
 ghost use Rattle.lv_machine.specs.Ready.{CanPack};
 ghost use Rattle.lv_machine.specs.Words.{bits_of, cell_version, cell_word, descriptor, descriptor_after, edit_of, index_of, part_value, part_version, part_word, signed, size_of, value_of};
 

@@ -1,3 +1,4 @@
+//! The law that each event of a schedule is one move, as a function that does nothing.
 ghost use Rattle.lv_machine.specs.Schedules.{EveryEventIsOneMove, HistoriesGrow};
 
 use lv_bodies::Parted;

@@ -1,5 +1,6 @@
+//! The step of a call on one word, and what it finds there.
 ghost use Rattle.std.specs.Prelude.{◌≡◌, ◌<◌, ◌/◌, max, length, slice_index, slice_set, if◌then◌else◌, nat_eq};
-ghost use Rattle.lv_machine.specs.Machine.{place_of, sees, sees_next};
+ghost use Rattle.lv_machine.specs.Calls.{place_of, sees, sees_next};
 ghost use Rattle.lv_machine.specs.Layout.{cell_place, mark_place, part_place};
 ghost use Rattle.lv_machine.specs.declared.moves.Move.TheVariants.{Exchange};
 ghost use Rattle.lv_machine.specs.Moves.{completing, moved};

@@ -1,3 +1,4 @@
+//! Calls under way, by the step that comes next.
 ghost use Rattle.std.specs.Prelude.{◌≡◌, ⊤};
 
 use crate::outcomes::Said;

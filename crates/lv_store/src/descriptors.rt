@@ -1,4 +1,5 @@
 //! What the last edit changed, as plain data.
+
 /// The writes of one edit, each of an element at an index: one, or two at two indices.
 #[derive(Clone, Copy, Debug, PartialEq, Eq)]
 pub struct Writes {

@@ -62,8 +62,8 @@ pub fn end_before_writes(writes: Option<Writes>, from: u32, to: u32) -> u32
     }
 }
 
-/// The same for one write, if there is one.
-pub fn end_before(write: Option<(u32, i64)>, from: u32, to: u32) -> u32
+// The same for one write, if there is one.
+fn end_before(write: Option<(u32, i64)>, from: u32, to: u32) -> u32
     requires { from ≤ to }
     ensures { EndsBefore (λ i. is_at i write) from to result }
 {
@@ -84,9 +84,9 @@ pub fn are_in(block: u32, writes: Option<Writes>) -> bool
     }
 }
 
-/// Whether a write, if there is one, is in a block.
+// Whether a write, if there is one, is in a block.
 #[inline(always)]
-pub fn is_in(block: u32, write: Option<(u32, i64)>) -> bool
+fn is_in(block: u32, write: Option<(u32, i64)>) -> bool
     ensures { result ≡ is_in block write }
 {
     match write {

@@ -1,3 +1,4 @@
+-- Proof of `actor_at`: what an actor has, if there is one.
 use Rattle.std.proofs.Common.{◌≡◌, ◌<◌, ◌≤◌, ℕ, Option, Some, None, option_map, List, length, refl, sym, ◌∙◌, get_or}
 use Rattle.std.specs.Prelude.{IfSome, MatchOption, slice_get}
 use Rattle.std.specs.List.{HoldsAt}

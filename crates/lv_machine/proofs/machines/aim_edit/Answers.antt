@@ -1,7 +1,8 @@
+-- Proof of `aim_edit`: an edit of an element, if that fits 16 bits.
 use Rattle.std.proofs.Common.{sym, ap, ◌∙◌, w64}
 use Rattle.std.proofs.lemmas.Bool.{cond-false, cond-true}
 use Rattle.std.proofs.lemmas.Int.{to_z-of_z}
-use Rattle.lv_machine.specs.Machine.{is_short}
+use Rattle.lv_machine.specs.Calls.{is_short}
 use Rattle.lv_machine.proofs.machines.aim_edit.Goals as goal
 
 pub returns-then-fits_short : goal.returns-then-fits_short

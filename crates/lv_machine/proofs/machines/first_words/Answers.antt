@@ -1,3 +1,4 @@
+-- Proof of `first_words`: the words of an empty vector.
 use Rattle.std.proofs.Common.{◌∙◌, ap, ◌+◌, ◌*◌, ◌∷◌, replicate, slice_set, sym, arith}
 use Rattle.lv_machine.specs.Terms.{blocks_of}
 use Rattle.lv_machine.proofs.MachineLaws.{first_descriptor, first_written}

@@ -1,3 +1,4 @@
+-- What the loop keeps in `idle_actors`: so many actors at the start.
 use Rattle.std.proofs.Common.{◌≡◌, ◌+◌, ◌≤◌, ◌-◌, replicate, vec_capacity, vec_len}
 use Rattle.lv_machine.specs.Machine.{idle}
 use Rattle.lv_machine.proofs.machines.idle_actors.Given as goal

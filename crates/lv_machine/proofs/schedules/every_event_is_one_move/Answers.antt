@@ -1,3 +1,4 @@
+-- Proof of `every_event_is_one_move`: a list of events from the start has one history: the edits whose exchange found the actor's look.
 use Rattle.lv_bodies.specs.Parts.{HasParts}
 use Rattle.lv_machine.proofs.ScheduleLaws.{every_event_moves, histories_grow}
 use Rattle.lv_machine.proofs.schedules.every_event_is_one_move.Goals as goal

@@ -1,3 +1,4 @@
+-- Proof of `Machine::new`: an empty vector, and so many idle actors.
 use Rattle.std.proofs.Common.{arith}
 use Rattle.lv_bodies.specs.Parts.{HasParts}
 use Rattle.lv_machine.proofs.MachineLaws.{reached_start, terms_are}

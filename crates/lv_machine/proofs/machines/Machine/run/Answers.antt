@@ -1,3 +1,4 @@
+-- Proof of `Machine::run`: does a list of events, and tells what each comes to.
 use Rattle.std.proofs.Common.{◌∙◌, ap, sym, refl, take, arith}
 use Rattle.std.proofs.lemmas.Grind.{take_at_read}
 use Rattle.std.proofs.lemmas.List.{take_all}

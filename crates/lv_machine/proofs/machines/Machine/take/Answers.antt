@@ -1,8 +1,10 @@
+-- Proof of `Machine::take`: does the next step of a call of an actor.
 use Rattle.std.proofs.Common.{◌≡◌, ℕ, List, ap, ◌∙◌, slice_index, slice_set, take, drop, ◌++◌, length}
 use Rattle.std.proofs.lemmas.Option.{slice_get_within}
 use Rattle.std.specs.Prelude.{slice_get}
 use Rattle.lv_bodies.specs.Parts.{HasParts}
-use Rattle.lv_machine.specs.Machine.{advanced, MachineState, outcome_of, place_of, sees_next, stepped, task_after}
+use Rattle.lv_machine.specs.Calls.{advanced, outcome_of, place_of, sees_next, task_after}
+use Rattle.lv_machine.specs.Machine.{MachineState, stepped}
 use Rattle.lv_machine.specs.declared.actors.Actor.{Actor}
 use Rattle.lv_machine.proofs.MachineLaws.{actor_after, lent_back, reached_next, take_advances, take_moves}
 use Rattle.lv_machine.proofs.machines.Machine.take.Goals as goal
