@@ -13,6 +13,7 @@ pub mod RightLaws
 pub mod PartLaws
 pub mod OwnLaws
 pub mod SafeLaws
+pub mod ListLaws
 pub mod MachineLaws
 pub mod RunLaws
 pub mod ScheduleLaws

@@ -1,13 +1,10 @@
 -- A machine's words and actors stay those of a state that moves reach.
-use Rattle.std.proofs.Common.{◌≡◌, ◌≢◌, ℕ, zero, suc, ℤ, ◌+◌, ◌*◌, ◌^◌, ◌<◌, ◌≤◌, Bool, true, false, Some, None, Ok, Err, List, [], ◌∷◌, length, nat_lt, slice_get, slice_index, slice_set, replicate, ◌++◌, take, drop, length-set, refl, sym, ap, ◌∙◌, subst, inl, inr, arith}
-use Rattle.std.specs.Prelude.{All, if◌then◌else◌, IfSome, int_le, pos, negsuc}
+use Rattle.std.proofs.Common.{◌≡◌, ◌≢◌, ℕ, ℤ, ◌*◌, ◌<◌, ◌≤◌, Bool, true, false, Some, None, Ok, Err, List, [], ◌∷◌, length, nat_lt, slice_get, slice_index, slice_set, replicate, length-set, refl, sym, ap, ◌∙◌, subst, inl, inr, arith}
+use Rattle.std.specs.Prelude.{if◌then◌else◌, IfSome, int_le, pos, negsuc}
 use Rattle.std.proofs.lemmas.Bool.{and_parts, cases_eq, ltb-false}
-use Rattle.std.proofs.lemmas.Grind.{replicate_next}
-use Rattle.std.proofs.lemmas.List.Elements.{All-head, All-tail}
-use Rattle.std.proofs.Math.Seq.{take-append_seam}
 use Rattle.std.proofs.lemmas.Int.{ints}
-use Rattle.std.proofs.lemmas.List.{get_or-replicate, get_or-set_other, get_or-set_same, length-replicate}
-use Rattle.std.proofs.lemmas.Option.{get_or_from_slice_get, slice_get_read, slice_get_within}
+use Rattle.std.proofs.lemmas.List.{length-replicate}
+use Rattle.std.proofs.lemmas.Option.{slice_get_within}
 use Rattle.lv_geometry.specs.Bounds.{AreAllowed as AreLimits, Bounds}
 use Rattle.lv_geometry.specs.declared.refusals.Refusal.{Refusal}
 use Rattle.lv_bodies.specs.Body.{Operations, BodyLaws, fold_of}
@@ -34,7 +31,6 @@ use Rattle.lv_machine.specs.Progress.{Follows, goal_under, IsGoal, IsReached, Is
 use Rattle.lv_machine.specs.Ready.{CanAdvance, CanMove}
 use Rattle.lv_machine.specs.Schedules.{WasTold}
 use Rattle.lv_machine.specs.Terms.{AreTerms, blocks_of, Terms}
-use Rattle.lv_machine.specs.Words.{descriptor}
 use Rattle.lv_machine.proofs.AloneLaws.{alone_look, alone_words, other_look}
 use Rattle.lv_machine.proofs.EndsLaws.{Ends-trans, Ends-whole}
 use Rattle.lv_machine.proofs.MoveLaws.{reachable_shows}
@@ -42,49 +38,7 @@ use Rattle.lv_machine.proofs.OwnLaws.{own_step, OwnStep}
 use Rattle.lv_machine.proofs.RiseLaws.{grow, maybe_rise, rise}
 use Rattle.lv_machine.proofs.SafeLaws.{can_advance, can_move}
 use Rattle.lv_machine.proofs.StepLaws.{may_move}
-
--- the item of a list with another at a place
-pub set_same : {X : Type 0} (xs : List X) (a : ℕ) (x y : X) → slice_get (slice_set xs a x) a ≡ Some y → y ≡ x
-set_same xs a x y is =
-    let within : a < length xs = omega (arith, slice_get_within (slice_set xs a x) a y is, length-set xs a x) in
-    sym (get_or_from_slice_get (slice_set xs a x) a y x is) ∙ get_or-set_same xs a x x within
-
-pub set_other : {X : Type 0} (xs : List X) (a b : ℕ) (x y : X) → b ≢ a → slice_get (slice_set xs a x) b ≡ Some y → slice_get xs b ≡ Some y
-set_other xs a b x y apart is =
-    let within : b < length xs = omega (arith, slice_get_within (slice_set xs a x) b y is, length-set xs a x) in
-    slice_get_read xs (length xs) b y refl within (sym (get_or_from_slice_get (slice_set xs a x) b y y is) ∙ get_or-set_other xs a b x y apart)
-
-pub replicate_same : {X : Type 0} (n a : ℕ) (x y : X) → slice_get (replicate n x) a ≡ Some y → y ≡ x
-replicate_same n a x y is =
-    let within : a < n = omega (arith, slice_get_within (replicate n x) a y is, length-replicate n x) in
-    sym (get_or_from_slice_get (replicate n x) a y x is) ∙ get_or-replicate n a x x within
-
--- a vector whose items were lent, and came back as many
-pub lent_back : {X : Type 0} (new items : List X) (n : ℕ) → length new ≡ n → take n (new ++ drop (length new) items) ≡ new
-lent_back new items n long = ap (λ m. take m (new ++ drop (length new) items)) (sym long) ∙ take-append_seam new (drop (length new) items)
-
--- a number of a list whose numbers are all of 32 bits, or the 0 past its end
-below_all : (xs : List ℕ) (p : ℕ) → All (λ part. part < 2 ^ 32) xs → slice_index xs p < 4294967296
-below_all [] p below = omega arith
-below_all (x ∷ xs) zero below = omega (arith, All-head (λ part. part < 2 ^ 32) x xs below)
-below_all (x ∷ xs) (suc p) below = below_all xs p (All-tail (λ part. part < 2 ^ 32) x xs below)
-
--- words of which the first was written
-pub first_written : (n m first : ℕ) → n ≡ m + 1 → slice_set (replicate n 0) 0 first ≡ first ∷ replicate m 0
-first_written n m first long =
-    let next : n ≡ suc m = omega arith in
-    subst (λ k. slice_set (replicate k 0) 0 first ≡ first ∷ replicate m 0) (sym next) refl
-
-pub first_descriptor : descriptor_of [] ≡ 268369920
-unfolding descriptor_of descriptor
-first_descriptor = refl
-
--- one idle actor more
-pub idle_more : {S : Type 0} (n : ℕ) (xs new : List (Actor S)) → xs ≡ replicate n idle → new ≡ xs ++ record { look = 268369920; task = None } ∷ [] → new ≡ replicate (n + 1) idle
-idle_more n xs new are is =
-    is ∙ ap (λ ys. ys ++ record { look = 268369920; task = None } ∷ []) are
-    ∙ ap (λ l. replicate n idle ++ record { look = l; task = None } ∷ []) (sym first_descriptor)
-    ∙ sym (replicate_next n idle)
+use Rattle.lv_machine.proofs.ListLaws.{below_all, replicate_same, set_other, set_same}
 
 -- the terms of a machine that can be made
 pub terms_are : {S : Type 0} (o : Operations S) (count : ℕ) (parts_of : S → List ℕ) (limits : Bounds) (seats : ℕ) → count ≤ 4 → AreParts count parts_of → AreLimits limits.buckets limits.edits → limits.buckets ≤ 9 → seats ≤ 8 → AreTerms (terms_of o count parts_of limits seats)

@@ -121,7 +121,7 @@ part_raised_shows t c b p n terms shows may =
     })
 
 -- the verdict at a history's descriptor is that at the history
-pub same_refusal : (limits : Bounds) (xs : List ℤ) (e : Edit) → refused_on limits xs e ≡ refused_at limits (length xs) e
+pub same_refusal : (limits : Bounds) (xs : List ℤ) (e : Edit) → refused_on limits xs e ≡ refused_at (capacity_of limits.buckets) (length xs) e
 same_refusal limits xs (Push x) = refl
 same_refusal limits xs Pop = refl
 same_refusal limits xs (Write i x) = refl

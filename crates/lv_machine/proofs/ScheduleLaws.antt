@@ -34,7 +34,8 @@ use Rattle.lv_machine.specs.Schedules.{accepted_by, accepted_in, config_after, c
 use Rattle.lv_machine.specs.Terms.{AreTerms}
 use Rattle.lv_machine.proofs.AloneLaws.{alone_look, alone_words, other_look}
 use Rattle.lv_machine.proofs.RunLaws.{run_keeps, run-snoc, step_keeps}
-use Rattle.lv_machine.proofs.MachineLaws.{actor_after, goal_is, reached_call, reached_next, replicate_same, stands_start, take_may, terms_are, told_after}
+use Rattle.lv_machine.proofs.ListLaws.{replicate_same}
+use Rattle.lv_machine.proofs.MachineLaws.{actor_after, goal_is, reached_call, reached_next, stands_start, take_may, terms_are, told_after}
 
 not_step : (a b : ℕ) (c : Call) → event.Call a c ≡ event.Step b → ⊥
 not_step a b c is = cc

@@ -42,21 +42,22 @@ goal_of call.Size = Ok goal.Size
 goal_of (call.Reduce lo hi) = if nat_lt hi lo then Err BadRange else Ok (goal.Reduce lo hi)
 goal_of (call.Refresh b) = Ok (goal.Refresh b)
 
+-- why a call is refused by the size alone, if it is
+abbrev pub size_refusal : ℕ → Goal → Option Refusal
+size_refusal size (goal.Get i) = if nat_lt i size then None else Some (OutOfRange size)
+size_refusal size (goal.Reduce lo hi) = if nat_lt size hi then Some (OutOfRange size) else None
+size_refusal size (goal.Refresh b) = if nat_lt b (size / 8) then None else Some (OutOfRange size)
+size_refusal size _ = None
+
 -- why a call is refused at its look, if it is
 abbrev pub refusal_at : Bounds → ℕ → Goal → Option Refusal
 refusal_at limits look (goal.Edit edit) = verdict_at limits look edit
-refusal_at limits look (goal.Get i) = if nat_lt i (size_of look) then None else Some (OutOfRange (size_of look))
-refusal_at limits look goal.Size = None
-refusal_at limits look (goal.Reduce lo hi) = if nat_lt (size_of look) hi then Some (OutOfRange (size_of look)) else None
-refusal_at limits look (goal.Refresh b) = if nat_lt b (size_of look / 8) then None else Some (OutOfRange (size_of look))
+refusal_at limits look g = size_refusal (size_of look) g
 
 -- whether a call completes its look's pending write: there is one, and the size alone isn't what it asks for
 abbrev pub needs_help : ℕ → Goal → Bool
-needs_help look (goal.Edit edit) = nat_lt (index_of look) 4088
-needs_help look (goal.Get i) = nat_lt (index_of look) 4088
 needs_help look goal.Size = false
-needs_help look (goal.Reduce lo hi) = nat_lt (index_of look) 4088
-needs_help look (goal.Refresh b) = nat_lt (index_of look) 4088
+needs_help look _ = nat_lt (index_of look) 4088
 
 -- what an accepted edit is answered. The lock-free form has no reserve, no swap and no truncate
 abbrev pub receipt_at : ℕ → Edit → ℤ → Receipt
@@ -73,15 +74,9 @@ module _ {S : Type 0} where
   move_of a (task.Look g) = Look a
   move_of a (task.CompleteCell g) = HelpCell a
   move_of a (task.CompleteMark g) = HelpMark a
-  move_of a (task.ReadBefore edit i) = Read a
   move_of a (task.Exchange edit before) = Exchange a edit
-  move_of a (task.ReadCell i) = Read a
-  move_of a (task.SumCell walk) = Read a
-  move_of a (task.SumMark walk) = Read a
-  move_of a (task.SumPart walk parts) = Read a
-  move_of a (task.KeepMark b) = Read a
-  move_of a (task.KeepCell keep) = Read a
   move_of a (task.KeepPart b parts) = Install a b parts.number (part_word parts.version (slice_index parts.values parts.number))
+  move_of a _ = Read a
 
   -- where the word lies that this step is on
   abbrev pub place_of : ℕ → Task S → ℕ
@@ -100,12 +95,9 @@ module _ {S : Type 0} where
 
   -- what an edit does once its look's pending write is complete: a pop and a write load the cell that they drop or overwrite
   abbrev pub edit_begun : ℕ → Edit → Task S
-  edit_begun look (Push x) = task.Exchange (Push x) (pos 0)
   edit_begun look Pop = task.ReadBefore Pop (size_of look - 1)
   edit_begun look (Write i x) = task.ReadBefore (Write i x) i
-  edit_begun look (Reserve n) = task.Exchange (Reserve n) (pos 0)
-  edit_begun look (Swap i j) = task.Exchange (Swap i j) (pos 0)
-  edit_begun look (Truncate n) = task.Exchange (Truncate n) (pos 0)
+  edit_begun look edit = task.Exchange edit (pos 0)
 
   -- what a reduction does next: the mark of a whole block that begins where it stands, or else the cell there; or it is over
   abbrev pub walked : ℕ → Walk S → Advance S
@@ -149,26 +141,18 @@ sees_next words look t = moved (sees words look) (move_of 0 t)
 
 -- the block that is to be refreshed, if that is what a call is for
 abbrev pub block_of_goal : Goal → Option ℕ
-block_of_goal (goal.Edit edit) = None
-block_of_goal (goal.Get i) = None
-block_of_goal goal.Size = None
-block_of_goal (goal.Reduce lo hi) = None
 block_of_goal (goal.Refresh b) = Some b
+block_of_goal _ = None
 
 -- the block that a call refreshes, if it does
 abbrev pub block_of : {S : Type 0} → Task S → Option ℕ
 block_of (task.Look g) = block_of_goal g
 block_of (task.CompleteCell g) = block_of_goal g
 block_of (task.CompleteMark g) = block_of_goal g
-block_of (task.ReadBefore edit i) = None
-block_of (task.Exchange edit before) = None
-block_of (task.ReadCell i) = None
-block_of (task.SumCell walk) = None
-block_of (task.SumMark walk) = None
-block_of (task.SumPart walk parts) = None
 block_of (task.KeepMark b) = Some b
 block_of (task.KeepCell keep) = Some keep.block
 block_of (task.KeepPart b parts) = Some b
+block_of _ = None
 
 module _ {S : Type 0} (o : Operations S) (count : ℕ) (parts_of : S → List ℕ) (whole_of : List ℕ → S) where
   -- what a call does once its look's pending write is complete, or there is none

@@ -2,7 +2,7 @@
 use Rattle.std.specs.Prelude.{◌≡◌, ℕ, ℤ, ◌+◌, ◌<◌, None, List, [], ◌∷◌, ◌++◌, length, nat_eq, slice_index_or, if◌then◌else◌}
 use Rattle.lv_bodies.specs.Parts.{IsShort}
 use Rattle.lv_edits.specs.declared.edit.Edit.{Edit}
-use Rattle.lv_edits.specs.declared.edit.Edit.TheVariants.{Push, Pop, Write, Reserve, Swap, Truncate}
+use Rattle.lv_edits.specs.declared.edit.Edit.TheVariants.{Push, Pop, Write}
 use Rattle.lv_edits.specs.History.{list_of}
 use Rattle.lv_edits.specs.Touch.{indices_written}
 use Rattle.lv_edits.specs.Verdict.{verdict_of}
@@ -39,9 +39,7 @@ abbrev pub IsShortEdit : Edit → Type 0
 IsShortEdit (Push x) = IsShort x
 IsShortEdit Pop = Unit {0}
 IsShortEdit (Write i x) = IsShort x
-IsShortEdit (Reserve n) = ⊥
-IsShortEdit (Swap i j) = ⊥
-IsShortEdit (Truncate n) = ⊥
+IsShortEdit _ = ⊥
 
 -- an entry that may follow a history: its actor is one of those that there are, and nothing refuses its edit
 pub record MayFollow (t : Terms) (h : List Entry) (e : Entry) : Type 0 where

@@ -68,18 +68,19 @@ moved c (HelpMark a) = raised c (mark_place (index_of (c.looks a) / 8)) (edit_of
 moved c (Install a b p word) = raised c (part_place b p) word
 moved c (Read a) = c
 
--- why an edit is refused at a size, while edits are left
-abbrev pub refused_at : Bounds → ℕ → Edit → Option Refusal
-refused_at limits size (Push x) = if nat_eq size (capacity_of limits.buckets) then Some Full else None
-refused_at limits size Pop = if nat_eq size 0 then Some Empty else None
-refused_at limits size (Write i x) = if nat_lt i size then None else Some (OutOfRange size)
-refused_at limits size (Reserve n) = if nat_lt (capacity_of limits.buckets) n then Some (TooLarge (capacity_of limits.buckets)) else None
-refused_at limits size (Swap i j) = if nat_lt i size && nat_lt j size then None else Some (OutOfRange size)
-refused_at limits size (Truncate n) = if nat_lt size n then Some (OutOfRange size) else None
+-- why an edit is refused at a size, with room for so many elements, while edits are left
+abbrev pub refused_at : (room size : ℕ) → Edit → Option Refusal
+refused_at room size (Push x) = if nat_eq size room then Some Full else None
+refused_at room size Pop = if nat_eq size 0 then Some Empty else None
+refused_at room size (Write i x) = if nat_lt i size then None else Some (OutOfRange size)
+refused_at room size (Reserve n) = if nat_lt room n then Some (TooLarge room) else None
+refused_at room size (Swap i j) = if nat_lt i size && nat_lt j size then None else Some (OutOfRange size)
+refused_at room size (Truncate n) = if nat_lt size n then Some (OutOfRange size) else None
 
 -- the first refusal that applies to an edit at a descriptor, or none
 abbrev pub verdict_at : Bounds → ℕ → Edit → Option Refusal
-verdict_at limits look edit = if nat_eq (edit_of look) limits.edits then Some Worn else refused_at limits (size_of look) edit
+verdict_at limits look edit =
+    if nat_eq (edit_of look) limits.edits then Some Worn else refused_at (capacity_of limits.buckets) (size_of look) edit
 
 -- the cell and the mark of a look's pending write have its number, or a greater one
 pub record IsComplete (words : List ℕ) (look : ℕ) : Type 0 where

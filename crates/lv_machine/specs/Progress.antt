@@ -1,9 +1,9 @@
 -- What a call under way knows of the history that its look shows, and what a call that has ended was told.
-use Rattle.std.specs.Prelude.{◌≡◌, ◌⊎◌, ℕ, pos, ◌+◌, ◌-◌, ◌*◌, ◌/◌, ◌%◌, ◌<◌, ◌≤◌, true, Option, Some, None, List, ◌∷◌, length, slice_get, slice_index, slice_range, nat_lt, IfSome, if◌then◌else◌}
+use Rattle.std.specs.Prelude.{◌≡◌, ◌⊎◌, ℕ, pos, ◌+◌, ◌-◌, ◌*◌, ◌/◌, ◌%◌, ◌<◌, ◌≤◌, true, Option, Some, None, List, ◌∷◌, length, slice_get, slice_index, slice_range, IfSome}
 use Rattle.std.specs.List.{slice_index_or}
 use Rattle.lv_geometry.specs.Bounds.{Bounds}
 use Rattle.lv_geometry.specs.declared.refusals.Refusal.{Refusal}
-use Rattle.lv_geometry.specs.declared.refusals.Refusal.TheVariants.{Contended, OutOfRange, Overtaken}
+use Rattle.lv_geometry.specs.declared.refusals.Refusal.TheVariants.{Contended, Overtaken}
 use Rattle.lv_bodies.specs.Body.{Operations, fold_of}
 use Rattle.lv_edits.specs.declared.edit.Edit.{Edit}
 use Rattle.lv_edits.specs.declared.receipt.Receipt.{Receipt}
@@ -29,7 +29,7 @@ use Rattle.lv_machine.specs.declared.tasks.Task.TheVariants as task
 use Rattle.lv_machine.specs.declared.tasks.Walk.{Walk}
 use Rattle.lv_machine.specs.History.{descriptor_of, edits_of, elements_of, Ends, IsShortEdit}
 use Rattle.lv_machine.specs.Layout.{cell_place}
-use Rattle.lv_machine.specs.Calls.{edit_begun, receipt_at, refusal_at}
+use Rattle.lv_machine.specs.Calls.{edit_begun, receipt_at, refusal_at, size_refusal}
 use Rattle.lv_machine.specs.Moves.{Config, IsComplete, IsReachable}
 use Rattle.lv_machine.specs.Shows.{block, mark_of}
 use Rattle.lv_machine.specs.Terms.{AreTerms, Folding, Terms}
@@ -38,10 +38,8 @@ use Rattle.lv_machine.specs.Words.{cell_version, edit_of, HasPending, index_of}
 -- a goal that a call may have: edits are of 16 bits, and ranges in order
 abbrev pub IsGoal : Goal → Type 0
 IsGoal (goal.Edit edit) = IsShortEdit edit
-IsGoal (goal.Get i) = Unit {0}
-IsGoal goal.Size = Unit {0}
 IsGoal (goal.Reduce lo hi) = lo ≤ hi
-IsGoal (goal.Refresh b) = Unit {0}
+IsGoal _ = Unit {0}
 
 -- a goal that is not refused at a look
 pub record IsGranted (limits : Bounds) (look : ℕ) (g : Goal) : Type 0 where
@@ -125,10 +123,7 @@ module _ {S : Type 0} (o : Operations S) (count : ℕ) (parts_of : S → List �
 -- why a call is refused after some edits, if it is
 abbrev pub refusal_after : Bounds → List Edit → ℕ → Goal → Option Refusal
 refusal_after limits edits size (goal.Edit edit) = verdict_of limits edits edit
-refusal_after limits edits size (goal.Get i) = if nat_lt i size then None else Some (OutOfRange size)
-refusal_after limits edits size goal.Size = None
-refusal_after limits edits size (goal.Reduce lo hi) = if nat_lt size hi then Some (OutOfRange size) else None
-refusal_after limits edits size (goal.Refresh b) = if nat_lt b (size / 8) then None else Some (OutOfRange size)
+refusal_after limits edits size g = size_refusal size g
 
 -- an edit was accepted: it is the last entry of the history, which the look shows now, and is answered its receipt
 pub record WasAccepted (limits : Bounds) (a : ℕ) (h k : List Entry) (g : Goal) (receipt : Receipt) : Type 0 where

@@ -1,7 +1,7 @@
 -- When the next step of a call can be done, as numbers alone: what the code asks of a call under way.
 use Rattle.std.specs.Prelude.{◌≡◌, ℕ, ◌+◌, ◌<◌, ◌≤◌, List, slice_set}
 use Rattle.lv_edits.specs.declared.edit.Edit.{Edit}
-use Rattle.lv_edits.specs.declared.edit.Edit.TheVariants.{Push, Pop, Write, Reserve, Swap, Truncate}
+use Rattle.lv_edits.specs.declared.edit.Edit.TheVariants.{Write}
 use Rattle.lv_machine.specs.declared.tasks.Task.{Task}
 use Rattle.lv_machine.specs.declared.tasks.Task.TheVariants as task
 use Rattle.lv_machine.specs.declared.tasks.Keep.{Keep}
@@ -13,12 +13,8 @@ use Rattle.lv_machine.specs.Words.{cell_version, edit_of, part_value, part_versi
 
 -- an index of twelve bits, where an edit has one
 abbrev pub IsIndexShort : Edit → Type 0
-IsIndexShort (Push x) = Unit {0}
-IsIndexShort Pop = Unit {0}
 IsIndexShort (Write i x) = i < 4096
-IsIndexShort (Reserve n) = Unit {0}
-IsIndexShort (Swap i j) = Unit {0}
-IsIndexShort (Truncate n) = Unit {0}
+IsIndexShort _ = Unit {0}
 
 -- the descriptor after an edit is a word
 pub record CanPack (look : ℕ) (edit : Edit) : Type 0 where
@@ -58,18 +54,10 @@ pub record CanKeep {S : Type 0} (within : S → ℕ → Type 0) (keep : Keep S) 
 module _ {S : Type 0} where
   -- what the step puts there can be made
   abbrev pub CanMake : ℕ → Task S → Type 0
-  CanMake look (task.Look g) = Unit {0}
-  CanMake look (task.CompleteCell g) = Unit {0}
-  CanMake look (task.CompleteMark g) = Unit {0}
-  CanMake look (task.ReadBefore edit i) = Unit {0}
   CanMake look (task.Exchange edit before) = CanPack look edit
-  CanMake look (task.ReadCell i) = Unit {0}
-  CanMake look (task.SumCell walk) = Unit {0}
-  CanMake look (task.SumMark walk) = Unit {0}
   CanMake look (task.SumPart walk parts) = parts.number < 4
-  CanMake look (task.KeepMark b) = Unit {0}
-  CanMake look (task.KeepCell keep) = Unit {0}
   CanMake look (task.KeepPart b parts) = parts.number < 4
+  CanMake look _ = Unit {0}
 
   -- the step's word is among the words, and can be made
   abbrev pub CanMove : ℕ → ℕ → Task S → Type 0
@@ -77,11 +65,7 @@ module _ {S : Type 0} where
 
   -- what the step found can be told, or put to what was loaded
   abbrev pub CanAdvance : (within : S → ℕ → Type 0) (count : ℕ) (whole_of : List ℕ → S) → Task S → ℕ → Type 0
-  CanAdvance within count whole_of (task.Look g) found = Unit {0}
-  CanAdvance within count whole_of (task.CompleteCell g) found = Unit {0}
-  CanAdvance within count whole_of (task.CompleteMark g) found = Unit {0}
   CanAdvance within count whole_of (task.ReadBefore edit i) found = cell_version found < 16777216
-  CanAdvance within count whole_of (task.Exchange edit before) found = Unit {0}
   CanAdvance within count whole_of (task.ReadCell i) found = cell_version found < 16777216
   CanAdvance within count whole_of (task.SumCell walk) found = CanWalk within walk × (cell_version found < 16777216)
   CanAdvance within count whole_of (task.SumMark walk) found = found < 16777216
@@ -89,3 +73,4 @@ module _ {S : Type 0} where
   CanAdvance within count whole_of (task.KeepMark b) found = (b < 511) × (found < 16777216)
   CanAdvance within count whole_of (task.KeepCell keep) found = CanKeep within keep found
   CanAdvance within count whole_of (task.KeepPart b parts) found = parts.number < 4
+  CanAdvance within count whole_of _ found = Unit {0}

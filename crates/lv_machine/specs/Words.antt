@@ -2,7 +2,7 @@
 use Rattle.std.specs.Prelude.{ℕ, ℤ, ◌+◌, ◌-◌, ◌*◌, ◌/◌, ◌%◌, ◌<◌, nat_eq, nat_lt, if◌then◌else◌}
 use Rattle.std.specs.Int.{w16, cast_signed, cast_unsigned}
 use Rattle.lv_edits.specs.declared.edit.Edit.{Edit}
-use Rattle.lv_edits.specs.declared.edit.Edit.TheVariants.{Push, Pop, Write, Reserve, Swap, Truncate}
+use Rattle.lv_edits.specs.declared.edit.Edit.TheVariants.{Push, Pop, Write}
 
 -- the 16 bits of an element, in two's complement
 unfoldable pub bits_of : ℤ → ℕ
@@ -57,20 +57,15 @@ part_value word = word % 4294967296
 -- the bits of the element that an edit puts into the list, 0 where it puts none
 abbrev pub bits_written : Edit → ℕ
 bits_written (Push x) = bits_of x
-bits_written Pop = 0
 bits_written (Write i x) = bits_of x
-bits_written (Reserve n) = 0
-bits_written (Swap i j) = 0
-bits_written (Truncate n) = 0
+bits_written _ = 0
 
 -- the descriptor that an edit makes of one. The lock-free form has no reserve, no swap and no truncate
 abbrev pub descriptor_after : ℕ → Edit → ℕ
 descriptor_after look (Push x) = descriptor (edit_of look + 1) (size_of look + 1) (size_of look) (bits_of x)
 descriptor_after look Pop = descriptor (edit_of look + 1) (size_of look - 1) 4095 0
 descriptor_after look (Write i x) = descriptor (edit_of look + 1) (size_of look) i (bits_of x)
-descriptor_after look (Reserve n) = look
-descriptor_after look (Swap i j) = look
-descriptor_after look (Truncate n) = look
+descriptor_after look _ = look
 
 -- the edit between two descriptors that follow one another, by them alone
 abbrev pub edit_between : ℕ → ℕ → Edit

@@ -15,14 +15,12 @@ pub fn begin_edit<S>(edit: Edit, look: u64) -> Task<S>
     ensures { result ≡ edit_begun look edit }
 {
     match edit {
-        Edit::Push(_) | Edit::Reserve(_) | Edit::Swap { .. } | Edit::Truncate(_) => {
-            Task::Exchange { edit, before: 0 }
-        }
         Edit::Pop => Task::ReadBefore {
             edit,
             index: size_in(look).saturating_sub(1),
         },
         Edit::Write { index, .. } => Task::ReadBefore { edit, index },
+        _ => Task::Exchange { edit, before: 0 },
     }
 }
 

@@ -21,6 +21,7 @@ mod refreshes;
 mod schedules;
 mod steps;
 mod tasks;
+mod verdicts;
 mod walks;
 
 pub use entries::Entry;
@@ -35,3 +36,4 @@ pub use packing::{
     version_in,
 };
 pub use schedules::every_event_is_one_move;
+pub use verdicts::refused_by_size;

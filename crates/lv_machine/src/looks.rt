@@ -6,6 +6,7 @@ ghost use Rattle.lv_machine.specs.Moves.{verdict_at};
 use crate::outcomes::Said;
 use crate::packing::{edit_in, index_in, size_in};
 use crate::tasks::{Advance, Goal};
+use crate::verdicts::refused_by_size;
 use lv_edits::Edit;
 use lv_geometry::{Limits, Refusal};
 
@@ -30,18 +31,7 @@ fn verdict_on(limits: Limits, edit: Edit, look: u64) -> Option<Refusal>
     if edit_in(look) == limits.edits() {
         return Some(Refusal::Worn);
     }
-    let size = size_in(look);
-    let limit = limits.capacity();
-    match edit {
-        Edit::Push(_) => (size == limit).then_some(Refusal::Full),
-        Edit::Pop => (size == 0).then_some(Refusal::Empty),
-        Edit::Write { index, .. } => (index >= size).then_some(Refusal::OutOfRange { size }),
-        Edit::Reserve(cells) => (cells > limit).then_some(Refusal::TooLarge { limit }),
-        Edit::Swap { first, second } => {
-            (first >= size || second >= size).then_some(Refusal::OutOfRange { size })
-        }
-        Edit::Truncate(count) => (count > size).then_some(Refusal::OutOfRange { size }),
-    }
+    refused_by_size(limits.capacity(), size_in(look), edit)
 }
 
 /// Whether a call completes its look's pending write: there is one, and the size alone is not what it asks for.
@@ -50,9 +40,7 @@ pub fn wants_help(goal: Goal, look: u64) -> bool
 {
     match goal {
         Goal::Size => false,
-        Goal::Edit(_) | Goal::Get(_) | Goal::Reduce { .. } | Goal::Refresh(_) => {
-            index_in(look) < 4088
-        }
+        _ => index_in(look) < 4088,
     }
 }
 

@@ -188,12 +188,7 @@ fn block_of<S: Copy>(task: Task<S>) -> Option<u32>
         ),
         Task::KeepMark(block) | Task::KeepPart { block, .. } => Some(block),
         Task::KeepCell(keep) => Some(keep.block),
-        Task::ReadBefore { .. }
-        | Task::Exchange { .. }
-        | Task::ReadCell(_)
-        | Task::SumCell(_)
-        | Task::SumMark(_)
-        | Task::SumPart { .. } => None,
+        _ => None,
     }
 }
 
@@ -203,7 +198,7 @@ fn block_of_goal(goal: Goal) -> Option<u32>
 {
     match goal {
         Goal::Refresh(block) => Some(block),
-        Goal::Edit(_) | Goal::Get(_) | Goal::Size | Goal::Reduce { .. } => None,
+        _ => None,
     }
 }
 

@@ -1,7 +1,7 @@
 -- Proof of `first_words`: the words of an empty vector.
 use Rattle.std.proofs.Common.{◌∙◌, ap, ◌+◌, ◌*◌, ◌∷◌, replicate, slice_set, sym, arith}
 use Rattle.lv_machine.specs.Terms.{blocks_of}
-use Rattle.lv_machine.proofs.MachineLaws.{first_descriptor, first_written}
+use Rattle.lv_machine.proofs.ListLaws.{first_descriptor, first_written}
 use Rattle.lv_machine.proofs.machines.first_words.Goals as goal
 
 pub returns : goal.returns

@@ -1,7 +1,7 @@
 -- Proof of `idle_actors`: so many actors at the start.
 use Rattle.std.proofs.Common.{◌≡◌, ◌∙◌, ap, replicate, arith}
 use Rattle.lv_machine.specs.Machine.{idle}
-use Rattle.lv_machine.proofs.MachineLaws.{idle_more}
+use Rattle.lv_machine.proofs.ListLaws.{idle_more}
 use Rattle.lv_machine.proofs.machines.idle_actors.Goals as goal
 
 pub loop-number-preserved : goal.loop-number-preserved

@@ -4,7 +4,8 @@ use Rattle.std.proofs.lemmas.Option.{slice_get_within}
 use Rattle.lv_bodies.specs.Parts.{HasParts}
 use Rattle.lv_machine.specs.declared.tasks.Task.TheVariants as task
 use Rattle.lv_machine.specs.Progress.{IsGoal}
-use Rattle.lv_machine.proofs.MachineLaws.{lent_back, reached_call}
+use Rattle.lv_machine.proofs.ListLaws.{lent_back}
+use Rattle.lv_machine.proofs.MachineLaws.{reached_call}
 use Rattle.lv_machine.proofs.machines.Machine.begin.Goals as goal
 
 pub set_actor-requires : goal.set_actor-requires

@@ -6,7 +6,8 @@ use Rattle.lv_bodies.specs.Parts.{HasParts}
 use Rattle.lv_machine.specs.Calls.{advanced, outcome_of, place_of, sees_next, task_after}
 use Rattle.lv_machine.specs.Machine.{MachineState, stepped}
 use Rattle.lv_machine.specs.declared.actors.Actor.{Actor}
-use Rattle.lv_machine.proofs.MachineLaws.{actor_after, lent_back, reached_next, take_advances, take_moves}
+use Rattle.lv_machine.proofs.ListLaws.{lent_back}
+use Rattle.lv_machine.proofs.MachineLaws.{actor_after, reached_next, take_advances, take_moves}
 use Rattle.lv_machine.proofs.machines.Machine.take.Goals as goal
 
 pub take_step-found-requires : goal.take_step-found-requires
