@@ -7,3 +7,4 @@ mod KnowByLaws
 pub mod PushedLaws
 mod RunLaws
 pub mod ValueLaws
+pub mod WrittenLaws

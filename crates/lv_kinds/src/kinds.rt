@@ -5,6 +5,7 @@ ghost use Rattle.lv_geometry.specs.declared.nodes.Node.{Node};
 ghost use Rattle.lv_bodies.specs.Automata.{table_of};
 ghost use Rattle.lv_bodies.specs.Six.{six_operations_by};
 ghost use Rattle.lv_bodies.specs.declared.kinds.Kind.{Kind as OneKind};
+ghost use Rattle.lv_edits.specs.Batches.{with_edits, writes_at};
 ghost use Rattle.lv_edits.specs.History.{History, list_of};
 ghost use Rattle.lv_edits.specs.Kept.{IsLegalInLimits};
 ghost use Rattle.lv_edits.specs.Pushes.{with_pushes};
@@ -14,6 +15,7 @@ ghost use Rattle.lv_known.specs.Agrees.{Agrees};
 ghost use Rattle.lv_reduce.specs.Answer.{range_refusal};
 ghost use Rattle.lv_reduce.specs.Asked.{AreTopsKnown};
 ghost use Rattle.lv_live.specs.Follows.{indices_in};
+ghost use Rattle.lv_live.specs.Written.{AreWritesAt};
 ghost use Rattle.lv_kinds.specs.Asked.{ArePartsFolds, CanAskBy, IsKindAnswer, LearnsBy};
 ghost use Rattle.lv_kinds.specs.Inner.{ClearsEach};
 ghost use Rattle.lv_kinds.specs.Kinds.{AreFolds, AreKept, ArePushesOf, HaveRoomFor, KeepsAlike, is_flagged, is_kept_by};
@@ -127,6 +129,14 @@ impl Kinds {
         clear_run(&mut self.flags, first, count);
     }
 
+    /// Hears of writes at indices that were accepted: what is kept of the nodes that they touch is kept no longer.
+    pub fn follow_writes(&mut self, indices: &[u32])
+        ensures kept { (table : List (List ℕ)) (h : History) (xs : List ℤ) → AreWritesAt h indices.now xs (length h.journal) → AreKept table h.journal self.old → AreKept table (with_edits h (writes_at indices.now xs)).journal self.new }
+        ensures remembers { (k : OneKind) (n : Node) → list_any (covers n) indices.now ≡ false → is_kept_by self.new k n ≡ is_kept_by self.old k n }
+    {
+        clear_all(&mut self.flags, indices);
+    }
+
     /// The summary by a kind of the elements from index `lo` up to `hi`, with the number of the last edit; what is computed for it is kept
     /// by that kind. Refused with `BadRange`, then `OutOfRange`: nothing has changed then. Takes no memory.
     #[inline(always)]
@@ -226,5 +236,14 @@ fn clear_run(flags: &mut NodeRows<u8>, first: u32, count: u32)
         let i = first + done;
         flags.clear(i);
         done += (8 - i % 8).min(count - done);
+    }
+}
+
+// Puts a blank for each node that has one of some indices.
+fn clear_all(flags: &mut NodeRows<u8>, indices: &[u32])
+    ensures { ClearsEach flags.old flags.new indices.now }
+{
+    for place in 0..indices.len() {
+        flags.clear(indices[place]);
     }
 }

@@ -21,17 +21,17 @@ use Rattle.lv_live.proofs.LiveLaws.{agrees_followed, hints_followed}
 use Rattle.lv_live.proofs.RememberLaws.{remembers_same}
 
 -- one write leaves the list as long, and the journal legal
-size_written : (h : History) (i : ℕ) (x : ℤ) → replayed h.journal ≡ Some (list_of h.journal) → i < length (list_of h.journal) → length (list_of (h.journal ++ Write i x ∷ [])) ≡ length (list_of h.journal)
+pub size_written : (h : History) (i : ℕ) (x : ℤ) → replayed h.journal ≡ Some (list_of h.journal) → i < length (list_of h.journal) → length (list_of (h.journal ++ Write i x ∷ [])) ≡ length (list_of h.journal)
 size_written h i x legal inside =
     ap length (list_of-snoc h.journal (Write i x) _ legal (applied_write (list_of h.journal) i x inside)).1 ∙ length-set (list_of h.journal) i x
 
 -- so do many
-record Overwritten (h new : History) (indices : List ℕ) : Type 0 where
-  legal : replayed new.journal ≡ Some (list_of new.journal)
-  edits : length new.journal ≡ length h.journal + length indices
-  size : length (list_of new.journal) ≡ length (list_of h.journal)
+pub record Overwritten (h new : History) (indices : List ℕ) : Type 0 where
+  pub legal : replayed new.journal ≡ Some (list_of new.journal)
+  pub edits : length new.journal ≡ length h.journal + length indices
+  pub size : length (list_of new.journal) ≡ length (list_of h.journal)
 
-overwritten : (h : History) (indices : List ℕ) (xs : List ℤ) → replayed h.journal ≡ Some (list_of h.journal) → All (λ i. i < length (list_of h.journal)) indices → length indices ≡ length xs → Overwritten h (with_edits h (writes_at indices xs)) indices
+pub overwritten : (h : History) (indices : List ℕ) (xs : List ℤ) → replayed h.journal ≡ Some (list_of h.journal) → All (λ i. i < length (list_of h.journal)) indices → length indices ≡ length xs → Overwritten h (with_edits h (writes_at indices xs)) indices
 overwritten h [] xs legal inside paired = record { legal = legal; edits = omega arith; size = refl }
 overwritten h (i ∷ rest) [] legal inside paired = absurd (omega (arith, paired))
 overwritten h (i ∷ rest) (x ∷ xs) legal inside paired =
