@@ -243,19 +243,18 @@ typedef struct livevec_states {
 
 /* What many pushes answer. */
 typedef struct livevec_pushed {
-    uint32_t refusal; /* of the push that was refused; 0 where none was */
+    uint32_t refusal; /* of the first push that is refused; 0 where none is */
     uint32_t detail;  /* 0 */
-    uint32_t edit;    /* the number of the last edit that was accepted; 0 where none was */
-    uint32_t pushed;  /* how many elements were pushed */
+    uint32_t edit;    /* the number of the last push; 0 where none was made */
+    uint32_t pushed;  /* how many elements were pushed: all or none */
 } livevec_pushed;
 
 /* What many writes, or many questions, answer. */
 typedef struct livevec_many {
     uint32_t refusal; /* of the one that was refused; 0 where none was */
     uint32_t detail;  /* of LIVEVEC_OUT_OF_RANGE the size, else 0 */
-    uint32_t edit;    /* the number of the last edit, after which the values are those of their ranges; 0 where it was refused, but
-                       * for LIVEVEC_NO_MEMORY after some writes */
-    size_t done;      /* how many writes were made, or ranges answered */
+    uint32_t edit;    /* the number of the last edit, after which the values are those of their ranges; 0 where it was refused */
+    size_t done;      /* how many writes were made, or ranges answered: all or none */
     size_t place;     /* which one was refused, counted from 0; 0 where none was */
 } livevec_many;
 
@@ -370,15 +369,15 @@ LIVEVEC_MUST_USE livevec_verdict livevec_verdict_reserve(livevec_vector *slot, u
 LIVEVEC_MUST_USE livevec_verdict livevec_verdict_swap(livevec_vector *slot, uint32_t first, uint32_t second);
 LIVEVEC_MUST_USE livevec_verdict livevec_verdict_truncate(livevec_vector *slot, uint32_t elements);
 
-/* Pushes elements in order, until one is refused. Those before it stay. A null pointer with length 0 is an empty array, here and
- * below. Refusals: NULL, and those of livevec_push. */
+/* Pushes elements in order: all are pushed, or none. Room for them, and for what may be asked after them, is made before the first.
+ * Where one would be refused, all are: nothing has changed then, and `pushed` is 0. A null pointer with length 0 is an empty array, here
+ * and below. Refusals: NULL, NO_HANDLE, and, of the first push that is refused, WORN, FULL; NO_MEMORY. */
 LIVEVEC_MUST_USE livevec_pushed livevec_push_many(livevec_vector *slot, const int64_t *values, size_t length);
 
 /* Overwrites the element at each of `length` indices, in order, by the value at the same place: `values` has so many too. An index
- * may come twice: the later value stays. Each is an edit of its own. All indices are looked at before the first write, and whether
- * so many edits are left: so all writes are made, or none, want of memory apart. A write takes memory for the journal alone, and
- * seldom, but that can't be reserved: where there is none, those before stay, and `done` tells how many they are.
- * Refusals: NULL, NO_HANDLE, and, of the first write that is refused, WORN, OUT_OF_RANGE; NO_MEMORY. */
+ * may come twice: the later value stays. Each is an edit of its own. All are made, or none: all indices are looked at before the first
+ * write, and whether so many edits are left, and the journal's room for them is made. `place` tells the first write that is refused.
+ * Refusals: NULL, NO_HANDLE, and, of the first write that is refused, WORN, OUT_OF_RANGE; NO_MEMORY, of which `place` is 0. */
 LIVEVEC_MUST_USE livevec_many livevec_write_many(livevec_vector *slot, const uint32_t *indices, const int64_t *values, size_t length);
 
 /* The elements of a range, into a buffer that takes `length` of them. Where it was refused the buffer is as it was.

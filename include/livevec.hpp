@@ -124,8 +124,7 @@ class vector : public inner::owned<livevec_vector, livevec_free> {
     void clear() { truncate(0); }
     std::uint32_t reserve(std::uint32_t elements) { return inner::checked(livevec_reserve(slot(), elements)).place; }
 
-    /* Pushes in order until one is refused: then `stopped` is thrown, and those before it stay. Iterators are gone through before
-     * anything is pushed. */
+    /* Pushes in order: all are pushed, or `stopped` is thrown and none is. Iterators are gone through before anything is pushed. */
     void push_many(const std::int64_t *values, std::size_t length)
     {
         livevec_pushed pushed = livevec_push_many(slot(), values, length);
@@ -141,8 +140,8 @@ class vector : public inner::owned<livevec_vector, livevec_free> {
         push_many(values.data(), values.size());
     }
 
-    /* Writes each value at the index of the same place, in order, and tells the last edit. All are made, or `refused_at` is thrown and, but
-     * for want of memory, none is. As many values as indices are wanted, else it is refused with LIVEVEC_SHORT_BUFFER. */
+    /* Writes each value at the index of the same place, in order, and tells the last edit. All are made, or `refused_at` is thrown and none
+     * is. As many values as indices are wanted, else it is refused with LIVEVEC_SHORT_BUFFER. */
     std::uint32_t write_many(index_view indices, array_view values)
     {
         if (indices.size() != values.size())

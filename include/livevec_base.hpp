@@ -34,7 +34,7 @@ class refused : public std::runtime_error {
     std::uint32_t number_, detail_;
 };
 
-/* Why the push of many elements ended. So many were pushed before, and they stay. */
+/* Why the push of many elements was refused. None of them was pushed, so that `pushed` is 0. */
 class stopped : public refused {
   public:
     explicit stopped(const livevec_pushed &pushed) : refused(pushed.refusal, pushed.detail), pushed_(pushed.pushed) {}
@@ -44,8 +44,7 @@ class stopped : public refused {
     std::uint32_t pushed_;
 };
 
-/* Why many writes or questions were refused: which one it was, counted from 0. So many writes were made before, and they stay: none but
- * where memory was wanted. */
+/* Why many writes or questions were refused: which one it was, counted from 0. None was made, so that `done` is 0. */
 class refused_at : public refused {
   public:
     explicit refused_at(const livevec_many &many) : refused(many.refusal, many.detail), place_(many.place), done_(many.done) {}

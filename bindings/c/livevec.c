@@ -1,5 +1,5 @@
 /* The functions of livevec.h: each answers LIVEVEC_NULL where a pointer is null, and else calls the proved export of its name.
- * Those of many elements at once walk over them, a proved call each, but for scans, which are one call; and two of summaries make a
+ * Those of many elements at once are one proved call, but for questions, which walk over their ranges; and two of summaries make a
  * proved call for up to 1,024. This file is C, so no proof covers it. */
 #include "livevec.h"
 
@@ -224,24 +224,6 @@ FREED(free_seat, livevec_seat)
 /* All pushes at once, or none. */
 livevec_pushed livevec_proved_push_all(livevec_vector *slot, const int64_t *values, size_t length);
 
-/* Pushes in order at a slot that is entered, until one is refused. */
-static livevec_pushed push_each(livevec_vector *slot, const int64_t *values, size_t length)
-{
-    livevec_pushed answer = {LIVEVEC_OK, 0, 0, 0};
-    livevec_count size = livevec_proved_size(slot);
-    answer.refusal = size.refusal;
-    for (size_t i = 0; i < length && !answer.refusal; i++) {
-        livevec_edited edited = livevec_proved_push(slot, values[i]);
-        answer.refusal = edited.refusal;
-        answer.detail = edited.detail;
-        if (!edited.refusal) {
-            answer.edit = edited.edit;
-            answer.pushed++;
-        }
-    }
-    return answer;
-}
-
 livevec_pushed livevec_push_many(livevec_vector *slot, const int64_t *values, size_t length)
 {
     livevec_pushed answer = {LIVEVEC_NULL, 0, 0, 0};
@@ -250,65 +232,28 @@ livevec_pushed livevec_push_many(livevec_vector *slot, const int64_t *values, si
     answer.refusal = LIVEVEC_BUSY;
     if (!enter(&slot->busy_))
         return answer;
-    /* Where not all can be made, they are made one by one. */
     if (length)
         answer = livevec_proved_push_all(slot, values, length);
-    if (answer.refusal)
-        answer = push_each(slot, values, length);
+    else
+        answer.refusal = livevec_proved_size(slot).refusal;
     leave(&slot->busy_);
     return answer;
 }
 
-/* How many more edits are allowed. */
-livevec_count livevec_proved_edits_left(livevec_vector *slot);
-
-/* What the first of some writes that is refused is refused with, at a slot that is entered. */
-static livevec_many judge_writes(livevec_vector *slot, const uint32_t *indices, size_t length)
-{
-    livevec_count size = livevec_proved_size(slot);
-    livevec_many answer = {.refusal = size.refusal};
-    if (answer.refusal)
-        return answer;
-    uint32_t left = livevec_proved_edits_left(slot).value;
-    for (size_t i = 0; i < length; i++) {
-        if (i >= left)
-            return (livevec_many){.refusal = LIVEVEC_WORN, .place = i};
-        if (indices[i] >= size.value)
-            return (livevec_many){.refusal = LIVEVEC_OUT_OF_RANGE, .detail = size.value, .place = i};
-    }
-    answer.edit = livevec_proved_edits(slot).value;
-    return answer;
-}
-
-/* Writes in order at a slot that is entered, where none is refused but for want of memory. */
-static livevec_many write_each(livevec_vector *slot, const uint32_t *indices, const int64_t *values, size_t length)
-{
-    livevec_many answer = judge_writes(slot, indices, length);
-    if (answer.refusal)
-        return answer;
-    for (; answer.done < length; answer.done++) {
-        livevec_edited edited = livevec_proved_write(slot, indices[answer.done], values[answer.done]);
-        if (edited.refusal) {
-            answer.refusal = edited.refusal;
-            answer.detail = edited.detail;
-            answer.edit = answer.done ? answer.edit : 0;
-            answer.place = answer.done;
-            return answer;
-        }
-        answer.edit = edited.edit;
-    }
-    return answer;
-}
+/* All writes at once, or none. As many values as indices are handed over. */
+livevec_many livevec_proved_write_all(livevec_vector *slot, const uint32_t *indices, size_t places, const int64_t *values, size_t length);
 
 livevec_many livevec_write_many(livevec_vector *slot, const uint32_t *indices, const int64_t *values, size_t length)
 {
+    static const uint32_t no_index[1];
+    static const int64_t no_value[1];
     livevec_many answer = {.refusal = LIVEVEC_NULL};
     if (!slot || ((!indices || !values) && length))
         return answer;
     answer.refusal = LIVEVEC_BUSY;
     if (!enter(&slot->busy_))
         return answer;
-    answer = write_each(slot, indices, values, length);
+    answer = livevec_proved_write_all(slot, length ? indices : no_index, length, length ? values : no_value, length);
     leave(&slot->busy_);
     return answer;
 }

@@ -73,9 +73,9 @@ static void goes_in_and_comes_out()
         small.push_many(row);
         IS(false);
     } catch (const livevec::stopped &stopped) {
-        IS(stopped.number() == LIVEVEC_FULL && stopped.pushed() == 2);
+        IS(stopped.number() == LIVEVEC_FULL && stopped.pushed() == 0);
     }
-    IS((small.elements() == numbers{4, -6, 9, 4, -6, 9, 4, -6}));
+    IS((small.elements() == numbers{4, -6, 9, 4, -6, 9}) && small.edits() == 6);
 }
 
 static void is_asked_by_one_kind()
@@ -137,6 +137,12 @@ static void takes_many_writes()
     IS(all.write_many({1}, {5}) == 7 && all.write_many({}, {}) == 7);
     try {
         all.write_many({0, 3}, {1, 1});
+        IS(false);
+    } catch (const livevec::refused_at &refused) {
+        IS(refused.number() == LIVEVEC_OUT_OF_RANGE && refused.place() == 1 && refused.done() == 0);
+    }
+    try {
+        all.write_many({0, 9, 1}, {1, 1, 1});
         IS(false);
     } catch (const livevec::refused_at &refused) {
         IS(refused.number() == LIVEVEC_OUT_OF_RANGE && refused.place() == 1 && refused.done() == 0);

@@ -269,13 +269,22 @@ static void writes_refused(void)
     IS(many.edit, 5);
     IS(many.done, 2);
     IS(livevec_value(&v, LIVEVEC_SUM, 0, 3).values.sum, 16);
-    indices[2] = 1;
+    /* one in the middle is refused: none is made */
+    indices[1] = 9, indices[2] = 1;
+    many = livevec_write_many(&v, indices, values, 3);
+    IS(many.refusal, LIVEVEC_WORN);
+    IS(many.place, 1);
+    indices[1] = 0;
     many = livevec_write_many(&v, indices, values, 3);
     IS(many.refusal, LIVEVEC_WORN);
     IS(many.place, 1);
     IS(many.done, 0);
     IS(livevec_edits(&v).value, 5);
     IS(livevec_get(&v, 2).value, 7);
+    IS(livevec_push_many(&v, values, 2).refusal, LIVEVEC_WORN);
+    IS(livevec_push_many(&v, values, 2).pushed, 0);
+    IS(livevec_size(&v).value, 3);
+    IS(livevec_edits(&v).value, 5);
     IS(livevec_write_many(&v, NULL, NULL, 0).edit, 5);
     /* a slot that is entered */
     v.busy_ = 1;
@@ -288,10 +297,33 @@ static void writes_refused(void)
     IS(livevec_write_many(&v, indices, values, 1).refusal, LIVEVEC_NO_HANDLE);
 }
 
-/* Where a write finds no memory those before it stay; a push that finds none changes nothing; a question wants none. */
+/* Pushes of many at once, each request for memory of which fails in turn: all are made or none. Tells how many requests were refused. */
+static uint32_t push_starved(livevec_vector *v, const int64_t *values, uint32_t length)
+{
+    uint32_t size = livevec_size(v).value, edits = livevec_edits(v).value;
+    int64_t before = (int64_t)livevec_value(v, LIVEVEC_SUM, 0, size).values.sum;
+    for (uint32_t refused = 0;; refused++) {
+        until_failure = (int)refused + 1;
+        livevec_pushed did = livevec_push_many(v, values, length);
+        until_failure = 0;
+        if (!did.refusal) {
+            IS(did.pushed, length);
+            IS(did.edit, edits + length);
+            return refused;
+        }
+        IS(did.refusal, LIVEVEC_NO_MEMORY);
+        IS(did.pushed == 0 && did.edit == 0, true);
+        IS(livevec_size(v).value, size);
+        IS(livevec_edits(v).value, edits);
+        IS((int64_t)livevec_value(v, LIVEVEC_SUM, 0, size).values.sum, before);
+    }
+}
+
+/* Where many writes, or many pushes, find no memory none is made; a push that finds none changes nothing; a question wants none. */
 static void without_memory(void)
 {
-    enum { WRITES = 500 };
+    enum { WRITES = 500, PUSHES = 3000 };
+    static const int64_t more[PUSHES];
     static uint32_t indices[WRITES];
     static int64_t values[WRITES];
     livevec_vector v = {0};
@@ -309,6 +341,9 @@ static void without_memory(void)
     uint32_t edits = size;
     for (int i = 0; i < WRITES; i++)
         indices[i] = (uint32_t)i, values[i] = 1;
+    IS(push_starved(&v, more, PUSHES) > 0, true);
+    size += PUSHES;
+    edits += PUSHES;
     bool stopped = false;
     for (int round = 0; round < 4 || !stopped; round++) {
         until_failure = 1;
@@ -316,11 +351,12 @@ static void without_memory(void)
         until_failure = 0;
         edits += (uint32_t)did.done;
         stopped = stopped || did.refusal;
-        IS(did.refusal == 0 ? did.done == WRITES && did.place == 0 : did.refusal == LIVEVEC_NO_MEMORY && did.place == did.done && did.done < WRITES, true);
+        IS(did.refusal == 0 ? did.done == WRITES : did.refusal == LIVEVEC_NO_MEMORY && did.done == 0, true);
+        IS(did.place, 0);
         IS(did.edit, did.done ? edits : 0);
         IS(livevec_edits(&v).value, edits);
-        IS(livevec_get(&v, (uint32_t)did.done).value, did.done);
-        IS(livevec_value(&v, LIVEVEC_SUM, 0, (uint32_t)did.done).values.sum, did.done);
+        IS(livevec_get(&v, WRITES).value, WRITES);
+        IS(livevec_value(&v, LIVEVEC_SUM, 0, WRITES).values.sum, did.done ? WRITES : WRITES * (WRITES - 1) / 2);
         for (uint32_t i = 0; i < did.done; i++)
             IS(livevec_write(&v, i, i).edit, ++edits);
         if (round > 60)

@@ -164,12 +164,18 @@ class Edits(unittest.TestCase):
         room = numpy.zeros(5, dtype=numpy.int64)
         self.assertEqual((Vector([1, 2]).read_into(room[2:]), room.tolist()), (2, [0, 0, 1, 2, 0]))
 
-    def test_an_extend_that_is_refused_says_how_many_it_took(self):
+    def test_an_extend_that_is_refused_takes_nothing(self):
         v = Vector(most_buckets=1)
         v.extend([1, 2, 3])
         with self.assertRaises(livevec.Full) as caught:
             v.extend(range(10))
-        self.assertEqual((caught.exception.pushed, list(v)), (5, [1, 2, 3, 0, 1, 2, 3, 4]))
+        self.assertEqual((caught.exception.pushed, list(v), v.edits), (0, [1, 2, 3], 3))
+        v.extend(range(5))
+        self.assertEqual(list(v), [1, 2, 3, 0, 1, 2, 3, 4])
+        worn = Vector([1, 2], most_edits=4)
+        with self.assertRaises(livevec.Worn) as caught:
+            worn += [3, 4, 5]
+        self.assertEqual((caught.exception.pushed, list(worn), worn.edits), (0, [1, 2], 2))
 
 
 class Reads(unittest.TestCase):
@@ -515,6 +521,9 @@ class ByKind(unittest.TestCase):
             with self.assertRaises(refused) as caught:
                 v.write_many(places, [7, 7])
             self.assertEqual((caught.exception.place, caught.exception.detail, caught.exception.pushed), (1, 3, 0))
+        with self.assertRaises(livevec.OutOfRange) as caught:
+            v.write_many([0, 1, 3, 2], [7, 7, 7, 7])
+        self.assertEqual((caught.exception.place, caught.exception.pushed, list(v), v.edits), (2, 0, [3, 1, 2], 3))
         v.write_many([], [])
         v.write_many([-1, -1], [5, 6])
         with self.assertRaises(livevec.Worn) as caught:

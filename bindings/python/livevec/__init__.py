@@ -78,7 +78,7 @@ class Refusal(Exception):
 
     `number` is the number that the library's rules give it. `detail` is the size of an OutOfRange, the limit of a TooLarge, the wanted length
     of a ShortBuffer and the other edit of an Outrun, else 0.
-    `pushed` is how many elements were taken by the `extend`, or written by the `write_many`, that was refused; these stay. `place` is which of
+    `pushed` is how many elements were taken by the `extend`, or written by the `write_many`, that was refused: none. `place` is which of
     many writes or questions was refused, counted from 0.
     """
 
@@ -1048,8 +1048,8 @@ class Vector(_Handle, collections.abc.Sequence[int]):
         has gaps or can't be written to, it is copied once, as one block. A buffer of other whole numbers, and anything else that can be gone
         through, is put into such an array first.
 
-        Raises Worn, Full and NoMemory at the element that is refused: its `pushed` says how many were taken, and these stay. Raises TypeError and
-        OverflowError before anything is pushed: of a buffer of several dimensions, of floats or of what else is no whole number of 64 bits.
+        All elements are pushed, or none. Raises Worn, Full and NoMemory where one would be refused: nothing has changed then, and its `pushed` is
+        0. Raises TypeError and OverflowError of a buffer of several dimensions, of floats or of what else is no whole number of 64 bits.
         """
         buffer = _as_buffer(values)
         length = len(buffer)
@@ -1068,9 +1068,8 @@ class Vector(_Handle, collections.abc.Sequence[int]):
         Both are taken as `extend` takes elements, so numpy arrays and lists alike. A negative index counts from the end, and an index may come
         twice: the later value stays. Other threads run meanwhile; beside a call of theirs at this vector, the second of the two raises Busy.
 
-        Raises Worn or OutOfRange where one is refused: its `place` says which, and none was made. Raises NoMemory too: then `pushed` says how
-        many were made, and these stay. Raises ValueError unless there are as many values as indices, and what `extend` raises of such as are
-        no numbers.
+        All writes are made, or none. Raises Worn or OutOfRange where one is refused: its `place` says which. Raises NoMemory too. Raises
+        ValueError unless there are as many values as indices, and what `extend` raises of such as are no numbers.
         """
         places, elements = _as_places(indices, self), _as_buffer(values)
         length = len(places)

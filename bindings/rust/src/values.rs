@@ -203,18 +203,18 @@ pub enum Edit {
     Truncate(u32),
 }
 
-/// A list of pushes that ended early: what stands before the refusal stays pushed.
+/// A list of pushes of which one was refused: none of them was made.
 #[derive(Clone, Copy, Debug, PartialEq, Eq, Hash)]
 pub struct Stopped {
-    /// How many elements were pushed.
+    /// How many elements were pushed: none.
     pub pushed: usize,
-    /// Why the next one was refused.
+    /// Why the first one that was refused was.
     pub refusal: Refusal,
 }
 
 impl fmt::Display for Stopped {
     fn fmt(&self, f: &mut fmt::Formatter<'_>) -> fmt::Result {
-        write!(f, "{} pushed, then {}", self.pushed, self.refusal)
+        write!(f, "{} pushed: {}", self.pushed, self.refusal)
     }
 }
 
@@ -235,7 +235,7 @@ impl From<Stopped> for Refusal {
 pub struct RefusedAt {
     /// Which one was refused, counted from 0; 0 where all were refused alike.
     pub place: usize,
-    /// How many writes were made before. They stay. None, but where memory was wanted.
+    /// How many writes were made: none.
     pub done: usize,
     /// Why it was refused.
     pub refusal: Refusal,

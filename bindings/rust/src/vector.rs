@@ -142,8 +142,10 @@ impl Vector {
         self.raw.truncate(elements).map(|did| Truncated { edit: did.edit, dropped: did.place })
     }
 
-    /// Pushes each element in order, by one call. Where one is refused, those before it stay pushed, and [`Stopped`] says how many they are.
-    /// Tells the number of the last edit.
+    /// Pushes each element in order, by one call: all are pushed, or none. Tells the number of the last edit.
+    ///
+    /// Refused as the first push that is refused would be, with `Worn` or `Full`, then with `NoMemory`. Nothing has changed then, so that
+    /// [`Stopped::pushed`] is 0.
     ///
     /// ```
     /// use livevec::{Limits, Refusal, Vector};
@@ -152,8 +154,8 @@ impl Vector {
     /// let mut small = Vector::with_limits(Limits::new(1, 100)?)?;
     /// assert_eq!(small.extend_from_slice(&[1, 2, 3]).unwrap(), 3);
     /// let stopped = small.extend_from_slice(&[4; 10]).unwrap_err();
-    /// assert_eq!((stopped.pushed, stopped.refusal), (5, Refusal::Full));
-    /// assert_eq!(small.len(), 8);
+    /// assert_eq!((stopped.pushed, stopped.refusal), (0, Refusal::Full));
+    /// assert_eq!(small.len(), 3);
     /// # Ok(())
     /// # }
     /// ```
@@ -164,20 +166,31 @@ impl Vector {
         }
     }
 
-    /// Pushes what an iterator gives, and ends at the first refusal as [`extend_from_slice`](Vector::extend_from_slice) does.
+    /// Pushes what an iterator gives, all of it or nothing, as [`extend_from_slice`](Vector::extend_from_slice) does. It is gone through first,
+    /// until it ends or has given more than there is room for.
     pub fn try_extend(&mut self, values: impl IntoIterator<Item = i64>) -> Result<u32, Stopped> {
-        for (pushed, value) in values.into_iter().enumerate() {
-            self.push(value).map_err(|refusal| Stopped { pushed, refusal })?;
+        let no_memory = Stopped { pushed: 0, refusal: Refusal::NoMemory };
+        let mut gathered = Vec::new();
+        for value in values.into_iter().take(self.room() + 1) {
+            if gathered.len() == gathered.capacity() {
+                gathered.try_reserve(gathered.len().max(64)).map_err(|_| no_memory)?;
+            }
+            gathered.push(value);
         }
-        Ok(self.edits())
+        self.extend_from_slice(&gathered)
+    }
+
+    /// How many more elements the limits allow: the buckets of a vector have 8, 16, 32 and so on.
+    fn room(&self) -> usize {
+        8 * ((1 << self.limits.buckets()) - 1) - self.len() as usize
     }
 
     /// Writes each value at the index of the same place, in order, by one call. An index may come twice: the later value stays. Tells the number
     /// of the last edit.
     ///
-    /// All indices are looked at before the first write, and whether so many edits are left: so all writes are made, or none. Want of memory
-    /// alone may come in between: then [`RefusedAt::done`] says how many were made. Refused with `ShortBuffer` unless there are as many values as
-    /// indices, then with what the first write that is refused is refused with: `Worn`, `OutOfRange`; then `NoMemory`.
+    /// All writes are made, or none: all indices are looked at before the first write, and whether so many edits are left, and room for them
+    /// is made. So [`RefusedAt::done`] is 0. Refused with `ShortBuffer` unless there are as many values as indices, then with what the first
+    /// write that is refused is refused with: `Worn`, `OutOfRange`; then `NoMemory`.
     ///
     /// ```
     /// use livevec::{Refusal, RefusedAt, Vector};

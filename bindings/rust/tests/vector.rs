@@ -4,8 +4,8 @@ use std::sync::Mutex;
 use std::thread;
 
 use livevec::{
-    Accepted, Edit, Job, Kind, Limits, Node, Outcome, Popped, Pushed, Refusal, RefusedAt, Reserved, Swapped, Truncated, Value, Vector,
-    Written,
+    Accepted, Edit, Job, Kind, Limits, Node, Outcome, Popped, Pushed, Refusal, RefusedAt, Reserved, Stopped, Swapped, Truncated, Value,
+    Vector, Written,
 };
 
 fn of(elements: &[i64]) -> Vector {
@@ -184,7 +184,9 @@ fn what_has_no_room_is_refused_or_panics() {
     assert_eq!(Vector::try_from_iter(std::iter::repeat(0)).err(), Some(Refusal::Full));
     let mut small = Vector::with_limits(Limits::new(1, 100).unwrap()).unwrap();
     let told = std::panic::catch_unwind(std::panic::AssertUnwindSafe(|| small.extend(0..10))).unwrap_err();
-    assert_eq!(told.downcast_ref::<String>().unwrap(), "8 pushed, then full: there are as many elements as the limits allow");
+    assert_eq!(told.downcast_ref::<String>().unwrap(), "0 pushed: full: there are as many elements as the limits allow");
+    assert_eq!((small.is_empty(), small.edits()), (true, 0));
+    small.extend(0..8);
     assert_eq!(small, [0, 1, 2, 3, 4, 5, 6, 7]);
 }
 
@@ -429,10 +431,17 @@ fn many_are_refused_by_the_first_that_is() {
     assert_eq!(vector.write_many(&[0, 3], &[5, 5]), Err(RefusedAt { place: 1, done: 0, refusal: size }));
     assert_eq!(vector.write_many(&[0, 1], &[5]).unwrap_err().refusal, Refusal::ShortBuffer { wanted: 2 });
     assert_eq!((vector.write_many(&[0, 0], &[5, 6]), vector.write_many(&[], &[])), (Ok(5), Ok(5)));
+    // one in the middle is refused: none is made
+    assert_eq!(vector.write_many(&[0, 9, 1], &[7, 7, 7]), Err(RefusedAt { place: 1, done: 0, refusal: size }));
+    assert_eq!((vector.to_vec().unwrap(), vector.edits()), (vec![6, 1, 2], 5));
     let worn = vector.write_many(&[0, 1], &[7, 7]).unwrap_err();
     assert_eq!(
         (worn, worn.to_string()),
         (RefusedAt { place: 1, done: 0, refusal: Refusal::Worn }, "at place 1: the limit of edits is reached".into())
     );
-    assert_eq!(vector.to_vec().unwrap(), [6, 1, 2]);
+    assert_eq!((vector.to_vec().unwrap(), vector.edits()), (vec![6, 1, 2], 5));
+    let stopped = Stopped { pushed: 0, refusal: Refusal::Worn };
+    assert_eq!((vector.extend_from_slice(&[1, 1]), vector.try_extend([1, 1])), (Err(stopped), Err(stopped)));
+    assert_eq!((vector.to_vec().unwrap(), vector.edits(), vector.extend_from_slice(&[])), (vec![6, 1, 2], 5, Ok(5)));
+    assert_eq!((vector.try_extend([4]), vector.to_vec().unwrap()), (Ok(6), vec![6, 1, 2, 4]));
 }

@@ -11,3 +11,4 @@ pub mod Programs
 pub mod Seatless
 pub mod Others
 pub mod Summing
+mod WrittenLaws

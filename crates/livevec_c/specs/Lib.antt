@@ -17,3 +17,4 @@ pub mod Valued
 pub mod Summed
 pub mod Found
 pub mod Pushed
+pub mod Written

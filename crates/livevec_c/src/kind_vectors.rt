@@ -3,6 +3,7 @@ ghost use Rattle.std.specs.Prelude.{◌≡◌, ◌↔◌, ◌≤◌, ◌<◌, Is
 ghost use Rattle.lv_geometry.specs.declared.nodes.Node.{Node};
 ghost use Rattle.lv_bodies.specs.Automata.{table_of};
 ghost use Rattle.lv_bodies.specs.Six.{six_operations_by};
+ghost use Rattle.lv_edits.specs.Batches.{AnswersEdits, writes_at};
 ghost use Rattle.lv_edits.specs.History.{History, list_of, with_edit};
 ghost use Rattle.lv_edits.specs.Kept.{IsLegalInLimits};
 ghost use Rattle.lv_edits.specs.Pushes.{AnswersAll};
@@ -19,6 +20,7 @@ ghost use Rattle.lv_where.specs.Where.{IsEndReached, IsPlaceOfBest, IsPlaceOfGre
 ghost use Rattle.livevec_c.specs.KindVectors.{IsSizeAfter};
 
 use crate::pushes::push_beside;
+use crate::writes::write_beside;
 use lv_bodies::{Automaton, Kind, SixByTable, SixSummary};
 use lv_edits::{Edit, Receipt};
 use lv_geometry::{Limits, Refusal};
@@ -161,6 +163,17 @@ impl KindVector {
         ensures refresh { SameRefresh self.old self.new }
     {
         push_beside(&mut self.live, &mut self.kinds, values)
+    }
+
+    /// Writes values at indices in order, all of them or none. Refused as the first write that would be refused, else with `NoMemory`,
+    /// and nothing has changed then.
+    pub fn write_all(&mut self, indices: &[u32], values: &[i64]) -> Result<u32, Refusal>
+        requires paired { length indices.now ≡ length values.now }
+        ensures answer { AnswersEdits self.old.history (writes_at indices.now values.now) result self.new.history }
+        ensures limits { IsLegalInLimits self.new.history }
+        ensures refresh { SameRefresh self.old self.new }
+    {
+        write_beside(&mut self.live, &mut self.kinds, indices, values)
     }
 
     /// The summary by a kind of the elements from index `lo` up to `hi`, with the number of the last edit. What is computed for it is

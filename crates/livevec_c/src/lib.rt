@@ -27,3 +27,4 @@ mod slots;
 mod summaries;
 mod vectors;
 mod verdicts;
+mod writes;

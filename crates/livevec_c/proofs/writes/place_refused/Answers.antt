@@ -1,0 +1,30 @@
+use Rattle.std.proofs.Common.{◌≡◌, ℤ, List, ◌+◌, ap, sym, ◌∙◌, length, cond, is_some, arith}
+use Rattle.lv_edits.specs.Batches.{writes_at}
+use Rattle.lv_edits.proofs.BatchLaws.{verdict_by}
+use Rattle.livevec_c.specs.Written.{place_refused}
+use Rattle.livevec_c.proofs.WrittenLaws.{accepted_by, free_before_first, free_before_next, place_is, place_none, place_out, place_worn}
+use Rattle.livevec_c.proofs.writes.place_refused.Goals as goal
+use Rattle.livevec_c.proofs.writes.place_refused.Goals.{After-size-size}
+
+-- what the history says, by how many edits are left and by the size
+told : (c : After-size-size) → (xs : List ℤ) → length c.args.indices.now ≡ length xs
+    → cond (is_some (verdict_by c.edits_left.result c.size-size.result c.args.indices.now)) (accepted_by c.edits_left.result c.size-size.result c.args.indices.now) 0 ≡ place_refused c.args.vector.now.history (writes_at c.args.indices.now xs)
+told c xs paired = ?
+
+pub loop-place-init : goal.loop-place-init
+loop-place-init c = free_before_first _ _ c.args.indices.now
+
+pub loop-place-preserved : goal.loop-place-preserved
+loop-place-preserved c = free_before_next _ _ c.loop-place.place c.args.indices.now c.if-place-left.false c.loop-place-test.true c.if-indices-place.false c.loop-place.invariant
+
+pub returns-then-place-left : goal.returns-then-place-left
+returns-then-place-left c xs paired =
+    sym (place_worn _ _ c.loop-place.place c.args.indices.now c.if-place-left.true c.loop-place-test.true c.loop-place.invariant) ∙ told (goal.at.returns-then-place-left c).After-size-size xs paired
+
+pub returns-then-indices-place : goal.returns-then-indices-place
+returns-then-indices-place c xs paired =
+    sym (place_out _ _ c.loop-place.place c.args.indices.now c.if-place-left.false c.loop-place-test.true c.if-indices-place.true c.loop-place.invariant) ∙ told (goal.at.returns-then-indices-place c).After-size-size xs paired
+
+pub returns : goal.returns
+returns c xs paired =
+    sym (place_none _ _ c.loop-place.place c.args.indices.now c.loop-place-test.false c.loop-place.invariant) ∙ told (goal.at.returns c).After-size-size xs paired

@@ -1,0 +1,1 @@
+use Rattle.livevec_c.proofs.writes.write_at_vector.Goals as goal

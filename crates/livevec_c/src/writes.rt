@@ -1,0 +1,137 @@
+//! Many writes at once.
+ghost use Rattle.std.specs.Prelude.{◌≡◌, ℤ, List, length};
+ghost use Rattle.lv_bodies.specs.Automata.{table_of};
+ghost use Rattle.lv_edits.specs.Batches.{AnswersEdits, writes_at};
+ghost use Rattle.lv_edits.specs.Kept.{IsLegalInLimits};
+ghost use Rattle.lv_live.specs.State.{SameRefresh};
+ghost use Rattle.lv_kinds.specs.Kinds.{AreKept};
+ghost use Rattle.livevec_c.specs.Written.{Writes, WritesObject, WritesVector, place_refused, unwritten};
+
+use crate::kind_vectors::KindVector;
+use crate::objects::Object;
+use crate::results::{NO_HANDLE, SHORT_BUFFER, detail};
+use crate::slots::{Slot, put, take};
+use lv_bodies::SixByTable;
+use lv_geometry::Refusal;
+use lv_kinds::Kinds;
+use lv_live::Live;
+use std::alloc::Global;
+
+/// What many writes answer.
+#[repr(C)]
+#[derive(Clone, Copy)]
+pub struct Many {
+    pub refusal: u32,
+    pub detail: u32,
+    pub edit: u32,
+    pub done: usize,
+    pub place: usize,
+}
+
+/// Writes values at indices of a live vector, all of them or none, and has what is kept by kind follow.
+pub fn write_beside(
+    live: &mut Live<SixByTable>,
+    kinds: &mut Kinds,
+    indices: &[u32],
+    values: &[i64],
+) -> Result<u32, Refusal>
+    requires paired { length indices.now ≡ length values.now }
+    requires kept { AreKept (table_of live.old.body.automaton) live.old.history.journal kinds.old }
+    ensures answer { AnswersEdits live.old.history (writes_at indices.now values.now) result live.new.history }
+    ensures limits { IsLegalInLimits live.new.history }
+    ensures refresh { SameRefresh live.old live.new }
+    ensures kept { AreKept (table_of live.new.body.automaton) live.new.history.journal kinds.new }
+{
+    live.keeps();
+    match live.write_all(indices, values) {
+        Err(refusal) => Err(refusal),
+        Ok(edit) => {
+            kinds.follow_writes(indices);
+            Ok(edit)
+        }
+    }
+}
+
+// Which of writes at indices, one after another, is the first that would be refused, want of memory apart; 0 where none would be.
+fn place_refused(vector: &KindVector, indices: &[u32]) -> usize
+    ensures { (xs : List ℤ) → length indices.now ≡ length xs → result ≡ place_refused vector.now.history (writes_at indices.now xs) }
+{
+    let live = vector.live();
+    live.keeps();
+    let left = vector.edits_left() as usize;
+    let size = live.size();
+    for place in 0..indices.len() {
+        if place == left {
+            return place;
+        }
+        if indices[place] >= size {
+            return place;
+        }
+    }
+    0
+}
+
+// What writes answer where they are refused.
+fn not_written(refusal: u32, detail: u32, place: usize) -> Many
+    ensures { result ≡ unwritten refusal detail place }
+{
+    Many {
+        refusal,
+        detail,
+        edit: 0,
+        done: 0,
+        place,
+    }
+}
+
+// Writes at a vector.
+fn write_at_vector(vector: &mut KindVector, indices: &[u32], values: &[i64]) -> Many
+    ensures { WritesVector indices.now values.now result vector.old vector.new }
+{
+    if indices.len() != values.len() {
+        return not_written(SHORT_BUFFER, 0, 0);
+    }
+    match vector.write_all(indices, values) {
+        Ok(edit) => Many {
+            refusal: 0,
+            detail: 0,
+            edit,
+            done: indices.len(),
+            place: 0,
+        },
+        Err(refusal) => {
+            let place = place_refused(vector, indices);
+            not_written(refusal.number(), detail(refusal), place)
+        }
+    }
+}
+
+// Writes at an object.
+fn write_at_object(object: &mut Object, indices: &[u32], values: &[i64]) -> Many
+    ensures { WritesObject indices.now values.now result object.old object.new }
+{
+    match object {
+        Object::Vector(vector, _) => write_at_vector(vector, indices, values),
+        _ => not_written(NO_HANDLE, 0, 0),
+    }
+}
+
+/// Overwrites the elements at some indices, each by the value at the same place: all of them, or none.
+#[unsafe(no_mangle)]
+pub extern "C" fn livevec_proved_write_all(
+    alloc: Global,
+    slot: &mut Slot,
+    indices: &[u32],
+    values: &[i64],
+) -> Many
+    ensures { Writes indices.now values.now result slot.old.raw.inner slot.new.raw.inner }
+{
+    match take(alloc, slot) {
+        None => not_written(NO_HANDLE, 0, 0),
+        Some(mut held) => {
+            let answer = write_at_object(&mut held, indices, values);
+            put(slot, held);
+            answer
+        }
+    }
+}
