@@ -639,11 +639,11 @@ class Reduced(NamedTuple):
     values: Values
 
 
-class Placed(NamedTuple):
+class Placed(NamedTuple("Placed", [("index", int), ("value", int)])):
     """An element, and the index at which it stands."""
 
-    index: int
-    value: int
+    # its base is named by a call, since a tuple has an `index` of its own, which a class body would declare anew
+    __slots__ = ()
 
 
 class BestRun(NamedTuple):
@@ -1075,7 +1075,8 @@ class Vector(_Handle, collections.abc.Sequence[int]):
         length = len(places)
         if length != len(elements):
             raise ValueError(f"there are {length} indices and {len(elements)} values")
-        did = _write_many(self._at, *(ctypes.byref(_address(row)) if length else None for row in (places, elements)), length)
+        rows: tuple[WriteableBuffer, WriteableBuffer] = places, elements
+        did = _write_many(self._at, *(ctypes.byref(_address(row)) if length else None for row in rows), length)
         self._changes += did.done
         if did.refusal:
             raise _refuse(did.refusal, did.detail, did.done, did.place)
@@ -1690,7 +1691,10 @@ def _values_in(room: bytearray, kind: Kind) -> list[Union[int, None, tuple[int, 
     step = ctypes.sizeof(_Values) // 8
 
     def words(name: str, of: str = "q") -> list[int]:
-        return memoryview(room).cast(of)[_WORDS[name] :: step].tolist()  # type: ignore[call-overload,no-any-return,unused-ignore]
+        # no step of a view of a format that is told by name has a type of its own
+        view: Any = memoryview(room)
+        column: list[int] = view.cast(of)[_WORDS[name] :: step].tolist()
+        return column
 
     if kind is Kind.SUM:
         return [*words("sum")]
