@@ -1,6 +1,6 @@
 -- What is so of each session is so of all of them.
 use Rattle.std.proofs.Common.{◌≡◌, ℕ, suc, Option, Some, None, Result, Ok, Err, OnOk, List, [], ◌∷◌, ◌++◌, All, IfErr, IfOk, IfSome, ◌⊎◌, length, map, refl, sym, ap, ◌∙◌, subst, arith, inl, inr, length-append, append-nil, append_assoc}
-use Rattle.std.specs.Prelude.{option_map}
+use Rattle.std.specs.Prelude.{option_map, slice_index_or}
 use Rattle.std.specs.List.Sorted.{IsPermutation}
 use Rattle.std.proofs.lemmas.Grind.{flat_map-append}
 use Rattle.std.proofs.lemmas.List.{map-append}
@@ -25,21 +25,46 @@ use Rattle.lv_hub.specs.Session.{KeepTies, SessionState, SessionStep, session_at
 use Rattle.lv_hub.specs.Told.{IsVector, history_of}
 use Rattle.livevec.specs.Served.{AreHeld, FailsToServe, Served, Sides, Transcript, answered_to, ended_well}
 use Rattle.livevec.specs.Starting.{start_of}
-use Rattle.livevec.specs.Tasks.{AreAllHeld, AreHeldFrom, Begun, Ended, IsHeldFrom, TakesBack, begun_at, state_of}
+use Rattle.livevec.specs.Tasks.{AreAllHeld, AreHeldFrom, IsHeldFrom, IsHeldOnce, Sitting, TakesBack, begun_at, state_of}
 use Rattle.livevec.specs.Writing.{FailsToClose, IsJournal, IsTextOf, Writes, WritesClosed}
 
 module _ (limits : Bounds) where
   -- a session that came to a state was held
-  held_so : (begun : Begun) (ended : Ended) (state : SessionState) → state_of ended ≡ Some state → IsHeldFrom limits begun ended
+  held_so : (begun ended : Sitting) (state : SessionState) → state_of ended ≡ Some state → IsHeldFrom limits begun ended
       → Conversed (SessionStep limits) (session_at begun.share []) state begun.sides.lines ended.sides.lines begun.sides.replies ended.sides.replies ended_well
   held_so begun ended state is held =
       subst (λ (found : Option SessionState). IfSome found (λ state. Conversed (SessionStep limits) (session_at begun.share []) state begun.sides.lines ended.sides.lines begun.sides.replies ended.sides.replies ended_well)) is held
+
+  -- one that began to wait was held, or has come to no state
+  once_so : (side : Sides) (e : Sitting) → IsHeldOnce limits (begun_at side) e → IsHeldFrom limits (begun_at side) e
+  once_so side e held =
+      elim held [
+        | inl same ↦ subst (λ e. IsHeldFrom limits (begun_at side) e) (sym same) tt
+        | inr came ↦ came.2
+      ]
+
+  -- what is held once, and then again where it waits still, is held once
+  held_again : (old mid new : Sitting) → IsHeldOnce limits old mid → IsHeldOnce limits mid new → IsHeldOnce limits old new
+  held_again old mid new first second =
+      elim first [
+        | inl same ↦ subst (λ mid. IsHeldOnce limits mid new) same second
+        | inr came ↦ elim second [
+            | inl same ↦ subst (λ new. IsHeldOnce limits old new) (sym same) (inr came)
+            | inr late ↦ absurd (cc (came.1, late.0))
+          ]
+      ]
+
+  pub are_held_again : (olds mids news : List Sitting) → AreHeldFrom limits olds mids → AreHeldFrom limits mids news → AreHeldFrom limits olds news
+  are_held_again olds mids news first second = record {
+    len = second.len ∙ first.len;
+    each = λ i b e within. held_again (slice_index_or olds i b) (slice_index_or mids i b) (slice_index_or news i e) (first.each i b b within) (second.each i b e (omega (arith, first.len, within)));
+  }
 
   first_of : {A : Type 0} (x y : A) (xs ys : List A) → x ∷ xs ≡ y ∷ ys → (x ≡ y) × (xs ≡ ys)
   first_of x y xs ys e = (cc e, cc e)
 
   -- each of several that began anew, and came to these states, was held
-  pub each_held : (olds : List Sides) (ended : List Ended) (states : List SessionState) → AreHeldFrom limits (map begun_at olds) ended → map state_of ended ≡ map Some states
+  pub each_held : (olds : List Sides) (ended : List Sitting) (states : List SessionState) → AreHeldFrom limits (map begun_at olds) ended → map state_of ended ≡ map Some states
       → AreHeld limits olds (map (λ ended. ended.sides) ended) states
   each_held [] [] [] held is = tt
   each_held [] [] (s ∷ states) held is = absurd (cc is)
@@ -48,7 +73,7 @@ module _ (limits : Bounds) where
   each_held (old ∷ olds) (e ∷ ended) [] held is = absurd (cc is)
   each_held (old ∷ olds) (e ∷ ended) (s ∷ states) held is =
       let parts = first_of (state_of e) (Some s) (map state_of ended) (map Some states) is in (
-        held_so (begun_at old) e s parts.0 (held.each 0 (begun_at old) e (omega arith)),
+        held_so (begun_at old) e s parts.0 (once_so old e (held.each 0 (begun_at old) e (omega arith))),
         each_held olds ended states (record { len = omega (arith, held.len); each = λ i b e within. held.each (suc i) b e (omega arith) }) parts.1,
       )
 
@@ -74,7 +99,7 @@ takes_none share = record {
 }
 
 -- a share takes one session more in
-takes_one_more : (old mid new : ShareState) (ended : List Ended) (claims more : List Claimed) (sides : List Sides) (e : Ended)
+takes_one_more : (old mid new : ShareState) (ended : List Sitting) (claims more : List Claimed) (sides : List Sides) (e : Sitting)
     → TakesBack old mid ended claims sides → AreTogether mid e.share new → e.claims ≡ Some more → e.share.parts ≡ 1 → All (IsTrueClaim e.share.seen) more
     → TakesBack old new (ended ++ e ∷ []) (claims ++ more) (sides ++ e.sides ∷ [])
 takes_one_more old mid new ended claims more sides e t both some one true =
@@ -93,7 +118,7 @@ takes_one_more old mid new ended claims more sides e t both some one true =
     }
 
 -- the same, where its reductions and its streams went behind the others
-pub takes_next : {S : Type 0} (side : S → Sides) (old mid new : ShareState) (ended : List Ended) (claims more took : List Claimed) (streams kept : List S) (its : S) (e : Ended)
+pub takes_next : {S : Type 0} (side : S → Sides) (old mid new : ShareState) (ended : List Sitting) (claims more took : List Claimed) (streams kept : List S) (its : S) (e : Sitting)
     → TakesBack old mid ended claims (map side streams) → AreTogether mid e.share new → e.claims ≡ Some more → e.share.parts ≡ 1 → All (IsTrueClaim e.share.seen) more
     → took ≡ claims ++ more → kept ≡ streams ++ its ∷ [] → side its ≡ e.sides → TakesBack old new (ended ++ e ∷ []) took (map side kept)
 takes_next side old mid new ended claims more took streams kept its e t both some one true took_is kept_is its_is =
@@ -102,18 +127,18 @@ takes_next side old mid new ended claims more took streams kept its e t both som
     (subst (λ sides. TakesBack old new (ended ++ e ∷ []) (claims ++ more) sides) (sym sides_are) (takes_one_more old mid new ended claims more (map side streams) e t both some one true))
 
 -- all that came were taken back
-pub takes_all : {S : Type 0} (side : S → Sides) (old new : ShareState) (came ended : List Ended) (claims : List Claimed) (streams : List S)
+pub takes_all : {S : Type 0} (side : S → Sides) (old new : ShareState) (came ended : List Sitting) (claims : List Claimed) (streams : List S)
     → came ≡ ended → TakesBack old new came claims (map side streams) → TakesBack old new ended claims (map side streams)
 takes_all side old new came ended claims streams is t = subst (λ ended. TakesBack old new ended claims (map side streams)) is t
 
 -- one session more was given its share
-pub begins_one_more : {S : Type 0} (begun : S → Begun) (tasks more : List Begun) (task : Begun) (streams : List S) (its : S)
+pub begins_one_more : {S : Type 0} (begun : S → Sitting) (tasks more : List Sitting) (task : Sitting) (streams : List S) (its : S)
     → tasks ≡ map begun streams → more ≡ tasks ++ task ∷ [] → task ≡ begun its → more ≡ map begun (streams ++ its ∷ [])
 begins_one_more begun tasks more task streams its are pushed is =
     pushed ∙ ap (λ tasks. tasks ++ task ∷ []) are ∙ ap (λ task. map begun streams ++ task ∷ []) is ∙ sym (map-append begun streams (its ∷ []))
 
 -- all sessions were held, and their shares taken back by one that had counted and seen nothing
-all_held : (limits : Bounds) (old new : ShareState) (olds news : List Sides) (begun : List Begun) (ended : List Ended) (claims : List Claimed)
+all_held : (limits : Bounds) (old new : ShareState) (olds news : List Sides) (begun : List Sitting) (ended : List Sitting) (claims : List Claimed)
     → begun ≡ map begun_at olds → AreHeldFrom limits begun ended → TakesBack old new ended claims news → old.count ≡ 0 → AreAllHeld limits new olds news claims
 all_held limits old new olds news begun ended claims is held t none = record {
   states = t.states;
@@ -129,14 +154,14 @@ begun_for : {S : Type 0} (side : S → Sides) (streams : List S) → map (λ s. 
 begun_for side [] = refl
 begun_for side (s ∷ streams) = ap (λ begun. begun_at (side s) ∷ begun) (begun_for side streams)
 
-as_many : {S : Type 0} (begun : S → Begun) (streams : List S) → length (map begun streams) ≡ length streams
+as_many : {S : Type 0} (begun : S → Sitting) (streams : List S) → length (map begun streams) ≡ length streams
 as_many begun [] = refl
 as_many begun (s ∷ streams) = ap suc (as_many begun streams)
 
-pub begun_as_many : {S : Type 0} (begun : S → Begun) (tasks : List Begun) (streams : List S) → tasks ≡ map begun streams → length tasks ≡ length streams
+pub begun_as_many : {S : Type 0} (begun : S → Sitting) (tasks : List Sitting) (streams : List S) → tasks ≡ map begun streams → length tasks ≡ length streams
 begun_as_many begun tasks streams is = ap length is ∙ as_many begun streams
 
-pub all_held_by : {S : Type 0} (side : S → Sides) (limits : Bounds) (old new : ShareState) (streams : List S) (news : List Sides) (begun : List Begun) (ended : List Ended) (claims : List Claimed)
+pub all_held_by : {S : Type 0} (side : S → Sides) (limits : Bounds) (old new : ShareState) (streams : List S) (news : List Sides) (begun : List Sitting) (ended : List Sitting) (claims : List Claimed)
     → begun ≡ map (λ s. begun_at (side s)) streams → AreHeldFrom limits begun ended → TakesBack old new ended claims news → old.count ≡ 0 → AreAllHeld limits new (map side streams) news claims
 all_held_by side limits old new streams news begun ended claims is held t none =
     all_held limits old new (map side streams) news begun ended claims (is ∙ begun_for side streams) held t none

@@ -1,5 +1,5 @@
 -- Sessions before and after they were held.
-use Rattle.std.specs.Prelude.{◌≡◌, ℕ, ◌+◌, ◌<◌, Option, Some, None, IfSome, option_map, Result, Ok, Err, List, [], All, length, map, slice_index_or}
+use Rattle.std.specs.Prelude.{◌≡◌, ◌⊎◌, ℕ, ◌+◌, ◌<◌, Bool, true, false, Option, Some, None, IfSome, option_map, Result, Ok, Err, List, [], All, length, map, slice_index_or}
 use mathlib.Core.List.{IsPrefix}
 use Rattle.lv_transcript.specs.declared.claimed.Claimed.{Claimed}
 use Rattle.lv_geometry.specs.Bounds.{Bounds}
@@ -9,42 +9,44 @@ use Rattle.lv_hub.specs.Counting.{ShareState}
 use Rattle.lv_hub.specs.Session.{SessionState, SessionStep, session_at}
 use Rattle.livevec.specs.Served.{AreHeld, Sides, answered_to, counted_by, ended_well}
 
--- a session that is to be held: its share, and what its streams are at
-pub record Begun : Type 0 where
+-- a session: its share, what its streams are at, whether it waits to be held, and the reductions that it was answered once it was. It has
+-- none where it ended with a fault
+pub record Sitting : Type 0 where
   pub share : ShareState
   pub sides : Sides
-
--- one that was held, with the reductions that it was answered; it has none where it ended with a fault
-pub record Ended : Type 0 where
-  pub share : ShareState
-  pub sides : Sides
+  pub waits : Bool
   pub claims : Option (List Claimed)
 
 -- the reductions that are listed, if any are
-abbrev pub listed_in : {E : Type 0} → Result (List Claimed) E → Option (List Claimed)
-listed_in (Ok claims) = Some claims
-listed_in (Err failure) = None
+abbrev pub listed_in : {E : Type 0} → Option (Result (List Claimed) E) → Option (List Claimed)
+listed_in (Some (Ok claims)) = Some claims
+listed_in (Some (Err failure)) = None
+listed_in None = None
 
--- a session with one part of the hub, which has counted and seen nothing
-abbrev pub begun_at : Sides → Begun
-begun_at sides = record { share = record { parts = 1; count = 0; seen = [] }; sides = sides }
+-- a session that waits with one part of the hub, and has counted and seen nothing
+abbrev pub begun_at : Sides → Sitting
+begun_at sides = record { share = record { parts = 1; count = 0; seen = [] }; sides = sides; waits = true; claims = None }
 
 -- the state that a session came to, unless it ended with a fault
-abbrev pub state_of : Ended → Option SessionState
+abbrev pub state_of : Sitting → Option SessionState
 state_of ended = option_map (session_at ended.share) ended.claims
 
 -- unless it ended with a fault, a session was held from where it began
-abbrev pub IsHeldFrom : Bounds → Begun → Ended → Type 0
+abbrev pub IsHeldFrom : Bounds → Sitting → Sitting → Type 0
 IsHeldFrom limits begun ended =
     IfSome (state_of ended) (λ state. Conversed (SessionStep limits) (session_at begun.share []) state begun.sides.lines ended.sides.lines begun.sides.replies ended.sides.replies ended_well)
 
--- so was each of several
-pub record AreHeldFrom (limits : Bounds) (begun : List Begun) (ended : List Ended) : Type 0 where
+-- one that waits was held, or waits still, and nothing is changed; nor is one that doesn't wait
+abbrev pub IsHeldOnce : Bounds → Sitting → Sitting → Type 0
+IsHeldOnce limits old new = (new ≡ old) ⊎ ((old.waits ≡ true) × (new.waits ≡ false) × IsHeldFrom limits old new)
+
+-- so it is with each of several
+pub record AreHeldFrom (limits : Bounds) (begun ended : List Sitting) : Type 0 where
   pub len : length ended ≡ length begun
-  pub each : (i : ℕ) (b : Begun) (e : Ended) → i < length begun → IsHeldFrom limits (slice_index_or begun i b) (slice_index_or ended i e)
+  pub each : (i : ℕ) (b e : Sitting) → i < length begun → IsHeldOnce limits (slice_index_or begun i b) (slice_index_or ended i e)
 
 -- a share took those of sessions in, none of which ended with a fault. It has seen what each of them had
-pub record TakesBack (old new : ShareState) (ended : List Ended) (claims : List Claimed) (sides : List Sides) : Type 0 where
+pub record TakesBack (old new : ShareState) (ended : List Sitting) (claims : List Claimed) (sides : List Sides) : Type 0 where
   pub states : List SessionState
   pub states_are : map state_of ended ≡ map Some states
   pub parts : new.parts ≡ old.parts + length ended

@@ -1,12 +1,10 @@
 //! Subscribers beside sessions, in threads of their own.
 
-ghost use Rattle.std.specs.Prelude.{◌≡◌, IfOk};
 ghost use Rattle.livevec.specs.Tasks.{AreHeldFrom};
 ghost use Rattle.lv_watchers.specs.Watchers.{AreWatchedFrom};
 
-use crate::failures::Failure;
 use crate::holding::hold_each;
-use crate::tasks::{Done, Task};
+use crate::tasks::Task;
 use lv_bodies::Six;
 use lv_hub::{Begun, Hub, Means, Minutes};
 use lv_watchers::Watcher;
@@ -32,29 +30,24 @@ pub fn hold_beside<
     answers: usize,
     tasks: Vec<Task<N, F>>,
     watchers: Vec<Watcher<N, F>>,
-) -> Result<(Vec<Done<N, F>>, Vec<Watcher<N, F>>), Failure>
-    ensures held { IfOk result (λ all. AreHeldFrom N.limits tasks.items all.0.items) }
-    ensures watched { IfOk result (λ all. AreWatchedFrom N.limits watchers.items all.1.items) }
+) -> (Vec<Task<N, F>>, Vec<Watcher<N, F>>)
+    ensures held { AreHeldFrom N.limits tasks.items result.0.items }
+    ensures watched { AreWatchedFrom N.limits watchers.items result.1.items }
 {
     if watchers.len() == 0 {
-        return match hold_and_dismiss(rt, alloc, hub, minutes, answers, tasks) {
-            Ok(done) => Ok((done, watchers)),
-            Err(failure) => Err(failure),
-        };
+        let held = hold_and_dismiss(rt, alloc, hub, minutes, answers, tasks);
+        return (held, watchers);
     }
-    let (watchers, done) = thread::join(
+    let (watchers, held) = thread::join(
         rt,
         move || -> Vec<Watcher<N, F>>
             ensures { AreWatchedFrom N.limits watchers.items result.items }
         { watch_all(rt, alloc, hub, watchers) },
-        move || -> Result<Vec<Done<N, F>>, Failure>
-            ensures { IfOk result (λ done. AreHeldFrom N.limits tasks.items done.items) }
+        move || -> Vec<Task<N, F>>
+            ensures { AreHeldFrom N.limits tasks.items result.items }
         { hold_and_dismiss(rt, alloc, hub, minutes, answers, tasks) },
     );
-    match done {
-        Ok(done) => Ok((done, watchers)),
-        Err(failure) => Err(failure),
-    }
+    (held, watchers)
 }
 
 // Holds the sessions, and dismisses workers and subscribers once all have ended.
@@ -71,12 +64,12 @@ fn hold_and_dismiss<
     minutes: Option<&Mutex<Minutes<N, V, K>>>,
     answers: usize,
     tasks: Vec<Task<N, F>>,
-) -> Result<Vec<Done<N, F>>, Failure>
-    ensures { IfOk result (λ done. AreHeldFrom N.limits tasks.items done.items) }
+) -> Vec<Task<N, F>>
+    ensures { AreHeldFrom N.limits tasks.items result.items }
 {
-    let done = hold_each(rt, alloc, hub, minutes, answers, tasks);
+    let held = hold_each(rt, alloc, hub, minutes, answers, tasks);
     hub.dismiss(rt);
-    done
+    held
 }
 
 // Has each subscriber told so, and gives them back. Takes no memory.

@@ -1,16 +1,16 @@
 //! Sessions are held, in threads of their own, with workers and subscribers beside them.
 
-ghost use Rattle.std.specs.Prelude.{IfOk};
-ghost use Rattle.livevec.specs.Tasks.{AreHeldFrom, IsHeldFrom};
+ghost use Rattle.livevec.specs.Tasks.{AreHeldFrom, IsHeldOnce};
 ghost use Rattle.lv_watchers.specs.Watchers.{AreWatchedFrom};
 
 use crate::beside::hold_beside;
 use crate::failures::{self, Failure};
 use crate::minuted::run_minuted;
 use crate::serving::Plan;
-use crate::tasks::{Done, Task};
+use crate::tasks::Task;
 use lv_bodies::Six;
 use lv_hub::{Begun, Hub, Means, Minutes, OpenGate, Place, attend};
+use lv_script::Fault;
 use lv_transcript::Queue;
 use lv_watchers::Watcher;
 use std::alloc::Global;
@@ -35,9 +35,9 @@ pub fn hold_all<
     minutes: Option<&Mutex<Minutes<N, V, K>>>,
     tasks: Vec<Task<N, F>>,
     watchers: Vec<Watcher<N, F>>,
-) -> Result<(Vec<Done<N, F>>, Vec<Watcher<N, F>>), Failure>
-    ensures held { IfOk result (λ all. AreHeldFrom N.limits tasks.items all.0.items) }
-    ensures watched { IfOk result (λ all. AreWatchedFrom N.limits watchers.items all.1.items) }
+) -> (Vec<Task<N, F>>, Vec<Watcher<N, F>>)
+    ensures held { AreHeldFrom N.limits tasks.items result.0.items }
+    ensures watched { AreWatchedFrom N.limits watchers.items result.1.items }
 {
     let Plan {
         workers,
@@ -48,15 +48,16 @@ pub fn hold_all<
     let ((), ended) = thread::join(
         rt,
         move || refresh(rt, alloc, hub, workers, turns),
-        move || -> Result<(Vec<Done<N, F>>, Vec<Watcher<N, F>>), Failure>
-            ensures { IfOk result (λ all. AreHeldFrom N.limits tasks.items all.0.items)
-                × IfOk result (λ all. AreWatchedFrom N.limits watchers.items all.1.items) }
+        move || -> (Vec<Task<N, F>>, Vec<Watcher<N, F>>)
+            ensures { AreHeldFrom N.limits tasks.items result.0.items
+                × AreWatchedFrom N.limits watchers.items result.1.items }
         { hold_beside(rt, alloc, hub, minutes, answers, tasks, watchers) },
     );
     ended
 }
 
-/// Holds each session in a thread of its own, where one can be made.
+/// Holds each session in a thread of its own, where one can be made. One that finds no memory there to begin with is held behind the others,
+/// by what was put by for it.
 pub fn hold_each<
     N: Means<Six> + Send + Sync,
     K: Begun + Send + Sync,
@@ -70,11 +71,36 @@ pub fn hold_each<
     minutes: Option<&Mutex<Minutes<N, V, K>>>,
     answers: usize,
     tasks: Vec<Task<N, F>>,
-) -> Result<Vec<Done<N, F>>, Failure>
-    ensures { IfOk result (λ done. AreHeldFrom N.limits tasks.items done.items) }
+) -> Vec<Task<N, F>>
+    ensures { AreHeldFrom N.limits tasks.items result.items }
 {
-    let held = |task: Task<N, F>| -> Done<N, F>
-        ensures { IsHeldFrom N.limits task result }
+    let mut tasks = tasks;
+    hold_at_once(rt, alloc, hub, minutes, answers, tasks.as_mut_slice());
+    hold_waiting(rt, alloc, hub, minutes, answers, tasks.as_mut_slice());
+    tasks
+}
+
+// Holds each that waits, in a thread of its own where one can be made. Their threads take memory before they begin, and so does each session
+// that has begun: one that finds none waits still.
+fn hold_at_once<
+    N: Means<Six> + Send + Sync,
+    K: Begun + Send + Sync,
+    F: Read + Write + Send + Drop,
+    V: Write + Send + Drop,
+    R: Threads + Wait + Sync,
+>(
+    rt: &R,
+    alloc: Global,
+    hub: &Hub<Six, N>,
+    minutes: Option<&Mutex<Minutes<N, V, K>>>,
+    answers: usize,
+    tasks: &mut [Task<N, F>],
+)
+    ensures { AreHeldFrom N.limits tasks.old tasks.new }
+{
+    let threads = tasks.len().max(1);
+    let held = |_: usize, task: &mut Task<N, F>|
+        ensures { IsHeldOnce N.limits task.old task.new }
     {
         let place = Place {
             rt,
@@ -84,46 +110,66 @@ pub fn hold_each<
         };
         hold(place, minutes, task)
     };
-    match thread::map_vec(rt, tasks, &held) {
-        Ok(done) => Ok(done),
-        Err(_) => Err(Failure::memory()),
-    }
+    thread::for_each_mut(rt, tasks, threads, &held);
 }
 
-// Holds a session.
+// Holds each that waits, one behind the other in this thread. What was put by for each is free when it begins.
+fn hold_waiting<
+    N: Means<Six> + Send + Sync,
+    K: Begun + Send + Sync,
+    F: Read + Write + Send + Drop,
+    V: Write + Send + Drop,
+    R: Threads + Wait + Sync,
+>(
+    rt: &R,
+    alloc: Global,
+    hub: &Hub<Six, N>,
+    minutes: Option<&Mutex<Minutes<N, V, K>>>,
+    answers: usize,
+    tasks: &mut [Task<N, F>],
+)
+    ensures { AreHeldFrom N.limits tasks.old tasks.new }
+{
+    let held = |_: usize, task: &mut Task<N, F>|
+        ensures { IsHeldOnce N.limits task.old task.new }
+    {
+        let place = Place {
+            rt,
+            hub,
+            alloc,
+            answers,
+        };
+        task.spare = None;
+        hold(place, minutes, task)
+    };
+    thread::for_each_mut(rt, tasks, 1, &held);
+}
+
+// Holds a session that waits. Where it finds no memory to begin with it waits still, and nothing is changed.
 fn hold<N: Means<Six>, K: Begun, F: Read + Write + Drop, V: Write + Drop, R: Wait>(
     place: Place<'_, N, R>,
     minutes: Option<&Mutex<Minutes<N, V, K>>>,
-    task: Task<N, F>,
-) -> Done<N, F>
-    ensures { IsHeldFrom N.limits task result }
+    task: &mut Task<N, F>,
+)
+    ensures { IsHeldOnce N.limits task.old task.new }
 {
-    let Task {
-        mut share,
-        mut streams,
-    } = task;
+    if task.ended.is_some() {
+        return;
+    }
     let claims = run_minuted(
         place,
         minutes,
-        &mut share,
-        &mut streams.lines,
-        &mut streams.replies,
+        &mut task.share,
+        &mut task.streams.lines,
+        &mut task.streams.replies,
     );
-    let at = failures::Place::Session(streams.number);
+    let at = failures::Place::Session(task.streams.number);
     match claims {
-        Ok(claims) => Done {
-            share,
-            streams,
-            claims: Ok(Queue::new(claims)),
-        },
-        Err(fault) => Done {
-            share,
-            streams,
-            claims: Err(Failure { fault, place: at }),
-        },
+        Ok(claims) => task.ended = Some(Ok(Queue::new(claims))),
+        Err(Fault::NoMemory) => {}
+        Err(fault) => task.ended = Some(Err(Failure { fault, place: at })),
     }
 }
-
 // Refreshes the hub by all workers. Their threads are made once there may be work for them; where memory is wanting for so many, one
 // goes on alone.
 fn refresh<N: Means<Six> + Send + Sync, R: Threads + Wait + Sync>(

@@ -187,9 +187,8 @@ fn serve_all<
         watchers,
         leaving,
     } = present;
-    let held = hold_all(rt, alloc, plan, hub, minutes.as_ref(), tasks, watchers)?;
-    let (done, watchers) = held;
-    let all = take_back(room, share, done)?;
+    let (held, watchers) = hold_all(rt, alloc, plan, hub, minutes.as_ref(), tasks, watchers);
+    let all = take_back(room, share, held)?;
     let left = leave_all(leaving, share, watchers);
     Ok((all, unlocked(minutes), left))
 }

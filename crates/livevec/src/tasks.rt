@@ -12,47 +12,47 @@ use lv_bodies::Six;
 use lv_hub::{Means, Share};
 use lv_lines::HELD;
 use lv_transcript::Queue;
-use std::alloc::Global;
+use std::alloc::{AllocError, Global};
 use std::io::{Read, Write};
 use std::marker::Model;
 
-/// A session that is to be held, with its part of the hub.
+/// As much memory as a session begins with, put by for it.
+#[derive(Drop)]
+pub struct Spare {
+    read: Vec<u8>,
+    held: Vec<u8>,
+}
+
+impl Spare {
+    // Puts it by. A session reads into as much as it holds of its replies.
+    fn new(alloc: Global) -> Result<Spare, AllocError> {
+        Ok(Spare {
+            read: Vec::with_capacity(alloc, HELD)?,
+            held: Vec::with_capacity(alloc, HELD)?,
+        })
+    }
+}
+
+/// A session with its part of the hub and memory that is put by for it. It waits until it is held; then it has the reductions that it was
+/// answered, which are true of what it has seen, or its fault.
 #[derive(Drop)]
 pub struct Task<N: Means<Six>, F: Read + Write + Drop> {
     pub share: Share<N>,
     pub streams: Streams<F>,
+    pub spare: Option<Spare>,
+    pub ended: Option<Result<Queue, Failure>>,
 }
 
 impl<N: Means<Six>, F: Read + Write + Drop> Model for Task<N, F> {
-    ghost use Rattle.std.specs.Prelude.{◌≡◌};
-    ghost use Rattle.livevec.specs.Tasks.{Begun};
-
-    ghost Value = { Begun };
-
-    ghost view = { λ t. record { share = t.share; sides = record { lines = F.remaining t.streams.lines; replies = F.contents t.streams.replies } } };
-
-    ghost invariant = { λ t. t.share.parts ≡ 1 };
-}
-
-/// A session that was held: its part, its streams, and the reductions that it was answered, which are true of what it has seen, or
-/// its fault.
-#[derive(Drop)]
-pub struct Done<N: Means<Six>, F: Read + Write + Drop> {
-    pub share: Share<N>,
-    pub streams: Streams<F>,
-    pub claims: Result<Queue, Failure>,
-}
-
-impl<N: Means<Six>, F: Read + Write + Drop> Model for Done<N, F> {
-    ghost use Rattle.std.specs.Prelude.{◌≡◌, All, IfOk};
+    ghost use Rattle.std.specs.Prelude.{◌≡◌, All, IfOk, IfSome, is_none};
     ghost use Rattle.lv_transcript.specs.Transcript.{IsTrueClaim};
-    ghost use Rattle.livevec.specs.Tasks.{Ended, listed_in};
+    ghost use Rattle.livevec.specs.Tasks.{Sitting, listed_in};
 
-    ghost Value = { Ended };
+    ghost Value = { Sitting };
 
-    ghost view = { λ d. record { share = d.share; sides = record { lines = F.remaining d.streams.lines; replies = F.contents d.streams.replies }; claims = listed_in d.claims } };
+    ghost view = { λ t. record { share = t.share; sides = record { lines = F.remaining t.streams.lines; replies = F.contents t.streams.replies }; waits = is_none t.ended; claims = listed_in t.ended } };
 
-    ghost invariant = { λ d. (d.share.parts ≡ 1) × IfOk d.claims (λ claims. All (IsTrueClaim d.share.seen) claims) };
+    ghost invariant = { λ t. (t.share.parts ≡ 1) × IfSome t.ended (λ ended. IfOk ended (λ claims. All (IsTrueClaim t.share.seen) claims)) };
 }
 
 /// What sessions that were held leave: the reductions that each was answered, in order, and their streams.
@@ -86,7 +86,7 @@ impl<F: Drop> Gathered<F> {
     }
 }
 
-/// Gives each session a part of the hub, of which nobody has seen an edit.
+/// Gives each session a part of the hub, of which nobody has seen an edit, and puts memory by for it.
 pub fn share_out<N: Means<Six>, F: Read + Write + Drop>(
     alloc: Global,
     share: &mut Share<N>,
@@ -101,9 +101,14 @@ pub fn share_out<N: Means<Six>, F: Read + Write + Drop>(
 {
     let mut tasks = Vec::new(alloc);
     for streams in streams {
+        let Ok(spare) = Spare::new(alloc) else {
+            return Err(Failure::memory());
+        };
         let task = Task {
             share: share.split(),
             streams,
+            spare: Some(spare),
+            ended: None,
         };
         if tasks.push(task).is_err() {
             return Err(Failure::memory());
@@ -113,11 +118,11 @@ pub fn share_out<N: Means<Six>, F: Read + Write + Drop>(
 }
 
 /// Takes the parts back, and gathers the reductions in the order of the sessions, where nothing is gathered yet. The first session's
-/// fault is the fault.
+/// fault is the fault: `NoMemory` of one that still waits.
 pub fn take_back<N: Means<Six>, F: Read + Write + Drop>(
     room: Gathered<F>,
     share: &mut Share<N>,
-    done: Vec<Done<N, F>>,
+    done: Vec<Task<N, F>>,
 ) -> Result<Gathered<F>, Failure>
     requires claims { room.claims.items ≡ [] }
     requires streams { room.streams.items ≡ [] }
@@ -130,12 +135,16 @@ pub fn take_back<N: Means<Six>, F: Read + Write + Drop>(
         held,
     } = room;
     for session in done {
-        let Done {
+        let Task {
             share: part,
             streams: its,
-            claims: listed,
+            ended,
+            ..
         } = session;
         share.join(part);
+        let Some(listed) = ended else {
+            return Err(Failure::memory());
+        };
         let listed = listed?;
         if claims.push(listed).is_err() {
             return Err(Failure::memory());

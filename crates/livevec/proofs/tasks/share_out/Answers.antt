@@ -1,9 +1,9 @@
-use Rattle.std.proofs.Common.{◌≡◌, ◌∙◌, is_ok, true, refl, ap, sym, map, rules, arith}
+use Rattle.std.proofs.Common.{◌≡◌, ◌∙◌, None, is_ok, true, refl, ap, sym, map, rules, arith}
 use Rattle.std.proofs.lemmas.Iterator.Adapters.{YieldsList-from_vec}
 use Rattle.std.proofs.lemmas.Iterator.Consumers.{YieldsList-turn, YieldsList-end}
 use Rattle.std.proofs.lemmas.List.{length_push, map-id}
 use Rattle.livevec.specs.Served.{Sides}
-use Rattle.livevec.specs.Tasks.{Begun, begun_at}
+use Rattle.livevec.specs.Tasks.{Sitting, begun_at}
 use Rattle.livevec.proofs.ServedLaws.{begins_one_more}
 use Rattle.livevec.proofs.tasks.share_out.Goals as goal
 
@@ -17,8 +17,8 @@ loop-streams-preserved g c =
     let pushed : is_ok c.push.result ≡ true = search rules in
     let rest = c.split.ensures.rest in
     let sides : Sides = record { lines = g.F.Read.remaining c.in-Some.streams.lines; replies = g.F.Write.contents c.in-Some.streams.replies } in
-    let task : Begun = record { share = c.split.result; sides = sides } in
-    let begun : task ≡ begun_at sides = ap (λ share. record { share = share; sides = sides }) (c.split.ensures.one ∙ ap (λ seen. record { parts = 1; count = 0; seen = seen }) i.5) in (
+    let task : Sitting = record { share = c.split.result; sides = sides; waits = true; claims = None } in
+    let begun : task ≡ begun_at sides = ap (λ share. record { share = share; sides = sides; waits = true; claims = None }) (c.split.ensures.one ∙ ap (λ seen. record { parts = 1; count = 0; seen = seen }) i.5) in (
       tt,
       tt,
       begins_one_more _ c.loop-streams.tasks.items _ task c.loop-streams.yielded c.in-Some.streams i.2 (rw pushed at c.push.ensures.items) begun,
