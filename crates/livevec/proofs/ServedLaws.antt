@@ -49,9 +49,9 @@ module _ (limits : Bounds) where
       elim first [
         | inl same ↦ subst (λ mid. IsHeldOnce limits mid new) same second
         | inr came ↦ elim second [
-            | inl same ↦ subst (λ new. IsHeldOnce limits old new) (sym same) (inr came)
-            | inr late ↦ absurd (cc (came.1, late.0))
-          ]
+          | inl same ↦ subst (λ new. IsHeldOnce limits old new) (sym same) (inr came)
+          | inr late ↦ absurd (cc (came.1, late.0))
+        ]
       ]
 
   pub are_held_again : (olds mids news : List Sitting) → AreHeldFrom limits olds mids → AreHeldFrom limits mids news → AreHeldFrom limits olds news

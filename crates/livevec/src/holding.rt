@@ -75,9 +75,29 @@ pub fn hold_each<
     ensures { AreHeldFrom N.limits tasks.items result.items }
 {
     let mut tasks = tasks;
-    hold_at_once(rt, alloc, hub, minutes, answers, tasks.as_mut_slice());
-    hold_waiting(rt, alloc, hub, minutes, answers, tasks.as_mut_slice());
+    hold_in_place(rt, alloc, hub, minutes, answers, tasks.as_mut_slice());
     tasks
+}
+
+// Holds them so where they stand. Takes no memory but that of threads.
+fn hold_in_place<
+    N: Means<Six> + Send + Sync,
+    K: Begun + Send + Sync,
+    F: Read + Write + Send + Drop,
+    V: Write + Send + Drop,
+    R: Threads + Wait + Sync,
+>(
+    rt: &R,
+    alloc: Global,
+    hub: &Hub<Six, N>,
+    minutes: Option<&Mutex<Minutes<N, V, K>>>,
+    answers: usize,
+    tasks: &mut [Task<N, F>],
+)
+    ensures { AreHeldFrom N.limits tasks.old tasks.new }
+{
+    hold_at_once(rt, alloc, hub, minutes, answers, tasks);
+    hold_waiting(rt, alloc, hub, minutes, answers, tasks);
 }
 
 // Holds each that waits, in a thread of its own where one can be made. Their threads take memory before they begin, and so does each session

@@ -138,9 +138,10 @@ pub fn take_back<N: Means<Six>, F: Read + Write + Drop>(
         let Task {
             share: part,
             streams: its,
+            spare,
             ended,
-            ..
         } = session;
+        drop(spare);
         share.join(part);
         let Some(listed) = ended else {
             return Err(Failure::memory());

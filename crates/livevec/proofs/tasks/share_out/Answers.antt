@@ -8,7 +8,7 @@ use Rattle.livevec.proofs.ServedLaws.{begins_one_more}
 use Rattle.livevec.proofs.tasks.share_out.Goals as goal
 
 pub invariant_of-task : goal.invariant_of-task
-invariant_of-task g c = ap (λ share. share.parts) c.split.ensures.one
+invariant_of-task g c = (ap (λ share. share.parts) c.split.ensures.one, tt)
 
 pub loop-streams-preserved : goal.loop-streams-preserved
 loop-streams-preserved g c =

@@ -16,9 +16,9 @@ pub loop-session-preserved : goal.loop-session-preserved
 loop-session-preserved g c =
     let came = c.session.view_is in
     let more = c.in_ok-listed.listed in
-    let some : c.in-Some.session.claims ≡ Some more = sym (ap (λ e. e.claims) came) ∙ ap listed_in c.in_ok-listed.was in
+    let some : c.in-Some.session.claims ≡ Some more = sym (ap (λ e. e.claims) came) ∙ ap listed_in (c.in-Some-ended.is ∙ ap Some c.in_ok-listed.was) in
     let true_so : All (IsTrueClaim c.in-Some.session.share.seen) more =
-    subst (λ share. All (IsTrueClaim share.seen) more) (ap (λ e. e.share) came) (rw c.in_ok-listed.was at c.session.invariant.1) in
+    subst (λ share. All (IsTrueClaim share.seen) more) (ap (λ e. e.share) came) (rw (c.in-Some-ended.is, c.in_ok-listed.was) at c.session.invariant.1) in
     let both : AreTogether c.loop-session.share c.in-Some.session.share c.join.new.self =
     subst (λ share. AreTogether c.loop-session.share share c.join.new.self) (ap (λ e. e.share) came) c.join.ensures in
     let appended : is_ok c.push.result ≡ true = search rules in

@@ -1,0 +1,6 @@
+use Rattle.livevec.proofs.ServedLaws.{are_held_again}
+use Rattle.livevec.proofs.holding.hold_in_place.Goals as goal
+
+-- each that waited still was held behind the others
+pub returns : goal.returns
+returns g c = are_held_again g.N.Naming.limits _ _ _ c.hold_at_once.ensures c.hold_waiting.ensures
