@@ -11,7 +11,7 @@ use crate::parties::Parties;
 use crate::tasks::{Task, share_out};
 use lv_bodies::Six;
 use lv_hub::{Means, Share};
-use lv_watchers::{Leaving, Watcher, subscribe_all};
+use lv_watchers::{Leaving, Watch, Watcher, subscribe_all};
 use std::alloc::Global;
 use std::io::{Read, Write};
 
@@ -24,7 +24,7 @@ pub struct Present<N: Means<Six>, F: Read + Write + Drop> {
 }
 
 /// Gives each session and each subscriber a part of the hub, of which nobody has seen an edit. The share keeps one. Memory that is
-/// wanting is the fault: so is a question that no `watch` would take, which no file brings here.
+/// wanting is the fault, `NoMemory`; a question that no `watch` would take is `ReadFault`, though no file brings one here.
 pub fn begin_all<N: Means<Six>, F: Read + Write + Drop>(
     alloc: Global,
     share: &mut Share<N>,
@@ -44,13 +44,30 @@ pub fn begin_all<N: Means<Six>, F: Read + Write + Drop>(
     let Ok(leaving) = Leaving::with_room(alloc, watches.len()) else {
         return Err(Failure::memory());
     };
-    let Ok(watchers) = subscribe_all(alloc, share, watches) else {
-        return Err(Failure::memory());
-    };
+    let watchers = subscribe(alloc, share, watches)?;
     let tasks = share_out(alloc, share, streams)?;
     Ok(Present {
         tasks,
         watchers,
         leaving,
     })
+}
+
+// Gives each subscriber a part of the hub, of which nobody has seen an edit.
+fn subscribe<N: Means<Six>, F: Read + Write + Drop>(
+    alloc: Global,
+    share: &mut Share<N>,
+    watches: Vec<Watch<F>>,
+) -> Result<Vec<Watcher<N, F>>, Failure>
+    requires parts { vec_len watches + 1 ≤ share.old.parts }
+    requires unseen { share.old.seen ≡ [] }
+    ensures parts { IfOk result (λ watchers. share.new.parts + vec_len watches ≡ share.old.parts) }
+    ensures count { IfOk result (λ watchers. share.new.count ≡ share.old.count) }
+    ensures seen { IfOk result (λ watchers. share.new.seen ≡ []) }
+    ensures begun { IfOk result (λ watchers. watchers.items ≡ map (λ w. watcher_at (record { questions = w.questions.items; contents = F.contents w.notes })) watches.items) }
+{
+    match subscribe_all(alloc, share, watches) {
+        Ok(watchers) => Ok(watchers),
+        Err(refusal) => Err(Failure::unwatched(refusal)),
+    }
 }

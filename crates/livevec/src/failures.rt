@@ -1,8 +1,9 @@
 //! What a fault tells: its number, and in words what failed.
 
-ghost use Rattle.std.specs.Prelude.{◌≡◌};
+ghost use Rattle.std.specs.Prelude.{◌≡◌, ◌≢◌};
 
 use crate::escaped::Escaped;
+use lv_geometry::Refusal;
 use lv_script::Fault;
 use lv_watchers::Damage;
 use std::fmt;
@@ -24,6 +25,8 @@ pub enum Place {
     Misspelt(u32),
     /// At a line of the file of this number, whose lines should be queries.
     Asking(usize, Damage),
+    /// At a question of a subscriber, which is refused so.
+    Watching(Refusal),
 }
 
 /// A fault, and where it came up.
@@ -46,6 +49,20 @@ impl Failure {
         Failure {
             fault,
             place: Place::Standard,
+        }
+    }
+
+    /// A question of a subscriber is refused, or memory was wanting for it.
+    pub fn unwatched(refusal: Refusal) -> Failure
+        ensures memory { refusal ≡ Refusal.NoMemory → result.fault ≡ Fault.NoMemory }
+        ensures refused { refusal ≢ Refusal.NoMemory → (result.fault ≡ Fault.ReadFault) × (result.place ≡ Place.Watching refusal) }
+    {
+        match refusal {
+            Refusal::NoMemory => Failure::standard(Fault::NoMemory),
+            _ => Failure {
+                fault: Fault::ReadFault,
+                place: Place::Watching(refusal),
+            },
         }
     }
 
@@ -102,6 +119,9 @@ impl Told<'_> {
                 "is not of a form that may stand there",
             ),
             Place::Asking(number, damage) => self.tell_damage(f, number, damage),
+            Place::Watching(refusal) => {
+                write!(f, "what a subscriber asks can't be watched: {refusal}")
+            }
         }
     }
 
