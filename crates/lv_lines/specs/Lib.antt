@@ -1,3 +1,4 @@
+-- Names the files of definitions of `lv_lines`.
 pub mod Faults
 pub mod Grammar
 pub mod Input

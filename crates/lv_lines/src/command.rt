@@ -1,3 +1,4 @@
+//! What a line of a script may say: a command, a comment or an empty line.
 use lv_bodies::Kind;
 use lv_edits::Edit;
 use lv_standing::Name;

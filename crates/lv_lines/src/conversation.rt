@@ -1,3 +1,4 @@
+//! A conversation: lines are read and answered in turn, until the input ends.
 ghost use Rattle.std.specs.Prelude.{◌≡◌, ◌+◌, ◌^◌, ◌<◌, ◌≤◌, [], length, take, OnOk, IfOk, IfErr, vec_len, vec_capacity};
 ghost use Rattle.std.specs.Io.KnownBytes.{Keeps, Consumes, IsAtEnd};
 ghost use Rattle.lv_lines.specs.Output.{SamePlaces};

@@ -1,3 +1,4 @@
+//! Why reading and answering lines ended early.
 ghost use Rattle.std.specs.Prelude.{◌≡◌};
 
 use thiserror::Error;

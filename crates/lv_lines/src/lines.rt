@@ -1,3 +1,4 @@
+//! How a line of a script is read.
 ghost use Rattle.std.specs.Prelude.{◌≡◌};
 ghost use Rattle.lv_lines.specs.Grammar.{line_of, without_cr, is_comment};
 

@@ -1,3 +1,4 @@
+//! How words are read as numbers and as elements.
 ghost use Rattle.std.specs.Prelude.{◌≡◌, ℕ, ◌<◌, ◌≤◌, false, None, Some, MatchOption, drop, length, neg_ℤ, pos, slice_index, take};
 ghost use Rattle.lv_lines.specs.Words.{first_read, is_space, words_of};
 ghost use Rattle.lv_lines.specs.Numbers.{allowed, element_in, fits_64, is_element, is_number, number_in, numeral_in};

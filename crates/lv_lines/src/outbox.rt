@@ -1,3 +1,4 @@
+//! Replies that are held, and the writer that they go to.
 ghost use Rattle.std.specs.Prelude.{◌≡◌, ◌≤◌, [], IsOk, OnOk, OnErr, IfErr, vec_capacity};
 ghost use Rattle.std.specs.Io.KnownBytes.{Appends};
 ghost use Rattle.lv_lines.specs.declared.sender.TheConstants.{HELD};

@@ -1,3 +1,4 @@
+//! The text of a command.
 ghost use Rattle.std.specs.Prelude.{◌≡◌, ◌+◌, ◌≤◌, ◌∷◌, [], ◌++◌, decimal, length, IfOk, vec_len};
 ghost use Rattle.lv_lines.specs.Output.{HasRoom, KeepsRoom};
 ghost use Rattle.std.specs.Fmt.{signed_decimal};

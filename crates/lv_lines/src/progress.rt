@@ -1,5 +1,5 @@
-// What a conversation has in hand between two lines: the number of the next line, and the first bytes of a
-// line that was begun.
+//! What a conversation has in hand between two lines: the number of the next line, and the first bytes of a
+//! line that was begun.
 ghost use Rattle.std.specs.Prelude.{◌≡◌, ◌+◌, ◌^◌, ◌<◌, ◌≤◌, ◌==◌, [], ◌++◌, length, take, position, OnOk, IfErr};
 ghost use Rattle.lv_lines.specs.Output.{Puts, PutsFront, SamePlaces};
 ghost use Rattle.lv_lines.specs.Replies.{Replies, FailsToReply};

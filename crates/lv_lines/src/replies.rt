@@ -1,3 +1,4 @@
+//! The lines of reply to edits and reads, and those of refusals.
 ghost use Rattle.std.specs.Prelude.{◌≡◌, ◌+◌, ◌≤◌, ◌++◌, codes, length, map, decimal, vec_len};
 ghost use Rattle.std.specs.Fmt.{signed_decimal};
 ghost use Rattle.lv_edits.specs.declared.receipt.Receipt.TheVariants as receipt;

@@ -1,3 +1,4 @@
+//! What answers the lines of a conversation.
 ghost use Rattle.std.specs.Prelude.{◌≡◌, ℕ, ◌≤◌, List, length, OnOk, IfErr};
 ghost use Rattle.lv_lines.specs.Output.{Puts, PutsFront, SamePlaces};
 ghost use Rattle.lv_lines.specs.Replies.{Replies, FailsToReply};

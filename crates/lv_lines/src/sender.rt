@@ -1,3 +1,4 @@
+//! How bytes and numbers are held, and how all of them are written.
 ghost use Rattle.std.specs.Prelude.{◌≡◌, ◌+◌, ◌≤◌, [], ◌++◌, length, IsOk, OnOk, OnErr, IfErr, vec_len};
 ghost use Rattle.std.specs.Io.KnownBytes.{Appends};
 ghost use Rattle.std.specs.Fmt.{decimal, signed_decimal};

@@ -1,4 +1,4 @@
-// Lines of reply that are written from their end to their front, so that the digits of each number are written where they stay.
+//! Lines of reply that are written from their end to their front, so that the digits of each number are written where they stay.
 ghost use Rattle.std.specs.Prelude.{◌≡◌, ◌+◌, ◌≤◌, [], ◌∷◌, ◌++◌, decimal, length};
 ghost use Rattle.std.specs.Fmt.{signed_decimal};
 

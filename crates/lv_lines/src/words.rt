@@ -1,3 +1,4 @@
+//! The words of a line, and those that kinds and scans go by.
 ghost use Rattle.std.specs.Prelude.{◌≡◌, ◌<◌, false, true, [], ◌∷◌, length, slice_index, IsTrue, MatchOption, option_copied};
 ghost use Rattle.lv_lines.specs.Grammar.{kind_name};
 ghost use Rattle.lv_lines.specs.Texts.{scan_name};

@@ -1,3 +1,4 @@
+-- Names the files of lemmas of `lv_standing`.
 pub mod EntryLaws
 pub mod KeptNames
 pub mod NoteLaws

@@ -1,3 +1,4 @@
+//! Which elements an edit changes, and how many there are after it.
 ghost use Rattle.std.specs.Prelude.{◌≡◌, ◌≤◌};
 ghost use Rattle.lv_standing.specs.Inner.{changed_by, pushed_by, size_after};
 

@@ -1,3 +1,4 @@
+//! How an edit is made, and told to what is kept by kind.
 ghost use Rattle.std.specs.Prelude.{◌≡◌, ◌≤◌, None, IfErr, OnOk};
 ghost use Rattle.lv_bodies.specs.Plain.{program_table};
 ghost use Rattle.lv_edits.specs.History.{History, list_of};

@@ -1,3 +1,4 @@
+//! The names of standing queries.
 ghost use Rattle.std.specs.Prelude.{◌≡◌, ◌↔◌, IsSome, IfSome, IsTrue};
 ghost use Rattle.lv_standing.specs.Names.{IsName, is_name, is_name_byte};
 

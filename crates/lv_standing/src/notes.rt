@@ -1,3 +1,4 @@
+//! What standing queries tell: notes and answers.
 use crate::names::Name;
 use lv_bodies::Shown;
 

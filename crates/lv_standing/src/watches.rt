@@ -1,3 +1,4 @@
+//! Standing queries, each with the summary of its range.
 ghost use Rattle.std.specs.Prelude.{◌≡◌, ◌↔◌, ℤ, IsTrue, IfSome, Some, map, slice_get, ◌+◌, ◌<◌, ◌≤◌, List, ◌∷◌, [], ◌++◌, length, vec_capacity, vec_len};
 ghost use Rattle.std.specs.List.{AllByRecursion, slice_range};
 ghost use Rattle.indexmap.specs.IndexMap.{index_map_len, set_value_at};

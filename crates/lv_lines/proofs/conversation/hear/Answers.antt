@@ -1,3 +1,4 @@
+-- Proof of `hear`: reads chunks and feeds them, up to the end of the input.
 use Rattle.std.proofs.Common.{◌≡◌, [], ◌++◌, ◌∙◌, take, refl, arith, append-nil}
 use Rattle.std.proofs.KnownBytes.{Consumes-nil, Consumes-trans, Consumes-kept}
 use Rattle.std.proofs.lemmas.List.{length-append, length-take-le}

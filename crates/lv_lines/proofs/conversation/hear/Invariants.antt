@@ -1,3 +1,4 @@
+-- What the loop keeps in `hear`: reads chunks and feeds them, up to the end of the input.
 use Rattle.std.proofs.Common.{◌≡◌, ◌+◌, ℕ, List, length}
 use Rattle.std.specs.Io.KnownBytes.{Consumes}
 use Rattle.lv_lines.specs.Output.{SamePlaces}

@@ -1,3 +1,4 @@
+-- Proof of `talk`: has a conversation whose replies go into an empty outbox.
 use Rattle.std.proofs.lemmas.Result.{err_from_is_err_and}
 use Rattle.lv_lines.specs.Progress.{point_of}
 use Rattle.lv_lines.proofs.ConversationLemmas.{IsStart, Conversed-stopped, Conversed-unfinished, Conversed-last}

@@ -1,3 +1,4 @@
+-- Proof of `first_number`: the number that the first word is, and the bytes after it.
 use Rattle.std.proofs.Common.{ℕ, List, ◌<◌, drop, take, sym, ap, ◌∙◌, arith}
 use Rattle.lv_lines.specs.Words.{first_read}
 use Rattle.lv_lines.specs.Numbers.{number_in}

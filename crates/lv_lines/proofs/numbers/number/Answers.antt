@@ -1,3 +1,4 @@
+-- Proof of `number`: the number that a word is.
 use Rattle.std.proofs.Common.{◌^◌, sym, ap, ◌∙◌}
 use Rattle.std.proofs.lemmas.Bool.Decides.{Decides-ltb}
 use Rattle.lv_lines.specs.Numbers.{numeral_in, number_in, allowed, is_number}

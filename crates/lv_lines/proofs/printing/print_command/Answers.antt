@@ -1,3 +1,4 @@
+-- Proof of `print_command`: the text of a command: its words with one space between, and no zeros before a number.
 use Rattle.std.proofs.Common.{rules, ap, ◌∙◌}
 use Rattle.lv_lines.specs.Grammar.{line_of}
 use Rattle.lv_lines.proofs.ReadAgain.{line_of-printed}

@@ -1,3 +1,4 @@
+-- Proof of `put_command`: puts the text of a command behind what is held.
 use Rattle.std.proofs.Common.{◌++◌, sym, ap, ◌∙◌}
 use Rattle.std.proofs.lemmas.List.{append_assoc}
 use Rattle.lv_lines.specs.Words.{behind_spaces}

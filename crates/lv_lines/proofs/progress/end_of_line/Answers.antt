@@ -1,4 +1,5 @@
-use Rattle.lv_lines.proofs.InputLemmas.{position-first}
+-- Proof of `end_of_line`: where the first LF is.
+use Rattle.lv_lines.proofs.LineEnds.{position-first}
 use Rattle.lv_lines.proofs.progress.end_of_line.Goals as goal
 
 pub returns : goal.returns

@@ -1,3 +1,4 @@
+-- Proof of `keep`: keeps so many of the bytes as there is room for.
 use Rattle.std.proofs.Common.{◌≤◌, length, sym, arith}
 use Rattle.lv_lines.proofs.InputLemmas.{take-append_room}
 use Rattle.lv_lines.proofs.progress.keep.Goals as goal

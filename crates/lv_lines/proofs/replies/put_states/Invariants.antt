@@ -1,3 +1,4 @@
+-- What the loop keeps in `put_states`: the states of an automaton, with one space between.
 use Rattle.std.proofs.Common.{◌≡◌, ◌+◌, ◌*◌, ◌≤◌, ◌∷◌, ◌++◌, take, vec_len, vec_capacity, decimal}
 use Rattle.std.specs.List.{flat_map}
 use Rattle.lv_lines.proofs.replies.put_states.Given as goal

@@ -1,3 +1,4 @@
+-- Proof of `write_whole`: writes all of the bytes, and flushes.
 use Rattle.std.proofs.Common.{length, take, refl, sym, ◌∙◌}
 use Rattle.std.proofs.lemmas.Bool.{eqb-true}
 use Rattle.std.proofs.lemmas.List.{nil_from_length, take-append-drop}

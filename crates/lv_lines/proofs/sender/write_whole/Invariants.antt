@@ -1,3 +1,4 @@
+-- What the loop keeps in `write_whole`: what went out and what is left are the bytes.
 use Rattle.std.proofs.Common.{[], length}
 use Rattle.lv_lines.specs.Output.{Writes}
 use Rattle.lv_lines.proofs.sender.write_whole.Given as goal

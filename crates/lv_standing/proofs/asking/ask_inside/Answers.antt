@@ -1,3 +1,4 @@
+-- Proof of `ask_inside`: the summary by a kind of what exists of a range.
 use Rattle.std.proofs.Common.{◌∙◌, ap, arith}
 use Rattle.lv_edits.specs.History.{list_of}
 use Rattle.lv_kinds.specs.KindSummaries.{summary_of}

@@ -1,3 +1,4 @@
+-- Proof of `make`: makes an edit that a vector's verdict allows, and tells what is kept by kind of it.
 use Rattle.std.proofs.Common.{◌≡◌, ◌∙◌, ◌++◌, ◌∷◌, [], ap, arith, length, subst, sym}
 use Rattle.lv_bodies.specs.Plain.{program_table}
 use Rattle.lv_edits.specs.History.{History, list_of, with_edit}

@@ -1,3 +1,4 @@
+-- Proof of `make_room`: makes memory for all that can be asked of so many elements, where there are more of them than before.
 use Rattle.lv_standing.proofs.RoomLaws.{HaveRoomFor-fewer, KeepsAlike-same}
 use Rattle.lv_standing.proofs.making.make_room.Goals as goal
 

@@ -1,3 +1,4 @@
+-- Proof of `asked`: the value of a kind over a range; what is computed for it is kept by that kind.
 use Rattle.std.proofs.Common.{sym, subst, IfOk}
 use Rattle.lv_bodies.specs.declared.kinds.Kind.{Kind}
 use Rattle.lv_reduce.specs.Asked.{AreTopsKnown}

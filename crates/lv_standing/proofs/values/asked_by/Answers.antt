@@ -1,3 +1,4 @@
+-- Proof of `asked_by`: the value of a kind over a range, made anew for each kind, so that no summary of another kind is moved.
 use Rattle.std.proofs.Common.{ap, ◌∙◌}
 use Rattle.lv_kinds.specs.KindSummaries.{shown_of}
 use Rattle.lv_kinds.proofs.KindLaws.{shown_is_plain}

@@ -1,3 +1,4 @@
+-- Proof of `count_asked`: how many queries have a range with one of the indices that changed.
 use Rattle.std.proofs.Common.{◌∙◌, true, false, sym, arith}
 use Rattle.lv_standing.proofs.EntryLaws.{asked_up_to}
 use Rattle.lv_standing.proofs.watches.count_asked.Goals as goal

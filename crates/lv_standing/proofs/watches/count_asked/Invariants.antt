@@ -1,3 +1,4 @@
+-- What the loop keeps in `count_asked`: how many queries have a range with one of the indices that changed.
 use Rattle.std.proofs.Common.{◌≡◌, ◌≤◌, length, take}
 use Rattle.lv_standing.specs.Inner.{asked}
 use Rattle.lv_standing.proofs.watches.count_asked.Given as goal

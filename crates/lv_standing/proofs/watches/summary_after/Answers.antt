@@ -1,3 +1,4 @@
+-- Proof of `summary_after`: the summary of a query's range after an edit that changed it.
 use Rattle.std.proofs.Common.{◌≡◌, ◌∙◌, ◌++◌, ◌∷◌, [], IfSome, ap, slice_range, subst, sym, w64}
 use Rattle.std.proofs.lemmas.Int.{to_z-of_z}
 use Rattle.lv_bodies.specs.Body.{CanFold}

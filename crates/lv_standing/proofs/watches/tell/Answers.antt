@@ -1,3 +1,4 @@
+-- Proof of `tell`: brings each query up to an edit whose range has an index that the edit changed.
 use Rattle.std.proofs.Common.{◌≡◌, ◌∙◌, ◌+◌, ap, sym, arith, length, drop, vec_capacity, ◌<◌}
 use Rattle.lv_standing.specs.Inner.{asked}
 use Rattle.lv_standing.specs.Standings.{IsCurrent}

@@ -1,3 +1,4 @@
+-- What the loop keeps in `tell`: brings each query up to an edit whose range has an index that the edit changed.
 use Rattle.std.proofs.Common.{◌≡◌, ◌+◌, ◌≤◌, ◌++◌, length, map, take, drop, vec_capacity}
 use Rattle.lv_bodies.specs.Plain.{program_table}
 use Rattle.lv_kinds.specs.Kinds.{AreKept}

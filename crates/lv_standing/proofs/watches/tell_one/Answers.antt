@@ -1,3 +1,4 @@
+-- Proof of `tell_one`: brings one query up to the edit where its range has an index that changed.
 use Rattle.std.proofs.Common.{◌≡◌, ◌∙◌, Some, false, true, arith, rules, subst, sym}
 use Rattle.lv_edits.specs.History.{list_of}
 use Rattle.lv_known.proofs.FoldableLaws.{part_can_fold}

@@ -1,3 +1,4 @@
+-- The ghost that is handed on in `tell_one`: the elements of the range before the edit.
 use Rattle.std.proofs.Common.{slice_range}
 use Rattle.lv_edits.specs.History.{list_of}
 use Rattle.lv_standing.proofs.watches.tell_one.Given as goal

@@ -1,3 +1,4 @@
+-- Proof of `told_before`: the summary that one of the six queries before an index keeps.
 use Rattle.std.proofs.Common.{◌≡◌, ◌∙◌, ◌<◌, List, ap, slice_range}
 use Rattle.lv_edits.specs.declared.edit.Edit.{Edit}
 use Rattle.lv_edits.specs.History.{list_of}

@@ -1,9 +1,11 @@
+-- Proof of `Progress::feed`: takes bytes of the input: has the lines that they end answered, and keeps what they leave.
 use Rattle.std.proofs.Common.{◌≡◌, ℕ, List, ◌+◌, false, [], ◌∷◌, ◌++◌, length, drop, refl, sym, ap, ◌∙◌, arith, append_assoc}
 use Rattle.std.proofs.lemmas.List.{drop-drop, length-take, length-drop}
 use Rattle.std.proofs.lemmas.Result.{err_from_is_err_and}
 use Rattle.lv_lines.specs.Input.{has_end}
 use Rattle.lv_lines.specs.Progress.{point_of}
-use Rattle.lv_lines.proofs.InputLemmas.{EndsAt-from_position, has_end-from_position, has_end-append_none, has_end-take}
+use Rattle.lv_lines.proofs.LineEnds.{EndsAt-from_position, has_end-from_position}
+use Rattle.lv_lines.proofs.InputLemmas.{has_end-append_none, has_end-take}
 use Rattle.lv_lines.proofs.ProgressLemmas.{Feeds-nil, Feeds-piece, Feeds-line, FeedsFront-line, Feeds-trans, FeedsFront-after, FeedsFront-more}
 use Rattle.lv_lines.proofs.progress.Progress.feed.Goals as goal
 

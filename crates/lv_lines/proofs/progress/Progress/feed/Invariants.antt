@@ -1,3 +1,4 @@
+-- What the loop keeps in `Progress::feed`: takes bytes of the input: has the lines that they end answered, and keeps what they leave.
 use Rattle.std.proofs.Common.{◌≡◌, ◌+◌, ◌^◌, ◌<◌, ℕ, List, ◌++◌, length}
 use Rattle.lv_lines.specs.Output.{SamePlaces}
 use Rattle.lv_lines.specs.Progress.{IsReady, Feeds, point_of}

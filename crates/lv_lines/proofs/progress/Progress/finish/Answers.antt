@@ -1,3 +1,4 @@
+-- Proof of `Progress::finish`: has the line answered that was begun, where it isn't empty.
 use Rattle.std.proofs.Common.{◌≡◌, ◌==◌, false, true, length, sym, ◌∙◌}
 use Rattle.std.proofs.lemmas.Result.{IfErr-weaker}
 use Rattle.lv_lines.specs.Progress.{point_of}

@@ -1,3 +1,4 @@
+-- Proof of `Tail::put_number`: puts a number before it, in plain decimal.
 use Rattle.std.proofs.Common.{decimal, drop, ap, arith, length, length-drop, length-append, rules}
 use Rattle.std.proofs.lemmas.Fmt.{length-decimal-le}
 use Rattle.lv_lines.proofs.tail.Tail.put_number.Goals as goal

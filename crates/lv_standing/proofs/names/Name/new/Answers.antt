@@ -1,3 +1,4 @@
+-- Proof of `Name::new`: the name of these bytes, if they may be one.
 use Rattle.std.proofs.Common.{sym, ap, ◌∙◌}
 use Rattle.lv_standing.specs.Names.{IsName, kept_name, padded}
 use Rattle.lv_standing.proofs.KeptNames.{kept-padded, padded_by_copy}

@@ -1,3 +1,4 @@
+-- Proof of `Standing::answer`: what a query answers at the last edit.
 use Rattle.std.proofs.Common.{◌∙◌, ap, sym, refl, slice_range}
 use Rattle.lv_edits.specs.History.{list_of}
 use Rattle.lv_kinds.specs.KindSummaries.{kind_of, shown_of}

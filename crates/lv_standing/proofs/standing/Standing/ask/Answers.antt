@@ -1,3 +1,4 @@
+-- Proof of `Standing::ask`: the fold of the elements from index `lo` up to `hi` by all six.
 use Rattle.lv_standing.proofs.standing.Standing.ask.Goals as goal
 
 pub returns-clause-ok : goal.returns-clause-ok

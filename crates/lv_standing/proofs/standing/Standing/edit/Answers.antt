@@ -1,3 +1,4 @@
+-- Proof of `Standing::edit`: makes an edit, and tells of each query whose answer it changed, in order of registration, with the answer after.
 use Rattle.std.proofs.Common.{◌≡◌, ℤ, Option, IfSome, ◌∙◌, ◌-◌, ◌++◌, [], ◌∷◌, ap, sym, subst, arith, length, take}
 use Rattle.std.specs.List.{AllByRecursion, slice_range}
 use Rattle.std.proofs.lemmas.List.{length-map}

@@ -1,3 +1,4 @@
+-- The ghosts that are handed on in `Standing::edit`: the history after the edit, and the journal before it.
 use Rattle.std.proofs.Common.{◌-◌, length, take}
 use Rattle.lv_standing.proofs.standing.Standing.edit.Given as goal
 

@@ -1,3 +1,4 @@
+-- Proof of `Standing::new`: an empty vector, and no queries.
 use Rattle.std.proofs.Common.{arith}
 use Rattle.lv_bodies.specs.Plain.{program_table}
 use Rattle.lv_standing.proofs.standing.Standing.new.Goals as goal

@@ -1,3 +1,4 @@
+-- Proof of `Standing::unwatch`: forgets a query; the others keep their order.
 use Rattle.std.proofs.Common.{◌∙◌, ap, sym, refl, subst, arith}
 use Rattle.std.specs.List.{AllByRecursion}
 use Rattle.std.specs.Str.{bytes_eq}

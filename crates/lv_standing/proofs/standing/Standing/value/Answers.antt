@@ -1,3 +1,4 @@
+-- Proof of `Standing::value`: the value of a kind over the elements from index `lo` up to `hi`.
 use Rattle.std.proofs.Common.{◌≤◌, ◌+◌, ◌⊎◌, Result, Ok, Err, IfOk, arith, inl, inr}
 use Rattle.lv_standing.proofs.standing.Standing.value.Goals as goal
 

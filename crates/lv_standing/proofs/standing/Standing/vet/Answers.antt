@@ -1,3 +1,4 @@
+-- Proof of `Standing::vet`: whether an outcome may be accepted.
 use Rattle.lv_standing.proofs.standing.Standing.vet.Goals as goal
 
 pub returns : goal.returns

@@ -1,3 +1,4 @@
+-- Proof of `Standing::watch`: registers a query.
 use Rattle.std.proofs.Common.{◌∙◌, [], ◌∷◌, ◌++◌, ap, sym, refl, subst, arith, inl, inr, length, length-append}
 use Rattle.std.proofs.lemmas.List.{map-append}
 use Rattle.std.specs.List.{AllByRecursion, slice_range}
