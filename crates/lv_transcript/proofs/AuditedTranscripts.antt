@@ -20,7 +20,8 @@ use Rattle.lv_transcript.specs.declared.auditor.Verdict.{Verdict}
 use Rattle.lv_transcript.specs.declared.auditor.Verdict.TheVariants.{Yes, No, Bad}
 use Rattle.lv_transcript.specs.Transcript.{claim_line, edit_line, first_line, end_line, transcript_lines, verdict_text, Audited, IsEdit, IsRight, IsSoundTranscript, NamesRight}
 use Rattle.lv_transcript.specs.Auditing.{AuditState, AuditStep, IsVerdictAt, start_state}
-use Rattle.lv_transcript.proofs.AuditRuns.{named_false, no_replies, runs_short, taken_lines, taken_or_none, taken_to_end}
+use Rattle.lv_transcript.proofs.TakenLines.{taken_lines}
+use Rattle.lv_transcript.proofs.AuditRuns.{named_false, no_replies, runs_short, taken_or_none, taken_to_end}
 use Rattle.lv_transcript.proofs.SoundTranscripts.{in_order_of_rise, sound_lines}
 use Rattle.lv_transcript.proofs.TranscriptBytes.{AreEnded, IsUnended, bytes_of_lines, first_of_short, lines_of_text, lines_of_unended_text, short_of_first, unended_printable}
 

@@ -20,7 +20,8 @@ use Rattle.lv_transcript.specs.declared.fronts.FrontVerdict.TheVariants as verdi
 use Rattle.lv_transcript.specs.declared.fronts.FoundFront.{FoundFront}
 use Rattle.lv_transcript.specs.Transcript.{end_line, greatest, AreAccepted}
 use Rattle.lv_transcript.specs.Auditing.{AuditState, is_fault, is_stopped, start_state, state_of}
-use Rattle.lv_transcript.specs.Fronts.{Entry, FrontAudited, FrontFound, FrontState, FrontStep, IsFoundAt, IsFront, IsNoFront, IsRightOfFront, ReadsFront, answers_in, edits_in, entry_line, front_at, front_start, front_text, open_again, reopened}
+use Rattle.lv_transcript.specs.FrontSteps.{FrontState, FrontStep, IsFoundAt, front_at, front_start, open_again, reopened}
+use Rattle.lv_transcript.specs.Fronts.{Entry, FrontAudited, FrontFound, IsFront, IsNoFront, IsRightOfFront, ReadsFront, answers_in, edits_in, entry_line, front_text}
 use Rattle.lv_transcript.proofs.FrontRuns.{FrontRuns, front_counted, front_named, front_taken, front_taken_or_none}
 use Rattle.lv_transcript.proofs.FrontEntries.{AreTaken, entries_counted, front_lines_of, accepted_in_place, front_taken_whole, sound_in_place, taken_from_start}
 use Rattle.lv_transcript.proofs.TranscriptBytes.{first_of_short, short_of_first}

@@ -11,8 +11,9 @@ use Rattle.lv_transcript.specs.declared.auditor.Stage.TheVariants.{Start, Edits,
 use Rattle.lv_transcript.specs.declared.claimed.Claimed.{Claimed}
 use Rattle.lv_transcript.specs.Transcript.{claim_line, edit_line, end_line, first_line, greatest, transcript_text, AreAccepted, AreAcceptedAfter, IsEdit, IsSoundTranscript, IsTrueClaim}
 use Rattle.lv_transcript.specs.Auditing.{AuditState, Takes, start_state}
-use Rattle.lv_transcript.specs.Fronts.{AreEntryLines, AreFrontLines, AreTrueAfter, Entry, answers_in, edits_in, entry_line, open_again, reopened}
-use Rattle.lv_transcript.proofs.AuditRuns.{RiseFrom}
+use Rattle.lv_transcript.specs.FrontSteps.{open_again, reopened}
+use Rattle.lv_transcript.specs.Fronts.{AreEntryLines, AreFrontLines, AreTrueAfter, Entry, answers_in, edits_in, entry_line}
+use Rattle.lv_transcript.proofs.TakenLines.{RiseFrom}
 use Rattle.lv_transcript.proofs.AuditedTranscripts.{carries_of_fits}
 use Rattle.lv_transcript.proofs.FrontRuns.{FrontRuns}
 use Rattle.lv_transcript.proofs.SoundTranscripts.{IsWithin, accepted_fits, beginnings_within, in_order_of_rise, line_of_edit, plain_claim, within_none}

@@ -4,7 +4,7 @@ use Rattle.lv_lines.specs.Replies.{Answered}
 use Rattle.lv_transcript.specs.declared.auditor.Stage.{Stage}
 use Rattle.lv_transcript.specs.declared.auditor.Stage.TheVariants.{Start, Edits, Claims, End, No, Bad, NoMemory}
 use Rattle.lv_transcript.specs.Auditing.{AuditState, IsFaultOf, Takes, is_stopped}
-use Rattle.lv_transcript.specs.Fronts.{FrontState, FrontStep, open_again, reopened}
+use Rattle.lv_transcript.specs.FrontSteps.{FrontState, FrontStep, open_again, reopened}
 use Rattle.lv_transcript.proofs.AuditRuns.{IsNamed, fault_of_line, fault_stops, one_more, same_way, stopped_takes_none, taken_is_none}
 
 -- from one state to another the lines are taken, and behind an answer an edit may come

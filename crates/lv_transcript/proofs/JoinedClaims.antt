@@ -6,7 +6,8 @@ use Rattle.std.proofs.lemmas.Grind.{flat_map-append}
 use Rattle.std.proofs.lemmas.List.Elements.{All-append, All-cons, All-from_get_or, All-get_or, All-head, All-nil, All-push, All-same, All-tail, All-weaker}
 use Rattle.std.proofs.lemmas.List.Sorted.{All-permutation, IsNonDecreasingBy-drop, IsNonDecreasingBy-insert, IsNonDecreasingBy-short, IsPermutation-cons, IsPermutation-middle, IsPermutation-refl, IsPermutation-sym, IsPermutation-trans}
 use Rattle.lv_transcript.specs.declared.claimed.Claimed.{Claimed}
-use Rattle.lv_transcript.specs.Joined.{AreAbove, AreFrom, BeginsAt, FindsLeast, IsLeast, by_edit, in_a_row, joined, put_before}
+use Rattle.lv_transcript.specs.LeastFirst.{AreAbove, AreFrom, BeginsAt, FindsLeast, IsLeast}
+use Rattle.lv_transcript.specs.Joined.{by_edit, in_a_row, joined, put_before}
 use Rattle.lv_transcript.specs.Transcript.{AreInOrder}
 
 -- ---- the same claims

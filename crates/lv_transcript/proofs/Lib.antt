@@ -1,8 +1,10 @@
+-- Names the files of lemmas of `lv_transcript`.
 pub mod JoinedClaims
 pub mod WrittenTranscripts
 pub mod ReadTranscripts
 pub mod AuditLines
 pub mod AuditRuns
+pub mod TakenLines
 pub mod ShownTexts
 pub mod SoundTranscripts
 pub mod TranscriptBytes

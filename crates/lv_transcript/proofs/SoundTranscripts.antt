@@ -26,7 +26,8 @@ use Rattle.lv_transcript.specs.declared.auditor.Stage.TheVariants.{Edits, Claims
 use Rattle.lv_transcript.specs.declared.claimed.Claimed.{Claimed}
 use Rattle.lv_transcript.specs.Transcript.{claim_line, edit_line, first_line, greatest, end_line, question_text, transcript_lines, AreAccepted, AreAcceptedAfter, AreInOrder, IsEdit, IsTrueClaim}
 use Rattle.lv_transcript.specs.Auditing.{AuditState, IsQuestion, MayEnd, Takes, question_of, start_state}
-use Rattle.lv_transcript.proofs.AuditRuns.{RiseFrom, Runs}
+use Rattle.lv_transcript.proofs.TakenLines.{RiseFrom}
+use Rattle.lv_transcript.proofs.AuditRuns.{Runs}
 use Rattle.lv_transcript.proofs.ShownTexts.{IsShownText, shown_plain}
 
 -- ---- edits that are accepted

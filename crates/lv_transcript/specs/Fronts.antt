@@ -1,9 +1,8 @@
 -- Fronts of transcripts: edits and answers in the order of time, as far as they were written; and their audit.
 use Rattle.std.proofs.Common.{inl, inr}
-use Rattle.std.specs.Prelude.{◌≡◌, ◌⊎◌, ℕ, Bool, ◌+◌, ◌-◌, ◌^◌, ◌≤◌, None, List, [], ◌∷◌, ◌++◌, length, take, map, codes, decimal, Option, Result, Ok, Err}
+use Rattle.std.specs.Prelude.{◌≡◌, ◌⊎◌, ℕ, ◌+◌, ◌-◌, ◌^◌, ◌≤◌, None, List, [], ◌∷◌, ◌++◌, length, take, map, codes, decimal, Option, Result, Ok, Err}
 use Rattle.std.specs.Io.KnownBytes.{Appends, Consumes}
 use Rattle.lv_edits.specs.declared.edit.Edit.{Edit}
-use Rattle.lv_edits.specs.History.{History}
 use Rattle.lv_edits.specs.Kept.{CarriesElement}
 use Rattle.lv_edits.specs.Verdict.{verdict_of}
 use Rattle.lv_lines.specs.declared.fault.Fault.{Fault}
@@ -12,13 +11,10 @@ use Rattle.lv_lines.specs.Input.{whole_lines_of}
 use Rattle.lv_lines.specs.Output.{WritesFront}
 use Rattle.lv_lines.specs.Replies.{IsNotTooLong, IsTooLong}
 use Rattle.lv_lines.specs.Texts.{bad_text, reply_line}
-use Rattle.lv_transcript.specs.declared.auditor.Stage.{Stage}
-use Rattle.lv_transcript.specs.declared.auditor.Stage.TheVariants as stages
 use Rattle.lv_transcript.specs.declared.claimed.Claimed.{Claimed}
 use Rattle.lv_transcript.specs.declared.fronts.FrontVerdict.{FrontVerdict}
 use Rattle.lv_transcript.specs.declared.fronts.FrontVerdict.TheVariants as verdicts
 use Rattle.lv_transcript.specs.declared.fronts.FoundFront.{FoundFront}
-use Rattle.lv_transcript.specs.Auditing.{AuditState, Audits, start_state}
 use Rattle.lv_transcript.specs.Transcript.{claim_line, edit_line, end_line, first_line, greatest, transcript_text, AreAccepted, HasFormAt, IsSoundTranscript, IsTrueClaim, IsWhole}
 
 -- ---- what a front is
@@ -131,46 +127,3 @@ pub record FrontAudited (remaining contents_old contents_new : Option (List ℕ)
   pub read : Consumes remaining rest seen
   pub few : length seen ≤ 2 ^ 30 + 1
   pub ends : FrontAuditEnds rest contents_old contents_new seen result
-
--- ---- how far it has come
-
--- a reader of whole lines: what it has still to give, and whether it has found its end
-pub record WholeState : Type 0 where
-  pub remaining : Option (List ℕ)
-  pub at_end : Bool
-
--- the state of the audit of the lines, and how many there were
-pub record FrontState : Type 0 where
-  pub audit : AuditState
-  pub lines : ℕ
-
--- behind an answer an edit may come
-abbrev pub open_again : Stage → Stage
-open_again stages.Claims = stages.Edits
-open_again stage = stage
-
-abbrev pub reopened : AuditState → AuditState
-reopened s = record s { stage = open_again s.stage }
-
--- such a state, by an auditor's stage, edits and last answer, and the number of the last line
-abbrev pub front_at : Stage → History → ℕ → ℕ → FrontState
-front_at stage edits last lines = record { audit = record { stage = stage; journal = edits.journal; last = last }; lines = lines }
-
--- before the first line
-abbrev pub front_start : FrontState
-front_start = record { audit = start_state; lines = 0 }
-
--- a line is audited, and behind an answer an edit may come. It is answered by nothing
-unfoldable pub FrontStep : FrontState → ℕ → List ℕ → List ℕ → FrontState → Type 0
-FrontStep old n line text new =
-    (text ≡ []) × (new.lines ≡ n) × (mid : AuditState) × Audits old.audit n line mid × (new.audit ≡ reopened mid)
-
--- the verdict where the audit has come to this stage, after so many lines and edits: the first line and the last are neither edits nor answers
-abbrev pub IsFoundAt : Stage → ℕ → ℕ → FrontVerdict → Type 0
-IsFoundAt stages.Start lines edits verdict = verdict ≡ verdicts.Front 0 0
-IsFoundAt stages.Edits lines edits verdict = verdict ≡ verdicts.Front edits (lines - 1 - edits)
-IsFoundAt stages.Claims lines edits verdict = verdict ≡ verdicts.Front edits (lines - 1 - edits)
-IsFoundAt stages.End lines edits verdict = verdict ≡ verdicts.Front edits (lines - 2 - edits)
-IsFoundAt (stages.No n) lines edits verdict = verdict ≡ verdicts.No n
-IsFoundAt (stages.Bad n) lines edits verdict = verdict ≡ verdicts.Bad n
-IsFoundAt stages.NoMemory lines edits verdict = ⊥

@@ -1,6 +1,9 @@
+-- Names the files of definitions of `lv_transcript`.
 pub mod Auditing
 pub mod Blocks
 pub mod Fronts
+pub mod FrontSteps
 pub mod Joined
+pub mod LeastFirst
 pub mod Scribing
 pub mod Transcript

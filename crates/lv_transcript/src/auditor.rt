@@ -1,3 +1,4 @@
+//! The audit of a transcript: each edit is made anew, and each claim computed.
 ghost use Rattle.std.specs.Prelude.{◌≡◌, ◌↔◌, ℕ, ◌^◌, ◌≤◌, ◌++◌, ◌⊎◌, [], IfOk, MatchResult, IsTrue, length, take, vec_capacity};
 ghost use Rattle.lv_lines.specs.Output.{HasRoom};
 ghost use Rattle.lv_lines.specs.Texts.{shown_text};
@@ -5,7 +6,7 @@ ghost use Rattle.lv_edits.specs.History.{list_of};
 ghost use Rattle.lv_lines.specs.declared.replies.TheConstants.{LINE};
 ghost use Rattle.lv_transcript.specs.Auditing.{AnswerBecomes, AuditState, start_state, state_of, Audits, AuditStep, ClaimBecomes, EditBecomes, Becomes, FirstBecomes, IsVerdictAt, MayEnd, Takes, TakesEdit, TakesLater};
 ghost use Rattle.lv_transcript.specs.Blocks.{AreKept};
-ghost use Rattle.lv_transcript.specs.Fronts.{open_again};
+ghost use Rattle.lv_transcript.specs.FrontSteps.{open_again};
 ghost use Rattle.lv_transcript.specs.Transcript.{greatest, verdict_text, Audited};
 
 use crate::plain_ranges::Replay;

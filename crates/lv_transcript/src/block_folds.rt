@@ -1,4 +1,4 @@
-// The folds of a list's blocks by one body: each is computed once it is asked for, and forgotten once an edit touches its block.
+//! The folds of a list's blocks by one body: each is computed once it is asked for, and forgotten once an edit touches its block.
 ghost use Rattle.std.specs.Prelude.{◌≡◌, ◌+◌, ◌*◌, ◌/◌, ◌^◌, ◌<◌, ◌≤◌, None, IfOk, is_ok, if◌then◌else◌, length, take, slice_set, slice_range, vec_len};
 ghost use Rattle.lv_transcript.specs.Blocks.{AreFolds, IsFold, block_of, with_places};
 

@@ -1,3 +1,4 @@
+//! A reduction as it was answered.
 use lv_bodies::{Kind, Shown};
 
 /// A reduction as it was answered: at which edit, of what kind, over which elements, and by which value.

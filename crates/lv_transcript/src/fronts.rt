@@ -1,8 +1,9 @@
-// The audit of a front of a transcript: edits and answers in the order of time, as far as they were written.
+//! The audit of a front of a transcript: edits and answers in the order of time, as far as they were written.
 ghost use Rattle.std.specs.Prelude.{◌≡◌, ◌++◌, IfOk, MatchResult, length};
 ghost use Rattle.lv_lines.specs.Output.{HasRoom};
 ghost use Rattle.lv_lines.specs.declared.replies.TheConstants.{LINE};
-ghost use Rattle.lv_transcript.specs.Fronts.{FrontAudited, FrontState, FrontStep, IsFoundAt, ReadsFront, front_at, front_start, front_text};
+ghost use Rattle.lv_transcript.specs.FrontSteps.{FrontState, FrontStep, IsFoundAt, front_at, front_start};
+ghost use Rattle.lv_transcript.specs.Fronts.{FrontAudited, ReadsFront, front_text};
 
 use crate::auditor::{Auditor, Stage};
 use crate::whole_lines::WholeLines;

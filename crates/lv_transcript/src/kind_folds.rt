@@ -1,4 +1,4 @@
-// The folds of a list's blocks by each kind that was asked for, and the values of ranges that they tell.
+//! The folds of a list's blocks by each kind that was asked for, and the values of ranges that they tell.
 ghost use Rattle.std.specs.Prelude.{◌≡◌, ◌^◌, ◌≤◌, ℤ, List, IfOk, length, take, slice_set, slice_range};
 ghost use Rattle.lv_bodies.specs.Plain.{plain_value};
 ghost use Rattle.lv_transcript.specs.Blocks.{AreFolds, AreKept};

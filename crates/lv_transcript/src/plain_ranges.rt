@@ -1,4 +1,4 @@
-// The list that the edits of a journal make, and the values of its ranges, folded from the elements themselves.
+//! The list that the edits of a journal make, and the values of its ranges, folded from the elements themselves.
 ghost use Rattle.std.specs.Prelude.{◌≡◌, ◌^◌, ◌≤◌, ◌<◌, Some, IsSome, [], IfOk, ℤ, length, take, slice_set, slice_range, OnOk, OnErr};
 ghost use Rattle.std.specs.List.{swap};
 ghost use Rattle.lv_bodies.specs.Plain.{plain_value};

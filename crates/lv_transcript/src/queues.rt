@@ -1,7 +1,8 @@
-// Claims that are taken one after the other, from several lists at once.
+//! Claims that are taken one after the other, from several lists at once.
 ghost use Rattle.std.specs.Prelude.{◌≡◌, [], ◌∷◌, ◌++◌, List, MatchOption, length};
 ghost use Rattle.lv_transcript.specs.declared.claimed.Claimed.{Claimed};
-ghost use Rattle.lv_transcript.specs.Joined.{BeginsAt, FindsLeast, in_a_row, joined};
+ghost use Rattle.lv_transcript.specs.LeastFirst.{BeginsAt, FindsLeast};
+ghost use Rattle.lv_transcript.specs.Joined.{in_a_row, joined};
 ghost use Rattle.lv_transcript.specs.Transcript.{AreInOrder};
 
 use crate::claimed::Claimed;

@@ -1,4 +1,4 @@
-// A scribe: it writes a front of a transcript, entry by entry, as they come.
+//! A scribe: it writes a front of a transcript, entry by entry, as they come.
 ghost use Rattle.std.specs.Prelude.{◌≡◌, ℕ, false, not, [], IfErr, IfOk, List, Option};
 ghost use Rattle.std.proofs.Common.{inl, inr};
 ghost use Rattle.lv_transcript.specs.Fronts.{Entry};

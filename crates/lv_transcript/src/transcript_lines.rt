@@ -1,4 +1,4 @@
-// The lines of a transcript: how each is put, and how one is read.
+//! The lines of a transcript: how each is put, and how one is read.
 ghost use Rattle.std.specs.Prelude.{◌≡◌, ◌≢◌, ◌+◌, ◌≤◌, ◌++◌, Some, List, ℕ, MatchOption, vec_len, vec_capacity};
 ghost use Rattle.lv_lines.specs.Output.{HasRoom, KeepsRoom};
 ghost use Rattle.lv_edits.specs.declared.edit.Edit.{Edit};

@@ -1,3 +1,4 @@
+//! How transcripts are written.
 ghost use Rattle.std.specs.Prelude.{◌≡◌, ◌≤◌, [], ◌∷◌, ◌++◌, All, OnOk, IfErr, vec_capacity};
 ghost use Rattle.std.specs.List.{flat_map};
 ghost use Rattle.lv_lines.specs.Output.{Puts, PutsFront, SamePlaces};

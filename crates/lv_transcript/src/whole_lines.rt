@@ -1,4 +1,4 @@
-// A reader for those who count whole lines alone.
+//! A reader for those who count whole lines alone.
 ghost use Rattle.std.specs.Prelude.{◌≡◌, true};
 ghost use Rattle.std.specs.Io.KnownBytes.{IsAtEnd};
 
@@ -17,7 +17,7 @@ pub(crate) struct WholeLines<R: Read + Drop> {
 impl<R: Read + Drop> Model for WholeLines<R> {
     ghost use Rattle.std.specs.Prelude.{◌≡◌, true};
     ghost use Rattle.std.specs.Io.KnownBytes.{IsAtEnd};
-    ghost use Rattle.lv_transcript.specs.Fronts.{WholeState};
+    ghost use Rattle.lv_transcript.specs.FrontSteps.{WholeState};
 
     ghost Value = { WholeState };
 

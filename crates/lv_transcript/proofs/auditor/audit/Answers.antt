@@ -1,3 +1,4 @@
+-- Proof of `audit`: audits a transcript: reads it to its end, and writes the verdict as a line.
 use Rattle.std.proofs.Common.{List, ℕ, ◌++◌, ap, ◌∙◌}
 use Rattle.std.proofs.lemmas.Result.{err_from_is_err_and}
 use Rattle.lv_transcript.specs.Auditing.{state_of}

@@ -1,3 +1,4 @@
+-- Proof of `is_text_of`: whether bytes are the text of a value.
 use Rattle.std.proofs.Common.{◌≡◌, ℕ, List, ◌++◌, Bool, IsTrue, nat_eq, sym, ap, ◌∙◌}
 use Rattle.std.specs.Cmp.Lexicographic.{pointwise}
 use Rattle.lv_bodies.specs.EqualLaws.{exact_numbers}

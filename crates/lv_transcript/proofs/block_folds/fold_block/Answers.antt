@@ -1,3 +1,4 @@
+-- Proof of `fold_block`: the fold of a block: what is known, or else computed from its elements, and kept.
 use Rattle.std.proofs.Common.{None, sym, ◌∙◌, arith}
 use Rattle.std.proofs.lemmas.List.{get_or_read}
 use Rattle.lv_transcript.proofs.block_folds.fold_block.Goals as goal

@@ -1,3 +1,4 @@
+-- Proof of `fold_blocks`: the fold of the elements from an index up to the end of a block.
 use Rattle.std.proofs.Common.{◌*◌, ◌+◌, ◌∙◌, refl, arith}
 use Rattle.lv_transcript.proofs.BlockLaws.{slice-joined, slices_can_join}
 use Rattle.lv_transcript.proofs.block_folds.fold_blocks.Goals as goal

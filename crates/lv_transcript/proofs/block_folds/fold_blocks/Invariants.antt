@@ -1,3 +1,4 @@
+-- What the loop keeps in `fold_blocks`: the fold of the elements from an index up to the end of a block.
 use Rattle.std.proofs.Common.{◌≡◌, ◌*◌, slice_range, vec_len}
 use Rattle.lv_transcript.specs.Blocks.{AreFolds, IsFold}
 use Rattle.lv_transcript.proofs.block_folds.fold_blocks.Given as goal

@@ -1,3 +1,4 @@
+-- Proof of `fold_range`: the fold of the elements from index `lo` up to `hi`, from the folds of the blocks between them.
 use Rattle.std.proofs.Common.{◌*◌, ◌/◌, arith}
 use Rattle.lv_transcript.proofs.BlockLaws.{folds-places, slice-joined, slices_can_join}
 use Rattle.lv_transcript.proofs.block_folds.fold_range.Goals as goal

@@ -1,3 +1,4 @@
+-- Proof of `audit_front`: audits a front of a transcript: reads it to its end.
 use Rattle.std.proofs.Common.{[], lit≤}
 use Rattle.std.proofs.KnownBytes.{Appends-nil, Consumes-nil}
 use Rattle.lv_transcript.proofs.fronts.audit_front.Goals as goal

@@ -1,6 +1,8 @@
+-- Proof of `read_front`: reads an input to its end as a front of a transcript.
 use Rattle.std.proofs.Common.{ℕ, List, [], Option, lit≤, subst}
 use Rattle.std.proofs.KnownBytes.{Consumes-nil}
-use Rattle.lv_transcript.specs.Fronts.{ReadsFront, front_at}
+use Rattle.lv_transcript.specs.FrontSteps.{front_at}
+use Rattle.lv_transcript.specs.Fronts.{ReadsFront}
 use Rattle.lv_transcript.proofs.FrontAudits.{ReadsFront-found}
 use Rattle.lv_transcript.proofs.fronts.read_front.Goals as goal
 

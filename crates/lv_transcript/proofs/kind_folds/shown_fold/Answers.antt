@@ -1,3 +1,4 @@
+-- Proof of `shown_fold`: what a body of one kind shows of some elements.
 use Rattle.std.proofs.Common.{ap, ◌∙◌}
 use Rattle.lv_transcript.proofs.BlockLaws.{slice_can_fold}
 use Rattle.lv_transcript.proofs.kind_folds.shown_fold.Goals as goal

@@ -1,3 +1,4 @@
+-- Proof of `lesser`: the queue with the claim of the least edit, with one queue more.
 use Rattle.lv_transcript.proofs.JoinedClaims.{empty_fits, finds_kept, later_fits}
 use Rattle.lv_transcript.proofs.queues.lesser.Goals as goal
 

@@ -1,3 +1,4 @@
+-- Proof of `write_claim`: writes the line of a claim behind what is held.
 use Rattle.std.proofs.Common.{List, ℕ, [], ◌∷◌, ◌++◌, ap, ◌∙◌, append_assoc}
 use Rattle.lv_lines.specs.Texts.{shown_text}
 use Rattle.lv_lines.proofs.OutputLemmas.{Writes-put, Writes-trans}

@@ -1,3 +1,4 @@
+-- Proof of `write_claims`: writes the lines of the claims behind what is held.
 use Rattle.std.proofs.Common.{List, ℕ, [], ◌∷◌, ◌++◌, ◌∙◌, arith}
 use Rattle.std.proofs.lemmas.Result.{err_from_is_err_and}
 use Rattle.lv_bodies.specs.declared.kinds.Kind.TheVariants.{Sum}

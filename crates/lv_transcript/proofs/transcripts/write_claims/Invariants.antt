@@ -1,3 +1,4 @@
+-- What the loop keeps in `write_claims`: writes the lines of the claims behind what is held.
 use Rattle.std.proofs.Common.{[], ◌∷◌, ◌++◌, take}
 use Rattle.std.specs.List.{flat_map}
 use Rattle.lv_lines.specs.Output.{Puts, SamePlaces}

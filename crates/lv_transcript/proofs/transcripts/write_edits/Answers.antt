@@ -1,3 +1,4 @@
+-- Proof of `write_edits`: writes the lines of the edits behind what is held.
 use Rattle.std.proofs.Common.{List, ℕ, [], ◌∷◌, ◌++◌, ◌∙◌, pos, arith}
 use Rattle.std.proofs.lemmas.List.{take_more}
 use Rattle.std.proofs.lemmas.List.Elements.{All-push}

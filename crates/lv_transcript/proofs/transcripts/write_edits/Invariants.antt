@@ -1,3 +1,4 @@
+-- What the loop keeps in `write_edits`: writes the lines of the edits behind what is held.
 use Rattle.std.proofs.Common.{[], ◌∷◌, ◌++◌, All, take}
 use Rattle.std.specs.List.{flat_map}
 use Rattle.lv_lines.specs.Output.{Puts, SamePlaces}

@@ -1,3 +1,4 @@
+-- Proof of `write_joined_transcript`: writes the transcript of a journal and of what was claimed of it in several queues, and flushes the writer.
 use Rattle.std.proofs.Common.{Result, Ok, Err, OnOk, All, List, refl, inl}
 use Rattle.std.proofs.lemmas.List.Elements.{All-weaker}
 use Rattle.std.proofs.lemmas.List.Sorted.{All-permutation}

@@ -1,3 +1,4 @@
+-- Proof of `write_queues`: writes the lines of the claims in some queues behind what is held.
 use Rattle.std.proofs.Common.{◌≡◌, List, ℕ, [], ◌∷◌, ◌++◌, ◌∙◌, length, ap, sym, refl, append_assoc, append-nil, arith}
 use Rattle.std.proofs.lemmas.Result.{err_from_is_err_and}
 use Rattle.lv_lines.proofs.OutputLemmas.{Writes-nil}

@@ -1,3 +1,4 @@
+-- What the loop keeps in `write_queues`: writes the lines of the claims in some queues behind what is held.
 use Rattle.std.proofs.Common.{◌≡◌, List, [], ◌∷◌, ◌++◌, length}
 use Rattle.std.specs.List.{flat_map}
 use Rattle.lv_lines.specs.Output.{Puts, SamePlaces}

@@ -1,3 +1,4 @@
+-- Proof of `Auditor::claim_or_last`: the stage behind a line that is not that of an edit.
 use Rattle.std.proofs.Common.{refl, inl, inr, sym, ◌∙◌}
 use Rattle.std.specs.Cmp.Lexicographic.{other_text}
 use Rattle.lv_transcript.specs.Auditing.{state_of}

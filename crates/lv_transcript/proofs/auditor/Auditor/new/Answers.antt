@@ -1,3 +1,4 @@
+-- Proof of `Auditor::new`: before the first line.
 use Rattle.std.proofs.Common.{ap, sym, take, ◌∙◌}
 use Rattle.lv_edits.specs.History.{list_of}
 use Rattle.lv_transcript.proofs.ReplayLemmas.{few_of_none, list_of_none}

@@ -1,3 +1,4 @@
+-- Proof of `Auditor::next_stage`: the stage behind a line.
 use Rattle.std.proofs.Common.{arith}
 use Rattle.lv_transcript.specs.Auditing.{state_of}
 use Rattle.lv_transcript.proofs.AuditLines.{Becomes-at_edits, Becomes-at_claims}

@@ -1,3 +1,4 @@
+-- Proof of the auditor's `respond`: it takes a line, and answers nothing.
 use Rattle.std.proofs.Common.{[], refl}
 use Rattle.lv_lines.proofs.OutputLemmas.{Writes-nil}
 use Rattle.lv_transcript.specs.Auditing.{AuditStep}

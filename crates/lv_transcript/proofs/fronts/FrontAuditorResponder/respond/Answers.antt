@@ -1,7 +1,8 @@
+-- Proof of the front auditor's `respond`: it takes a line, and answers nothing.
 use Rattle.std.proofs.Common.{[], refl}
 use Rattle.lv_lines.proofs.OutputLemmas.{Writes-nil}
 use Rattle.lv_transcript.specs.Auditing.{state_of}
-use Rattle.lv_transcript.specs.Fronts.{FrontStep}
+use Rattle.lv_transcript.specs.FrontSteps.{FrontStep}
 use Rattle.lv_transcript.proofs.FrontAudits.{reopened_so}
 use Rattle.lv_transcript.proofs.fronts.FrontAuditorResponder.respond.Goals as goal
 

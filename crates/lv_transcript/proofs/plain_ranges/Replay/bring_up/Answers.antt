@@ -1,3 +1,4 @@
+-- Proof of `Replay::bring_up`: makes the edits of a journal up to one of them.
 use Rattle.std.proofs.Common.{pos, refl, sym, ap, arith, slice_index_or, ◌∙◌}
 use Rattle.std.proofs.lemmas.Option.{same_Some}
 use Rattle.lv_edits.specs.declared.edit.Edit.TheVariants.{Push}

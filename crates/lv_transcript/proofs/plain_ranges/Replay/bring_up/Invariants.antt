@@ -1,3 +1,4 @@
+-- What the loop keeps in `Replay::bring_up`: makes the edits of a journal up to one of them.
 use Rattle.std.proofs.Common.{◌≡◌, take}
 use Rattle.lv_edits.specs.History.{list_of}
 use Rattle.lv_transcript.specs.Blocks.{AreKept}

@@ -1,3 +1,4 @@
+-- Proof of `Replay::make`: makes an edit that is possible.
 use Rattle.lv_transcript.proofs.KeptLaws.{kept-push}
 use Rattle.lv_transcript.proofs.plain_ranges.Replay.make.Goals as goal
 

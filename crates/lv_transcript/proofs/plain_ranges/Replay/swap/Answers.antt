@@ -1,3 +1,4 @@
+-- Proof of `Replay::swap`: exchanges two elements.
 use Rattle.std.proofs.Common.{pos, get_or, sym, subst, ◌∙◌}
 use Rattle.std.proofs.lemmas.List.Edits.{swap_is}
 use Rattle.lv_transcript.specs.Blocks.{AreKept}

@@ -1,7 +1,8 @@
+-- Proof of `Queue::first_edit`: the edit of the first claim, which none is below.
 use Rattle.std.proofs.Common.{◌≡◌, ◌<◌, List, get_or, length, subst, sym}
 use Rattle.std.proofs.lemmas.Bool.{ltb-true}
 use Rattle.lv_transcript.specs.declared.claimed.Claimed.{Claimed}
-use Rattle.lv_transcript.specs.Joined.{BeginsAt}
+use Rattle.lv_transcript.specs.LeastFirst.{BeginsAt}
 use Rattle.lv_transcript.proofs.JoinedClaims.{begins_there}
 use Rattle.lv_transcript.proofs.queues.Queue.first_edit.Goals as goal
 

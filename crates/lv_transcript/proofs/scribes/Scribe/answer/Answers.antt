@@ -1,3 +1,4 @@
+-- Proof of `Scribe::answer`: takes an answer, likewise.
 use Rattle.std.proofs.Common.{ap, sym, subst, ◌∙◌, inr}
 use Rattle.lv_transcript.specs.Scribing.{ScribeState, Scribed}
 use Rattle.lv_transcript.proofs.ScribedFronts.{scribed_lost, scribed_missed, scribed_more}

@@ -1,3 +1,4 @@
+-- Proof of `Scribe::edit`: takes an edit.
 use Rattle.std.proofs.Common.{ap, sym, subst, ◌∙◌, inl}
 use Rattle.lv_transcript.specs.Scribing.{ScribeState, Scribed}
 use Rattle.lv_transcript.proofs.ScribedFronts.{scribed_lost, scribed_missed, scribed_more}

@@ -1,3 +1,4 @@
+-- Proof of `Scribe::flush`: writes all that is held, and flushes the writer.
 use Rattle.std.proofs.Common.{sym, subst}
 use Rattle.lv_lines.proofs.OutputLemmas.{Writes-sent}
 use Rattle.lv_transcript.specs.Scribing.{ScribeState, Scribed}

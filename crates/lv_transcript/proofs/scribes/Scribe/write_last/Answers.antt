@@ -1,3 +1,4 @@
+-- Proof of `Scribe::write_last`: writes the last line behind all that was given.
 use Rattle.std.proofs.Common.{sym, subst}
 use Rattle.lv_lines.specs.declared.fault.Fault.TheVariants.{WriteFault}
 use Rattle.lv_transcript.specs.Scribing.{ScribeState, Scribed}
