@@ -18,3 +18,6 @@ pub mod Summed
 pub mod Found
 pub mod Pushed
 pub mod Written
+pub mod SeriesAnswers
+pub mod SeriesBehind
+pub mod SeriesPieces

@@ -16,6 +16,7 @@ pub enum Freed {
     Outcome,
     Board,
     Seat,
+    Series,
 }
 
 // Whether an object is what a free is of.
@@ -28,6 +29,7 @@ fn is_of(what: Freed, object: &Object) -> bool
         Freed::Outcome => matches!(object, Object::Outcome(_)),
         Freed::Board => matches!(object, Object::Board(_) | Object::Closed(_)),
         Freed::Seat => matches!(object, Object::Seat(_)),
+        Freed::Series => matches!(object, Object::Series(_)),
     }
 }
 
@@ -92,4 +94,13 @@ pub extern "C" fn livevec_proved_free_seat(alloc: Global, slot: &mut Slot) -> u3
     ensures left { slot.new.raw.inner ≡ left_by_free freed.Seat slot.old.raw.inner }
 {
     free_held(alloc, slot, Freed::Seat)
+}
+
+/// Frees a series.
+#[unsafe(no_mangle)]
+pub extern "C" fn livevec_proved_free_series(alloc: Global, slot: &mut Slot) -> u32
+    ensures number { result ≡ free_number freed.Series slot.old.raw.inner }
+    ensures left { slot.new.raw.inner ≡ left_by_free freed.Series slot.old.raw.inner }
+{
+    free_held(alloc, slot, Freed::Series)
 }

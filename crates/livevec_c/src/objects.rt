@@ -8,6 +8,7 @@ use crate::kind_vectors::KindVector;
 use lv_board::{Closed, Elements};
 use lv_bodies::{Kind, SixByTable};
 use lv_refresh::{Job, Outcome};
+use lv_series::Series;
 use std::alloc::Global;
 use std::mem;
 
@@ -21,6 +22,7 @@ pub enum Object {
     Board(KindBoard),
     Seat(KindSeat),
     Closed(Ended),
+    Series(Series<SixByTable>),
 }
 
 /// An object without memory.

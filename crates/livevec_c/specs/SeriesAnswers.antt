@@ -1,0 +1,75 @@
+-- What the answers of a series are for C.
+use Rattle.std.specs.Prelude.{ℕ, ℤ, pos, Option, Some, None, Result, Ok, Err}
+use Rattle.lv_bodies.specs.Six.{SixSummary}
+use Rattle.lv_series.specs.Numbers.{number_of}
+use Rattle.lv_series.specs.declared.answers.LongAnswer.{LongAnswer}
+use Rattle.lv_series.specs.declared.receipts.LongReceipt.{LongReceipt}
+use Rattle.lv_series.specs.declared.receipts.LongReceipt.TheVariants.{Pushed, Popped, Written, Expired, Swapped, Truncated}
+use Rattle.lv_series.specs.declared.refusals.LongRefusal.{LongRefusal}
+use Rattle.lv_series.specs.declared.refusals.LongRefusal.TheVariants.{OutOfRange}
+use Rattle.livevec_c.specs.declared.results.PlainValues.{PlainValues}
+use Rattle.livevec_c.specs.declared.series_results.Refused.{Refused}
+use Rattle.livevec_c.specs.declared.series_results.SeriesEdited.{SeriesEdited}
+use Rattle.livevec_c.specs.declared.series_results.SeriesElement.{SeriesElement}
+use Rattle.livevec_c.specs.declared.series_results.SeriesReduced.{SeriesReduced}
+use Rattle.livevec_c.specs.declared.series_results.SeriesScanned.{SeriesScanned}
+use Rattle.livevec_c.specs.Answers.{spread, valueless}
+
+-- that nothing was refused; that a slot holds no series
+abbrev pub granted : Refused
+granted = record { refusal = 0; first = 0; size = 0 }
+
+abbrev pub unheld : Refused
+unheld = record { refusal = 101; first = 0; size = 0 }
+
+-- why the library refused a call: of an index that isn't kept, with what is
+abbrev pub refused_by : LongRefusal → Refused
+refused_by (OutOfRange first size) = record { refusal = 3; first = first; size = size }
+refused_by refusal = record { refusal = number_of refusal; first = 0; size = 0 }
+
+-- an edit that was refused
+abbrev pub unedited_by : Refused → SeriesEdited
+unedited_by why = record { why = why; edit = 0; place = 0; value = pos 0 }
+
+-- an edit's receipt: its number, and a place, how many, or an element
+abbrev pub long_received : LongReceipt → SeriesEdited
+long_received (Pushed edit index) = record { why = granted; edit = edit; place = index; value = pos 0 }
+long_received (Popped edit value) = record { why = granted; edit = edit; place = 0; value = value }
+long_received (Written edit before) = record { why = granted; edit = edit; place = 0; value = before }
+long_received (Expired edit dropped) = record { why = granted; edit = edit; place = dropped; value = pos 0 }
+long_received (Swapped edit first second) = record { why = granted; edit = edit; place = 0; value = first }
+long_received (Truncated edit dropped) = record { why = granted; edit = edit; place = dropped; value = pos 0 }
+
+-- an edit's answer
+abbrev pub long_edited : Result LongReceipt LongRefusal → SeriesEdited
+long_edited (Ok receipt) = long_received receipt
+long_edited (Err refusal) = unedited_by (refused_by refusal)
+
+-- an element's answer
+abbrev pub unelement : Refused → SeriesElement
+unelement why = record { why = why; value = pos 0 }
+
+abbrev pub long_element : Result ℤ LongRefusal → SeriesElement
+long_element (Ok value) = record { why = granted; value = value }
+long_element (Err refusal) = unelement (refused_by refusal)
+
+-- a reduction's answer
+abbrev pub unreduced_by : Refused → SeriesReduced
+unreduced_by why = record { why = why; edit = 0; values = valueless }
+
+abbrev pub long_reduced : Result (LongAnswer SixSummary) LongRefusal → SeriesReduced
+long_reduced (Ok answer) = record { why = granted; edit = answer.edit; values = spread answer.value }
+long_reduced (Err refusal) = unreduced_by (refused_by refusal)
+
+-- the same by why its range is refused, if it is, by the last edit's number, and by the values
+abbrev pub long_valued : Option LongRefusal → ℕ → PlainValues → SeriesReduced
+long_valued None edit values = record { why = granted; edit = edit; values = values }
+long_valued (Some refusal) edit values = unreduced_by (refused_by refusal)
+
+-- the answer of a piece of a range that was put into a buffer: the last edit's number, and how many places it took
+abbrev pub unscanned_by : Refused → SeriesScanned
+unscanned_by why = record { why = why; edit = 0; length = 0 }
+
+abbrev pub long_scanned : Option LongRefusal → ℕ → ℕ → SeriesScanned
+long_scanned None edit many = record { why = granted; edit = edit; length = many }
+long_scanned (Some refusal) edit many = unscanned_by (refused_by refusal)

@@ -1,0 +1,107 @@
+-- What the calls at a series do and answer, by what lies behind a slot.
+use Rattle.std.specs.Prelude.{◌≡◌, ℕ, ℤ, ◌+◌, ◌<◌, ◌++◌, ◌⊎◌, Option, Some, None, Result, List, [], length, take}
+use Rattle.lv_bodies.specs.Automata.{table_of}
+use Rattle.lv_bodies.specs.declared.sixes.SixByTable.{SixByTable}
+use Rattle.lv_series.specs.Numbers.{number_of}
+use Rattle.lv_series.specs.Series.{Answers, IsRefusal, SeriesState, element_at, range_refused, refused, size_of, slice_of}
+use Rattle.lv_series.specs.Plain.{plain_series}
+use Rattle.lv_series.specs.declared.edits.LongEdit.{LongEdit}
+use Rattle.lv_series.specs.declared.edits.LongEdit.TheVariants.{Push}
+use Rattle.lv_series.specs.declared.receipts.LongReceipt.{LongReceipt}
+use Rattle.lv_series.specs.declared.refusals.LongRefusal.{LongRefusal}
+use Rattle.livevec_c.specs.declared.objects.Object.{Object}
+use Rattle.livevec_c.specs.declared.objects.Object.TheVariants.{Series}
+use Rattle.livevec_c.specs.declared.series_results.SeriesCounts.{SeriesCounts}
+use Rattle.livevec_c.specs.declared.series_results.SeriesEdited.{SeriesEdited}
+use Rattle.livevec_c.specs.declared.series_results.SeriesElement.{SeriesElement}
+use Rattle.livevec_c.specs.declared.series_results.SeriesPushed.{SeriesPushed}
+use Rattle.livevec_c.specs.declared.series_results.SeriesReduced.{SeriesReduced}
+use Rattle.livevec_c.specs.Cells.{values_cell}
+use Rattle.livevec_c.specs.SeriesAnswers.{long_edited, long_element, long_valued, unedited_by, unelement, unheld, unreduced_by}
+
+-- a series for C: by all six bodies at once
+abbrev pub Long : Type 0
+Long = SeriesState SixByTable
+
+-- a series without elements, by an automaton of this table
+abbrev pub IsNewSeries : List (List ℕ) → Object → Type 0
+IsNewSeries table object = (body : SixByTable) × (table_of body.automaton ≡ table) × (object ≡ Series (plain_series body []))
+
+-- one for a slot: there is one in it already, or there is no memory, and it stays empty, or it has one
+abbrev pub OpensSeries : List (List ℕ) → ℕ → Option Object → Option Object → Type 0
+OpensSeries table number (Some object) new = (number ≡ 104) × (new ≡ Some object)
+OpensSeries table number None new =
+    ((number ≡ 6) × (new ≡ None)) ⊎ ((number ≡ 0) × ((object : Object) × (new ≡ Some object) × IsNewSeries table object))
+
+-- an edit of a series is answered as the library answers it
+abbrev pub EditsSeries : LongEdit → SeriesEdited → Long → Long → Type 0
+EditsSeries edit answer old new = (r : Result LongReceipt LongRefusal) × (answer ≡ long_edited r) × Answers old edit r new
+
+-- an edit of an object: of a series only
+abbrev pub EditsLong : LongEdit → SeriesEdited → Object → Object → Type 0
+EditsLong edit answer (Series old) new = (state : Long) × (new ≡ Series state) × EditsSeries edit answer old state
+EditsLong edit answer other new = (answer ≡ unedited_by unheld) × (new ≡ other)
+
+-- an edit of what lies behind a slot
+abbrev pub EditsBehind : LongEdit → SeriesEdited → Option Object → Option Object → Type 0
+EditsBehind edit answer None new = (answer ≡ unedited_by unheld) × (new ≡ None)
+EditsBehind edit answer (Some old) new = (object : Object) × (new ≡ Some object) × EditsLong edit answer old object
+
+-- a series after some pushes
+abbrev pub with_pushed : Long → List ℤ → Long
+with_pushed s xs = record s { held = record s.held { elements = s.held.elements ++ xs }; edits = s.edits + length xs }
+
+-- many pushes: all were made, or those before the first that was refused
+pub record PushesSeries (xs : List ℤ) (answer : SeriesPushed) (old new : Long) : Type 0 where
+  pub after : new ≡ with_pushed old (take answer.pushed xs)
+  pub edit : answer.edit ≡ new.edits
+  pub came : ((answer.refusal ≡ 0) × (answer.pushed ≡ length xs))
+      ⊎ ((answer.pushed < length xs) × (refusal : LongRefusal) × (answer.refusal ≡ number_of refusal) × ((x : ℤ) → IsRefusal (refused new (Push x)) refusal))
+
+-- their answer where there is no series
+abbrev pub no_pushes : SeriesPushed
+no_pushes = record { refusal = 101; edit = 0; pushed = 0 }
+
+abbrev pub PushesLong : List ℤ → SeriesPushed → Object → Object → Type 0
+PushesLong xs answer (Series old) new = (state : Long) × (new ≡ Series state) × PushesSeries xs answer old state
+PushesLong xs answer other new = (answer ≡ no_pushes) × (new ≡ other)
+
+abbrev pub PushesBehind : List ℤ → SeriesPushed → Option Object → Option Object → Type 0
+PushesBehind xs answer None new = (answer ≡ no_pushes) × (new ≡ None)
+PushesBehind xs answer (Some old) new = (object : Object) × (new ≡ Some object) × PushesLong xs answer old object
+
+-- the element under an index
+abbrev pub element_in_object : ℕ → Object → SeriesElement
+element_in_object index (Series state) = long_element (element_at state.held index)
+element_in_object index other = unelement unheld
+
+abbrev pub element_behind : ℕ → Option Object → SeriesElement
+element_behind index None = unelement unheld
+element_behind index (Some object) = element_in_object index object
+
+-- the first index that is kept, the one behind the last, and how many edits were accepted
+abbrev pub counts_of : Long → SeriesCounts
+counts_of s = record { refusal = 0; first = s.held.first; size = size_of s.held; edits = s.edits }
+
+abbrev pub no_counts : SeriesCounts
+no_counts = record { refusal = 101; first = 0; size = 0; edits = 0 }
+
+abbrev pub counts_in_object : Object → SeriesCounts
+counts_in_object (Series state) = counts_of state
+counts_in_object other = no_counts
+
+abbrev pub counts_behind : Option Object → SeriesCounts
+counts_behind None = no_counts
+counts_behind (Some object) = counts_in_object object
+
+-- the plain values of the elements of a range after the last edit
+abbrev pub values_of : ℕ → ℕ → Long → SeriesReduced
+values_of lo hi s = long_valued (range_refused s.held lo hi) s.edits (values_cell (table_of s.body.automaton) (slice_of s.held lo hi))
+
+abbrev pub values_in_object : ℕ → ℕ → Object → SeriesReduced
+values_in_object lo hi (Series state) = values_of lo hi state
+values_in_object lo hi other = unreduced_by unheld
+
+abbrev pub values_behind : ℕ → ℕ → Option Object → SeriesReduced
+values_behind lo hi None = unreduced_by unheld
+values_behind lo hi (Some object) = values_in_object lo hi object

@@ -1,0 +1,150 @@
+//! A series: how it begins, and its edits.
+ghost use Rattle.std.specs.Prelude.{◌≡◌, [], IfOk};
+ghost use Rattle.lv_bodies.specs.Automata.{table_of};
+ghost use Rattle.lv_bodies.specs.Plain.{program_table};
+ghost use Rattle.lv_series.specs.declared.edits.LongEdit.TheVariants as asked;
+ghost use Rattle.lv_series.specs.Series.{Answers};
+ghost use Rattle.livevec_c.specs.SeriesBehind.{EditsBehind, EditsLong, IsNewSeries, OpensSeries};
+
+use crate::objects::Object;
+use crate::results::{IN_USE, NO_MEMORY};
+use crate::series_results::{SeriesEdited, edit_answer, not_edited, not_held};
+use crate::slots::{Slot, is_full, put, take};
+use lv_bodies::{Automaton, SixByTable};
+use lv_series::{LongEdit, LongReceipt, LongRefusal, Series};
+use std::alloc::{AllocError, Global};
+
+// A new series in a place of its own.
+fn new_series(alloc: Global) -> Result<Box<Object>, AllocError>
+    ensures { IfOk result (λ b. IsNewSeries program_table b.value) }
+{
+    let body = SixByTable {
+        automaton: Automaton::program(),
+    };
+    Ok(Box::new(alloc, Object::Series(Series::new(alloc, body)))?)
+}
+
+/// Puts a new series with the program's automaton into an empty slot.
+#[unsafe(no_mangle)]
+pub extern "C" fn livevec_proved_series_new(alloc: Global, slot: &mut Slot) -> u32
+    ensures { OpensSeries program_table result slot.old.raw.inner slot.new.raw.inner }
+{
+    if is_full(slot) {
+        return IN_USE;
+    }
+    match new_series(alloc) {
+        Err(_) => NO_MEMORY,
+        Ok(held) => {
+            put(slot, held);
+            0
+        }
+    }
+}
+
+// An edit of a series.
+fn apply(series: &mut Series<SixByTable>, edit: &LongEdit) -> Result<LongReceipt, LongRefusal>
+    ensures { Answers series.old edit.now result series.new }
+{
+    match *edit {
+        LongEdit::Push(value) => series.push(value),
+        LongEdit::Pop => series.pop(),
+        LongEdit::Write { index, value } => series.write(index, value),
+        LongEdit::Expire(index) => series.expire(index),
+        LongEdit::Swap { first, second } => series.swap(first, second),
+        LongEdit::Truncate(size) => series.truncate(size),
+    }
+}
+
+// An edit of an object.
+fn edit_object(object: &mut Object, edit: &LongEdit) -> SeriesEdited
+    ensures { EditsLong edit.now result object.old object.new }
+{
+    match object {
+        Object::Series(series) => edit_answer(apply(series, edit)),
+        _ => not_edited(not_held()),
+    }
+}
+
+// An edit of what lies behind a slot.
+fn edit_held(alloc: Global, slot: &mut Slot, edit: LongEdit) -> SeriesEdited
+    ensures { EditsBehind edit result slot.old.raw.inner slot.new.raw.inner }
+{
+    match take(alloc, slot) {
+        None => not_edited(not_held()),
+        Some(mut held) => {
+            let answer = edit_object(&mut held, &edit);
+            put(slot, held);
+            answer
+        }
+    }
+}
+
+/// Puts an element at the end.
+#[unsafe(no_mangle)]
+pub extern "C" fn livevec_proved_series_push(
+    alloc: Global,
+    slot: &mut Slot,
+    value: i64,
+) -> SeriesEdited
+    ensures { EditsBehind (asked.Push value) result slot.old.raw.inner slot.new.raw.inner }
+{
+    edit_held(alloc, slot, LongEdit::Push(value))
+}
+
+/// Drops the last element.
+#[unsafe(no_mangle)]
+pub extern "C" fn livevec_proved_series_pop(alloc: Global, slot: &mut Slot) -> SeriesEdited
+    ensures { EditsBehind asked.Pop result slot.old.raw.inner slot.new.raw.inner }
+{
+    edit_held(alloc, slot, LongEdit::Pop)
+}
+
+/// Overwrites the element under an index.
+#[unsafe(no_mangle)]
+pub extern "C" fn livevec_proved_series_write(
+    alloc: Global,
+    slot: &mut Slot,
+    index: u64,
+    value: i64,
+) -> SeriesEdited
+    ensures { EditsBehind (asked.Write index value) result slot.old.raw.inner slot.new.raw.inner }
+{
+    edit_held(alloc, slot, LongEdit::Write { index, value })
+}
+
+/// Exchanges the elements under two indices.
+#[unsafe(no_mangle)]
+pub extern "C" fn livevec_proved_series_swap(
+    alloc: Global,
+    slot: &mut Slot,
+    first: u64,
+    second: u64,
+) -> SeriesEdited
+    ensures { EditsBehind (asked.Swap first second) result slot.old.raw.inner slot.new.raw.inner }
+{
+    edit_held(alloc, slot, LongEdit::Swap { first, second })
+}
+
+/// Drops the elements from an index on.
+#[unsafe(no_mangle)]
+pub extern "C" fn livevec_proved_series_truncate(
+    alloc: Global,
+    slot: &mut Slot,
+    size: u64,
+) -> SeriesEdited
+    ensures { EditsBehind (asked.Truncate size) result slot.old.raw.inner slot.new.raw.inner }
+{
+    edit_held(alloc, slot, LongEdit::Truncate(size))
+}
+
+/// Drops the elements before an index.
+#[unsafe(no_mangle)]
+pub extern "C" fn livevec_proved_series_expire(
+    alloc: Global,
+    slot: &mut Slot,
+    index: u64,
+) -> SeriesEdited
+    ensures { EditsBehind (asked.Expire index) result slot.old.raw.inner slot.new.raw.inner }
+{
+    edit_held(alloc, slot, LongEdit::Expire(index))
+}

@@ -1,0 +1,70 @@
+//! Many pushes at a series at once.
+ghost use Rattle.std.specs.Prelude.{◌≡◌};
+ghost use Rattle.livevec_c.specs.SeriesBehind.{PushesBehind, PushesLong, PushesSeries, no_pushes};
+
+use crate::objects::Object;
+use crate::results::NO_HANDLE;
+use crate::series_results::SeriesPushed;
+use crate::slots::{Slot, put, take};
+use lv_bodies::SixByTable;
+use lv_series::Series;
+use std::alloc::Global;
+
+// What pushes answer where there is no series.
+fn not_pushed() -> SeriesPushed
+    ensures { result ≡ no_pushes }
+{
+    SeriesPushed {
+        refusal: NO_HANDLE,
+        edit: 0,
+        pushed: 0,
+    }
+}
+
+// Pushes at a series, in order, until one is refused.
+fn push_each(series: &mut Series<SixByTable>, values: &[i64]) -> SeriesPushed
+    ensures { PushesSeries values.now result series.old series.new }
+{
+    let mut pushed = 0;
+    let mut refusal = 0;
+    while pushed < values.len() && refusal == 0 {
+        match series.push(values[pushed]) {
+            Ok(_) => pushed += 1,
+            Err(why) => refusal = why.number(),
+        }
+    }
+    SeriesPushed {
+        refusal,
+        edit: series.edits(),
+        pushed: pushed as u64,
+    }
+}
+
+// Pushes at an object.
+fn push_at_object(object: &mut Object, values: &[i64]) -> SeriesPushed
+    ensures { PushesLong values.now result object.old object.new }
+{
+    match object {
+        Object::Series(series) => push_each(series, values),
+        _ => not_pushed(),
+    }
+}
+
+/// Puts elements at the end, in order, until one is refused.
+#[unsafe(no_mangle)]
+pub extern "C" fn livevec_proved_series_push_each(
+    alloc: Global,
+    slot: &mut Slot,
+    values: &[i64],
+) -> SeriesPushed
+    ensures { PushesBehind values.now result slot.old.raw.inner slot.new.raw.inner }
+{
+    match take(alloc, slot) {
+        None => not_pushed(),
+        Some(mut held) => {
+            let answer = push_at_object(&mut held, values);
+            put(slot, held);
+            answer
+        }
+    }
+}

@@ -1,0 +1,201 @@
+//! What the calls at a series answer, in the layouts of the header, and the words that make them.
+ghost use Rattle.std.specs.Prelude.{◌≡◌};
+ghost use Rattle.livevec_c.specs.SeriesAnswers.{granted, long_edited, long_element, long_reduced, refused_by, unedited_by, unelement, unheld, unreduced_by, unscanned_by};
+
+use crate::results::{NO_HANDLE, PlainValues, no_values, plain_values};
+use lv_bodies::SixSummary;
+use lv_series::{LongAnswer, LongReceipt, LongRefusal};
+
+/// Why a call at a series was refused, 0 where it was not. Of an index that isn't kept it tells which are: from `first` up to `size`.
+#[repr(C)]
+#[derive(Clone, Copy)]
+pub struct Refused {
+    pub refusal: u32,
+    pub first: u64,
+    pub size: u64,
+}
+
+/// What an edit of a series answers.
+#[repr(C)]
+#[derive(Clone, Copy)]
+pub struct SeriesEdited {
+    pub why: Refused,
+    pub edit: u64,
+    pub place: u64,
+    pub value: i64,
+}
+
+/// An element of a series.
+#[repr(C)]
+#[derive(Clone, Copy)]
+pub struct SeriesElement {
+    pub why: Refused,
+    pub value: i64,
+}
+
+/// What is counted of a series.
+#[repr(C)]
+#[derive(Clone, Copy)]
+pub struct SeriesCounts {
+    pub refusal: u32,
+    pub first: u64,
+    pub size: u64,
+    pub edits: u64,
+}
+
+/// What a reduction of a series answers.
+#[repr(C)]
+#[derive(Clone, Copy)]
+pub struct SeriesReduced {
+    pub why: Refused,
+    pub edit: u64,
+    pub values: PlainValues,
+}
+
+/// What many pushes at a series answer.
+#[repr(C)]
+#[derive(Clone, Copy)]
+pub struct SeriesPushed {
+    pub refusal: u32,
+    pub edit: u64,
+    pub pushed: u64,
+}
+
+/// What a piece of a range answers that was put into a buffer.
+#[repr(C)]
+#[derive(Clone, Copy)]
+pub struct SeriesScanned {
+    pub why: Refused,
+    pub edit: u64,
+    pub length: u64,
+}
+
+/// Of a call that was not refused.
+pub fn not_refused() -> Refused
+    ensures { result ≡ granted }
+{
+    Refused {
+        refusal: 0,
+        first: 0,
+        size: 0,
+    }
+}
+
+/// Of a call at a slot that holds no series.
+pub fn not_held() -> Refused
+    ensures { result ≡ unheld }
+{
+    Refused {
+        refusal: NO_HANDLE,
+        first: 0,
+        size: 0,
+    }
+}
+
+/// Why the library refused a call.
+pub fn refusal_answer(refusal: LongRefusal) -> Refused
+    ensures { result ≡ refused_by refusal }
+{
+    let number = refusal.number();
+    match refusal {
+        LongRefusal::OutOfRange { first, size } => Refused {
+            refusal: number,
+            first,
+            size,
+        },
+        _ => Refused {
+            refusal: number,
+            first: 0,
+            size: 0,
+        },
+    }
+}
+
+/// What an edit that was refused answers.
+pub fn not_edited(why: Refused) -> SeriesEdited
+    ensures { result ≡ unedited_by why }
+{
+    SeriesEdited {
+        why,
+        edit: 0,
+        place: 0,
+        value: 0,
+    }
+}
+
+/// What an edit answers for C.
+pub fn edit_answer(answer: Result<LongReceipt, LongRefusal>) -> SeriesEdited
+    ensures { result ≡ long_edited answer }
+{
+    let (edit, place, value) = match answer {
+        Err(refusal) => return not_edited(refusal_answer(refusal)),
+        Ok(LongReceipt::Pushed { edit, index }) => (edit, index, 0),
+        Ok(LongReceipt::Popped { edit, value }) => (edit, 0, value),
+        Ok(LongReceipt::Written { edit, before }) => (edit, 0, before),
+        Ok(LongReceipt::Expired { edit, dropped }) => (edit, dropped, 0),
+        Ok(LongReceipt::Swapped { edit, first, .. }) => (edit, 0, first),
+        Ok(LongReceipt::Truncated { edit, dropped }) => (edit, dropped, 0),
+    };
+    SeriesEdited {
+        why: not_refused(),
+        edit,
+        place,
+        value,
+    }
+}
+
+/// What a question for an element answers that was refused.
+pub fn no_element(why: Refused) -> SeriesElement
+    ensures { result ≡ unelement why }
+{
+    SeriesElement { why, value: 0 }
+}
+
+/// The element under an index, for C.
+pub fn element_answer(answer: Result<i64, LongRefusal>) -> SeriesElement
+    ensures { result ≡ long_element answer }
+{
+    match answer {
+        Ok(value) => SeriesElement {
+            why: not_refused(),
+            value,
+        },
+        Err(refusal) => no_element(refusal_answer(refusal)),
+    }
+}
+
+/// What a reduction that was refused answers.
+pub fn not_reduced(why: Refused) -> SeriesReduced
+    ensures { result ≡ unreduced_by why }
+{
+    SeriesReduced {
+        why,
+        edit: 0,
+        values: no_values(),
+    }
+}
+
+/// What a reduction answers for C.
+pub fn reduction_answer(answer: Result<LongAnswer<SixSummary>, LongRefusal>) -> SeriesReduced
+    ensures { result ≡ long_reduced answer }
+{
+    match answer {
+        Err(refusal) => not_reduced(refusal_answer(refusal)),
+        Ok(answer) => SeriesReduced {
+            why: not_refused(),
+            edit: answer.edit,
+            values: plain_values(answer.value),
+        },
+    }
+}
+
+/// What a piece of a range answers that was refused.
+pub fn not_scanned(why: Refused) -> SeriesScanned
+    ensures { result ≡ unscanned_by why }
+{
+    SeriesScanned {
+        why,
+        edit: 0,
+        length: 0,
+    }
+}
