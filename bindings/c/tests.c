@@ -362,6 +362,7 @@ int main(void)
     places();
     summaries();
     boards();
+    series();
     printf("%d checks, %d failed\n", checks, failures);
     return failures ? EXIT_FAILURE : EXIT_SUCCESS;
 }

@@ -33,4 +33,7 @@ void summaries(void);
 /* The tests of where in a range something stands. */
 void places(void);
 
+/* The tests of series. */
+void series(void);
+
 #endif

@@ -1,0 +1,392 @@
+/* A series beside a plain array whose start moves: random edits, a window that slides over several shards, refusals, pieces. */
+#include "tests.h"
+
+#include <stdlib.h>
+#include <string.h>
+
+enum { ROOM = 300000, SHARD = 32760, PIECE = 500 };
+
+__extension__ typedef __int128 wide;
+
+static uint64_t state = 29;
+
+static uint64_t below(uint64_t bound)
+{
+    state = state * 6364136223846793005u + 1442695040888963407u;
+    return (state >> 20) % bound;
+}
+
+static int64_t element(void)
+{
+    switch (below(12)) {
+    case 0: return INT64_MAX - (int64_t)below(3);
+    case 1: return INT64_MIN + (int64_t)below(3);
+    default: return (int64_t)below(2001) - 1000;
+    }
+}
+
+/* The plain twin: the element under index i is at all[i], for `first` up to `size`. */
+static int64_t all[ROOM];
+static uint64_t first, size, edits;
+
+static void start(livevec_series *s)
+{
+    first = size = edits = 0;
+    IS(livevec_series_new(s), 0);
+}
+
+/* The values of no elements, and those with one more; `ending` is the best total that ends with the last one. */
+static livevec_values none(void)
+{
+    livevec_values v = {.affine_a = 1};
+    for (uint8_t q = 0; q < 8; q++)
+        v.automaton[q] = q;
+    return v;
+}
+
+static livevec_values with(livevec_values v, int64_t x, wide *ending, wide *best)
+{
+    int64_t low = ((x % 256) + 256) % 256;
+    uint32_t a = (uint32_t)(uint64_t)((x - low) / 256);
+    v.sum += (uint64_t)x;
+    v.least = !v.any || x < v.least ? x : v.least;
+    v.greatest = !v.any || x > v.greatest ? x : v.greatest;
+    *ending = !v.any || *ending < 0 ? x : *ending + x;
+    *best = !v.any || *best < *ending ? *ending : *best;
+    v.best_low = (uint64_t)*best;
+    v.best_high = (int64_t)(*best >> 64);
+    v.affine_a = a * v.affine_a;
+    v.affine_b = a * v.affine_b + (uint32_t)low;
+    for (int q = 0; q < 8; q++)
+        v.automaton[q] = (uint8_t)((2 * v.automaton[q] + low % 4) % 8);
+    v.any = true;
+    return v;
+}
+
+static void alike(livevec_values got, livevec_values wanted)
+{
+    IS(got.sum, wanted.sum);
+    IS(got.any, wanted.any);
+    IS(got.least, wanted.least);
+    IS(got.greatest, wanted.greatest);
+    IS(got.best_low, wanted.best_low);
+    IS(got.best_high, wanted.best_high);
+    IS(got.affine_a, wanted.affine_a);
+    IS(got.affine_b, wanted.affine_b);
+    IS(memcmp(got.automaton, wanted.automaton, 8), 0);
+}
+
+static livevec_values plain(uint64_t lo, uint64_t hi)
+{
+    livevec_values v = none();
+    wide ending = 0, best = 0;
+    for (uint64_t i = lo; i < hi; i++)
+        v = with(v, all[i], &ending, &best);
+    return v;
+}
+
+/* The counts, and some range's values, are those of the twin. */
+static void look(livevec_series *s)
+{
+    IS(livevec_series_first(s).value, first);
+    IS(livevec_series_size(s).value, size);
+    IS(livevec_series_edits(s).value, edits);
+    uint64_t lo = first + below(size - first + 1);
+    uint64_t hi = lo + below((size - lo < 400 ? size - lo : 400) + 1);
+    livevec_series_reduced reduced = livevec_series_reduce(s, lo, hi), asked = livevec_series_ask(s, lo, hi);
+    IS(reduced.refusal, 0);
+    IS(reduced.edit, edits);
+    alike(reduced.values, plain(lo, hi));
+    alike(asked.values, reduced.values);
+    IS(asked.edit, edits);
+}
+
+static void told_window(livevec_series_edited answer)
+{
+    IS(answer.refusal, LIVEVEC_OUT_OF_RANGE);
+    IS(answer.first, first);
+    IS(answer.size, size);
+    IS(answer.edit, 0);
+    IS(answer.place, 0);
+    IS(answer.value, 0);
+}
+
+static void push_some(livevec_series *s, size_t many)
+{
+    for (size_t i = 0; i < many; i++)
+        all[size + i] = element();
+    livevec_series_pushed pushed = livevec_series_push_many(s, all + size, many);
+    size += many;
+    edits += many;
+    IS(pushed.refusal, 0);
+    IS(pushed.pushed, many);
+    IS(pushed.edit, edits);
+}
+
+static void one_edit(livevec_series *s)
+{
+    livevec_series_edited e;
+    uint64_t i = first + below(size - first + 3), j = first ? below(size + 2) : i;
+    bool kept = i >= first && i < size, both = kept && j >= first && j < size;
+    int64_t x = element(), there = kept ? all[i] : 0;
+    switch (below(size - first > 90 ? 7 : 4)) {
+    case 0:
+    case 1:
+        e = livevec_series_push(s, x);
+        IS(e.refusal, 0);
+        IS(e.place, size);
+        all[size++] = x;
+        break;
+    case 2:
+        e = livevec_series_write(s, i, x);
+        if (!kept) {
+            told_window(e);
+            return;
+        }
+        IS(e.value, there);
+        all[i] = x;
+        break;
+    case 3:
+        e = livevec_series_swap(s, i, j);
+        if (!both) {
+            told_window(e);
+            return;
+        }
+        all[i] = all[j];
+        all[j] = there;
+        IS(e.value, all[i]);
+        break;
+    case 4:
+        e = livevec_series_pop(s);
+        IS(e.value, all[--size]);
+        break;
+    case 5:
+        e = livevec_series_truncate(s, size - below(4));
+        size -= e.place;
+        break;
+    default:
+        i = first + below(5);
+        e = livevec_series_expire(s, i);
+        IS(e.place, i - first);
+        first = i;
+    }
+    IS(e.refusal, 0);
+    IS(e.edit, ++edits);
+    IS(e.first, 0);
+    IS(e.size, 0);
+}
+
+/* Random edits, each looked at; elements are read one by one now and then. */
+static void random_edits(void)
+{
+    livevec_series s = {0};
+    start(&s);
+    IS(livevec_series_pop(&s).refusal, LIVEVEC_EMPTY);
+    push_some(&s, 100);
+    for (int round = 0; round < 3000; round++) {
+        one_edit(&s);
+        if (round % 10 == 0)
+            look(&s);
+    }
+    for (uint64_t i = first; i < size; i++)
+        IS(livevec_series_get(&s, i).value, all[i]);
+    IS(livevec_free_series(&s), 0);
+}
+
+/* A window of two shards that slides over seven: forgotten indices are told what is kept. */
+static void sliding(void)
+{
+    livevec_series s = {0};
+    start(&s);
+    while (size < 7 * SHARD) {
+        push_some(&s, 8190);
+        if (size - first > 2 * SHARD) {
+            uint64_t to = size - 2 * SHARD + below(100);
+            livevec_series_edited e = livevec_series_expire(&s, to);
+            IS(e.refusal, 0);
+            IS(e.place, to - first);
+            IS(e.edit, ++edits);
+            first = to;
+            told_window(livevec_series_write(&s, first - 1, 7));
+            told_window(livevec_series_expire(&s, first - 1));
+            told_window(livevec_series_swap(&s, first, first - 1));
+            told_window(livevec_series_truncate(&s, size + 1));
+        }
+        look(&s);
+        alike(livevec_series_reduce(&s, first, size).values, plain(first, size));
+    }
+    livevec_series_element gone = livevec_series_get(&s, first - 1);
+    IS(gone.refusal, LIVEVEC_OUT_OF_RANGE);
+    IS(gone.first, first);
+    IS(gone.size, size);
+    IS(livevec_series_get(&s, first).value, all[first]);
+    IS(livevec_series_reduce(&s, first - 1, size).first, first);
+    IS(livevec_series_reduce(&s, size, first).refusal, LIVEVEC_BAD_RANGE);
+    IS(livevec_series_expire(&s, size).refusal, 0);
+    IS(livevec_series_pop(&s).refusal, LIVEVEC_EMPTY);
+    IS(livevec_series_push(&s, 7).place, size);
+    IS(livevec_free_series(&s), 0);
+}
+
+/* Elements and running values, in pieces; behind them, and where a call is refused, the buffer stays. */
+static void pieces(void)
+{
+    static int64_t elements[PIECE + 1];
+    static livevec_values values[PIECE + 1];
+    livevec_series s = {0};
+    start(&s);
+    push_some(&s, SHARD + 2000);
+    IS(livevec_series_expire(&s, 700).place, 700);
+    first = 700;
+    uint64_t lo = SHARD - 900, hi = SHARD + 1000, took = 0;
+    elements[PIECE] = -5;
+    for (uint64_t at = lo; at < hi; at += took) {
+        livevec_series_scanned read = livevec_series_read(&s, at, hi, elements, PIECE);
+        took = hi - at < PIECE ? hi - at : PIECE;
+        IS(read.refusal, 0);
+        IS(read.length, took);
+        IS(read.edit, SHARD + 2001);
+        IS(memcmp(elements, all + at, took * sizeof *elements), 0);
+        IS(elements[PIECE], -5);
+    }
+    values[PIECE].sum = 77;
+    livevec_values so_far = none();
+    wide ending = 0, best = 0;
+    for (uint64_t at = lo; at < hi; at += took) {
+        livevec_values before = so_far;
+        livevec_series_scanned scanned = livevec_series_scan_inclusive(&s, lo, at, hi, values, PIECE);
+        took = scanned.length;
+        IS(scanned.refusal, 0);
+        IS(took, hi - at < PIECE ? hi - at : PIECE);
+        for (uint64_t i = 0; i < took; i++) {
+            so_far = with(so_far, all[at + i], &ending, &best);
+            alike(values[i], so_far);
+        }
+        livevec_values last = values[took - 1], one_before = took > 1 ? values[took - 2] : before;
+        scanned = livevec_series_scan_exclusive(&s, lo, at, hi, values, PIECE);
+        IS(scanned.length, took);
+        alike(values[0], before);
+        alike(values[took - 1], one_before);
+        alike(so_far, last);
+        IS(values[PIECE].sum, 77);
+    }
+    IS(livevec_series_scan_inclusive(&s, lo, hi, hi, values, PIECE).length, 0);
+    IS(livevec_series_scan_inclusive(&s, lo, lo - 1, hi, values, PIECE).refusal, LIVEVEC_BAD_RANGE);
+    IS(livevec_series_scan_inclusive(&s, lo, hi + 1, hi, values, PIECE).refusal, LIVEVEC_BAD_RANGE);
+    livevec_series_scanned refused = livevec_series_scan_exclusive(&s, 699, 800, hi, values, PIECE);
+    IS(refused.refusal, LIVEVEC_OUT_OF_RANGE);
+    IS(refused.first, 700);
+    IS(refused.size, size);
+    IS(livevec_series_read(&s, lo, size + 1, elements, PIECE).size, size);
+    IS(livevec_series_read(&s, hi, lo, elements, PIECE).refusal, LIVEVEC_BAD_RANGE);
+    IS(livevec_series_read(&s, lo, hi, NULL, 0).length, 0);
+    IS(livevec_series_scan_exclusive(&s, lo, lo, hi, NULL, 0).length, 0);
+    IS(livevec_free_series(&s), 0);
+}
+
+/* Null pointers, empty slots, full ones, and those of other types. */
+static void misuse_of_series(void)
+{
+    livevec_series s = {0};
+    int64_t x = 7;
+    livevec_values v;
+    IS(livevec_series_new(NULL), LIVEVEC_NULL);
+    IS(livevec_free_series(NULL), LIVEVEC_NULL);
+    IS(livevec_series_push(NULL, 1).refusal, LIVEVEC_NULL);
+    IS(livevec_series_push_many(&s, NULL, 1).refusal, LIVEVEC_NULL);
+    IS(livevec_series_pop(NULL).refusal, LIVEVEC_NULL);
+    IS(livevec_series_write(NULL, 0, 1).refusal, LIVEVEC_NULL);
+    IS(livevec_series_swap(NULL, 0, 1).refusal, LIVEVEC_NULL);
+    IS(livevec_series_truncate(NULL, 0).refusal, LIVEVEC_NULL);
+    IS(livevec_series_expire(NULL, 0).refusal, LIVEVEC_NULL);
+    IS(livevec_series_get(NULL, 0).refusal, LIVEVEC_NULL);
+    IS(livevec_series_first(NULL).refusal, LIVEVEC_NULL);
+    IS(livevec_series_reduce(NULL, 0, 0).refusal, LIVEVEC_NULL);
+    IS(livevec_series_ask(NULL, 0, 0).refusal, LIVEVEC_NULL);
+    IS(livevec_series_read(&s, 0, 0, NULL, 1).refusal, LIVEVEC_NULL);
+    IS(livevec_series_scan_inclusive(&s, 0, 0, 0, NULL, 1).refusal, LIVEVEC_NULL);
+
+    IS(livevec_free_series(&s), LIVEVEC_NO_HANDLE);
+    IS(livevec_series_push(&s, 1).refusal, LIVEVEC_NO_HANDLE);
+    IS(livevec_series_push_many(&s, NULL, 0).refusal, LIVEVEC_NO_HANDLE);
+    IS(livevec_series_expire(&s, 0).refusal, LIVEVEC_NO_HANDLE);
+    IS(livevec_series_get(&s, 0).refusal, LIVEVEC_NO_HANDLE);
+    IS(livevec_series_edits(&s).refusal, LIVEVEC_NO_HANDLE);
+    IS(livevec_series_reduce(&s, 0, 0).refusal, LIVEVEC_NO_HANDLE);
+    IS(livevec_series_ask(&s, 0, 0).refusal, LIVEVEC_NO_HANDLE);
+    IS(livevec_series_read(&s, 0, 0, &x, 1).refusal, LIVEVEC_NO_HANDLE);
+    IS(livevec_series_scan_exclusive(&s, 0, 0, 0, &v, 1).refusal, LIVEVEC_NO_HANDLE);
+
+    livevec_vector vector = {0};
+    IS(livevec_new(&vector, 1, 9), 0);
+    IS(livevec_series_push((livevec_series *)&vector, 1).refusal, LIVEVEC_NO_HANDLE);
+    IS(livevec_free_series((livevec_series *)&vector), LIVEVEC_NO_HANDLE);
+    IS(livevec_push(&vector, 7).edit, 1);
+    IS(livevec_free(&vector), 0);
+
+    IS(livevec_series_new(&s), 0);
+    IS(livevec_series_new(&s), LIVEVEC_IN_USE);
+    IS(livevec_push((livevec_vector *)&s, 7).refusal, LIVEVEC_NO_HANDLE);
+    IS(livevec_reduce((livevec_vector *)&s, 0, 0).refusal, LIVEVEC_NO_HANDLE);
+    IS(livevec_free((livevec_vector *)&s), LIVEVEC_NO_HANDLE);
+    IS(livevec_series_push_many(&s, NULL, 0).edit, 0);
+    IS(livevec_series_push(&s, 7).edit, 1);
+    s.busy_ = 1;
+    IS(livevec_series_push(&s, 7).refusal, LIVEVEC_BUSY);
+    IS(livevec_series_size(&s).refusal, LIVEVEC_BUSY);
+    s.busy_ = 0;
+    IS(livevec_series_size(&s).value, 1);
+    IS(livevec_free_series(&s), 0);
+    IS(livevec_free_series(&s), LIVEVEC_NO_HANDLE);
+}
+
+/* Each request for memory fails in turn, for as long as one does: nothing has changed then, and the next call goes on. */
+static void want_of_memory(void)
+{
+    livevec_series s = {0};
+    start(&s);
+    push_some(&s, SHARD + 900);
+    int refused = 0;
+    for (int round = 0; round < 1200; round++) {
+        until_failure = 1;
+        livevec_series_edited e = livevec_series_push(&s, round);
+        until_failure = 0;
+        if (e.refusal) {
+            refused++;
+            IS(e.refusal, LIVEVEC_NO_MEMORY);
+            IS(livevec_series_size(&s).value, size);
+            IS(livevec_series_edits(&s).value, edits);
+            IS(livevec_series_push(&s, round).place, size);
+        }
+        all[size++] = round;
+        edits++;
+    }
+    IS(refused > 0, 1);
+    alike(livevec_series_reduce(&s, SHARD, size).values, plain(SHARD, size));
+    for (int nth = 1; nth < 6; nth++) {
+        until_failure = nth;
+        livevec_series_pushed p = livevec_series_push_many(&s, all + size - 900, 900);
+        until_failure = 0;
+        IS(p.refusal == 0 || p.refusal == LIVEVEC_NO_MEMORY, 1);
+        IS(p.pushed == 900, p.refusal == 0);
+        memmove(all + size, all + size - 900, p.pushed * sizeof *all);
+        size += p.pushed;
+        edits += p.pushed;
+        IS(p.edit, edits);
+        look(&s);
+    }
+    IS(livevec_free_series(&s), 0);
+    until_failure = 1;
+    IS(livevec_series_new(&s), LIVEVEC_NO_MEMORY);
+    until_failure = 0;
+    IS(livevec_free_series(&s), LIVEVEC_NO_HANDLE);
+}
+
+void series(void)
+{
+    misuse_of_series();
+    random_edits();
+    sliding();
+    pieces();
+    want_of_memory();
+}
