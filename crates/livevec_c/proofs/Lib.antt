@@ -12,3 +12,5 @@ pub mod Seatless
 pub mod Others
 pub mod Summing
 mod WrittenLaws
+pub mod SeriesPlain
+pub mod SeriesLaws
