@@ -4,6 +4,7 @@
 //! The library's calls are proved, the crate over them is tested.
 //!
 //! A [`Vector`] is one thread's at a time. A [`Board`] is for several at once, without a lock, of elements of 16 bits.
+//! A [`Series`] goes on: its elements and edits are bounded by memory alone, and its front may expire.
 //! A [`Summary`] is what a list comes to, as bytes that travel between processes and machines, and are joined there.
 //!
 //! ```
@@ -31,6 +32,7 @@ mod places;
 #[allow(unsafe_code)]
 mod raw;
 mod refusal;
+pub mod series;
 mod summary;
 mod values;
 mod vector;
@@ -45,6 +47,7 @@ pub use indices::Indices;
 pub use kinds::UnknownKind;
 pub use places::{BestRun, Placed};
 pub use refusal::Refusal;
+pub use series::Series;
 pub use summary::Summary;
 pub use values::{
     Accepted, Edit, Limits, Node, Popped, Pushed, Reduced, RefusedAt, Reserved, Stopped, Swapped, Truncated, Values, Written,

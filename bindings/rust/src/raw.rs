@@ -1,10 +1,13 @@
-//! The C calls of `include/livevec.h`, and handles over them. All of the crate's `unsafe` is in this file.
+//! The C calls of `include/livevec.h`, and handles over them. All of the crate's `unsafe` is in this file, and in
+//! `raw/series.rs`.
 //!
 //! What C asks of who calls, and how it is kept here:
 //! - A slot starts as zeros: [`Slot::empty`].
 //! - A slot is never copied or moved: it lies in a box of its own, which lives as long as the handle, and no one is given the slot itself.
 //! - A slot serves one call at a time: a handle of a vector, an outcome, a board or a seat is not `Sync`, so that its `&self` calls stay
 //!   on one thread, and none of the C calls calls back. A job's slot is used by calls that own or borrow the job alone.
+
+pub(crate) mod series;
 
 use std::alloc::{Layout, alloc};
 use std::cell::UnsafeCell;

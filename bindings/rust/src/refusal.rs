@@ -28,6 +28,13 @@ pub enum Refusal {
         /// How many elements there are.
         size: u32,
     },
+    /// 3 too, of a [`Series`](crate::Series): an index, or an end of a range, isn't kept.
+    NotKept {
+        /// The first index that is kept.
+        first: u64,
+        /// The index behind the last.
+        size: u64,
+    },
     /// 4: more was to be reserved than the limits allow.
     TooLarge {
         /// The most elements.
@@ -120,7 +127,7 @@ impl Refusal {
         match self {
             Refusal::Worn => 1,
             Refusal::Empty => 2,
-            Refusal::OutOfRange { .. } => 3,
+            Refusal::OutOfRange { .. } | Refusal::NotKept { .. } => 3,
             Refusal::TooLarge { .. } => 4,
             Refusal::Full => 5,
             Refusal::NoMemory => 6,
@@ -170,6 +177,7 @@ impl fmt::Display for Refusal {
             Refusal::Worn => f.write_str("the limit of edits is reached"),
             Refusal::Empty => f.write_str("there is nothing to pop"),
             Refusal::OutOfRange { size } => write!(f, "out of range: the size is {size}"),
+            Refusal::NotKept { first, size } => write!(f, "out of range: kept are the indices from {first} up to {size}"),
             Refusal::TooLarge { limit } => write!(f, "too large: the limit is {limit} elements"),
             Refusal::Full => f.write_str("full: there are as many elements as the limits allow"),
             Refusal::NoMemory => f.write_str("no memory"),

@@ -1,0 +1,377 @@
+//! The series: a vector that goes on. [`Series`] is the type; beside it stand what its edits and questions tell.
+
+use std::fmt;
+use std::iter::FusedIterator;
+use std::ops::{Bound, RangeBounds};
+
+use crate::raw::SixValues;
+use crate::{Refusal, Values, raw};
+
+/// A vector of `i64` that goes on: its elements and edits are bounded by memory alone, and elements at its front may expire.
+///
+/// Indices count from the first element that was ever pushed. An element keeps its index for as long as it is kept: kept are those from
+/// [`first`](Series::first) up to [`size`](Series::size). Elements lie in shards of 32,760, and the memory of whole shards comes back once
+/// all of their elements have expired. What isn't kept is refused with [`Refusal::NotKept`], which tells what is.
+///
+/// Ranges are of `u64`; where an end isn't told it is that of what is kept.
+///
+/// ```
+/// use livevec::{Refusal, Series};
+///
+/// # fn main() -> Result<(), Refusal> {
+/// let mut readings = Series::new()?;
+/// readings.extend_from_slice(&[20, 22, 19, 25])?;
+/// assert_eq!(readings.sum(..)?, 86);
+/// assert_eq!(readings.expire(2)?.dropped, 2);
+/// assert_eq!(readings.get(2)?, 19);
+/// assert_eq!(readings.get(1), Err(Refusal::NotKept { first: 2, size: 4 }));
+/// assert_eq!(readings.greatest(..)?, Some(25));
+/// assert_eq!((readings.len(), readings.size(), readings.edits()), (2, 4, 5));
+/// # Ok(())
+/// # }
+/// ```
+///
+/// It may be sent to another thread, and can't be shared by `&`, as a [`Vector`](crate::Vector) can't.
+///
+/// ```compile_fail
+/// fn shared<T: Sync>(_: T) {}
+/// shared(livevec::Series::new().unwrap());
+/// ```
+pub struct Series {
+    raw: raw::series::Series,
+}
+
+/// An accepted push.
+#[derive(Clone, Copy, Debug, PartialEq, Eq, Hash)]
+pub struct Pushed {
+    /// The number of this edit.
+    pub edit: u64,
+    /// The index under which the element stands.
+    pub index: u64,
+}
+
+/// An accepted pop.
+#[derive(Clone, Copy, Debug, PartialEq, Eq, Hash)]
+pub struct Popped {
+    /// The number of this edit.
+    pub edit: u64,
+    /// The element that stood at the end.
+    pub value: i64,
+}
+
+/// An accepted write.
+#[derive(Clone, Copy, Debug, PartialEq, Eq, Hash)]
+pub struct Written {
+    /// The number of this edit.
+    pub edit: u64,
+    /// The element that stood there.
+    pub before: i64,
+}
+
+/// An accepted swap.
+#[derive(Clone, Copy, Debug, PartialEq, Eq, Hash)]
+pub struct Swapped {
+    /// The number of this edit.
+    pub edit: u64,
+    /// The element that stands under the first index now.
+    pub first: i64,
+}
+
+/// An accepted truncate or expire.
+#[derive(Clone, Copy, Debug, PartialEq, Eq, Hash)]
+pub struct Dropped {
+    /// The number of this edit.
+    pub edit: u64,
+    /// How many elements were dropped.
+    pub dropped: u64,
+}
+
+/// The answer of a reduction.
+#[derive(Clone, Copy, Debug, PartialEq, Eq, Hash)]
+pub struct Reduced {
+    /// The last edit that was accepted, after which the range was read.
+    pub edit: u64,
+    /// The values of the range.
+    pub values: Values,
+}
+
+/// Why many pushes ended. Those before it stay.
+#[derive(Clone, Copy, Debug, PartialEq, Eq, Hash)]
+pub struct Stopped {
+    /// How many elements were pushed.
+    pub pushed: usize,
+    /// Why the next was not.
+    pub refusal: Refusal,
+}
+
+impl fmt::Display for Stopped {
+    fn fmt(&self, f: &mut fmt::Formatter<'_>) -> fmt::Result {
+        write!(f, "after {} elements: {}", self.pushed, self.refusal)
+    }
+}
+
+impl std::error::Error for Stopped {}
+
+impl From<Stopped> for Refusal {
+    fn from(stopped: Stopped) -> Refusal {
+        stopped.refusal
+    }
+}
+
+impl Series {
+    /// A series without elements. Refused with `NoMemory` alone.
+    pub fn new() -> Result<Series, Refusal> {
+        Ok(Series { raw: raw::series::Series::new()? })
+    }
+
+    /// Puts an element at the end. Refused with `Worn`, `Full`, `NoMemory`, in this order.
+    pub fn push(&mut self, value: i64) -> Result<Pushed, Refusal> {
+        self.raw.push(value).map(|did| Pushed { edit: did.edit, index: did.place })
+    }
+
+    /// Pushes each element in order, by one call. Where one is refused, those before it stay. Tells the number of the last edit.
+    pub fn extend_from_slice(&mut self, values: &[i64]) -> Result<u64, Stopped> {
+        match self.raw.push_many(values) {
+            (edit, _, None) => Ok(edit),
+            (_, pushed, Some(refusal)) => Err(Stopped { pushed, refusal }),
+        }
+    }
+
+    /// Drops the last element. Refused with `Worn`, `Empty`, `NoMemory`, in this order.
+    pub fn pop(&mut self) -> Result<Popped, Refusal> {
+        self.raw.pop().map(|did| Popped { edit: did.edit, value: did.value })
+    }
+
+    /// Overwrites an element. Refused with `Worn`, `NotKept`, `NoMemory`, in this order.
+    pub fn write(&mut self, index: u64, value: i64) -> Result<Written, Refusal> {
+        self.raw.write(index, value).map(|did| Written { edit: did.edit, before: did.value })
+    }
+
+    /// Exchanges the elements under two indices, which may be one. Refused with `Worn`, `NotKept`, `NoMemory`, in this order.
+    pub fn swap(&mut self, first: u64, second: u64) -> Result<Swapped, Refusal> {
+        self.raw.swap(first, second).map(|did| Swapped { edit: did.edit, first: did.value })
+    }
+
+    /// Drops the elements from an index on, which is [`size`](Series::size) then. Refused with `Worn`, `NotKept`, `NoMemory`, in this order.
+    pub fn truncate(&mut self, size: u64) -> Result<Dropped, Refusal> {
+        self.raw.truncate(size).map(|did| Dropped { edit: did.edit, dropped: did.place })
+    }
+
+    /// Drops the elements before an index, which is [`first`](Series::first) then. The others keep their indices. It takes no memory, and
+    /// that of whole shards comes back. Refused with `Worn`, `NotKept`, in this order.
+    pub fn expire(&mut self, index: u64) -> Result<Dropped, Refusal> {
+        self.raw.expire(index).map(|did| Dropped { edit: did.edit, dropped: did.place })
+    }
+
+    /// The element under an index. Refused with `NotKept` alone.
+    pub fn get(&self, index: u64) -> Result<i64, Refusal> {
+        self.raw.get(index)
+    }
+
+    /// The index of the first element that is kept; where none is, that of the next that is pushed.
+    pub fn first(&self) -> u64 {
+        self.raw.first()
+    }
+
+    /// The index behind the last element.
+    pub fn size(&self) -> u64 {
+        self.raw.size()
+    }
+
+    /// How many elements are kept.
+    pub fn len(&self) -> u64 {
+        self.size() - self.first()
+    }
+
+    /// Whether no element is kept.
+    pub fn is_empty(&self) -> bool {
+        self.len() == 0
+    }
+
+    /// The number of the last edit, which is how many were accepted.
+    pub fn edits(&self) -> u64 {
+        self.raw.edits()
+    }
+
+    /// All six values of a range. Takes no memory, and keeps nothing. Refused with `BadRange`, `NotKept`, in this order.
+    pub fn reduce(&self, range: impl RangeBounds<u64>) -> Result<Reduced, Refusal> {
+        let (lo, hi) = self.ends(&range);
+        self.raw.reduce(lo, hi).map(Reduced::of)
+    }
+
+    /// The same, keeping what is computed for it in the shards at the ends of the range: until one of them changes, it costs little to ask
+    /// again.
+    pub fn ask(&self, range: impl RangeBounds<u64>) -> Result<Reduced, Refusal> {
+        let (lo, hi) = self.ends(&range);
+        self.raw.ask(lo, hi).map(Reduced::of)
+    }
+
+    /// The sum, which wraps where it does not fit an `i64`. Keeps what it computes and is refused as [`ask`](Series::ask), as the next three.
+    pub fn sum(&self, range: impl RangeBounds<u64>) -> Result<i64, Refusal> {
+        Ok(self.ask(range)?.values.sum)
+    }
+
+    /// The least element; none of an empty range.
+    pub fn least(&self, range: impl RangeBounds<u64>) -> Result<Option<i64>, Refusal> {
+        Ok(self.ask(range)?.values.least)
+    }
+
+    /// The greatest element; none of an empty range.
+    pub fn greatest(&self, range: impl RangeBounds<u64>) -> Result<Option<i64>, Refusal> {
+        Ok(self.ask(range)?.values.greatest)
+    }
+
+    /// The greatest total of one or more neighbours, which is exact; none of an empty range.
+    pub fn best(&self, range: impl RangeBounds<u64>) -> Result<Option<i128>, Refusal> {
+        Ok(self.ask(range)?.values.best)
+    }
+
+    /// Puts the elements of a range into a buffer, from its start on, as many as it takes; the rest of the buffer stays. Tells how many they
+    /// are: the next piece starts behind them. Refused with `BadRange`, `NotKept`, in this order, and the buffer is as it was.
+    ///
+    /// ```
+    /// # fn main() -> Result<(), livevec::Refusal> {
+    /// let mut readings = livevec::Series::new()?;
+    /// readings.extend_from_slice(&[20, 22, 19, 25, 24])?;
+    /// let (mut lo, mut piece, mut all) = (readings.first(), [0; 2], Vec::<i64>::new());
+    /// while lo < readings.size() {
+    ///     let many = readings.read_into(lo.., &mut piece)?;
+    ///     all.extend(&piece[..many]);
+    ///     lo += many as u64;
+    /// }
+    /// assert_eq!(all, [20, 22, 19, 25, 24]);
+    /// # Ok(())
+    /// # }
+    /// ```
+    pub fn read_into(&self, range: impl RangeBounds<u64>, buffer: &mut [i64]) -> Result<usize, Refusal> {
+        let (lo, hi) = self.ends(&range);
+        self.raw.read(lo, hi, buffer).map(|did| did.length as usize)
+    }
+
+    /// A copy of the elements of a range. Refused as [`read_into`](Series::read_into), then with `NoMemory`.
+    pub fn to_vec(&self, range: impl RangeBounds<u64>) -> Result<Vec<i64>, Refusal> {
+        let (lo, hi) = self.ends(&range);
+        self.raw.read(lo, hi, &mut [])?;
+        let length = (hi - lo) as usize;
+        let mut elements = raw::roomy(length)?;
+        elements.resize(length, 0);
+        self.raw.read(lo, hi, &mut elements)?;
+        Ok(elements)
+    }
+
+    /// The values of the elements from the range's start up to each of them, that one included. It is computed a piece at a time, as it is
+    /// taken, and the series can't be edited meanwhile. Refused with `BadRange`, `NotKept`, in this order.
+    ///
+    /// ```
+    /// # fn main() -> Result<(), livevec::Refusal> {
+    /// let mut readings = livevec::Series::new()?;
+    /// readings.extend_from_slice(&[20, 22, 19])?;
+    /// assert_eq!(readings.scan_inclusive(..)?.map(|values| values.sum).collect::<Vec<_>>(), [20, 42, 61]);
+    /// assert_eq!(readings.scan_exclusive(1..)?.map(|values| values.sum).collect::<Vec<_>>(), [0, 22]);
+    /// # Ok(())
+    /// # }
+    /// ```
+    pub fn scan_inclusive(&self, range: impl RangeBounds<u64>) -> Result<Running<'_>, Refusal> {
+        self.running(true, range)
+    }
+
+    /// The same, that one excluded.
+    pub fn scan_exclusive(&self, range: impl RangeBounds<u64>) -> Result<Running<'_>, Refusal> {
+        self.running(false, range)
+    }
+
+    fn running(&self, inclusive: bool, range: impl RangeBounds<u64>) -> Result<Running<'_>, Refusal> {
+        let (lo, hi) = self.ends(&range);
+        self.raw.scan(inclusive, lo, lo, hi, &mut [])?;
+        Ok(Running { series: self, inclusive, lo, at: lo, hi, room: [NONE; AT_ONCE], given: 0, filled: 0 })
+    }
+
+    /// What a range starts and ends with. An index that is past all that there can be is refused as any that isn't kept.
+    fn ends(&self, range: &impl RangeBounds<u64>) -> (u64, u64) {
+        let lo = match range.start_bound() {
+            Bound::Included(lo) => *lo,
+            Bound::Excluded(before) => before.saturating_add(1),
+            Bound::Unbounded => self.first(),
+        };
+        let hi = match range.end_bound() {
+            Bound::Included(last) => last.saturating_add(1),
+            Bound::Excluded(hi) => *hi,
+            Bound::Unbounded => self.size(),
+        };
+        (lo, hi)
+    }
+}
+
+impl fmt::Debug for Series {
+    fn fmt(&self, f: &mut fmt::Formatter<'_>) -> fmt::Result {
+        f.debug_struct("Series")
+            .field("first", &self.first())
+            .field("size", &self.size())
+            .field("edits", &self.edits())
+            .finish_non_exhaustive()
+    }
+}
+
+impl Reduced {
+    fn of(raw: raw::series::Reduced) -> Reduced {
+        Reduced { edit: raw.edit, values: Values::of_raw(raw.values) }
+    }
+}
+
+// So many running values are computed by one call.
+const AT_ONCE: usize = 256;
+
+const NONE: SixValues =
+    SixValues { sum: 0, least: 0, greatest: 0, best_low: 0, best_high: 0, affine_a: 0, affine_b: 0, automaton: [0; 8], any: false };
+
+/// The running values of a range of a [`Series`], which can't be edited meanwhile.
+pub struct Running<'a> {
+    series: &'a Series,
+    inclusive: bool,
+    lo: u64,
+    // what is still to be given: that of `room` from `given` on up to `filled`, then those that end at `at` and behind it
+    at: u64,
+    hi: u64,
+    room: [SixValues; AT_ONCE],
+    given: usize,
+    filled: usize,
+}
+
+impl Running<'_> {
+    fn fill(&mut self) {
+        let did = self.series.raw.scan(self.inclusive, self.lo, self.at, self.hi, &mut self.room);
+        self.filled = did.expect("the range is kept").length as usize;
+        self.given = 0;
+        self.at += self.filled as u64;
+    }
+}
+
+impl Iterator for Running<'_> {
+    type Item = Values;
+
+    fn next(&mut self) -> Option<Values> {
+        if self.given == self.filled {
+            if self.at == self.hi {
+                return None;
+            }
+            self.fill();
+        }
+        let values = self.room[self.given];
+        self.given += 1;
+        Some(Values::of_raw(values))
+    }
+
+    fn size_hint(&self) -> (usize, Option<usize>) {
+        let left = self.filled - self.given + (self.hi - self.at) as usize;
+        (left, Some(left))
+    }
+}
+
+impl ExactSizeIterator for Running<'_> {}
+impl FusedIterator for Running<'_> {}
+
+impl fmt::Debug for Running<'_> {
+    fn fmt(&self, f: &mut fmt::Formatter<'_>) -> fmt::Result {
+        f.debug_struct("Running").field("len", &self.len()).finish_non_exhaustive()
+    }
+}
