@@ -50,6 +50,7 @@ __all__ = [
     "Refusal", "Worn", "Empty", "OutOfRange", "TooLarge", "Full", "NoMemory", "BadRange", "BadLimits", "BadTable", "Stranger", "Closed",
     "ShortBuffer", "TooWide", "Outrun", "Contended", "Overtaken", "NoSeat", "SeatsOut", "Busy", "OtherVersion", "Damaged", "OtherTable", "TooLong",
     "BadKind",
+    "Series", "LongReduced", "NotKept",
     "MOST_BUCKETS", "MOST_EDITS", "MOST_BOARD_BUCKETS", "MOST_SEATS", "SUMMARY_BYTES",
 ]
 
@@ -1856,3 +1857,8 @@ def _given(lo: Optional[int], hi: Optional[int], holder: Vector) -> tuple[int, i
         return 1, 0
     except OutOfRange:
         return 0, _MOST_U32
+
+
+# --- The series: it stands in a module of its own, which needs what stands above ---
+
+from livevec._series import LongReduced, NotKept, Series  # noqa: E402

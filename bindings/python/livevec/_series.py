@@ -1,0 +1,366 @@
+"""The series: a vector that goes on. The package's `Series`, `LongReduced` and `NotKept` stand here."""
+from __future__ import annotations
+
+import ctypes
+import operator
+from array import array
+from typing import TYPE_CHECKING, Any, Callable, Iterable, Iterator, NamedTuple, Optional, TypeVar, Union
+
+from livevec import (
+    BadRange, Busy, Closed, Refusal, Scan, Values, _address, _as_buffer, _as_i64, _call, _Handle, _i64, _is_masked, _is_plain, _pointer, _refuse,
+    _released, _size, _Slot, _u32, _Values, _values_of,
+)
+
+if TYPE_CHECKING:
+    from _typeshed import WriteableBuffer
+
+    from livevec import _NumpyArray
+
+_u64, _MOST_U64 = ctypes.c_uint64, (1 << 64) - 1
+# so many elements are read at once where they are gone through
+_AT_ONCE = 1024
+
+
+class NotKept(Refusal, IndexError):
+    """An index of a series, or an end of a range, isn't kept: those from `first` up to `size` are. Its number is that of OutOfRange."""
+
+    number = 3
+
+    def __init__(self, first: int = 0, size: int = 0) -> None:
+        super().__init__()
+        self.args = (f"out of range: kept are the indices from {first} up to {size}",)
+        self.first = first
+        self.size = size
+
+    def __reduce__(self) -> tuple[Any, ...]:
+        return type(self), (self.first, self.size)
+
+
+class LongReduced(NamedTuple):
+    """The answer of a reduction of a series: the values of the range after the edit."""
+
+    edit: int
+    values: Values
+
+
+class _SeriesSlot(_Slot):
+    pass
+
+
+class _SeriesEdited(ctypes.Structure):
+    refusal: int
+    first: int
+    size: int
+    edit: int
+    place: int
+    value: int
+    _fields_ = [("refusal", _u32), ("first", _u64), ("size", _u64), ("edit", _u64), ("place", _u64), ("value", _i64)]
+
+
+class _SeriesPushed(ctypes.Structure):
+    refusal: int
+    edit: int
+    pushed: int
+    _fields_ = [("refusal", _u32), ("edit", _u64), ("pushed", _u64)]
+
+
+class _SeriesElement(ctypes.Structure):
+    refusal: int
+    first: int
+    size: int
+    value: int
+    _fields_ = [("refusal", _u32), ("first", _u64), ("size", _u64), ("value", _i64)]
+
+
+class _SeriesCount(ctypes.Structure):
+    refusal: int
+    value: int
+    _fields_ = [("refusal", _u32), ("value", _u64)]
+
+
+class _SeriesReduced(ctypes.Structure):
+    refusal: int
+    first: int
+    size: int
+    edit: int
+    values: _Values
+    _fields_ = [("refusal", _u32), ("first", _u64), ("size", _u64), ("edit", _u64), ("values", _Values)]
+
+
+class _SeriesScanned(ctypes.Structure):
+    refusal: int
+    first: int
+    size: int
+    edit: int
+    length: int
+    _fields_ = [("refusal", _u32), ("first", _u64), ("size", _u64), ("edit", _u64), ("length", _u64)]
+
+
+_slot = ctypes.POINTER(_SeriesSlot)
+_new = _call("livevec_series_new", _u32, _slot)
+_free = _call("livevec_free_series", _u32, _slot)
+_push = _call("livevec_series_push", _SeriesEdited, _slot, _i64)
+_push_many = _call("livevec_series_push_many", _SeriesPushed, _slot, _pointer, _size)
+_pop = _call("livevec_series_pop", _SeriesEdited, _slot)
+_write = _call("livevec_series_write", _SeriesEdited, _slot, _u64, _i64)
+_swap = _call("livevec_series_swap", _SeriesEdited, _slot, _u64, _u64)
+_truncate = _call("livevec_series_truncate", _SeriesEdited, _slot, _u64)
+_expire = _call("livevec_series_expire", _SeriesEdited, _slot, _u64)
+_get = _call("livevec_series_get", _SeriesElement, _slot, _u64)
+_first = _call("livevec_series_first", _SeriesCount, _slot)
+_count_size = _call("livevec_series_size", _SeriesCount, _slot)
+_edits = _call("livevec_series_edits", _SeriesCount, _slot)
+_reduce = _call("livevec_series_reduce", _SeriesReduced, _slot, _u64, _u64)
+_ask = _call("livevec_series_ask", _SeriesReduced, _slot, _u64, _u64)
+_read = _call("livevec_series_read", _SeriesScanned, _slot, _u64, _u64, _pointer, _size)
+_scan_inclusive = _call("livevec_series_scan_inclusive", _SeriesScanned, _slot, _u64, _u64, _u64, _pointer, _size, by=_released)
+_scan_exclusive = _call("livevec_series_scan_exclusive", _SeriesScanned, _slot, _u64, _u64, _u64, _pointer, _size, by=_released)
+
+_SomeSeries = TypeVar("_SomeSeries", bound="Series")
+_Told = TypeVar("_Told", _SeriesEdited, _SeriesElement, _SeriesReduced, _SeriesScanned)
+
+
+def _kept(told: _Told) -> _Told:
+    """An answer that was not refused."""
+    if told.refusal == NotKept.number:
+        raise NotKept(told.first, told.size)
+    if told.refusal:
+        raise _refuse(told.refusal)
+    return told
+
+
+def _counted(told: _SeriesCount) -> int:
+    if told.refusal:
+        raise _refuse(told.refusal)
+    return told.value
+
+
+class Series(_Handle):
+    """A vector that goes on: its elements and edits are bounded by memory alone, and elements at its front may expire.
+
+    Indices count from the first element that was ever pushed, and an element keeps its index for as long as it is kept: kept are those from `first`
+    up to `size`. Elements lie in shards of 32,760, and the memory of whole shards comes back once all of their elements have expired. Of what isn't
+    kept NotKept is raised, which tells `first` and `size`.
+
+    Edits are `push` (or `append`), `pop`, `write` (or `s[i] = x`), `swap`, `truncate`, `expire` and `extend` (or `+=`); each has a number, 1, 2, 3
+    and so on, and `edits` is the last one. `len(s)` is how many elements are kept, and `for x in s` goes through them. Ranges are `lo` up to `hi`,
+    without `hi`; where no `lo` is given they start at `first`, and where no `hi` is given they go up to `size`. No index counts from the end. An answer
+    equals the plain left fold of the range after the last edit, by all six kinds.
+
+    `elements` are pushed at the start. Raises NoMemory. The memory is given back by `close`, at the end of a `with`, or with the object. Threads are
+    as with a `Vector`; scans release the interpreter's lock.
+    """
+
+    __slots__ = ("_changes",)
+    _made_of = _SeriesSlot
+
+    def __init__(self, elements: Iterable[int] = ()) -> None:
+        self._changes = 0
+        refusal = _new(self._at)
+        if refusal:
+            raise _refuse(refusal)
+        self.extend(elements)
+
+    # Edits.
+
+    def push(self, value: int) -> int:
+        """Puts an element at the end, and gives its index. Raises Worn, Full, NoMemory; OverflowError where it does not fit 64 bits."""
+        return self._edited(_push(self._at, _as_i64(value))).place
+
+    def append(self, value: int) -> None:
+        """As `push`, and gives nothing."""
+        self.push(value)
+
+    def extend(self, values: Iterable[int]) -> None:
+        """Pushes each element in order, by one call of C. What is given, and how it is read, is as `Vector.extend` says.
+
+        Raises NoMemory at the element that is refused: its `pushed` says how many were taken, and these stay.
+        """
+        buffer = _as_buffer(values)
+        length = len(buffer)
+        did = _push_many(self._at, ctypes.byref(_address(buffer)) if length else None, length)
+        self._changes += did.pushed
+        if did.refusal:
+            raise _refuse(did.refusal, 0, did.pushed)
+
+    def __iadd__(self: _SomeSeries, values: Iterable[int]) -> _SomeSeries:
+        self.extend(values)
+        return self
+
+    def pop(self) -> int:
+        """Drops the last element, and gives it. Raises Worn, Empty, NoMemory."""
+        return self._edited(_pop(self._at)).value
+
+    def write(self, index: int, value: int) -> int:
+        """Overwrites an element, and gives the one before. Raises Worn, NotKept, NoMemory."""
+        return self._edited(_write(self._at, self._index(index), _as_i64(value))).value
+
+    def __setitem__(self, index: int, value: int) -> None:
+        self.write(index, value)
+
+    def swap(self, first: int, second: int) -> int:
+        """Exchanges the elements under two indices, and gives the one under the first now. Raises Worn, NotKept, NoMemory."""
+        return self._edited(_swap(self._at, self._index(first), self._index(second))).value
+
+    def truncate(self, size: int) -> int:
+        """Drops the elements from an index on, which is `size` then, and gives how many they were. Raises Worn, NotKept, NoMemory."""
+        return self._edited(_truncate(self._at, self._index(size))).place
+
+    def expire(self, index: int) -> int:
+        """Drops the elements before an index, which is `first` then, and gives how many they were. The others keep their indices. It takes no
+        memory, and that of whole shards comes back. Raises Worn, NotKept."""
+        return self._edited(_expire(self._at, self._index(index))).place
+
+    # Elements and counts.
+
+    @property
+    def first(self) -> int:
+        """The index of the first element that is kept; where none is, that of the next that is pushed."""
+        return _counted(_first(self._at))
+
+    @property
+    def size(self) -> int:
+        """The index behind the last element."""
+        return _counted(_count_size(self._at))
+
+    @property
+    def edits(self) -> int:
+        """The number of the last edit, which is how many were accepted."""
+        return _counted(_edits(self._at))
+
+    def __len__(self) -> int:
+        return self.size - self.first
+
+    def __getitem__(self, index: int) -> int:
+        return _kept(_get(self._at, self._index(index))).value
+
+    def to_array(self, lo: Optional[int] = None, hi: Optional[int] = None) -> array[int]:
+        """The elements of a range as an `array.array('q')`. Raises BadRange, NotKept."""
+        lo, hi = self._range(lo, hi)
+        read = array("q", bytes(8 * self._room(lo, hi)))
+        self.read_into(read, lo, hi)
+        return read
+
+    def read_into(self, buffer: Union[WriteableBuffer, _NumpyArray], lo: Optional[int] = None, hi: Optional[int] = None) -> int:
+        """Fills a buffer with the elements of a range, from its start on, as many as it takes, and gives how many they are: the next piece starts
+        behind them. The buffer is as `Vector.read_into` wants it. Raises BadRange, NotKept."""
+        view = memoryview(buffer)  # type: ignore[arg-type]
+        if _is_masked(buffer) or not _is_plain(view) or view.readonly or not view.c_contiguous:
+            raise TypeError("elements are read into a buffer of 64-bit numbers with a sign, side by side, that may be written to")
+        lo, hi = self._range(lo, hi)
+        return _kept(_read(self._at, lo, hi, ctypes.byref(_address(view)) if len(view) else None, len(view))).length
+
+    def __iter__(self) -> Iterator[int]:
+        """The elements in order. Raises RuntimeError where the series is edited meanwhile."""
+        changes, size = self._changes, self.size
+        for lo in range(self.first, size, _AT_ONCE):
+            if self._changes != changes:
+                break
+            for value in self.to_array(lo, min(lo + _AT_ONCE, size)):
+                if self._changes != changes:
+                    break
+                yield value
+        if self._changes != changes:
+            raise RuntimeError("the series was edited while its elements were gone through")
+
+    def __repr__(self) -> str:
+        try:
+            return f"<livevec.Series of {self.first} to {self.size} at edit {self.edits}>"
+        except (Closed, Busy) as refusal:
+            return f"<livevec.Series, {type(refusal).__name__.lower()}>"
+
+    # Reductions and scans.
+
+    def reduce(self, lo: Optional[int] = None, hi: Optional[int] = None) -> LongReduced:
+        """All six values of a range. It keeps nothing. Raises BadRange, NotKept."""
+        return self._reduced(_reduce, lo, hi)
+
+    def ask(self, lo: Optional[int] = None, hi: Optional[int] = None) -> LongReduced:
+        """The same, keeping what is computed in the shards at the range's ends: until one of them changes it costs little to ask again."""
+        return self._reduced(_ask, lo, hi)
+
+    def sum(self, lo: Optional[int] = None, hi: Optional[int] = None) -> int:
+        """The sum, as `Values` has it. Keeps what it computes as `ask` does, as do the next three."""
+        return self.ask(lo, hi).values.sum
+
+    def least(self, lo: Optional[int] = None, hi: Optional[int] = None) -> Optional[int]:
+        """The least element; None of nothing."""
+        return self.ask(lo, hi).values.least
+
+    def greatest(self, lo: Optional[int] = None, hi: Optional[int] = None) -> Optional[int]:
+        """The greatest element; None of nothing."""
+        return self.ask(lo, hi).values.greatest
+
+    def best(self, lo: Optional[int] = None, hi: Optional[int] = None) -> Optional[int]:
+        """The greatest total of one or more neighbours, which is exact; None of nothing."""
+        return self.ask(lo, hi).values.best
+
+    def scan_inclusive(self, lo: Optional[int] = None, hi: Optional[int] = None, *, at: Optional[int] = None, most: Optional[int] = None) -> Scan:
+        """The values of the elements from the range's start up to each of them, that one included.
+
+        In pieces: `at` is where the piece starts, `most` how many values it has at most. So `s.scan_inclusive(lo, hi, at=lo, most=1000)` is the
+        first piece, and the next one starts at `lo + len(piece)`. A piece costs a reduction of what lies before it, and one step for each
+        value. Raises BadRange, NotKept.
+        """
+        return self._scan(_scan_inclusive, lo, hi, at, most)
+
+    def scan_exclusive(self, lo: Optional[int] = None, hi: Optional[int] = None, *, at: Optional[int] = None, most: Optional[int] = None) -> Scan:
+        """The same, that one excluded."""
+        return self._scan(_scan_exclusive, lo, hi, at, most)
+
+    # The end.
+
+    def close(self) -> None:
+        """Gives the memory back. Every later call raises Closed; to close again does nothing. Raises Busy beside a call of another thread."""
+        if _free(self._at) == Busy.number:
+            raise _refuse(Busy.number)
+
+    def __enter__(self: _SomeSeries) -> _SomeSeries:
+        return self
+
+    def __exit__(self, *_: object) -> None:
+        self.close()
+
+    def __del__(self, _free: Callable[..., int] = _free) -> None:
+        _free(self._at)
+
+    # Within.
+
+    def _edited(self, told: _SeriesEdited) -> _SeriesEdited:
+        _kept(told)
+        self._changes += 1
+        return told
+
+    def _index(self, index: int) -> int:
+        """An index as C is given it: what no index is, as a negative one, is given as one that is never kept."""
+        index = operator.index(index)
+        return index if 0 <= index <= _MOST_U64 else _MOST_U64
+
+    def _range(self, lo: Optional[int], hi: Optional[int]) -> tuple[int, int]:
+        start, end = self.first if lo is None else operator.index(lo), self.size if hi is None else operator.index(hi)
+        if end < start:
+            raise BadRange()
+        if start < 0 or end > _MOST_U64:
+            raise NotKept(self.first, self.size)
+        return start, end
+
+    def _room(self, lo: int, hi: int) -> int:
+        """How long a buffer C is given: none where the range is refused."""
+        return hi - lo if self.first <= lo and hi <= self.size else 0
+
+    def _reduced(self, call: Callable[..., _SeriesReduced], lo: Optional[int], hi: Optional[int]) -> LongReduced:
+        did = _kept(call(self._at, *self._range(lo, hi)))
+        return LongReduced(did.edit, _values_of(did.values))
+
+    def _scan(self, call: Callable[..., _SeriesScanned], lo: Optional[int], hi: Optional[int], at: Optional[int], most: Optional[int]) -> Scan:
+        lo, hi = self._range(lo, hi)
+        if at is None:
+            at = lo
+        elif not lo <= operator.index(at) <= hi:
+            raise BadRange()
+        length = self._room(lo, hi) and hi - at
+        if most is not None:
+            length = min(length, max(operator.index(most), 0))
+        room = bytearray(max(length, 1) * ctypes.sizeof(_Values))
+        did = _kept(call(self._at, lo, at, hi, ctypes.byref(_address(room)), length))
+        return Scan(did.edit, room, did.length)
