@@ -1,15 +1,17 @@
--- What a series answers of a range, and one element further in a scan of it.
-use Rattle.std.proofs.Common.{◌≡◌, ℕ, ℤ, pos, ◌+◌, ◌-◌, ◌<◌, ◌≤◌, ◌^◌, ◌++◌, ◌∷◌, [], Bool, true, false, if◌then◌else◌, List, length, map, take, drop, All, refl, sym, ap, subst, ◌∙◌, arith}
+-- What a series answers of a range, and one element further in a piece of it.
+use Rattle.std.proofs.Common.{◌≡◌, ℕ, ℤ, pos, ◌+◌, ◌-◌, ◌<◌, ◌≤◌, ◌^◌, ◌++◌, ◌∷◌, [], Bool, true, false, if◌then◌else◌, List, length, All, refl, sym, ap, subst, ◌∙◌, arith}
 use Rattle.std.specs.Prelude.{None, Some, Result, Ok, Err}
-use Rattle.std.specs.List.{range_with_len, slice_range}
+use Rattle.std.specs.List.{slice_range}
 use Rattle.std.proofs.lemmas.Bool.{le-leb, lt-ltb}
 use Rattle.std.proofs.lemmas.List.{get_or_default}
+use Rattle.std.proofs.lemmas.List.Elements.{All-drop, All-take}
 use Rattle.lv_geometry.specs.Elements.{IsElement}
 use Rattle.lv_bodies.specs.Automata.{table_of}
-use Rattle.lv_bodies.specs.Body.{fold_of}
-use Rattle.lv_bodies.specs.Long.{CanJoinLong}
-use Rattle.lv_bodies.specs.LongLaws.{six_long_by}
+use Rattle.lv_bodies.specs.Body.{Operations, fold_of}
+use Rattle.lv_bodies.specs.Long.{CanFoldLong, CanJoinLong, LongLaws}
+use Rattle.lv_bodies.specs.LongLaws.{fold_of-within_long, six_long_by}
 use Rattle.lv_bodies.specs.Six.{SixSummary, six_operations_by, six_within}
+use Rattle.lv_edits.proofs.Slices.{length-slice_range, slice_range-more}
 use Rattle.lv_reduce.proofs.ScanLaws.{fold_of-slice-more}
 use Rattle.lv_series.specs.Series.{Held, Reduces, element_of, is_kept, range_refused, size_of, slice_of}
 use Rattle.lv_series.specs.declared.answers.LongAnswer.{LongAnswer}
@@ -19,6 +21,7 @@ use Rattle.livevec_c.specs.Answers.{spread}
 use Rattle.livevec_c.specs.Cells.{values_cell}
 use Rattle.livevec_c.specs.SeriesAnswers.{granted, long_reduced, long_valued}
 use Rattle.livevec_c.specs.SeriesBehind.{Long, values_of}
+use Rattle.livevec_c.specs.SeriesPieces.{value_up_to}
 use Rattle.livevec_c.proofs.SeriesPlain.{fold-plain}
 
 -- a reduction's answer has the plain values of its range
@@ -30,3 +33,60 @@ values_answered s lo hi (Ok answer) reduces =
     ∙ ap (λ v. record { why = granted; edit = s.edits; values = v }) (ap spread reduces.value ∙ fold-plain table xs)
     ∙ ap (λ r. long_valued r s.edits (values_cell table xs)) (sym reduces.granted)
 values_answered s lo hi (Err refusal) reduces = ap (λ r. long_valued r s.edits (values_cell (table_of s.body.automaton) (slice_of s.held lo hi))) (sym reduces)
+
+-- an index of a range that is kept is kept
+module _ (h : Held) (at more k : ℕ) (rest : range_refused h at (at + more) ≡ None) (small : k < more) where
+  pub kept_at : is_kept h (at + k) ≡ true
+  kept_at =
+      let within = free_range h at (at + more) rest in
+      let first = le-leb h.first (at + k) (omega (arith, within)) in
+      let below = lt-ltb (at + k) (size_of h) (omega (arith, within, small)) in
+      rw (first, below) refl
+
+  inside : at + k - h.first < length h.elements
+  inside = omega (arith, free_range h at (at + more) rest, small)
+
+  next_index : at + k - h.first + 1 ≡ at + (k + 1) - h.first
+  next_index = omega (arith, free_range h at (at + more) rest)
+
+  -- a range that starts before it, and one that ends behind it
+  pub slice_next : (lo : ℕ) (x : ℤ) → lo ≤ at → x ≡ element_of h (at + k) → slice_of h lo (at + (k + 1)) ≡ slice_of h lo (at + k) ++ x ∷ []
+  slice_next lo x before is =
+      let start = lo - h.first in
+      let order : start ≤ at + k - h.first = omega (arith, before) in
+      ap (slice_range h.elements start) (sym next_index)
+      ∙ slice_range-more h.elements start (at + k - h.first) x order inside (is ∙ get_or_default h.elements (at + k - h.first) (pos 0) x inside)
+
+  module _ (o : Operations SixSummary) (lo : ℕ) (front : range_refused h lo at ≡ None) where
+    -- the fold of one element more
+    pub fold_next : (x : ℤ) (before after : SixSummary) → x ≡ element_of h (at + k) → before ≡ fold_of o (slice_of h lo (at + k)) → after ≡ o.join before (o.lift x) → after ≡ fold_of o (slice_of h lo (at + (k + 1)))
+    fold_next x before after is so_far joined =
+        let within = free_range h lo at front in
+        let order : lo - h.first ≤ at + k - h.first = omega (arith, within) in
+        subst (λ n. after ≡ fold_of o (slice_range h.elements (lo - h.first) n)) next_index
+        (fold_of-slice-more o h.elements (lo - h.first) (at + k - h.first) x order inside (is ∙ get_or_default h.elements (at + k - h.first) (pos 0) x inside) before after x refl so_far joined)
+
+    -- which may be joined
+    pub can_join : LongLaws o six_within → (x : ℤ) (before : SixSummary) → IsElement x → All IsElement h.elements → size_of h ≤ 2 ^ 62 → before ≡ fold_of o (slice_of h lo (at + k)) → CanJoinLong six_within before (o.lift x)
+    can_join laws x before element all most so_far =
+        let within = free_range h lo at front in
+        let xs = slice_of h lo (at + k) in
+        let long : length xs ≡ at + k - h.first - (lo - h.first) = length-slice_range h.elements (lo - h.first) (at + k - h.first) (omega (arith, within)) (omega (arith, inside)) in
+        let few : length xs + 1 ≤ 2 ^ 62 = omega (arith, long, inside, most) in
+        let can : CanFoldLong xs = record { few = omega (arith, few); elements = All-take IsElement (at + k - h.first - (lo - h.first)) _ (All-drop IsElement (lo - h.first) h.elements all) } in
+        record {
+          left = length xs;
+          right = 1;
+          left_within = subst (λ u. six_within u (length xs)) (sym so_far) (fold_of-within_long o six_within laws xs can);
+          right_within = laws.lift_within x element;
+          few = few;
+        }
+
+-- the value at its place, the next element included or excluded
+pub value_here : (s : Long) (lo at k : ℕ) (inclusive : Bool) (before after value : SixSummary) → let o = six_operations_by (table_of s.body.automaton) in before ≡ fold_of o (slice_of s.held lo (at + k)) → after ≡ fold_of o (slice_of s.held lo (at + (k + 1)))
+    → value ≡ (if inclusive then after else before) → spread value ≡ value_up_to inclusive lo at s k
+value_here s lo at k true before after value so_far next is =
+    let table = table_of s.body.automaton in
+    let place : at + (k + 1) ≡ at + k + 1 = omega arith in
+    ap spread (is ∙ next) ∙ fold-plain table (slice_of s.held lo (at + (k + 1))) ∙ ap (λ n. values_cell table (slice_of s.held lo n)) place
+value_here s lo at k false before after value so_far next is = ap spread (is ∙ so_far) ∙ fold-plain (table_of s.body.automaton) (slice_of s.held lo (at + k))

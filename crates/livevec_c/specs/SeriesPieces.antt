@@ -12,17 +12,17 @@ use Rattle.livevec_c.specs.Cells.{values_cell}
 use Rattle.livevec_c.specs.SeriesAnswers.{long_scanned, unheld, unscanned_by}
 use Rattle.livevec_c.specs.SeriesBehind.{Long}
 
--- what a buffer has after a call that was not refused: what was put there, and what it had behind that; else what it had
-abbrev pub put_there : {C : Type 0} → Option LongRefusal → List C → List C → List C
-put_there None put old = put ++ drop (length put) old
-put_there (Some refusal) put old = old
+-- what a buffer has after a call that was not refused: so many that were put there, and what it had behind them; else what it had
+abbrev pub put_there : {C : Type 0} → Option LongRefusal → ℕ → List C → List C → List C
+put_there None many put old = put ++ drop many old
+put_there (Some refusal) many put old = old
 
 -- the elements of a range from its start on, as many as a buffer takes
 abbrev pub elements_read : ℕ → ℕ → ℕ → Long → SeriesScanned
 elements_read lo hi places s = long_scanned (range_refused s.held lo hi) s.edits (min places (hi - lo))
 
 abbrev pub elements_put : ℕ → ℕ → List ℤ → Long → List ℤ
-elements_put lo hi old s = put_there (range_refused s.held lo hi) (slice_of s.held lo (lo + min (length old) (hi - lo))) old
+elements_put lo hi old s = put_there (range_refused s.held lo hi) (min (length old) (hi - lo)) (slice_of s.held lo (lo + min (length old) (hi - lo))) old
 
 -- why a scan of a range is refused that goes on from an index: not all before it is kept from the range's start on, or not all behind it
 abbrev pub or_else : Option LongRefusal → Option LongRefusal → Option LongRefusal
@@ -41,7 +41,7 @@ abbrev pub piece_scanned : ℕ → ℕ → ℕ → ℕ → Long → SeriesScanne
 piece_scanned lo at hi places s = long_scanned (piece_refused lo at hi s) s.edits (min places (hi - at))
 
 abbrev pub piece_put : Bool → ℕ → ℕ → ℕ → List PlainValues → Long → List PlainValues
-piece_put inclusive lo at hi old s = put_there (piece_refused lo at hi s) (map (value_up_to inclusive lo at s) (range_with_len 0 (min (length old) (hi - at)))) old
+piece_put inclusive lo at hi old s = put_there (piece_refused lo at hi s) (min (length old) (hi - at)) (map (value_up_to inclusive lo at s) (range_with_len 0 (min (length old) (hi - at)))) old
 
 -- of an object: of a series only
 abbrev pub object_read : ℕ → ℕ → ℕ → Object → SeriesScanned

@@ -1,12 +1,13 @@
 //! Elements and running values of a series, put into a buffer of the caller's, as many as it takes.
-ghost use Rattle.std.specs.Prelude.{◌≡◌, ◌+◌, ◌-◌, ◌≤◌, ◌<◌, ◌^◌, None, true, length, map};
+ghost use Rattle.std.specs.Prelude.{◌≡◌, ◌+◌, ◌++◌, ◌≤◌, None, true, drop, length, map};
 ghost use Rattle.std.specs.List.{range_with_len};
 ghost use Rattle.lv_bodies.specs.Automata.{table_of};
 ghost use Rattle.lv_bodies.specs.Body.{fold_of};
 ghost use Rattle.lv_bodies.specs.Long.{CanJoinLong};
 ghost use Rattle.lv_bodies.specs.Six.{six_operations_by, six_within};
-ghost use Rattle.lv_series.specs.Series.{element_of, is_kept, range_refused, size_of, slice_of};
-ghost use Rattle.livevec_c.specs.SeriesPieces.{column_behind, elements_behind, elements_put, elements_read, object_elements, object_read, object_scanned, object_values, piece_put, piece_scanned, read_behind, scanned_behind, value_up_to};
+ghost use Rattle.lv_series.specs.Series.{element_of, is_kept, range_refused, slice_of};
+ghost use Rattle.livevec_c.specs.SeriesAnswers.{granted};
+ghost use Rattle.livevec_c.specs.SeriesPieces.{column_behind, elements_behind, elements_put, elements_read, object_elements, object_read, object_scanned, object_values, piece_put, piece_refused, piece_scanned, read_behind, scanned_behind, value_up_to};
 
 use crate::objects::Object;
 use crate::results::{PlainValues, plain_values};
@@ -52,11 +53,18 @@ fn lay_elements(series: &Series<SixByTable>, lo: u64, buffer: &mut [i64])
     }
 }
 
+// The same into the front of a buffer, which keeps what it has behind.
+fn front_elements(series: &Series<SixByTable>, lo: u64, many: usize, buffer: &mut [i64])
+    requires kept { range_refused series.now.held lo (lo + many) ≡ None }
+    requires room { many ≤ length buffer.old }
+    ensures { buffer.new ≡ slice_of series.now.held lo (lo + many) ++ drop many buffer.old }
+{
+    lay_elements(series, lo, &mut buffer[..many]);
+}
+
 // What a piece that was put answers.
 fn piece_answer(series: &Series<SixByTable>, many: usize) -> SeriesScanned
-    ensures why { result.why ≡ record { refusal = 0; first = 0; size = 0 } }
-    ensures edit { result.edit ≡ series.now.edits }
-    ensures length { result.length ≡ many }
+    ensures { result ≡ record { why = granted; edit = series.now.edits; length = many } }
 {
     SeriesScanned {
         why: not_refused(),
@@ -74,7 +82,7 @@ fn read_series(series: &Series<SixByTable>, lo: u64, hi: u64, buffer: &mut [i64]
         return not_scanned(refusal_answer(refusal));
     }
     let many = buffer.len().min((hi - lo) as usize);
-    lay_elements(series, lo, &mut buffer[..many]);
+    front_elements(series, lo, many, buffer);
     piece_answer(series, many)
 }
 
@@ -112,6 +120,17 @@ pub extern "C" fn livevec_proved_series_read(
     }
 }
 
+// The fold of the elements of a range that nothing refuses.
+fn fold_before(series: &Series<SixByTable>, lo: u64, at: u64) -> SixSummary
+    requires { range_refused series.now.held lo at ≡ None }
+    ensures { result ≡ fold_of (six_operations_by (table_of series.now.body.automaton)) (slice_of series.now.held lo at) }
+{
+    let Ok(answer) = series.reduce(lo, at) else {
+        unreachable!();
+    };
+    answer.value
+}
+
 // A fold with one more element.
 #[inline(always)]
 fn one_more(body: &SixByTable, before: SixSummary, x: i64) -> SixSummary
@@ -121,28 +140,53 @@ fn one_more(body: &SixByTable, before: SixSummary, x: i64) -> SixSummary
     body.combine_long(before, body.lift(x))
 }
 
-// Puts the running values of a range into a buffer, from an index on, one for each of its places. `before` is the fold of the elements
-// in front of that index.
+// Puts the running values of a range into a buffer, from an index on, one for each of its places.
 fn lay_values(
     series: &Series<SixByTable>,
     inclusive: bool,
+    lo: u64,
     at: u64,
-    before: SixSummary,
     buffer: &mut [PlainValues],
 )
-    ghost lo: { ℕ }
     requires front { range_refused series.now.held lo at ≡ None }
     requires rest { range_refused series.now.held at (at + length buffer.old) ≡ None }
-    requires before { before ≡ fold_of (six_operations_by (table_of series.now.body.automaton)) (slice_of series.now.held lo at) }
     ensures { buffer.new ≡ map (value_up_to inclusive lo at series.now) (range_with_len 0 (length buffer.old)) }
 {
     series.holds();
     let body = series.body();
-    let mut sum = before;
+    let mut sum = fold_before(series, lo, at);
     for k in 0..buffer.len() {
-        let sum_before = sum;
-        sum = one_more(&body, sum_before, element_at(series, at + k as u64));
-        buffer[k] = plain_values(if inclusive { sum } else { sum_before });
+        let before = sum;
+        sum = one_more(&body, before, element_at(series, at + k as u64));
+        let value = if inclusive { sum } else { before };
+        buffer[k] = plain_values(value);
+    }
+}
+
+// The same into the front of a buffer, which keeps what it has behind.
+fn front_values(
+    series: &Series<SixByTable>,
+    inclusive: bool,
+    lo: u64,
+    at: u64,
+    many: usize,
+    buffer: &mut [PlainValues],
+)
+    requires front { range_refused series.now.held lo at ≡ None }
+    requires rest { range_refused series.now.held at (at + many) ≡ None }
+    requires room { many ≤ length buffer.old }
+    ensures { buffer.new ≡ map (value_up_to inclusive lo at series.now) (range_with_len 0 many) ++ drop many buffer.old }
+{
+    lay_values(series, inclusive, lo, at, &mut buffer[..many]);
+}
+
+// Why a scan of a range that goes on from an index is refused, or none.
+fn piece_refusal(series: &Series<SixByTable>, lo: u64, at: u64, hi: u64) -> Option<LongRefusal>
+    ensures { result ≡ piece_refused lo at hi series.now }
+{
+    match range_refusal(series, lo, at) {
+        Some(refusal) => Some(refusal),
+        None => range_refusal(series, at, hi),
     }
 }
 
@@ -158,15 +202,11 @@ fn scan_series(
     ensures answer { result ≡ piece_scanned lo at hi (length buffer.old) series.now }
     ensures buffer { buffer.new ≡ piece_put inclusive lo at hi buffer.old series.now }
 {
-    let before = match series.reduce(lo, at) {
-        Err(refusal) => return not_scanned(refusal_answer(refusal)),
-        Ok(answer) => answer.value,
-    };
-    if let Some(refusal) = range_refusal(series, at, hi) {
+    if let Some(refusal) = piece_refusal(series, lo, at, hi) {
         return not_scanned(refusal_answer(refusal));
     }
     let many = buffer.len().min((hi - at) as usize);
-    lay_values(series, inclusive, at, before, &mut buffer[..many]);
+    front_values(series, inclusive, lo, at, many, buffer);
     piece_answer(series, many)
 }
 

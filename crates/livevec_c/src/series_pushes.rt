@@ -21,23 +21,27 @@ fn not_pushed() -> SeriesPushed
     }
 }
 
-// Pushes at a series, in order, until one is refused.
-fn push_each(series: &mut Series<SixByTable>, values: &[i64]) -> SeriesPushed
-    ensures { PushesSeries values.now result series.old series.new }
+// What pushes answer: with what the first was refused that was, and how many were made.
+fn pushes_answer(series: &Series<SixByTable>, refusal: u32, pushed: usize) -> SeriesPushed
+    ensures { result ≡ record { refusal = refusal; edit = series.now.edits; pushed = pushed } }
 {
-    let mut pushed = 0;
-    let mut refusal = 0;
-    while pushed < values.len() && refusal == 0 {
-        match series.push(values[pushed]) {
-            Ok(_) => pushed += 1,
-            Err(why) => refusal = why.number(),
-        }
-    }
     SeriesPushed {
         refusal,
         edit: series.edits(),
         pushed: pushed as u64,
     }
+}
+
+// Pushes at a series, in order, until one is refused.
+fn push_each(series: &mut Series<SixByTable>, values: &[i64]) -> SeriesPushed
+    ensures { PushesSeries values.now result series.old series.new }
+{
+    for k in 0..values.len() {
+        if let Err(refusal) = series.push(values[k]) {
+            return pushes_answer(series, refusal.number(), k);
+        }
+    }
+    pushes_answer(series, 0, values.len())
 }
 
 // Pushes at an object.

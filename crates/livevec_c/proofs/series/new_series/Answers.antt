@@ -1,0 +1,6 @@
+use Rattle.std.proofs.Common.{ap, ◌∙◌}
+use Rattle.livevec_c.specs.declared.objects.Object.TheVariants.{Series}
+use Rattle.livevec_c.proofs.series.new_series.Goals as goal
+
+pub returns : goal.returns
+returns c = (record { automaton = c.program.result }, c.program.ensures, c.in_ok-new.ensures.ok ∙ ap Series c.new.ensures)
