@@ -6,7 +6,7 @@ from __future__ import annotations
 from array import array
 from typing import Optional, Union
 
-from livevec import Board, Delivered, Finished, Job, Kind, Outrun, Reduced, Refusal, Scan, Seat, Summary, Values, Vector
+from livevec import Board, Delivered, Finished, Job, Kind, LongReduced, NotKept, Outrun, Reduced, Refusal, Scan, Seat, Series, Summary, Values, Vector
 
 
 class Prices(Vector):
@@ -54,6 +54,35 @@ def wrong_vectors(prices: Vector) -> None:
     prices.read_into([0])  # type: ignore[arg-type]
     prices.value(7)  # type: ignore[arg-type]
     prices.value_many("sum", [0, 1])  # type: ignore[list-item]
+
+
+def series(readings: Series) -> int:
+    index: int = readings.push(7)
+    first: int = readings[index]
+    dropped: int = readings.expire(index) + readings.truncate(index)
+    answer: LongReduced = readings.ask(readings.first, readings.size)
+    least: Optional[int] = readings.least(index)
+    every: array[int] = readings.to_array()
+    piece: Scan = readings.scan_inclusive(0, index, at=0, most=100)
+    readings += [first, dropped, *readings]
+    readings.extend(every)
+    try:
+        many: int = readings.read_into(memoryview(every), index)
+    except NotKept as refusal:
+        many = refusal.size - refusal.first
+    with Series([1, 2]) as some:
+        some[0] = many
+    print(answer.values.best, least, piece.sums())
+    return len(readings)
+
+
+def wrong_series(readings: Series) -> None:
+    readings.push("7")  # type: ignore[arg-type]
+    readings.expire(1.5)  # type: ignore[arg-type]
+    total: int = readings.greatest()  # type: ignore[assignment]
+    readings.read_into([total])  # type: ignore[arg-type]
+    Series(["7"])  # type: ignore[list-item]
+    readings.reserve(7)  # type: ignore[attr-defined]
 
 
 def summaries(prices: Vector, sent: bytes) -> Summary:

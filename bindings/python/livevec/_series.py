@@ -24,7 +24,7 @@ _AT_ONCE = 1024
 class NotKept(Refusal, IndexError):
     """An index of a series, or an end of a range, isn't kept: those from `first` up to `size` are. Its number is that of OutOfRange."""
 
-    number = 3
+    number, says = 3, "out of range"
 
     def __init__(self, first: int = 0, size: int = 0) -> None:
         super().__init__()
@@ -354,9 +354,8 @@ class Series(_Handle):
 
     def _scan(self, call: Callable[..., _SeriesScanned], lo: Optional[int], hi: Optional[int], at: Optional[int], most: Optional[int]) -> Scan:
         lo, hi = self._range(lo, hi)
-        if at is None:
-            at = lo
-        elif not lo <= operator.index(at) <= hi:
+        at = lo if at is None else operator.index(at)
+        if not lo <= at <= hi:
             raise BadRange()
         length = self._room(lo, hi) and hi - at
         if most is not None:
