@@ -1,6 +1,6 @@
 -- What a series answers of a range, and one element further in a piece of it.
-use Rattle.std.proofs.Common.{◌≡◌, ℕ, ℤ, pos, ◌+◌, ◌-◌, ◌<◌, ◌≤◌, ◌^◌, ◌++◌, ◌∷◌, [], Bool, true, false, if◌then◌else◌, List, length, All, refl, sym, ap, subst, ◌∙◌, arith}
-use Rattle.std.specs.Prelude.{None, Some, Result, Ok, Err}
+use Rattle.std.proofs.Common.{◌≡◌, ℕ, ℤ, pos, ◌+◌, ◌-◌, ◌<◌, ◌≤◌, ◌^◌, ◌++◌, ◌∷◌, [], Bool, true, false, if◌then◌else◌, length, All, refl, sym, ap, subst, ◌∙◌, arith}
+use Rattle.std.specs.Prelude.{None, Result, Ok, Err}
 use Rattle.std.specs.List.{slice_range}
 use Rattle.std.proofs.lemmas.Bool.{le-leb, lt-ltb}
 use Rattle.std.proofs.lemmas.List.{get_or_default}
@@ -9,7 +9,7 @@ use Rattle.lv_geometry.specs.Elements.{IsElement}
 use Rattle.lv_bodies.specs.Automata.{table_of}
 use Rattle.lv_bodies.specs.Body.{Operations, fold_of}
 use Rattle.lv_bodies.specs.Long.{CanFoldLong, CanJoinLong, LongLaws}
-use Rattle.lv_bodies.specs.LongLaws.{fold_of-within_long, six_long_by}
+use Rattle.lv_bodies.specs.LongLaws.{fold_of-within_long}
 use Rattle.lv_bodies.specs.Six.{SixSummary, six_operations_by, six_within}
 use Rattle.lv_edits.proofs.Slices.{length-slice_range, slice_range-more}
 use Rattle.lv_reduce.proofs.ScanLaws.{fold_of-slice-more}

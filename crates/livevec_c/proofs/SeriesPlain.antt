@@ -1,6 +1,6 @@
 -- What a series tells of a range, of however many elements, are their plain values.
 use Rattle.std.proofs.Common.{◌≡◌, ℕ, ℤ, pos, ◌+◌, ◌*◌, ◌%◌, ◌^◌, ◌<◌, ◌-ℤ◌, ◌+ℤ◌, ◌-◌, List, [], ◌∷◌, fold, ap, sym, ◌∙◌, arith}
-use Rattle.std.specs.Prelude.{option_map, unwrap_or, is_some}
+use Rattle.std.specs.Prelude.{unwrap_or, is_some}
 use Rattle.std.proofs.Math.Nat.{mod-add-mod, add-mod-mod}
 use Rattle.std.proofs.lemmas.Int.{ints}
 use Rattle.std.proofs.lemmas.Nat.{mod_below, mul-mod_first, mul-mod_second}
