@@ -39,16 +39,16 @@ class Gauge(Protocol):
 
 
 class Live:
-    """Readings and their changes in two live vectors."""
+    """The last readings and their changes in two series: what has left the window is forgotten."""
 
     def __init__(self) -> None:
-        from livevec import Vector
+        from livevec import Series
 
-        self.readings = Vector()
-        self.changes = Vector()
+        self.readings = Series()
+        self.changes = Series()
 
     def take(self, reading: int) -> None:
-        before = self.readings[-1] if self.readings else reading
+        before = self.readings[self.readings.size - 1] if self.readings else reading
         self.readings.push(reading)
         self.changes.push(reading - before)
 
@@ -57,14 +57,16 @@ class Live:
         self.readings[index] = reading
         if index > 0:
             self.changes[index] += by
-        if index + 1 < len(self.changes):
+        if index + 1 < self.changes.size:
             self.changes[index + 1] -= by
 
     def row(self) -> Row:
-        size = len(self.readings)
+        size = self.readings.size
         start = max(0, size - WINDOW)
-        total = self.readings.sum(start, size)
-        return Row(size, total / (size - start), self.readings.least(start), self.readings.greatest(start), self.changes.best(start + 1, size))
+        self.readings.expire(start)
+        self.changes.expire(start)
+        values = self.readings.ask().values
+        return Row(size, values.sum / (size - start), values.least, values.greatest, self.changes.best(start + 1))
 
 
 class Plain:
