@@ -1,6 +1,7 @@
 //! A day of telemetry: what the feeders send and what is asked, whoever keeps it.
 
 use std::fmt::Debug;
+use std::ops::Range;
 use std::sync::mpsc;
 use std::thread;
 
@@ -8,6 +9,8 @@ const SENSORS: usize = 4;
 const SAMPLES: usize = 30_000;
 const AT_ONCE: usize = 500;
 const WINDOW: usize = 2_400;
+// so many samples of a sensor are kept
+const KEPT: usize = 12_000;
 
 /// What a window of samples comes to.
 #[derive(Debug, PartialEq, Eq)]
@@ -23,11 +26,14 @@ pub trait Store: Sized {
 
     fn new(sensors: usize) -> Result<Self, Self::Error>;
     fn take(&mut self, sensor: usize, samples: &[i64]) -> Result<(), Self::Error>;
-    /// Puts another sample in the place of one.
+    /// Puts another sample in the place of one, if that is kept.
     fn correct(&mut self, sensor: usize, number: usize, sample: i64) -> Result<(), Self::Error>;
-    fn len(&self, sensor: usize) -> usize;
+    /// Forgets the samples before one. The others keep their numbers.
+    fn forget(&mut self, sensor: usize, before: usize) -> Result<(), Self::Error>;
+    /// The numbers of the samples that are kept, from the first up to the one behind the last.
+    fn kept(&self, sensor: usize) -> Range<usize>;
     fn window(&self, sensor: usize, from: usize, to: usize) -> Result<Window, Self::Error>;
-    /// The greatest sample so far, at each.
+    /// The greatest so far of those that are kept, at each.
     fn highs(&self, sensor: usize) -> Result<Vec<i64>, Self::Error>;
 }
 
@@ -68,7 +74,8 @@ pub fn run<S: Store>() -> Result<(), S::Error> {
             match it {
                 Sent::Samples(sensor, samples) => {
                     store.take(sensor, &samples)?;
-                    let size = store.len(sensor);
+                    let size = store.kept(sensor).end;
+                    store.forget(sensor, size.saturating_sub(KEPT))?;
                     let last = store.window(sensor, size.saturating_sub(WINDOW), size)?;
                     assert!(last.least <= last.greatest);
                     looks += 1;
@@ -86,10 +93,10 @@ pub fn run<S: Store>() -> Result<(), S::Error> {
 }
 
 fn report<S: Store>(store: &S, sensor: usize) -> Result<(), S::Error> {
-    let size = store.len(sensor);
-    println!("sensor {sensor}: {size} samples");
-    for from in (0..size).step_by(5 * WINDOW) {
-        let to = (from + WINDOW).min(size);
+    let kept = store.kept(sensor);
+    println!("sensor {sensor}: samples {} to {}", kept.start, kept.end);
+    for from in kept.clone().step_by(WINDOW) {
+        let to = (from + WINDOW).min(kept.end);
         let Window { sum, least, greatest } = store.window(sensor, from, to)?;
         println!(
             "  from {from} to {to}: mean {}, least {}, greatest {}",
@@ -100,6 +107,6 @@ fn report<S: Store>(store: &S, sensor: usize) -> Result<(), S::Error> {
     }
     let highs = store.highs(sensor)?;
     let records = highs.windows(2).filter(|pair| pair[0] < pair[1]).count();
-    println!("  {records} new highs after the first, the last of them {}", highs[size - 1]);
+    println!("  {records} new highs after the first, the last of them {}", highs[kept.len() - 1]);
     Ok(())
 }
