@@ -1,7 +1,7 @@
 /* livevec: a growable vector of 64-bit numbers whose ranges are reduced at once, and a board of 16-bit numbers that threads
  * edit and reduce together without a lock. For C11 and C++17.
  *
- * Slots. A vector, a job, an outcome, a board and a seat each lie behind a slot. Who calls owes three things, which nobody checks:
+ * Slots. A vector, a set of queries, a job, an outcome, a board and a seat each lie behind a slot. Who calls owes three things, which nobody checks:
  *   - a slot starts as zeros (`livevec_vector v = {0};`), which is 'empty';
  *   - a slot is never copied, and nothing but these functions writes it;
  *   - a slot is freed, or its memory given back, only when no call at it is under way or to come.
@@ -58,10 +58,10 @@ typedef enum livevec_refusal {
     LIVEVEC_BAD_RANGE = 7,     /* a range whose start is past its end */
     LIVEVEC_BAD_LIMITS = 8,    /* limits outside their ranges */
     LIVEVEC_BAD_TABLE = 9,     /* an automaton's table with an entry above 7 */
-    LIVEVEC_NAME_TAKEN = 10,   /* 10 to 14, 19 and 20: answered by no function of this header */
-    LIVEVEC_NO_SUCH_NAME = 11,
-    LIVEVEC_TOO_MANY = 12,
-    LIVEVEC_READ_FAULT = 13,
+    LIVEVEC_NAME_TAKEN = 10,   /* a query of that name is there already */
+    LIVEVEC_NO_SUCH_NAME = 11, /* no query has that name */
+    LIVEVEC_TOO_MANY = 12,     /* as many queries as a set may have */
+    LIVEVEC_READ_FAULT = 13,   /* 13, 14, 19 and 20: answered by no function of this header */
     LIVEVEC_WRITE_FAULT = 14,
     LIVEVEC_STRANGER = 15,     /* an outcome that this vector can't vouch for: another vector's, as a rule */
     LIVEVEC_TOO_WIDE = 16,     /* an element of a board outside -32768 to 32767 */
@@ -81,7 +81,8 @@ typedef enum livevec_refusal {
     LIVEVEC_DAMAGED = 110,     /* a summary whose bytes were changed, or that no elements have */
     LIVEVEC_OTHER_TABLE = 111, /* two summaries by automata of two tables */
     LIVEVEC_TOO_LONG = 112,    /* summaries of more than 2^62 elements together */
-    LIVEVEC_BAD_KIND = 113     /* a number that is no livevec_kind; or, at a vector of one kind, a question by another or by all six */
+    LIVEVEC_BAD_KIND = 113,    /* a number that is no livevec_kind; or, at a vector of one kind, a question by another or by all six */
+    LIVEVEC_BAD_NAME = 114     /* bytes that are no name of a query: 1 to 16 of a-z, 0-9 and _ */
 } livevec_refusal;
 
 /* Slots. All zeros is 'empty'. The fields are the library's own. */
@@ -115,6 +116,13 @@ typedef struct livevec_seat {
     void *at_;
     unsigned char busy_;
 } livevec_seat;
+
+/* Its slot has a set of standing queries. */
+typedef struct livevec_queries {
+    bool full_;
+    void *at_;
+    unsigned char busy_;
+} livevec_queries;
 
 /* An automaton of eight states: from state q, an element x leads to next[q][x mod 4], the remainder never negative. */
 typedef struct livevec_table {
@@ -302,6 +310,27 @@ typedef enum livevec_kind {
     LIVEVEC_AUTOMATON = 5
 } livevec_kind;
 
+/* How many bytes the name of a standing query has at most, and how many queries a set has. So no call tells more notes than that. */
+#define LIVEVEC_NAME_BYTES 16
+#define LIVEVEC_MOST_QUERIES 64
+
+/* That the answer of a standing query is another than it was told last. */
+typedef struct livevec_note {
+    char name[LIVEVEC_NAME_BYTES + 1]; /* the query's name, and zeros behind it, one at least */
+    uint32_t kind;                     /* its livevec_kind */
+    uint32_t edit;                     /* after which edit this is its answer */
+    livevec_values values;             /* its answer: of that kind only, and `any`; the others are 0 */
+} livevec_note;
+
+/* What a call for notes answers. */
+typedef struct livevec_noted {
+    uint32_t refusal;
+    uint32_t detail; /* of LIVEVEC_SHORT_BUFFER how many notes there are, of LIVEVEC_BAD_KIND which query may not be asked, counted from 0,
+                      * else 0 */
+    uint32_t edit;   /* the vector's last edit; 0 where it was refused */
+    uint32_t count;  /* how many notes were told; 0 where it was refused */
+} livevec_noted;
+
 /* What a refresh at a seat answers. Where it was refused, the edit and the version are 0. */
 typedef struct livevec_renewed {
     uint32_t refusal;
@@ -466,6 +495,40 @@ LIVEVEC_MUST_USE livevec_scanned livevec_scan_exclusive_affine(livevec_vector *s
                                                                size_t length);
 LIVEVEC_MUST_USE livevec_scanned livevec_scan_exclusive_automaton(livevec_vector *slot, uint32_t lo, uint32_t hi, livevec_states *column,
                                                                   size_t length);
+
+/* --- Standing queries: names for questions by one kind, and notes of those whose answer has changed. ---
+ *
+ * A set of queries is an object of its own, beside the vector that it is asked of. After each edit, or as often as one likes, a call
+ * tells which answers are others than were told last, in the order in which the queries were named: called after each edit, it tells
+ * the notes of that edit. A set may be asked of several vectors, and each note is against what was told last, of whichever.
+ *
+ * A name is 1 to 16 bytes of a-z, 0-9 and _; it is not ended by a zero, its length is passed. A query's range may reach past the end:
+ * what of it exists is asked. Before its first note a query counts as told its answer of no elements. What is computed is kept by the
+ * vector, as by livevec_value: a query whose range no edit has touched costs a few steps of the tree, and reads 14 elements at most. */
+
+/* Puts a set without queries into an empty slot. Refusals: NULL, IN_USE, NO_MEMORY. Who calls owes a livevec_free_queries. */
+LIVEVEC_MUST_USE uint32_t livevec_queries_new(livevec_queries *slot);
+
+/* Registers a query by a name: what a livevec_kind says of the elements of a range.
+ * Refusals: NULL, BAD_NAME, BAD_KIND (no kind), NO_HANDLE, BAD_RANGE, NAME_TAKEN, TOO_MANY (past 64), NO_MEMORY. */
+LIVEVEC_MUST_USE uint32_t livevec_watch(livevec_queries *slot, const char *name, size_t name_length, uint32_t kind, uint32_t lo, uint32_t hi);
+
+/* Forgets a query; the others keep their order, and what they were told. Refusals: NULL, BAD_NAME, NO_HANDLE, NO_SUCH_NAME. */
+LIVEVEC_MUST_USE uint32_t livevec_unwatch(livevec_queries *slot, const char *name, size_t name_length);
+
+/* The answer of a query now, by a vector, and its last edit, as livevec_value answers. Nothing counts as told by it. Takes no memory.
+ * Refusals: NULL, BAD_NAME, NO_HANDLE (of the set), NO_SUCH_NAME, NO_HANDLE (of the vector), BAD_KIND (not the vector's). */
+LIVEVEC_MUST_USE livevec_reduced livevec_answer(livevec_queries *slot, livevec_vector *vector, const char *name, size_t name_length);
+
+/* Tells of each query, in the order in which they were named, whose answer by a vector is another than it was told last, into an array
+ * that takes `room` notes: all of them, or none. Each query then counts as told its answer. What the array has behind the notes stays.
+ * Where it was refused nothing is told, and the array is as it was. The vector is as it was in any case. Takes no memory. A null pointer
+ * with room 0 is an empty array.
+ * Refusals: NULL, NO_HANDLE (of the set, then of the vector), BAD_KIND (of the first query that may not be asked), SHORT_BUFFER. */
+LIVEVEC_MUST_USE livevec_noted livevec_notes(livevec_queries *slot, livevec_vector *vector, livevec_note *notes, size_t room);
+
+/* Frees a set, and empties its slot. Refusals: NULL, NO_HANDLE. */
+uint32_t livevec_free_queries(livevec_queries *slot);
 
 /* --- Summaries that travel: of shards in several threads, processes or machines, joined in the order of their elements. They
  * hold nothing of a vector, and but for livevec_summary_of no call needs a slot or answers BUSY. No call takes memory. Joins

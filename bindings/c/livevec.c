@@ -24,6 +24,9 @@ const char *livevec_refusal_text(uint32_t refusal)
     case LIVEVEC_BAD_RANGE: return "a range whose start is past its end";
     case LIVEVEC_BAD_LIMITS: return "limits outside their ranges";
     case LIVEVEC_BAD_TABLE: return "a table with an entry above 7";
+    case LIVEVEC_NAME_TAKEN: return "a name that another query has";
+    case LIVEVEC_NO_SUCH_NAME: return "a name that no query has";
+    case LIVEVEC_TOO_MANY: return "as many queries as a set may have";
     case LIVEVEC_STRANGER: return "an outcome that is not of a job of this vector";
     case LIVEVEC_TOO_WIDE: return "an element of a board outside -32768 to 32767";
     case LIVEVEC_CONTENDED: return "contended: another seat's edit came first";
@@ -41,6 +44,7 @@ const char *livevec_refusal_text(uint32_t refusal)
     case LIVEVEC_OTHER_TABLE: return "summaries by two tables";
     case LIVEVEC_TOO_LONG: return "more elements than summaries may have";
     case LIVEVEC_BAD_KIND: return "a number that is no kind, or a kind that the vector is not of";
+    case LIVEVEC_BAD_NAME: return "bytes that are no name of a query";
     default: return "unknown";
     }
 }
@@ -156,6 +160,18 @@ ANSWERED(livevec_count, board_close, (livevec_board *board), board, (board))
 ANSWERED(livevec_count, closed_size, (livevec_board *board), board, (board))
 ANSWERED(livevec_element, closed_get, (livevec_board *board, uint32_t index), board, (board, index))
 
+/* Standing queries. A proved call is never given a null pointer: where there are no places for notes, they begin anywhere. */
+TOLD(queries_new, (livevec_queries *slot), slot, (slot))
+AT_ONE(uint32_t, AS_NUMBER, watch, (livevec_queries *slot, const char *name, size_t name_length, uint32_t kind, uint32_t lo, uint32_t hi), slot && name,
+       slot, (slot, name, name_length, kind, lo, hi))
+AT_ONE(uint32_t, AS_NUMBER, unwatch, (livevec_queries *slot, const char *name, size_t name_length), slot && name, slot, (slot, name, name_length))
+OVER_PROVED(livevec_reduced, AS_STRUCT, answer, (livevec_queries *slot, livevec_vector *vector, const char *name, size_t name_length),
+            slot && vector && name, enter_both(&slot->busy_, &vector->busy_), leave_both(&slot->busy_, &vector->busy_),
+            (slot, vector, name, name_length))
+OVER_PROVED(livevec_noted, AS_STRUCT, notes, (livevec_queries *slot, livevec_vector *vector, livevec_note *notes, size_t room),
+            slot && vector && (notes || !room), enter_both(&slot->busy_, &vector->busy_), leave_both(&slot->busy_, &vector->busy_),
+            (slot, vector, notes ? notes : &(livevec_note){.kind = 0}, room))
+
 /* The same of summaries, which are bytes of the caller's and no slots. */
 #define OF_BYTES(answer, name, parameters, there, arguments) \
     OVER_PROVED(answer, AS_STRUCT, name, parameters, there, true, (void)0, arguments)
@@ -220,6 +236,7 @@ FREED(free_job, livevec_job)
 FREED(free_outcome, livevec_outcome)
 FREED(free_board, livevec_board)
 FREED(free_seat, livevec_seat)
+FREED(free_queries, livevec_queries)
 
 /* All pushes at once, or none. */
 livevec_pushed livevec_proved_push_all(livevec_vector *slot, const int64_t *values, size_t length);

@@ -3,7 +3,7 @@ use Rattle.std.specs.Prelude.{ℕ, Bool, true, false, Option, Some, None, if◌t
 use Rattle.livevec_c.specs.declared.frees.Freed.{Freed}
 use Rattle.livevec_c.specs.declared.frees.Freed.TheVariants as freed
 use Rattle.livevec_c.specs.declared.objects.Object.{Object}
-use Rattle.livevec_c.specs.declared.objects.Object.TheVariants.{Vector, Job, Outcome, Board, Seat, Closed, Series}
+use Rattle.livevec_c.specs.declared.objects.Object.TheVariants.{Vector, Job, Outcome, Board, Seat, Closed, Series, Queries}
 
 -- whether an object is what a free is of; a board may be closed
 abbrev pub is_of : Freed → Object → Bool
@@ -14,6 +14,7 @@ is_of freed.Board (Board board) = true
 is_of freed.Board (Closed ended) = true
 is_of freed.Seat (Seat seat) = true
 is_of freed.Series (Series state) = true
+is_of freed.Queries (Queries set) = true
 is_of _ _ = false
 
 -- the answer: 0 where there was one, 101 where the slot was empty or held something else

@@ -21,3 +21,5 @@ pub mod Written
 pub mod SeriesAnswers
 pub mod SeriesBehind
 pub mod SeriesPieces
+pub mod Queries
+pub mod Queried

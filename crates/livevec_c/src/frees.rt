@@ -17,6 +17,7 @@ pub enum Freed {
     Board,
     Seat,
     Series,
+    Queries,
 }
 
 // Whether an object is what a free is of.
@@ -30,6 +31,7 @@ fn is_of(what: Freed, object: &Object) -> bool
         Freed::Board => matches!(object, Object::Board(_) | Object::Closed(_)),
         Freed::Seat => matches!(object, Object::Seat(_)),
         Freed::Series => matches!(object, Object::Series(_)),
+        Freed::Queries => matches!(object, Object::Queries(_)),
     }
 }
 
@@ -103,4 +105,13 @@ pub extern "C" fn livevec_proved_free_series(alloc: Global, slot: &mut Slot) -> 
     ensures left { slot.new.raw.inner ≡ left_by_free freed.Series slot.old.raw.inner }
 {
     free_held(alloc, slot, Freed::Series)
+}
+
+/// Frees a set of standing queries.
+#[unsafe(no_mangle)]
+pub extern "C" fn livevec_proved_free_queries(alloc: Global, slot: &mut Slot) -> u32
+    ensures number { result ≡ free_number freed.Queries slot.old.raw.inner }
+    ensures left { slot.new.raw.inner ≡ left_by_free freed.Queries slot.old.raw.inner }
+{
+    free_held(alloc, slot, Freed::Queries)
 }

@@ -5,6 +5,7 @@ use crate::ended::Ended;
 use crate::kind_boards::KindBoard;
 use crate::kind_seats::KindSeat;
 use crate::kind_vectors::KindVector;
+use crate::queries::Queries;
 use lv_board::{Closed, Elements};
 use lv_bodies::{Kind, SixByTable};
 use lv_refresh::{Job, Outcome};
@@ -23,6 +24,7 @@ pub enum Object {
     Seat(KindSeat),
     Closed(Ended),
     Series(Series<SixByTable>),
+    Queries(Queries),
 }
 
 /// An object without memory.

@@ -5,8 +5,8 @@ ghost use Rattle.livevec_c.specs.Only.{is_asked_by};
 
 use lv_bodies::Kind;
 
-// The number of a kind.
-fn number_of(kind: Kind) -> u32
+/// The number of a kind.
+pub fn number_of(kind: Kind) -> u32
     ensures { result ≡ bit_of kind }
 {
     match kind {

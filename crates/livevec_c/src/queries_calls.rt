@@ -1,0 +1,150 @@
+//! Sets of standing queries: how they begin, and how their questions come and go.
+ghost use Rattle.std.specs.Prelude.{◌≡◌, [], IfOk};
+ghost use Rattle.livevec_c.specs.Queried.{ForgetsAt, OpensQueries, Unwatches, UnwatchesBehind, UnwatchesObject, Watches, WatchesBehind, WatchesObject, question_in};
+ghost use Rattle.livevec_c.specs.Queries.{place_of};
+ghost use Rattle.livevec_c.specs.declared.objects.Object.TheVariants.{Queries};
+
+use crate::boards::kind_of;
+use crate::objects::Object;
+use crate::queries::Queries;
+use crate::questions::Question;
+use crate::results::{BAD_KIND, IN_USE, NO_HANDLE, NO_MEMORY};
+use crate::slots::{Slot, is_full, put, take};
+use lv_standing::Name;
+use std::alloc::{AllocError, Global};
+
+/// The number for bytes that are no name.
+pub const BAD_NAME: u32 = 114;
+
+/// The number for a name that no question has, as the library has it.
+pub const NO_SUCH_NAME: u32 = 11;
+
+// A set without questions in a place of its own.
+fn new_queries(alloc: Global) -> Result<Box<Object>, AllocError>
+    ensures { IfOk result (λ b. b.value ≡ Queries (record { questions = []; told = [] })) }
+{
+    Ok(Box::new(alloc, Object::Queries(Queries::new(alloc)))?)
+}
+
+/// Puts a set without questions into an empty slot.
+#[unsafe(no_mangle)]
+pub extern "C" fn livevec_proved_queries_new(alloc: Global, slot: &mut Slot) -> u32
+    ensures { OpensQueries result slot.old.raw.inner slot.new.raw.inner }
+{
+    if is_full(slot) {
+        return IN_USE;
+    }
+    match new_queries(alloc) {
+        Err(_) => NO_MEMORY,
+        Ok(held) => {
+            put(slot, held);
+            0
+        }
+    }
+}
+
+// The question that a caller asks for, or the number for why there is none.
+fn question_in(name: &[u8], kind: u32, lo: u32, hi: u32) -> Result<Question, u32>
+    ensures { result ≡ question_in name.now kind lo hi }
+{
+    let Some(name) = Name::new(name) else {
+        return Err(BAD_NAME);
+    };
+    let Some(kind) = kind_of(kind) else {
+        return Err(BAD_KIND);
+    };
+    Ok(Question { name, kind, lo, hi })
+}
+
+// Registers a question at an object.
+fn watch_object(object: &mut Object, question: &Question) -> u32
+    ensures { WatchesObject question.now result object.old object.new }
+{
+    match object {
+        Object::Queries(set) => match set.watch(question) {
+            Ok(()) => 0,
+            Err(refusal) => refusal.number(),
+        },
+        _ => NO_HANDLE,
+    }
+}
+
+// Registers a question at what lies behind a slot.
+fn watch_held(alloc: Global, slot: &mut Slot, question: &Question) -> u32
+    ensures { WatchesBehind question.now result slot.old.raw.inner slot.new.raw.inner }
+{
+    match take(alloc, slot) {
+        None => NO_HANDLE,
+        Some(mut held) => {
+            let number = watch_object(&mut held, question);
+            put(slot, held);
+            number
+        }
+    }
+}
+
+/// Registers a question by a name: what a kind says of a range, which may reach past the end.
+#[unsafe(no_mangle)]
+pub extern "C" fn livevec_proved_watch(
+    alloc: Global,
+    slot: &mut Slot,
+    name: &[u8],
+    kind: u32,
+    lo: u32,
+    hi: u32,
+) -> u32
+    ensures { Watches (question_in name.now kind lo hi) result slot.old.raw.inner slot.new.raw.inner }
+{
+    match question_in(name, kind, lo, hi) {
+        Err(number) => number,
+        Ok(question) => watch_held(alloc, slot, &question),
+    }
+}
+
+// Forgets the question of a name in a set.
+fn unwatch_set(set: &mut Queries, name: &Name) -> u32
+    ensures { ForgetsAt (place_of set.old.questions name.now) result set.old set.new }
+{
+    match set.place(name) {
+        None => NO_SUCH_NAME,
+        Some(place) => {
+            set.forget(place);
+            0
+        }
+    }
+}
+
+// Forgets the question of a name at an object.
+fn unwatch_object(object: &mut Object, name: &Name) -> u32
+    ensures { UnwatchesObject name.now result object.old object.new }
+{
+    match object {
+        Object::Queries(set) => unwatch_set(set, name),
+        _ => NO_HANDLE,
+    }
+}
+
+// Forgets the question of a name at what lies behind a slot.
+fn unwatch_held(alloc: Global, slot: &mut Slot, name: &Name) -> u32
+    ensures { UnwatchesBehind name.now result slot.old.raw.inner slot.new.raw.inner }
+{
+    match take(alloc, slot) {
+        None => NO_HANDLE,
+        Some(mut held) => {
+            let number = unwatch_object(&mut held, name);
+            put(slot, held);
+            number
+        }
+    }
+}
+
+/// Forgets the question of a name; the others keep their order.
+#[unsafe(no_mangle)]
+pub extern "C" fn livevec_proved_unwatch(alloc: Global, slot: &mut Slot, name: &[u8]) -> u32
+    ensures { Unwatches name.now result slot.old.raw.inner slot.new.raw.inner }
+{
+    match Name::new(name) {
+        None => BAD_NAME,
+        Some(name) => unwatch_held(alloc, slot, &name),
+    }
+}
