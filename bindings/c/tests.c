@@ -360,6 +360,7 @@ int main(void)
     columns();
     one_kind();
     places();
+    queries();
     summaries();
     boards();
     series();

@@ -1,0 +1,312 @@
+/* Standing queries, beside a plain model: a list of queries, and of each what it was told last. */
+#include "tests.h"
+
+#include <string.h>
+
+enum { MOST = 300, ROUNDS = 1500, NAMES = 12 };
+
+static uint64_t state = 11;
+
+static uint32_t below(uint32_t bound)
+{
+    state = state * 6364136223846793005u + 1442695040888963407u;
+    return (uint32_t)(state >> 33) % bound;
+}
+
+__extension__ typedef __int128 wide;
+
+/* What a kind says of some elements, by loops: of its own fields alone. */
+static livevec_values plain(uint32_t kind, const int64_t *xs, uint32_t length, uint8_t next[8][4])
+{
+    livevec_values v;
+    memset(&v, 0, sizeof v);
+    wide best = 0, ending = 0;
+    v.any = length > 0;
+    v.affine_a = kind == LIVEVEC_AFFINE;
+    for (uint8_t q = 0; q < 8; q++)
+        v.automaton[q] = kind == LIVEVEC_AUTOMATON ? q : 0;
+    for (uint32_t i = 0; i < length; i++) {
+        int64_t x = xs[i], low = ((x % 256) + 256) % 256;
+        uint32_t a = (uint32_t)(uint64_t)((x - low) / 256);
+        ending = i && ending > 0 ? ending + x : x;
+        best = i && best > ending ? best : ending;
+        if (kind == LIVEVEC_SUM)
+            v.sum += (uint64_t)x;
+        if (kind == LIVEVEC_LEAST)
+            v.least = i && v.least < x ? v.least : x;
+        if (kind == LIVEVEC_GREATEST)
+            v.greatest = i && v.greatest > x ? v.greatest : x;
+        if (kind == LIVEVEC_AFFINE) {
+            v.affine_a = a * v.affine_a;
+            v.affine_b = a * v.affine_b + (uint32_t)low;
+        }
+        for (uint32_t q = 0; q < 8 && kind == LIVEVEC_AUTOMATON; q++)
+            v.automaton[q] = next[v.automaton[q]][low % 4];
+    }
+    if (kind == LIVEVEC_BEST) {
+        v.best_low = (uint64_t)best;
+        v.best_high = (int64_t)(best >> 64);
+    }
+    return v;
+}
+
+static bool same(livevec_values a, livevec_values b)
+{
+    return a.sum == b.sum && a.least == b.least && a.greatest == b.greatest && a.best_low == b.best_low && a.best_high == b.best_high &&
+           a.affine_a == b.affine_a && a.affine_b == b.affine_b && !memcmp(a.automaton, b.automaton, sizeof a.automaton) && a.any == b.any;
+}
+
+/* Whether two answers of a kind are one: an empty list has no least, greatest or best, and that is no 0. */
+static bool one_answer(uint32_t kind, livevec_values a, livevec_values b)
+{
+    bool told_apart = kind == LIVEVEC_LEAST || kind == LIVEVEC_GREATEST || kind == LIVEVEC_BEST;
+    if (!told_apart)
+        a.any = b.any;
+    return same(a, b);
+}
+
+/* The model: the elements, the queries in order, and what each counts as told. */
+typedef struct query {
+    char name[LIVEVEC_NAME_BYTES + 1];
+    uint32_t kind, lo, hi;
+    livevec_values told;
+} query;
+
+typedef struct model {
+    livevec_vector v;
+    livevec_queries set;
+    uint8_t next[8][4];
+    int64_t xs[MOST];
+    uint32_t size, edits, count;
+    query queries[NAMES];
+} model;
+
+static livevec_values answer_now(model *m, const query *q)
+{
+    uint32_t hi = q->hi < m->size ? q->hi : m->size, lo = q->lo < hi ? q->lo : hi;
+    return plain(q->kind, m->xs + lo, hi - lo, m->next);
+}
+
+static query *named(model *m, const char *name)
+{
+    for (uint32_t i = 0; i < m->count; i++)
+        if (!strcmp(m->queries[i].name, name))
+            return &m->queries[i];
+    return NULL;
+}
+
+static const char *const names[NAMES] = {"a", "b", "dips", "total", "latest_100", "x9", "_", "0", "sixteen_bytes_16", "peak", "run", "q"};
+
+static void watch_some(model *m)
+{
+    const char *name = names[below(NAMES)];
+    uint32_t kind = below(6), lo = below(MOST), hi = below(2 * MOST);
+    uint32_t wanted = hi < lo ? LIVEVEC_BAD_RANGE : named(m, name) ? LIVEVEC_NAME_TAKEN : LIVEVEC_OK;
+    IS(livevec_watch(&m->set, name, strlen(name), kind, lo, hi), wanted);
+    if (wanted)
+        return;
+    query *q = &m->queries[m->count++];
+    memset(q, 0, sizeof *q);
+    strcpy(q->name, name);
+    q->kind = kind, q->lo = lo, q->hi = hi;
+    q->told = plain(kind, m->xs, 0, m->next);
+}
+
+static void unwatch_some(model *m)
+{
+    const char *name = names[below(NAMES)];
+    query *q = named(m, name);
+    IS(livevec_unwatch(&m->set, name, strlen(name)), q ? LIVEVEC_OK : LIVEVEC_NO_SUCH_NAME);
+    if (!q)
+        return;
+    memmove(q, q + 1, (size_t)(m->queries + m->count - (q + 1)) * sizeof *q);
+    m->count--;
+}
+
+static void edit_some(model *m)
+{
+    uint32_t which = below(10);
+    int64_t x = (int64_t)below(41) - 20;
+    if (which < 6 && m->size < MOST) {
+        IS(livevec_push(&m->v, x).refusal, 0);
+        m->xs[m->size++] = x;
+    } else if (which < 8 && m->size) {
+        uint32_t at = below(m->size);
+        IS(livevec_write(&m->v, at, x).refusal, 0);
+        m->xs[at] = x;
+    } else if (which < 9 && m->size) {
+        IS(livevec_pop(&m->v).refusal, 0);
+        m->size--;
+    } else {
+        m->size -= m->size / 8;
+        IS(livevec_truncate(&m->v, m->size).refusal, 0);
+    }
+    m->edits++;
+}
+
+/* All notes that are due, in order, and none where the room is short. */
+static void notes_due(model *m)
+{
+    livevec_note notes[NAMES + 1], before[NAMES + 1];
+    memset(notes, 85, sizeof notes);
+    memcpy(before, notes, sizeof notes);
+    uint32_t due = 0;
+    for (uint32_t i = 0; i < m->count; i++)
+        due += !one_answer(m->queries[i].kind, m->queries[i].told, answer_now(m, &m->queries[i]));
+    if (due) {
+        livevec_noted none = livevec_notes(&m->set, &m->v, notes, due - 1);
+        IS(none.refusal, LIVEVEC_SHORT_BUFFER);
+        IS(none.detail, due);
+        IS(none.edit + none.count, 0);
+        IS(memcmp(notes, before, sizeof notes), 0);
+    }
+    livevec_noted told = livevec_notes(&m->set, &m->v, notes, NAMES + 1);
+    IS(told.refusal + told.detail, 0);
+    IS(told.edit, m->edits);
+    IS(told.count, due);
+    uint32_t at = 0;
+    for (uint32_t i = 0; i < m->count; i++) {
+        query *q = &m->queries[i];
+        livevec_values now = answer_now(m, q);
+        if (one_answer(q->kind, q->told, now))
+            continue;
+        IS(strcmp(notes[at].name, q->name), 0);
+        IS(notes[at].kind, q->kind);
+        IS(notes[at].edit, m->edits);
+        IS(same(notes[at].values, now), true);
+        at++;
+        q->told = now;
+    }
+    IS(at, due);
+    IS(memcmp(notes + due, before + due, (NAMES + 1 - due) * sizeof *notes), 0);
+    IS(livevec_notes(&m->set, &m->v, NULL, 0).count, 0);
+}
+
+static void answers(model *m)
+{
+    const char *name = names[below(NAMES)];
+    query *q = named(m, name);
+    livevec_reduced told = livevec_answer(&m->set, &m->v, name, strlen(name));
+    IS(told.refusal, q ? LIVEVEC_OK : LIVEVEC_NO_SUCH_NAME);
+    IS(told.edit, q ? m->edits : 0);
+    if (q)
+        IS(same(told.values, answer_now(m, q)), true);
+}
+
+/* Random queries and edits, with the automaton of livevec_new or one of the caller's. */
+static void as_the_model(bool own_table)
+{
+    static model m;
+    memset(&m, 0, sizeof m);
+    livevec_table table;
+    for (uint32_t q = 0; q < 8; q++)
+        for (uint32_t r = 0; r < 4; r++)
+            table.next[q][r] = (uint8_t)(own_table ? (q + 3 * r) % 8 : (2 * q + r) % 8);
+    memcpy(m.next, table.next, sizeof m.next);
+    IS(own_table ? livevec_new_with_table(&m.v, 8, 9999, &table) : livevec_new(&m.v, 8, 9999), 0);
+    IS(livevec_queries_new(&m.set), 0);
+    for (int round = 0; round < ROUNDS; round++) {
+        if (below(4) == 0)
+            watch_some(&m);
+        if (below(12) == 0)
+            unwatch_some(&m);
+        if (below(3))
+            edit_some(&m);
+        if (below(3))
+            notes_due(&m);
+        answers(&m);
+    }
+    IS(livevec_free_queries(&m.set), 0);
+    IS(livevec_free(&m.v), 0);
+}
+
+/* What is refused, in which order, and that nothing has changed then. */
+static void refused(void)
+{
+    livevec_queries set = {0}, other = {0};
+    livevec_vector v = {0};
+    livevec_note notes[2];
+    IS(livevec_queries_new(NULL), LIVEVEC_NULL);
+    IS(livevec_watch(&set, NULL, 0, 0, 0, 0), LIVEVEC_NULL);
+    IS(livevec_watch(&set, "", 0, 9, 1, 0), LIVEVEC_BAD_NAME);
+    IS(livevec_watch(&set, "A", 1, 9, 1, 0), LIVEVEC_BAD_NAME);
+    IS(livevec_watch(&set, "seventeen_bytes_17", 17, 9, 1, 0), LIVEVEC_BAD_NAME);
+    IS(livevec_watch(&set, "a", 1, 6, 1, 0), LIVEVEC_BAD_KIND);
+    IS(livevec_watch(&set, "a", 1, LIVEVEC_SUM, 1, 0), LIVEVEC_NO_HANDLE);
+    IS(livevec_unwatch(&set, "a b", 3), LIVEVEC_BAD_NAME);
+    IS(livevec_unwatch(&set, "a", 1), LIVEVEC_NO_HANDLE);
+    IS(livevec_answer(&set, &v, "a", 1).refusal, LIVEVEC_NO_HANDLE);
+    IS(livevec_notes(&set, &v, NULL, 1).refusal, LIVEVEC_NULL);
+    IS(livevec_notes(&set, &v, notes, 2).refusal, LIVEVEC_NO_HANDLE);
+    IS(livevec_free_queries(&set), LIVEVEC_NO_HANDLE);
+
+    IS(livevec_queries_new(&set), 0);
+    IS(livevec_queries_new(&set), LIVEVEC_IN_USE);
+    IS(livevec_watch(&set, "a", 1, LIVEVEC_SUM, 1, 0), LIVEVEC_BAD_RANGE);
+    IS(livevec_watch(&set, "a", 1, LIVEVEC_SUM, 0, UINT32_MAX), 0);
+    IS(livevec_watch(&set, "a", 1, LIVEVEC_LEAST, 0, 1), LIVEVEC_NAME_TAKEN);
+    IS(livevec_answer(&set, &v, "b", 1).refusal, LIVEVEC_NO_SUCH_NAME);
+    IS(livevec_answer(&set, &v, "a", 1).refusal, LIVEVEC_NO_HANDLE);
+    IS(livevec_notes(&set, &v, notes, 2).refusal, LIVEVEC_NO_HANDLE);
+    IS(livevec_free((livevec_vector *)&set), LIVEVEC_NO_HANDLE);
+    IS(livevec_notes(&set, (livevec_vector *)&other, notes, 2).refusal, LIVEVEC_NO_HANDLE);
+
+    /* a vector of one kind answers that kind, and tells nothing where another is among the queries */
+    IS(livevec_new_of(&v, LIVEVEC_SUM, 2, 9), 0);
+    IS(livevec_push(&v, 5).refusal, 0);
+    IS(livevec_watch(&set, "b", 1, LIVEVEC_LEAST, 0, 1), 0);
+    IS(livevec_answer(&set, &v, "a", 1).values.sum, 5);
+    IS(livevec_answer(&set, &v, "b", 1).refusal, LIVEVEC_BAD_KIND);
+    livevec_noted none = livevec_notes(&set, &v, notes, 0);
+    IS(none.refusal, LIVEVEC_BAD_KIND);
+    IS(none.detail, 1);
+    IS(livevec_unwatch(&set, "b", 1), 0);
+    IS(livevec_notes(&set, &v, notes, 2).count, 1);
+    IS(notes[0].values.sum, 5);
+    IS(livevec_free_queries((livevec_queries *)&v), LIVEVEC_NO_HANDLE);
+    IS(livevec_free(&v), 0);
+    IS(livevec_free_queries(&set), 0);
+}
+
+/* As many queries as a set may have, and no memory for one more. */
+static void many(void)
+{
+    livevec_queries set = {0};
+    char name[LIVEVEC_NAME_BYTES] = "q00";
+    until_failure = 1;
+    IS(livevec_queries_new(&set), LIVEVEC_NO_MEMORY);
+    IS(livevec_queries_new(&set), 0);
+    for (int i = 0; i < LIVEVEC_MOST_QUERIES; i++) {
+        name[1] = (char)('0' + i / 10), name[2] = (char)('0' + i % 10);
+        until_failure = 1;
+        uint32_t first = livevec_watch(&set, name, 3, LIVEVEC_SUM, 0, 9);
+        until_failure = 0;
+        if (first == LIVEVEC_NO_MEMORY)
+            first = livevec_watch(&set, name, 3, LIVEVEC_SUM, 0, 9);
+        IS(first, 0);
+    }
+    IS(livevec_watch(&set, "q00", 3, LIVEVEC_SUM, 0, 9), LIVEVEC_NAME_TAKEN);
+    IS(livevec_watch(&set, "more", 4, LIVEVEC_SUM, 0, 9), LIVEVEC_TOO_MANY);
+    livevec_vector v = {0};
+    livevec_note notes[LIVEVEC_MOST_QUERIES];
+    IS(livevec_new(&v, 2, 9), 0);
+    IS(livevec_push(&v, 3).refusal, 0);
+    until_failure = 1; /* takes no memory */
+    IS(livevec_notes(&set, &v, notes, LIVEVEC_MOST_QUERIES - 1).detail, LIVEVEC_MOST_QUERIES);
+    IS(livevec_notes(&set, &v, notes, LIVEVEC_MOST_QUERIES).count, LIVEVEC_MOST_QUERIES);
+    IS(livevec_notes(&set, &v, notes, LIVEVEC_MOST_QUERIES).count, 0);
+    IS(livevec_answer(&set, &v, "q63", 3).values.sum, 3);
+    IS(until_failure, 1);
+    until_failure = 0;
+    IS(strcmp(notes[63].name, "q63"), 0);
+    IS(livevec_free_queries(&set), 0);
+    IS(livevec_free(&v), 0);
+}
+
+void queries(void)
+{
+    as_the_model(false);
+    as_the_model(true);
+    refused();
+    many();
+}
