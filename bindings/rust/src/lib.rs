@@ -5,6 +5,7 @@
 //!
 //! A [`Vector`] is one thread's at a time. A [`Board`] is for several at once, without a lock, of elements of 16 bits.
 //! A [`Series`] goes on: its elements and edits are bounded by memory alone, and its front may expire.
+//! [`Queries`] are names for questions, and tell which answers have changed.
 //! A [`Summary`] is what a list comes to, as bytes that travel between processes and machines, and are joined there.
 //!
 //! ```
@@ -29,6 +30,7 @@ mod indices;
 mod kinds;
 mod like_vec;
 mod places;
+mod queries;
 #[allow(unsafe_code)]
 mod raw;
 mod refusal;
@@ -46,6 +48,7 @@ pub use elements::{Elements, IntoElements, Through};
 pub use indices::Indices;
 pub use kinds::UnknownKind;
 pub use places::{BestRun, Placed};
+pub use queries::{Answered, Note, Queries};
 pub use refusal::Refusal;
 pub use series::Series;
 pub use summary::Summary;

@@ -50,6 +50,12 @@ pub enum Refusal {
     BadLimits,
     /// 9: an automaton's table with an entry above 7.
     BadTable,
+    /// 10: a query of that name is there already.
+    NameTaken,
+    /// 11: no query has that name.
+    NoSuchName,
+    /// 12: as many queries as a set may have.
+    TooMany,
     /// 15: an outcome that is not of a job of this vector.
     Stranger,
     /// 16: an element of a board outside `-32768..=32767`.
@@ -85,6 +91,8 @@ pub enum Refusal {
     TooLong,
     /// 113: a vector of one kind was asked by another, or by all six.
     BadKind,
+    /// 114: what is no name of a query: 1 to 16 bytes of `a-z`, `0-9` and `_`.
+    BadName,
     /// Any other number. No call of this crate gives it today.
     Other {
         /// The number.
@@ -105,6 +113,9 @@ impl Refusal {
             7 => Refusal::BadRange,
             8 => Refusal::BadLimits,
             9 => Refusal::BadTable,
+            10 => Refusal::NameTaken,
+            11 => Refusal::NoSuchName,
+            12 => Refusal::TooMany,
             15 => Refusal::Stranger,
             16 => Refusal::TooWide,
             17 => Refusal::Contended { edit: detail },
@@ -118,6 +129,7 @@ impl Refusal {
             111 => Refusal::OtherTable,
             112 => Refusal::TooLong,
             113 => Refusal::BadKind,
+            114 => Refusal::BadName,
             number => Refusal::Other { number },
         }
     }
@@ -134,6 +146,9 @@ impl Refusal {
             Refusal::BadRange => 7,
             Refusal::BadLimits => 8,
             Refusal::BadTable => 9,
+            Refusal::NameTaken => 10,
+            Refusal::NoSuchName => 11,
+            Refusal::TooMany => 12,
             Refusal::Stranger => 15,
             Refusal::TooWide => 16,
             Refusal::Contended { .. } => 17,
@@ -147,6 +162,7 @@ impl Refusal {
             Refusal::OtherTable => 111,
             Refusal::TooLong => 112,
             Refusal::BadKind => 113,
+            Refusal::BadName => 114,
             Refusal::Other { number } => number,
         }
     }
@@ -184,6 +200,9 @@ impl fmt::Display for Refusal {
             Refusal::BadRange => f.write_str("a range whose start is past its end"),
             Refusal::BadLimits => f.write_str("limits outside their ranges"),
             Refusal::BadTable => f.write_str("a table with an entry above 7"),
+            Refusal::NameTaken => f.write_str("a name that another query has"),
+            Refusal::NoSuchName => f.write_str("a name that no query has"),
+            Refusal::TooMany => f.write_str("as many queries as a set may have"),
             Refusal::Stranger => f.write_str("an outcome that is not of a job of this vector"),
             Refusal::TooWide => f.write_str("an element of a board outside -32768 to 32767"),
             Refusal::Contended { edit } => write!(f, "contended: edit {edit} came first"),
@@ -196,6 +215,7 @@ impl fmt::Display for Refusal {
             Refusal::OtherTable => f.write_str("summaries by two tables"),
             Refusal::TooLong => f.write_str("more elements than summaries may have"),
             Refusal::BadKind => f.write_str("a kind that the vector is not of"),
+            Refusal::BadName => f.write_str("what is no name of a query"),
             Refusal::ShortBuffer { wanted } => write!(f, "a buffer shorter than the {wanted} values"),
             Refusal::Other { number } => write!(f, "refused {number}"),
         }

@@ -1,0 +1,140 @@
+//! Standing queries, beside a plain list of what each was told last.
+
+use livevec::{Kind, Limits, Note, Queries, Refusal, Value, Vector};
+
+/// Numbers of a fixed sequence, each below what is asked for.
+fn numbers(mut state: u64) -> impl FnMut(usize) -> usize {
+    move |below| {
+        state = state.wrapping_mul(6364136223846793005).wrapping_add(1442695040888963407);
+        (state >> 33) as usize % below
+    }
+}
+
+/// What a kind says of some elements, by a loop over them.
+fn plain(kind: Kind, list: &[i64]) -> Value {
+    match kind {
+        Kind::Sum => Value::Sum(list.iter().fold(0, |sum: i64, &x| sum.wrapping_add(x))),
+        Kind::Least => Value::Least(list.iter().copied().min()),
+        Kind::Greatest => Value::Greatest(list.iter().copied().max()),
+        Kind::Best => {
+            let runs = (0..list.len()).flat_map(|lo| (lo + 1..=list.len()).map(move |hi| (lo, hi)));
+            Value::Best(runs.map(|(lo, hi)| list[lo..hi].iter().map(|&x| i128::from(x)).sum()).max())
+        }
+        Kind::Affine => {
+            let map = list.iter().fold((1_u32, 0_u32), |(a, b), &x| {
+                let (by, plus) = (x.div_euclid(256) as u32, x.rem_euclid(256) as u32);
+                (by.wrapping_mul(a), by.wrapping_mul(b).wrapping_add(plus))
+            });
+            Value::Affine(map.0, map.1)
+        }
+        Kind::Automaton => {
+            let end = |start: u8| list.iter().fold(start, |q, &x| (2 * q + x.rem_euclid(4) as u8) % 8);
+            Value::Automaton([0, 1, 2, 3, 4, 5, 6, 7].map(end))
+        }
+    }
+}
+
+struct Query {
+    name: String,
+    kind: Kind,
+    lo: usize,
+    hi: usize,
+    told: Value,
+}
+
+fn now(query: &Query, list: &[i64]) -> Value {
+    let hi = query.hi.min(list.len());
+    plain(query.kind, &list[query.lo.min(hi)..hi])
+}
+
+/// The notes that are due, which are told now.
+fn due(queries: &mut [Query], list: &[i64]) -> Vec<(String, Value)> {
+    let mut notes = Vec::new();
+    for query in queries {
+        let value = now(query, list);
+        if value != query.told {
+            query.told = value;
+            notes.push((query.name.clone(), value));
+        }
+    }
+    notes
+}
+
+#[test]
+fn notes_are_those_of_a_plain_list() {
+    let mut next = numbers(17);
+    let (mut vector, mut list) = (Vector::new().unwrap(), Vec::new());
+    let (mut set, mut queries) = (Queries::new().unwrap(), Vec::<Query>::new());
+    let mut edits = 0;
+    for _ in 0..600 {
+        let name = format!("n{}", next(14));
+        if next(5) == 0 {
+            let (kind, lo, hi) = (Kind::ALL[next(6)], next(60), next(120));
+            let wanted = match hi < lo {
+                true => Err(Refusal::BadRange),
+                false if queries.iter().any(|query| query.name == name) => Err(Refusal::NameTaken),
+                false => Ok(()),
+            };
+            assert_eq!(set.watch(&name, kind, lo..hi), wanted);
+            if wanted.is_ok() {
+                queries.push(Query { name: name.clone(), kind, lo, hi, told: plain(kind, &[]) });
+            }
+        }
+        if next(12) == 0 {
+            let at = queries.iter().position(|query| query.name == name);
+            assert_eq!(set.unwatch(&name), at.map(|at| drop(queries.remove(at))).ok_or(Refusal::NoSuchName));
+        }
+        let x = next(9) as i64 - 4;
+        if next(3) == 0 && !list.is_empty() {
+            let at = next(list.len());
+            vector.write(at as u32, x).unwrap();
+            list[at] = x;
+        } else if next(6) == 0 && !list.is_empty() {
+            vector.pop().unwrap();
+            list.pop();
+        } else {
+            vector.push(x).unwrap();
+            list.push(x);
+        }
+        edits += 1;
+        if next(3) > 0 {
+            let notes = set.notes(&mut vector).unwrap();
+            assert!(notes.iter().all(|note| note.edit == edits));
+            let told: Vec<_> = notes.iter().map(|note: &Note| (note.name().to_owned(), note.value)).collect();
+            assert_eq!(told, due(&mut queries, &list));
+            assert_eq!(set.notes(&mut vector), Ok(Vec::new()));
+        }
+        for query in &queries {
+            let answer = set.answer(&vector, &query.name).unwrap();
+            assert_eq!((answer.edit, answer.value), (edits, now(query, &list)));
+        }
+    }
+}
+
+#[test]
+fn what_is_refused_changes_nothing() {
+    let mut set = Queries::new().unwrap();
+    for name in ["", "A", "a b", "é", "seventeen_bytes_17"] {
+        assert_eq!(set.watch(name, Kind::Sum, 5..3), Err(Refusal::BadName));
+        assert_eq!(set.unwatch(name), Err(Refusal::BadName));
+    }
+    assert_eq!(set.watch("sixteen_bytes_16", Kind::Least, 5..3), Err(Refusal::BadRange));
+    assert_eq!(set.watch("sixteen_bytes_16", Kind::Least, 0..usize::MAX), Ok(()));
+    assert_eq!(set.watch("sixteen_bytes_16", Kind::Sum, ..), Err(Refusal::NameTaken));
+    let mut sums = Vector::of_kind(Kind::Sum, Limits::GREATEST).unwrap();
+    sums.push(4).unwrap();
+    assert_eq!(set.notes(&mut sums), Err(Refusal::BadKind));
+    assert_eq!(set.answer(&sums, "sixteen_bytes_16"), Err(Refusal::BadKind));
+    let mut all = Vector::try_from([3, -5]).unwrap();
+    let notes = set.notes(&mut all).unwrap();
+    assert_eq!(format!("{notes:?}"), r#"[Note { name: "sixteen_bytes_16", kind: Least, edit: 2, value: Least(Some(-5)) }]"#);
+    for i in 1..Queries::MOST {
+        set.watch(&format!("q{i}"), Kind::Affine, -4..2).unwrap();
+    }
+    assert_eq!(set.watch("more", Kind::Sum, ..), Err(Refusal::TooMany));
+    assert_eq!(set.notes(&mut all).unwrap().len(), 63);
+    let sent = std::thread::spawn(move || set.notes(&mut all).unwrap().len());
+    assert_eq!(sent.join().unwrap(), 0);
+    assert_eq!(Refusal::NoSuchName.number(), 11);
+    assert_eq!(Refusal::BadName.to_string(), "what is no name of a query");
+}
