@@ -956,6 +956,105 @@ class Package(unittest.TestCase):
         self.assertTrue(os.path.isfile(os.path.join(os.path.dirname(livevec.__file__), "py.typed")))
 
 
+class Standing(unittest.TestCase):
+    """Standing queries, beside a plain list of what each was told last."""
+
+    @staticmethod
+    def plain(kind, row):
+        if kind is Kind.SUM:
+            return sum(row)
+        if kind is Kind.LEAST:
+            return min(row, default=None)
+        if kind is Kind.GREATEST:
+            return max(row, default=None)
+        if kind is Kind.BEST:
+            return max((sum(row[i:j]) for i in range(len(row)) for j in range(i + 1, len(row) + 1)), default=None)
+        if kind is Kind.AFFINE:
+            a, b = 1, 0
+            for x in row:
+                a, b = x // 256 * a % 2**32, (x // 256 * b + x % 256) % 2**32
+            return a, b
+        states = list(range(8))
+        for x in row:
+            states = [(2 * q + x % 4) % 8 for q in states]
+        return tuple(states)
+
+    def test_notes_are_those_of_a_plain_list(self):
+        chance = random.Random(7)
+        vector, row, queries, told = Vector(), [], livevec.Queries(), {}
+        for _ in range(700):
+            name, kind, lo = f"q{chance.randrange(12)}", chance.choice(list(Kind)), chance.randrange(40)
+            if name not in told and chance.random() < 0.3:
+                hi = chance.choice([None, 2**70, lo, lo + chance.randrange(50)])
+                self.assertIsNone(queries.watch(name, kind, lo, hi))
+                told[name] = [kind, slice(lo, hi), self.plain(kind, [])]
+            elif name in told and chance.random() < 0.1:
+                queries.unwatch(name)
+                del told[name]
+            x = chance.randrange(-300, 300)
+            if row and chance.random() < 0.4:
+                at = chance.randrange(len(row))
+                vector[at] = row[at] = x
+            elif row and chance.random() < 0.3:
+                self.assertEqual(vector.pop(), row.pop())
+            else:
+                vector.push(x)
+                row.append(x)
+            self.assertEqual(queries.names, tuple(told))
+            for name, (kind, part, _) in told.items():
+                self.assertEqual(queries.answer(vector, name), (vector.edits, self.plain(kind, row[part])))
+            if chance.random() < 0.6:
+                wanted = []
+                for name, query in told.items():
+                    value = self.plain(query[0], row[query[1]])
+                    if value != query[2]:
+                        wanted.append(livevec.Note(name, query[0], vector.edits, value))
+                        query[2] = value
+                self.assertEqual(queries.notes(vector), wanted)
+                self.assertEqual(queries.notes(vector), [])
+
+    def test_what_is_refused_changes_nothing(self):
+        queries, sums, all_kinds = livevec.Queries(), Vector([4], kind="sum"), Vector([3, -5])
+        for name in ("", "A", "a b", "\u00e9", "a\0b", "\ud800", "seventeen_bytes_17"):
+            for call in (lambda: queries.watch(name, "sum", 5, 3), lambda: queries.unwatch(name), lambda: queries.answer(sums, name)):
+                with self.assertRaises(livevec.BadName):
+                    call()
+        with self.assertRaises(livevec.BadRange):
+            queries.watch("a", "sum", 5, 3)
+        queries.watch("a", "sum")
+        queries.watch("b", "least", 1, 2)
+        for refused, call in [(livevec.NameTaken, lambda: queries.watch("a", "best")), (livevec.NoSuchName, lambda: queries.unwatch("c")),
+                              (KeyError, lambda: queries.answer(sums, "c")), (livevec.BadKind, lambda: queries.answer(sums, "b")),
+                              (ValueError, lambda: queries.watch("c", "median")), (ValueError, lambda: queries.watch("c", "sum", -1)),
+                              (TypeError, lambda: queries.watch(b"c", "sum")), (TypeError, lambda: queries.notes([3, -5]))]:
+            with self.assertRaises(refused):
+                call()
+        with self.assertRaises(livevec.BadKind) as caught:
+            queries.notes(sums)
+        self.assertEqual((caught.exception.number, caught.exception.detail), (113, 1))
+        self.assertEqual(queries.notes(all_kinds), [("a", Kind.SUM, 2, -2), ("b", Kind.LEAST, 2, -5)])
+        self.assertEqual(queries.answer(sums, "a"), (1, 4))
+        for at in range(livevec.MOST_QUERIES - 2):
+            queries.watch(f"q{at}", "affine")
+        with self.assertRaises(livevec.TooMany):
+            queries.watch("more", "sum")
+        self.assertEqual(len(queries.notes(all_kinds)), 62)
+
+    def test_it_ends(self):
+        with livevec.Queries() as queries:
+            queries.watch("a", "sum")
+            self.assertEqual(repr(queries), "<livevec.Queries a>")
+        self.assertEqual(repr(queries), "<livevec.Queries, closed>")
+        queries.close()
+        for call in (lambda: queries.watch("a", "sum"), lambda: queries.unwatch("a"), lambda: queries.notes(Vector())):
+            with self.assertRaises(livevec.Closed):
+                call()
+        with self.assertRaises(TypeError):
+            pickle.dumps(queries)
+        note = livevec.Note("a", Kind.SUM, 1, 4)
+        self.assertEqual(pickle.loads(pickle.dumps(note)), note)
+
+
 class Page(unittest.TestCase):
     def test_its_programs_print_what_they_say(self):
         with open(os.path.join(os.path.dirname(os.path.abspath(__file__)), "README.md"), encoding="utf-8") as file:

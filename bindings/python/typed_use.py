@@ -7,6 +7,7 @@ from array import array
 from typing import Optional, Union
 
 from livevec import Board, Delivered, Finished, Job, Kind, LongReduced, NotKept, Outrun, Reduced, Refusal, Scan, Seat, Series, Summary, Values, Vector
+from livevec import Answered, Board, Delivered, Finished, Job, Kind, Note, Outrun, Queries, Reduced, Refusal, Scan, Seat, Summary, Values, Vector
 
 
 class Prices(Vector):
@@ -95,6 +96,22 @@ def summaries(prices: Vector, sent: bytes) -> Summary:
     Summary.from_bytes(5)  # type: ignore[arg-type]
     print(edit, total, rows, bytes(part))
     return Summary([1], table=rows).join(Summary.from_bytes(sent)).extended(prices)
+
+
+def standing(prices: Vector) -> None:
+    with Queries() as queries:
+        queries.watch("total", "sum")
+        queries.watch("dip", Kind.LEAST, 0, 2)
+        notes: list[Note] = queries.notes(prices)
+        name: str = notes[0].name
+        answer: Answered = queries.answer(prices, name)
+        value: Union[int, None, tuple[int, ...]] = answer.value
+        edit: int = notes[0].edit + answer.edit
+        queries.watch("dip", 2)  # type: ignore[arg-type]
+        queries.watch(b"dip", "sum")  # type: ignore[arg-type]
+        queries.notes([1])  # type: ignore[arg-type]
+        queries.unwatch()  # type: ignore[call-arg]
+        print(queries.names, value, edit)
 
 
 def jobs(prices: Vector) -> None:

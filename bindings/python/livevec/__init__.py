@@ -47,11 +47,14 @@ if TYPE_CHECKING:
 __all__ = [
     "Vector", "Job", "Outcome", "Scan", "Column", "Summary", "Values", "Reduced", "Delivered", "Became", "Node", "Placed", "BestRun",
     "Board", "Seat", "Kind", "Told", "Refreshed", "Finished",
+    "Queries", "Note", "Answered",
     "Refusal", "Worn", "Empty", "OutOfRange", "TooLarge", "Full", "NoMemory", "BadRange", "BadLimits", "BadTable", "Stranger", "Closed",
     "ShortBuffer", "TooWide", "Outrun", "Contended", "Overtaken", "NoSeat", "SeatsOut", "Busy", "OtherVersion", "Damaged", "OtherTable", "TooLong",
     "BadKind",
     "Series", "LongReduced", "NotKept",
     "MOST_BUCKETS", "MOST_EDITS", "MOST_BOARD_BUCKETS", "MOST_SEATS", "SUMMARY_BYTES",
+    "BadKind", "NameTaken", "NoSuchName", "TooMany", "BadName",
+    "MOST_BUCKETS", "MOST_EDITS", "MOST_BOARD_BUCKETS", "MOST_SEATS", "SUMMARY_BYTES", "MOST_QUERIES",
 ]
 
 __version__ = "0.3.0"
@@ -64,6 +67,8 @@ MOST_BOARD_BUCKETS = 9
 MOST_SEATS = 8
 SUMMARY_BYTES = 184
 """So many bytes has a summary that travels."""
+MOST_QUERIES = 64
+"""So many standing queries has a set at most."""
 
 _LEAST_I64, _MOST_I64, _MOST_U32 = -(1 << 63), (1 << 63) - 1, (1 << 32) - 1
 
@@ -238,8 +243,35 @@ class BadKind(Refusal, ValueError):
     number, says = 113, "a kind that the vector is not of"
 
 
+class NameTaken(Refusal, ValueError):
+    """A standing query of that name is there already."""
+
+    number, says = 10, "a name that another query has"
+
+
+class NoSuchName(Refusal, KeyError):
+    """No standing query has that name."""
+
+    number, says = 11, "a name that no query has"
+
+    __str__ = Refusal.__str__
+
+
+class TooMany(Refusal, OverflowError):
+    """As many standing queries as a set may have."""
+
+    number, says = 12, "as many queries as a set may have"
+
+
+class BadName(Refusal, ValueError):
+    """What is no name of a standing query: 1 to 16 letters of a-z, 0-9 and _."""
+
+    number, says = 114, "a name is 1 to 16 letters of a-z, 0-9 and _"
+
+
 _REFUSALS = {it.number: it for it in (Worn, Empty, OutOfRange, TooLarge, Full, NoMemory, BadRange, BadLimits, BadTable, Stranger, TooWide, Contended,
-                                      Overtaken, Closed, ShortBuffer, NoSeat, SeatsOut, Busy, OtherVersion, Damaged, OtherTable, TooLong, BadKind)}
+                                      Overtaken, Closed, ShortBuffer, NoSeat, SeatsOut, Busy, OtherVersion, Damaged, OtherTable, TooLong, BadKind,
+                                      NameTaken, NoSuchName, TooMany, BadName)}
 
 
 def _refuse(number: int, detail: int = 0, pushed: int = 0, place: int = 0) -> Refusal:
@@ -1862,3 +1894,5 @@ def _given(lo: Optional[int], hi: Optional[int], holder: Vector) -> tuple[int, i
 # --- The series: it stands in a module of its own, which needs what stands above ---
 
 from livevec._series import LongReduced, NotKept, Series  # noqa: E402
+# --- Standing queries, which stand on all above ---
+from ._queries import Answered, Note, Queries  # noqa: E402

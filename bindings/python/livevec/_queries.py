@@ -1,0 +1,184 @@
+"""Standing queries: names for questions by one kind, and notes of those whose answer has changed. The package brings all of it."""
+from __future__ import annotations
+
+import ctypes
+import operator
+from typing import Callable, NamedTuple, Optional, Union
+
+from . import (
+    MOST_QUERIES, Busy, Kind, Vector, _call, _Handle, _kind_of, _refuse, _Reduced, _Slot, _slot, _u32, _size, _value_of, _Values, _values_of,
+    _MOST_U32,
+)
+
+_NAME_BYTES = 16
+
+
+class _QueriesSlot(_Slot):
+    pass
+
+
+class _Note(ctypes.Structure):
+    name: bytes
+    kind: int
+    edit: int
+    values: _Values
+    _fields_ = [("name", ctypes.c_char * (_NAME_BYTES + 1)), ("kind", ctypes.c_uint32), ("edit", ctypes.c_uint32), ("values", _Values)]
+
+
+class _Noted(ctypes.Structure):
+    refusal: int
+    detail: int
+    edit: int
+    count: int
+    _fields_ = [("refusal", ctypes.c_uint32), ("detail", ctypes.c_uint32), ("edit", ctypes.c_uint32), ("count", ctypes.c_uint32)]
+
+
+_queries, _bytes = ctypes.POINTER(_QueriesSlot), ctypes.c_char_p
+_new = _call("livevec_queries_new", _u32, _queries)
+_watch = _call("livevec_watch", _u32, _queries, _bytes, _size, _u32, _u32, _u32)
+_unwatch = _call("livevec_unwatch", _u32, _queries, _bytes, _size)
+_answer = _call("livevec_answer", _Reduced, _queries, _slot, _bytes, _size)
+_notes = _call("livevec_notes", _Noted, _queries, _slot, ctypes.POINTER(_Note), _size)
+_free = _call("livevec_free_queries", _u32, _queries)
+
+
+class Note(NamedTuple):
+    """That the answer of a standing query is another than it was told last: after which edit it is so, and what it is, as `Values` has it."""
+
+    name: str
+    kind: Kind
+    edit: int
+    value: Union[int, None, tuple[int, ...]]
+
+
+class Answered(NamedTuple):
+    """The answer of a standing query, and after which edit it is so."""
+
+    edit: int
+    value: Union[int, None, tuple[int, ...]]
+
+
+class Queries(_Handle):
+    """A set of at most 64 standing queries, which may be asked of any vector.
+
+        >>> from livevec import Queries, Vector
+        >>> feed, queries = Vector(), Queries()
+        >>> queries.watch("total", "sum")
+        >>> queries.watch("dip", "least", 0, 2)
+        >>> feed.extend([30, 12])
+        >>> [(note.name, note.value) for note in queries.notes(feed)]
+        [('total', 42), ('dip', 12)]
+        >>> feed.append(-42)
+        >>> queries.notes(feed)
+        [Note(name='total', kind=<Kind.SUM: 0>, edit=3, value=0)]
+        >>> queries.notes(feed)
+        []
+
+    `notes` tells which answers are others than were told last, in the order in which the queries were named: called after each edit, it tells the
+    notes of that edit. Before its first note a query counts as told its answer of no elements. A name is 1 to 16 letters of a-z, 0-9 and _.
+
+    Its calls keep the interpreter's lock, as a vector's do. Raises NoMemory. The memory is given back by `close`, at the end of a `with`, or with
+    the object.
+    """
+
+    __slots__ = ("_kinds",)
+    _made_of = _QueriesSlot
+
+    def __init__(self) -> None:
+        # in the order in which they were named; what C answers doesn't tell the kind
+        self._kinds: dict[str, Kind] = {}
+        refusal = _new(self._at)
+        if refusal:
+            raise _refuse(refusal)
+
+    @property
+    def names(self) -> tuple[str, ...]:
+        """The names of the queries, in order."""
+        return tuple(self._kinds)
+
+    def watch(self, name: str, kind: Union[Kind, str], lo: int = 0, hi: Optional[int] = None) -> None:
+        """Registers a query: what a kind, a `Kind` or its name, says of the elements from `lo` up to `hi`, or up to the end however far it is.
+
+        The range may reach past the end: what of it exists is asked. Raises BadName, BadRange, NameTaken, TooMany, NoMemory; ValueError of what
+        is no kind, and of an end below 0, since a query has no end to count from."""
+        of = _kind_of(kind)
+        start, end = _reach(lo), _MOST_U32 if hi is None else _reach(hi)
+        refusal = _watch(self._at, *_named(name), of.value, start, end)
+        if refusal:
+            raise _refuse(refusal)
+        self._kinds[name] = of
+
+    def unwatch(self, name: str) -> None:
+        """Forgets a query; the others keep their order, and what they were told. Raises BadName, NoSuchName."""
+        refusal = _unwatch(self._at, *_named(name))
+        if refusal:
+            raise _refuse(refusal)
+        del self._kinds[name]
+
+    def answer(self, vector: Vector, name: str) -> Answered:
+        """The answer of a query now, by a vector. Nothing counts as told by it.
+
+        Raises BadName, NoSuchName, and BadKind where the vector is of another kind."""
+        did = _answer(self._at, _vector(vector)._at, *_named(name))
+        if did.refusal:
+            raise _refuse(did.refusal, did.detail)
+        return Answered(did.edit, _value_of(self._kinds[name], _values_of(did.values)))
+
+    def notes(self, vector: Vector) -> list[Note]:
+        """A note of each query, in order, whose answer by a vector is another than it was told last. Each then counts as told its answer.
+
+        Raises BadKind where the vector is of one kind and another is among the queries: nothing is told then, and its `detail` is which query it
+        is, counted from 0."""
+        room = (_Note * MOST_QUERIES)()
+        did = _notes(self._at, _vector(vector)._at, room, MOST_QUERIES)
+        if did.refusal:
+            raise _refuse(did.refusal, did.detail)
+        return [_note_of(room[at]) for at in range(did.count)]
+
+    def close(self) -> None:
+        """Gives the memory back. Every later call raises Closed; to close again does nothing. Raises Busy beside a call of another thread."""
+        if _free(self._at) == Busy.number:
+            raise _refuse(Busy.number)
+
+    def __enter__(self) -> Queries:
+        return self
+
+    def __exit__(self, *_: object) -> None:
+        self.close()
+
+    def __del__(self, _free: Callable[..., int] = _free) -> None:
+        _free(self._at)
+
+    def __repr__(self) -> str:
+        return f"<livevec.Queries {', '.join(self._kinds)}>" if self._slot.full_ else "<livevec.Queries, closed>"
+
+
+def _named(name: str) -> tuple[bytes, int]:
+    """A name as C takes it; what is no text of UTF-8 is none there either."""
+    if not isinstance(name, str):
+        raise TypeError(f"a name is a str, not a {type(name).__name__}")
+    spelled = name.encode("utf-8", "replace")
+    return spelled, len(spelled)
+
+
+def _reach(index: int) -> int:
+    """An end of a range that no vector has, where it is greater than C's numbers, is as good as the greatest of them."""
+    index = operator.index(index)
+    if index < 0:
+        raise ValueError(f"the end {index} of a query's range is below 0")
+    return min(index, _MOST_U32)
+
+
+def _vector(vector: Vector) -> Vector:
+    if not isinstance(vector, Vector):
+        raise TypeError(f"a Vector is wanted, not a {type(vector).__name__}")
+    return vector
+
+
+def _note_of(raw: _Note) -> Note:
+    kind = Kind(raw.kind)
+    return Note(raw.name.decode(), kind, raw.edit, _value_of(kind, _values_of(raw.values)))
+
+
+for _it in (Note, Answered, Queries):
+    _it.__module__ = "livevec"
