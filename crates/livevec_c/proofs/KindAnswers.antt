@@ -23,7 +23,7 @@ use Rattle.livevec_c.specs.Valued.{value_of, valued}
 use Rattle.livevec_c.proofs.PlainAnswers.{may_fold}
 
 -- what is shown of a part is what is shown of the six by its kind
-shown_part : (kind : Kind) (s : SixSummary) → shown_of (part_of kind s) ≡ face_of kind s
+pub shown_part : (kind : Kind) (s : SixSummary) → shown_of (part_of kind s) ≡ face_of kind s
 shown_part Sum s = refl
 shown_part Least s = refl
 shown_part Greatest s = refl

@@ -4,10 +4,13 @@ pub mod ColumnFolds
 pub mod Empty
 pub mod KindAnswers
 pub mod KindVectorLaws
+pub mod NotingLaws
 pub mod Openings
 pub mod PlainAnswers
 pub mod PushedLaws
 pub mod Programs
+pub mod QueriedLaws
+pub mod QuestionLaws
 pub mod Seatless
 pub mod Others
 pub mod Summing

@@ -4,7 +4,7 @@ use Rattle.std.specs.Prelude.{Option, Some}
 use Rattle.livevec_c.specs.declared.kind_boards.KindBoard.{KindBoard}
 use Rattle.livevec_c.specs.declared.kind_seats.KindSeat.{KindSeat}
 use Rattle.livevec_c.specs.declared.objects.Object.{Object}
-use Rattle.livevec_c.specs.declared.objects.Object.TheVariants.{Vector, Job, Outcome, Board, Seat, Closed, Series}
+use Rattle.livevec_c.specs.declared.objects.Object.TheVariants.{Vector, Job, Outcome, Board, Seat, Closed, Series, Queries}
 use Rattle.livevec_c.specs.Behind.{no_count}
 use Rattle.livevec_c.specs.Lives.{ClosesObject, TakesBackObject}
 
@@ -16,6 +16,7 @@ other_closes (Board board) other = elim (other board refl) [ ]
 other_closes (Seat seat) other = (refl, refl)
 other_closes (Closed ended) other = (refl, refl)
 other_closes (Series series) other = (refl, refl)
+other_closes (Queries set) other = (refl, refl)
 
 -- what is no seat isn't taken back
 pub other_stays : (board : KindBoard) (held : Object) (slot : Option Object) → ((s : KindSeat) → held ≡ Seat s → ⊥) → slot ≡ Some held → TakesBackObject 101 board held board slot
@@ -26,3 +27,4 @@ other_stays board (Board closed) slot other is = (refl, refl, is)
 other_stays board (Seat seat) slot other is = elim (other seat refl) [ ]
 other_stays board (Closed ended) slot other is = (refl, refl, is)
 other_stays board (Series series) slot other is = (refl, refl, is)
+other_stays board (Queries set) slot other is = (refl, refl, is)

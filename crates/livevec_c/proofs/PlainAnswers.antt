@@ -13,7 +13,7 @@ use Rattle.lv_reduce.specs.declared.reductions.Answer.{Answer}
 use Rattle.lv_reduce.specs.Answer.{IsAnswer, slice_of}
 use Rattle.lv_known.proofs.FoldableLaws.{can_fold, part_can_fold}
 use Rattle.livevec_c.specs.declared.objects.Object.{Object}
-use Rattle.livevec_c.specs.declared.objects.Object.TheVariants.{Vector, Job, Outcome, Board, Seat, Closed, Series}
+use Rattle.livevec_c.specs.declared.objects.Object.TheVariants.{Vector, Job, Outcome, Board, Seat, Closed, Series, Queries}
 use Rattle.livevec_c.specs.declared.results.Reduced.{Reduced}
 use Rattle.livevec_c.specs.Answers.{reduced_by, spread, unreduced}
 use Rattle.livevec_c.specs.Behind.{AsksObject, ReducesObject, State}
@@ -74,6 +74,7 @@ reduces_plain lo hi answer (Board other) reduces = tt
 reduces_plain lo hi answer (Seat other) reduces = tt
 reduces_plain lo hi answer (Closed other) reduces = tt
 reduces_plain lo hi answer (Series other) reduces = tt
+reduces_plain lo hi answer (Queries set) reduces = tt
 
 pub asks_plain : (lo hi : ℕ) (answer : Reduced) (old new : Object) → AsksObject lo hi answer old new → IsPlainObject lo hi answer old
 asks_plain lo hi answer (Vector state None) new (after, same, asks) = plain_ok state lo hi asks.r answer asks.answer_is asks.ok asks.within
@@ -84,3 +85,4 @@ asks_plain lo hi answer (Board other) new asks = tt
 asks_plain lo hi answer (Seat other) new asks = tt
 asks_plain lo hi answer (Closed other) new asks = tt
 asks_plain lo hi answer (Series other) new asks = tt
+asks_plain lo hi answer (Queries set) new asks = tt

@@ -1,0 +1,6 @@
+use Rattle.std.proofs.Common.{take}
+use Rattle.livevec_c.specs.Queried.{NotesInto}
+use Rattle.livevec_c.proofs.queries_notes.note_all.Given as goal
+
+abbrev pub invariant-loop-i : goal.invariant-loop-i
+invariant-loop-i l = NotesInto l.edit l.size (take l.i l.questions) (take l.i l.told) (take l.i l.values) l.initial.notes l.count l.notes
