@@ -4,22 +4,25 @@ use Rattle.std.proofs.lemmas.List.{length-map, length-take-le, map-append, take-
 use Rattle.std.proofs.lemmas.Slice.{drop-append-drop}
 use Rattle.std.proofs.Math.Seq.{take-append_seam}
 use Rattle.lv_bodies.specs.declared.kinds.Shown.{Shown}
+use Rattle.lv_edits.specs.History.{list_of}
 use Rattle.livevec_c.specs.declared.queries_notes.Note.{Note}
+use Rattle.livevec_c.specs.declared.queries_notes.Noted.{Noted}
 use Rattle.livevec_c.specs.declared.questions.Question.{Question}
 use Rattle.livevec_c.specs.Behind.{State}
-use Rattle.livevec_c.specs.Queried.{AreNotesOf, NotesInto, NotesOne, answer_by}
+use Rattle.livevec_c.specs.Queried.{AreNotesOf, IsAnswered, NotesInto, NotesOne, PutsNote, Tells, answer_by, note_of, unnoted}
+use Rattle.livevec_c.specs.Queries.{QueriesState}
 
 -- a list up to an index, and what stands there
 next_of : {A : Type 0} (xs : List A) (i : ℕ) (x : A) → x ≡ get_or xs i x → i < length xs → take (i + 1) xs ≡ take i xs ++ x ∷ []
 next_of xs i x is inside = take_more xs i x inside ∙ ap (λ y. take i xs ++ y ∷ []) (sym is)
 
 -- the questions up to an index were answered, and then what stands there
-pub next_answered : (state now : State) (q : Question) (value : Shown) (questions : List Question) (values more : List Shown) (i : ℕ) → value ≡ answer_by now q → now ≡ state → q ≡ get_or questions i q → i < length questions
+pub next_answered : (state now : State) (q : Question) (value : Shown) (questions : List Question) (values more : List Shown) (i : ℕ) → IsAnswered now q value → now ≡ state → q ≡ get_or questions i q → i < length questions
     → more ≡ values ++ value ∷ [] → values ≡ map (answer_by state) (take i questions) → more ≡ map (answer_by state) (take (i + 1) questions)
 next_answered state now q value questions values more i one same q_is inside pushed so_far =
     pushed
     ∙ ap (λ vs. vs ++ value ∷ []) so_far
-    ∙ ap (λ v. map (answer_by state) (take i questions) ++ v ∷ []) (one ∙ ap (λ s. answer_by s q) same)
+    ∙ ap (λ v. map (answer_by state) (take i questions) ++ v ∷ []) (one.is ∙ ap (λ s. answer_by s q) same)
     ∙ sym (ap (map (answer_by state)) (next_of questions i q q_is inside) ∙ map-append (answer_by state) (take i questions) (q ∷ []))
 
 module _ (edit size : ℕ) where
@@ -48,6 +51,17 @@ module _ (edit size : ℕ) where
   notes_alone (q ∷ questions) (before ∷ told) (value ∷ values) notes others (inr a) (inr b) =
       a.2 ∙ ap (λ ns. _ ∷ ns) (notes_alone questions told values a.1 b.1 a.3 b.3) ∙ sym b.2
 
+  -- a note was put behind so many others
+  pub noted_one : (q : Question) (told value : Shown) (count : ℕ) (before after : List Note) (note : Note) → (value ≡ told → ⊥) → note ≡ note_of edit size q value → PutsNote note count before after → NotesOne edit size q told value count before (count + 1) after
+  noted_one q told value count before after note other is puts = record {
+    added = note ∷ [];
+    are = inr (other, [], ap (λ n. n ∷ []) is, refl);
+    count_is = refl;
+    few = omega arith;
+    places = puts.places;
+    written = λ fits. puts.written (omega (arith, fits));
+  }
+
   -- the questions up to an index were noted, and then what stands there
   pub next_noted : (q : Question) (before value : Shown) (questions : List Question) (told values : List Shown) (old : List Note) (count counted : ℕ) (places next : List Note) (i : ℕ) → NotesOne edit size q before value count places counted next
       → length told ≡ length questions → length values ≡ length questions → i < length questions → q ≡ get_or questions i q → before ≡ get_or told i before → value ≡ get_or values i value
@@ -71,8 +85,8 @@ module _ (edit size : ℕ) where
             let front : take count places ≡ ns = ap (take count) was ∙ ap (λ k. take k (ns ++ drop (length ns) old)) so_far.count_is ∙ take-append_seam ns (drop (length ns) old) in
             let back : drop counted places ≡ drop counted old = ap (drop counted) was ∙ drop-append-drop (length ns) old ns counted (omega (arith, one.count_is, so_far.count_is)) refl in
             one.written fits
-            ∙ ap (λ xs. xs ++ one.added ++ drop counted places) front
-            ∙ ap (λ xs. ns ++ one.added ++ xs) back
+            ∙ ap (λ xs. xs ++ (one.added ++ drop counted places)) front
+            ∙ ap (λ xs. ns ++ (one.added ++ xs)) back
             ∙ sym (append_assoc ns one.added (drop counted old))
             ∙ ap (λ k. (ns ++ one.added) ++ drop k old) (sym total);
       }
@@ -86,3 +100,45 @@ module _ (edit size : ℕ) where
       → NotesInto edit size (take i questions) (take i told) (take i values) old count places → NotesInto edit size questions told values old count places
   all_noted questions told values old count places i end as_told as_values all =
       rw (take_all i questions (omega arith), take_all i told (omega arith), take_all i values (omega arith)) at all
+
+-- the notes of the same questions and values
+notes_as : (edit edits size elements : ℕ) (questions asked : List Question) (told before values now : List Shown) (notes : List Note) → edit ≡ edits → size ≡ elements → questions ≡ asked → told ≡ before → values ≡ now
+    → AreNotesOf edit size questions told values notes → AreNotesOf edits elements asked before now notes
+notes_as edit edits size elements questions asked told before values now notes edit_is size_is questions_are told_are values_are are =
+    subst (λ e. AreNotesOf e elements asked before now notes) edit_is
+      (subst (λ s. AreNotesOf edit s asked before now notes) size_is
+        (subst (λ vs. AreNotesOf edit size asked before vs notes) values_are
+          (subst (λ bs. AreNotesOf edit size asked bs values notes) told_are (subst (λ qs. AreNotesOf edit size qs told values notes) questions_are are))))
+
+module _ (old : QueriesState) (state : State) (edit size : ℕ) (edit_is : edit ≡ length state.history.journal) (size_is : size ≡ length (list_of state.history.journal)) where
+  -- what was counted doesn't fit
+  pub tells_short : (questions : List Question) (told values : List Shown) (none after places : List Note) (count number : ℕ) (answer : Noted) → NotesInto edit size questions told values none count after → questions ≡ old.questions → told ≡ old.told → values ≡ map (answer_by state) old.questions
+      → length places < count → number ≡ count → answer ≡ unnoted 103 number → Tells old old state places places answer
+  tells_short questions told values none after places count number answer into questions_are told_are values_are short number_is answer_is = (
+    into.notes,
+    notes_as edit (length state.history.journal) size (length (list_of state.history.journal)) questions old.questions told old.told values (map (answer_by state) old.questions) into.notes edit_is size_is questions_are told_are values_are into.are,
+    inr (record { answer_is = answer_is ∙ ap (unnoted 103) (number_is ∙ into.count_is); room = omega (arith, short, into.count_is); unwritten = refl; same = refl }),
+  )
+
+  -- what was counted fits, and was written
+  pub tells_all : (new : QueriesState) (questions asked : List Question) (told before values now : List Shown) (none after places written : List Note) (count counted number : ℕ) (answer : Noted)
+      → NotesInto edit size questions told values none count after → questions ≡ old.questions → told ≡ old.told → values ≡ map (answer_by state) old.questions
+      → NotesInto edit size asked before now places counted written → asked ≡ old.questions → before ≡ old.told → now ≡ map (answer_by state) old.questions
+      → count ≤ length places → number ≡ count → answer ≡ record { refusal = 0; detail = 0; edit = edit; count = number } → new.questions ≡ old.questions → new.told ≡ map (answer_by state) old.questions
+      → Tells old new state places written answer
+  tells_all new questions asked told before values now none after places written count counted number answer first questions_are told_are values_are second asked_are before_are now_are room number_is answer_is same told_now =
+      let edits = length state.history.journal in
+      let elements = length (list_of state.history.journal) in
+      let answers = map (answer_by state) old.questions in
+      let counts = notes_as edit edits size elements questions old.questions told old.told values answers first.notes edit_is size_is questions_are told_are values_are first.are in
+      let writes = notes_as edit edits size elements asked old.questions before old.told now answers second.notes edit_is size_is asked_are before_are now_are second.are in
+      let alike : length first.notes ≡ length second.notes = ap length (notes_alone edits elements old.questions old.told answers first.notes second.notes counts writes) in
+      let fits : length second.notes ≤ length places = omega (arith, room, first.count_is, alike) in
+      let many : number ≡ length second.notes = number_is ∙ first.count_is ∙ alike in
+      (second.notes, writes, inl (record {
+        answer_is = answer_is ∙ ap (λ e. record { refusal = 0; detail = 0; edit = e; count = number }) edit_is ∙ ap (λ n. record { refusal = 0; detail = 0; edit = edits; count = n }) many;
+        room = fits;
+        written = second.written fits;
+        questions = same;
+        told = told_now;
+      }))

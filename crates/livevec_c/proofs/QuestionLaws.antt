@@ -7,9 +7,10 @@ use Rattle.std.proofs.lemmas.Bool.{cases_Bool, cases_lt, cond-false, cond-true, 
 use Rattle.std.proofs.lemmas.List.{length-map}
 use Rattle.std.proofs.lemmas.Option.{none-some}
 use Rattle.lv_geometry.specs.declared.refusals.Refusal.TheVariants.{BadRange, NameTaken, TooMany}
+use Rattle.lv_bodies.specs.declared.kinds.Shown.{Shown}
 use Rattle.lv_standing.specs.Queries.{Query, name_refusal, query_of}
 use Rattle.livevec_c.specs.declared.questions.Question.{Question}
-use Rattle.livevec_c.specs.Queries.{query_of_question, question_refusal}
+use Rattle.livevec_c.specs.Queries.{QueriesState, query_of_question, question_refusal}
 
 -- a question is refused for its name where one of them has it, else where they are as many as may be
 refused_by_name : (all : List Query) (questions : List Question) (name : List ℕ) → name_refusal all (query_of (map query_of_question questions) name) ≡ cond (list_any (λ q. bytes_eq q.name name) questions) (Some NameTaken) (cond (nat_lt (length all) 64) None (Some TooMany))
@@ -58,3 +59,11 @@ few_questions questions q free =
         ]
       ]
     ]
+
+-- a set by its parts
+abbrev set_of : List Question → List Shown → QueriesState
+set_of questions told = record { questions = questions; told = told }
+
+-- sets of equal parts are one
+pub same_set : (questions others : List Question) (told untold : List Shown) → questions ≡ others → told ≡ untold → set_of questions told ≡ set_of others untold
+same_set questions others told untold same alike = ap (λ qs. set_of qs told) same ∙ ap (λ ts. set_of others ts) alike

@@ -213,7 +213,16 @@ abbrev pub TellsAll : Option Object → Option Object → Option Object → List
 TellsAll None new vector before after answer = (answer ≡ unnoted 101 0) × (after ≡ before) × (new ≡ None)
 TellsAll (Some old) new vector before after answer = (object : Object) × (new ≡ Some object) × TellsObject old object vector before after answer
 
--- ---- what the code of notes passes on, one question after another
+-- ---- what the code passes on, one question after another
+
+-- a value is the answer of a question by a vector
+pub record IsAnswered (state : State) (q : Question) (value : Shown) : Type 0 where
+  pub is : value ≡ answer_by state q
+
+-- a note was put at a place, where there is such a place; the others stay
+pub record PutsNote (note : Note) (place : ℕ) (before after : List Note) : Type 0 where
+  pub places : length after ≡ length before
+  pub written : place < length before → after ≡ take place before ++ note ∷ drop (place + 1) before
 
 -- a question was noted behind so many notes: it was counted where it has a note, which was written where there is a place for it
 pub record NotesOne (edit size : ℕ) (q : Question) (told value : Shown) (count : ℕ) (before : List Note) (counted : ℕ) (after : List Note) : Type 0 where
@@ -222,7 +231,7 @@ pub record NotesOne (edit size : ℕ) (q : Question) (told value : Shown) (count
   pub count_is : counted ≡ count + length added
   pub few : length added ≤ 1
   pub places : length after ≡ length before
-  pub written : counted ≤ length before → after ≡ take count before ++ added ++ drop counted before
+  pub written : counted ≤ length before → after ≡ take count before ++ (added ++ drop counted before)
 
 -- questions were noted: their notes were counted, and written where there are places for all of them
 pub record NotesInto (edit size : ℕ) (questions : List Question) (told values : List Shown) (before : List Note) (counted : ℕ) (after : List Note) : Type 0 where

@@ -109,9 +109,9 @@ impl Queries {
     }
 
     /// The question at a place, if there is one.
-    pub fn question(&self, place: usize) -> Option<&Question>
+    pub fn question(&self, place: usize) -> Option<Question>
         ensures { result ≡ slice_get self.now.questions place }
     {
-        self.questions.get(place)
+        self.questions.get(place).copied()
     }
 }

@@ -22,7 +22,7 @@ fn find_in_set(set: &Queries, name: &Name) -> Result<Question, u32>
         None => Err(NO_SUCH_NAME),
         Some(place) => match set.question(place) {
             None => Err(NO_SUCH_NAME),
-            Some(question) => Ok(*question),
+            Some(question) => Ok(question),
         },
     }
 }

@@ -2,7 +2,7 @@
 ghost use Rattle.std.specs.Prelude.{◌≡◌, [], IfOk};
 ghost use Rattle.livevec_c.specs.Queried.{ForgetsAt, OpensQueries, Unwatches, UnwatchesBehind, UnwatchesObject, Watches, WatchesBehind, WatchesObject, question_in};
 ghost use Rattle.livevec_c.specs.Queries.{place_of};
-ghost use Rattle.livevec_c.specs.declared.objects.Object.TheVariants.{Queries};
+ghost use Rattle.livevec_c.specs.declared.objects.Object.TheVariants as objects;
 
 use crate::boards::kind_of;
 use crate::objects::Object;
@@ -21,7 +21,7 @@ pub const NO_SUCH_NAME: u32 = 11;
 
 // A set without questions in a place of its own.
 fn new_queries(alloc: Global) -> Result<Box<Object>, AllocError>
-    ensures { IfOk result (λ b. b.value ≡ Queries (record { questions = []; told = [] })) }
+    ensures { IfOk result (λ b. b.value ≡ objects.Queries (record { questions = []; told = [] })) }
 {
     Ok(Box::new(alloc, Object::Queries(Queries::new(alloc)))?)
 }

@@ -1,6 +1,6 @@
 //! Notes of standing queries, as C has them.
 ghost use Rattle.std.specs.Prelude.{◌≡◌, ◌≤◌, length};
-ghost use Rattle.livevec_c.specs.Queried.{NotesInto, NotesOne, has_some, name_for, note_of, unnoted};
+ghost use Rattle.livevec_c.specs.Queried.{NotesInto, NotesOne, PutsNote, has_some, name_for, note_of, unnoted};
 
 use crate::only::number_of;
 use crate::questions::Question;
@@ -70,6 +70,15 @@ fn note_of(question: &Question, value: Shown, size: u32, edit: u32) -> Note
     }
 }
 
+// Puts a note at a place, where there is such a place.
+fn put_note(notes: &mut [Note], place: usize, note: Note)
+    ensures { PutsNote note place notes.old notes.new }
+{
+    if place < notes.len() {
+        notes[place] = note;
+    }
+}
+
 // Notes a question where its value is another than it was told, behind so many notes, and tells how many there are then. Where there is
 // no room for it, it is counted only.
 fn note_one(
@@ -87,9 +96,7 @@ fn note_one(
     if *value == *before {
         return count;
     }
-    if count < notes.len() {
-        notes[count] = note_of(question, *value, size, edit);
-    }
+    put_note(notes, count, note_of(question, *value, size, edit));
     count + 1
 }
 

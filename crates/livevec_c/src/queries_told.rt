@@ -1,7 +1,7 @@
 //! What of a set of standing queries is told by a vector.
 ghost use Rattle.std.specs.Prelude.{◌≡◌, ◌≤◌, None, Some, length, map, vec_capacity};
 ghost use Rattle.livevec_c.specs.Only.{is_asked_by};
-ghost use Rattle.livevec_c.specs.Queried.{Tells, TellsUnless, answer_by, answered_if, first_refused};
+ghost use Rattle.livevec_c.specs.Queried.{IsAnswered, Tells, TellsUnless, answer_by, answered_if, first_refused};
 
 use crate::kind_vectors::KindVector;
 use crate::only::may_ask;
@@ -15,7 +15,7 @@ use std::mem;
 
 // What a question is answered by a vector. Of its range what exists is asked, and is cheap until an edit touches it. Takes no memory.
 fn answer_one(vector: &mut KindVector, question: &Question) -> Shown
-    ensures value { result ≡ answer_by vector.old question.now }
+    ensures value { IsAnswered vector.old question.now result }
     ensures same { vector.new ≡ vector.old }
 {
     let end = question.hi.min(vector.live().size());
