@@ -49,7 +49,7 @@ module _ (edit size : ℕ) where
   notes_alone (q ∷ questions) (before ∷ told) (value ∷ values) notes others (inl a) (inr b) = absurd (b.0 a.0)
   notes_alone (q ∷ questions) (before ∷ told) (value ∷ values) notes others (inr a) (inl b) = absurd (a.0 b.0)
   notes_alone (q ∷ questions) (before ∷ told) (value ∷ values) notes others (inr a) (inr b) =
-      a.2 ∙ ap (λ ns. _ ∷ ns) (notes_alone questions told values a.1 b.1 a.3 b.3) ∙ sym b.2
+      a.2 ∙ ap (λ ns. note_of edit size q value ∷ ns) (notes_alone questions told values a.1 b.1 a.3 b.3) ∙ sym b.2
 
   -- a note was put behind so many others
   pub noted_one : (q : Question) (told value : Shown) (count : ℕ) (before after : List Note) (note : Note) → (value ≡ told → ⊥) → note ≡ note_of edit size q value → PutsNote note count before after → NotesOne edit size q told value count before (count + 1) after

@@ -1,5 +1,5 @@
 //! What of a set of standing queries is told by a vector.
-ghost use Rattle.std.specs.Prelude.{◌≡◌, ◌≤◌, None, Some, length, map, vec_capacity};
+ghost use Rattle.std.specs.Prelude.{◌≡◌, ◌<◌, ◌≤◌, None, Some, IfSome, length, map, vec_capacity};
 ghost use Rattle.livevec_c.specs.Only.{is_asked_by};
 ghost use Rattle.livevec_c.specs.Queried.{IsAnswered, Tells, TellsUnless, answer_by, answered_if, first_refused};
 
@@ -63,7 +63,8 @@ pub fn answer_asked(vector: &mut KindVector, only: Option<Kind>, question: &Ques
 impl Queries {
     // The first question that a vector, of one kind or of all six, may not be asked, if there is one.
     fn first_refused(&self, only: Option<Kind>) -> Option<usize>
-        ensures { result ≡ first_refused only self.now.questions }
+        ensures place { result ≡ first_refused only self.now.questions }
+        ensures few { IfSome result (λ place. place < 64) }
     {
         self.questions
             .iter()

@@ -1,10 +1,9 @@
-use Rattle.std.proofs.Common.{◌≡◌, ◌+◌, ◌<◌, ◌≤◌, ℕ, List, ◌∷◌, ◌++◌, length, take, drop, refl, ap, ◌∙◌, arith}
+use Rattle.std.proofs.Common.{◌≡◌, ◌+◌, ◌<◌, ◌≤◌, ℕ, suc, List, ◌∷◌, ◌++◌, length, take, drop, refl, ap, ◌∙◌, arith}
 use Rattle.std.specs.Prelude.{slice_set}
 use Rattle.std.proofs.lemmas.List.{length-set, set_split}
 use Rattle.livevec_c.specs.declared.queries_notes.Note.{Note}
 use Rattle.livevec_c.specs.Queried.{PutsNote}
 use Rattle.livevec_c.proofs.queries_notes.put_note.Goals as goal
-use Rattle.livevec_c.proofs.queries_notes.put_note.Goals.{then-place-notes, else-place-notes}
 
 -- it was put there
 put : (note : Note) (place : ℕ) (before after : List Note) → place < length before → after ≡ slice_set before place note → PutsNote note place before after
@@ -19,9 +18,8 @@ put note place before after room set =
 left : (note : Note) (place : ℕ) (before after : List Note) → length before ≤ place → after ≡ before → PutsNote note place before after
 left note place before after full same = record { places = ap length same; written = λ there. absurd (omega (arith, there, full)) }
 
-pub returns : goal.returns
-returns c =
-    elim c.if-place-notes.branch [
-      | then-place-notes w ↦ put c.args.note c.args.place c.args.notes.now _ (omega arith) w.notes-is
-      | else-place-notes w ↦ left c.args.note c.args.place c.args.notes.now _ (omega arith) w.notes-is
-    ]
+pub returns-then-place-notes : goal.returns-then-place-notes
+returns-then-place-notes c = put c.args.note c.args.place c.args.notes.now _ (omega arith) refl
+
+pub returns-else-place-notes : goal.returns-else-place-notes
+returns-else-place-notes c = left c.args.note c.args.place c.args.notes.now _ (omega arith) refl
