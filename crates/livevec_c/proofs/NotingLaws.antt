@@ -1,6 +1,6 @@
 -- The answers and the notes of questions, one after another.
-use Rattle.std.proofs.Common.{◌≡◌, ◌≢◌, ◌<◌, ◌≤◌, ◌+◌, ℕ, List, [], ◌∷◌, ◌++◌, append_assoc, append-nil, length, length-append, map, take, take_all, drop, get_or, refl, ap, sym, subst, ◌∙◌, inl, inr, arith}
-use Rattle.std.proofs.lemmas.List.{length-map, length-take-le, map-append, take-append-le, take_more}
+use Rattle.std.proofs.Common.{◌≡◌, ◌<◌, ◌≤◌, ◌+◌, ℕ, List, [], ◌∷◌, ◌++◌, append_assoc, length, length-append, map, take, take_all, drop, get_or, refl, ap, sym, subst, ◌∙◌, inl, inr, arith}
+use Rattle.std.proofs.lemmas.List.{length-take-le, map-append, take_more}
 use Rattle.std.proofs.lemmas.Slice.{drop-append-drop}
 use Rattle.std.proofs.Math.Seq.{take-append_seam}
 use Rattle.lv_bodies.specs.declared.kinds.Shown.{Shown}
@@ -106,9 +106,9 @@ notes_as : (edit edits size elements : ℕ) (questions asked : List Question) (t
     → AreNotesOf edit size questions told values notes → AreNotesOf edits elements asked before now notes
 notes_as edit edits size elements questions asked told before values now notes edit_is size_is questions_are told_are values_are are =
     subst (λ e. AreNotesOf e elements asked before now notes) edit_is
-      (subst (λ s. AreNotesOf edit s asked before now notes) size_is
-        (subst (λ vs. AreNotesOf edit size asked before vs notes) values_are
-          (subst (λ bs. AreNotesOf edit size asked bs values notes) told_are (subst (λ qs. AreNotesOf edit size qs told values notes) questions_are are))))
+    (subst (λ s. AreNotesOf edit s asked before now notes) size_is
+    (subst (λ vs. AreNotesOf edit size asked before vs notes) values_are
+    (subst (λ bs. AreNotesOf edit size asked bs values notes) told_are (subst (λ qs. AreNotesOf edit size qs told values notes) questions_are are))))
 
 module _ (old : QueriesState) (state : State) (edit size : ℕ) (edit_is : edit ≡ length state.history.journal) (size_is : size ≡ length (list_of state.history.journal)) where
   -- what was counted doesn't fit
@@ -134,11 +134,14 @@ module _ (old : QueriesState) (state : State) (edit size : ℕ) (edit_is : edit 
       let writes = notes_as edit edits size elements asked old.questions before old.told now answers second.notes edit_is size_is asked_are before_are now_are second.are in
       let alike : length first.notes ≡ length second.notes = ap length (notes_alone edits elements old.questions old.told answers first.notes second.notes counts writes) in
       let fits : length second.notes ≤ length places = omega (arith, room, first.count_is, alike) in
-      let many : number ≡ length second.notes = number_is ∙ first.count_is ∙ alike in
-      (second.notes, writes, inl (record {
-        answer_is = answer_is ∙ ap (λ e. record { refusal = 0; detail = 0; edit = e; count = number }) edit_is ∙ ap (λ n. record { refusal = 0; detail = 0; edit = edits; count = n }) many;
-        room = fits;
-        written = second.written fits;
-        questions = same;
-        told = told_now;
-      }))
+      let many : number ≡ length second.notes = number_is ∙ first.count_is ∙ alike in (
+        second.notes,
+        writes,
+        inl (record {
+          answer_is = answer_is ∙ ap (λ e. record { refusal = 0; detail = 0; edit = e; count = number }) edit_is ∙ ap (λ n. record { refusal = 0; detail = 0; edit = edits; count = n }) many;
+          room = fits;
+          written = second.written fits;
+          questions = same;
+          told = told_now;
+        }),
+      )

@@ -1,12 +1,10 @@
 -- What a question is answered is the plain value of what its range has.
 use Rattle.std.proofs.Common.{◌≡◌, ℕ, refl, ap, ◌∙◌}
 use Rattle.std.specs.Prelude.{length, min}
-use Rattle.std.specs.List.{slice_range}
 use Rattle.lv_bodies.specs.Automata.{table_of}
 use Rattle.lv_bodies.specs.Body.{fold_of}
 use Rattle.lv_bodies.specs.Plain.{plain_value_with}
 use Rattle.lv_bodies.specs.Six.{six_operations_by}
-use Rattle.lv_bodies.specs.declared.kinds.Kind.{Kind}
 use Rattle.lv_bodies.specs.declared.kinds.Shown.{Shown}
 use Rattle.lv_bodies.proofs.SixFolds.{face_of-fold}
 use Rattle.lv_edits.specs.History.{list_of}

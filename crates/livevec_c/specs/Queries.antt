@@ -1,5 +1,5 @@
 -- A set of standing queries: its questions in the order in which they were named, and what each counts as told.
-use Rattle.std.specs.Prelude.{ℕ, Option, Some, None, List, [], ◌∷◌, ◌++◌, map, position}
+use Rattle.std.specs.Prelude.{ℕ, Option, List, [], ◌∷◌, ◌++◌, map, position}
 use Rattle.std.specs.List.{remove}
 use Rattle.std.specs.Str.{bytes_eq}
 use Rattle.lv_geometry.specs.declared.refusals.Refusal.{Refusal}

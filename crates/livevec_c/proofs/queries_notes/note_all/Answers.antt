@@ -1,5 +1,4 @@
-use Rattle.std.proofs.Common.{◌≡◌, length, take, take_all, subst, arith, rules, ap}
-use Rattle.livevec_c.specs.Queried.{NotesInto}
+use Rattle.std.proofs.Common.{arith, rules}
 use Rattle.livevec_c.proofs.NotingLaws.{all_noted, next_noted, none_noted}
 use Rattle.livevec_c.proofs.queries_notes.note_all.Goals as goal
 

@@ -1,4 +1,4 @@
-use Rattle.std.proofs.Common.{◌≡◌, ◌+◌, ◌≤◌, [], ◌∷◌, refl, rules, sym, ap, ◌∙◌, inl, inr, arith}
+use Rattle.std.proofs.Common.{◌≡◌, [], refl, rules, sym, inl, arith}
 use Rattle.std.proofs.lemmas.List.{take-append-drop}
 use Rattle.livevec_c.proofs.NotingLaws.{noted_one}
 use Rattle.livevec_c.proofs.queries_notes.note_one.Goals as goal

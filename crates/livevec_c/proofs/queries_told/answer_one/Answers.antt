@@ -1,4 +1,4 @@
-use Rattle.std.proofs.Common.{◌≡◌, ◌∙◌, length, min, ap, arith}
+use Rattle.std.proofs.Common.{◌≡◌, ◌∙◌, length, min, ap}
 use Rattle.lv_edits.specs.History.{list_of}
 use Rattle.livevec_c.proofs.QueriedLaws.{answers_question}
 use Rattle.livevec_c.proofs.queries_told.answer_one.Goals as goal

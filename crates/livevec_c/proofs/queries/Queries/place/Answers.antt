@@ -1,8 +1,7 @@
-use Rattle.std.proofs.Common.{◌∙◌, ap, rules, tests}
+use Rattle.std.proofs.Common.{rules, tests}
 use Rattle.std.specs.Str.{bytes_eq}
 use Rattle.std.proofs.lemmas.Iterator.{YieldsList-from_slice}
 use Rattle.std.proofs.lemmas.Iterator.Search.{position_from_yields_List}
-use Rattle.livevec_c.specs.Queries.{place_of}
 use Rattle.livevec_c.proofs.queries.Queries.place.Goals as goal
 
 pub returns : goal.returns
