@@ -35,6 +35,7 @@ void places(void);
 
 /* The tests of series. */
 void series(void);
+
 /* The tests of standing queries. */
 void queries(void);
 

@@ -43,10 +43,8 @@ template <class Owner> constexpr bool is_moved_alone =
     !std::is_copy_constructible_v<Owner> && !std::is_copy_assignable_v<Owner> && std::is_nothrow_move_constructible_v<Owner> &&
     std::is_nothrow_move_assignable_v<Owner>;
 static_assert(is_moved_alone<livevec::vector> && is_moved_alone<livevec::job> && is_moved_alone<livevec::outcome>);
-static_assert(is_moved_alone<livevec::queries>);
+static_assert(is_moved_alone<livevec::queries> && is_moved_alone<livevec::series>);
 static_assert(is_moved_alone<livevec::board> && is_moved_alone<livevec::seat> && is_moved_alone<livevec::closed>);
-
-static_assert(is_moved_alone<livevec::series>);
 
 static void goes_in_and_comes_out()
 {
@@ -340,14 +338,20 @@ static void goes_on()
     IS(moved.expire(moved.size()) == 5 && moved.empty() && refusal_of([&] { moved.pop(); }) == LIVEVEC_EMPTY);
     IS(refusal_of([&] { readings.push(1); }) == LIVEVEC_NULL);
     IS(refusal_of([&] { moved.push_many(livevec::array_view(nullptr, 1)); }) == LIVEVEC_NULL);
+}
+
 /* The notes of a set, in words. */
 static std::string told(livevec::queries &set, const livevec::vector &of)
+{
     std::string text;
     const std::uint32_t edit = set.notes(of, [&text](const livevec_note &note) {
         text += std::string(note.name) + " " + (note.kind == LIVEVEC_SUM ? std::to_string(note.values.sum) : std::to_string(note.values.least)) + " at " + std::to_string(note.edit) + "; ";
     });
     return text + std::to_string(edit);
+}
+
 static void tells_notes()
+{
     livevec::vector feed;
     livevec::queries set;
     set.watch("total", LIVEVEC_SUM);
@@ -377,10 +381,12 @@ static void tells_notes()
     IS(refusal_of([&] { (void)set.answer(feed, "total"); }) == LIVEVEC_NO_SUCH_NAME);
     livevec::vector sums(LIVEVEC_SUM);
     sums.push(9);
+    try {
         (void)set.notes(sums);
         IS(false);
     } catch (const livevec::refused &refused) {
         IS(refused.number() == LIVEVEC_BAD_KIND && refused.detail() == 0);
+    }
     livevec::queries moved = std::move(set);
     IS(moved.notes(feed).empty());
     IS(refusal_of([&] { set.unwatch("dip"); }) == LIVEVEC_NULL);
@@ -398,6 +404,7 @@ int main()
     finds_where();
     takes_many_writes();
     tells_notes();
+    goes_on();
     sits_at_a_board();
     threads_share_a_board();
 
@@ -435,6 +442,5 @@ int main()
     IS(eight.deliver(*outcome) == LIVEVEC_INSTALLED && eight.deliver(*outcome) == LIVEVEC_HELD);
     eight.write(0, 9);
     IS(eight.deliver(*outcome) == LIVEVEC_STALE);
-    goes_on();
     std::puts("C++: each call answered as it should");
 }

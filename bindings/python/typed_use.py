@@ -6,8 +6,7 @@ from __future__ import annotations
 from array import array
 from typing import Optional, Union
 
-from livevec import Board, Delivered, Finished, Job, Kind, LongReduced, NotKept, Outrun, Reduced, Refusal, Scan, Seat, Series, Summary, Values, Vector
-from livevec import Answered, Board, Delivered, Finished, Job, Kind, Note, Outrun, Queries, Reduced, Refusal, Scan, Seat, Summary, Values, Vector
+from livevec import Answered, Board, Delivered, Finished, Job, Kind, LongReduced, NotKept, Note, Outrun, Queries, Reduced, Refusal, Scan, Seat, Series, Summary, Values, Vector
 
 
 class Prices(Vector):

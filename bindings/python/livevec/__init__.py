@@ -50,9 +50,7 @@ __all__ = [
     "Queries", "Note", "Answered",
     "Refusal", "Worn", "Empty", "OutOfRange", "TooLarge", "Full", "NoMemory", "BadRange", "BadLimits", "BadTable", "Stranger", "Closed",
     "ShortBuffer", "TooWide", "Outrun", "Contended", "Overtaken", "NoSeat", "SeatsOut", "Busy", "OtherVersion", "Damaged", "OtherTable", "TooLong",
-    "BadKind",
     "Series", "LongReduced", "NotKept",
-    "MOST_BUCKETS", "MOST_EDITS", "MOST_BOARD_BUCKETS", "MOST_SEATS", "SUMMARY_BYTES",
     "BadKind", "NameTaken", "NoSuchName", "TooMany", "BadName",
     "MOST_BUCKETS", "MOST_EDITS", "MOST_BOARD_BUCKETS", "MOST_SEATS", "SUMMARY_BYTES", "MOST_QUERIES",
 ]
@@ -1891,8 +1889,7 @@ def _given(lo: Optional[int], hi: Optional[int], holder: Vector) -> tuple[int, i
         return 0, _MOST_U32
 
 
-# --- The series: it stands in a module of its own, which needs what stands above ---
+# --- Standing queries and the series: they stand in modules of their own, which need what stands above ---
 
+from livevec._queries import Answered, Note, Queries  # noqa: E402
 from livevec._series import LongReduced, NotKept, Series  # noqa: E402
-# --- Standing queries, which stand on all above ---
-from ._queries import Answered, Note, Queries  # noqa: E402
