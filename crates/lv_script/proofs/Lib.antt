@@ -1,3 +1,4 @@
+-- Names the files of lemmas of `lv_script`.
 pub mod OneLineLaws
 pub mod OneTextLaws
 pub mod PlainRunLaws

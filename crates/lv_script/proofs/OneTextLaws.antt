@@ -24,7 +24,7 @@ use Rattle.lv_lines.specs.Replies.{Answered}
 use Rattle.lv_lines.specs.Texts.{refused_text}
 use Rattle.lv_script.specs.OneText.{StepWithRoom}
 use Rattle.lv_script.specs.Script.{CommandAnswer, Does, HasQueries, LineAnswer, ScriptState, ScriptStep, Tells, TellsEdit, TellsEvent, TellsUnwatch, TellsWatch, edit_text, notes_text, reply_text}
-use Rattle.lv_script.specs.Scripted.{Begins}
+use Rattle.lv_script.specs.Beginnings.{Begins}
 
 -- the reply to what was refused for want of memory
 abbrev want : Reply SixSummary

@@ -35,7 +35,7 @@ use Rattle.lv_lines.proofs.Conversing.{conversed_as}
 use Rattle.lv_script.specs.PlainRuns.{IsOneLine, MeetsWant, PlainStep, may_want}
 use Rattle.lv_script.specs.PlainScript.{Plain, after, note_of, plain_after, plain_reply, refusal_of, reply_of, same_value, start, unknown}
 use Rattle.lv_script.specs.Script.{CommandAnswer, HasQueries, LineAnswer, ScriptState, ScriptStep, Tells, TellsEvent, TellsUnwatch, TellsWatch, edit_text, named_answer_text, notes_text, reduced_text, reply_text, scanned_range_text}
-use Rattle.lv_script.specs.Scripted.{Begins}
+use Rattle.lv_script.specs.Beginnings.{Begins}
 use Rattle.lv_script.proofs.OneLineLaws.{claim_line, cost_line, delivery_line, refused_line}
 use Rattle.lv_script.proofs.OneTextLaws.{edit_reply_tells, no_notes}
 

@@ -3,7 +3,13 @@ use Rattle.std.proofs.Common.{◌≡◌, ℕ, Option, Result, List, refl, sym, �
 use Rattle.lv_lines.specs.declared.fault.Fault.{Fault}
 use Rattle.lv_lines.specs.Replies.{Conversed}
 use Rattle.lv_lines.proofs.Conversing.{conversed_as}
-use Rattle.lv_script.specs.Schedule.{Played, PlayedStep, Plays, ScheduleStep, SumMachine}
+use Rattle.lv_script.specs.Played.{Played, PlayedStep}
+use Rattle.lv_script.specs.Schedule.{ScheduleStep, SumMachine}
+
+-- what stands for the machine of a place
+pub record Plays (place : ℕ) (s : Played) (m : SumMachine) : Type 0 where
+  pub here : s.place ≡ place
+  pub machine : s.machine ≡ m
 
 -- a line of the player is one of the machine in its place
 line_as : (place : ℕ) (s : Played) (m : SumMachine) (n : ℕ) (line text : List ℕ) (u : Played) → Plays place s m → PlayedStep s n line text u

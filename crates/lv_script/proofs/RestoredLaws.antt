@@ -16,7 +16,7 @@ use Rattle.lv_script.specs.PlainRuns.{NeverWants, PlainStep}
 use Rattle.lv_script.specs.PlainScript.{Plain}
 use Rattle.lv_script.specs.Restored.{AnswersAfter, IsPlainTextAfter, start_after}
 use Rattle.lv_script.specs.Script.{ScriptState, ScriptStep}
-use Rattle.lv_script.specs.Scripted.{BeginsAfter}
+use Rattle.lv_script.specs.Beginnings.{BeginsAfter}
 use Rattle.lv_script.proofs.PlainRunLaws.{room_text}
 use Rattle.lv_script.proofs.PlainStepLaws.{plain_of, step_plain}
 

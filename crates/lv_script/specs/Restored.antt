@@ -15,7 +15,7 @@ use Rattle.lv_script.specs.declared.restored.Unrestored.TheVariants as unrestore
 use Rattle.lv_script.specs.PlainRuns.{IsOneLine, NeverWants, PlainStep}
 use Rattle.lv_script.specs.PlainScript.{Plain, plain_text}
 use Rattle.lv_script.specs.Script.{ScriptState, ScriptStep}
-use Rattle.lv_script.specs.Scripted.{BeginsAfter}
+use Rattle.lv_script.specs.Beginnings.{BeginsAfter}
 
 -- the plain interpreter begins with these edits and no queries
 abbrev pub start_after : Bounds → List Edit → Plain

@@ -144,20 +144,3 @@ machine_after m (Do e) = (sum_step m e).0
 unfoldable pub ScheduleStep : SumMachine → ℕ → List ℕ → List ℕ → SumMachine → Type 0
 ScheduleStep old n line text new =
     (text ≡ line_text old n (schedule_line_of line)) × (new ≡ machine_after old (schedule_line_of line))
-
--- ---- a schedule while it is played
-
--- a machine, and the name of the reference to its place
-pub record Played : Type 0 where
-  pub machine : SumMachine
-  pub place : ℕ
-
--- one line of a schedule, after which the machine is in its place
-pub record PlayedStep (old : Played) (n : ℕ) (line text : List ℕ) (new : Played) : Type 0 where
-  pub place : new.place ≡ old.place
-  pub answered : ScheduleStep old.machine n line text new.machine
-
--- what stands for the machine of a place
-pub record Plays (place : ℕ) (s : Played) (m : SumMachine) : Type 0 where
-  pub here : s.place ≡ place
-  pub machine : s.machine ≡ m

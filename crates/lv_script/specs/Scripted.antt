@@ -1,10 +1,7 @@
 -- What a script keeps: its vector with standing queries, and the jobs that were claimed.
-use Rattle.std.specs.Prelude.{◌≡◌, ◌≤◌, ℕ, None, List, [], length}
-use Rattle.lv_geometry.specs.Bounds.{Bounds}
-use Rattle.lv_geometry.specs.declared.nodes.Node.{Node}
+use Rattle.std.specs.Prelude.{◌≡◌, ◌≤◌, ℕ, List, length}
 use Rattle.lv_bodies.specs.Six.{SixSummary}
 use Rattle.lv_bodies.specs.declared.sixes.Six.{Six}
-use Rattle.lv_edits.specs.declared.edit.Edit.{Edit}
 use Rattle.lv_refresh.specs.Carried.{Carried}
 use Rattle.lv_live.specs.State.{with_issued}
 use Rattle.lv_standing.specs.Standings.{StandingState}
@@ -19,24 +16,6 @@ pub record Scripted : Type 0 where
 -- what such a script has seen
 abbrev pub state_of : StandingState → List (Carried Six SixSummary) → ScriptState
 state_of s jobs = record { limits = s.live.history.limits; seen = with_issued s.live jobs; queries = s.queries }
-
--- a script begins with no edits, no jobs, no claims, no summaries and no queries
-pub record Begins (limits : Bounds) (s : ScriptState) : Type 0 where
-  pub limits_are : s.limits ≡ limits
-  pub edits : s.seen.edits ≡ []
-  pub issued : s.seen.issued ≡ []
-  pub claimed : (n : Node) → s.seen.claimed n ≡ None
-  pub kept : (n : Node) → s.seen.kept n ≡ None
-  pub queries : s.queries ≡ []
-
--- or with these edits, and nothing else
-pub record BeginsAfter (limits : Bounds) (edits : List Edit) (s : ScriptState) : Type 0 where
-  pub limits_are : s.limits ≡ limits
-  pub edits_are : s.seen.edits ≡ edits
-  pub issued : s.seen.issued ≡ []
-  pub claimed : (n : Node) → s.seen.claimed n ≡ None
-  pub kept : (n : Node) → s.seen.kept n ≡ None
-  pub queries : s.queries ≡ []
 
 -- a script, and at most how many jobs it may claim
 pub record Bounded : Type 0 where

@@ -1,4 +1,5 @@
-ghost use Rattle.std.specs.Prelude.{◌≡◌, ◌⊎◌, ◌+◌, ◌*◌, ◌<◌, ◌≤◌, ◌++◌, List, ℕ, length, OnOk, IfErr, vec_len, vec_capacity};
+//! What a command of a script is answered, and the answers to edits and reads.
+ghost use Rattle.std.specs.Prelude.{◌≡◌, ◌+◌, ◌<◌, ◌≤◌, ◌++◌, List, ℕ, length, OnOk, IfErr};
 ghost use Rattle.lv_bodies.specs.Six.{SixSummary, six_operations};
 ghost use Rattle.lv_bodies.specs.declared.sixes.Six.{Six};
 ghost use Rattle.lv_edits.specs.Capacity.{capacity_after};
@@ -10,30 +11,28 @@ ghost use Rattle.lv_live.specs.Kept.{IsWorld};
 ghost use Rattle.lv_live.specs.State.{SameLive, recorded};
 ghost use Rattle.lv_live.specs.Step.{Costs};
 ghost use Rattle.lv_live.specs.declared.events.Event.TheVariants as event;
-ghost use Rattle.lv_standing.specs.Queries.{query_of};
 ghost use Rattle.lv_lines.specs.Output.{HasRoom, KeepsRoom, Puts, PutsFront, SamePlaces};
 ghost use Rattle.lv_lines.specs.Texts.{capacity_text, element_text, size_text};
-ghost use Rattle.lv_script.specs.Script.{CommandAnswer, TellsEdit, TellsEvent, TellsUnwatch, TellsWatch, Tells, named_answer_text, reduced_text};
+ghost use Rattle.lv_script.specs.Script.{CommandAnswer, TellsEdit, TellsEvent, reduced_text};
 ghost use Rattle.lv_script.specs.Scripted.{state_of};
 
-use crate::refresh_replies::{put_accepted, put_cost, put_forgotten, put_idle, put_job};
+use crate::job_answers::{put_claim, put_delivery, put_forget};
+use crate::query_answers::{put_named_answer, put_unwatch, put_watch};
+use crate::refresh_replies::put_cost;
 use crate::scans::{Asked, answer_scan};
-use crate::watch_replies::{put_named, put_notes, put_unwatched, put_watching};
+use crate::watch_replies::{ROOM, put_notes};
 use lv_bodies::{Body, Kind, Six};
 use lv_edits::Edit;
 use lv_geometry::Refusal;
 use lv_lines::{
-    Command, Fault, LINE, Outbox, put_answer, put_capacity, put_receipt, put_refusal, put_settled,
+    Command, Fault, Outbox, put_answer, put_capacity, put_receipt, put_refusal, put_settled,
     put_size, put_value,
 };
 use lv_live::{Issued, Live};
 use lv_reduce::Reads;
-use lv_standing::{Name, Standing};
+use lv_standing::Standing;
 use std::alloc::Global;
 use std::io::Write;
-
-/// At most how many bytes a reply has, scans apart: a line, and a note for each of 64 queries.
-pub const ROOM: usize = 65 * LINE;
 
 /// Answers a command. Only the reply to a scan may be longer than what is held.
 pub fn answer<W: Write>(
@@ -202,105 +201,4 @@ fn reads_of(standing: &Standing, lo: u32, hi: u32) -> Result<Reads, Refusal>
     ensures { Costs (recorded standing.now.live) lo hi result }
 {
     standing.live().cost(lo, hi)
-}
-
-// Claims a job, once there is room to keep it.
-fn put_claim(standing: &mut Standing, issued: &mut Issued<Six>, held: &mut Vec<u8>)
-    requires { HasRoom held.old ROOM }
-    ensures answer { (reply : List ℕ) × CommandAnswer (state_of standing.old issued.old.jobs) Command.Claim reply (state_of standing.new issued.new.jobs)
-        × (held.new.items ≡ held.old.items ++ reply) }
-    ensures world { IsWorld six_operations standing.old.live issued.old.jobs → IsWorld six_operations standing.new.live issued.new.jobs }
-    ensures room { KeepsRoom held.old held.new }
-    ensures most { issued.new.most ≡ issued.old.most }
-    ensures few { length issued.old.jobs ≤ issued.old.most → length issued.new.jobs ≤ issued.new.most }
-{
-    let Ok(()) = issued.make_room(1) else {
-        put_refusal(held, Refusal::NoMemory);
-        return;
-    };
-    put_next_job(standing, issued, held);
-}
-
-// Claims a job, and keeps it under its number.
-fn put_next_job(standing: &mut Standing, issued: &mut Issued<Six>, held: &mut Vec<u8>)
-    requires held { HasRoom held.old ROOM }
-    requires issued { 0 < issued.old.room }
-    ensures answer { (reply : List ℕ) × TellsEvent (state_of standing.old issued.old.jobs) event.Claim reply (state_of standing.new issued.new.jobs)
-        × (held.new.items ≡ held.old.items ++ reply) }
-    ensures world { IsWorld six_operations standing.old.live issued.old.jobs → IsWorld six_operations standing.new.live issued.new.jobs }
-    ensures room { KeepsRoom held.old held.new }
-    ensures most { issued.new.most ≡ issued.old.most }
-    ensures few { length issued.new.jobs ≤ length issued.old.jobs + 1 }
-{
-    match standing.claim_numbered(issued) {
-        Some((number, node, version)) => put_job(held, number, node, version),
-        None => put_idle(held),
-    }
-}
-
-// Delivers the outcome of a job, where there is one of that number.
-fn put_delivery(standing: &mut Standing, issued: &Issued<Six>, k: u32, held: &mut Vec<u8>)
-    requires world { IsWorld six_operations standing.old.live issued.now.jobs }
-    requires room { HasRoom held.old ROOM }
-    ensures answer { (reply : List ℕ) × TellsEvent (state_of standing.old issued.now.jobs) (event.Deliver k) reply (state_of standing.new issued.now.jobs)
-        × (held.new.items ≡ held.old.items ++ reply) }
-    ensures world { IsWorld six_operations standing.new.live issued.now.jobs }
-    ensures room { KeepsRoom held.old held.new }
-{
-    match standing.deliver(issued, k as u64) {
-        Ok(accepted) => put_accepted(held, accepted),
-        Err(refusal) => put_refusal(held, refusal),
-    }
-}
-
-// Forgets all claims.
-fn put_forget(standing: &mut Standing, held: &mut Vec<u8>)
-    requires { HasRoom held.old ROOM }
-    ensures answer { (reply : List ℕ) × ((jobs : List (Carried Six SixSummary)) → TellsEvent (state_of standing.old jobs) event.Forget reply (state_of standing.new jobs))
-        × (held.new.items ≡ held.old.items ++ reply) }
-    ensures world { (jobs : List (Carried Six SixSummary)) → IsWorld six_operations standing.old.live jobs → IsWorld six_operations standing.new.live jobs }
-    ensures room { KeepsRoom held.old held.new }
-{
-    standing.forget_claims();
-    put_forgotten(held);
-}
-
-// Registers a query.
-fn put_watch(standing: &mut Standing, name: Name, kind: Kind, lo: u32, hi: u32, held: &mut Vec<u8>)
-    requires { HasRoom held.old ROOM }
-    ensures answer { (reply : List ℕ) × ((jobs : List (Carried Six SixSummary)) → TellsWatch (state_of standing.old jobs) record { name = name; kind = kind; lo = lo; hi = hi } reply (state_of standing.new jobs))
-        × (held.new.items ≡ held.old.items ++ reply) }
-    ensures live { standing.new.live ≡ standing.old.live }
-    ensures room { KeepsRoom held.old held.new }
-{
-    match standing.watch(name, kind, lo, hi) {
-        Ok(()) => put_watching(held, name),
-        Err(refusal) => put_refusal(held, refusal),
-    }
-}
-
-// Forgets a query.
-fn put_unwatch(standing: &mut Standing, name: Name, held: &mut Vec<u8>)
-    requires { HasRoom held.old ROOM }
-    ensures answer { (reply : List ℕ) × ((jobs : List (Carried Six SixSummary)) → TellsUnwatch (state_of standing.old jobs) name (query_of standing.old.queries name) reply (state_of standing.new jobs))
-        × (held.new.items ≡ held.old.items ++ reply) }
-    ensures live { standing.new.live ≡ standing.old.live }
-    ensures room { KeepsRoom held.old held.new }
-{
-    match standing.unwatch(name) {
-        Ok(()) => put_unwatched(held, name),
-        Err(refusal) => put_refusal(held, refusal),
-    }
-}
-
-// What a query answers.
-fn put_named_answer(standing: &Standing, name: Name, held: &mut Vec<u8>)
-    requires { HasRoom held.old ROOM }
-    ensures text { held.new.items ≡ held.old.items ++ named_answer_text standing.now.live.history.journal name (query_of standing.now.queries name) }
-    ensures room { KeepsRoom held.old held.new }
-{
-    match standing.answer(name) {
-        Ok(answered) => put_named(held, answered.edit, name, answered.value),
-        Err(refusal) => put_refusal(held, refusal),
-    }
 }

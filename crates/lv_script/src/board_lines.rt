@@ -1,3 +1,4 @@
+//! What the lines of a board's session say.
 ghost use Rattle.std.specs.Prelude.{◌≡◌, ◌∷◌};
 ghost use Rattle.lv_lines.specs.Words.{words_of};
 ghost use Rattle.lv_script.specs.BoardLine.{board_call_in, board_line_of, own_range_in};

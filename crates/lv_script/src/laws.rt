@@ -1,3 +1,4 @@
+//! Laws of all scripts, as functions that do nothing.
 ghost use Rattle.std.specs.Prelude.{◌≡◌, ◌==◌, ℕ, List, [], ◌∷◌, ◌++◌, codes, if◌then◌else◌, map, take};
 ghost use Rattle.std.specs.List.{flat_map};
 ghost use Rattle.lv_geometry.specs.Bounds.{Bounds};
@@ -9,7 +10,7 @@ ghost use Rattle.lv_script.specs.OneText.{StepWithRoom};
 ghost use Rattle.lv_script.specs.PlainRuns.{AnswerStep, IsOneLine, NeverWants, PlainStep, TrueStep, asked_in, plain_answers};
 ghost use Rattle.lv_script.specs.PlainScript.{Plain, plain_text, start};
 ghost use Rattle.lv_script.specs.Script.{ScriptState};
-ghost use Rattle.lv_script.specs.Scripted.{Begins};
+ghost use Rattle.lv_script.specs.Beginnings.{Begins};
 
 use lv_lines::Responder;
 

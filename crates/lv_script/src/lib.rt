@@ -13,8 +13,10 @@
 mod answers;
 mod board_lines;
 pub mod devices;
+mod job_answers;
 mod laws;
 mod plain_calls;
+mod query_answers;
 mod refresh_replies;
 mod restored;
 mod scan_replies;

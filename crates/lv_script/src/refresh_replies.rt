@@ -1,3 +1,4 @@
+//! The replies about jobs, refreshes and costs.
 ghost use Rattle.std.specs.Prelude.{◌≡◌, ◌++◌};
 ghost use Rattle.lv_lines.specs.Output.{HasRoom, KeepsRoom};
 ghost use Rattle.lv_lines.specs.Texts.{accepted_text, cost_text, forgotten_text, fresh_text, idle_text, job_text};

@@ -1,4 +1,4 @@
-// Scripts that go on from the edits of a transcript's front.
+//! Scripts that go on from the edits of a transcript's front.
 ghost use Rattle.std.specs.Prelude.{◌≡◌, ℕ, ◌++◌, List, Option, None, Ok, IfErr, OnOk};
 ghost use Rattle.lv_edits.specs.Kept.{IsLegalInLimits};
 ghost use Rattle.lv_edits.specs.History.{with_edit};

@@ -1,3 +1,4 @@
+//! The lines of the reply to a scan.
 ghost use Rattle.std.specs.Prelude.{◌≡◌, ◌+◌, ◌*◌, ◌≤◌, [], ◌++◌, length, map, IsOk, OnOk, IfErr, vec_len};
 ghost use Rattle.lv_bodies.specs.Six.{face_of};
 ghost use Rattle.lv_lines.specs.Output.{HasRoom, KeepsRoom, Puts, PutsFront, SamePlaces};

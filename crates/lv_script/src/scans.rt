@@ -1,3 +1,4 @@
+//! How scans are answered, of which only a part is held at a time.
 ghost use Rattle.std.specs.Prelude.{◌≡◌, ◌+◌, ◌<◌, ◌≤◌, List, ℕ, ℤ, length, IfNone, OnOk, IfErr};
 ghost use Rattle.std.specs.List.{slice_index_or};
 ghost use Rattle.lv_edits.specs.History.{list_of};

@@ -1,3 +1,4 @@
+//! What the lines of a schedule say.
 ghost use Rattle.std.specs.Prelude.{◌≡◌, ◌∷◌};
 ghost use Rattle.lv_lines.specs.Words.{words_of};
 ghost use Rattle.lv_script.specs.Schedule.{call_in, called_in, event_in, schedule_line_of};

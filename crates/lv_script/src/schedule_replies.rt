@@ -1,3 +1,4 @@
+//! The replies to the events of a schedule.
 ghost use Rattle.std.specs.Prelude.{◌≡◌, ◌*◌, ◌++◌};
 ghost use Rattle.lv_lines.specs.Output.{HasRoom, KeepsRoom};
 ghost use Rattle.lv_script.specs.Schedule.{outcome_text, said_shown, said_text};

@@ -1,7 +1,9 @@
+//! Schedules: each line is an event on a machine.
 ghost use Rattle.std.specs.Prelude.{◌≡◌, ◌++◌};
 ghost use Rattle.lv_lines.specs.Output.{HasRoom, KeepsRoom};
 ghost use Rattle.lv_lines.specs.Replies.{Conversed};
-ghost use Rattle.lv_script.specs.Schedule.{Played, PlayedStep, ScheduleStep, actor_of, event_text, line_text, machine_after, sum_step};
+ghost use Rattle.lv_script.specs.Played.{Played, PlayedStep};
+ghost use Rattle.lv_script.specs.Schedule.{ScheduleStep, actor_of, event_text, line_text, machine_after, sum_step};
 
 use crate::schedule_lines::{ScheduleLine, read_schedule_line};
 use crate::schedule_replies::{EVENT, put_outcome};

@@ -1,3 +1,4 @@
+//! Scripts: each line is a command to a vector with standing queries.
 ghost use Rattle.std.specs.Prelude.{◌≡◌, ◌≤◌, [], List, ℕ, length, OnOk, IfErr};
 ghost use Rattle.std.specs.Io.KnownBytes.{Appends, Consumes, IsAtEnd};
 ghost use Rattle.lv_bodies.specs.Six.{six_operations};
@@ -8,9 +9,11 @@ ghost use Rattle.lv_lines.specs.Replies.{Conversed, FailsToReply, Replies};
 ghost use Rattle.lv_script.specs.PlainRuns.{IsPlainText, NeverWants, PlainStep};
 ghost use Rattle.lv_script.specs.PlainScript.{Plain, start};
 ghost use Rattle.lv_script.specs.Script.{LineAnswer, ScriptState, ScriptStep};
-ghost use Rattle.lv_script.specs.Scripted.{Begins, Bounded, BoundedStep, state_of};
+ghost use Rattle.lv_script.specs.Beginnings.{Begins};
+ghost use Rattle.lv_script.specs.Scripted.{Bounded, BoundedStep, state_of};
 
-use crate::answers::{ROOM, answer};
+use crate::answers::answer;
+use crate::watch_replies::ROOM;
 use lv_bodies::Six;
 use lv_geometry::Limits;
 use lv_lines::{Fault, Line, Outbox, Responder, converse, put_bad, read_line};

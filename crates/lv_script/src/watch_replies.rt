@@ -1,3 +1,4 @@
+//! The replies about standing queries, and their notes.
 ghost use Rattle.std.specs.Prelude.{◌≡◌, ◌+◌, ◌*◌, ◌≤◌, ◌++◌, length, vec_len};
 ghost use Rattle.lv_lines.specs.Output.{HasRoom, KeepsRoom};
 ghost use Rattle.lv_lines.specs.Texts.{named_text, note_text, unwatched_text, watching_text};
@@ -6,6 +7,9 @@ ghost use Rattle.lv_script.specs.Script.{notes_text};
 use lv_bodies::Shown;
 use lv_lines::{LINE, put, put_number, put_shown};
 use lv_standing::{Name, Note};
+
+/// At most how many bytes a reply has, scans apart: a line, and a note for each of 64 queries.
+pub const ROOM: usize = 65 * LINE;
 
 /// That a query stands under the name from now on.
 pub fn put_watching(held: &mut Vec<u8>, name: Name)

@@ -1,3 +1,4 @@
+-- Proof of `answer`: answers a command.
 use Rattle.lv_bodies.specs.Six.{six_operations}
 use Rattle.lv_live.proofs.WorldLaws.{world_settle}
 use Rattle.lv_reduce.specs.Answer.{range_refusal}

@@ -1,3 +1,4 @@
+-- Proof of `put_edit`: makes an edit: its receipt and its notes, or its refusal.
 use Rattle.std.proofs.Common.{◌++◌, ◌∙◌, Ok, ap}
 use Rattle.std.proofs.lemmas.List.{append_assoc}
 use Rattle.lv_bodies.specs.Six.{six_operations}

@@ -1,3 +1,4 @@
+-- Proof of `put_reduced`: the value of a kind over a range, of which the vector keeps what it computes, or why the range is refused.
 use Rattle.std.proofs.Common.{◌++◌, ◌∙◌, ap}
 use Rattle.lv_script.proofs.EventLaws.{reduced_ok}
 use Rattle.lv_script.proofs.answers.put_reduced.Goals as goal

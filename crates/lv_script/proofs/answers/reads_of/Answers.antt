@@ -1,3 +1,4 @@
+-- Proof of `reads_of`: how many reads a reduction makes, or why its range is refused.
 use Rattle.lv_script.proofs.answers.reads_of.Goals as goal
 
 pub returns : goal.returns

@@ -1,6 +1,7 @@
+-- Proof of `put_delivery`: delivers the outcome of a job, where there is one of that number.
 use Rattle.std.proofs.Common.{Err, Ok}
 use Rattle.lv_script.proofs.EventLaws.{tells_delivery}
-use Rattle.lv_script.proofs.answers.put_delivery.Goals as goal
+use Rattle.lv_script.proofs.job_answers.put_delivery.Goals as goal
 
 pub returns-in-Ok-clause-answer : goal.returns-in-Ok-clause-answer
 returns-in-Ok-clause-answer c =

@@ -1,6 +1,7 @@
+-- Proof of `put_next_job`: claims a job, and keeps it under its number.
 use Rattle.std.proofs.Common.{None, Some}
 use Rattle.lv_script.proofs.EventLaws.{tells_claim}
-use Rattle.lv_script.proofs.answers.put_next_job.Goals as goal
+use Rattle.lv_script.proofs.job_answers.put_next_job.Goals as goal
 
 pub returns-in-Some-clause-answer : goal.returns-in-Some-clause-answer
 returns-in-Some-clause-answer c =

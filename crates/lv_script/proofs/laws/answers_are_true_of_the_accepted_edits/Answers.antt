@@ -1,3 +1,4 @@
+-- Proof of `answers_are_true_of_the_accepted_edits`: also where memory is wanting.
 use Rattle.std.proofs.Common.{subst}
 use Rattle.lv_lines.specs.Replies.{Answered}
 use Rattle.lv_script.specs.PlainRuns.{TrueStep}

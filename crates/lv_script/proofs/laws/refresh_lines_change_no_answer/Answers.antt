@@ -1,3 +1,4 @@
+-- Proof of `refresh_lines_change_no_answer`: lines of refresh and of cost change no answer: two scripts with the same edits and queries, in order.
 use Rattle.std.proofs.Common.{[], subst, sym}
 use Rattle.lv_lines.specs.Replies.{Answered}
 use Rattle.lv_script.specs.PlainRuns.{AnswerStep, asked_in, plain_answers}

@@ -1,3 +1,4 @@
+-- Proof of `the_tour_in_the_readme`: the tour in README.md: its lines, and what the plain interpreter answers them.
 use Rattle.std.proofs.Common.{refl}
 use Rattle.std.specs.Fmt.{digits}
 use Rattle.lv_edits.specs.History.{list_of, replayed}

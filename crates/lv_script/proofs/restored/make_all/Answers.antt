@@ -1,3 +1,4 @@
+-- Proof of `make_all`: makes edits that are accepted one after the other, unless memory is wanting.
 use Rattle.std.proofs.Common.{ap, arith, get_or, pos, ◌∙◌}
 use Rattle.lv_edits.specs.declared.edit.Edit.{Edit}
 use Rattle.lv_edits.specs.declared.edit.Edit.TheVariants.{Push}

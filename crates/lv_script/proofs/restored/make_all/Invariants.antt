@@ -1,3 +1,4 @@
+-- What the loop keeps in `make_all`: makes edits that are accepted one after the other, unless memory is wanting.
 use Rattle.std.proofs.Common.{◌≡◌, take}
 use Rattle.lv_edits.specs.Kept.{IsLegalInLimits}
 use Rattle.lv_live.specs.State.{SameRefresh}

@@ -1,3 +1,4 @@
+-- Proof of `restore_script`: makes the edits of a transcript's front anew, then answers a script as `run_script` does, from these edits on.
 use Rattle.std.proofs.Common.{refl}
 use Rattle.lv_script.proofs.restored.restore_script.Goals as goal
 

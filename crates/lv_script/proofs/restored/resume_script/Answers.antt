@@ -1,3 +1,4 @@
+-- Proof of `resume_script`: answers a script as `run_script` does, on a vector that begins with these edits.
 use Rattle.std.proofs.Common.{[], ◌++◌, ap, refl, ◌∙◌}
 use Rattle.lv_edits.specs.History.{History}
 use Rattle.lv_script.specs.Scripted.{state_of}

@@ -1,3 +1,4 @@
+-- Proof of `put_scan`: the scan of a kind at an edit, whose values are those summaries.
 use Rattle.std.proofs.lemmas.Result.{IfErr-weaker, err_from_is_err_and, on_ok_weaker}
 use Rattle.std.proofs.Common.{map}
 use Rattle.lv_bodies.specs.Six.{face_of}

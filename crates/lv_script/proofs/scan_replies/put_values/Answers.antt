@@ -1,3 +1,4 @@
+-- Proof of `put_values`: the values of a scan, each on a line of its own for which room is made as the line comes.
 use Rattle.std.proofs.Common.{◌∙◌, ap, arith}
 use Rattle.std.proofs.lemmas.Result.{err_from_is_err_and}
 use Rattle.lv_bodies.specs.Six.{face_of}

@@ -1,3 +1,4 @@
+-- What the loop keeps in `put_values`: the values of a scan, each on a line of its own for which room is made as the line comes.
 use Rattle.std.proofs.Common.{◌≡◌, ◌+◌, ◌*◌, ◌≤◌, length, map, take, vec_len}
 use Rattle.lv_bodies.specs.Six.{face_of}
 use Rattle.lv_lines.specs.Output.{HasRoom, KeepsRoom, Puts, SamePlaces}

@@ -1,3 +1,4 @@
+-- Proof of `answer_scan`: answers a scan.
 use Rattle.std.proofs.Common.{◌∙◌, sym}
 use Rattle.lv_lines.specs.Output.{Puts, PutsFront}
 use Rattle.lv_script.proofs.EventLaws.{scan_put, scan_put_front}

@@ -1,3 +1,4 @@
+-- Proof of `put_plain_values`: the values of a scan, by the body of its kind alone.
 use Rattle.lv_script.proofs.scans.put_plain_values.Goals as goal
 
 pub returns-in-Sum-clause-fault : goal.returns-in-Sum-clause-fault

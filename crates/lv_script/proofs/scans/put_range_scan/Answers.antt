@@ -1,3 +1,4 @@
+-- Proof of `put_range_scan`: the scan of a range that lies in the vector.
 use Rattle.std.proofs.Common.{◌∙◌, length, sym}
 use Rattle.std.proofs.lemmas.Result.{IfErr-weaker, err_from_is_err_and, on_ok_weaker}
 use Rattle.lv_edits.specs.History.{list_of}

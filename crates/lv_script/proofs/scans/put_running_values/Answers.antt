@@ -1,3 +1,4 @@
+-- Proof of `put_running_values`: what a body shows of the running fold at each element of a range, each on a line of its own.
 use Rattle.std.proofs.Common.{◌≡◌, ◌-◌, ◌+◌, ◌<◌, ◌≤◌, ◌⊎◌, true, false, FitsSigned, length, refl, ◌∙◌, rules, slice_range, subst, inl, inr, arith}
 use Rattle.std.specs.Int.{w64}
 use Rattle.std.proofs.lemmas.Int.{to_z-of_z}

@@ -1,3 +1,4 @@
+-- What the loop keeps in `put_running_values`: what a body shows of the running fold at each element of a range, each on a line of its own.
 use Rattle.std.proofs.Common.{◌≡◌, ◌-◌, length}
 use Rattle.lv_bodies.specs.Body.{fold_of}
 use Rattle.lv_reduce.specs.Answer.{slice_of}

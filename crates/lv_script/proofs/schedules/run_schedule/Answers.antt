@@ -1,3 +1,4 @@
+-- Proof of `run_schedule`: answers a schedule on a machine: reads its lines, does the event that each says, and writes what it comes to.
 use Rattle.std.proofs.Common.{rules}
 use Rattle.lv_script.proofs.Playing.{played_as}
 use Rattle.lv_script.proofs.schedules.run_schedule.Goals as goal

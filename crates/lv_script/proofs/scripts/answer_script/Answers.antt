@@ -1,3 +1,4 @@
+-- Proof of `answer_script`: answers a script by a vector with standing queries, of which no job was claimed, and at most so many may be.
 use Rattle.std.proofs.Common.{[], refl, arith}
 use Rattle.lv_script.specs.Scripted.{Bounded, state_of}
 use Rattle.lv_script.proofs.BoundedLaws.{conversed_within}

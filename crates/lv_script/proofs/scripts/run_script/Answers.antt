@@ -1,3 +1,4 @@
+-- Proof of `run_script`: answers a script: reads its lines, and writes the reply to each.
 use Rattle.lv_script.proofs.scripts.run_script.Goals as goal
 
 pub returns-clause-seen : goal.returns-clause-seen

@@ -1,3 +1,4 @@
+-- Proof of `run_script_within`: answers a script as `run_script` does.
 use Rattle.std.proofs.Common.{[], ap, refl}
 use Rattle.lv_script.specs.Script.{ScriptState}
 use Rattle.lv_script.specs.Scripted.{state_of}

@@ -1,3 +1,4 @@
+-- What the loop keeps in `put_notes`: each note on a line.
 use Rattle.std.proofs.Common.{◌≡◌, ◌+◌, ◌-◌, ◌*◌, ◌≤◌, ◌++◌, length, take, vec_capacity, vec_len}
 use Rattle.lv_script.specs.Script.{notes_text}
 use Rattle.lv_script.proofs.watch_replies.put_notes.Given as goal

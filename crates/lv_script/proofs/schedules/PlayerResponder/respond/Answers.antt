@@ -1,3 +1,4 @@
+-- Proof of the player's `respond`: a line of a schedule is answered on the machine.
 use Rattle.std.proofs.Common.{refl}
 use Rattle.lv_lines.proofs.OutputLemmas.{Writes-put, Writes-trans}
 use Rattle.lv_script.specs.Schedule.{ScheduleStep, line_text, schedule_line_of}

@@ -1,3 +1,4 @@
+-- Proof of the script's `respond`: a line of a script is answered by the vector.
 use Rattle.lv_script.specs.Script.{ScriptStep}
 use Rattle.lv_script.specs.Scripted.{BoundedStep, state_of}
 use Rattle.lv_script.proofs.BoundedLaws.{fails_within, few_named, replies_within}

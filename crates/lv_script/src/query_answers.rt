@@ -1,0 +1,61 @@
+//! What commands about standing queries are answered.
+ghost use Rattle.std.specs.Prelude.{◌≡◌, ◌+◌, ◌<◌, ◌++◌, List, ℕ};
+ghost use Rattle.lv_bodies.specs.Six.{SixSummary};
+ghost use Rattle.lv_bodies.specs.declared.sixes.Six.{Six};
+ghost use Rattle.lv_refresh.specs.Carried.{Carried};
+ghost use Rattle.lv_standing.specs.Queries.{query_of};
+ghost use Rattle.lv_lines.specs.Output.{HasRoom, KeepsRoom};
+ghost use Rattle.lv_script.specs.Script.{TellsUnwatch, TellsWatch, named_answer_text};
+ghost use Rattle.lv_script.specs.Scripted.{state_of};
+
+use crate::watch_replies::{ROOM, put_named, put_unwatched, put_watching};
+use lv_bodies::{Kind, Six};
+use lv_lines::put_refusal;
+use lv_standing::{Name, Standing};
+
+/// Registers a query.
+pub fn put_watch(
+    standing: &mut Standing,
+    name: Name,
+    kind: Kind,
+    lo: u32,
+    hi: u32,
+    held: &mut Vec<u8>,
+)
+    requires { HasRoom held.old ROOM }
+    ensures answer { (reply : List ℕ) × ((jobs : List (Carried Six SixSummary)) → TellsWatch (state_of standing.old jobs) record { name = name; kind = kind; lo = lo; hi = hi } reply (state_of standing.new jobs))
+        × (held.new.items ≡ held.old.items ++ reply) }
+    ensures live { standing.new.live ≡ standing.old.live }
+    ensures room { KeepsRoom held.old held.new }
+{
+    match standing.watch(name, kind, lo, hi) {
+        Ok(()) => put_watching(held, name),
+        Err(refusal) => put_refusal(held, refusal),
+    }
+}
+
+/// Forgets a query.
+pub fn put_unwatch(standing: &mut Standing, name: Name, held: &mut Vec<u8>)
+    requires { HasRoom held.old ROOM }
+    ensures answer { (reply : List ℕ) × ((jobs : List (Carried Six SixSummary)) → TellsUnwatch (state_of standing.old jobs) name (query_of standing.old.queries name) reply (state_of standing.new jobs))
+        × (held.new.items ≡ held.old.items ++ reply) }
+    ensures live { standing.new.live ≡ standing.old.live }
+    ensures room { KeepsRoom held.old held.new }
+{
+    match standing.unwatch(name) {
+        Ok(()) => put_unwatched(held, name),
+        Err(refusal) => put_refusal(held, refusal),
+    }
+}
+
+/// What a query answers.
+pub fn put_named_answer(standing: &Standing, name: Name, held: &mut Vec<u8>)
+    requires { HasRoom held.old ROOM }
+    ensures text { held.new.items ≡ held.old.items ++ named_answer_text standing.now.live.history.journal name (query_of standing.now.queries name) }
+    ensures room { KeepsRoom held.old held.new }
+{
+    match standing.answer(name) {
+        Ok(answered) => put_named(held, answered.edit, name, answered.value),
+        Err(refusal) => put_refusal(held, refusal),
+    }
+}
