@@ -1,4 +1,5 @@
 mod AskingLaws
 mod NoticeLaws
 pub mod Noticed
+mod RefusedQuestions
 pub mod WatchedLaws

@@ -1,6 +1,7 @@
 -- What the lines of a subscriber's file ask.
 use Rattle.std.specs.Prelude.{◌≡◌, ◌⊎◌, ℕ, Option, Some, None, Result, Ok, Err, List, [], ◌∷◌, ◌++◌, Vec}
 use Rattle.lv_geometry.specs.declared.refusals.Refusal.{Refusal}
+use Rattle.lv_geometry.specs.declared.refusals.Refusal.TheVariants as refusals
 use Rattle.lv_edits.specs.Verdict.{IsRefusal}
 use Rattle.lv_lines.specs.declared.command.Command.TheVariants.{Watch}
 use Rattle.lv_lines.specs.declared.command.Line.{Line}
@@ -68,3 +69,24 @@ ReadsQuestions remaining_old remaining_new (Err (unasked.Damage damage)) =
     (questions : List Question) × AsksAll {T = Unit {0}} remaining_old remaining_new (record { questions = questions; damage = Some damage }) (Ok tt)
 ReadsQuestions remaining_old remaining_new (Err (unasked.Fault fault)) =
     (asked : Asked) × AsksAll {T = Unit {0}} remaining_old remaining_new asked (Err fault)
+
+-- ---- why the questions of subscribers are refused
+
+-- the first of two refusals, if there is one
+abbrev pub first_refusal : Option Refusal → Option Refusal → Option Refusal
+first_refusal (Some refusal) other = Some refusal
+first_refusal None other = other
+
+-- why questions that come in turn behind others are refused, want of memory apart: as the first that is
+abbrev pub refusal_behind : List Question → List Question → Option Refusal
+refusal_behind before [] = None
+refusal_behind before (q ∷ questions) = first_refusal (question_refusal before q) (refusal_behind (before ++ q ∷ []) questions)
+
+-- why those of several subscribers are, who have none before: as the first that is
+abbrev pub refusal_of_all : List (List Question) → Option Refusal
+refusal_of_all [] = None
+refusal_of_all (questions ∷ rest) = first_refusal (refusal_behind [] questions) (refusal_of_all rest)
+
+-- they are refused so; or memory is wanting, which may be whatever they ask
+abbrev pub IsRefusedFor : Option Refusal → Refusal → Type 0
+IsRefusedFor known refusal = (known ≡ Some refusal) ⊎ (refusal ≡ refusals.NoMemory)

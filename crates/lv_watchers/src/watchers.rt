@@ -1,6 +1,7 @@
 // Subscribers beside sessions: what each is told goes to its file.
 
-ghost use Rattle.std.specs.Prelude.{◌≡◌, ◌+◌, ◌≤◌, IfOk, [], map, vec_len};
+ghost use Rattle.std.specs.Prelude.{◌≡◌, ◌+◌, ◌≤◌, IfErr, IfOk, None, OnOk, [], map, vec_len};
+ghost use Rattle.lv_watchers.specs.Asking.{IsRefusedFor, refusal_behind, refusal_of_all};
 ghost use Rattle.lv_watchers.specs.Noticing.{Watches};
 ghost use Rattle.lv_hub.specs.Notes.{answer_to};
 ghost use Rattle.lv_watchers.specs.Watchers.{left_by, watcher_at};
@@ -121,7 +122,9 @@ fn subscribe<N: Means<Six>, F: Write + Drop>(
     requires parts { share.parts ≡ 1 }
     requires count { share.count ≡ 0 }
     requires seen { share.seen ≡ [] }
-    ensures { IfOk result (λ w. w ≡ watcher_at (record { questions = watch.questions.items; contents = F.contents watch.notes })) }
+    ensures begun { IfOk result (λ w. w ≡ watcher_at (record { questions = watch.questions.items; contents = F.contents watch.notes })) }
+    ensures fit { OnOk result (refusal_behind [] watch.questions.items ≡ None) }
+    ensures refused { IfErr result (λ refusal. IsRefusedFor (refusal_behind [] watch.questions.items) refusal) }
 {
     let Watch {
         number,
@@ -147,7 +150,9 @@ fn ask_all<N: Means<Six>>(
 ) -> Result<(), Refusal>
     requires none { subscriber.old.questions ≡ [] }
     requires untold { subscriber.old.told ≡ [] }
-    ensures { IfOk result (λ done. subscriber.new ≡ record subscriber.old { questions = questions.now; told = map (answer_to []) questions.now }) }
+    ensures asked { IfOk result (λ done. subscriber.new ≡ record subscriber.old { questions = questions.now; told = map (answer_to []) questions.now }) }
+    ensures fit { OnOk result (refusal_behind [] questions.now ≡ None) }
+    ensures refused { IfErr result (λ refusal. IsRefusedFor (refusal_behind [] questions.now) refusal) }
 {
     for question in questions {
         subscriber.watch(question)?;
@@ -168,6 +173,9 @@ pub fn subscribe_all<N: Means<Six>, F: Write + Drop>(
     ensures count { IfOk result (λ watchers. share.new.count ≡ share.old.count) }
     ensures seen { IfOk result (λ watchers. share.new.seen ≡ []) }
     ensures begun { IfOk result (λ watchers. watchers.items ≡ map (λ w. watcher_at (record { questions = w.questions.items; contents = F.contents w.notes })) watches.items) }
+    ensures fit { OnOk result (refusal_of_all (map (λ w. w.questions.items) watches.items) ≡ None) }
+    // The first question that is refused tells why; or memory was wanting.
+    ensures refused { IfErr result (λ refusal. IsRefusedFor (refusal_of_all (map (λ w. w.questions.items) watches.items)) refusal) }
 {
     let mut watchers = Vec::new(alloc);
     for watch in watches {

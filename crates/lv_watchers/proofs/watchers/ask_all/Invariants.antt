@@ -1,5 +1,6 @@
-use Rattle.std.proofs.Common.{◌≡◌, [], map, take}
+use Rattle.std.proofs.Common.{◌≡◌, [], None, map, take}
 use Rattle.lv_hub.specs.Notes.{answer_to}
+use Rattle.lv_watchers.specs.Asking.{refusal_behind}
 use Rattle.lv_watchers.proofs.watchers.ask_all.Given as goal
 
 -- the questions so far are asked, each told as of no elements
@@ -7,5 +8,6 @@ abbrev pub invariant-loop-question : goal.invariant-loop-question
 invariant-loop-question g l = record {
   share : l.subscriber.share ≡ l.initial.subscriber.share;
   questions : l.subscriber.questions ≡ take l.question-index l.questions;
+  fit : refusal_behind [] l.subscriber.questions ≡ None;
   told : l.subscriber.told ≡ map (answer_to []) (take l.question-index l.questions);
 }

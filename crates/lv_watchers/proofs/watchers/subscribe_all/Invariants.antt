@@ -1,4 +1,5 @@
-use Rattle.std.proofs.Common.{◌≡◌, ◌+◌, [], length, map}
+use Rattle.std.proofs.Common.{◌≡◌, ◌+◌, [], None, length, map}
+use Rattle.lv_watchers.specs.Asking.{refusal_of_all}
 use Rattle.lv_watchers.specs.Watchers.{watcher_at}
 use Rattle.lv_watchers.proofs.watchers.subscribe_all.Given as goal
 
@@ -9,4 +10,5 @@ invariant-loop-watch g l =
     (l.watchers.items ≡ map (λ w. watcher_at (record { questions = w.questions.items; contents = g.F.Write.contents w.notes })) l.yielded) ×
     (l.share.parts + length l.yielded ≡ l.fn.share.parts) ×
     (l.share.count ≡ l.fn.share.count) ×
-    (l.share.seen ≡ [])
+    (l.share.seen ≡ []) ×
+    (refusal_of_all (map (λ w. w.questions.items) l.yielded) ≡ None)
