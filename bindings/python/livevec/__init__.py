@@ -500,7 +500,7 @@ def _opened() -> ctypes.PyDLL:
 _lib = _opened()
 # Calls by CDLL release that lock. They are those of a seat, which keeps its calls apart by a lock of its own, and those of a vector that take
 # long: another call at the vector finds it busy meanwhile.
-_released = ctypes.CDLL(_lib._name)
+_released: ctypes.CDLL = ctypes.CDLL(_lib._name)
 
 
 _Answer = TypeVar("_Answer", bound=ctypes.Structure)
@@ -519,6 +519,12 @@ def _call(name: str, result: Any, *arguments: Any, by: ctypes.CDLL = _lib) -> An
     return function
 
 
+# their types are told, since modules of this package use them
+_slot: Any
+_u32: type[ctypes.c_uint32]
+_i64: type[ctypes.c_int64]
+_pointer: type[ctypes.c_void_p]
+_size: type[ctypes.c_size_t]
 _slot, _job, _outcome = ctypes.POINTER(_VectorSlot), ctypes.POINTER(_JobSlot), ctypes.POINTER(_OutcomeSlot)
 _u32, _i64, _pointer, _size = ctypes.c_uint32, ctypes.c_int64, ctypes.c_void_p, ctypes.c_size_t
 _new = _call("livevec_new", _u32, _slot, _u32, _u32)
