@@ -49,7 +49,8 @@ fn rise<K: OfSix>(
     take_run(view, body, flags, rows, second, 3)
 }
 
-// Takes a run of each of the three greatest levels, from below, and of those under the greatest again.
+// Takes a run of each of the three greatest levels, from below, and of those under the greatest again. A range that is left and is
+// shorter than a node of these has none of them.
 #[inline(always)]
 fn cross<K: OfSix>(
     view: View<'_, SixSummary>,
@@ -62,11 +63,33 @@ fn cross<K: OfSix>(
     requires stands { StandsBy (K.operations (K.meaning body.now)) view.cells.now.journal K.bit walk flags.old rows.old }
     ensures { GoesOnBy (K.operations (K.meaning body.now)) view.entry.cells.now.journal K.bit walk result flags.old flags.new rows.old rows.new }
 {
+    if walk.hi - walk.at < width(4) {
+        return walk;
+    }
     let first = take_run(view, body, flags, rows, walk, 4);
-    let second = take_run(view, body, flags, rows, first, 5);
-    let third = take_run(view, body, flags, rows, second, 6);
-    let fourth = take_run(view, body, flags, rows, third, 5);
-    take_run(view, body, flags, rows, fourth, 4)
+    let second = pass_summit(view, body, flags, rows, first);
+    take_run(view, body, flags, rows, second, 4)
+}
+
+// The same of the two greatest levels.
+#[inline(always)]
+fn pass_summit<K: OfSix>(
+    view: View<'_, SixSummary>,
+    body: &K,
+    flags: &mut NodeRows<u8>,
+    rows: &mut NodeRows<K::S>,
+    walk: Walk<K::S>,
+) -> Walk<K::S>
+    requires parts { ArePartsFolds (K.operations (K.meaning body.now)) K.part_in view.cells.now.journal view.table.now }
+    requires stands { StandsBy (K.operations (K.meaning body.now)) view.cells.now.journal K.bit walk flags.old rows.old }
+    ensures { GoesOnBy (K.operations (K.meaning body.now)) view.entry.cells.now.journal K.bit walk result flags.old flags.new rows.old rows.new }
+{
+    if walk.hi - walk.at < width(5) {
+        return walk;
+    }
+    let first = take_run(view, body, flags, rows, walk, 5);
+    let second = take_run(view, body, flags, rows, first, 6);
+    take_run(view, body, flags, rows, second, 5)
 }
 
 // Takes a run of each of the three lowest levels, from above.
