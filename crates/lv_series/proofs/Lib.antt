@@ -8,9 +8,12 @@ pub mod ChainSteps
 pub mod ChainSwaps
 pub mod ChainTrees
 pub mod FreeLaws
+pub mod PlacedLaws
 pub mod PlainLaws
+pub mod RefreshLaws
 pub mod ScanSteps
 pub mod SeriesLaws
+pub mod ServedLaws
 pub mod ShardLaws
 pub mod SwapLaws
 pub mod TreePuts

@@ -33,7 +33,7 @@ module _ {B : Type 0} where
       ∙ numbered s.body (fold changed s.held (edits ++ others)) (s.edits + length edits + length others) (s.edits + length (edits ++ others)) (omega (arith, length-append edits others))
 
   -- a run makes what its accepted edits make
-  run_is : (s next : SeriesState B) (steps : List Asked) → Run s steps next → next ≡ after_edits s (accepted_in steps)
+  pub run_is : (s next : SeriesState B) (steps : List Asked) → Run s steps next → next ≡ after_edits s (accepted_in steps)
   run_is s next [] run = run ∙ numbered s.body s.held s.edits (s.edits + 0) (omega arith)
   run_is s next (asked ∷ others) run =
       run_is run.0 next others run.2

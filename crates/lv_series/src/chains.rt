@@ -249,6 +249,7 @@ impl<B: LongBody> Chain<B> {
         requires { most ≤ length self.old.elements }
         ensures most { result ≤ most }
         ensures least { most ≤ result + 32760 }
+        ensures whole { result ≡ 32760 * (result / 32760) }
         ensures dropped { self.new ≡ record self.old { elements = drop result self.old.elements } }
     {
         let place = place_of(most, self.full.len());

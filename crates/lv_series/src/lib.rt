@@ -6,27 +6,38 @@
 #![tactic(auto)]
 
 mod accepting;
+mod ages;
 mod answers;
 mod asking;
+mod chain_refresh;
 mod chains;
 mod changing;
 mod cutting;
 mod edits;
 mod folding;
+mod jobs;
 mod places;
 mod reading;
 mod receipts;
+mod refreshing;
 mod refusals;
 mod renewing;
 mod rolling;
+mod rounds;
 mod series;
+mod served;
+mod serving;
 mod shards;
 mod theorems;
 mod walking;
 
 pub use answers::{Counted, LongAnswer, LongScan};
 pub use edits::LongEdit;
+pub use jobs::{LongJob, LongJobOf, LongOutcome, LongOutcomeOf};
 pub use receipts::LongReceipt;
 pub use refusals::LongRefusal;
 pub use series::Series;
+pub use served::{
+    answers_while_served, jobs_may_be_sent, jobs_outlast_edits, refresh_changes_no_answer,
+};
 pub use theorems::{every_answer_is_plain, refusals_change_nothing};

@@ -1,6 +1,7 @@
 ghost use Rattle.std.specs.Prelude.{◌≡◌, ◌+◌, ◌<◌, ◌≤◌, None, Some, [], ◌∷◌, ◌++◌, length, IfOk, OnOk, OnErr};
 ghost use Rattle.lv_edits.specs.History.{applied, list_of};
 ghost use Rattle.lv_edits.specs.Verdict.{refused_on};
+ghost use Rattle.lv_series.specs.Refresh.{GoesOn, IsSameOrNew};
 ghost use Rattle.lv_series.specs.Shard.{IsShard, holding_of};
 
 use lv_bodies::Body;
@@ -32,17 +33,23 @@ fn shard_limits() -> Limits
     }
 }
 
-/// Makes an edit that the elements of a shard allow. Its vector is made anew before, where it takes no more edits. An error is want of
-/// memory, and the elements are the same then.
-pub fn make_one<B: Body>(alloc: Global, live: &mut Live<B>, edit: Edit) -> Result<(), AllocError>
+/// Makes an edit that the elements of a shard allow. Its vector is made anew before, where it takes no more edits, and has no age then.
+/// An error is want of memory, and the elements are the same then.
+pub fn make_one<B: Body>(
+    alloc: Global,
+    live: &mut Live<B>,
+    age: &mut u64,
+    edit: Edit,
+) -> Result<(), AllocError>
     requires shard { IsShard live.old.history }
     requires free { refused_on live.old.history.limits (list_of live.old.history.journal) edit ≡ None }
     ensures shard { IsShard live.new.history }
     ensures body { live.new.body ≡ live.old.body }
     ensures ok { OnOk result (applied (list_of live.old.history.journal) edit ≡ Some (list_of live.new.history.journal)) }
     ensures err { OnErr result (holding_of live.new ≡ holding_of live.old) }
+    ensures age { GoesOn live.old live.new age.old age.new }
 {
-    make_ready(alloc, live)?;
+    make_ready(alloc, live, age)?;
     match live.make(edit) {
         Ok(_) => Ok(()),
         Err(_) => Err(AllocError),
@@ -50,16 +57,19 @@ pub fn make_one<B: Body>(alloc: Global, live: &mut Live<B>, edit: Edit) -> Resul
 }
 
 // Lets the vector of a shard take an edit more. An error is want of memory.
-fn make_ready<B: Body>(alloc: Global, live: &mut Live<B>) -> Result<(), AllocError>
+fn make_ready<B: Body>(alloc: Global, live: &mut Live<B>, age: &mut u64) -> Result<(), AllocError>
     requires { IsShard live.old.history }
     ensures shard { IsShard live.new.history }
     ensures holds { holding_of live.new ≡ holding_of live.old }
     ensures ok { OnOk result (length live.new.history.journal < 98280) }
+    ensures age { IsSameOrNew live.old live.new age.old age.new }
 {
     if live.edit() < EDITS {
         return Ok(());
     }
-    renew(alloc, live)
+    renew(alloc, live)?;
+    *age = 0;
+    Ok(())
 }
 
 // Puts a vector with the same elements in the place of one. Its edits are a push for each element.
@@ -68,6 +78,7 @@ fn renew<B: Body>(alloc: Global, live: &mut Live<B>) -> Result<(), AllocError>
     ensures shard { IsShard live.new.history }
     ensures holds { holding_of live.new ≡ holding_of live.old }
     ensures ok { OnOk result (length live.new.history.journal < 98280) }
+    ensures same { OnErr result (live.new ≡ live.old) }
 {
     let mut fresh = empty_vector(alloc, live.body());
     let copied = copy_into(&mut fresh, live);

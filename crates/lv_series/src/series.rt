@@ -21,17 +21,19 @@ pub struct Series<B: LongBody> {
     pub(crate) gone: u64,
     pub(crate) skip: u64,
     pub(crate) edits: u64,
+    // How many ages were taken.
+    pub(crate) ages: u64,
 }
 
 impl<B: LongBody> Model for Series<B> {
-    ghost use Rattle.std.specs.Prelude.{◌+◌, ◌^◌, ◌≤◌, drop, length};
+    ghost use Rattle.std.specs.Prelude.{◌≡◌, ◌+◌, ◌*◌, ◌/◌, ◌^◌, ◌≤◌, drop, length};
     ghost use Rattle.lv_series.specs.Series.{SeriesState};
 
     ghost Value = { SeriesState B };
 
     ghost view = { λ a. record { body = a.chain.body; held = record { first = a.gone + a.skip; elements = drop a.skip a.chain.elements }; edits = a.edits } };
 
-    ghost invariant = { λ a. (a.skip ≤ length a.chain.elements) × (a.gone + length a.chain.elements ≤ 2 ^ 62) × (a.skip ≤ 32760) };
+    ghost invariant = { λ a. (a.skip ≤ length a.chain.elements) × (a.gone + length a.chain.elements ≤ 2 ^ 62) × (a.skip ≤ 32760) × (a.gone ≡ 32760 * (a.gone / 32760)) };
 }
 
 impl<B: LongBody> Series<B> {
@@ -44,6 +46,7 @@ impl<B: LongBody> Series<B> {
             gone: 0,
             skip: 0,
             edits: 0,
+            ages: 0,
         }
     }
 

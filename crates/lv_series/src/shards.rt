@@ -16,7 +16,9 @@ use std::marker::Model;
 #[derive(Drop)]
 pub struct Shard<B: Body> {
     alloc: Global,
-    live: Live<B>,
+    pub(crate) live: Live<B>,
+    // 0 while it has none: a vector takes one at its first claim.
+    pub(crate) age: u64,
 }
 
 impl<B: Body> Model for Shard<B> {
@@ -37,6 +39,7 @@ impl<B: Body> Shard<B> {
         Shard {
             alloc,
             live: empty_vector(alloc, body),
+            age: 0,
         }
     }
 
@@ -73,7 +76,7 @@ impl<B: Body> Shard<B> {
         ensures ok { OnOk result (self.new ≡ record self.old { elements = self.old.elements ++ x ∷ [] }) }
         ensures err { OnErr result (self.new ≡ self.old) }
     {
-        make_one(self.alloc, &mut self.live, Edit::Push(x))
+        make_one(self.alloc, &mut self.live, &mut self.age, Edit::Push(x))
     }
 
     /// Drops the last element.
@@ -82,7 +85,7 @@ impl<B: Body> Shard<B> {
         ensures ok { OnOk result (self.new ≡ record self.old { elements = take (length self.old.elements - 1) self.old.elements }) }
         ensures err { OnErr result (self.new ≡ self.old) }
     {
-        make_one(self.alloc, &mut self.live, Edit::Pop)
+        make_one(self.alloc, &mut self.live, &mut self.age, Edit::Pop)
     }
 
     /// Overwrites the element at an index.
@@ -91,7 +94,12 @@ impl<B: Body> Shard<B> {
         ensures ok { OnOk result (self.new ≡ record self.old { elements = slice_set self.old.elements index value }) }
         ensures err { OnErr result (self.new ≡ self.old) }
     {
-        make_one(self.alloc, &mut self.live, Edit::Write { index, value })
+        make_one(
+            self.alloc,
+            &mut self.live,
+            &mut self.age,
+            Edit::Write { index, value },
+        )
     }
 
     /// Exchanges the elements at two indices.
@@ -101,7 +109,12 @@ impl<B: Body> Shard<B> {
         ensures ok { OnOk result (self.new ≡ record self.old { elements = swap self.old.elements first second }) }
         ensures err { OnErr result (self.new ≡ self.old) }
     {
-        make_one(self.alloc, &mut self.live, Edit::Swap { first, second })
+        make_one(
+            self.alloc,
+            &mut self.live,
+            &mut self.age,
+            Edit::Swap { first, second },
+        )
     }
 
     /// A shard of its own with the same elements. An error is want of memory.
@@ -112,6 +125,7 @@ impl<B: Body> Shard<B> {
         Ok(Shard {
             alloc: self.alloc,
             live,
+            age: 0,
         })
     }
 
@@ -121,7 +135,12 @@ impl<B: Body> Shard<B> {
         ensures ok { OnOk result (self.new ≡ record self.old { elements = take count self.old.elements }) }
         ensures err { OnErr result (self.new ≡ self.old) }
     {
-        make_one(self.alloc, &mut self.live, Edit::Truncate(count))
+        make_one(
+            self.alloc,
+            &mut self.live,
+            &mut self.age,
+            Edit::Truncate(count),
+        )
     }
 
     /// The fold of the elements from `lo` up to `hi`.

@@ -43,6 +43,11 @@ returns-clause-most g c = omega arith
 pub returns-clause-least : goal.returns-clause-least
 returns-clause-least g c = omega (arith, c.place_of-place.ensures.small)
 
+pub returns-clause-whole : goal.returns-clause-whole
+returns-clause-whole g c =
+    let many : c.args.most - c.place_of-place.result.index ≡ 32760 * c.place_of-place.result.shard = omega (arith, c.place_of-place.ensures.place) in
+    omega (arith, many)
+
 pub returns-clause-dropped : goal.returns-clause-dropped
 returns-clause-dropped g c =
     let s = c.self.inside in

@@ -1,4 +1,4 @@
-use Rattle.std.proofs.Common.{◌≤◌, ◌^◌, length, arith}
+use Rattle.std.proofs.Common.{arith}
 use Rattle.std.proofs.lemmas.List.Elements.{All-drop}
 use Rattle.lv_geometry.specs.Elements.{IsElement}
 use Rattle.lv_series.proofs.SeriesLaws.{size_held}

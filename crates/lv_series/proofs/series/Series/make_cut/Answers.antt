@@ -41,7 +41,7 @@ invariant_of-self g c =
     let kept = free_truncate (held_of s.gone s.skip s.chain.elements) c.args.size (free_edit (state_of s.chain s.gone s.skip s.edits) (Truncate c.args.size) free).1 in
     let long = ap (λ t. length t.elements) c.in-Ok.ensures.ok in
     let less = length-take (c.args.size - s.gone) s.chain.elements in
-    (omega (arith, long, less, kept.0, c.self.invariant.0), omega (arith, long, less, c.self.invariant.1), c.self.invariant.2)
+    (omega (arith, long, less, kept.0, c.self.invariant.0), omega (arith, long, less, c.self.invariant.1), c.self.invariant.2, c.self.invariant.3)
 
 pub returns-in-Ok : goal.returns-in-Ok
 returns-in-Ok g c =

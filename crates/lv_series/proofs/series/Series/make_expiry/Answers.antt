@@ -56,7 +56,7 @@ invariant_of-self g c =
     let long = ap (λ t. length t.elements) c.shed-shed.ensures.dropped in
     let less = length-drop c.shed-shed.result s.chain.elements in
     let size = size_held s.gone s.skip s.chain.elements c.self.invariant.0 in
-    (omega (arith, kept.0, kept.1, c.shed-shed.ensures.most, long, less, size), omega (arith, kept.0, kept.1, c.shed-shed.ensures.most, long, less, size, c.self.invariant.1), omega (arith, kept.0, kept.1, c.shed-shed.ensures.most, c.shed-shed.ensures.least, size))
+    (omega (arith, kept.0, kept.1, c.shed-shed.ensures.most, long, less, size), omega (arith, kept.0, kept.1, c.shed-shed.ensures.most, long, less, size, c.self.invariant.1), omega (arith, kept.0, kept.1, c.shed-shed.ensures.most, c.shed-shed.ensures.least, size), omega (arith, c.self.invariant.3, c.shed-shed.ensures.whole))
 
 pub returns : goal.returns
 returns g c =

@@ -39,7 +39,7 @@ invariant_of-self g c =
     let some = free_pop (held_of s.gone s.skip s.chain.elements) (free_edit (state_of s.chain s.gone s.skip s.edits) Pop free).1 in
     let long = ap (λ t. length t.elements) c.in-Ok.ensures.ok in
     let less = length-take (length s.chain.elements - 1) s.chain.elements in
-    (omega (arith, long, less, some, length-drop s.skip s.chain.elements), omega (arith, long, less, c.self.invariant.1), c.self.invariant.2)
+    (omega (arith, long, less, some, length-drop s.skip s.chain.elements), omega (arith, long, less, c.self.invariant.1), c.self.invariant.2, c.self.invariant.3)
 
 pub returns-in-Ok : goal.returns-in-Ok
 returns-in-Ok g c =

@@ -29,7 +29,7 @@ invariant_of-self g c =
     let room = free_push (held_of s.gone s.skip s.chain.elements) c.args.x (free_edit (state_of s.chain s.gone s.skip s.edits) (Push c.args.x) free).1 in
     let long = ap (λ t. length t.elements) (rw (to_z-of_z w64 c.args.x c.ranges.x) at c.in-Ok.ensures.ok) in
     let more = length_push s.chain.elements c.args.x in
-    (omega (arith, long, more, c.self.invariant.0), omega (arith, long, more, room, size_held s.gone s.skip s.chain.elements c.self.invariant.0), c.self.invariant.2)
+    (omega (arith, long, more, c.self.invariant.0), omega (arith, long, more, room, size_held s.gone s.skip s.chain.elements c.self.invariant.0), c.self.invariant.2, c.self.invariant.3)
 
 pub returns-in-Ok : goal.returns-in-Ok
 returns-in-Ok g c =

@@ -70,7 +70,7 @@ invariant_of-self g c =
     let s = c.self.inside in
     let long = ap (λ t. length t.elements) c.in-Ok.ensures.ok in
     let same = length-swap s.chain.elements (c.args.first - s.gone) (c.args.second - s.gone) in
-    (omega (arith, long, same, c.self.invariant.0), omega (arith, long, same, c.self.invariant.1), c.self.invariant.2)
+    (omega (arith, long, same, c.self.invariant.0), omega (arith, long, same, c.self.invariant.1), c.self.invariant.2, c.self.invariant.3)
 
 pub returns-in-Ok : goal.returns-in-Ok
 returns-in-Ok g c =

@@ -40,7 +40,7 @@ invariant_of-self g c =
     let s = c.self.inside in
     let long = ap (λ t. length t.elements) (rw (to_z-of_z w64 c.args.value c.ranges.value) at c.in-Ok.ensures.ok) in
     let same = length-set s.chain.elements (c.args.index - s.gone) c.args.value in
-    (omega (arith, long, same, c.self.invariant.0), omega (arith, long, same, c.self.invariant.1), c.self.invariant.2)
+    (omega (arith, long, same, c.self.invariant.0), omega (arith, long, same, c.self.invariant.1), c.self.invariant.2, c.self.invariant.3)
 
 pub returns-in-Ok : goal.returns-in-Ok
 returns-in-Ok g c =

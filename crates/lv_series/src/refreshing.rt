@@ -1,0 +1,56 @@
+//! Refresh through a series. Its jobs are those of its shards' vectors: they may be run anywhere, and their outcomes may come late, stale
+//! or twice. None of these calls changes an answer.
+ghost use Rattle.std.specs.Prelude.{◌≡◌, ◌≤◌, true, IfSome};
+ghost use Rattle.lv_series.specs.Refresh.{IsJobIn, is_taken};
+
+use crate::jobs::{LongJob, LongOutcome};
+use crate::places::SHARD;
+use crate::series::Series;
+use lv_bodies::LongBody;
+use lv_summary::Accepted;
+
+impl<B: LongBody> Series<B> {
+    /// The next job of the first shard that has one, which is claimed with it: that of the least node of the shard that wants one. None
+    /// where no shard has one. A shard takes its age at its first claim. What the job carries folds to the plain left fold of its elements.
+    /// Takes no memory.
+    pub fn claim(&mut self) -> Option<LongJob<B>>
+        ensures same { self.new ≡ self.old }
+        ensures plain { IfSome result (λ job. IsJobIn (B.operations (B.meaning self.old.body)) self.old.held job.shard job.job) }
+    {
+        let first = self.gone / SHARD as u64;
+        self.chain.claim(first, &mut self.ages)
+    }
+
+    /// Whether an outcome may be accepted: it is stale, or what it carries is what stands in its shard. Yes for each outcome of a job
+    /// that this series handed out. Takes no memory.
+    pub fn vet(&self, outcome: &LongOutcome<B>) -> bool {
+        self.chain.vet(self.gone / SHARD as u64, outcome)
+    }
+
+    /// Takes an outcome in, whoever made it: its summary is installed, or held already, or it is stale. It is stale, at edit 0, where its
+    /// shard was dropped or made anew since, and where what it carries isn't what stands there. Else it is so where an edit has touched its
+    /// node, and tells the last one of the shard's vector. Takes no memory.
+    pub fn accept(&mut self, outcome: LongOutcome<B>) -> Accepted
+        ensures same { self.new ≡ self.old }
+        ensures plain { is_taken result ≡ true → IsJobIn (B.operations (B.meaning self.old.body)) self.old.held outcome.shard outcome.job }
+    {
+        let first = self.gone / SHARD as u64;
+        self.chain.accept(first, outcome)
+    }
+
+    /// Does jobs in place, at most so many, those of the first shards first. Tells how many it did; fewer than it might where no shard
+    /// has one any longer. Takes no memory.
+    pub fn refresh(&mut self, jobs: u32) -> u32
+        ensures same { self.new ≡ self.old }
+        ensures most { result ≤ jobs }
+    {
+        self.chain.refresh(jobs)
+    }
+
+    /// Forgets all claims, so that each node may be claimed again. Jobs handed out before stay good. Takes no memory.
+    pub fn forget_claims(&mut self)
+        ensures { self.new ≡ self.old }
+    {
+        self.chain.forget_claims();
+    }
+}
