@@ -20,3 +20,5 @@ pub use Rattle.lv_hub.specs.Notes
 pub use Rattle.lv_hub.specs.Told as Hub
 pub use Rattle.lv_series.specs.Plain as PlainSeries
 pub use Rattle.lv_series.specs.Series
+pub use Rattle.lv_series.specs.Refresh as SeriesRefresh
+pub use Rattle.lv_series.specs.Served as SeriesServed
