@@ -120,15 +120,27 @@ pub extern "C" fn livevec_proved_series_read(
     }
 }
 
-// The fold of the elements of a range that nothing refuses.
-fn fold_before(series: &Series<SixByTable>, lo: u64, at: u64) -> SixSummary
-    requires { range_refused series.now.held lo at ≡ None }
-    ensures { result ≡ fold_of (six_operations_by (table_of series.now.body.automaton)) (slice_of series.now.held lo at) }
+// What stands before a piece of a scan: where its range starts, and what the elements from there on come to.
+#[derive(Drop)]
+struct Begun {
+    lo: u64,
+    sum: SixSummary,
+}
+
+// What stands before an index, where nothing refuses that range. What is computed for it is kept, so that the next piece costs little.
+fn begin(series: &mut Series<SixByTable>, lo: u64, at: u64) -> Begun
+    requires { range_refused series.old.held lo at ≡ None }
+    ensures lo { result.lo ≡ lo }
+    ensures sum { result.sum ≡ fold_of (six_operations_by (table_of series.old.body.automaton)) (slice_of series.old.held lo at) }
+    ensures same { series.new ≡ series.old }
 {
-    let Ok(answer) = series.reduce(lo, at) else {
+    let Ok(answer) = series.ask(lo, at) else {
         unreachable!();
     };
-    answer.value
+    Begun {
+        lo,
+        sum: answer.value,
+    }
 }
 
 // A fold with one more element.
@@ -144,17 +156,18 @@ fn one_more(body: &SixByTable, before: SixSummary, x: i64) -> SixSummary
 fn lay_values(
     series: &Series<SixByTable>,
     inclusive: bool,
-    lo: u64,
+    begun: &Begun,
     at: u64,
     buffer: &mut [PlainValues],
 )
-    requires front { range_refused series.now.held lo at ≡ None }
+    requires front { range_refused series.now.held begun.now.lo at ≡ None }
     requires rest { range_refused series.now.held at (at + length buffer.old) ≡ None }
-    ensures { buffer.new ≡ map (value_up_to inclusive lo at series.now) (range_with_len 0 (length buffer.old)) }
+    requires sum { begun.now.sum ≡ fold_of (six_operations_by (table_of series.now.body.automaton)) (slice_of series.now.held begun.now.lo at) }
+    ensures { buffer.new ≡ map (value_up_to inclusive begun.now.lo at series.now) (range_with_len 0 (length buffer.old)) }
 {
     series.holds();
     let body = series.body();
-    let mut sum = fold_before(series, lo, at);
+    let mut sum = begun.sum;
     for k in 0..buffer.len() {
         let before = sum;
         sum = one_more(&body, before, element_at(series, at + k as u64));
@@ -167,17 +180,18 @@ fn lay_values(
 fn front_values(
     series: &Series<SixByTable>,
     inclusive: bool,
-    lo: u64,
+    begun: &Begun,
     at: u64,
     many: usize,
     buffer: &mut [PlainValues],
 )
-    requires front { range_refused series.now.held lo at ≡ None }
+    requires front { range_refused series.now.held begun.now.lo at ≡ None }
     requires rest { range_refused series.now.held at (at + many) ≡ None }
+    requires sum { begun.now.sum ≡ fold_of (six_operations_by (table_of series.now.body.automaton)) (slice_of series.now.held begun.now.lo at) }
     requires room { many ≤ length buffer.old }
-    ensures { buffer.new ≡ map (value_up_to inclusive lo at series.now) (range_with_len 0 many) ++ drop many buffer.old }
+    ensures { buffer.new ≡ map (value_up_to inclusive begun.now.lo at series.now) (range_with_len 0 many) ++ drop many buffer.old }
 {
-    lay_values(series, inclusive, lo, at, &mut buffer[..many]);
+    lay_values(series, inclusive, begun, at, &mut buffer[..many]);
 }
 
 // Why a scan of a range that goes on from an index is refused, or none.
@@ -190,37 +204,58 @@ fn piece_refusal(series: &Series<SixByTable>, lo: u64, at: u64, hi: u64) -> Opti
     }
 }
 
+// Values of a piece that nothing refuses, so many.
+fn put_values(
+    series: &mut Series<SixByTable>,
+    inclusive: bool,
+    lo: u64,
+    at: u64,
+    many: usize,
+    buffer: &mut [PlainValues],
+)
+    requires front { range_refused series.old.held lo at ≡ None }
+    requires rest { range_refused series.old.held at (at + many) ≡ None }
+    requires room { many ≤ length buffer.old }
+    ensures buffer { buffer.new ≡ map (value_up_to inclusive lo at series.old) (range_with_len 0 many) ++ drop many buffer.old }
+    ensures same { series.new ≡ series.old }
+{
+    let begun = begin(series, lo, at);
+    front_values(series, inclusive, &begun, at, many, buffer);
+}
+
 // A scan of a series that goes on from an index, as many values as a buffer takes.
 fn scan_series(
-    series: &Series<SixByTable>,
+    series: &mut Series<SixByTable>,
     lo: u64,
     at: u64,
     hi: u64,
     inclusive: bool,
     buffer: &mut [PlainValues],
 ) -> SeriesScanned
-    ensures answer { result ≡ piece_scanned lo at hi (length buffer.old) series.now }
-    ensures buffer { buffer.new ≡ piece_put inclusive lo at hi buffer.old series.now }
+    ensures answer { result ≡ piece_scanned lo at hi (length buffer.old) series.old }
+    ensures buffer { buffer.new ≡ piece_put inclusive lo at hi buffer.old series.old }
+    ensures same { series.new ≡ series.old }
 {
     if let Some(refusal) = piece_refusal(series, lo, at, hi) {
         return not_scanned(refusal_answer(refusal));
     }
     let many = buffer.len().min((hi - at) as usize);
-    front_values(series, inclusive, lo, at, many, buffer);
+    put_values(series, inclusive, lo, at, many, buffer);
     piece_answer(series, many)
 }
 
 // The same of an object.
 fn scan_of(
-    object: &Object,
+    object: &mut Object,
     lo: u64,
     at: u64,
     hi: u64,
     inclusive: bool,
     buffer: &mut [PlainValues],
 ) -> SeriesScanned
-    ensures answer { result ≡ object_scanned lo at hi (length buffer.old) object.now }
-    ensures buffer { buffer.new ≡ object_values inclusive lo at hi buffer.old object.now }
+    ensures answer { result ≡ object_scanned lo at hi (length buffer.old) object.old }
+    ensures buffer { buffer.new ≡ object_values inclusive lo at hi buffer.old object.old }
+    ensures same { object.new ≡ object.old }
 {
     match object {
         Object::Series(series) => scan_series(series, lo, at, hi, inclusive, buffer),
@@ -245,8 +280,8 @@ pub extern "C" fn livevec_proved_series_scan(
 {
     match take(alloc, slot) {
         None => not_scanned(not_held()),
-        Some(held) => {
-            let answer = scan_of(&held, lo, at, hi, inclusive, buffer);
+        Some(mut held) => {
+            let answer = scan_of(&mut held, lo, at, hi, inclusive, buffer);
             put(slot, held);
             answer
         }

@@ -20,7 +20,7 @@ one_more-sum-requires c =
     let laws = six_long_by s.body.automaton.table s.body.automaton.valid in
     let x = c.element_at.result in
     let fits : FitsSigned w64 x = search rules in
-    let may = can_join s.held c.args.at (length c.args.buffer.now) c.loop-k.k c.requires.rest c.loop-k-test.true o c.args.lo c.requires.front laws x c.loop-k.sum fits c.holds.ensures.elements c.holds.ensures.few c.loop-k.invariant.fold in
+    let may = can_join s.held c.args.at (length c.args.buffer.now) c.loop-k.k c.requires.rest c.loop-k-test.true o c.args.begun.now.lo c.requires.front laws x c.loop-k.sum fits c.holds.ensures.elements c.holds.ensures.few c.loop-k.invariant.fold in
     rw c.body-body.ensures (subst (λ y. CanJoinLong six_within c.loop-k.sum (o.lift y)) (sym (to_z-of_z w64 x fits)) may)
 
 pub loop-k-preserved : goal.loop-k-preserved
@@ -30,7 +30,7 @@ loop-k-preserved c =
     let x = c.element_at.result in
     let k = c.loop-k.k in
     let at = c.args.at in
-    let lo = c.args.lo in
+    let lo = c.args.begun.now.lo in
     let sum = c.loop-k.sum in
     let next = c.one_more-sum.result in
     let value = c.if-inclusive.value in

@@ -11,7 +11,7 @@ use Rattle.livevec_c.proofs.series_pieces.lay_values.Given as goal
 abbrev pub invariant-loop-k : goal.invariant-loop-k
 invariant-loop-k l =
     record {
-      fold : l.sum ≡ fold_of (six_operations_by (table_of l.series.body.automaton)) (slice_of l.series.held l.lo (l.at + l.k));
-      values : take l.k l.buffer ≡ map (value_up_to l.inclusive l.lo l.at l.series) (range_with_len 0 l.k);
+      fold : l.sum ≡ fold_of (six_operations_by (table_of l.series.body.automaton)) (slice_of l.series.held l.begun.lo (l.at + l.k));
+      values : take l.k l.buffer ≡ map (value_up_to l.inclusive l.begun.lo l.at l.series) (range_with_len 0 l.k);
       len : length l.buffer ≡ length l.initial.buffer;
     }
