@@ -770,7 +770,8 @@ LIVEVEC_MUST_USE livevec_series_count livevec_series_size(livevec_series *slot);
 LIVEVEC_MUST_USE livevec_series_count livevec_series_edits(livevec_series *slot);
 
 /* The plain values of the elements of a range, by each of the six kinds at once: at most 126 joins beyond those in the two shards at
- * its ends, and one more for each 33,546,240 elements. Takes no memory, changes nothing. Refusals: NULL, NO_HANDLE, BAD_RANGE, OUT_OF_RANGE. */
+ * its ends, and one more for each 33,546,240 elements. Within those two it may go over all elements: where one asks often, ask by
+ * livevec_series_ask. Takes no memory, changes nothing. Refusals: NULL, NO_HANDLE, BAD_RANGE, OUT_OF_RANGE. */
 LIVEVEC_MUST_USE livevec_series_reduced livevec_series_reduce(livevec_series *slot, uint64_t lo, uint64_t hi);
 
 /* The same, and keeps what it computes in those two shards: until an edit touches them, it costs little to ask again. Takes no memory,
@@ -784,8 +785,8 @@ LIVEVEC_MUST_USE livevec_series_scanned livevec_series_read(livevec_series *slot
 
 /* The running values of a range by all six kinds, from the index `at` on, as many as a buffer of `length` takes: buffer[i] has those of
  * the elements from `lo` up to `at` + i, that one included, or excluded. The first piece has `at` = `lo`, the next one `at` and as many
- * as were put; an edit between two pieces is told by `edit`. What the buffer has behind the values stays. A piece costs a reduction of
- * what lies before it, and one step for each value. Takes no memory, changes no answer. Where it was refused the buffer is as it was.
+ * as were put; an edit between two pieces is told by `edit`. What the buffer has behind the values stays. A piece costs a
+ * livevec_series_ask of what lies before it, and one step for each value. Takes no memory, changes no answer. Where it was refused the buffer is as it was.
  * Refusals: NULL, NO_HANDLE, BAD_RANGE and OUT_OF_RANGE (of `lo` to `at`, then of `at` to `hi`). */
 LIVEVEC_MUST_USE livevec_series_scanned livevec_series_scan_inclusive(livevec_series *slot, uint64_t lo, uint64_t at, uint64_t hi,
                                                                       livevec_values *buffer, size_t length);
