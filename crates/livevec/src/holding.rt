@@ -190,6 +190,7 @@ fn hold<N: Means<Six>, K: Begun, F: Read + Write + Drop, V: Write + Drop, R: Wai
         Err(fault) => task.ended = Some(Err(Failure { fault, place: at })),
     }
 }
+
 // Refreshes the hub by all workers. Their threads are made once there may be work for them; where memory is wanting for so many, one
 // goes on alone.
 fn refresh<N: Means<Six> + Send + Sync, R: Threads + Wait + Sync>(
