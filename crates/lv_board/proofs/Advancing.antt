@@ -21,7 +21,8 @@ use Rattle.lv_board.specs.declared.actors.Actor.{Actor}
 use Rattle.lv_board.specs.declared.actors.Basis.{Basis}
 use Rattle.lv_board.specs.declared.actors.Installed.{Installed}
 use Rattle.lv_board.specs.declared.actors.View.{View}
-use Rattle.lv_board.specs.Rule.{ActorFits, HasMade, IsSeat, IsThere, ViewFits}
+use Rattle.lv_board.specs.Rule.{ActorFits, IsThere}
+use Rattle.lv_board.specs.TableRule.{HasMade, IsSeat, ViewFits}
 
 -- a state goes on to another by a move of actor a: the history grows, by edits of a alone; other looks stay, and no word but the descriptor falls
 pub record Advances (a : ℕ) (c d : Config) : Type 0 where

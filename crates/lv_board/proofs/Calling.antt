@@ -26,11 +26,13 @@ use Rattle.std.proofs.lemmas.Bool.{cond-true, eq-eqb}
 use Rattle.lv_board.proofs.Advancing.{own-same}
 use Rattle.lv_board.specs.declared.actors.Actor.{Actor}
 use Rattle.lv_board.specs.declared.actors.Basis.{Basis}
-use Rattle.lv_board.specs.Calls.{HasAdded, HasLooked, LoadsCell, LookedAnswers, TakeAnswers, TryAnswers}
-use Rattle.lv_board.specs.Plays.{IsAccepted, IsContended, IsQuiet, IsRead, SeesAll}
-use Rattle.lv_board.specs.Rule.{terms_of}
+use Rattle.lv_board.specs.Calls.{HasAdded, HasLooked, LoadsCell, LookedAnswers, TryAnswers}
+use Rattle.lv_board.specs.Steps.{TakeAnswers}
+use Rattle.lv_board.specs.Plays.{IsAccepted, IsContended, IsRead, SeesAll}
+use Rattle.lv_board.specs.Tells.{IsQuiet}
+use Rattle.lv_board.specs.Rule.{terms_of, limits_of}
 use Rattle.lv_machine.specs.Ready.{CanPack, IsIndexShort}
-use Rattle.lv_board.specs.Stands.{IsBasis, IsLook, IsReady, limits_of}
+use Rattle.lv_board.specs.Stands.{IsBasis, IsLook, IsReady}
 
 -- quiet steps one after the other
 pub quiet_then : (x y z : Actor) → IsQuiet x y → IsQuiet y z → IsQuiet x z

@@ -28,8 +28,10 @@ use Rattle.lv_board.specs.declared.actors.Basis.{Basis}
 use Rattle.lv_board.specs.declared.actors.View.{View}
 use Rattle.lv_board.specs.declared.remains.Closed.{Closed}
 use Rattle.lv_board.specs.declared.seats.Seat.{Seat}
-use Rattle.lv_board.specs.Closing.{AreAll, IsClosed, IsEnded, IsKept, IsSettled, made_by, shown_at}
-use Rattle.lv_board.specs.Rule.{ActorFits, gathered, Holds, spent, terms_of}
+use Rattle.lv_board.specs.Closing.{AreAll, IsClosed, IsKept, made_by}
+use Rattle.lv_board.specs.Ended.{IsEnded, IsSettled, shown_at}
+use Rattle.lv_board.specs.Rule.{ActorFits, terms_of}
+use Rattle.lv_board.specs.TableRule.{gathered, Holds, spent}
 use Rattle.lv_board.specs.Tells.{actor_of}
 use Rattle.lv_board.proofs.Advancing.{own-nil, own-other, own-same}
 use Rattle.lv_board.proofs.Handing.{gathers}

@@ -23,12 +23,14 @@ use Rattle.lv_board.specs.declared.actors.Actor.{Actor}
 use Rattle.lv_board.specs.declared.actors.Basis.{Basis}
 use Rattle.lv_board.specs.declared.actors.View.{View}
 use Rattle.lv_board.specs.Plays.{Exchanges, IsAccepted, IsContended}
-use Rattle.lv_board.specs.Rule.{ActorFits, Holds, IsSeat, terms_of, ViewFits}
+use Rattle.lv_board.specs.Rule.{ActorFits, terms_of}
+use Rattle.lv_board.specs.TableRule.{Holds, IsSeat, ViewFits}
 use Rattle.lv_board.specs.Stands.{IsLook, IsReady}
 use Rattle.lv_board.proofs.Handing.{Ends-none}
 use Rattle.lv_board.proofs.Advancing.{accepted_advances, installed_stays, own-same}
 use Rattle.lv_board.proofs.Seating.{legal_look}
-use Rattle.lv_board.proofs.Keeping.{rule_moved, same_basis, seat_fits, shows, state_of}
+use Rattle.lv_board.proofs.Keeping.{rule_moved, shows, state_of}
+use Rattle.lv_board.proofs.Seated.{same_basis, seat_fits}
 
 ne-nat_eq : (m n : ℕ) → m ≢ n → nat_eq m n ≡ false
 ne-nat_eq m n apart = grind (arith, nat_tests)

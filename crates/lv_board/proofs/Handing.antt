@@ -17,7 +17,8 @@ use Rattle.lv_machine.specs.Terms.{Folding}
 use Rattle.lv_board.specs.declared.actors.Actor.{Actor}
 use Rattle.lv_board.specs.declared.actors.Basis.{Basis}
 use Rattle.lv_board.specs.declared.actors.View.{View}
-use Rattle.lv_board.specs.Rule.{ActorFits, dealer_from, gathered, HasMade, Holds, informed, IsSeat, IsThere, newcomer, note, spent, terms_of, ViewFits}
+use Rattle.lv_board.specs.Rule.{ActorFits, IsThere, newcomer, terms_of}
+use Rattle.lv_board.specs.TableRule.{dealer_from, gathered, HasMade, Holds, informed, IsSeat, note, spent, ViewFits}
 use Rattle.lv_board.proofs.Advancing.{own-nil}
 
 -- no history is an earlier one of each

@@ -1,7 +1,7 @@
 -- Each step of a seat keeps the rule, and tells what it says.
-use Rattle.std.proofs.Common.{◌≡◌, ◌≢◌, ℕ, ◌+◌, ◌-◌, ◌*◌, ◌/◌, ◌%◌, ◌<◌, ◌≤◌, max, true, false, List, [], ◌∷◌, slice_index, slice_set, refl, sym, ap, ◌∙◌, subst, ⊎_elim, arith}
-use Rattle.std.proofs.lemmas.Bool.{cond-true, eq-eqb, false≢true}
-use Rattle.std.proofs.lemmas.List.Elements.{All-cons, All-nil, All-same}
+use Rattle.std.proofs.Common.{◌≡◌, ◌≢◌, ℕ, ◌+◌, ◌-◌, ◌/◌, ◌%◌, ◌<◌, ◌≤◌, max, true, false, List, [], ◌∷◌, slice_index, slice_set, refl, sym, ap, ◌∙◌, subst, ⊎_elim, arith}
+use Rattle.std.proofs.lemmas.Bool.{cond-true, eq-eqb}
+use Rattle.std.proofs.lemmas.List.Elements.{All-cons}
 use Rattle.std.proofs.lemmas.List.{get_or-set_same}
 use mathlib.Core.Option.{some, none}
 use lib.ListN.{get_elem?}
@@ -10,78 +10,29 @@ use Rattle.atomic_table.specs.Table.{State, Me, step, keeps, stepped, Allows}
 use Rattle.atomic_table.proofs.Lists.{at_set}
 use Rattle.lv_geometry.specs.Cells.{capacity_of}
 use Rattle.lv_edits.specs.Touch.{elements_under, is_whole}
-use Rattle.lv_machine.specs.History.{cell_of, descriptor_of, edits_of}
-use Rattle.lv_machine.specs.Layout.{block_at, cell_place, mark_place, part_place, row_at}
+use Rattle.lv_machine.specs.History.{descriptor_of, edits_of}
+use Rattle.lv_machine.specs.Layout.{cell_place, mark_place, part_place}
 use Rattle.lv_machine.specs.declared.moves.Move.{Move}
 use Rattle.lv_machine.specs.declared.moves.Move.TheVariants.{Look, HelpCell, HelpMark, Install, Read}
 use Rattle.lv_machine.specs.Moves.{completing, Config, looked, MayMove, moved, mover, raised, reached, Shows}
-use Rattle.lv_machine.specs.Shows.{block, Fits, FitsPart, IsCellRead, IsMarkRead, mark_of}
-use Rattle.lv_machine.specs.Terms.{AreTerms, blocks_of, Folding}
+use Rattle.lv_machine.specs.Shows.{block, FitsPart, mark_of}
+use Rattle.lv_machine.specs.Terms.{blocks_of, Folding}
 use Rattle.lv_machine.specs.Words.{cell_version, edit_of, HasPending, index_of, part_word, value_of}
 use Rattle.lv_machine.proofs.EndsLaws.{Ends-trans, Ends-whole, legal_earlier}
-use Rattle.lv_machine.proofs.HistoryLaws.{decoded}
 use Rattle.lv_machine.proofs.MoveLaws.{reached_shows}
-use Rattle.lv_machine.proofs.ReadLaws.{cell_read, mark_read, part_fits}
-use Rattle.lv_machine.proofs.ShowsLaws.{few_blocks, pending, place_is}
+use Rattle.lv_machine.proofs.ReadLaws.{part_fits}
+use Rattle.lv_machine.proofs.ShowsLaws.{pending, place_is}
 use Rattle.lv_machine.proofs.WordLaws.{cell_version-grows, cell_version-word, value_of-short}
 use Rattle.lv_board.specs.declared.actors.Actor.{Actor}
 use Rattle.lv_board.specs.declared.actors.Basis.{Basis}
 use Rattle.lv_board.specs.declared.actors.Installed.{Installed}
 use Rattle.lv_board.specs.declared.actors.View.{View}
 use Rattle.lv_board.specs.Plays.{HelpsCell, HelpsMark, Installs, IsRead, Looks, Reads, SeesAll}
-use Rattle.lv_board.specs.Rule.{ActorFits, HasMade, Holds, IsSeat, IsThere, terms_of, ViewFits}
+use Rattle.lv_board.specs.Rule.{ActorFits, IsThere, terms_of}
+use Rattle.lv_board.specs.TableRule.{HasMade, Holds, IsSeat, ViewFits}
 use Rattle.lv_board.proofs.Handing.{Ends-none}
 use Rattle.lv_board.proofs.Advancing.{installed_stays, moved_advances, one_made, others_made, raised_advances, view_stays}
-
--- the block and the part that lie at a part's place
-pub install_at : (a b p n : ℕ) → p < 4 → Install a b p n ≡ Install a (block_at (part_place b p)) (row_at (part_place b p) - 9) n
-install_at a b p n few =
-    let spot = place_is b (9 + p) in
-    let which : b ≡ block_at (part_place b p) = omega (arith, spot) in
-    let row : p ≡ row_at (part_place b p) - 9 = omega (arith, spot) in
-    ap (λ c. Install a c p n) which ∙ ap (λ q. Install a (block_at (part_place b p)) q n) row
-
-first_same : {A : Type 0} (x y : A) → x ∷ [] ≡ y ∷ [] → x ≡ y
-first_same x y e = cc
-
-module _ {B : Type 0} (f : B → Folding) (z : Basis B) where
-  -- the view of a seat whose actor's knowledge is true
-  pub seat_fits : (d : Config) (owner : ℕ → ℕ) (id : ℕ) (v : View B) (y : Actor) (moves : List Move) → IsSeat v → v.bases ≡ z ∷ [] → ActorFits z.seats d owner id y → ViewFits f z d owner id (record v { actor = y; moves = moves })
-  seat_fits d owner id v y moves seat based fits = record {
-    known = fits.known;
-    based = λ _. based;
-    sits = λ _. fits;
-    deals = λ wrong. absurd (false≢true (sym seat.deals ∙ wrong));
-    more = All-same (ActorFits z.seats d owner id) v.more [] seat.more (All-nil (ActorFits z.seats d owner id));
-  }
-
-  -- a basis that a seat's view names is the board's
-  pub same_basis : (v : View B) (y : Basis B) → v.bases ≡ z ∷ [] → v.bases ≡ y ∷ [] → z ≡ y
-  same_basis v y based other = first_same z y (sym based ∙ other)
-
-  -- what a load of a word of a state tells an actor
-  read_told : (c : Config) (owner : ℕ → ℕ) (id : ℕ) (x : Actor) (place' : ℕ) → AreTerms (terms_of f z) → Shows (terms_of f z) c → ActorFits z.seats c owner id x → IsRead (terms_of f z) x (record x { known = c.history }) place' (slice_index c.words place')
-  read_told c owner id x place' terms show fits =
-      let seen = Ends-trans x.seen x.known c.history fits.seen fits.known in
-      let legal = legal_earlier (terms_of f z) x.seen c.history seen show.legal in
-      let edit = (decoded (terms_of f z) x.seen terms legal).edit in
-      record {
-        terms = terms;
-        quiet = record { number = refl; known = fits.known; own_is = fits.own_is; made = refl };
-        rest = refl;
-        seen = seen;
-        legal = show.legal;
-        cell = λ i within at done. subst (λ p. IsCellRead i x.seen c.history (slice_index c.words p)) (sym at)
-            (cell_read (terms_of f z) i x.seen c.history (slice_index c.words (cell_place i)) terms show.legal seen
-            (let e : 8 * (i / 8) + i % 8 ≡ i = omega arith in subst (λ j. Fits (cell_of j) c.history (slice_index c.words (cell_place i))) e ((show.places (i / 8) (i % 8) (omega arith) (omega arith)).cell (omega arith)))
-            (λ is. let few = few_blocks (terms_of f z) terms in let has : HasPending (descriptor_of x.seen) = omega arith in omega (arith, fits.helped (done has) has, ap (λ j. cell_version (slice_index c.words (cell_place j))) is)));
-        mark = λ b within at done. subst (λ p. IsMarkRead b x.seen c.history (slice_index c.words p)) (sym at)
-            (mark_read (terms_of f z) b x.seen c.history (slice_index c.words (mark_place b)) terms within show.legal seen
-            ((show.places b 8 within (omega arith)).mark refl)
-            (λ has is. omega (arith, fits.marked (done has) has, ap (λ j. slice_index c.words (mark_place j)) is)));
-        part = λ b p within few at. subst (λ q. FitsPart (f z.body) c.history b p (slice_index c.words q)) (sym at)
-            (let e : (9 + p) - 9 ≡ p = omega arith in let four = terms.few_parts in subst (λ q. FitsPart (f z.body) c.history b q (slice_index c.words (part_place b p))) e ((show.places b (9 + p) within (omega arith)).part (omega arith)));
-      }
+use Rattle.lv_board.proofs.Seated.{install_at, read_told, same_basis, seat_fits}
 
 module _ {S B : Type 0} (f : B → Folding) (z : Basis B) where
   -- the state that the rule knows of

@@ -1,4 +1,6 @@
+-- Names the files of lemmas of `lv_board`.
 pub mod Advancing
+pub mod Seated
 pub mod Keeping
 pub mod Exchanging
 pub mod Handing

@@ -13,9 +13,13 @@ use Rattle.lv_machine.specs.declared.entries.Entry.{Entry}
 use Rattle.lv_machine.specs.History.{IsLegalHistory, own}
 use Rattle.lv_machine.specs.Terms.{Terms}
 use Rattle.lv_board.specs.declared.seats.Seat.{Seat}
-use Rattle.lv_board.specs.Closing.{AreSome}
 use Rattle.lv_board.specs.Tells.{actor_of}
 use Rattle.lv_board.proofs.Advancing.{own-nil, own-other, own-same}
+
+-- some of the seats of a board of so many: no two of one number
+pub record AreSome {B : Type 0} (count : ℕ) (seats : List (Seat B)) : Type 0 where
+  pub below : All (λ s. (actor_of s).number < count) seats
+  pub apart : IsDistinct nat_eq (map (λ s. (actor_of s).number) seats)
 
 -- a number that is among some is below what they are all below
 among_below : (xs : List ℕ) (n q : ℕ) → All (λ x. x < n) xs → list_any (nat_eq q) xs ≡ true → q < n

@@ -23,7 +23,8 @@ use Rattle.lv_machine.proofs.HistoryLaws.{index_of-nil, no_elements}
 use Rattle.lv_machine.proofs.WordLaws.{edit_of-descriptor, size_of-descriptor}
 use Rattle.lv_board.specs.declared.actors.Basis.{Basis}
 use Rattle.lv_board.specs.declared.actors.View.{View}
-use Rattle.lv_board.specs.Rule.{ActorFits, dealer_from, dealt, folds, fresh, HasMade, Holds, informed, IsSeat, newcomer, note, spent, terms_of, ViewFits}
+use Rattle.lv_board.specs.Rule.{ActorFits, folds, newcomer, terms_of}
+use Rattle.lv_board.specs.TableRule.{dealer_from, dealt, fresh, HasMade, Holds, informed, IsSeat, note, spent, ViewFits}
 use Rattle.lv_board.specs.Stands.{IsBasis, IsLook}
 use Rattle.lv_board.proofs.Advancing.{made_by-nil, own-nil}
 use Rattle.lv_board.proofs.Handing.{deals, Ends-none, informs, notes}

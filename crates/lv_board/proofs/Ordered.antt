@@ -13,12 +13,13 @@ use Rattle.atomic_table.specs.Seated.{TableId}
 use Rattle.lv_board.specs.declared.actors.Actor.{Actor}
 use Rattle.lv_board.specs.declared.actors.Basis.{Basis}
 use Rattle.lv_board.specs.declared.seats.Seat.{Seat}
-use Rattle.lv_board.specs.Closing.{AreAll, AreAt, AreSome, IsStill}
+use Rattle.lv_board.specs.Closing.{AreAll, AreAt, IsStill}
 use Rattle.lv_board.specs.Opening.{AreDealt}
 use Rattle.lv_board.specs.Ordered.{AreInOrder}
 use Rattle.lv_board.specs.Rule.{newcomer}
 use Rattle.lv_board.specs.Tells.{actor_of, IsAt}
 use Rattle.lv_board.proofs.Still.{still_at}
+use Rattle.lv_board.proofs.Numbers.{AreSome}
 
 module _ {B : Type 0} (table : TableId) (z : Basis B) where
   -- the seats of a new board

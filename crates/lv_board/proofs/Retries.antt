@@ -11,8 +11,9 @@ use Rattle.lv_machine.specs.Terms.{Terms}
 use Rattle.lv_machine.proofs.EndsLaws.{Ends-cons, Ends-trans, Ends-whole}
 use Rattle.lv_board.specs.declared.actors.Actor.{Actor}
 use Rattle.lv_board.specs.Calls.{HasLooked, TryAnswers}
-use Rattle.lv_board.specs.Plays.{IsQuiet}
-use Rattle.lv_board.specs.Retrying.{AreOutrun, HasFound, HasTried, IsOutrun}
+use Rattle.lv_board.specs.Tells.{IsQuiet}
+use Rattle.lv_board.specs.Retrying.{AreOutrun, HasTried, IsOutrun}
+use Rattle.lv_board.specs.Steps.{HasFound}
 use Rattle.lv_board.proofs.Calling.{quiet_same, quiet_then}
 
 -- no verdict is that another edit came first

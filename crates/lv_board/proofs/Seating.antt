@@ -11,9 +11,11 @@ use Rattle.lv_machine.proofs.ShowsLaws.{pending, place_is}
 use Rattle.lv_board.specs.declared.actors.Actor.{Actor}
 use Rattle.lv_board.specs.declared.actors.Basis.{Basis}
 use Rattle.lv_board.specs.declared.actors.View.{View}
-use Rattle.lv_board.specs.Plays.{IsQuiet, SeesAll}
-use Rattle.lv_board.specs.Rule.{IsSeat, terms_of}
-use Rattle.lv_board.specs.Stands.{IsLook, limits_of}
+use Rattle.lv_board.specs.Tells.{IsQuiet}
+use Rattle.lv_board.specs.Plays.{SeesAll}
+use Rattle.lv_board.specs.TableRule.{IsSeat}
+use Rattle.lv_board.specs.Rule.{terms_of, limits_of}
+use Rattle.lv_board.specs.Stands.{IsLook}
 
 -- a view with another actor and other moves is a seat's where it was
 pub seat_after : {B : Type 0} {moves : List Move} (v w : View B) (x : Actor) → w ≡ record v { actor = x; moves = moves } → IsSeat v → IsSeat w

@@ -22,13 +22,14 @@ use Rattle.lv_board.specs.declared.board.Board.{Board}
 use Rattle.lv_board.specs.declared.remains.Closed.{Closed}
 use Rattle.lv_board.specs.declared.opened.Opened.{Opened}
 use Rattle.lv_board.specs.declared.seats.Seat.{Seat}
-use Rattle.lv_board.specs.Closing.{AreSome, IsEnded, IsKept}
+use Rattle.lv_board.specs.Closing.{IsKept}
+use Rattle.lv_board.specs.Ended.{IsEnded}
 use Rattle.lv_board.specs.Opening.{AreDealt, IsBasisOf, IsOpeningRefusal, MayOpen}
 use Rattle.lv_board.specs.Rule.{folds, newcomer, terms_of}
 use Rattle.lv_board.specs.Sharing.{IsClosedShared, IsNewlyShared, Shared, shared_of}
 use Rattle.lv_board.specs.Tells.{actor_of, IsAt}
 use Rattle.lv_board.proofs.Closes.{known_total}
-use Rattle.lv_board.proofs.Numbers.{all_made, some_below}
+use Rattle.lv_board.proofs.Numbers.{AreSome, all_made, some_below}
 
 sum_of_actors : {B : Type 0} (f : Actor → ℕ) (seats : List (Seat B)) → sum_by f (map actor_of seats) ≡ sum_by (λ s. f (actor_of s)) seats
 sum_of_actors f [] = refl

@@ -12,8 +12,15 @@ use Rattle.lv_board.specs.declared.actors.Basis.{Basis}
 use Rattle.lv_board.specs.declared.seats.Seat.{Seat}
 use Rattle.lv_board.specs.Rule.{terms_of}
 use Rattle.lv_board.specs.Session.{BoardStep}
-use Rattle.lv_board.specs.Sitting.{Sits, Sitting, SittingStep}
+use Rattle.lv_board.specs.Sitting.{Sitting, SittingStep}
 use Rattle.lv_board.specs.Tells.{actor_of, Stays}
+
+-- what a sitting stands for: what the seat of a board knows, in the place that it had at first
+pub record Sits {B : Type 0} (z : Basis B) (name : ℕ) (first : Seat B) (s : Sitting B) (x : Actor) : Type 0 where
+  pub basis : s.basis ≡ z
+  pub place : s.name ≡ name
+  pub stays : Stays first s.seat
+  pub knows : actor_of s.seat ≡ x
 
 module _ {B S : Type 0} (f : B → Folding) (o : B → Operations S) (kind : Kind) (shown : B → S → Shown) where
   -- a line by a sitting is one by the actor that it stands for

@@ -36,9 +36,16 @@ use Rattle.lv_board.specs.declared.seats.Seat.{Seat}
 use Rattle.lv_board.specs.Calls.{AreInstalled, HasLooked, IsSummed}
 use Rattle.lv_board.specs.Plays.{IsRead, SeesAll}
 use Rattle.lv_board.specs.Rule.{IsThere, terms_of}
-use Rattle.lv_board.specs.Tells.{actor_of, HasInstalled, IsAt, IsCellTaken, IsHelped, IsMarkTaken, IsWordLoaded}
-use Rattle.lv_board.specs.Walks.{AreTaken, block_fold, block_installed, Comes, HasCome, HasRead, MayRead, Sums}
+use Rattle.lv_board.specs.Tells.{actor_of, IsAt}
+use Rattle.lv_board.specs.Steps.{HasInstalled, IsCellTaken, IsHelped, IsMarkTaken, IsWordLoaded}
+use Rattle.lv_board.specs.Walks.{block_fold, block_installed, Comes, HasCome, HasRead, MayRead, Sums}
 use Rattle.lv_board.proofs.Calling.{helped_quiet, looked_then, quiet_same, quiet_then}
+
+-- the first so many of four numbers are the first parts of a summary, and the others 0
+pub record AreTaken {S : Type 0} (parts_of : S → List ℕ) (s : S) (number : ℕ) (values : List ℕ) : Type 0 where
+  pub four : length values ≡ 4
+  pub taken : (p : ℕ) → p < number → slice_index values p ≡ slice_index (parts_of s) p
+  pub others : (p : ℕ) → number ≤ p → slice_index values p ≡ 0
 
 -- a seat that has loaded nothing yet
 pub read_nothing : {B : Type 0} (s : Seat B) → HasRead s s

@@ -1,11 +1,10 @@
 -- What the calls of a board answer.
-use Rattle.std.specs.Prelude.{◌≡◌, ◌⊎◌, ℕ, ℤ, pos, ◌+◌, ◌-◌, ◌*◌, ◌<◌, ◌≤◌, true, false, Some, None, Result, Ok, Err, List, ◌∷◌, length, slice_index}
-use Rattle.std.specs.List.{slice_index_or}
+use Rattle.std.specs.Prelude.{◌≡◌, ◌⊎◌, ℕ, ◌+◌, ◌-◌, ◌*◌, ◌<◌, ◌≤◌, true, false, Some, None, Result, Ok, Err, List, ◌∷◌, length, slice_index}
 use Rattle.lv_geometry.specs.declared.refusals.Refusal.{Refusal}
 use Rattle.lv_geometry.specs.declared.refusals.Refusal.TheVariants.{Contended, OutOfRange}
 use Rattle.lv_bodies.specs.Body.{Operations}
 use Rattle.lv_edits.specs.declared.edit.Edit.{Edit}
-use Rattle.lv_edits.specs.declared.edit.Edit.TheVariants.{Push, Pop, Write, Reserve, Swap, Truncate}
+use Rattle.lv_edits.specs.declared.edit.Edit.TheVariants.{Pop, Write}
 use Rattle.lv_edits.specs.declared.receipt.Receipt.{Receipt}
 use Rattle.lv_edits.specs.Touch.{elements_under, is_whole}
 use Rattle.lv_edits.specs.Verdict.{element_at, receipt_of, verdict_of}
@@ -21,9 +20,8 @@ use Rattle.lv_reduce.specs.declared.reductions.Answer.{Answer}
 use Rattle.lv_machine.specs.History.{edits_of, elements_of, Ends, IsLegalHistory, own}
 use Rattle.lv_machine.specs.Terms.{Terms}
 use Rattle.lv_board.specs.declared.actors.Actor.{Actor}
-use Rattle.lv_board.specs.Plays.{IsAccepted, IsQuiet}
+use Rattle.lv_board.specs.Tells.{IsQuiet, IsOvertaken}
 use Rattle.lv_board.specs.Rule.{ActorFits}
-use Rattle.lv_board.specs.Tells.{IsOvertaken}
 
 -- an actor looked and made no edit: what it knew before is a beginning of what it sees, a legal history, and that is a beginning of what it
 -- knows now. So what it sees at one call is a beginning of what it sees at the next, and of the history at the close
@@ -54,12 +52,9 @@ pub record IsContendedAt (t : Terms) (y : Actor) (edit : Edit) (looked : List En
 
 -- the edits whose tries load a cell: a pop and a write give the element that was there. A push loads none
 abbrev pub LoadsCell : Edit → Type 0
-LoadsCell (Push x) = ⊥
 LoadsCell Pop = Unit {0}
 LoadsCell (Write i x) = Unit {0}
-LoadsCell (Reserve n) = ⊥
-LoadsCell (Swap i j) = ⊥
-LoadsCell (Truncate n) = ⊥
+LoadsCell _ = ⊥
 
 -- why a try is refused: by its verdict at what is seen now; or, of an edit that loads a cell, because a later edit wrote there; or because
 -- another edit came between its look and its exchange. What was known before, the look, and what is seen now each begin the next
@@ -81,16 +76,6 @@ LookedAnswers t x y edit (Err refusal) =
     ((verdict_of t.limits (edits_of x.seen) edit ≡ Some refusal) × (y ≡ x))
     ⊎ (LoadsCell edit × (verdict_of t.limits (edits_of x.seen) edit ≡ None) × IsQuiet x y × (y.seen ≡ x.seen) × IsOvertaken y refusal)
     ⊎ (HasLooked t x y × IsContendedAt t y edit x.seen refusal)
-
--- what a pop or a write answers that nothing refuses at its look: its number and the element at its index, or why it isn't made
-abbrev pub TakeAnswers : Terms → Actor → Actor → Edit → ℕ → Result (ℕ × ℤ) Refusal → Type 0
-TakeAnswers t x y edit i (Ok taken) =
-    (m : Actor) × IsQuiet x m × (m.seen ≡ x.seen) × IsAccepted t m y record { actor = m.number; edit = edit }
-    × (taken.0 ≡ length y.seen)
-    × (taken.1 ≡ slice_index_or (elements_of x.seen) i (pos 0))
-TakeAnswers t x y edit i (Err refusal) =
-    (IsQuiet x y × (y.seen ≡ x.seen) × IsOvertaken y refusal)
-    ⊎ ((m : Actor) × IsQuiet x m × (m.seen ≡ x.seen) × HasLooked t m y × (length x.seen < length y.seen) × (y.known ≡ y.seen) × (refusal ≡ Contended (length y.seen)))
 
 -- what a read of an element answers
 abbrev pub GetAnswers : ℕ → Actor → Result Read Refusal → Type 0

@@ -14,13 +14,7 @@ use Rattle.lv_board.specs.declared.actors.Actor.{Actor}
 use Rattle.lv_board.specs.declared.actors.Basis.{Basis}
 use Rattle.lv_board.specs.declared.actors.View.{View}
 use Rattle.lv_board.specs.Rule.{terms_of}
-
--- an actor has made no edit: what it knows may have grown, by edits of others
-pub record IsQuiet (x y : Actor) : Type 0 where
-  pub number : y.number ≡ x.number
-  pub known : Ends x.known y.known
-  pub own_is : own x.number y.known ≡ own x.number x.known
-  pub made : y.own ≡ x.own
+pub use Rattle.lv_board.specs.Tells.{IsQuiet}
 
 -- an actor sees all that it knows, a legal history whose descriptor was found
 pub record SeesAll (t : Terms) (y : Actor) (found : ℕ) : Type 0 where

@@ -15,11 +15,6 @@ abbrev pub IsOutrun : Result Receipt Refusal → Type 0
 IsOutrun (Ok receipt) = ⊥
 IsOutrun (Err refusal) = (number : ℕ) × ((refusal ≡ Contended number) ⊎ (refusal ≡ Overtaken number))
 
--- an exchange found another descriptor, which the seat sees now: a try that comes next needs no look
-abbrev pub HasFound : Result Receipt Refusal → Type 0
-HasFound (Ok receipt) = ⊥
-HasFound (Err refusal) = (number : ℕ) × (refusal ≡ Contended number)
-
 -- so many tries of an edit were made, one after the other, and all were outrun
 abbrev pub AreOutrun : Terms → Edit → ℕ → Actor → Actor → Type 0
 AreOutrun t edit zero x y = y ≡ x

@@ -4,7 +4,6 @@ use Rattle.lv_bodies.specs.declared.kinds.Kind.{Kind}
 use Rattle.lv_bodies.specs.declared.kinds.Shown.{Shown}
 use Rattle.lv_bodies.specs.Body.{Operations}
 use Rattle.lv_machine.specs.Terms.{Folding}
-use Rattle.lv_board.specs.declared.actors.Actor.{Actor}
 use Rattle.lv_board.specs.declared.actors.Basis.{Basis}
 use Rattle.lv_board.specs.declared.seats.Seat.{Seat}
 use Rattle.lv_board.specs.Rule.{terms_of}
@@ -23,10 +22,3 @@ pub record SittingStep {B S : Type 0} (f : B → Folding) (o : B → Operations 
   pub name : u.name ≡ s.name
   pub stays : Stays s.seat u.seat
   pub answered : BoardStep (terms_of f s.basis) (o s.basis.body) kind (shown s.basis.body) (actor_of s.seat) n line text (actor_of u.seat)
-
--- what a sitting stands for: what the seat of a board knows, in the place that it had at first
-pub record Sits {B : Type 0} (z : Basis B) (name : ℕ) (first : Seat B) (s : Sitting B) (x : Actor) : Type 0 where
-  pub basis : s.basis ≡ z
-  pub place : s.name ≡ name
-  pub stays : Stays first s.seat
-  pub knows : actor_of s.seat ≡ x

@@ -1,16 +1,11 @@
 -- What a seat stands on: its board, its look, and what its actor knows.
 use Rattle.std.specs.Prelude.{◌≡◌, ℕ, ◌<◌, ◌≤◌, true, List, length}
-use Rattle.lv_geometry.specs.Bounds.{Bounds}
 use Rattle.lv_geometry.specs.Cells.{capacity_of}
 use Rattle.lv_machine.specs.declared.entries.Entry.{Entry}
 use Rattle.lv_machine.specs.History.{descriptor_of, elements_of}
 use Rattle.lv_machine.specs.Words.{edit_of, HasPending, index_of, size_of}
 use Rattle.lv_board.specs.declared.actors.Actor.{Actor}
 use Rattle.lv_board.specs.declared.actors.Basis.{Basis}
-
--- the limits of a basis
-abbrev pub limits_of : {B : Type 0} → Basis B → Bounds
-limits_of z = record { buckets = z.buckets; edits = z.edits }
 
 -- a basis of the lock-free form: at most 9 buckets, 16777215 edits and 8 seats
 pub record IsBasis {B : Type 0} (z : Basis B) : Type 0 where

@@ -1,5 +1,5 @@
 -- What the loads of a reduction and of a refresh tell, and how a reduction goes on by them.
-use Rattle.std.specs.Prelude.{◌≡◌, ℕ, zero, suc, ◌+◌, ◌*◌, ◌<◌, ◌≤◌, List, ◌∷◌, length, Result, IfOk, IfErr, slice_index, slice_range}
+use Rattle.std.specs.Prelude.{◌≡◌, ℕ, zero, suc, ◌+◌, ◌*◌, ◌<◌, ◌≤◌, List, ◌∷◌, length, Result, IfOk, IfErr, slice_range}
 use Rattle.lv_geometry.specs.declared.refusals.Refusal.{Refusal}
 use Rattle.lv_bodies.specs.Body.{fold_of, Operations}
 use Rattle.lv_edits.specs.Touch.{elements_under}
@@ -12,9 +12,8 @@ use Rattle.lv_machine.specs.Words.{part_word}
 use Rattle.lv_board.specs.declared.actors.Installed.{Installed}
 use Rattle.lv_board.specs.declared.underway.Walk.{Walk}
 use Rattle.lv_board.specs.declared.seats.Seat.{Seat}
-use Rattle.lv_board.specs.Plays.{IsQuiet}
+use Rattle.lv_board.specs.Tells.{IsQuiet, actor_of, IsOvertaken, Stays}
 use Rattle.lv_board.specs.Stands.{IsReady}
-use Rattle.lv_board.specs.Tells.{actor_of, IsOvertaken, Stays}
 
 -- the fold of a block's elements
 abbrev pub block_fold : {S : Type 0} → Operations S → ℕ → List Entry → S
@@ -44,12 +43,6 @@ pub record HasGoneOn {S : Type 0} (o : Operations S) (k : List Entry) (hi : ℕ)
   pub further : walk.at < next.at
   pub most : next.at ≤ hi
   pub sums : Sums o k next
-
--- the first so many of four numbers are the first parts of a summary, and the others 0
-pub record AreTaken {S : Type 0} (parts_of : S → List ℕ) (s : S) (number : ℕ) (values : List ℕ) : Type 0 where
-  pub four : length values ≡ 4
-  pub taken : (p : ℕ) → p < number → slice_index values p ≡ slice_index (parts_of s) p
-  pub others : (p : ℕ) → number ≤ p → slice_index values p ≡ 0
 
 module _ {B : Type 0} where
   -- a seat may load what shows the history that it saw: that is legal, and its pending write is complete

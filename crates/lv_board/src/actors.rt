@@ -1,3 +1,4 @@
+//! What a board is made with, what a seat knows, and the view of it at the table.
 use lv_machine::{Entry, Move};
 use std::alloc::AllocError;
 use std::collections::LinkedList;

@@ -1,6 +1,8 @@
+//! The board: the words of one vector, with their table.
 ghost use Rattle.std.specs.Prelude.{◌≡◌};
 ghost use Rattle.lv_machine.specs.Layout.{count_of};
-ghost use Rattle.lv_board.specs.Stands.{IsBasis, limits_of};
+ghost use Rattle.lv_board.specs.Stands.{IsBasis};
+ghost use Rattle.lv_board.specs.Rule.{limits_of};
 
 use crate::actors::{Basis, View};
 use crate::rules::Reached;

@@ -5,9 +5,9 @@ ghost use Rattle.std.specs.Mem.Slots.{slots_items, slots_len, IsFull};
 ghost use Rattle.lv_geometry.specs.Cells.{capacity_of};
 ghost use Rattle.lv_machine.specs.Layout.{cell_place, count_of};
 ghost use Rattle.lv_machine.specs.Words.{edit_of, signed, size_of};
-ghost use Rattle.lv_board.specs.Closing.{AreAll, AreAt, IsClosed, IsEnded, IsSettled, shown_at};
-ghost use Rattle.lv_board.specs.Rule.{folds, terms_of};
-ghost use Rattle.lv_board.specs.Stands.{limits_of};
+ghost use Rattle.lv_board.specs.Closing.{AreAll, AreAt, IsClosed};
+ghost use Rattle.lv_board.specs.Ended.{IsEnded, IsSettled, shown_at};
+ghost use Rattle.lv_board.specs.Rule.{folds, terms_of, limits_of};
 ghost use Rattle.lv_board.specs.Tells.{actor_of, IsAt};
 
 use crate::actors::View;

@@ -4,9 +4,10 @@ ghost use Rattle.lv_machine.specs.History.{IsShortEdit};
 ghost use Rattle.lv_machine.specs.Layout.{count_of};
 ghost use Rattle.lv_machine.specs.Moves.{verdict_at};
 ghost use Rattle.lv_machine.specs.Words.{descriptor_after};
-ghost use Rattle.lv_board.specs.Rule.{folds};
-ghost use Rattle.lv_board.specs.Stands.{IsReady, limits_of};
-ghost use Rattle.lv_board.specs.Tells.{actor_of, IsExchanged};
+ghost use Rattle.lv_board.specs.Rule.{folds, limits_of};
+ghost use Rattle.lv_board.specs.Stands.{IsReady};
+ghost use Rattle.lv_board.specs.Tells.{actor_of};
+ghost use Rattle.lv_board.specs.Steps.{IsExchanged};
 
 use crate::actors::{Basis, View};
 use crate::plays::Exchange;

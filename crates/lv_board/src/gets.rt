@@ -4,10 +4,10 @@ ghost use Rattle.lv_geometry.specs.Cells.{capacity_of};
 ghost use Rattle.lv_machine.specs.Words.{signed, value_of};
 ghost use Rattle.lv_machine.specs.History.{cell_of};
 ghost use Rattle.lv_board.specs.Calls.{GetAnswers, HasLooked};
-ghost use Rattle.lv_board.specs.Plays.{IsQuiet};
+ghost use Rattle.lv_board.specs.Tells.{IsQuiet, actor_of, IsAt, Stays};
 ghost use Rattle.lv_board.specs.Rule.{folds, terms_of};
 ghost use Rattle.lv_board.specs.Stands.{IsReady};
-ghost use Rattle.lv_board.specs.Tells.{actor_of, IsAt, IsCellTaken, Stays};
+ghost use Rattle.lv_board.specs.Steps.{IsCellTaken};
 
 use crate::board::Board;
 use crate::loads::load_cell;

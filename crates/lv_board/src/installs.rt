@@ -6,9 +6,9 @@ ghost use Rattle.lv_machine.specs.History.{edits_of};
 ghost use Rattle.lv_machine.specs.Layout.{count_of, part_place};
 ghost use Rattle.lv_machine.specs.Shows.{block, mark_of};
 ghost use Rattle.lv_machine.specs.Words.{part_word};
-ghost use Rattle.lv_board.specs.Rule.{folds, terms_of};
-ghost use Rattle.lv_board.specs.Stands.{limits_of};
-ghost use Rattle.lv_board.specs.Tells.{actor_of, HasMovedPart, IsInstalled};
+ghost use Rattle.lv_board.specs.Rule.{folds, terms_of, limits_of};
+ghost use Rattle.lv_board.specs.Tells.{actor_of};
+ghost use Rattle.lv_board.specs.Steps.{HasMovedPart, IsInstalled};
 
 use crate::actors::{Basis, View};
 use crate::plays::Install;

@@ -2,9 +2,10 @@
 ghost use Rattle.std.specs.Prelude.{◌≡◌, ◌<◌};
 ghost use Rattle.lv_geometry.specs.Cells.{capacity_of};
 ghost use Rattle.lv_machine.specs.Layout.{count_of};
-ghost use Rattle.lv_board.specs.Rule.{folds, terms_of};
-ghost use Rattle.lv_board.specs.Stands.{IsReady, limits_of};
-ghost use Rattle.lv_board.specs.Tells.{actor_of, IsCellTaken, IsLoaded, IsWordLoaded};
+ghost use Rattle.lv_board.specs.Rule.{folds, terms_of, limits_of};
+ghost use Rattle.lv_board.specs.Stands.{IsReady};
+ghost use Rattle.lv_board.specs.Tells.{actor_of};
+ghost use Rattle.lv_board.specs.Steps.{IsCellTaken, IsLoaded, IsWordLoaded};
 
 use crate::actors::{Basis, View};
 use crate::plays::{LoadDescriptor, LoadWord};

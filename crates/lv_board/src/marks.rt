@@ -8,7 +8,8 @@ ghost use Rattle.lv_machine.specs.Shows.{block, mark_of};
 ghost use Rattle.lv_machine.specs.Words.{part_word};
 ghost use Rattle.lv_board.specs.Rule.{folds, terms_of};
 ghost use Rattle.lv_board.specs.Stands.{IsReady};
-ghost use Rattle.lv_board.specs.Tells.{actor_of, HasMovedPart, IsAt, IsInstalled, IsMarkTaken};
+ghost use Rattle.lv_board.specs.Tells.{actor_of, IsAt};
+ghost use Rattle.lv_board.specs.Steps.{HasMovedPart, IsInstalled, IsMarkTaken};
 
 use crate::board::Board;
 use crate::installs::install;

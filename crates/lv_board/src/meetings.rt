@@ -3,7 +3,8 @@ ghost use Rattle.std.specs.Prelude.{◌≡◌, [], length};
 ghost use Rattle.lv_machine.specs.declared.moves.Move.TheVariants.{Look};
 ghost use Rattle.lv_machine.specs.History.{Ends};
 ghost use Rattle.lv_board.specs.Calls.{HasLooked};
-ghost use Rattle.lv_board.specs.Rule.{folds, note, terms_of};
+ghost use Rattle.lv_board.specs.Rule.{folds, terms_of};
+ghost use Rattle.lv_board.specs.TableRule.{note};
 ghost use Rattle.lv_board.specs.Tells.{actor_of, HasMoved, IsAt, IsSame, moves_of, Stays};
 
 use crate::actors::View;

@@ -1,3 +1,4 @@
+//! A board that its sitters share, with those of its seats that are there.
 ghost use Rattle.std.specs.Prelude.{◌<◌, ◌≤◌, map, nat_eq, vec_capacity, All};
 ghost use Rattle.std.specs.Arc.{arc_value};
 ghost use Rattle.std.specs.List.{IsDistinct};

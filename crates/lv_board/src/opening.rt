@@ -4,8 +4,9 @@ ghost use Rattle.lv_machine.specs.Layout.{count_of};
 ghost use Rattle.lv_machine.specs.History.{descriptor_of};
 ghost use Rattle.lv_board.specs.Opening.{AreDealt, IsBasisOf, IsOpeningRefusal, MayOpen};
 ghost use Rattle.lv_board.specs.Ordered.{AreInOrder};
-ghost use Rattle.lv_board.specs.Rule.{dealer_from, newcomer};
-ghost use Rattle.lv_board.specs.Stands.{IsBasis, limits_of};
+ghost use Rattle.lv_board.specs.TableRule.{dealer_from};
+ghost use Rattle.lv_board.specs.Rule.{newcomer, limits_of};
+ghost use Rattle.lv_board.specs.Stands.{IsBasis};
 ghost use Rattle.lv_board.specs.Tells.{actor_of, IsAt};
 
 use crate::actors::{Basis, View};

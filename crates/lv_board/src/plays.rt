@@ -1,4 +1,6 @@
-ghost use Rattle.lv_board.specs.Rule.{dealt, folds, fresh, gathered, informed, note, spent};
+//! The plays of the table's rule, one for each kind of atomic step.
+ghost use Rattle.lv_board.specs.TableRule.{dealt, fresh, gathered, informed, note, spent};
+ghost use Rattle.lv_board.specs.Rule.{folds};
 ghost use Rattle.lv_board.specs.Plays.{Exchanges, HelpsCell, HelpsMark, Installs, Looks, Reads};
 
 use crate::actors::View;

@@ -6,7 +6,8 @@ ghost use Rattle.lv_machine.specs.History.{edits_of, elements_of};
 ghost use Rattle.lv_machine.specs.Shows.{block, mark_of};
 ghost use Rattle.lv_board.specs.Calls.{AreInstalled, HasLooked, RefreshAnswers};
 ghost use Rattle.lv_board.specs.Rule.{folds, terms_of};
-ghost use Rattle.lv_board.specs.Tells.{actor_of, HasInstalled, IsAt, Stays};
+ghost use Rattle.lv_board.specs.Tells.{actor_of, IsAt, Stays};
+ghost use Rattle.lv_board.specs.Steps.{HasInstalled};
 ghost use Rattle.lv_board.specs.Walks.{block_fold, block_installed, MayRead, SumsBlock};
 
 use crate::board::Board;

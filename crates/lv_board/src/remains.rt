@@ -1,3 +1,4 @@
+//! What is left of a board that was closed.
 use lv_reduce::Values;
 
 /// The elements of a closed vector, in order. Contracts see a list.

@@ -5,7 +5,8 @@ ghost use Rattle.lv_bodies.specs.Parts.{IsShort};
 ghost use Rattle.lv_machine.specs.History.{IsShortEdit};
 ghost use Rattle.lv_board.specs.Calls.{HasLooked, LookedAnswers, TryAnswers};
 ghost use Rattle.lv_board.specs.Closing.{IsStill};
-ghost use Rattle.lv_board.specs.Retrying.{AnswersWithin, HasFound, IsOutrun};
+ghost use Rattle.lv_board.specs.Retrying.{AnswersWithin, IsOutrun};
+ghost use Rattle.lv_board.specs.Steps.{HasFound};
 ghost use Rattle.lv_board.specs.Rule.{folds, terms_of};
 ghost use Rattle.lv_board.specs.Tells.{actor_of, IsAt, IsSame, Stays};
 

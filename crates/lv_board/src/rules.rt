@@ -1,4 +1,6 @@
-ghost use Rattle.lv_board.specs.Rule.{dealer, folds, Holds};
+//! The rule of the table: the words are those of a reachable state.
+ghost use Rattle.lv_board.specs.TableRule.{dealer, Holds};
+ghost use Rattle.lv_board.specs.Rule.{folds};
 
 use crate::actors::{Basis, View};
 use atomic_table::TableRule;

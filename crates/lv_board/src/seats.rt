@@ -1,6 +1,7 @@
+//! A seat: the descriptor that it saw last, and its token.
 ghost use Rattle.std.specs.Prelude.{◌≡◌, [], ◌∷◌, length};
 ghost use Rattle.lv_machine.specs.History.{own};
-ghost use Rattle.lv_board.specs.Rule.{IsSeat};
+ghost use Rattle.lv_board.specs.TableRule.{IsSeat};
 ghost use Rattle.lv_board.specs.Stands.{IsBasis, IsLook};
 
 use crate::actors::{Basis, View};

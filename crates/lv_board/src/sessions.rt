@@ -4,10 +4,9 @@ ghost use Rattle.lv_lines.specs.Replies.{Conversed};
 ghost use Rattle.lv_board.specs.declared.board.Board.{Board};
 ghost use Rattle.lv_board.specs.declared.seats.Seat.{Seat};
 ghost use Rattle.lv_board.specs.PlainBoard.{PlainBoardStep, sat_of};
-ghost use Rattle.lv_board.specs.Rule.{folds, terms_of};
+ghost use Rattle.lv_board.specs.Rule.{folds, terms_of, limits_of};
 ghost use Rattle.lv_board.specs.Session.{BoardStep};
 ghost use Rattle.lv_board.specs.Sitting.{Sitting, SittingStep};
-ghost use Rattle.lv_board.specs.Stands.{limits_of};
 ghost use Rattle.lv_board.specs.Tells.{actor_of, IsAt, Stays};
 
 use crate::answering::Answering;

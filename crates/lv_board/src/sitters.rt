@@ -1,3 +1,4 @@
+//! A sitter: a seat with its share of the board.
 ghost use Rattle.std.specs.Prelude.{◌<◌};
 ghost use Rattle.std.specs.Arc.{arc_value};
 ghost use Rattle.lv_board.specs.Tells.{actor_of, IsAt};

@@ -2,9 +2,9 @@
 ghost use Rattle.std.specs.Prelude.{◌<◌};
 ghost use Rattle.lv_machine.specs.Layout.{count_of};
 ghost use Rattle.lv_machine.specs.Words.{HasPending};
-ghost use Rattle.lv_board.specs.Rule.{folds};
-ghost use Rattle.lv_board.specs.Stands.{limits_of};
-ghost use Rattle.lv_board.specs.Tells.{IsAt, IsCellHelped, IsHelped, IsLoaded, IsMarkHelped, IsWordLoaded};
+ghost use Rattle.lv_board.specs.Rule.{folds, limits_of};
+ghost use Rattle.lv_board.specs.Tells.{IsAt};
+ghost use Rattle.lv_board.specs.Steps.{IsCellHelped, IsHelped, IsLoaded, IsMarkHelped, IsWordLoaded};
 
 use crate::board::Board;
 use crate::loads::{load_descriptor, load_word};

@@ -5,11 +5,12 @@ ghost use Rattle.lv_bodies.specs.Parts.{IsShort};
 ghost use Rattle.lv_machine.specs.History.{elements_of, IsShortEdit};
 ghost use Rattle.lv_machine.specs.Moves.{verdict_at};
 ghost use Rattle.lv_machine.specs.Ready.{IsIndexShort};
-ghost use Rattle.lv_board.specs.Calls.{LookedAnswers, TakeAnswers, TryAnswers};
+ghost use Rattle.lv_board.specs.Calls.{LookedAnswers, TryAnswers};
+ghost use Rattle.lv_board.specs.Steps.{TakeAnswers, entry_of};
 ghost use Rattle.lv_board.specs.Plays.{IsAccepted, IsContended};
-ghost use Rattle.lv_board.specs.Rule.{folds, terms_of};
-ghost use Rattle.lv_board.specs.Stands.{IsReady, limits_of};
-ghost use Rattle.lv_board.specs.Tells.{actor_of, entry_of, IsAt, IsSame, Stays};
+ghost use Rattle.lv_board.specs.Rule.{folds, terms_of, limits_of};
+ghost use Rattle.lv_board.specs.Stands.{IsReady};
+ghost use Rattle.lv_board.specs.Tells.{actor_of, IsAt, IsSame, Stays};
 
 use crate::board::Board;
 use crate::exchanges::exchange;

@@ -1,3 +1,4 @@
+//! A reduction on its way.
 use std::alloc::AllocError;
 
 // A reduction on its way: the fold of the elements from `lo` up to `at`, and how many cells and blocks were read for it.

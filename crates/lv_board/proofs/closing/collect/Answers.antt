@@ -1,9 +1,10 @@
+-- Proof of `collect`: puts the elements that the last words show into a vector that has room for them.
 use Rattle.std.proofs.Common.{◌+◌, length, ap, ◌∙◌, rules, to_z, of_z, arith}
 use Rattle.std.proofs.lemmas.Int.{to_z-of_z}
 use Rattle.std.proofs.lemmas.List.{length_push}
 use Rattle.std.specs.Int.{w64}
 use Rattle.std.specs.Mem.Slots.{slots_items}
-use Rattle.lv_board.specs.Closing.{shown_at}
+use Rattle.lv_board.specs.Ended.{shown_at}
 use Rattle.lv_board.proofs.Closes.{collected}
 use Rattle.lv_board.proofs.closing.collect.Goals as goal
 

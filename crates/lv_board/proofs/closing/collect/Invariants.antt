@@ -1,8 +1,9 @@
+-- What the loop keeps in `collect`: the vector has the elements so far, and room for the others.
 use Rattle.std.specs.Prelude.{◌≡◌, ◌≤◌, map, vec_capacity, length}
 use Rattle.std.specs.List.{range_with_len}
 use Rattle.std.specs.Mem.Slots.{slots_items}
 use Rattle.lv_machine.specs.Words.{size_of}
-use Rattle.lv_board.specs.Closing.{shown_at}
+use Rattle.lv_board.specs.Ended.{shown_at}
 use Rattle.lv_board.proofs.closing.collect.Given as goal
 
 abbrev pub invariant-loop-i : goal.invariant-loop-i

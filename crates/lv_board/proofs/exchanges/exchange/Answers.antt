@@ -1,3 +1,4 @@
+-- Proof of `exchange`: the exchange of the descriptor from the look to the one after an edit, at the seat's own table.
 use Rattle.std.proofs.Common.{◌≡◌, ℕ, ◌∷◌, nat_eq, refl, ap, ◌∙◌, subst, arith}
 use Rattle.std.specs.Prelude.{MatchBool}
 use Rattle.std.proofs.lemmas.Bool.{eq-eqb, ne_eqb}

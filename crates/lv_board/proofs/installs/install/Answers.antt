@@ -1,10 +1,12 @@
+-- Proof of `install`: installs a part of the summary of a block that is whole where the seat looked, at the seat's own table.
 use Rattle.std.proofs.Common.{◌≡◌, ℕ, ◌+◌, ◌-◌, List, ◌∷◌, refl, sym, ap, ◌∙◌, arith}
 use Rattle.lv_machine.specs.declared.moves.Move.TheVariants.{Install}
 use Rattle.lv_machine.specs.Layout.{block_at, row_at}
 use Rattle.lv_board.specs.declared.actors.Actor.{Actor}
 use Rattle.lv_board.specs.declared.actors.Installed.{Installed}
 use Rattle.lv_board.specs.Rule.{folds}
-use Rattle.lv_board.proofs.Keeping.{install_at, installs_at_key}
+use Rattle.lv_board.proofs.Seated.{install_at}
+use Rattle.lv_board.proofs.Keeping.{installs_at_key}
 use Rattle.lv_board.proofs.Seating.{based_after, block_among, made_same, same_look, seat_after}
 use Rattle.lv_board.proofs.installs.install.Goals as goal
 

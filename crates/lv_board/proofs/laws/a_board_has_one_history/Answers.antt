@@ -1,3 +1,4 @@
+-- Proof of `a_board_has_one_history`: a board that was closed had one history: each session's is a beginning of it, with all edits of its own.
 use Rattle.lv_board.proofs.PlainBoards.{closed_plain}
 use Rattle.lv_board.proofs.laws.a_board_has_one_history.Goals as goal
 

@@ -1,11 +1,11 @@
+-- Proof of `load_cell`: the element in a cell, as the seat looked, or the later edit that wrote there since.
 use Rattle.std.proofs.Common.{rules, ◌≤◌, refl, ap, ◌∙◌, length, arith}
 use Rattle.std.specs.Int.{w64}
 use Rattle.std.proofs.lemmas.Int.{to_z-of_z}
 use Rattle.lv_machine.specs.Layout.{count_of}
 use Rattle.lv_machine.specs.Words.{cell_version, edit_of, signed, value_of}
 use Rattle.lv_machine.proofs.EndsLaws.{legal_earlier}
-use Rattle.lv_board.specs.Rule.{folds, terms_of}
-use Rattle.lv_board.specs.Stands.{limits_of}
+use Rattle.lv_board.specs.Rule.{folds, terms_of, limits_of}
 use Rattle.lv_board.proofs.Calling.{cell_found, version_few}
 use Rattle.lv_board.proofs.Seating.{cell_among}
 use Rattle.lv_board.proofs.loads.load_cell.Goals as goal

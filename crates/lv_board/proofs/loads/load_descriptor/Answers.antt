@@ -1,8 +1,10 @@
+-- Proof of `load_descriptor`: the descriptor of the seat's own table: the look becomes what is loaded.
 use Rattle.std.proofs.Common.{refl, sym, ap, ◌∙◌, subst, arith}
 use mathlib.Core.Option.{none}
 use Rattle.atomic_table.specs.Table.{Allows, step}
 use Rattle.lv_board.specs.Plays.{Looks}
-use Rattle.lv_board.specs.Rule.{folds, Holds}
+use Rattle.lv_board.specs.Rule.{folds}
+use Rattle.lv_board.specs.TableRule.{Holds}
 use Rattle.lv_board.proofs.Keeping.{looks_allowed}
 use Rattle.lv_board.proofs.Seating.{based_after, look_found, seat_after}
 use Rattle.lv_board.proofs.loads.load_descriptor.Goals as goal

@@ -1,8 +1,10 @@
+-- Proof of `load_word`: another word of the seat's own table than the descriptor.
 use Rattle.std.proofs.Common.{refl, sym, ap, subst, arith}
 use mathlib.Core.Option.{none}
 use Rattle.atomic_table.specs.Table.{Allows, step}
 use Rattle.lv_board.specs.Plays.{Reads}
-use Rattle.lv_board.specs.Rule.{folds, Holds}
+use Rattle.lv_board.specs.Rule.{folds}
+use Rattle.lv_board.specs.TableRule.{Holds}
 use Rattle.lv_board.proofs.Keeping.{reads_allowed}
 use Rattle.lv_board.proofs.Seating.{made_after}
 use Rattle.lv_board.proofs.loads.load_word.Goals as goal

@@ -1,8 +1,8 @@
+-- Proof of `lay`: a board with no edits, and the token that deals its seats.
 use Rattle.std.proofs.Common.{◌≡◌, ◌+◌, ◌-◌, ◌*◌, [], ◌∷◌, replicate, ap, ◌∙◌, arith}
 use Rattle.lv_machine.specs.History.{descriptor_of}
 use Rattle.lv_machine.specs.Terms.{blocks_of}
-use Rattle.lv_board.specs.Rule.{folds}
-use Rattle.lv_board.specs.Stands.{limits_of}
+use Rattle.lv_board.specs.Rule.{folds, limits_of}
 use Rattle.lv_board.proofs.Opens.{are_terms, opens}
 use Rattle.lv_board.proofs.opening.lay.Goals as goal
 

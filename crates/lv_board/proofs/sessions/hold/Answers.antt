@@ -1,3 +1,4 @@
+-- Proof of `hold`: holds a session on what is a board and a seat of a body.
 use Rattle.std.proofs.Common.{rules}
 use Rattle.lv_board.specs.Rule.{folds}
 use Rattle.lv_board.proofs.Sittings.{ended_as}

@@ -1,3 +1,4 @@
+-- Proof of `run_board_session`: answers the lines of a session by a seat: pushes, pops, writes, reads, sizes.
 use Rattle.lv_lines.specs.Replies.{Conversed}
 use Rattle.lv_board.specs.Rule.{folds, terms_of}
 use Rattle.lv_board.specs.Session.{BoardStep}

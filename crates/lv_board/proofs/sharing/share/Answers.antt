@@ -1,3 +1,4 @@
+-- Proof of `share`: a board and its seats, to be shared.
 use Rattle.std.proofs.Common.{◌<◌, ◌≤◌, refl, sym, subst, arith}
 use Rattle.std.specs.Prelude.{vec_capacity, All}
 use Rattle.lv_board.specs.declared.board.Board.{Board}

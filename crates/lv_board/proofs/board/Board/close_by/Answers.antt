@@ -1,8 +1,9 @@
+-- Proof of `Board::close_by`: the vector by such seats as are handed in, in a vector that has room for its elements.
 use Rattle.std.proofs.Common.{sym, ap, ◌∙◌, map, arith}
 use Rattle.std.specs.List.{range_with_len}
 use Rattle.std.specs.Mem.Slots.{slots_items}
 use Rattle.lv_machine.specs.Words.{edit_of, size_of}
-use Rattle.lv_board.specs.Closing.{shown_at}
+use Rattle.lv_board.specs.Ended.{shown_at}
 use Rattle.lv_board.specs.Rule.{folds, terms_of}
 use Rattle.lv_board.proofs.Closes.{cell_within, ended_of, size_within, word_read}
 use Rattle.lv_board.proofs.board.Board.close_by.Goals as goal

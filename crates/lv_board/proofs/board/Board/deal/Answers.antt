@@ -1,3 +1,4 @@
+-- Proof of `Board::deal`: the next seat.
 use Rattle.std.proofs.Common.{sym, ap, ◌∙◌, arith}
 use Rattle.lv_board.specs.Rule.{folds}
 use Rattle.lv_machine.specs.History.{own}

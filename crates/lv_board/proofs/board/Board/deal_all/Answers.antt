@@ -1,7 +1,9 @@
+-- Proof of `Board::deal_all`: all seats, in the order of their numbers.
 use Rattle.std.proofs.Common.{◌≡◌, ◌+◌, [], length, sym, ap, ◌∙◌, subst, arith}
 use Rattle.std.proofs.lemmas.List.{length_push}
 use Rattle.lv_board.specs.Opening.{AreDealt}
-use Rattle.lv_board.specs.Rule.{dealer_from, newcomer}
+use Rattle.lv_board.specs.TableRule.{dealer_from}
+use Rattle.lv_board.specs.Rule.{newcomer}
 use Rattle.lv_board.proofs.Opens.{dealt_more}
 use Rattle.lv_board.proofs.board.Board.deal_all.Goals as goal
 

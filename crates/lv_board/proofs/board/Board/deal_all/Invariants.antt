@@ -1,6 +1,7 @@
+-- What the loop keeps in `Board::deal_all`: all seats, in the order of their numbers.
 use Rattle.std.specs.Prelude.{◌≡◌, ◌≤◌, [], length, vec_capacity}
 use Rattle.lv_board.specs.Opening.{AreDealt}
-use Rattle.lv_board.specs.Rule.{dealer_from}
+use Rattle.lv_board.specs.TableRule.{dealer_from}
 use Rattle.lv_board.proofs.board.Board.deal_all.Given as goal
 
 abbrev pub invariant-loop-number : goal.invariant-loop-number

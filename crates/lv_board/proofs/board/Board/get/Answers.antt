@@ -1,3 +1,4 @@
+-- Proof of `Board::get`: the element at index `i`.
 use Rattle.std.proofs.Common.{rules, ◌≡◌, pos, ◌<◌, Ok, Err, length, sym, ap, ◌∙◌, inl, arith}
 use Rattle.std.specs.Int.{w64}
 use Rattle.std.specs.List.{slice_index_or}

@@ -1,3 +1,4 @@
+-- Proof of `Board::hear`: reads a note, and looks.
 use Rattle.std.proofs.Common.{ap, ◌∙◌, ◌∷◌, arith}
 use Rattle.lv_machine.specs.declared.moves.Move.TheVariants.{Look}
 use Rattle.lv_board.specs.Rule.{folds}

@@ -1,3 +1,4 @@
+-- Proof of `Board::help_cell`: completes the cell of the look's pending write.
 use Rattle.std.proofs.Common.{◌≡◌, true, refl, ap, ◌∙◌}
 use Rattle.lv_machine.specs.Layout.{cell_place}
 use Rattle.lv_machine.specs.Words.{cell_word, edit_of, index_of}

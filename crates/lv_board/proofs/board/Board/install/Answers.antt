@@ -1,3 +1,4 @@
+-- Proof of `Board::install`: installs a part of the summary of a block that is whole where the seat looked.
 use Rattle.std.proofs.Common.{◌≡◌, ◌*◌, ◌<◌, sym, ap, ◌∙◌, subst}
 use Rattle.lv_edits.specs.Touch.{elements_under}
 use Rattle.lv_geometry.specs.Cells.{capacity_of}
@@ -5,8 +6,7 @@ use Rattle.lv_machine.specs.History.{edits_of}
 use Rattle.lv_machine.specs.Layout.{count_of}
 use Rattle.lv_machine.specs.Shows.{block, mark_of}
 use Rattle.lv_machine.specs.Words.{part_word}
-use Rattle.lv_board.specs.Rule.{folds, terms_of}
-use Rattle.lv_board.specs.Stands.{limits_of}
+use Rattle.lv_board.specs.Rule.{folds, terms_of, limits_of}
 use Rattle.lv_board.proofs.board.Board.install.Goals as goal
 
 pub install-requires-clause-key : goal.install-requires-clause-key

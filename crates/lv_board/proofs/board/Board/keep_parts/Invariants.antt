@@ -1,5 +1,7 @@
+-- What the loop keeps in `Board::keep_parts`: installs the parts of a whole block's summary, with the block's mark as their version.
 use Rattle.lv_board.specs.Rule.{folds, terms_of}
-use Rattle.lv_board.specs.Tells.{actor_of, HasInstalled, IsAt}
+use Rattle.lv_board.specs.Tells.{actor_of, IsAt}
+use Rattle.lv_board.specs.Steps.{HasInstalled}
 use Rattle.lv_board.specs.Walks.{block_installed}
 use Rattle.lv_board.proofs.board.Board.keep_parts.Given as goal
 

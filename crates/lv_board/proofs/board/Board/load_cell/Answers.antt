@@ -1,9 +1,9 @@
+-- Proof of `Board::load_cell`: the element in a cell, as the seat looked, or the later edit that wrote there since.
 use Rattle.std.proofs.Common.{◌<◌, sym, ap, ◌∙◌, subst}
 use Rattle.lv_geometry.specs.Cells.{capacity_of}
 use Rattle.lv_machine.specs.Layout.{count_of}
-use Rattle.lv_board.specs.Rule.{folds, terms_of}
-use Rattle.lv_board.specs.Stands.{limits_of}
-use Rattle.lv_board.specs.Tells.{IsCellTaken}
+use Rattle.lv_board.specs.Rule.{folds, terms_of, limits_of}
+use Rattle.lv_board.specs.Steps.{IsCellTaken}
 use Rattle.lv_board.proofs.board.Board.load_cell.Goals as goal
 
 pub load_cell-requires-clause-key : goal.load_cell-requires-clause-key

@@ -1,6 +1,7 @@
+-- Proof of `Board::load_descriptor`: the descriptor: the seat's look becomes what is loaded.
 use Rattle.std.proofs.Common.{sym, ap, ◌∙◌}
 use Rattle.lv_machine.specs.Layout.{count_of}
-use Rattle.lv_board.specs.Stands.{limits_of}
+use Rattle.lv_board.specs.Rule.{limits_of}
 use Rattle.lv_board.proofs.board.Board.load_descriptor.Goals as goal
 
 pub load_descriptor-requires-clause-key : goal.load_descriptor-requires-clause-key

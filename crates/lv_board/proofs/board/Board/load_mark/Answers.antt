@@ -1,10 +1,10 @@
+-- Proof of `Board::load_mark`: the mark of a block, as the seat looked, or the later edit that touched the block since.
 use Rattle.std.proofs.Common.{◌≤◌, length, refl, ap, subst, arith}
 use Rattle.lv_machine.specs.Layout.{count_of}
 use Rattle.lv_machine.specs.Words.{edit_of}
 use Rattle.lv_machine.proofs.EndsLaws.{legal_earlier}
 use Rattle.lv_board.specs.Plays.{IsRead}
-use Rattle.lv_board.specs.Rule.{folds, terms_of}
-use Rattle.lv_board.specs.Stands.{limits_of}
+use Rattle.lv_board.specs.Rule.{folds, terms_of, limits_of}
 use Rattle.lv_board.proofs.Calling.{mark_few, mark_found}
 use Rattle.lv_board.proofs.Seating.{block_among}
 use Rattle.lv_board.proofs.board.Board.load_mark.Goals as goal

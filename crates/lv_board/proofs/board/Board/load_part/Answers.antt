@@ -1,10 +1,10 @@
+-- Proof of `Board::load_part`: a part of a whole block's summary, where its version is that of the block's mark.
 use Rattle.std.proofs.Common.{◌≡◌, ◌+◌, refl, ◌∙◌, subst, arith}
 use Rattle.lv_machine.specs.Layout.{count_of}
 use Rattle.lv_machine.specs.Shows.{mark_of}
 use Rattle.lv_machine.specs.Words.{part_version}
 use Rattle.lv_board.specs.Plays.{IsRead}
-use Rattle.lv_board.specs.Rule.{folds, terms_of}
-use Rattle.lv_board.specs.Stands.{limits_of}
+use Rattle.lv_board.specs.Rule.{folds, terms_of, limits_of}
 use Rattle.lv_board.proofs.Seating.{block_among}
 use Rattle.lv_board.proofs.Walking.{part_read}
 use Rattle.lv_board.proofs.board.Board.load_part.Goals as goal

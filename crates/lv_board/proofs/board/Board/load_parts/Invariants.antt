@@ -1,7 +1,9 @@
+-- What the loop keeps in `Board::load_parts`: the parts of a whole block's summary, where each has the version of the block's mark.
 use Rattle.lv_board.specs.Rule.{folds, terms_of}
 use Rattle.lv_board.specs.Tells.{actor_of, IsAt}
-use Rattle.lv_board.specs.Walks.{AreTaken, block_fold, HasRead, MayRead}
+use Rattle.lv_board.specs.Walks.{block_fold, HasRead, MayRead}
 use Rattle.lv_board.proofs.board.Board.load_parts.Given as goal
+use Rattle.lv_board.proofs.Walking.{AreTaken}
 
 -- the parts before the next one were loaded, and the seat sees what it saw
 abbrev pub invariant-loop-part : goal.invariant-loop-part

@@ -1,6 +1,7 @@
+-- Proof of `Board::load_word`: another word.
 use Rattle.std.proofs.Common.{◌<◌, sym, ap, ◌∙◌, subst}
 use Rattle.lv_machine.specs.Layout.{count_of}
-use Rattle.lv_board.specs.Stands.{limits_of}
+use Rattle.lv_board.specs.Rule.{limits_of}
 use Rattle.lv_board.proofs.board.Board.load_word.Goals as goal
 
 pub load_word-requires-clause-key : goal.load_word-requires-clause-key

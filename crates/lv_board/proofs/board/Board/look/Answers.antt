@@ -1,3 +1,4 @@
+-- Proof of `Board::look`: looks at the descriptor: one load.
 use Rattle.lv_board.specs.Rule.{folds}
 use Rattle.lv_board.proofs.Calling.{has_looked}
 use Rattle.lv_board.proofs.board.Board.look.Goals as goal

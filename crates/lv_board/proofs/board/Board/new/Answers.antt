@@ -1,8 +1,9 @@
+-- Proof of `Board::new`: a board with no edits, and its seats: seat k is actor k.
 use Rattle.std.proofs.Common.{ℕ, [], inr, refl, sym, ap, ◌∙◌, arith}
 use Rattle.atomic_table.specs.Table.{Me}
 use Rattle.lv_board.specs.declared.actors.Basis.{Basis}
 use Rattle.lv_board.specs.declared.actors.View.{View}
-use Rattle.lv_board.specs.Rule.{dealer_from}
+use Rattle.lv_board.specs.TableRule.{dealer_from}
 use Rattle.lv_board.proofs.Ordered.{dealt_order}
 use Rattle.lv_board.proofs.board.Board.new.Goals as goal
 

@@ -1,3 +1,4 @@
+-- Proof of `Board::pop_looked`: drops the last element, where no edit came since the seat looked.
 use Rattle.std.proofs.Common.{rules, ◌≡◌, pos, ◌+◌, ◌-◌, Ok, length, refl, sym, ap, ◌∙◌, inl, arith}
 use Rattle.std.specs.Int.{w64, cast_signed, cast_unsigned}
 use Rattle.std.specs.List.{slice_index_or}
@@ -7,9 +8,8 @@ use Rattle.lv_edits.specs.declared.receipt.Receipt.TheVariants.{Popped}
 use Rattle.lv_edits.specs.History.{list_of}
 use Rattle.lv_machine.specs.History.{edits_of}
 use Rattle.lv_machine.proofs.HistoryLaws.{length-edits_of}
-use Rattle.lv_board.specs.Calls.{TakeAnswers}
-use Rattle.lv_board.specs.Rule.{folds, terms_of}
-use Rattle.lv_board.specs.Stands.{limits_of}
+use Rattle.lv_board.specs.Steps.{TakeAnswers}
+use Rattle.lv_board.specs.Rule.{folds, terms_of, limits_of}
 use Rattle.lv_board.proofs.Calling.{looked_of_taken, looked_of_untaken, verdict_is}
 use Rattle.lv_board.proofs.board.Board.pop_looked.Goals as goal
 

@@ -1,3 +1,4 @@
+-- Proof of `Board::push_short`: puts an element of 16 bits at the end, as the seat looked.
 use Rattle.std.proofs.Common.{◌≡◌, ◌+◌, length, refl, sym, ap, ◌∙◌, subst, inl, inr, arith}
 use Rattle.std.specs.Int.{w64, cast_signed, cast_unsigned}
 use Rattle.std.proofs.lemmas.Int.{to_z-of_z}
@@ -9,8 +10,7 @@ use Rattle.lv_machine.specs.Moves.{verdict_at}
 use Rattle.lv_machine.specs.Words.{size_of}
 use Rattle.lv_machine.proofs.HistoryLaws.{length-edits_of}
 use Rattle.lv_board.specs.Plays.{IsAccepted, IsContended}
-use Rattle.lv_board.specs.Rule.{folds, terms_of}
-use Rattle.lv_board.specs.Stands.{limits_of}
+use Rattle.lv_board.specs.Rule.{folds, terms_of, limits_of}
 use Rattle.lv_board.proofs.Calling.{accepted_before, added_of, contended_looked, helped_quiet, verdict_is}
 use Rattle.lv_board.proofs.board.Board.push_short.Goals as goal
 

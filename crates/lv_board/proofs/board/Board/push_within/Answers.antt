@@ -1,3 +1,4 @@
+-- Proof of `Board::push_within`: `try_push`, made again while it is refused with `Contended`.
 use Rattle.std.proofs.Common.{refl, subst}
 use Rattle.std.specs.Int.{w64}
 use Rattle.std.proofs.lemmas.Int.{to_z-of_z}

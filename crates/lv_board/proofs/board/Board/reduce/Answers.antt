@@ -1,3 +1,4 @@
+-- Proof of `Board::reduce`: the fold of the elements from index `lo` up to `hi`, `hi` excluded.
 use Rattle.std.proofs.Common.{◌∙◌, sym, subst}
 use Rattle.lv_board.specs.Rule.{folds, terms_of}
 use Rattle.lv_board.specs.Walks.{HasCome}

@@ -1,3 +1,4 @@
+-- Proof of `Board::reduce_plain`: what `reduce` answers, with the plain value of the range in place of its summary.
 use Rattle.lv_board.specs.Rule.{folds, terms_of}
 use Rattle.lv_board.specs.Tells.{actor_of}
 use Rattle.lv_board.proofs.Opens.{are_terms}

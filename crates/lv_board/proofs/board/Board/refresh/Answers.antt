@@ -1,3 +1,4 @@
+-- Proof of `Board::refresh`: makes the parts of the block of that number from its cells.
 use Rattle.std.proofs.Common.{Ok, Err}
 use Rattle.lv_board.specs.Rule.{folds, terms_of}
 use Rattle.lv_board.proofs.Calling.{has_looked}

@@ -1,3 +1,4 @@
+-- Proof of `Board::settle`: the last words, which show what all seats know.
 use Rattle.std.proofs.Common.{sym, ap, ◌∙◌, map, arith}
 use Rattle.std.specs.Prelude.{Some}
 use Rattle.std.specs.Mem.Slots.{slots_items}

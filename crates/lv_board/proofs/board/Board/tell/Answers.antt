@@ -1,3 +1,4 @@
+-- Proof of `Board::tell`: a note of what a seat knows.
 use Rattle.std.proofs.Common.{arith}
 use Rattle.lv_board.specs.Rule.{folds}
 use Rattle.lv_board.proofs.Opens.{notes_at_key}

@@ -1,3 +1,4 @@
+-- Proof of `Board::try_pop`: looks, and drops the last element.
 use Rattle.lv_edits.specs.declared.edit.Edit.TheVariants.{Pop}
 use Rattle.lv_board.specs.Rule.{folds, terms_of}
 use Rattle.lv_board.proofs.Calling.{try_of_looked}

@@ -1,3 +1,4 @@
+-- Proof of `Board::try_write`: looks, and overwrites the element at `index`.
 use Rattle.std.proofs.Common.{refl, ◌∙◌, subst}
 use Rattle.std.specs.Int.{w64}
 use Rattle.std.proofs.lemmas.Int.{to_z-of_z}

@@ -1,3 +1,4 @@
+-- Proof of `Board::walk_block`: goes on by the block that begins where the walk stands: from its parts where they are fresh, else by its cells.
 use Rattle.std.proofs.Common.{◌+◌, Ok, subst}
 use Rattle.lv_board.specs.Rule.{folds, terms_of}
 use Rattle.lv_board.specs.Walks.{HasCome}

@@ -1,3 +1,4 @@
+-- What the loop keeps in `Board::walk_cells`: goes on by cells to an index.
 use Rattle.std.specs.Prelude.{◌≡◌, ◌-◌, ◌≤◌}
 use Rattle.lv_board.specs.Rule.{folds, terms_of}
 use Rattle.lv_board.specs.Tells.{actor_of, IsAt}

@@ -1,3 +1,4 @@
+-- Proof of `Board::walk_range`: goes through a range of the elements.
 use Rattle.std.proofs.Common.{◌∙◌, subst}
 use Rattle.lv_board.specs.Rule.{folds, terms_of}
 use Rattle.lv_board.specs.Walks.{Sums}

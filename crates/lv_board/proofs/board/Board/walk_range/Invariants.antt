@@ -1,3 +1,4 @@
+-- What the loop keeps in `Board::walk_range`: goes through a range of the elements.
 use Rattle.std.specs.Prelude.{◌≡◌, ◌-◌, ◌≤◌}
 use Rattle.lv_board.specs.Rule.{folds, terms_of}
 use Rattle.lv_board.specs.Tells.{actor_of, IsAt}

@@ -1,3 +1,4 @@
+-- Proof of `Board::write_short`: overwrites the element at an index with one of 16 bits, as the seat looked.
 use Rattle.std.proofs.Common.{rules, ◌≡◌, ◌+◌, Ok, Err, length, refl, sym, ap, ◌∙◌, subst, inl, arith}
 use Rattle.std.specs.Int.{w64, cast_signed, cast_unsigned}
 use Rattle.std.proofs.lemmas.Int.{to_z-of_z}
@@ -9,9 +10,8 @@ use Rattle.lv_edits.proofs.HistoryLaws.{not_refused, unrefused_write}
 use Rattle.lv_machine.specs.History.{edits_of}
 use Rattle.lv_machine.specs.Moves.{verdict_at}
 use Rattle.lv_machine.proofs.HistoryLaws.{length-edits_of}
-use Rattle.lv_board.specs.Calls.{TakeAnswers}
-use Rattle.lv_board.specs.Rule.{folds, terms_of}
-use Rattle.lv_board.specs.Stands.{limits_of}
+use Rattle.lv_board.specs.Steps.{TakeAnswers}
+use Rattle.lv_board.specs.Rule.{folds, terms_of, limits_of}
 use Rattle.lv_board.proofs.Calling.{looked_of_taken, looked_of_untaken, verdict_is}
 use Rattle.lv_board.proofs.board.Board.write_short.Goals as goal
 

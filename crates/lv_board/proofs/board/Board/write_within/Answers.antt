@@ -1,3 +1,4 @@
+-- Proof of `Board::write_within`: `try_write`, made again while it is refused with `Contended`, from the descriptor that was found then.
 use Rattle.std.proofs.Common.{refl, subst}
 use Rattle.std.specs.Int.{w64}
 use Rattle.std.proofs.lemmas.Int.{to_z-of_z}

@@ -1,3 +1,4 @@
+-- Proof of `Opened::close`: the vector when all seats are there: the number of its last edit, and its elements.
 use Rattle.std.proofs.Common.{◌<◌, ◌≤◌, refl, sym, ap, ◌∙◌, subst}
 use Rattle.std.specs.Prelude.{vec_capacity, All}
 use Rattle.std.specs.Arc.{arc_value}

@@ -1,9 +1,10 @@
+-- Proof of `Opened::sit`: the seat that has been there for the longest; at first they are there in the order of their numbers.
 use Rattle.std.proofs.Common.{subst, arith}
 use Rattle.std.specs.Arc.{arc_value}
 use Rattle.std.proofs.lemmas.List.Elements.{All-tail}
-use Rattle.lv_board.specs.Closing.{AreAt, AreSome}
+use Rattle.lv_board.specs.Closing.{AreAt}
 use Rattle.lv_board.specs.Tells.{IsAt}
-use Rattle.lv_board.proofs.Numbers.{first_apart, first_of, some_rest}
+use Rattle.lv_board.proofs.Numbers.{AreSome, first_apart, first_of, some_rest}
 use Rattle.lv_board.proofs.opened.Opened.sit.Goals as goal
 
 pub invariant_of-self : goal.invariant_of-self

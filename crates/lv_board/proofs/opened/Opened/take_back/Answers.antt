@@ -1,10 +1,11 @@
+-- Proof of `Opened::take_back`: takes a seat back, with all that it knows: it may be taken again, and when all are there the board can be closed.
 use Rattle.std.proofs.Common.{◌<◌, sym, subst, arith}
 use Rattle.std.specs.Arc.{arc_value}
 use Rattle.std.proofs.lemmas.List.Elements.{All-push}
 use Rattle.lv_board.specs.declared.board.Board.{Board}
-use Rattle.lv_board.specs.Closing.{AreAt, AreSome}
+use Rattle.lv_board.specs.Closing.{AreAt}
 use Rattle.lv_board.specs.Tells.{actor_of, IsAt}
-use Rattle.lv_board.proofs.Numbers.{room_for, some_more}
+use Rattle.lv_board.proofs.Numbers.{AreSome, room_for, some_more}
 use Rattle.lv_board.proofs.opened.Opened.take_back.Goals as goal
 
 pub push_reserved-requires : goal.push_reserved-requires

@@ -1,3 +1,4 @@
+-- Proof of the session's `respond`: a line is answered by the seat.
 use Rattle.std.proofs.Common.{refl}
 use Rattle.lv_lines.proofs.OutputLemmas.{Writes-put, Writes-trans}
 use Rattle.lv_board.specs.Session.{BoardStep}

@@ -1,3 +1,4 @@
+-- Proof of `Sitter::make`: makes a call, and gives what it ends with, a fold as its plain value.
 use Rattle.std.proofs.Common.{refl}
 use Rattle.lv_board.proofs.sitters.Sitter.make.Goals as goal
 
