@@ -4,7 +4,7 @@ ghost use Rattle.lv_board.specs.Closing.{IsStill};
 ghost use Rattle.lv_board.specs.Opening.{AreDealt};
 ghost use Rattle.lv_board.specs.Tells.{IsAt};
 
-use crate::board::{open, seats_of};
+use crate::boards_of_two::{open, seats_of};
 use crate::same::assert_same;
 use lv_board::{Board, Seat};
 use lv_bodies::Sum;

@@ -1,3 +1,4 @@
+//! Tests of limits, places, buckets, blocks and refusals.
 use crate::same::assert_same;
 use lv_geometry::{Limits, Place, Refusal, block_of, buckets_for, capacity, index, place};
 

@@ -1,6 +1,7 @@
 //! Tests of the hub: threads on one vector, and the outcomes of others.
 mod common;
 mod desks;
+mod failing_streams;
 mod held_jobs;
 mod held_scans;
 mod late_workers;

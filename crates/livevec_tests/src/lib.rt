@@ -13,6 +13,10 @@ mod board_refreshes;
 #[cfg(test)]
 mod board_sessions;
 #[cfg(test)]
+mod board_threads;
+#[cfg(test)]
+mod boards_of_two;
+#[cfg(test)]
 mod bodies;
 #[cfg(test)]
 mod conversations;
@@ -28,6 +32,8 @@ mod hub;
 mod live;
 #[cfg(test)]
 mod machine;
+#[cfg(test)]
+mod meetings;
 #[cfg(test)]
 mod memory;
 #[cfg(test)]

@@ -1,6 +1,7 @@
 //! Tests the parallel forms: what they answer and refuse, and that two pieces are folded at once.
 ghost use Rattle.std.specs.Prelude.{◌^◌, ◌≤◌, length, IfOk};
 
+use crate::meetings::{Meeting, Met};
 use crate::same::assert_same;
 use lv_bodies::{Body, Sum};
 use lv_edits::Edits;
@@ -11,9 +12,7 @@ use lv_reduce::{
 use lv_summary::Summaries;
 use std::alloc::{AllocError, Global};
 use std::process::Abort;
-use std::sync::atomic::{AtomicBool, Ordering};
 use std::test::Fail;
-use std::thread;
 use std::thread::Threads;
 
 // Sees that a scan at edit 4096 has as many values, which begin and end with these.
@@ -135,85 +134,6 @@ fn slices_of_one_two_three(rt: HostRuntime) -> Result<(), Refusal> {
     check_slice(&rt, rt.alloc(), &[1, 2, 3], true, &[1, 3, 6])?;
     check_slice(&rt, rt.alloc(), &[1, 2, 3], false, &[0, 1, 3])?;
     check_slice(&rt, rt.alloc(), &[], true, &[])
-}
-
-// Where the `lift` of an element 1 waits until an element 2 is lifted.
-#[derive(Drop)]
-struct Meeting {
-    reached: AtomicBool,
-    missed: AtomicBool,
-}
-
-impl Meeting {
-    fn new() -> Meeting {
-        Meeting {
-            reached: AtomicBool::new(false),
-            missed: AtomicBool::new(false),
-        }
-    }
-
-    // Whether the other element is seen lifted within 1,000,000 yields.
-    fn is_seen(&self) -> bool {
-        for _ in 0..1_000_000 {
-            if self.reached.load(Ordering::SeqCst) {
-                return true;
-            }
-            thread::yield_now();
-        }
-        false
-    }
-
-    // Whether no wait was in vain, and the other element was lifted.
-    fn took_place(&self) -> bool {
-        self.reached.load(Ordering::SeqCst) && !self.missed.load(Ordering::SeqCst)
-    }
-}
-
-// The sum, by a body whose `lift` may wait. That is no part of its meaning.
-#[derive(Clone, Copy)]
-struct Met<'a> {
-    meeting: &'a Meeting,
-}
-
-impl<'a> Body for Met<'a> {
-    ghost use Rattle.lv_bodies.specs.Sums.{sum_operations, IsSum};
-    ghost use Rattle.std.proofs.Common.{rules};
-    ghost use Rattle.lv_bodies.specs.SumLaws.{sum_laws};
-
-    type S = u64;
-
-    ghost Meaning = { Unit {0} };
-
-    ghost meaning = { λ _. tt };
-
-    ghost operations = { λ _. sum_operations };
-
-    ghost is_within = { λ _. IsSum };
-
-    ghost laws = { λ _. sum_laws };
-
-    fn identity(&self) -> u64 {
-        0
-    }
-
-    fn lift(&self, x: i64) -> u64 {
-        if x == 2 {
-            self.meeting.reached.store(true, Ordering::SeqCst);
-        } else if x == 1 && !self.meeting.is_seen() {
-            self.meeting.missed.store(true, Ordering::SeqCst);
-        }
-        x.cast_unsigned()
-    }
-
-    fn combine(&self, a: u64, b: u64) -> u64 {
-        a.wrapping_add(b)
-    }
-
-    fn same(&self, _other: &Met<'a>) -> bool {
-        true
-    }
-
-    ghost equal = { λ s t. Prim.search rules };
 }
 
 // 65,536 elements, of which the first is 1, the last is 2 and all others 0.

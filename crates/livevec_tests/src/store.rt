@@ -1,3 +1,4 @@
+//! Tests of the store: pending writes, versions, and the seams of its buckets.
 ghost use Rattle.std.specs.Prelude.{◌≡◌, ◌+◌, ◌<◌, ◌≤◌, None, IfOk};
 ghost use Rattle.lv_geometry.specs.Cells.{capacity_of};
 

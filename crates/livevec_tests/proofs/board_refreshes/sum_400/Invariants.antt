@@ -1,3 +1,4 @@
+-- What the loop keeps in `sum_400`: does so 400 times.
 use Rattle.lv_board.specs.Closing.{IsStill}
 use Rattle.livevec_tests.proofs.board_refreshes.sum_400.Given as goal
 

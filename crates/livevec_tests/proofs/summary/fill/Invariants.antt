@@ -1,3 +1,4 @@
+-- What the loop keeps in `fill`: makes room for blocks, whose indices edits 1, 2, 3 and so on touch in turn.
 use Rattle.std.proofs.Common.{◌≡◌}
 use Rattle.lv_summary.specs.Table.{blocks_in}
 use Rattle.livevec_tests.proofs.summary.fill.Given as goal

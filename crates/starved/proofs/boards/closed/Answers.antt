@@ -1,3 +1,4 @@
+-- Proof of `closed`: a board is closed with all of its seats.
 use Rattle.std.proofs.Common.{◌≡◌, ℕ, ap, List, ◌++◌, length, drop, take, sym, subst, arith}
 use Rattle.std.proofs.lemmas.Grind.{common_steps}
 use Rattle.lv_board.specs.Ordered.{AreInOrder}

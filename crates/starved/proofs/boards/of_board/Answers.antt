@@ -1,3 +1,4 @@
+-- Proof of `of_board`: the calls of a board that may want memory.
 use Rattle.std.proofs.Common.{ap, ◌∙◌, sym}
 use Rattle.lv_board.proofs.Ordered.{dealt_order}
 use Rattle.starved.proofs.boards.of_board.Goals as goal

@@ -1,3 +1,4 @@
+-- The ghosts that are handed on in `ask_hub`: whose ledger, names and body the hub has.
 use Rattle.std.proofs.Common.{Some}
 use Rattle.starved.proofs.hubs.ask_hub.Given as goal
 

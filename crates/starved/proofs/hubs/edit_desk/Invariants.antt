@@ -1,3 +1,4 @@
+-- The ghosts that are handed on in `edit_desk`: whose ledger and names the hub has.
 use Rattle.starved.proofs.hubs.edit_desk.Given as goal
 
 abbrev pub ghosts-of_desk-N-Ledger : goal.ghosts-of_desk-N-Ledger

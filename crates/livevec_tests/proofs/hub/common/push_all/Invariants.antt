@@ -1,3 +1,4 @@
+-- What the loop keeps in `push_all`: pushes equal elements in turn, and sees that each is accepted.
 use Rattle.std.proofs.Common.{◌≡◌}
 use Rattle.livevec_tests.proofs.hub.common.push_all.Given as goal
 

@@ -1,3 +1,4 @@
+-- The ghosts that are handed on in `a_desk_without_threads`: whose ledger and names the hub has.
 use Rattle.livevec_tests.proofs.hub.desks.a_desk_without_threads.Given as goal
 
 abbrev pub ghosts-desk_alone-N-Ledger : goal.ghosts-desk_alone-N-Ledger

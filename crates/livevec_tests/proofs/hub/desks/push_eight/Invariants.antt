@@ -1,3 +1,4 @@
+-- What the loop keeps in `push_eight`: pushes eight elements 1.
 use Rattle.std.proofs.Common.{◌≡◌}
 use Rattle.livevec_tests.proofs.hub.desks.push_eight.Given as goal
 

@@ -1,5 +1,6 @@
+-- The ghosts that are handed on in `check`: whose ledger, names and body the hub has.
 use Rattle.std.proofs.Common.{Some}
-use Rattle.livevec_tests.proofs.hub.sessions.check.Given as goal
+use Rattle.livevec_tests.proofs.hub.failing_streams.check.Given as goal
 
 abbrev pub ghosts-hold_alone-N-Ledger : goal.ghosts-hold_alone-N-Ledger
 ghosts-hold_alone-N-Ledger g a = record { name = a.blank.name; parts = a.blank.parts }

@@ -1,3 +1,4 @@
+-- The ghosts that are handed on in `a_held_job_holds_nobody`: whose ledger, names and body the hub has.
 use Rattle.std.proofs.Common.{Some}
 use Rattle.livevec_tests.proofs.hub.held_jobs.a_held_job_holds_nobody.Given as goal
 

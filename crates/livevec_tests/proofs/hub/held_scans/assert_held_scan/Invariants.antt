@@ -1,3 +1,4 @@
+-- The ghosts that are handed on in `assert_held_scan`: whose ledger, names and body the hub has.
 use Rattle.std.proofs.Common.{Some}
 use Rattle.livevec_tests.proofs.hub.held_scans.assert_held_scan.Given as goal
 

@@ -1,3 +1,4 @@
+-- The ghosts that are handed on in `a_late_worker`: whose ledger, names and body the hub has.
 use Rattle.std.proofs.Common.{Some}
 use Rattle.livevec_tests.proofs.hub.late_workers.a_late_worker.Given as goal
 

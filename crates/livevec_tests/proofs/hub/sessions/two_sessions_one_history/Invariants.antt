@@ -1,3 +1,4 @@
+-- The ghosts that are handed on in `two_sessions_one_history`: whose ledger, names and body the hub has.
 use Rattle.std.proofs.Common.{Some}
 use Rattle.livevec_tests.proofs.hub.sessions.two_sessions_one_history.Given as goal
 

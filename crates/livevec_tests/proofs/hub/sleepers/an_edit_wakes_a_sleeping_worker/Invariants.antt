@@ -1,3 +1,4 @@
+-- The ghosts that are handed on in `an_edit_wakes_a_sleeping_worker`: whose ledger, names and body the hub has.
 use Rattle.std.proofs.Common.{Some}
 use Rattle.livevec_tests.proofs.hub.sleepers.an_edit_wakes_a_sleeping_worker.Given as goal
 

@@ -1,3 +1,4 @@
+-- The ghosts that are handed on in `dismissed_workers_end`: whose ledger, names and body the hub has.
 use Rattle.std.proofs.Common.{Some}
 use Rattle.livevec_tests.proofs.hub.sleepers.dismissed_workers_end.Given as goal
 

@@ -1,3 +1,4 @@
+-- The ghosts that are handed on in `an_outcome_by_another_table_is_a_stranger`: whose ledger, names and body the hub has.
 use Rattle.std.proofs.Common.{Some}
 use Rattle.livevec_tests.proofs.hub.strangers.an_outcome_by_another_table_is_a_stranger.Given as goal
 

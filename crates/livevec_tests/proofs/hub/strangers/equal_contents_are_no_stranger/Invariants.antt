@@ -1,3 +1,4 @@
+-- The ghosts that are handed on in `equal_contents_are_no_stranger`: whose ledger, names and body the hub has.
 use Rattle.std.proofs.Common.{Some}
 use Rattle.livevec_tests.proofs.hub.strangers.equal_contents_are_no_stranger.Given as goal
 

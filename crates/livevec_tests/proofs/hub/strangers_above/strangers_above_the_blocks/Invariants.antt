@@ -1,3 +1,4 @@
+-- The ghosts that are handed on in `strangers_above_the_blocks`: whose ledger, names and body the hub has.
 use Rattle.std.proofs.Common.{Some}
 use Rattle.livevec_tests.proofs.hub.strangers_above.strangers_above_the_blocks.Given as goal
 

@@ -1,3 +1,4 @@
+-- What the loop keeps in `push_nine`: the parts of the share.
 use Rattle.std.proofs.Common.{◌≡◌}
 use Rattle.livevec_tests.proofs.hub.totals.push_nine.Given as goal
 

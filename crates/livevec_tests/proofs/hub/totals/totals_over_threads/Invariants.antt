@@ -1,3 +1,4 @@
+-- The ghosts that are handed on in `totals_over_threads`: whose ledger, names and body the hub has.
 use Rattle.std.proofs.Common.{Some}
 use Rattle.livevec_tests.proofs.hub.totals.totals_over_threads.Given as goal
 

@@ -1,3 +1,4 @@
+-- The ghosts that are handed on in `want_of_memory_counts_nothing`: whose ledger, names and body the hub has.
 use Rattle.std.proofs.Common.{Some}
 use Rattle.livevec_tests.proofs.hub.totals.want_of_memory_counts_nothing.Given as goal
 
