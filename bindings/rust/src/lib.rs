@@ -6,6 +6,7 @@
 //! A [`Vector`] is one thread's at a time. A [`Board`] is for several at once, without a lock, of elements of 16 bits.
 //! A [`Series`] goes on: its elements and edits are bounded by memory alone, and its front may expire.
 //! [`Queries`] are names for questions, and tell which answers have changed.
+//! A [`Shared`] vector is for several threads, by a lock; it has workers, and subscribers to such answers.
 //! A [`Summary`] is what a list comes to, as bytes that travel between processes and machines, and are joined there.
 //!
 //! ```
@@ -35,6 +36,10 @@ mod queries;
 mod raw;
 mod refusal;
 pub mod series;
+mod shared;
+mod shared_lock;
+mod shared_subscriber;
+mod shared_workers;
 mod summary;
 mod values;
 mod vector;
@@ -51,6 +56,8 @@ pub use places::{BestRun, Placed};
 pub use queries::{Answered, Note, Queries};
 pub use refusal::Refusal;
 pub use series::Series;
+pub use shared::Shared;
+pub use shared_subscriber::Subscriber;
 pub use summary::Summary;
 pub use values::{
     Accepted, Edit, Limits, Node, Popped, Pushed, Reduced, RefusedAt, Reserved, Stopped, Swapped, Truncated, Values, Written,

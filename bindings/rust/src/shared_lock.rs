@@ -1,0 +1,230 @@
+//! The lock round a shared vector, what it guards, and who sleeps at it.
+
+use std::sync::atomic::{AtomicBool, AtomicUsize, Ordering};
+use std::sync::{Arc, Condvar, Mutex, MutexGuard, PoisonError, Weak};
+use std::thread::JoinHandle;
+use std::time::Duration;
+
+use crate::{Note, Queries, Refusal, Shared, Vector};
+
+/// What each call at a shared vector goes through. Nothing is computed while it is held, but in `with` and in a subscriber's look.
+pub(crate) struct Lock {
+    guarded: Mutex<Guarded>,
+    /// Workers sleep here while there is no job.
+    pub(crate) work: Condvar,
+    /// Subscribers sleep here while nothing has changed.
+    pub(crate) change: Condvar,
+    /// Who pauses sleeps here, and no edit wakes it.
+    pause: Condvar,
+    /// The thread that is within a `with`; 0 where none is.
+    within: AtomicUsize,
+    /// How many clones of `Shared` there are.
+    pub(crate) clones: AtomicUsize,
+}
+
+/// What the lock guards.
+pub(crate) struct Guarded {
+    /// The vector, until it is given back.
+    pub(crate) vector: Option<Vector>,
+    pub(crate) closed: bool,
+    /// Grows with each call that changed something.
+    pub(crate) changes: u64,
+    /// How many workers sleep; never fewer than it says no.
+    pub(crate) idle: usize,
+    /// Whether a subscriber may sleep.
+    pub(crate) unaware: bool,
+    pub(crate) workers: Vec<Worker>,
+    pub(crate) seats: Vec<Seat>,
+}
+
+/// A thread that computes summaries, until it is told to stop.
+pub(crate) struct Worker {
+    pub(crate) thread: JoinHandle<()>,
+    pub(crate) stop: Arc<AtomicBool>,
+}
+
+/// What a subscriber has here.
+pub(crate) struct Seat {
+    /// Goes with the subscriber.
+    pub(crate) whose: Weak<()>,
+    pub(crate) queries: Queries,
+    /// The changes that there were when it looked last.
+    pub(crate) seen: u64,
+    /// Notes of its beginning, and of the end, that it wasn't given yet.
+    pub(crate) first: Vec<Note>,
+    pub(crate) last: Result<Vec<Note>, Refusal>,
+}
+
+/// Who is to be woken once the lock is let go.
+#[must_use]
+pub(crate) struct Sleepers {
+    worker: bool,
+    subscribers: bool,
+}
+
+impl Guarded {
+    /// Something has changed.
+    pub(crate) fn changed(&mut self) -> Sleepers {
+        self.changes += 1;
+        Sleepers { worker: self.one_idle(), subscribers: std::mem::take(&mut self.unaware) }
+    }
+
+    /// Takes a sleeping worker to be woken, if there is one.
+    pub(crate) fn one_idle(&mut self) -> bool {
+        let some = self.idle > 0;
+        self.idle -= usize::from(some);
+        some
+    }
+
+    /// The vector, while it may be edited.
+    pub(crate) fn open(&mut self) -> Result<&mut Vector, Refusal> {
+        match &mut self.vector {
+            Some(vector) if !self.closed => Ok(vector),
+            _ => Err(Shared::CLOSED),
+        }
+    }
+
+    /// Forgets subscribers that are gone.
+    pub(crate) fn sweep(&mut self) {
+        self.seats.retain(|seat| seat.whose.strong_count() > 0);
+    }
+
+    /// Ends edits, and leaves each subscriber its last notes.
+    fn shut(&mut self) {
+        if std::mem::replace(&mut self.closed, true) {
+            return;
+        }
+        self.sweep();
+        let Some(vector) = &mut self.vector else { return };
+        for seat in self.seats.iter_mut().filter(|seat| seat.seen != self.changes) {
+            seat.last = seat.queries.notes(vector);
+        }
+    }
+}
+
+impl Lock {
+    pub(crate) fn new(vector: Vector) -> Lock {
+        let guarded =
+            Guarded { vector: Some(vector), closed: false, changes: 0, idle: 0, unaware: false, workers: Vec::new(), seats: Vec::new() };
+        Lock {
+            guarded: Mutex::new(guarded),
+            work: Condvar::new(),
+            change: Condvar::new(),
+            pause: Condvar::new(),
+            within: AtomicUsize::new(0),
+            clones: AtomicUsize::new(1),
+        }
+    }
+
+    /// Takes the lock. Refused with `Busy` where this thread has it, within a `with`. A thread that panicked left whole calls behind, so that
+    /// its panic is no concern of the others.
+    pub(crate) fn enter(&self) -> Result<MutexGuard<'_, Guarded>, Refusal> {
+        let within = self.within.load(Ordering::Relaxed);
+        if within != 0 && within == me() {
+            return Err(Refusal::Busy);
+        }
+        Ok(self.guarded.lock().unwrap_or_else(PoisonError::into_inner))
+    }
+
+    /// One call that edits, which also tells whether it changed something.
+    pub(crate) fn edit<T>(&self, call: impl FnOnce(&mut Vector) -> (T, bool)) -> Result<T, Refusal> {
+        let mut guarded = self.enter()?;
+        let (told, is_changed) = call(guarded.open()?);
+        let sleepers = is_changed.then(|| guarded.changed());
+        drop(guarded);
+        if let Some(sleepers) = sleepers {
+            self.wake(sleepers);
+        }
+        Ok(told)
+    }
+
+    /// One call that reads.
+    pub(crate) fn read<T>(&self, call: impl FnOnce(&Vector) -> T) -> Result<T, Refusal> {
+        let guarded = self.enter()?;
+        Ok(call(guarded.vector.as_ref().ok_or(Shared::CLOSED)?))
+    }
+
+    /// What a caller does with the vector, whose thread is known meanwhile.
+    pub(crate) fn with<T>(&self, call: impl FnOnce(&mut Vector) -> T) -> Result<T, Refusal> {
+        let mut guarded = self.enter()?;
+        guarded.open()?;
+        self.within.store(me(), Ordering::Relaxed);
+        let mut held = Within { lock: self, guarded: Some(guarded) };
+        let vector = held.guarded.as_mut().expect("it is held until it is dropped").open()?;
+        Ok(call(vector))
+    }
+
+    /// Wakes those that were told of a change.
+    pub(crate) fn wake(&self, sleepers: Sleepers) {
+        if sleepers.worker {
+            self.work.notify_one();
+        }
+        if sleepers.subscribers {
+            self.change.notify_all();
+        }
+    }
+
+    /// Lets the lock go for so long, or until all are woken.
+    pub(crate) fn paused<'a>(&self, guarded: MutexGuard<'a, Guarded>, pause: Duration) -> MutexGuard<'a, Guarded> {
+        self.pause.wait_timeout(guarded, pause).unwrap_or_else(PoisonError::into_inner).0
+    }
+
+    /// Wakes all, whatever they sleep for.
+    pub(crate) fn wake_all(&self) {
+        self.work.notify_all();
+        self.change.notify_all();
+        self.pause.notify_all();
+    }
+
+    /// Ends workers, and waits for them. What one panicked with goes on here.
+    pub(crate) fn end(&self, workers: Vec<Worker>) {
+        if workers.is_empty() {
+            return;
+        }
+        workers.iter().for_each(|worker| worker.stop.store(true, Ordering::Relaxed));
+        // whoever looked at the word before it was stored sleeps by now
+        drop(self.enter());
+        self.wake_all();
+        let panic = workers.into_iter().filter_map(|worker| worker.thread.join().err()).last();
+        let Some(panic) = panic else { return };
+        if let Ok(mut guarded) = self.enter() {
+            guarded.vector.iter_mut().for_each(Vector::forget_claims);
+        }
+        if !std::thread::panicking() {
+            std::panic::resume_unwind(panic);
+        }
+    }
+
+    /// Ends edits, workers and subscribers. Refused with `Busy` as `enter`.
+    pub(crate) fn close(&self) -> Result<(), Refusal> {
+        let mut guarded = self.enter()?;
+        guarded.shut();
+        let workers = std::mem::take(&mut guarded.workers);
+        drop(guarded);
+        self.wake_all();
+        self.end(workers);
+        Ok(())
+    }
+}
+
+/// A `with` under way. Its end, also by a panic, lets the lock go and wakes who sleeps.
+struct Within<'a> {
+    lock: &'a Lock,
+    guarded: Option<MutexGuard<'a, Guarded>>,
+}
+
+impl Drop for Within<'_> {
+    fn drop(&mut self) {
+        self.lock.within.store(0, Ordering::Relaxed);
+        let sleepers = self.guarded.take().map(|mut guarded| guarded.changed());
+        if let Some(sleepers) = sleepers {
+            self.lock.wake(sleepers);
+        }
+    }
+}
+
+/// A number that this thread alone has while it lives, and that is not 0.
+fn me() -> usize {
+    thread_local!(static ME: u8 = const { 0 });
+    ME.with(|me| std::ptr::from_ref(me) as usize)
+}

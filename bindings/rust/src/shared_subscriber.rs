@@ -1,0 +1,130 @@
+//! Who sleeps until edits change the answers of standing queries.
+
+use std::fmt;
+use std::sync::{Arc, PoisonError};
+use std::time::{Duration, Instant};
+
+use crate::shared_lock::{Guarded, Lock, Seat};
+use crate::{Note, Queries, Refusal};
+
+/// One who is told which answers of its standing queries by a [`Shared`](crate::Shared) vector have changed; made by
+/// [`Shared::subscribe`](crate::Shared::subscribe).
+///
+/// As an iterator it sleeps until an edit changes an answer, and gives the notes of those that differ from what it was told last, in the order
+/// in which the queries were named. All notes of one list are at one edit, and these rise. What comes and goes between two looks is not told.
+/// Once the vector is closed it gives the notes at the last edit, if there are any, and then ends.
+///
+/// It gives `Err(NoMemory)` where memory was wanted: nothing counts as told then, and it may be asked again. At the close memory is asked for
+/// once. It gives `Err(Busy)` within a [`with`](crate::Shared::with) of its own thread.
+///
+/// It may be dropped at any time.
+pub struct Subscriber {
+    lock: Arc<Lock>,
+    me: Arc<()>,
+    pause: Duration,
+    /// No look before this one.
+    rested: Option<Instant>,
+}
+
+impl Subscriber {
+    /// How long one pauses between two looks, so that edits are not held up, unless it is told otherwise.
+    pub const PAUSE: Duration = Duration::from_millis(1);
+
+    /// Refused with `BadKind` where the vector is of one kind and another is among the queries.
+    pub(crate) fn new(lock: &Arc<Lock>, mut queries: Queries) -> Result<Subscriber, Refusal> {
+        let me = Arc::new(());
+        let mut guarded = lock.enter()?;
+        guarded.sweep();
+        guarded.seats.try_reserve(1).map_err(|_| Refusal::NoMemory)?;
+        let first = queries.notes(guarded.open()?)?;
+        let seen = guarded.changes;
+        guarded.seats.push(Seat { whose: Arc::downgrade(&me), queries, seen, first, last: Ok(Vec::new()) });
+        drop(guarded);
+        Ok(Subscriber { lock: lock.clone(), me, pause: Subscriber::PAUSE, rested: None })
+    }
+
+    /// Has it pause so long after each look from now on. Without a pause each edit may be looked at, and waits for the look.
+    pub fn set_pause(&mut self, pause: Duration) {
+        self.pause = pause;
+    }
+
+    /// The notes that there are now; none where nothing has changed. It neither sleeps nor pauses.
+    pub fn look(&mut self) -> Result<Vec<Note>, Refusal> {
+        let mut guarded = self.lock.enter()?;
+        let Guarded { vector, closed, changes, seats, .. } = &mut *guarded;
+        let Some(seat) = seats.iter_mut().find(|seat| is_of(seat, &self.me)) else { return Ok(Vec::new()) };
+        if !seat.first.is_empty() {
+            return Ok(std::mem::take(&mut seat.first));
+        }
+        let (Some(vector), false) = (vector, *closed) else {
+            return std::mem::replace(&mut seat.last, Ok(Vec::new()));
+        };
+        if seat.seen == *changes {
+            return Ok(Vec::new());
+        }
+        let notes = seat.queries.notes(vector)?;
+        seat.seen = *changes;
+        Ok(notes)
+    }
+
+    /// Sleeps until there may be something to look at; tells whether there is.
+    fn is_awaited(&self) -> Result<bool, Refusal> {
+        let mut guarded = self.lock.enter()?;
+        loop {
+            let Some(seat) = guarded.seats.iter().find(|seat| is_of(seat, &self.me)) else { return Ok(false) };
+            if !seat.first.is_empty() {
+                return Ok(true);
+            }
+            if guarded.closed {
+                return Ok(!matches!(&seat.last, Ok(notes) if notes.is_empty()));
+            }
+            let rest = self.rested.map_or(Duration::ZERO, |till| till.saturating_duration_since(Instant::now()));
+            if !rest.is_zero() {
+                guarded = self.lock.paused(guarded, rest);
+            } else if seat.seen != guarded.changes {
+                return Ok(true);
+            } else {
+                guarded.unaware = true;
+                guarded = self.lock.change.wait(guarded).unwrap_or_else(PoisonError::into_inner);
+            }
+        }
+    }
+}
+
+fn is_of(seat: &Seat, me: &Arc<()>) -> bool {
+    seat.whose.as_ptr() == Arc::as_ptr(me)
+}
+
+impl Iterator for Subscriber {
+    type Item = Result<Vec<Note>, Refusal>;
+
+    fn next(&mut self) -> Option<Result<Vec<Note>, Refusal>> {
+        loop {
+            match self.is_awaited() {
+                Ok(true) => {}
+                Ok(false) => return None,
+                Err(refusal) => return Some(Err(refusal)),
+            }
+            let notes = self.look();
+            self.rested = Instant::now().checked_add(self.pause);
+            if !matches!(&notes, Ok(notes) if notes.is_empty()) {
+                return Some(notes);
+            }
+        }
+    }
+}
+
+impl Drop for Subscriber {
+    fn drop(&mut self) {
+        // where the lock can't be had, the next subscriber or the close sweeps it away
+        if let Ok(mut guarded) = self.lock.enter() {
+            guarded.seats.retain(|seat| !is_of(seat, &self.me));
+        }
+    }
+}
+
+impl fmt::Debug for Subscriber {
+    fn fmt(&self, f: &mut fmt::Formatter<'_>) -> fmt::Result {
+        f.debug_struct("Subscriber").field("pause", &self.pause).finish_non_exhaustive()
+    }
+}
