@@ -29,8 +29,10 @@ pub(crate) struct Guarded {
     pub(crate) closed: bool,
     /// Grows with each call that changed something.
     pub(crate) changes: u64,
-    /// How many workers sleep; never fewer than it says no.
+    /// How many workers there are, how many of them sleep, and how many of those are called.
+    pub(crate) working: usize,
     pub(crate) idle: usize,
+    pub(crate) calls: usize,
     /// Whether a subscriber may sleep.
     pub(crate) unaware: bool,
     pub(crate) workers: Vec<Worker>,
@@ -66,13 +68,15 @@ impl Guarded {
     /// Something has changed.
     pub(crate) fn changed(&mut self) -> Sleepers {
         self.changes += 1;
-        Sleepers { worker: self.one_idle(), subscribers: std::mem::take(&mut self.unaware) }
+        // one that is awake sees it by itself, and calls others where there is much to do
+        let worker = self.idle == self.working && self.calls == 0 && self.call();
+        Sleepers { worker, subscribers: std::mem::take(&mut self.unaware) }
     }
 
-    /// Takes a sleeping worker to be woken, if there is one.
-    pub(crate) fn one_idle(&mut self) -> bool {
-        let some = self.idle > 0;
-        self.idle -= usize::from(some);
+    /// Calls a worker that sleeps, if there is one, which is to be woken then.
+    pub(crate) fn call(&mut self) -> bool {
+        let some = self.idle > self.calls;
+        self.calls += usize::from(some);
         some
     }
 
@@ -105,7 +109,7 @@ impl Guarded {
 impl Lock {
     pub(crate) fn new(vector: Vector) -> Lock {
         let guarded =
-            Guarded { vector: Some(vector), closed: false, changes: 0, idle: 0, unaware: false, workers: Vec::new(), seats: Vec::new() };
+            Guarded { vector: Some(vector), closed: false, changes: 0, working: 0, idle: 0, calls: 0, unaware: false, workers: Vec::new(), seats: Vec::new() };
         Lock {
             guarded: Mutex::new(guarded),
             work: Condvar::new(),

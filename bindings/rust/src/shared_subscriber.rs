@@ -27,8 +27,11 @@ pub struct Subscriber {
 }
 
 impl Subscriber {
-    /// How long one pauses between two looks, so that edits are not held up, unless it is told otherwise.
+    /// How long one pauses between two looks at least, so that edits are not held up, unless it is told otherwise.
     pub const PAUSE: Duration = Duration::from_millis(1);
+
+    /// It pauses so many times as long as its last look took, where that is longer.
+    const SHARE: u32 = 2;
 
     /// Refused with `BadKind` where the vector is of one kind and another is among the queries.
     pub(crate) fn new(lock: &Arc<Lock>, mut queries: Queries) -> Result<Subscriber, Refusal> {
@@ -43,7 +46,8 @@ impl Subscriber {
         Ok(Subscriber { lock: lock.clone(), me, pause: Subscriber::PAUSE, rested: None })
     }
 
-    /// Has it pause so long after each look from now on. Without a pause each edit may be looked at, and waits for the look.
+    /// Has it pause so long after each look from now on, and twice as long as the look took where that is longer. By `Duration::ZERO` it
+    /// doesn't pause at all: each edit may be looked at then, and waits for the look.
     pub fn set_pause(&mut self, pause: Duration) {
         self.pause = pause;
     }
@@ -51,6 +55,7 @@ impl Subscriber {
     /// The notes that there are now; none where nothing has changed. It neither sleeps nor pauses.
     pub fn look(&mut self) -> Result<Vec<Note>, Refusal> {
         let mut guarded = self.lock.enter()?;
+        let start = Instant::now();
         let Guarded { vector, closed, changes, seats, .. } = &mut *guarded;
         let Some(seat) = seats.iter_mut().find(|seat| is_of(seat, &self.me)) else { return Ok(Vec::new()) };
         if !seat.first.is_empty() {
@@ -62,9 +67,19 @@ impl Subscriber {
         if seat.seen == *changes {
             return Ok(Vec::new());
         }
-        let notes = seat.queries.notes(vector)?;
-        seat.seen = *changes;
-        Ok(notes)
+        let notes = seat.queries.notes(vector);
+        if notes.is_ok() {
+            seat.seen = *changes;
+        }
+        drop(guarded);
+        self.rested = self.rest(start.elapsed());
+        notes
+    }
+
+    /// Until when it pauses after a look that took so long.
+    fn rest(&self, look: Duration) -> Option<Instant> {
+        let pause = if self.pause.is_zero() { self.pause } else { self.pause.max(look.saturating_mul(Subscriber::SHARE)) };
+        Instant::now().checked_add(pause)
     }
 
     /// Sleeps until there may be something to look at; tells whether there is.
@@ -106,7 +121,6 @@ impl Iterator for Subscriber {
                 Err(refusal) => return Some(Err(refusal)),
             }
             let notes = self.look();
-            self.rested = Instant::now().checked_add(self.pause);
             if !matches!(&notes, Ok(notes) if notes.is_empty()) {
                 return Some(notes);
             }

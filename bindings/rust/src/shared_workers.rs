@@ -1,7 +1,7 @@
 //! Threads that compute the summaries of a shared vector.
 
 use std::sync::atomic::{AtomicBool, Ordering};
-use std::sync::{Arc, PoisonError};
+use std::sync::{Arc, MutexGuard, PoisonError};
 use std::thread;
 use std::time::Duration;
 
@@ -9,9 +9,9 @@ use crate::shared_lock::{Guarded, Lock, Worker};
 use crate::{Job, Outcome, Refusal, raw};
 
 /// So many jobs are claimed at once, so that the lock is taken seldom, and never held for long.
-const AT_ONCE: usize = 32;
+const AT_ONCE: usize = 16;
 
-/// How long a worker that has caught up with edits lets them go on, and how long it waits for memory.
+/// How long a worker lets edits go on, where some came while it computed, and how long it waits for memory.
 const PAUSE: Duration = Duration::from_millis(1);
 
 /// What a worker has in hand. It has room for all that it claims at once.
@@ -85,34 +85,48 @@ fn spawned(lock: &Arc<Lock>, stop: &Arc<AtomicBool>) -> Result<Worker, Refusal> 
 
 /// Claims and delivers under the lock, computes without it, and sleeps while there is no job.
 fn work(lock: &Lock, stop: &AtomicBool, hands: &mut Hands) {
-    let (mut seen, mut has_caught_up) = (0, false);
+    let Ok(mut guarded) = lock.enter() else { return };
+    guarded.working += 1;
+    let mut seen = guarded.changes;
     loop {
-        let Ok(mut guarded) = lock.enter() else { return };
         hands.deliver(&mut guarded);
-        if has_caught_up && guarded.changes != seen && !guarded.closed {
+        if guarded.changes != seen && !guarded.closed {
             guarded = lock.paused(guarded, PAUSE);
         }
         if guarded.closed || stop.load(Ordering::Relaxed) {
-            return;
+            break;
         }
         seen = guarded.changes;
         let is_wanting = hands.claim(&mut guarded);
-        has_caught_up = hands.jobs.len() < AT_ONCE;
         if !hands.jobs.is_empty() {
-            let is_helped = !has_caught_up && guarded.one_idle();
+            let is_helped = hands.jobs.len() == AT_ONCE && guarded.call();
             drop(guarded);
             if is_helped {
                 lock.work.notify_one();
             }
             hands.run();
-        } else if is_wanting {
-            hands.outcomes.clear();
-            drop(lock.paused(guarded, PAUSE));
-        } else {
-            hands.outcomes.clear();
-            guarded.idle += 1;
-            drop(lock.work.wait(guarded).unwrap_or_else(PoisonError::into_inner));
-            has_caught_up = false;
+            let Ok(again) = lock.enter() else { return };
+            guarded = again;
+            continue;
         }
+        hands.outcomes.clear();
+        guarded = if is_wanting { lock.paused(guarded, PAUSE) } else { asleep(lock, stop, guarded) };
+        seen = guarded.changes;
     }
+    guarded.working -= 1;
+    // a call that came to one that ends is another's
+    guarded.call();
+    drop(guarded);
+    lock.work.notify_one();
+}
+
+/// Sleeps until it is called, or told to stop.
+fn asleep<'a>(lock: &'a Lock, stop: &AtomicBool, mut guarded: MutexGuard<'a, Guarded>) -> MutexGuard<'a, Guarded> {
+    guarded.idle += 1;
+    while guarded.calls == 0 && !guarded.closed && !stop.load(Ordering::Relaxed) {
+        guarded = lock.work.wait(guarded).unwrap_or_else(PoisonError::into_inner);
+    }
+    guarded.idle -= 1;
+    guarded.calls = guarded.calls.saturating_sub(1);
+    guarded
 }
