@@ -2,9 +2,11 @@
  * nothing has changed then. Header only; link what livevec.h links. The board and its seats stand in livevec_board.hpp, summaries
  * that travel in livevec_summary.hpp, cells of columns in livevec_columns.hpp, the series in livevec_series.hpp, standing queries in
  * livevec_queries.hpp, and what all classes share in livevec_base.hpp; this header brings them all.
+ * that travel in livevec_summary.hpp, cells of columns in livevec_columns.hpp, standing queries in livevec_queries.hpp, a vector that
+ * threads share in livevec_shared.hpp, and what all classes share in livevec_base.hpp; this header brings them all.
  *
  * An object serves one call at a time: a call beside another at the same object is refused with LIVEVEC_BUSY. Put a mutex round it where
- * threads share one. A job may be run by any thread, beside any call at its vector. A call at an object that was moved from is
+ * threads share one, or take a shared_vector. A job may be run by any thread, beside any call at its vector. A call at an object that was moved from is
  * refused with LIVEVEC_NULL. Ranges are of indices from `lo` up to `hi`, `hi` excluded.
  *
  * A call that is const changes no element and no later answer. It isn't one that threads may make side by side.
@@ -338,5 +340,6 @@ class vector : public inner::owned<livevec_vector, livevec_free> {
 } // namespace livevec
 
 #include "livevec_queries.hpp"
+#include "livevec_shared.hpp"
 
 #endif

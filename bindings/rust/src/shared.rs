@@ -219,7 +219,10 @@ impl Shared {
             return None;
         }
         self.lock.close().ok()?;
-        self.lock.enter().ok()?.vector.take()
+        let mut vector = self.lock.enter().ok()?.vector.take()?;
+        // jobs that nobody delivers any more are handed out again
+        vector.forget_claims();
+        Some(vector)
     }
 
     fn edit<T>(&self, call: impl FnOnce(&mut Vector) -> Result<T, Refusal>) -> Result<T, Refusal> {

@@ -108,8 +108,17 @@ impl Guarded {
 
 impl Lock {
     pub(crate) fn new(vector: Vector) -> Lock {
-        let guarded =
-            Guarded { vector: Some(vector), closed: false, changes: 0, working: 0, idle: 0, calls: 0, unaware: false, workers: Vec::new(), seats: Vec::new() };
+        let guarded = Guarded {
+            vector: Some(vector),
+            closed: false,
+            changes: 0,
+            working: 0,
+            idle: 0,
+            calls: 0,
+            unaware: false,
+            workers: Vec::new(),
+            seats: Vec::new(),
+        };
         Lock {
             guarded: Mutex::new(guarded),
             work: Condvar::new(),
@@ -190,11 +199,9 @@ impl Lock {
         drop(self.enter());
         self.wake_all();
         let panic = workers.into_iter().filter_map(|worker| worker.thread.join().err()).last();
-        let Some(panic) = panic else { return };
-        if let Ok(mut guarded) = self.enter() {
-            guarded.vector.iter_mut().for_each(Vector::forget_claims);
-        }
-        if !std::thread::panicking() {
+        if let Some(panic) = panic
+            && !std::thread::panicking()
+        {
             std::panic::resume_unwind(panic);
         }
     }

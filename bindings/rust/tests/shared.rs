@@ -2,6 +2,8 @@
 
 use std::collections::BTreeMap;
 use std::panic::{AssertUnwindSafe, catch_unwind};
+use std::sync::Arc;
+use std::sync::atomic::{AtomicBool, Ordering};
 use std::thread;
 use std::time::{Duration, Instant};
 
@@ -141,19 +143,30 @@ fn check_told(told: &[Vec<Note>], names: &BTreeMap<String, (Kind, u32, u32)>, di
 fn nothing_is_lost() {
     let shared = Shared::new(Vector::new().unwrap());
     shared.start_workers(2).unwrap();
+    let heard = Arc::new([false, false].map(AtomicBool::new));
     let listeners: Vec<_> = [3, 4]
         .into_iter()
         .map(|seed| {
             let (queries, names) = asked(seed);
             let mut subscriber = shared.subscribe(queries).unwrap();
             subscriber.set_pause(Duration::from_micros(200 * (seed - 3)));
-            (thread::spawn(move || subscriber.collect::<Result<Vec<_>, _>>().unwrap()), names)
+            let heard = heard.clone();
+            let listen = move || {
+                let told = subscriber.inspect(|_| heard[seed as usize - 3].store(true, Ordering::Relaxed));
+                told.collect::<Result<Vec<_>, _>>().unwrap()
+            };
+            (thread::spawn(listen), names)
         })
         .collect();
     let feeders: Vec<_> = (11..15)
         .map(|seed| {
-            let shared = shared.clone();
-            thread::spawn(move || feed(&shared, seed, 4000))
+            let (shared, heard) = (shared.clone(), heard.clone());
+            thread::spawn(move || {
+                let mut did = feed(&shared, seed, 2000);
+                until(|| heard.iter().all(|heard| heard.load(Ordering::Relaxed)));
+                did.extend(feed(&shared, seed + 10, 2000));
+                did
+            })
         })
         .collect();
     let receipts: Vec<_> = feeders.into_iter().flat_map(|feeder| feeder.join().unwrap()).collect();
