@@ -7,6 +7,8 @@ from array import array
 from typing import Optional, Union
 
 from livevec import Answered, Board, Delivered, Finished, Job, Kind, LongReduced, NotKept, Note, Outrun, Queries, Reduced, Refusal, Scan, Seat, Series, Summary, Values, Vector
+from livevec import Answered, Board, Delivered, Finished, Job, Kind, Note, Outrun, Queries, Receipt, Reduced, Refusal, Scan, Seat, SharedVector
+from livevec import Subscriber, Summary, Values, Vector
 
 
 class Prices(Vector):
@@ -111,6 +113,27 @@ def standing(prices: Vector) -> None:
         queries.notes([1])  # type: ignore[arg-type]
         queries.unwatch()  # type: ignore[call-arg]
         print(queries.names, value, edit)
+
+
+def threads(prices: Vector, queries: Queries) -> Vector:
+    with SharedVector(prices) as shared:
+        shared.start_workers(2)
+        receipt: Receipt = shared.push(7)
+        alerts: Subscriber = shared.subscribe(queries)
+        alerts.pause = 0.01
+        for notes in alerts:
+            name: str = notes[0].name
+            print(name, shared.sum(0, receipt.edit), shared.reduce().edit)
+        with shared.locked() as vector:
+            index: int = vector.push(8)
+        last: int = shared.extend([index]) + shared.write_many([0], [1])
+        looked: list[Note] = alerts.look()
+        shared.push("7")  # type: ignore[arg-type]
+        shared.subscribe("total")  # type: ignore[arg-type]
+        shared.start_workers(None)  # type: ignore[arg-type]
+        least: int = shared.least()  # type: ignore[assignment]
+        print(last, looked, least)
+        return shared.close()
 
 
 def jobs(prices: Vector) -> None:

@@ -17,6 +17,7 @@ Threads. A `Vector`'s calls into C keep the interpreter's lock, so it may be use
 one call (`vector[-1]`, a loop over the elements, `edits` after a push) needs a lock of your own if another thread edits meanwhile.
 `value_many`, `write_many` and scans by one kind release the interpreter's lock, so that other threads run meanwhile. Of such a call and another one at the same
 vector, beside it, the one that comes second raises Busy.
+A `SharedVector` has such a lock, with workers and subscribers.
 A `Board` is for threads: each has a `Seat`, whose calls into C release the interpreter's lock and wait for no other thread.
 
 Machines. A `Summary` is what a list comes to, as bytes that travel; `livevec_mpi`, a module beside this one, joins those of MPI's ranks.
@@ -48,6 +49,7 @@ __all__ = [
     "Vector", "Job", "Outcome", "Scan", "Column", "Summary", "Values", "Reduced", "Delivered", "Became", "Node", "Placed", "BestRun",
     "Board", "Seat", "Kind", "Told", "Refreshed", "Finished",
     "Queries", "Note", "Answered",
+    "SharedVector", "Subscriber", "Receipt",
     "Refusal", "Worn", "Empty", "OutOfRange", "TooLarge", "Full", "NoMemory", "BadRange", "BadLimits", "BadTable", "Stranger", "Closed",
     "ShortBuffer", "TooWide", "Outrun", "Contended", "Overtaken", "NoSeat", "SeatsOut", "Busy", "OtherVersion", "Damaged", "OtherTable", "TooLong",
     "Series", "LongReduced", "NotKept",
@@ -1899,3 +1901,11 @@ def _given(lo: Optional[int], hi: Optional[int], holder: Vector) -> tuple[int, i
 
 from livevec._queries import Answered, Note, Queries  # noqa: E402
 from livevec._series import LongReduced, NotKept, Series  # noqa: E402
+
+from ._queries import Answered, Note, Queries  # noqa: E402
+
+
+# --- A vector that threads share, which stands on these ---
+
+
+from ._shared import Receipt, SharedVector, Subscriber  # noqa: E402
