@@ -26,7 +26,8 @@ class [[nodiscard]] subscriber {
 
     /* Sleeps until an edit changes an answer, and gives a note of each query whose answer is another than it was told last, in the order in
      * which they were named. All notes of one list are at one edit, and these rise. What comes and goes between two looks is not told. Once
-     * the vector is closed it gives the notes at the last edit, if there are any, and then nothing. */
+     * the vector is closed it gives the notes at the last edit, if there are any, and then nothing. LIVEVEC_BAD_KIND is thrown where the
+     * vector is of one kind and another is among the queries. */
     [[nodiscard]] std::optional<std::vector<livevec_note>> next()
     {
         while (true) {
@@ -184,8 +185,7 @@ class [[nodiscard]] shared_vector {
     /* Ends all workers, and waits for them. More may be started later. */
     void stop_workers() { at().stop(); }
 
-    /* One more that is told which answers of these queries change. Its first notes are those of now. LIVEVEC_BAD_KIND is thrown where the
-     * vector is of one kind and another is among the queries. */
+    /* One more that is told which answers of these queries change. Before its first look each counts as told what `queries` says. */
     subscriber subscribe(queries asked) { return subscriber(at_, at().sit(std::move(asked))); }
 
     /* Ends edits, workers and subscribers, and waits for the workers; gives the vector back. Each subscriber has its last notes then, at the

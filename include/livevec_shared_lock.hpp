@@ -26,12 +26,13 @@ namespace inner {
 
 using told_notes = std::vector<livevec_note>;
 
-/* What a subscriber has at a shared vector: its queries, the changes that there were when it looked last, and the notes of its beginning
- * and of the end that it wasn't given yet. */
+/* What a subscriber has at a shared vector: its queries, the changes that there were when it looked last, others before its first look, and
+ * the notes of the end that it wasn't given yet, or why there are none. */
 struct shared_seat {
     queries asked;
-    std::uint64_t seen = 0;
-    told_notes first = {}, last = {};
+    std::uint64_t seen;
+    told_notes last = {};
+    std::optional<refused> why = {};
 };
 
 /* The lock, what it guards, and who sleeps at it. Nothing is computed under it but in `with` and in a subscriber's look. */
@@ -134,14 +135,14 @@ class shared_lock {
 
     std::shared_ptr<shared_seat> sit(queries asked)
     {
-        auto seat = std::make_shared<shared_seat>(shared_seat{std::move(asked)});
+        auto seat = std::make_shared<shared_seat>(shared_seat{std::move(asked), 0});
         // so that the end takes no memory
-        seat->first.reserve(LIVEVEC_MOST_QUERIES);
         seat->last.reserve(LIVEVEC_MOST_QUERIES);
-        held guard = enter();
+        const held guard = enter();
+        open();
+        seat->seen = changes_ - 1;
         seats_.erase(std::remove_if(seats_.begin(), seats_.end(), [](const auto &it) { return it.expired(); }), seats_.end());
         seats_.push_back(seat);
-        look(*seat, open(), seat->first);
         return seat;
     }
 
@@ -173,9 +174,12 @@ class shared_lock {
     told_notes look(shared_seat &seat, const held &)
     {
         told_notes told;
-        if (!seat.first.empty())
-            told.swap(seat.first);
-        else if (closed_)
+        if (closed_ && seat.why) {
+            const refused why = *seat.why;
+            seat.why.reset();
+            throw why;
+        }
+        if (closed_)
             told.swap(seat.last);
         else if (seat.seen != changes_) {
             told.reserve(LIVEVEC_MOST_QUERIES);
@@ -187,7 +191,7 @@ class shared_lock {
     /* Sleeps until there may be something to look at, not before a time; tells whether there is. */
     bool is_awaited(const shared_seat &seat, std::chrono::steady_clock::time_point rested, held &guard)
     {
-        while (seat.first.empty() && !closed_) {
+        while (!closed_) {
             if (std::chrono::steady_clock::now() < rested)
                 pause_.wait_until(guard, rested);
             else if (seat.seen != changes_)
@@ -197,7 +201,7 @@ class shared_lock {
                 change_.wait(guard);
             }
         }
-        return !seat.first.empty() || !seat.last.empty();
+        return !seat.last.empty() || seat.why;
     }
 
   private:
@@ -348,13 +352,13 @@ class shared_lock {
         seat.seen = changes_;
     }
 
-    /* Where a `with` put a vector of another kind in the place of the one that was subscribed to, there are no last notes. */
     void look_last(shared_seat &seat)
     {
         try {
-            look(seat, of_, seat.last);
-        } catch (const refused &) {
-            seat.last.clear();
+            if (seat.seen != changes_)
+                look(seat, of_, seat.last);
+        } catch (const refused &why) {
+            seat.why = why;
         }
     }
 

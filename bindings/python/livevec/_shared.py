@@ -49,14 +49,14 @@ class Receipt(NamedTuple):
 
 
 class _Seat:
-    """What a subscriber has at a shared vector: the changes that there were when it looked last, and notes that it wasn't given yet."""
+    """What a subscriber has at a shared vector: the changes that there were when it looked last, and notes of the end that it wasn't given yet."""
 
-    __slots__ = ("queries", "seen", "first", "last", "__weakref__")
+    __slots__ = ("queries", "seen", "last", "__weakref__")
 
     def __init__(self, queries: Queries) -> None:
         self.queries = queries
-        self.seen = 0
-        self.first: list[Note] = []
+        # others than there ever are, before its first look
+        self.seen = -1
         self.last: Union[list[Note], Refusal] = []
 
 
@@ -232,7 +232,7 @@ class Subscriber:
 
     It pauses `pause` seconds between two looks, at first a millisecond, and twice as long as the last look took where that is longer, so that
     edits are not held up. By 0 it doesn't pause: each edit may be looked at then, and waits for the look. It is one thread's at a time, and may
-    be let go at any time. Raises NoMemory and MemoryError: nothing counts as told then, and it may be asked again. The end asks once.
+    be let go at any time. Raises BadKind where the vector is of one kind and another is among the queries: nothing counts as told then.
     """
 
     __slots__ = ("pause", "_state", "_seat", "_rested")
@@ -265,7 +265,7 @@ class Subscriber:
     def _is_awaited(self) -> bool:
         """Sleeps until there may be something to look at; tells whether there is."""
         state, seat = self._state, self._seat
-        while not seat.first and not state.is_over():
+        while not state.is_over():
             rest = self._rested - time.monotonic()
             if rest > 0:
                 state.pause.wait(rest)
@@ -274,13 +274,10 @@ class Subscriber:
             else:
                 state.is_unaware = True
                 state.change.wait()
-        return bool(seat.first or seat.last)
+        return bool(seat.last)
 
     def _looked(self) -> list[Note]:
         state, seat = self._state, self._seat
-        if seat.first:
-            told, seat.first = seat.first, []
-            return told
         if state.is_over():
             last, seat.last = seat.last, []
             if isinstance(last, Refusal):
@@ -306,10 +303,12 @@ class SharedVector:
         ...     queries = Queries()
         ...     queries.watch("total", "sum")
         ...     alerts = shared.subscribe(queries)
+        ...     next(alerts)[0].value
         ...     shared.push(-2)
-        ...     next(alerts)[0].value, next(alerts)[0].value
+        ...     next(alerts)[0].value
+        42
         Receipt(edit=3, told=2)
-        (42, 40)
+        40
 
     Edits and questions are those of a `Vector`, each under the lock for one call; an edit gives a `Receipt`. `locked` takes the lock for several.
     `start_workers` starts threads that compute summaries beside them, without the lock, and a `Subscriber` sleeps until an edit changes what it
@@ -476,10 +475,9 @@ class SharedVector:
         self._state.end(workers)
 
     def subscribe(self, queries: Queries) -> Subscriber:
-        """One more that is told which answers of these queries change. Its first notes are those of now.
+        """One more that is told which answers of these queries change. Before its first look each counts as told what `Queries` says.
 
-        The queries are the subscriber's from now on: a call at them beside its look raises Busy there or here. Raises Closed, BadKind where the
-        vector is of one kind and another is among the queries, and NoMemory."""
+        The queries are the subscriber's from now on: a call at them beside its look raises Busy there or here. Raises Closed."""
         if not isinstance(queries, Queries):
             raise TypeError(f"Queries are wanted, not a {type(queries).__name__}")
         state, seat = self._state, _Seat(queries)
@@ -487,8 +485,6 @@ class SharedVector:
         with state.lock:
             state.open()
             state.seats = [it for it in state.seats if it() is not None]
-            seat.seen = state.changes - 1
-            seat.first = state.notes(seat)
             state.seats.append(weakref.ref(seat))
         return Subscriber(state, seat)
 

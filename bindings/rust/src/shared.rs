@@ -198,8 +198,8 @@ impl Shared {
         Ok(())
     }
 
-    /// One more that is told which answers of these queries change. Its first notes are those of now. Refused with `CLOSED`, with `BadKind`
-    /// where the vector is of one kind and another is among the queries, and with `NoMemory`.
+    /// One more that is told which answers of these queries change. Before its first look each counts as told what [`Queries`] say. Refused
+    /// with `CLOSED`, then with `NoMemory`.
     pub fn subscribe(&self, queries: Queries) -> Result<Subscriber, Refusal> {
         Subscriber::new(&self.lock, queries)
     }

@@ -50,10 +50,9 @@ pub(crate) struct Seat {
     /// Goes with the subscriber.
     pub(crate) whose: Weak<()>,
     pub(crate) queries: Queries,
-    /// The changes that there were when it looked last.
+    /// The changes that there were when it looked last; others before its first look.
     pub(crate) seen: u64,
-    /// Notes of its beginning, and of the end, that it wasn't given yet.
-    pub(crate) first: Vec<Note>,
+    /// Notes of the end, that it wasn't given yet.
     pub(crate) last: Result<Vec<Note>, Refusal>,
 }
 

@@ -14,8 +14,9 @@ use crate::{Note, Queries, Refusal};
 /// in which the queries were named. All notes of one list are at one edit, and these rise. What comes and goes between two looks is not told.
 /// Once the vector is closed it gives the notes at the last edit, if there are any, and then ends.
 ///
-/// It gives `Err(NoMemory)` where memory was wanted: nothing counts as told then, and it may be asked again. At the close memory is asked for
-/// once. It gives `Err(Busy)` within a [`with`](crate::Shared::with) of its own thread.
+/// It gives `Err(BadKind)` where the vector is of one kind and another is among the queries, and `Err(NoMemory)` where memory was wanted: nothing
+/// counts as told then, and it may be asked again. At the close memory is asked for once. It gives `Err(Busy)` within a
+/// [`with`](crate::Shared::with) of its own thread.
 ///
 /// It may be dropped at any time.
 pub struct Subscriber {
@@ -33,15 +34,14 @@ impl Subscriber {
     /// It pauses so many times as long as its last look took, where that is longer.
     const SHARE: u32 = 2;
 
-    /// Refused with `BadKind` where the vector is of one kind and another is among the queries.
-    pub(crate) fn new(lock: &Arc<Lock>, mut queries: Queries) -> Result<Subscriber, Refusal> {
+    pub(crate) fn new(lock: &Arc<Lock>, queries: Queries) -> Result<Subscriber, Refusal> {
         let me = Arc::new(());
         let mut guarded = lock.enter()?;
+        guarded.open()?;
         guarded.sweep();
         guarded.seats.try_reserve(1).map_err(|_| Refusal::NoMemory)?;
-        let first = queries.notes(guarded.open()?)?;
-        let seen = guarded.changes;
-        guarded.seats.push(Seat { whose: Arc::downgrade(&me), queries, seen, first, last: Ok(Vec::new()) });
+        let seen = guarded.changes.wrapping_sub(1);
+        guarded.seats.push(Seat { whose: Arc::downgrade(&me), queries, seen, last: Ok(Vec::new()) });
         drop(guarded);
         Ok(Subscriber { lock: lock.clone(), me, pause: Subscriber::PAUSE, rested: None })
     }
@@ -58,9 +58,6 @@ impl Subscriber {
         let start = Instant::now();
         let Guarded { vector, closed, changes, seats, .. } = &mut *guarded;
         let Some(seat) = seats.iter_mut().find(|seat| is_of(seat, &self.me)) else { return Ok(Vec::new()) };
-        if !seat.first.is_empty() {
-            return Ok(std::mem::take(&mut seat.first));
-        }
         let (Some(vector), false) = (vector, *closed) else {
             return std::mem::replace(&mut seat.last, Ok(Vec::new()));
         };
@@ -87,9 +84,6 @@ impl Subscriber {
         let mut guarded = self.lock.enter()?;
         loop {
             let Some(seat) = guarded.seats.iter().find(|seat| is_of(seat, &self.me)) else { return Ok(false) };
-            if !seat.first.is_empty() {
-                return Ok(true);
-            }
             if guarded.closed {
                 return Ok(!matches!(&seat.last, Ok(notes) if notes.is_empty()));
             }

@@ -210,7 +210,6 @@ fn a_subscriber_looks_sleeps_and_has_the_last_notes() {
     let mut alerts = shared.subscribe(watching(Kind::Sum)).unwrap();
     let mut late = shared.subscribe(watching(Kind::Least)).unwrap();
     shared.push(6).unwrap();
-    assert_eq!(told(Some(alerts.look())), [(2, Value::Sum(9))]);
     assert_eq!(told(alerts.next()), [(3, Value::Sum(15))]);
     assert_eq!(alerts.look(), Ok(Vec::new()));
     shared.write(0, 4).unwrap();
@@ -228,7 +227,6 @@ fn a_subscriber_looks_sleeps_and_has_the_last_notes() {
     assert!(shared.close().is_none());
     assert_eq!(pausing.join().unwrap(), (vec![(6, Value::Sum(3))], true, Ok(Vec::new())));
     assert_eq!(sleeping.join().unwrap(), [[(5, Value::Greatest(Some(6)))]]);
-    assert_eq!(told(late.next()), [(2, Value::Least(Some(4)))]);
     assert_eq!(told(Some(late.look())), [(6, Value::Least(Some(-9)))]);
     assert!(late.next().is_none());
 
@@ -282,8 +280,11 @@ fn what_is_refused_changes_nothing() {
     assert_eq!((shared.value(Kind::Best, 1..3), shared.best(2..9).is_err()), (Ok(Value::Best(Some(4))), true));
     assert_eq!((shared.least(..), shared.greatest(1..1)), (Ok(Some(2)), Ok(None)));
     let sums = Shared::new(Vector::of_kind(Kind::Sum, Limits::GREATEST).unwrap());
-    assert_eq!(sums.subscribe(watching(Kind::Least)).err(), Some(Refusal::BadKind));
+    let (mut early, mut late) = (sums.subscribe(watching(Kind::Least)).unwrap(), sums.subscribe(watching(Kind::Least)).unwrap());
+    assert_eq!((early.look(), early.next()), (Err(Refusal::BadKind), Some(Err(Refusal::BadKind))));
     assert_eq!(sums.subscribe(watching(Kind::Sum)).unwrap().look(), Ok(Vec::new()));
+    assert!(sums.close().is_some());
+    assert_eq!((late.next(), late.next()), (Some(Err(Refusal::BadKind)), None));
     assert_eq!(shared.start_workers(usize::MAX), Err(Refusal::NoMemory));
 }
 
