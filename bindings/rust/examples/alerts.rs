@@ -29,6 +29,13 @@ fn feed(shared: &Shared, rack: u32, hour: u32) -> Result<(), Refusal> {
     Ok(())
 }
 
+fn number(value: Value) -> i64 {
+    match value {
+        Value::Greatest(Some(it)) | Value::Least(Some(it)) | Value::Sum(it) => it,
+        other => unreachable!("nobody asks for {other:?}"),
+    }
+}
+
 /// The greatest of each rack, by its name.
 fn racks() -> Result<Queries, Refusal> {
     let mut queries = Queries::new()?;
@@ -45,7 +52,7 @@ fn listen(news: Subscriber, alarms: &mpsc::Sender<(String, bool)>) -> Result<u32
         for note in notes? {
             assert!(note.edit >= last, "what is told doesn't go back");
             last = note.edit;
-            let is_hot = matches!(note.value, Value::Greatest(Some(high)) if high >= HOT);
+            let is_hot = number(note.value) >= HOT;
             if hot.insert(note.name().to_owned(), is_hot).unwrap_or(false) != is_hot {
                 alarms.send((note.name().to_owned(), is_hot)).expect("the store listens to the end");
             }
@@ -89,8 +96,8 @@ fn main() -> Result<(), Refusal> {
         let mut hot = Vec::new();
         println!("hour {hour}, {} edits", shared.edits()?);
         for note in board.look()? {
-            println!("  {}: {:?}", note.name(), note.value);
-            if matches!(note.value, Value::Greatest(Some(high)) if high >= HOT) {
+            println!("  {}: {}", note.name(), number(note.value));
+            if note.kind == Kind::Greatest && number(note.value) >= HOT {
                 hot.push((note.name().to_owned(), true));
             }
         }
