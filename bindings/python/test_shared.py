@@ -2,7 +2,10 @@
 import contextlib
 import copy
 import gc
+import io
+import os
 import random
+import re
 import threading
 import time
 import unittest
@@ -257,6 +260,16 @@ class Threads(unittest.TestCase):
         join()
         self.assertEqual([values(notes) for notes in told], [[(1, 7)]])
         until(lambda: threading.active_count() == before)
+
+
+class Page(unittest.TestCase):
+    def test_its_program_prints_what_it_says(self):
+        with open(os.path.join(os.path.dirname(os.path.abspath(__file__)), "README.md"), encoding="utf-8") as file:
+            program = re.search(r"^```py\n(.*?)^```$", file.read(), re.M | re.S)[1]
+        said = io.StringIO()
+        with contextlib.redirect_stdout(said):
+            exec(program, {})
+        self.assertEqual(said.getvalue().splitlines(), re.findall(r"print\(.*\) +# (.*)$", program, re.M))
 
 
 if __name__ == "__main__":
