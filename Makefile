@@ -10,8 +10,7 @@ CC = cc
 LIB = build
 SO = $(LIB)
 # what livevec.hpp includes
-CPP_PARTS = include/livevec_base.hpp include/livevec_board.hpp include/livevec_columns.hpp include/livevec_queries.hpp include/livevec_series.hpp include/livevec_summary.hpp
-CPP_PARTS = include/livevec_base.hpp include/livevec_board.hpp include/livevec_columns.hpp include/livevec_summary.hpp include/livevec_queries.hpp include/livevec_shared.hpp include/livevec_shared_lock.hpp
+CPP_PARTS = $(addprefix include/livevec_,base.hpp board.hpp columns.hpp queries.hpp series.hpp shared.hpp shared_lock.hpp summary.hpp)
 # what programs that are linked with liblivevec.so ask for: another number where they would no longer run
 SONAME = liblivevec.so.1
 # tells the system's loader what was installed, where that is allowed and nothing is only staged

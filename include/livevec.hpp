@@ -1,9 +1,8 @@
 /* livevec for C++17: livevec.h by move-only classes that free what they own. What a call refuses is thrown as livevec::refused, and
  * nothing has changed then. Header only; link what livevec.h links. The board and its seats stand in livevec_board.hpp, summaries
  * that travel in livevec_summary.hpp, cells of columns in livevec_columns.hpp, the series in livevec_series.hpp, standing queries in
- * livevec_queries.hpp, and what all classes share in livevec_base.hpp; this header brings them all.
- * that travel in livevec_summary.hpp, cells of columns in livevec_columns.hpp, standing queries in livevec_queries.hpp, a vector that
- * threads share in livevec_shared.hpp, and what all classes share in livevec_base.hpp; this header brings them all.
+ * livevec_queries.hpp, a vector that threads share in livevec_shared.hpp, and what all classes share in livevec_base.hpp; this header
+ * brings them all.
  *
  * An object serves one call at a time: a call beside another at the same object is refused with LIVEVEC_BUSY. Put a mutex round it where
  * threads share one, or take a shared_vector. A job may be run by any thread, beside any call at its vector. A call at an object that was moved from is

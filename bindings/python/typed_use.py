@@ -6,9 +6,8 @@ from __future__ import annotations
 from array import array
 from typing import Optional, Union
 
-from livevec import Answered, Board, Delivered, Finished, Job, Kind, LongReduced, NotKept, Note, Outrun, Queries, Reduced, Refusal, Scan, Seat, Series, Summary, Values, Vector
-from livevec import Answered, Board, Delivered, Finished, Job, Kind, Note, Outrun, Queries, Receipt, Reduced, Refusal, Scan, Seat, SharedVector
-from livevec import Subscriber, Summary, Values, Vector
+from livevec import Answered, Board, Delivered, Finished, Job, Kind, LongReduced, NotKept, Note, Outrun, Queries, Receipt, Reduced
+from livevec import Refusal, Scan, Seat, Series, SharedVector, Subscriber, Summary, Values, Vector
 
 
 class Prices(Vector):

@@ -1897,15 +1897,8 @@ def _given(lo: Optional[int], hi: Optional[int], holder: Vector) -> tuple[int, i
         return 0, _MOST_U32
 
 
-# --- Standing queries and the series: they stand in modules of their own, which need what stands above ---
+# --- Standing queries, the series and what threads share stand in modules of their own, which need what stands above ---
 
 from livevec._queries import Answered, Note, Queries  # noqa: E402
 from livevec._series import LongReduced, NotKept, Series  # noqa: E402
-
-from ._queries import Answered, Note, Queries  # noqa: E402
-
-
-# --- A vector that threads share, which stands on these ---
-
-
-from ._shared import Receipt, SharedVector, Subscriber  # noqa: E402
+from livevec._shared import Receipt, SharedVector, Subscriber  # noqa: E402
