@@ -7,14 +7,27 @@ import operator
 import threading
 import time
 import weakref
-from typing import Any, Callable, Iterable, Iterator, NamedTuple, Optional, TypeVar, Union
+from typing import TYPE_CHECKING, Any, Callable, Iterable, Iterator, NamedTuple, Optional, TypeVar, Union
 
 from . import (
     MOST_QUERIES, Busy, Closed, Kind, NoMemory, Reduced, Refusal, Vector, _Accepted, _as_buffer, _as_i64, _as_places, _as_u32, _address, _call,
-    _Claimed, _Edited, _ends, _free_job, _free_outcome, _i64, _job, _JobSlot, _kind_of, _Many, _outcome, _OutcomeSlot, _place, _pointer, _Pushed,
-    _Reduced, _refuse, _released, _size, _slot, _u32, _value_of, _values_of, _Vetted,
+    _Claimed, _Edited, _ends, _free_job, _free_outcome, _JobSlot, _kind_of, _Many, _OutcomeSlot, _place, _Pushed, _Reduced, _refuse, _value_of,
+    _values_of, _Vetted,
 )
-from ._queries import Note, Queries, _Note, _note_of, _Noted, _queries, _vector
+from ._queries import Note, Queries, _Note, _note_of, _Noted, _vector
+
+if TYPE_CHECKING:
+    # older checkers don't see these through the circle of imports
+    from ctypes import c_int64 as _i64, c_size_t as _size, c_uint32 as _u32, c_void_p as _pointer
+
+    _released: ctypes.CDLL
+    _slot: Any
+    _job: Any
+    _outcome: Any
+    _queries: Any
+else:
+    from . import _i64, _job, _outcome, _pointer, _released, _size, _slot, _u32
+    from ._queries import _queries
 
 # Calls that release the interpreter's lock: the lock of the shared vector keeps them apart.
 _push = _call("livevec_push", _Edited, _slot, _i64, by=_released)
