@@ -339,8 +339,9 @@ static void what_is_refused_changes_nothing()
         shared.push_many(list(9, 2));
         IS(false);
     } catch (const livevec::stopped &stopped) {
-        IS(stopped.number() == LIVEVEC_FULL && stopped.pushed() == 8);
+        IS(stopped.number() == LIVEVEC_FULL && stopped.pushed() == 0 && shared.edits() == 0 && alerts.look().empty());
     }
+    IS(shared.push_many(list(8, 2)) == 8);
     IS((*alerts.next())[0].values.sum == 16);
     IS(refusal_of([&] { shared.write_many(std::vector<std::uint32_t>{0, 8}, list{1, 1}); }) == LIVEVEC_OUT_OF_RANGE);
     IS(alerts.look().empty() && shared[7] == 2 && shared.size() == 8 && *shared.best(1, 3) == 4 && shared.least(0, 8) == 2);

@@ -200,7 +200,8 @@ class Threads(unittest.TestCase):
         self.assertEqual((shared.edits, len(shared), alerts.look()), (0, 0, []))
         with self.assertRaises(livevec.Full) as refused:
             shared.extend([2] * 9)
-        self.assertEqual((refused.exception.pushed, values(next(alerts))), (8, [(8, 16)]))
+        self.assertEqual((refused.exception.pushed, shared.edits, alerts.look()), (0, 0, []))
+        self.assertEqual((shared.extend([2] * 8), values(next(alerts))), (8, [(8, 16)]))
         with self.assertRaises(livevec.OutOfRange) as refused:
             shared.write_many([0, 8], [1, 1])
         self.assertEqual((refused.exception.place, refused.exception.pushed, alerts.look()), (1, 0, []))

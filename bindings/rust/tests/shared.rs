@@ -271,7 +271,8 @@ fn what_is_refused_changes_nothing() {
     assert_eq!(shared.truncate(1), Err(Refusal::OutOfRange { size: 0 }));
     assert_eq!(shared.reserve(9), Err(Refusal::TooLarge { limit: 8 }));
     assert_eq!((shared.edits(), shared.is_empty(), alerts.look()), (Ok(0), Ok(true), Ok(Vec::new())));
-    assert_eq!(shared.extend_from_slice(&[2; 9]), Err(Stopped { pushed: 8, refusal: Refusal::Full }));
+    assert_eq!(shared.extend_from_slice(&[2; 9]), Err(Stopped { pushed: 0, refusal: Refusal::Full }));
+    assert_eq!((shared.edits(), alerts.look(), shared.extend_from_slice(&[2; 8])), (Ok(0), Ok(Vec::new()), Ok(8)));
     assert_eq!(told(alerts.next()), [(8, Value::Sum(16))]);
     let refused = shared.write_many(&[0, 8], &[1, 1]);
     assert_eq!(refused, Err(RefusedAt { place: 1, done: 0, refusal: Refusal::OutOfRange { size: 8 } }));
