@@ -86,7 +86,8 @@ class [[nodiscard]] subscriber {
  * LIVEVEC_NO_HANDLE. A call of a thread within a `with` of its own is refused with LIVEVEC_BUSY, where it would wait for itself.
  *
  * Where a call that is handed to `with` throws, what it did before stays, each a whole edit; the lock is let go, subscribers are told, and
- * what was thrown goes on to the caller of `with` alone. Nothing else of a caller's runs under the lock. */
+ * what was thrown goes on to the caller of `with` alone. Nothing else of a caller's runs under the lock. Where C++'s own memory is wanting,
+ * std::bad_alloc is thrown, and nothing has changed or counts as told. */
 class [[nodiscard]] shared_vector {
   public:
     /* Puts a lock round a vector. */

@@ -9,6 +9,7 @@
 #include <cstdlib>
 #include <cstring>
 #include <map>
+#include <new>
 #include <numeric>
 #include <optional>
 #include <stdexcept>
@@ -39,6 +40,35 @@ template <class Call> static std::uint32_t refusal_of(Call call)
         return refused.number();
     }
 }
+
+/* A thread has no more memory by `new` while it says so; but under a sanitizer, which has a `new` of its own. */
+#ifdef __has_feature
+#define HAS_NEW_OF_ITS_OWN (__has_feature(thread_sanitizer) || __has_feature(address_sanitizer))
+#elif defined(__SANITIZE_THREAD__) || defined(__SANITIZE_ADDRESS__)
+#define HAS_NEW_OF_ITS_OWN 1
+#else
+#define HAS_NEW_OF_ITS_OWN 0
+#endif
+#if !HAS_NEW_OF_ITS_OWN
+static thread_local bool is_starved = false;
+
+// not inline: the compiler takes their calls of malloc and free for a mistake where it sees them
+__attribute__((noinline)) void *operator new(std::size_t size)
+{
+    void *made = is_starved ? nullptr : std::malloc(size);
+    if (!made)
+        throw std::bad_alloc();
+    return made;
+}
+__attribute__((noinline)) void operator delete(void *it) noexcept
+{
+    std::free(it);
+}
+__attribute__((noinline)) void operator delete(void *it, std::size_t) noexcept
+{
+    std::free(it);
+}
+#endif
 
 static_assert(!std::is_copy_constructible_v<livevec::shared_vector> && std::is_nothrow_move_constructible_v<livevec::shared_vector>);
 static_assert(!std::is_copy_constructible_v<livevec::subscriber> && std::is_nothrow_move_assignable_v<livevec::shared_vector>);
@@ -424,11 +454,46 @@ static void subscribers_come_and_go_while_edits_go_on()
     IS(alerts->next()->at(0).values.sum == 10000 && !alerts->next());
 }
 
+#if !HAS_NEW_OF_ITS_OWN
+/* Whether a call is refused for want of memory by `new`. */
+template <class Call> static bool is_wanting(Call call)
+{
+    is_starved = true;
+    try {
+        call();
+        is_starved = false;
+        return false;
+    } catch (const std::bad_alloc &) {
+        is_starved = false;
+        return true;
+    } catch (const livevec::refused &refused) {
+        is_starved = false;
+        return refused.number() == LIVEVEC_NO_MEMORY;
+    }
+}
+
+static void want_of_memory_loses_nothing()
+{
+    livevec::shared_vector shared(livevec::vector{1, 2});
+    livevec::subscriber alerts = shared.subscribe(watching(LIVEVEC_SUM)), late = shared.subscribe(watching(LIVEVEC_LEAST));
+    livevec::queries asked = watching(LIVEVEC_BEST);
+    IS(is_wanting([&] { (void)alerts.look(); }) && is_wanting([&] { (void)alerts.next(); }));
+    IS(is_wanting([&] { shared.start_workers(1); }) && is_wanting([&] { (void)shared.subscribe(std::move(asked)); }));
+    IS((*alerts.next())[0].values.sum == 3 && alerts.look().empty());
+    // an edit and the end take no memory by `new`
+    IS(!is_wanting([&] { shared.push(-4); }) && !is_wanting([&] { (void)shared.close(); }));
+    IS(late.next()->at(0).values.least == -4 && alerts.next()->at(0).edit == 3);
+}
+#endif
+
 int main()
 {
     nothing_is_lost();
     looks_sleeps_and_has_the_last_notes();
     what_is_refused_changes_nothing();
+#if !HAS_NEW_OF_ITS_OWN
+    want_of_memory_loses_nothing();
+#endif
     what_is_thrown_within_stops_nobody();
     workers_compute_stop_and_start_again();
     subscribers_come_and_go_while_edits_go_on();

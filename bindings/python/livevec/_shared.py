@@ -70,7 +70,7 @@ class _Seat:
         self.queries = queries
         # others than there ever are, before its first look
         self.seen = -1
-        self.last: Union[list[Note], Refusal] = []
+        self.last: Union[list[Note], Exception] = []
 
 
 class _State:
@@ -138,7 +138,7 @@ class _State:
         for seat in filter(None, (it() for it in self.seats)):
             try:
                 seat.last = self.notes(seat)
-            except Refusal as refusal:
+            except (Refusal, MemoryError) as refusal:
                 seat.last = refusal
         for sleepers in (self.work, self.change, self.pause):
             sleepers.notify_all()
@@ -293,7 +293,7 @@ class Subscriber:
         state, seat = self._state, self._seat
         if state.is_over():
             last, seat.last = seat.last, []
-            if isinstance(last, Refusal):
+            if isinstance(last, Exception):
                 raise last
             return last
         start = time.monotonic()
