@@ -120,9 +120,9 @@ impl Queries {
     /// counts as told its answer. Refused with `BadKind` where the vector is of one kind and another is among the queries, then with
     /// `NoMemory`: nothing is told then.
     pub fn notes(&mut self, vector: &mut Vector) -> Result<Vec<Note>, Refusal> {
-        let told = self.raw.notes(&vector.raw)?;
-        let mut notes = raw::roomy(told.len())?;
-        notes.extend(told.iter().map(Note::of_raw));
+        // room first: what was told once isn't told again
+        let mut notes = raw::roomy(self.kinds.len())?;
+        notes.extend(self.raw.notes(&vector.raw)?.iter().map(Note::of_raw));
         Ok(notes)
     }
 }

@@ -93,7 +93,7 @@ pub enum Refusal {
     BadKind,
     /// 114: what is no name of a query: 1 to 16 bytes of `a-z`, `0-9` and `_`.
     BadName,
-    /// Any other number. No call of this crate gives it today.
+    /// Any other number: 101 of a shared vector that was closed, and no other today.
     Other {
         /// The number.
         number: u32,
