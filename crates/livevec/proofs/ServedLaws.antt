@@ -1,6 +1,6 @@
 -- What is so of each session is so of all of them.
 use Rattle.std.proofs.Common.{◌≡◌, ℕ, suc, Option, Some, None, Result, Ok, Err, OnOk, List, [], ◌∷◌, ◌++◌, All, IfErr, IfOk, IfSome, ◌⊎◌, length, map, refl, sym, ap, ◌∙◌, subst, arith, inl, inr, length-append, append-nil, append_assoc}
-use Rattle.std.specs.Prelude.{◌≢◌, option_map, slice_index_or}
+use Rattle.std.specs.Prelude.{option_map, slice_index_or}
 use Rattle.std.specs.List.Sorted.{IsPermutation}
 use Rattle.std.proofs.lemmas.Grind.{flat_map-append}
 use Rattle.std.proofs.lemmas.List.{map-append}
@@ -202,14 +202,6 @@ module _ (limits : Bounds) (share : ShareState) (olds news : List Sides) (claims
         | inl nothing ↦ inl nothing
         | inr front ↦ inr (front.0, held.states, front.1, transcript_so w.journal front.1 w.of front.2, front.3)
       ]
-
--- and nothing was written, unless a write failed
-pub quiet_so : (limits : Bounds) (contents_old contents_new : Option (List ℕ)) (fault : Fault) → FailsToServe limits contents_old contents_new fault → fault ≢ WriteFault → contents_new ≡ contents_old
-quiet_so limits contents_old contents_new fault failed other =
-    elim failed [
-      | inl nothing ↦ nothing
-      | inr front ↦ absurd (other front.0)
-    ]
 
 -- what a share that has seen more writes, one does that counts as many
 pub closed_more : {T : Type 0} (limits : Bounds) (share more : ShareState) (listed : List Claimed) (old new : Option (List ℕ)) (result : Result T Fault)

@@ -1,7 +1,6 @@
 //! Sessions in threads of their own, with workers and subscribers beside them, and the transcript of it all.
 
-ghost use Rattle.std.specs.Prelude.{◌≡◌, ◌≢◌, ◌+◌, ◌≤◌, IfErr, IfOk, IfSome, [], Some, is_some, map, vec_capacity, vec_len};
-ghost use Rattle.lv_lines.specs.declared.fault.Fault.TheVariants.{WriteFault};
+ghost use Rattle.std.specs.Prelude.{◌≡◌, ◌+◌, ◌≤◌, IfErr, IfOk, IfSome, [], Some, is_some, map, vec_capacity, vec_len};
 ghost use Rattle.lv_transcript.specs.Joined.{in_a_row};
 ghost use Rattle.livevec.specs.PlainServed.{ServedPlainly};
 ghost use Rattle.livevec.specs.Starting.{Records, start_of};
@@ -73,8 +72,6 @@ pub fn serve<
     // Each reply is the plain interpreter's, at a beginning of one list of edits.
     ensures plain { IfOk result (λ done. ServedPlainly plan.limits (map (λ s. record { lines = F.remaining s.lines; replies = F.contents s.replies }) streams.items) (map (λ s. record { lines = F.remaining s.lines; replies = F.contents s.replies }) done.0.items) (W.contents writer.old) (W.contents writer.new)) }
     ensures failed { IfErr result (λ failure. FailsToServe plan.limits (W.contents writer.old) (W.contents writer.new) failure.fault) }
-    // Unless a write failed, standard output has got nothing then.
-    ensures quiet { IfErr result (λ failure. failure.fault ≢ WriteFault → W.contents writer.new ≡ W.contents writer.old) }
     ensures back { IfOk result (λ done. is_some done.1 ≡ is_some file) }
     // The file has got the edits of the transcript that was written, and true answers between them, in the order of time.
     ensures recorded { IfOk result (λ done. IfSome done.1 (λ kept. Records (start_of V.contents file) (V.contents kept) (W.contents writer.old) (W.contents writer.new))) }

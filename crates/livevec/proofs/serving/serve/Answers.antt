@@ -1,6 +1,6 @@
-use Rattle.std.proofs.lemmas.Result.{IfErr-weaker, IfOk-weaker}
+use Rattle.std.proofs.lemmas.Result.{IfOk-weaker}
 use Rattle.livevec.proofs.PlainServedLaws.{served_plainly}
-use Rattle.livevec.proofs.ServedLaws.{quiet_so, starts_there}
+use Rattle.livevec.proofs.ServedLaws.{starts_there}
 use Rattle.livevec.proofs.serving.serve.Goals as goal
 
 pub serve_as-requires-clause-start : goal.serve_as-requires-clause-start
@@ -8,6 +8,3 @@ serve_as-requires-clause-start g c = λ _ _. starts_there g.V.Write.contents c.a
 
 pub returns-clause-plain : goal.returns-clause-plain
 returns-clause-plain g c = IfOk-weaker _ _ _ (λ done. served_plainly _ _ _ _ _) c.serve_as.ensures.served
-
-pub returns-clause-quiet : goal.returns-clause-quiet
-returns-clause-quiet g c = IfErr-weaker _ _ _ (λ failure failed. quiet_so _ _ _ _ failed) c.serve_as.ensures.failed
