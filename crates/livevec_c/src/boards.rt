@@ -1,24 +1,23 @@
-//! Boards that threads share: how one is opened, and how a seat is taken and given back.
-ghost use Rattle.std.specs.Prelude.{◌≡◌, ◌≢◌, ◌⊎◌, Some, None, IfOk, IfErr, OnOk};
+//! Boards that threads share: how one is opened, and how a seat is taken.
+ghost use Rattle.std.specs.Prelude.{◌≡◌, ◌⊎◌, Some, None, IfOk, IfErr};
 ghost use Rattle.lv_bodies.specs.Plain.{plain_value};
 ghost use Rattle.lv_board.specs.Opening.{IsOpeningRefusal};
-ghost use Rattle.lv_board.specs.Sharing.{IsBack, IsNewlyShared, IsUnseated, Sits};
+ghost use Rattle.lv_board.specs.Sharing.{IsNewlyShared, IsUnseated, Sits};
 ghost use Rattle.livevec_c.specs.declared.objects.Object.TheVariants as behind;
-ghost use Rattle.livevec_c.specs.Kinds.{folding_of, HasOwnStamp, IsOutOf, kind_at, sat_at, shared_at};
-ghost use Rattle.livevec_c.specs.Lives.{OpensBoard, OpensBoardAt, OwnStamp, OwnStampAt, OwnStampBy, OwnStampFrom, seatless, SitsBoard, SitsDown, SitsObject, TakesBack, TakesBackBy, TakesBackFrom, TakesBackObject};
+ghost use Rattle.livevec_c.specs.Kinds.{folding_of, IsOutOf, kind_at, sat_at, shared_at};
+ghost use Rattle.livevec_c.specs.Lives.{OpensBoard, OpensBoardAt, seatless, SitsBoard, SitsDown, SitsObject};
 
 use crate::jobs::refilled;
 use crate::kind_boards::KindBoard;
 use crate::kind_seats::KindSeat;
 use crate::lifetimes::new_vector;
-use crate::objects::{Object, nothing};
-use crate::results::{BAD_LIMITS, IN_USE, NO_HANDLE, NO_MEMORY, NO_SEAT, OTHER_BOARD};
+use crate::objects::Object;
+use crate::results::{BAD_LIMITS, IN_USE, NO_HANDLE, NO_MEMORY, NO_SEAT};
 use crate::slots::{Slot, is_full, put, take};
 use lv_board::{Opened, Unseated};
 use lv_bodies::{Affine, Automaton, Best, Greatest, Kind, Least, Sum};
 use lv_geometry::{Limits, Refusal};
 use std::alloc::{AllocError, Global};
-use std::mem;
 
 /// The kind of a number.
 pub fn kind_of(number: u32) -> Option<Kind>
@@ -225,136 +224,5 @@ pub extern "C" fn livevec_proved_board_sit(alloc: Global, board: &mut Slot, seat
             put(board, held);
             answer
         }
-    }
-}
-
-// Takes a seat back at its board.
-fn take_at(board: &mut KindBoard, seat: KindSeat) -> Result<(), KindSeat>
-    requires own { HasOwnStamp board.old seat }
-    ensures ok { OnOk result (IsBack (shared_at board.old) (sat_at seat) (shared_at board.new)) }
-    ensures err { IfErr result (λ same. (sat_at same ≡ sat_at seat) × ((sat_at seat).stamp ≢ (shared_at board.old).stamp) × (shared_at board.new ≡ shared_at board.old)) }
-{
-    match seat {
-        KindSeat::Sum(seat) => match board {
-            KindBoard::Sum(board) => match board.take_back(seat) {
-                Ok(()) => Ok(()),
-                Err(seat) => Err(KindSeat::Sum(seat)),
-            },
-            _ => Err(KindSeat::Sum(seat)),
-        },
-        KindSeat::Least(seat) => match board {
-            KindBoard::Least(board) => match board.take_back(seat) {
-                Ok(()) => Ok(()),
-                Err(seat) => Err(KindSeat::Least(seat)),
-            },
-            _ => Err(KindSeat::Least(seat)),
-        },
-        KindSeat::Greatest(seat) => match board {
-            KindBoard::Greatest(board) => match board.take_back(seat) {
-                Ok(()) => Ok(()),
-                Err(seat) => Err(KindSeat::Greatest(seat)),
-            },
-            _ => Err(KindSeat::Greatest(seat)),
-        },
-        KindSeat::Best(seat) => match board {
-            KindBoard::Best(board) => match board.take_back(seat) {
-                Ok(()) => Ok(()),
-                Err(seat) => Err(KindSeat::Best(seat)),
-            },
-            _ => Err(KindSeat::Best(seat)),
-        },
-        KindSeat::Affine(seat) => match board {
-            KindBoard::Affine(board) => match board.take_back(seat) {
-                Ok(()) => Ok(()),
-                Err(seat) => Err(KindSeat::Affine(seat)),
-            },
-            _ => Err(KindSeat::Affine(seat)),
-        },
-        KindSeat::Automaton(seat) => match board {
-            KindBoard::Automaton(board) => match board.take_back(seat) {
-                Ok(()) => Ok(()),
-                Err(seat) => Err(KindSeat::Automaton(seat)),
-            },
-            _ => Err(KindSeat::Automaton(seat)),
-        },
-    }
-}
-
-// Takes back the seat that lay behind a slot, which is empty now, where it is one.
-fn take_back_held(
-    alloc: Global,
-    board: &mut KindBoard,
-    seat: &mut Slot,
-    mut held: Box<Object>,
-) -> u32
-    requires empty { seat.old.raw.inner ≡ None }
-    requires own { OwnStampAt board.old held.value }
-    ensures { TakesBackObject result board.old held.value board.new seat.new.raw.inner }
-{
-    match mem::replace(&mut *held, nothing(alloc)) {
-        Object::Seat(given) => match take_at(board, given) {
-            Ok(()) => {
-                drop(held);
-                0
-            }
-            Err(same) => {
-                put(seat, refilled(held, Object::Seat(same)));
-                OTHER_BOARD
-            }
-        },
-        other => {
-            put(seat, refilled(held, other));
-            NO_HANDLE
-        }
-    }
-}
-
-// The same at an object, where it is a board.
-fn take_back_by(alloc: Global, object: &mut Object, seat: &mut Slot, held: Box<Object>) -> u32
-    requires empty { seat.old.raw.inner ≡ None }
-    requires own { OwnStampBy object.old held.value }
-    ensures { TakesBackBy result object.old held.value object.new seat.new.raw.inner }
-{
-    match object {
-        Object::Board(board) => take_back_held(alloc, board, seat, held),
-        _ => {
-            put(seat, held);
-            NO_HANDLE
-        }
-    }
-}
-
-// The same at what lies behind the board's slot.
-fn take_back_from(alloc: Global, board: &mut Slot, seat: &mut Slot, held: Box<Object>) -> u32
-    requires empty { seat.old.raw.inner ≡ None }
-    requires own { OwnStampFrom board.old.raw.inner held.value }
-    ensures { TakesBackFrom result board.old.raw.inner held.value board.new.raw.inner seat.new.raw.inner }
-{
-    match take(alloc, board) {
-        None => {
-            put(seat, held);
-            NO_HANDLE
-        }
-        Some(mut kept) => {
-            let answer = take_back_by(alloc, &mut kept, seat, held);
-            put(board, kept);
-            answer
-        }
-    }
-}
-
-/// Takes a seat back at its board, and empties the seat's slot. A seat of a board of another stamp stays in its slot.
-#[unsafe(no_mangle)]
-pub extern "C" fn livevec_proved_board_take_back(
-    alloc: Global,
-    board: &mut Slot,
-    seat: &mut Slot,
-) -> u32
-    requires { OwnStamp board.old.raw.inner seat.old.raw.inner }
-    ensures { TakesBack result board.old.raw.inner seat.old.raw.inner board.new.raw.inner seat.new.raw.inner }
-{
-    match take(alloc, seat) {
-        None => NO_HANDLE,
-        Some(held) => take_back_from(alloc, board, seat, held),
     }
 }

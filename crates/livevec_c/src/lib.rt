@@ -2,9 +2,11 @@
 #![tactic(auto)]
 
 mod boards;
+mod boards_back;
 mod by_kind;
 mod cells;
 mod closed;
+mod column_exports;
 mod columns;
 mod ended;
 mod frees;

@@ -1,5 +1,5 @@
 use Rattle.std.proofs.Common.{◌∙◌, Some, ap, inr, refl, sym}
-use Rattle.livevec_c.proofs.boards.take_back_held.Goals as goal
+use Rattle.livevec_c.proofs.boards_back.take_back_held.Goals as goal
 
 pub returns-in-Err : goal.returns-in-Err
 returns-in-Err c =

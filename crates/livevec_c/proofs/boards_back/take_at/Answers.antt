@@ -1,7 +1,7 @@
 use Rattle.std.proofs.Common.{ap}
 use Rattle.livevec_c.specs.declared.kind_seats.KindSeat.TheVariants as seats
 use Rattle.livevec_c.specs.Kinds.{sat_at}
-use Rattle.livevec_c.proofs.boards.take_at.Goals as goal
+use Rattle.livevec_c.proofs.boards_back.take_at.Goals as goal
 
 pub returns-in-Ok-take_back-5-clause-ok : goal.returns-in-Ok-take_back-5-clause-ok
 returns-in-Ok-take_back-5-clause-ok c = rw c.in-Automaton-board.is (rw c.in-Automaton.is c.in-Ok-take_back-5.ensures.ok)
