@@ -14,18 +14,57 @@ static livevec_job job;
 static livevec_outcome outcome;
 static livevec_board board;
 static livevec_seat seat;
+static livevec_series series;
+static livevec_queries queries;
+
+/* Elements 1, one more than a shard of a series takes; and the names that a set of queries is asked for. */
+enum { SHARD = 32760, NAMES = 2 };
+static const char *const names[NAMES] = {"all", "new"};
+static int64_t ones[SHARD + 1];
 
 /* What the last call answered beside its refusal. */
 static livevec_edited edited;
 static livevec_claimed claimed;
 static livevec_count closed;
+static livevec_pushed pushed_many;
+static livevec_many written_many;
+static livevec_series_edited series_edited;
+static livevec_reduced answered;
+static livevec_noted noted;
+static livevec_note notes[2];
+/* how many elements the series has by calls that told that they pushed them */
+static uint64_t series_pushed;
 
-/* What a vector shows, all zeros where there is none, and whether the other slots are full. */
+/* What a vector, a series and a set of queries show, all zeros where there is none, and whether the other slots are full. */
 typedef struct {
     uint32_t size, capacity, edits, cells, summaries;
-    uint64_t sum;
-    bool has_vector, has_board_closed, has_seat;
+    uint64_t sum, series_first, series_size, series_edits, series_sum;
+    uint32_t query_refusal[NAMES];
+    uint64_t query_sum[NAMES];
+    bool has_vector, has_board_closed, has_seat, has_series;
 } shown;
+
+/* Of a series what it shows without the pushes that were told. */
+static void see_series(shown *now)
+{
+    now->has_series = livevec_series_size(&series).refusal == LIVEVEC_OK;
+    if (!now->has_series)
+        return;
+    now->series_first = livevec_series_first(&series).value;
+    uint64_t size = livevec_series_size(&series).value;
+    now->series_size = size - series_pushed;
+    now->series_edits = livevec_series_edits(&series).value - series_pushed;
+    now->series_sum = livevec_series_reduce(&series, now->series_first, size).values.sum - series_pushed;
+}
+
+static void see_queries(shown *now)
+{
+    for (int i = 0; i < NAMES; i++) {
+        livevec_reduced answer = livevec_answer(&queries, &vector, names[i], 3);
+        now->query_refusal[i] = answer.refusal;
+        now->query_sum[i] = answer.values.sum;
+    }
+}
 
 static shown seen(void)
 {
@@ -41,6 +80,8 @@ static shown seen(void)
     now.sum = all.values.sum;
     now.has_board_closed = livevec_closed_size(&board).refusal == LIVEVEC_OK;
     now.has_seat = livevec_seat_size(&seat).refusal == LIVEVEC_OK;
+    see_series(&now);
+    see_queries(&now);
     return now;
 }
 
@@ -80,6 +121,32 @@ static void pushed(void)
     livevec_board_take_back(&board, &seat);
 }
 
+static void with_series(void) { livevec_series_new(&series); }
+static void with_queries(void) { livevec_queries_new(&queries); }
+
+/* A series of eight elements 1. */
+static void eight_in_series(void)
+{
+    with_series();
+    for (int i = 0; i < 8; i++)
+        livevec_series_push(&series, 1);
+}
+
+/* A series of a whole shard and one element more, all 1. */
+static void sharded(void)
+{
+    with_series();
+    livevec_series_push_many(&series, ones, SHARD + 1);
+}
+
+/* A vector of eight elements, and a set of one query, of their sum. */
+static void watched(void)
+{
+    eight();
+    livevec_queries_new(&queries);
+    livevec_watch(&queries, names[0], 3, LIVEVEC_SUM, 0, 100);
+}
+
 static uint32_t made(livevec_edited answer)
 {
     edited = answer;
@@ -100,6 +167,43 @@ static uint32_t new_board(void) { return livevec_board_new(&board, LIVEVEC_AFFIN
 static uint32_t sit(void) { return livevec_board_sit(&board, &seat); }
 static uint32_t close_board(void) { return (closed = livevec_board_close(&board)).refusal; }
 
+static uint32_t new_series(void) { return livevec_series_new(&series); }
+static uint32_t new_queries(void) { return livevec_queries_new(&queries); }
+static uint32_t watch(void) { return livevec_watch(&queries, names[1], 3, LIVEVEC_SUM, 0, 4); }
+static uint32_t unwatch(void) { return livevec_unwatch(&queries, names[0], 3); }
+static uint32_t answer(void) { return (answered = livevec_answer(&queries, &vector, names[0], 3)).refusal; }
+static uint32_t note(void) { return (noted = livevec_notes(&queries, &vector, notes, 2)).refusal; }
+
+static uint32_t push_many(void) { return (pushed_many = livevec_push_many(&vector, ones, 100)).refusal; }
+
+static uint32_t write_many(void)
+{
+    static const uint32_t indices[100] = {7, 3, 7};
+    return (written_many = livevec_write_many(&vector, indices, ones, 100)).refusal;
+}
+
+static uint32_t series_made(livevec_series_edited told)
+{
+    series_edited = told;
+    return told.refusal;
+}
+
+static uint32_t series_push(void) { return series_made(livevec_series_push(&series, 1)); }
+static uint32_t series_pop(void) { return series_made(livevec_series_pop(&series)); }
+static uint32_t series_write(void) { return series_made(livevec_series_write(&series, 5, 9)); }
+static uint32_t series_swap(void) { return series_made(livevec_series_swap(&series, 0, 7)); }
+static uint32_t series_exchange(void) { return series_made(livevec_series_swap(&series, 0, SHARD)); }
+static uint32_t series_cut(void) { return series_made(livevec_series_truncate(&series, 3)); }
+static uint32_t series_expire(void) { return series_made(livevec_series_expire(&series, SHARD)); }
+
+/* Pushes what is not pushed yet of a hundred: those before the one that is refused stay. */
+static uint32_t series_push_many(void)
+{
+    livevec_series_pushed told = livevec_series_push_many(&series, ones, 100 - series_pushed);
+    series_pushed += told.pushed;
+    return told.refusal;
+}
+
 static uint32_t new_by_table(void)
 {
     static const livevec_table table;
@@ -114,6 +218,19 @@ static bool is_claimed(void) { return claimed.level == 1 && claimed.number == 0 
 static bool is_run(void) { return livevec_vet(&vector, &outcome).refusal == LIVEVEC_OK; }
 static bool is_board(void) { return livevec_board_sit(&board, &seat) == LIVEVEC_OK; }
 static bool is_seat(void) { return livevec_seat_push(&seat, 42, 1).edit == 1; }
+static bool is_pushed_many(void) { return pushed_many.pushed == 100 && pushed_many.edit == 108 && seen().sum == 108; }
+static bool is_written_many(void) { return written_many.done == 100 && written_many.edit == 108 && seen().sum == 8; }
+static bool is_series(void) { return seen().has_series && livevec_series_edits(&series).value == 0; }
+static bool is_series_first(void) { return series_edited.edit == 1 && series_edited.place == 0 && livevec_series_size(&series).value == 1; }
+static bool is_series_ninth(void) { return series_edited.edit == 9 && livevec_series_edits(&series).value == 9; }
+static bool is_series_exchanged(void) { return series_edited.edit == SHARD + 2 && livevec_series_edits(&series).value == SHARD + 2; }
+static bool is_series_expired(void) { return is_series_exchanged() && livevec_series_first(&series).value == SHARD; }
+static bool is_series_pushed(void) { return series_pushed == 100 && livevec_series_size(&series).value == livevec_series_edits(&series).value; }
+static bool is_queries(void) { return livevec_watch(&queries, names[0], 3, LIVEVEC_SUM, 0, 8) == LIVEVEC_OK; }
+static bool is_watched(void) { return livevec_answer(&queries, &vector, names[1], 3).refusal == LIVEVEC_NO_HANDLE; }
+static bool is_unwatched(void) { return seen().query_refusal[0] == LIVEVEC_NO_SUCH_NAME; }
+static bool is_answered(void) { return answered.values.sum == 8 && answered.edit == 8; }
+static bool is_noted(void) { return noted.count == 1 && notes[0].values.sum == 8 && note() == LIVEVEC_OK && noted.count == 0; }
 static bool is_closed(void) { return closed.value == 1 && livevec_closed_get(&board, 0).value == 42; }
 
 static const struct {
@@ -137,6 +254,23 @@ static const struct {
     {"livevec_board_new", nothing, new_board, is_board},
     {"livevec_board_sit", with_board, sit, is_seat},
     {"livevec_board_close", pushed, close_board, is_closed},
+    {"livevec_push_many", eight, push_many, is_pushed_many},
+    {"livevec_write_many", eight, write_many, is_written_many},
+    {"livevec_series_new", nothing, new_series, is_series},
+    {"livevec_series_push, the first", with_series, series_push, is_series_first},
+    {"livevec_series_push_many from nothing", with_series, series_push_many, is_series_pushed},
+    {"livevec_series_push_many", sharded, series_push_many, is_series_pushed},
+    {"livevec_series_pop", eight_in_series, series_pop, is_series_ninth},
+    {"livevec_series_write", eight_in_series, series_write, is_series_ninth},
+    {"livevec_series_swap", eight_in_series, series_swap, is_series_ninth},
+    {"livevec_series_swap of two shards", sharded, series_exchange, is_series_exchanged},
+    {"livevec_series_truncate", eight_in_series, series_cut, is_series_ninth},
+    {"livevec_series_expire", sharded, series_expire, is_series_expired},
+    {"livevec_queries_new", nothing, new_queries, is_queries},
+    {"livevec_watch", with_queries, watch, is_watched},
+    {"livevec_unwatch", watched, unwatch, is_unwatched},
+    {"livevec_answer", watched, answer, is_answered},
+    {"livevec_notes", watched, note, is_noted},
 };
 
 int main(int count, char **words)
@@ -144,6 +278,8 @@ int main(int count, char **words)
     size_t row = count == 2 ? strtoul(words[1], NULL, 10) : SIZE_MAX;
     if (row >= sizeof rows / sizeof *rows)
         return 0;
+    for (size_t i = 0; i < sizeof ones / sizeof *ones; i++)
+        ones[i] = 1;
     rows[row].prepare();
     shown before = seen();
     /* tools/starved.c takes these two out of standard error, and counts requests between them */
