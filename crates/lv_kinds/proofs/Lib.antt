@@ -5,6 +5,7 @@ pub mod KeptLaws
 pub mod KindLaws
 mod KnowByLaws
 pub mod PushedLaws
+pub mod RenewLaws
 mod RunLaws
 pub mod ValueLaws
 pub mod WrittenLaws

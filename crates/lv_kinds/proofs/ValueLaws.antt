@@ -43,7 +43,7 @@ same_value blank blocks more of new n same =
     ]
 
 -- whether two numbers are one is the same the other way round
-eq-sym : (a b : ℕ) → nat_eq a b ≡ nat_eq b a
+pub eq-sym : (a b : ℕ) → nat_eq a b ≡ nat_eq b a
 eq-sym a b =
     elim (cases_eq a b) [
       | inl same ↦ eq-eqb a b same ∙ sym (eq-eqb b a (sym same))

@@ -4,4 +4,5 @@ pub mod KindSummaries
 pub mod Kinds
 pub mod NodeRows
 pub mod OfSixLaws
+pub mod Renewals
 pub mod Runs

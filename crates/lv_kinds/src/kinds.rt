@@ -1,12 +1,14 @@
 ghost use Rattle.std.specs.Prelude.{◌≡◌, ℕ, ℤ, ◌+◌, ◌≤◌, ◌++◌, ◌∷◌, [], true, false, Some, None, List, length, IfErr, IfOk, OnErr, OnOk};
 ghost use Rattle.std.specs.List.{list_any, range_with_len};
-ghost use Rattle.lv_geometry.specs.Nodes.{covers};
+ghost use Rattle.lv_geometry.specs.Nodes.{covers, is_node};
 ghost use Rattle.lv_geometry.specs.declared.nodes.Node.{Node};
 ghost use Rattle.lv_bodies.specs.Automata.{table_of};
 ghost use Rattle.lv_bodies.specs.Six.{six_operations_by};
 ghost use Rattle.lv_bodies.specs.declared.kinds.Kind.{Kind as OneKind};
 ghost use Rattle.lv_edits.specs.Batches.{with_edits, writes_at};
-ghost use Rattle.lv_edits.specs.History.{History, list_of};
+ghost use Rattle.lv_edits.specs.declared.edit.Edit.{Edit};
+ghost use Rattle.lv_edits.specs.declared.edit.Edit.TheVariants.{Write};
+ghost use Rattle.lv_edits.specs.History.{History, list_of, with_edit};
 ghost use Rattle.lv_edits.specs.Kept.{IsLegalInLimits};
 ghost use Rattle.lv_edits.specs.Pushes.{with_pushes};
 ghost use Rattle.lv_edits.specs.Touch.{touches};
@@ -19,11 +21,13 @@ ghost use Rattle.lv_live.specs.Written.{AreWritesAt};
 ghost use Rattle.lv_kinds.specs.Asked.{ArePartsFolds, CanAskBy, IsKindAnswer, LearnsBy};
 ghost use Rattle.lv_kinds.specs.Inner.{ClearsEach};
 ghost use Rattle.lv_kinds.specs.Kinds.{AreFolds, AreKept, ArePushesOf, HaveRoomFor, KeepsAlike, is_flagged, is_kept_by};
+ghost use Rattle.lv_kinds.specs.Renewals.{IsWriteOver};
 
 use crate::asking::ask_by;
 use crate::kind_summaries::KindSummary;
-use crate::node_rows::NodeRows;
+use crate::node_rows::{NodeRows, renew};
 use crate::of_six::OfSix;
+use crate::renewals::difference;
 use lv_bodies::{
     Affine, AffineMap, Automaton, Best, Body, Greatest, Kind, Least, RunTotals, SixSummary, Sum,
 };
@@ -116,6 +120,21 @@ impl Kinds {
         ensures remembers { (k : OneKind) (n : Node) → touches (list_of before.journal) edit.now n ≡ false → is_kept_by self.new k n ≡ is_kept_by self.old k n }
     {
         clear_each(&mut self.flags, touched_indices(edit, size));
+    }
+
+    /// Hears of a write that was accepted: sums take the difference to the element before, and stay kept; of the other kinds, what is
+    /// kept of the nodes that it touches is kept no longer.
+    #[inline]
+    pub fn follow_write(&mut self, index: u32, before: i64, x: i64)
+        ensures kept { (table : List (List ℕ)) (h : History) → IsWriteOver h index before → AreKept table h.journal self.old → AreKept table (with_edit h (Write index x)).journal self.new }
+        ensures remembers { (table : List (List ℕ)) (edits : List Edit) → AreKept table edits self.old → (k : OneKind) (n : Node) → is_node n ≡ true → covers n index ≡ false → is_kept_by self.new k n ≡ is_kept_by self.old k n }
+    {
+        renew(
+            &mut self.flags,
+            &mut self.sums,
+            index,
+            difference(before, x),
+        );
     }
 
     /// Hears of so many pushes, from an index on, that were accepted: what is kept of the nodes that they touch is kept no longer. The

@@ -3,7 +3,9 @@ ghost use Rattle.std.specs.List.{slice_index_or};
 ghost use Rattle.lv_geometry.specs.Nodes.{child, is_below, is_node};
 ghost use Rattle.lv_kinds.specs.Inner.{HaveMemory, HaveSameItems};
 ghost use Rattle.lv_kinds.specs.NodeRows.{ClearsNodes, HasSameValues, PutsValue, value_at};
+ghost use Rattle.lv_kinds.specs.Renewals.{RenewsNodes};
 
+use crate::renewals::renew_levels;
 use lv_geometry::{Levels, Node, Refusal, rows_of};
 use std::alloc::Global;
 use std::marker::Model;
@@ -150,6 +152,17 @@ impl<T: Copy> NodeRows<T> {
     }
 }
 
+/// Adds to the sum of each node that has index `i`, and leaves the bit of sums alone there; where none was written it clears the byte.
+#[inline(always)]
+pub fn renew(bytes: &mut NodeRows<u8>, sums: &mut NodeRows<u64>, i: u32, more: u64)
+    ensures renews { bytes.old.blank ≡ 0 → RenewsNodes bytes.old bytes.new sums.old sums.new i more }
+    ensures blank { bytes.new.blank ≡ bytes.old.blank }
+    ensures bytes_blocks { bytes.new.blocks ≡ bytes.old.blocks }
+    ensures sums_blocks { sums.new.blocks ≡ sums.old.blocks }
+{
+    renew_levels(&mut bytes.levels, &mut sums.levels, i, more);
+}
+
 // Makes memory for so many values on each level. No value changes.
 fn reserve_levels<T: Copy>(levels: &mut Levels<Vec<T>>, rows: &Levels<u32>) -> Result<(), Refusal>
     ensures items { HaveSameItems levels.old levels.new }
@@ -253,7 +266,7 @@ fn lengthen<T: Copy>(values: &mut Vec<T>, count: usize, blank: T)
 
 // Puts a blank at a number, where a value was written.
 #[inline(always)]
-fn erase<T: Copy>(values: &mut Vec<T>, number: u32, blank: T)
+pub(crate) fn erase<T: Copy>(values: &mut Vec<T>, number: u32, blank: T)
     ensures values { (n : ℕ) → slice_index_or values.new.items n blank ≡ (if nat_eq n number then blank else slice_index_or values.old.items n blank) }
     ensures capacity { vec_capacity values.old ≤ vec_capacity values.new }
 {

@@ -1,0 +1,21 @@
+use Rattle.std.proofs.Common.{ap, nat_eq, w64}
+use Rattle.std.proofs.lemmas.Int.{to_z-of_z}
+use Rattle.std.specs.Int.{bit_at}
+use Rattle.lv_kinds.specs.Kinds.{KindsState, bit_of}
+use Rattle.lv_kinds.specs.Renewals.{IsDifference}
+use Rattle.lv_kinds.proofs.RenewLaws.{AreKept-renewed}
+use Rattle.lv_kinds.proofs.kinds.Kinds.follow_write.Goals as goal
+
+pub returns-clause-kept : goal.returns-clause-kept
+returns-clause-kept c table h over kept =
+    let i = c.self.inside in
+    let s : KindsState = record { flags = i.flags; sums = i.sums; least = i.least; greatest = i.greatest; best = i.best; maps = i.maps; states = i.states } in
+    let before = rw (← c.self.view_is) at kept in
+    let difference : IsDifference c.args.before c.args.x c.difference.result =
+    rw (to_z-of_z w64 c.args.before c.ranges.before, to_z-of_z w64 c.args.x c.ranges.x) at c.difference.ensures in
+    AreKept-renewed table h c.args.index c.args.before c.args.x c.difference.result s c.renew.new.bytes c.renew.new.sums over difference (c.renew.ensures.renews before.blank) c.renew.ensures.blank c.renew.ensures.bytes_blocks c.renew.ensures.sums_blocks before
+
+pub returns-clause-remembers : goal.returns-clause-remembers
+returns-clause-remembers c table edits kept k n member away =
+    let before = rw (← c.self.view_is) at kept in
+    rw (← c.self.view_is) (ap (λ byte. nat_eq (bit_at byte (bit_of k)) 1) ((c.renew.ensures.renews before.blank).apart n member away))
