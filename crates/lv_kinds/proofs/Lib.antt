@@ -4,6 +4,7 @@ mod BitLaws
 pub mod KeptLaws
 pub mod KindLaws
 mod KnowByLaws
+mod MadeLaws
 pub mod PushedLaws
 pub mod RenewLaws
 mod RunLaws

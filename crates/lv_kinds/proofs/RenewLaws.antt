@@ -1,5 +1,5 @@
 -- What is kept after a write that sums have taken the difference of.
-use Rattle.std.proofs.Common.{◌≡◌, ℕ, ℤ, pos, suc, zero, ◌+◌, ◌-◌, ◌*◌, ◌/◌, ◌%◌, ◌^◌, ◌+ℤ◌, ◌<◌, ◌≤◌, ◌⊎◌, true, false, Bool, Some, List, [], ◌∷◌, ◌++◌, length, take, drop, fold, slice_set, nat_eq, vec_capacity, refl, sym, ap, subst, ◌∙◌, inl, inr, arith}
+use Rattle.std.proofs.Common.{◌≡◌, ℕ, ℤ, pos, suc, zero, ◌+◌, ◌-◌, ◌*◌, ◌/◌, ◌%◌, ◌^◌, ◌+ℤ◌, ◌<◌, ◌≤◌, true, false, List, [], ◌∷◌, ◌++◌, length, take, drop, fold, slice_set, nat_eq, vec_capacity, refl, sym, ap, subst, ◌∙◌, inl, inr, arith}
 use Rattle.std.specs.Global.{Vec}
 use Rattle.std.specs.Int.{bit_at}
 use Rattle.std.specs.List.{slice_index_or}
@@ -7,7 +7,7 @@ use Rattle.std.proofs.Math.Nat.{div-mul-le_self, lt-div-mul-add, mul-le-mul_righ
 use Rattle.std.proofs.Math.Seq.{take-set-lt}
 use Rattle.std.proofs.lemmas.Bool.{and_parts, cases_Bool, eqb-true, true≢false}
 use Rattle.std.proofs.lemmas.Int.{ints}
-use Rattle.std.proofs.lemmas.List.{drop-set-add, get_or-drop, get_or-take, length-drop, length-set, length-take}
+use Rattle.std.proofs.lemmas.List.{drop-set-add, get_or-drop, get_or-take, length-drop, length-take}
 use Rattle.std.proofs.lemmas.Nat.Bits.{bit_at_above, bit_at_lowest}
 use Rattle.lv_geometry.specs.declared.levels.Levels.{Levels}
 use Rattle.lv_geometry.specs.declared.nodes.Node.{Node}
@@ -23,9 +23,8 @@ use Rattle.lv_bodies.specs.RunTotals.{best_operations}
 use Rattle.lv_bodies.specs.SumLaws.{fold_of-sum}
 use Rattle.lv_bodies.specs.Sums.{sum_operations}
 use Rattle.lv_bodies.specs.Tables.{automaton_operations}
-use Rattle.lv_edits.specs.declared.edit.Edit.{Edit}
 use Rattle.lv_edits.specs.declared.edit.Edit.TheVariants.{Write}
-use Rattle.lv_edits.specs.History.{History, list_of, with_edit}
+use Rattle.lv_edits.specs.History.{History, list_of}
 use Rattle.lv_edits.specs.Touch.{elements_under, is_whole, touches}
 use Rattle.lv_edits.proofs.HistoryLaws.{applied_write, list_of-snoc}
 use Rattle.lv_edits.proofs.TouchLaws.{touches_there, untouched_keeps, whole_below, whole_from}
@@ -35,7 +34,7 @@ use Rattle.lv_kinds.specs.Kinds.{AreFolds, AreKept, HaveRoomFor, KindsState, is_
 use Rattle.lv_kinds.specs.NodeRows.{NodeRowsState, value_at}
 use Rattle.lv_kinds.specs.Renewals.{IsDifference, IsWriteOver, RenewsLevel, RenewsLevels, RenewsNodes}
 use Rattle.lv_kinds.proofs.KeptLaws.{unflagged}
-use Rattle.lv_kinds.proofs.ValueLaws.{eq-sym, value_of_node}
+use Rattle.lv_kinds.proofs.ValueLaws.{eq-sym, value_of_node, value_of_none}
 
 -- a sum that begins with more ends with more
 begun_with : (xs : List ℤ) (a b d : ℤ) → a +ℤ d ≡ b → fold ◌+ℤ◌ a xs +ℤ d ≡ fold ◌+ℤ◌ b xs
@@ -182,6 +181,14 @@ module _ (h : History) (i : ℕ) (before x : ℤ) (more : ℕ) (over : IsWriteOv
         ]
         | inr away ↦ renews.sums_apart n member away ∙ apart_keeps sum_operations 0 sums folds n whole away flagged
       ]
+
+-- a node that doesn't have the index keeps its byte, and what is no node has a blank
+pub byte_apart : (bytes new sums renewed : NodeRowsState ℕ) (i more : ℕ) (n : Node) → new.blank ≡ bytes.blank → RenewsNodes bytes new sums renewed i more → covers n i ≡ false → value_at new n ≡ value_at bytes n
+byte_apart bytes new sums renewed i more n blank renews away =
+    elim (cases_Bool (is_node n)) [
+      | inl member ↦ renews.apart n member away
+      | inr none ↦ value_of_none new n none ∙ blank ∙ sym (value_of_none bytes n none)
+    ]
 
 -- so it is with all that is kept
 pub AreKept-renewed : (table : List (List ℕ)) (h : History) (i : ℕ) (before x : ℤ) (more : ℕ) (s : KindsState) (new renewed : NodeRowsState ℕ) → IsWriteOver h i before → IsDifference before x more → RenewsNodes s.flags new s.sums renewed i more → new.blank ≡ s.flags.blank → new.blocks ≡ s.flags.blocks → renewed.blocks ≡ s.sums.blocks

@@ -12,7 +12,7 @@ ghost use Rattle.lv_edits.specs.History.{History, list_of, with_edit};
 ghost use Rattle.lv_edits.specs.Kept.{IsLegalInLimits};
 ghost use Rattle.lv_edits.specs.Pushes.{with_pushes};
 ghost use Rattle.lv_edits.specs.Touch.{touches};
-ghost use Rattle.lv_edits.specs.Verdict.{verdict_of};
+ghost use Rattle.lv_edits.specs.Verdict.{receipt_of, verdict_of};
 ghost use Rattle.lv_known.specs.Agrees.{Agrees};
 ghost use Rattle.lv_reduce.specs.Answer.{range_refusal};
 ghost use Rattle.lv_reduce.specs.Asked.{AreTopsKnown};
@@ -31,7 +31,7 @@ use crate::renewals::difference;
 use lv_bodies::{
     Affine, AffineMap, Automaton, Best, Body, Greatest, Kind, Least, RunTotals, SixSummary, Sum,
 };
-use lv_edits::Edit;
+use lv_edits::{Edit, Receipt};
 use lv_geometry::Refusal;
 use lv_live::{Touched, touched_indices};
 use lv_reduce::View;
@@ -127,7 +127,7 @@ impl Kinds {
     #[inline]
     pub fn follow_write(&mut self, index: u32, before: i64, x: i64)
         ensures kept { (table : List (List ℕ)) (h : History) → IsWriteOver h index before → AreKept table h.journal self.old → AreKept table (with_edit h (Write index x)).journal self.new }
-        ensures remembers { (table : List (List ℕ)) (edits : List Edit) → AreKept table edits self.old → (k : OneKind) (n : Node) → is_node n ≡ true → covers n index ≡ false → is_kept_by self.new k n ≡ is_kept_by self.old k n }
+        ensures remembers { (table : List (List ℕ)) (edits : List Edit) → AreKept table edits self.old → (k : OneKind) (n : Node) → covers n index ≡ false → is_kept_by self.new k n ≡ is_kept_by self.old k n }
     {
         renew(
             &mut self.flags,
@@ -135,6 +135,27 @@ impl Kinds {
             index,
             difference(before, x),
         );
+    }
+
+    /// Hears of an edit that was accepted by a vector of this size, and answered so: after a write sums stay kept; else what is kept of
+    /// the nodes that it touches is kept no longer. The room for what the vector then has is there.
+    #[inline]
+    pub fn follow_made(&mut self, edit: &Edit, receipt: &Receipt, size: u32)
+        ghost before: { History }
+        requires legal { IsLegalInLimits before }
+        requires accepted { verdict_of before.limits before.journal edit.now ≡ None }
+        requires answered { receipt.now ≡ receipt_of before.journal edit.now }
+        requires size { size ≡ length (list_of before.journal) }
+        requires room { HaveRoomFor self.old (length (list_of (before.journal ++ edit.now ∷ []))) }
+        ensures kept { (table : List (List ℕ)) → AreKept table before.journal self.old → AreKept table (before.journal ++ edit.now ∷ []) self.new }
+        ensures remembers { (table : List (List ℕ)) → AreKept table before.journal self.old → (k : OneKind) (n : Node) → touches (list_of before.journal) edit.now n ≡ false → is_kept_by self.new k n ≡ is_kept_by self.old k n }
+    {
+        match (edit, receipt) {
+            (Edit::Write { index, value }, Receipt::Written { before, .. }) => {
+                self.follow_write(*index, *before, *value);
+            }
+            _ => self.follow(edit, size),
+        }
     }
 
     /// Hears of so many pushes, from an index on, that were accepted: what is kept of the nodes that they touch is kept no longer. The

@@ -34,7 +34,7 @@ pub fn make(live: &mut Live<Six>, kinds: &mut Kinds, edit: Edit) -> Result<Recei
         return Err(Refusal::NoMemory);
     };
     let receipt = live.make(edit)?;
-    kinds.follow(&edit, size);
+    kinds.follow_made(&edit, &receipt, size);
     Ok(receipt)
 }
 

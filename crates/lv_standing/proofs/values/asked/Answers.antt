@@ -1,9 +1,4 @@
 -- Proof of `asked`: the value of a kind over a range; what is computed for it is kept by that kind.
-use Rattle.std.proofs.Common.{sym, subst, IfOk}
-use Rattle.lv_bodies.specs.declared.kinds.Kind.{Kind}
-use Rattle.lv_reduce.specs.Asked.{AreTopsKnown}
-use Rattle.lv_kinds.specs.Kinds.{is_kept_by}
-use Rattle.lv_standing.specs.Queries.{IsValue}
 use Rattle.lv_standing.proofs.values.asked.Goals as goal
 
 pub returns-in-Sum-clause-ok : goal.returns-in-Sum-clause-ok

@@ -3,7 +3,7 @@ use Rattle.std.proofs.lemmas.Int.{to_z-of_z}
 use Rattle.std.specs.Int.{bit_at}
 use Rattle.lv_kinds.specs.Kinds.{KindsState, bit_of}
 use Rattle.lv_kinds.specs.Renewals.{IsDifference}
-use Rattle.lv_kinds.proofs.RenewLaws.{AreKept-renewed}
+use Rattle.lv_kinds.proofs.RenewLaws.{AreKept-renewed, byte_apart}
 use Rattle.lv_kinds.proofs.kinds.Kinds.follow_write.Goals as goal
 
 pub returns-clause-kept : goal.returns-clause-kept
@@ -16,6 +16,7 @@ returns-clause-kept c table h over kept =
     AreKept-renewed table h c.args.index c.args.before c.args.x c.difference.result s c.renew.new.bytes c.renew.new.sums over difference (c.renew.ensures.renews before.blank) c.renew.ensures.blank c.renew.ensures.bytes_blocks c.renew.ensures.sums_blocks before
 
 pub returns-clause-remembers : goal.returns-clause-remembers
-returns-clause-remembers c table edits kept k n member away =
+returns-clause-remembers c table edits kept k n away =
     let before = rw (← c.self.view_is) at kept in
-    rw (← c.self.view_is) (ap (λ byte. nat_eq (bit_at byte (bit_of k)) 1) ((c.renew.ensures.renews before.blank).apart n member away))
+    let i = c.self.inside in
+    rw (← c.self.view_is) (ap (λ byte. nat_eq (bit_at byte (bit_of k)) 1) (byte_apart i.flags c.renew.new.bytes i.sums c.renew.new.sums c.args.index c.difference.result n c.renew.ensures.blank (c.renew.ensures.renews before.blank) away))
