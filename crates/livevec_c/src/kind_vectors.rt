@@ -7,7 +7,7 @@ ghost use Rattle.lv_edits.specs.Batches.{AnswersEdits, writes_at};
 ghost use Rattle.lv_edits.specs.History.{History, list_of, with_edit};
 ghost use Rattle.lv_edits.specs.Kept.{IsLegalInLimits};
 ghost use Rattle.lv_edits.specs.Pushes.{AnswersAll};
-ghost use Rattle.lv_edits.specs.Verdict.{Answers, verdict_of};
+ghost use Rattle.lv_edits.specs.Verdict.{Answers, receipt_of, verdict_of};
 ghost use Rattle.lv_refresh.specs.Claim.{IsNextJob};
 ghost use Rattle.lv_refresh.specs.Delivery.{delivery_of};
 ghost use Rattle.lv_refresh.specs.Honesty.{IsHonest, Vouched};
@@ -66,18 +66,30 @@ fn size_after(edit: &Edit, size: u32) -> u32
     }
 }
 
-// Has what is kept by kind follow the edit that a vector, which was of this size, has just made.
-fn follow_edit(live: &Live<SixByTable>, kinds: &mut Kinds, edit: &Edit, size: u32)
+// Has what is kept by kind follow the edit that a vector, which was of this size, has just made, and which was answered so.
+fn follow_edit(
+    live: &Live<SixByTable>,
+    kinds: &mut Kinds,
+    edit: &Edit,
+    receipt: &Receipt,
+    size: u32,
+)
     ghost before: { History }
     requires legal { IsLegalInLimits before }
     requires accepted { verdict_of before.limits before.journal edit.now ≡ None }
     requires size { size ≡ length (list_of before.journal) }
     requires made { live.now.history ≡ with_edit before edit.now }
+    requires answered { receipt.now ≡ receipt_of before.journal edit.now }
     requires room { HaveRoomFor kinds.old (length (list_of live.now.history.journal)) }
     requires kept { AreKept (table_of live.now.body.automaton) before.journal kinds.old }
     ensures { AreKept (table_of live.now.body.automaton) live.now.history.journal kinds.new }
 {
-    kinds.follow(edit, size);
+    match (edit, receipt) {
+        (Edit::Write { index, value }, Receipt::Written { before, .. }) => {
+            kinds.follow_write(*index, *before, *value);
+        }
+        _ => kinds.follow(edit, size),
+    }
 }
 
 // Makes an edit that the verdict allows, and has what is kept by kind follow it. Room for what may be asked after it is made before
@@ -102,7 +114,7 @@ fn make_beside(
         Ok(()) => match live.make(edit) {
             Err(refusal) => Err(refusal),
             Ok(receipt) => {
-                follow_edit(live, kinds, &edit, size);
+                follow_edit(live, kinds, &edit, &receipt, size);
                 Ok(receipt)
             }
         },
@@ -178,6 +190,7 @@ impl KindVector {
 
     /// The summary by a kind of the elements from index `lo` up to `hi`, with the number of the last edit. What is computed for it is
     /// kept by that kind alone. Refused with `BadRange`, then `OutOfRange`. Takes no memory.
+    #[inline(always)]
     pub fn value(&mut self, kind: Kind, lo: u32, hi: u32) -> Result<KindAnswer, Refusal>
         ensures ok { IfOk result (λ answer. IsKindAnswer (table_of self.old.body.automaton) self.old.history.journal kind lo hi answer) }
         ensures err { IfErr result (λ refusal. range_refusal self.old.history.journal lo hi ≡ Some refusal) }

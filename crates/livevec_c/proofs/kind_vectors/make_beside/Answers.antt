@@ -2,7 +2,7 @@ use Rattle.std.proofs.Common.{◌≡◌, ◌≤◌, None, length, subst, sym}
 use Rattle.lv_bodies.specs.Automata.{table_of}
 use Rattle.lv_edits.specs.History.{list_of, with_edit}
 use Rattle.lv_edits.specs.Kept.{IsLegalInLimits}
-use Rattle.lv_edits.specs.Verdict.{verdict_of}
+use Rattle.lv_edits.specs.Verdict.{receipt_of, verdict_of}
 use Rattle.lv_kinds.specs.Kinds.{AreKept}
 use Rattle.livevec_c.proofs.KindVectorLaws.{before_edit, kept_alike, kept_of_same, room_for_fewer, room_is_allowed, size_fits}
 use Rattle.livevec_c.proofs.kind_vectors.make_beside.Goals as goal
@@ -30,7 +30,7 @@ follow_edit-requires c =
         subst (λ b. verdict_of b.limits b.journal e ≡ None) is c.requires.free,
         (
           subst (λ b. size ≡ length (list_of b.journal)) is c.size-size.ensures,
-          (subst (λ b. new.history ≡ with_edit b e) is journal, (asked, subst (λ b. AreKept (table_of new.body.automaton) b.journal kinds) is kept_now)),
+          (subst (λ b. new.history ≡ with_edit b e) is journal, (subst (λ b. c.in-Ok-make.receipt ≡ receipt_of b.journal e) is c.in-Ok-make.ensures.answer.receipt_is, (asked, subst (λ b. AreKept (table_of new.body.automaton) b.journal kinds) is kept_now))),
         ),
       ),
     )
