@@ -121,7 +121,7 @@ plant: ## looks for wrong bodies that contracts let through, of CRATE=.. or of a
 	@tools/timed plant-$(CRATE) "plants wrong bodies, a crate at a time" "up to 60 min a crate" tools/tried plant $(CRATE)
 
 soak: ## hard use: millions of lines, many threads, strange bytes, kills, refused memory
-	@tools/timed soak "tries hard use, part by part" "5 to 12 min, once its programs are proved" tools/soak
+	@tools/timed soak "tries hard use, part by part" "5 to 13 min, once its programs are proved" tools/soak
 
 bench: build ## times it beside plain Rust, and makes the tables and the picture of the pages
 	@tools/timed bench "times livevec beside plain Rust, a line for each pair" "some 15 min, once its two programs are proved" bench/run
