@@ -8,8 +8,8 @@ use Rattle.std.proofs.lemmas.Simd.{map-map}
 use mathlib.Core.List.{IsPrefix}
 use Rattle.lv_geometry.specs.Bounds.{Bounds}
 use Rattle.lv_hub.specs.PlainSession.{Seen}
-use Rattle.lv_hub.specs.Session.{SessionState}
-use Rattle.lv_hub.proofs.PlainSessionLaws.{kept_by, session_plain}
+use Rattle.lv_hub.specs.Session.{SessionState, kept_by}
+use Rattle.lv_hub.proofs.PlainSessionLaws.{session_plain}
 use Rattle.livevec.specs.PlainServed.{AreHeldPlainly, ServedPlainly}
 use Rattle.livevec.specs.Served.{AreHeld, Served, Sides, counted_by, ended_well, new_session}
 

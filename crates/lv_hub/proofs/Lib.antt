@@ -1,5 +1,5 @@
+-- Names the files of lemmas of `lv_hub`.
 mod AcceptedLaws
-mod AskedLaws
 mod MinuteLaws
 mod NoteLaws
 mod OrderLaws

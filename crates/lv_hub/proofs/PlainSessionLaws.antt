@@ -12,7 +12,6 @@ use Rattle.lv_geometry.specs.declared.refusals.Refusal.{Refusal}
 use Rattle.lv_geometry.specs.declared.refusals.Refusal.TheVariants.{NoMemory}
 use Rattle.lv_bodies.specs.declared.kinds.Kind.{Kind}
 use Rattle.lv_bodies.specs.declared.kinds.Shown.{Shown}
-use Rattle.lv_bodies.specs.declared.sixes.Six.{Six}
 use Rattle.lv_bodies.specs.Body.{CanFold, fold_of}
 use Rattle.lv_bodies.specs.Plain.{plain_value, program_table}
 use Rattle.lv_bodies.specs.Six.{SixSummary, face_of, six_operations}
@@ -23,7 +22,7 @@ use Rattle.lv_edits.specs.History.{list_of}
 use Rattle.lv_edits.specs.Kept.{IsLegalInLimits}
 use Rattle.lv_reduce.specs.declared.reductions.Answer.{Answer}
 use Rattle.lv_reduce.specs.declared.scans.Scan.{Scan}
-use Rattle.lv_reduce.specs.Answer.{IsAnswer, IsScanRefusal, range_refusal, scan_of, slice_of}
+use Rattle.lv_reduce.specs.Answer.{IsAnswer, scan_of, slice_of}
 use Rattle.lv_lines.specs.declared.command.Command.{Command}
 use Rattle.lv_lines.specs.declared.command.Command.TheVariants as command
 use Rattle.lv_lines.specs.declared.command.Line.{Line}
@@ -31,15 +30,16 @@ use Rattle.lv_lines.specs.declared.command.Line.TheVariants.{Nothing, Bad, Do}
 use Rattle.lv_lines.specs.declared.fault.Fault.{Fault}
 use Rattle.lv_lines.specs.Grammar.{line_of}
 use Rattle.lv_lines.specs.Replies.{Answered, Conversed}
-use Rattle.lv_lines.specs.Texts.{answer_text, receipt_text, refused_text, scan_text}
+use Rattle.lv_lines.specs.Texts.{answer_text, bad_text, receipt_text, refused_text, scan_text}
 use Rattle.lv_lines.proofs.Conversing.{conversed_as}
 use Rattle.lv_script.specs.PlainScript.{Plain, after, plain_after, plain_reply, refusal_of, reply_of, scan_by}
 use Rattle.lv_script.specs.Script.{edit_text}
-use Rattle.lv_hub.specs.Session.{Lists, SessionCommandAnswer, SessionLineAnswer, SessionState, SessionStep, having_counted, scan_reply_text, up_to}
+use Rattle.lv_hub.specs.Replying.{ListsAnswer, SessionCommandAnswer, SessionLineAnswer, TellsLine, having_counted, scan_reply_text, up_to}
+use Rattle.lv_hub.specs.Session.{IsWithin, Lists, SessionState, SessionStep, kept_by}
 use Rattle.lv_hub.specs.PlainSession.{FindsNoMemory, IsTrueReply, PlainSessionStep, Seen, TrueReply, known_of, plain_at, seen_after, session_line_of}
 use Rattle.lv_hub.specs.Told.{EditTold, ReductionTold, ScanTold, history_of}
 use Rattle.lv_hub.proofs.PrefixLaws.{prefix_length, prefix_self, prefix_trans}
-use Rattle.lv_hub.proofs.TruthLaws.{slice_folds}
+use Rattle.lv_hub.proofs.TruthLaws.{edit_lists_nothing, slice_folds}
 
 -- ---- values
 
@@ -56,10 +56,6 @@ scan_values kind true xs can =
 scan_values kind false xs can =
     map-map (face_of kind) (λ i. fold_of six_operations (take i xs)) (range_with_len 0 (length xs)) ∙ (λ j. map (λ i. front_value kind xs can i j) (range_with_len 0 (length xs)))
 
--- what a session's state keeps
-abbrev pub kept_by : SessionState → Seen
-kept_by s = record { edits = s.seen; made = s.count }
-
 -- a list has its beginning as its first elements
 prefix_take : (xs ys : List Edit) → IsPrefix xs ys → take (length xs) ys ≡ xs
 prefix_take xs ys more = ap (take (length xs)) (sym more.1) ∙ take-append-le (length xs) xs more.0 (omega arith) ∙ take_all (length xs) xs (omega arith)
@@ -73,37 +69,38 @@ one_made : (old : Seen) (edits : List Edit) (e : Edit) → seen_after old edits 
 one_made old edits e = ap (λ made. record { edits = edits ++ e ∷ []; made = made }) (omega (arith, length-append edits (e ∷ [])))
 
 module _ (limits : Bounds) where
-  -- one line, by what it says
-  abbrev PlainSessionLine : Seen → ℕ → Line → List ℕ → Seen → Type 0
-  PlainSessionLine old n line text new =
-      (before : List Edit) × IsPrefix old.edits before
-      × (((text ≡ plain_reply [] (plain_at limits before) n line) × (new ≡ seen_after old before (plain_after (plain_at limits before) line).edits))
-      ⊎ (FindsNoMemory (plain_at limits before) line text × (new ≡ seen_after old before before)))
+  -- one line, by what it says, where the hub had come to some edits
+  abbrev PlainAt : List Edit → Seen → ℕ → Line → List ℕ → Seen → Type 0
+  PlainAt before old n line text new =
+      ((text ≡ plain_reply [] (plain_at limits before) n line) × (new ≡ seen_after old before (plain_after (plain_at limits before) line).edits))
+      ⊎ (FindsNoMemory (plain_at limits before) line text × (new ≡ seen_after old before before))
+
+  -- so it was answered, and listed
+  record SaidLine (old : SessionState) (n : ℕ) (line : Line) (text : List ℕ) (new : SessionState) : Type 0 where
+    before : List Edit
+    grown : IsPrefix old.seen before
+    answer : PlainAt before (kept_by old) n line text (kept_by new)
+    within : IsWithin limits old before line new
+    lists : Lists before line text old.claims new.claims
 
   -- a command that nothing refuses
-  granted : (old new : Seen) (before : List Edit) (n : ℕ) (c : Command) (text : List ℕ) → IsPrefix old.edits before → refusal_of (plain_at limits before) c ≡ None → text ≡ reply_of [] (plain_at limits before) c
-      → new ≡ seen_after old before (after (plain_at limits before) c).edits → PlainSessionLine old n (Do c) text new
-  granted old new before n c text grown free is then =
-      let s = plain_at limits before in (
-        before,
-        grown,
-        inl (is ∙ ap (λ o. option_map_or refused_text o (reply_of [] s c)) (sym free), then ∙ ap (λ o. seen_after old before (option_map_or (λ refusal. s) o (after s c)).edits) (sym free)),
-      )
+  granted : (old new : Seen) (before : List Edit) (n : ℕ) (c : Command) (text : List ℕ) → refusal_of (plain_at limits before) c ≡ None → text ≡ reply_of [] (plain_at limits before) c
+      → new ≡ seen_after old before (after (plain_at limits before) c).edits → PlainAt before old n (Do c) text new
+  granted old new before n c text free is then =
+      let s = plain_at limits before in
+      inl (is ∙ ap (λ o. option_map_or refused_text o (reply_of [] s c)) (sym free), then ∙ ap (λ o. seen_after old before (option_map_or (λ refusal. s) o (after s c)).edits) (sym free))
 
   -- one that is refused
-  refused : (old new : Seen) (before : List Edit) (n : ℕ) (c : Command) (text : List ℕ) (refusal : Refusal) → IsPrefix old.edits before → refusal_of (plain_at limits before) c ≡ Some refusal → text ≡ refused_text refusal
-      → new ≡ seen_after old before before → PlainSessionLine old n (Do c) text new
-  refused old new before n c text refusal grown why is same =
-      let s = plain_at limits before in (
-        before,
-        grown,
-        inl (is ∙ ap (λ o. option_map_or refused_text o (reply_of [] s c)) (sym why), same ∙ ap (λ o. seen_after old before (option_map_or (λ refusal. s) o (after s c)).edits) (sym why)),
-      )
+  refused : (old new : Seen) (before : List Edit) (n : ℕ) (c : Command) (text : List ℕ) (refusal : Refusal) → refusal_of (plain_at limits before) c ≡ Some refusal → text ≡ refused_text refusal
+      → new ≡ seen_after old before before → PlainAt before old n (Do c) text new
+  refused old new before n c text refusal why is same =
+      let s = plain_at limits before in
+      inl (is ∙ ap (λ o. option_map_or refused_text o (reply_of [] s c)) (sym why), same ∙ ap (λ o. seen_after old before (option_map_or (λ refusal. s) o (after s c)).edits) (sym why))
 
   -- one that was refused for want of memory
-  wanting : (old new : Seen) (before : List Edit) (n : ℕ) (c : Command) (text : List ℕ) → IsPrefix old.edits before → refusal_of (plain_at limits before) c ≡ None → text ≡ refused_text NoMemory → new ≡ seen_after old before before
-      → PlainSessionLine old n (Do c) text new
-  wanting old new before n c text grown free is same = (before, grown, inr ((free, is), same))
+  wanting : (old new : Seen) (before : List Edit) (n : ℕ) (c : Command) (text : List ℕ) → refusal_of (plain_at limits before) c ≡ None → text ≡ refused_text NoMemory → new ≡ seen_after old before before
+      → PlainAt before old n (Do c) text new
+  wanting old new before n c text free is same = inr ((free, is), same)
 
   -- a state that only has seen more, or counts one edit more
   seen_more : (old new : SessionState) (edits : List Edit) → new.seen ≡ edits → new.count ≡ old.count → kept_by new ≡ seen_after (kept_by old) edits edits
@@ -113,71 +110,121 @@ module _ (limits : Bounds) where
   counted_more old new edits e seen count = (λ i. record { edits = seen i; made = count i }) ∙ sym (one_made (kept_by old) edits e)
 
   -- an edit
-  edit_plain : (old new : SessionState) (n : ℕ) (e : Edit) (text : List ℕ) (result : Result Receipt Refusal) → EditTold limits old.seen new.seen e result → text ≡ edit_text result
-      → new ≡ having_counted (up_to old new.seen) result → PlainSessionLine (kept_by old) n (Do (command.Edit e)) text (kept_by new)
+  edit_plain : (old new : SessionState) (n : ℕ) (e : Edit) (text : List ℕ) (result : Result Receipt Refusal) → (told : EditTold limits old.seen new.seen e result) → text ≡ edit_text result
+      → new ≡ having_counted (up_to old new.seen) result → PlainAt told.before (kept_by old) n (Do (command.Edit e)) text (kept_by new)
   edit_plain old new n e text (Ok receipt) told is state =
-      granted (kept_by old) (kept_by new) told.before n (command.Edit e) text told.seen told.answers.verdict
+      granted (kept_by old) (kept_by new) told.before n (command.Edit e) text told.answers.verdict
       (is ∙ ap receipt_text told.answers.receipt_is ∙ sym (append-nil _)) (counted_more old new told.before e (ap (λ h. h.journal) told.answers.journal) (ap (λ s. s.count) state))
   edit_plain old new n e text (Err refusal) told is state =
       let same = seen_more old new told.before (ap (λ h. h.journal) told.answers.same) (ap (λ s. s.count) state) in
       elim told.answers.verdict [
-        | inl why ↦ refused (kept_by old) (kept_by new) told.before n (command.Edit e) text refusal told.seen why is same
-        | inr want ↦ wanting (kept_by old) (kept_by new) told.before n (command.Edit e) text told.seen want.0 (is ∙ ap refused_text want.1) same
+        | inl why ↦ refused (kept_by old) (kept_by new) told.before n (command.Edit e) text refusal why is same
+        | inr want ↦ wanting (kept_by old) (kept_by new) told.before n (command.Edit e) text want.0 (is ∙ ap refused_text want.1) same
       ]
 
+  edit_said : (old new : SessionState) (n : ℕ) (e : Edit) (text : List ℕ) (result : Result Receipt Refusal) → EditTold limits old.seen new.seen e result → text ≡ edit_text result
+      → new ≡ having_counted (up_to old new.seen) result → SaidLine old n (Do (command.Edit e)) text new
+  edit_said old new n e text result told is state = record {
+    before = told.before;
+    grown = told.seen;
+    answer = edit_plain old new n e text result told is state;
+    within = told.within;
+    lists = ap (λ s. s.claims) state ∙ edit_lists_nothing (up_to old new.seen) result;
+  }
+
   -- a reduction
-  reduction_plain : (old new : SessionState) (n : ℕ) (kind : Kind) (lo hi : ℕ) (text : List ℕ) (result : Result (Answer SixSummary) Refusal) → ReductionTold Six six_operations limits old.seen new.seen lo hi result
-      → Lists (up_to old new.seen) kind lo hi result text new → PlainSessionLine (kept_by old) n (Do (command.Reduce kind lo hi)) text (kept_by new)
-  reduction_plain old new n kind lo hi text (Ok answer) told lists =
-      let is : IsAnswer six_operations new.seen lo hi answer = subst (λ es. IsAnswer six_operations es lo hi answer) told.live.edits_are told.reduces.0 in
+  reduction_said : (old new : SessionState) (n : ℕ) (kind : Kind) (lo hi : ℕ) (text : List ℕ) (result : Result (Answer SixSummary) Refusal) → ReductionTold six_operations limits old.seen new.seen lo hi result
+      → ListsAnswer (up_to old new.seen) kind lo hi result text new → SaidLine old n (Do (command.Reduce kind lo hi)) text new
+  reduction_said old new n kind lo hi text (Ok answer) told lists =
+      let is : IsAnswer six_operations new.seen lo hi answer = told.answered in
       let value = face_of-fold program_table kind answer.value (slice_of new.seen lo hi) (slice_folds limits new.seen lo hi told.within) is.value in
       elim lists [
         | inl listed ↦
-            granted (kept_by old) (kept_by new) new.seen n (command.Reduce kind lo hi) text told.seen is.granted
-            (listed.0 ∙ ap₂ (λ edit shown. answer_text edit kind shown) is.edit value) (seen_more old new new.seen refl (ap (λ s. s.count) listed.1))
-        | inr full ↦ wanting (kept_by old) (kept_by new) new.seen n (command.Reduce kind lo hi) text told.seen is.granted full.0 (seen_more old new new.seen refl (ap (λ s. s.count) full.1))
+            let text_is = listed.0 ∙ ap₂ (λ edit shown. answer_text edit kind shown) is.edit value in record {
+              before = new.seen;
+              grown = told.seen;
+              answer = granted (kept_by old) (kept_by new) new.seen n (command.Reduce kind lo hi) text is.granted text_is (seen_more old new new.seen refl (ap (λ s. s.count) listed.1));
+              within = told.within;
+              lists = inl (text_is, ap (λ s. s.claims) listed.1 ∙ ap₂ (λ edit shown. old.claims ++ record { edit = edit; kind = kind; lo = lo; hi = hi; value = shown } ∷ []) is.edit value);
+            }
+        | inr full ↦ record {
+          before = new.seen;
+          grown = told.seen;
+          answer = wanting (kept_by old) (kept_by new) new.seen n (command.Reduce kind lo hi) text is.granted full.0 (seen_more old new new.seen refl (ap (λ s. s.count) full.1));
+          within = told.within;
+          lists = inr (NoMemory, full.0, ap (λ s. s.claims) full.1);
+        }
       ]
-  reduction_plain old new n kind lo hi text (Err refusal) told lists =
-      let why : range_refusal new.seen lo hi ≡ Some refusal = subst (λ es. range_refusal es lo hi ≡ Some refusal) told.live.edits_are told.reduces in
-      refused (kept_by old) (kept_by new) new.seen n (command.Reduce kind lo hi) text refusal told.seen why lists.0 (seen_more old new new.seen refl (ap (λ s. s.count) lists.1))
+  reduction_said old new n kind lo hi text (Err refusal) told lists = record {
+    before = new.seen;
+    grown = told.seen;
+    answer = refused (kept_by old) (kept_by new) new.seen n (command.Reduce kind lo hi) text refusal told.refused lists.0 (seen_more old new new.seen refl (ap (λ s. s.count) lists.1));
+    within = told.within;
+    lists = inr (refusal, lists.0, ap (λ s. s.claims) lists.1);
+  }
 
   -- a scan
   scan_plain : (old new : SessionState) (n : ℕ) (inclusive : Bool) (kind : Kind) (lo hi : ℕ) (text : List ℕ) (result : Result (Scan SixSummary) Refusal) → ScanTold six_operations limits old.seen new.seen lo hi inclusive result
-      → text ≡ scan_reply_text inclusive kind result → new ≡ up_to old new.seen → PlainSessionLine (kept_by old) n (Do (command.Scan inclusive kind lo hi)) text (kept_by new)
+      → text ≡ scan_reply_text inclusive kind result → new ≡ up_to old new.seen → PlainAt new.seen (kept_by old) n (Do (command.Scan inclusive kind lo hi)) text (kept_by new)
   scan_plain old new n inclusive kind lo hi text (Ok scan) told is state =
       let values = ap (map (face_of kind)) told.scanned.values_are ∙ scan_values kind inclusive (slice_of new.seen lo hi) (slice_folds limits new.seen lo hi told.within) in
-      granted (kept_by old) (kept_by new) new.seen n (command.Scan inclusive kind lo hi) text told.seen told.scanned.granted
+      granted (kept_by old) (kept_by new) new.seen n (command.Scan inclusive kind lo hi) text told.scanned.granted
       (is ∙ ap₂ (λ edit shown. scan_text edit inclusive kind shown) told.scanned.edit values) (seen_more old new new.seen refl (ap (λ s. s.count) state))
   scan_plain old new n inclusive kind lo hi text (Err refusal) told is state =
       let same = seen_more old new new.seen refl (ap (λ s. s.count) state) in
       elim told.refused [
-        | inl why ↦ refused (kept_by old) (kept_by new) new.seen n (command.Scan inclusive kind lo hi) text refusal told.seen why is same
-        | inr want ↦ wanting (kept_by old) (kept_by new) new.seen n (command.Scan inclusive kind lo hi) text told.seen want.0 (is ∙ ap refused_text want.1) same
+        | inl why ↦ refused (kept_by old) (kept_by new) new.seen n (command.Scan inclusive kind lo hi) text refusal why is same
+        | inr want ↦ wanting (kept_by old) (kept_by new) new.seen n (command.Scan inclusive kind lo hi) text want.0 (is ∙ ap refused_text want.1) same
       ]
 
   -- what is bad, or says nothing
   unmoved : (old new : SessionState) (n : ℕ) (line : Line) (text : List ℕ) → text ≡ plain_reply [] (plain_at limits old.seen) n line → (plain_after (plain_at limits old.seen) line).edits ≡ old.seen → new ≡ old
-      → PlainSessionLine (kept_by old) n line text (kept_by new)
+      → PlainAt old.seen (kept_by old) n line text (kept_by new)
   unmoved old new n line text is same stays =
-      (old.seen, prefix_self old.seen, inl (is, seen_more old new old.seen (ap (λ s. s.seen) stays) (ap (λ s. s.count) stays) ∙ ap (seen_after (kept_by old) old.seen) (sym same)))
+      inl (is, seen_more old new old.seen (ap (λ s. s.seen) stays) (ap (λ s. s.count) stays) ∙ ap (seen_after (kept_by old) old.seen) (sym same))
+
+  nothing_said : (old new : SessionState) (n : ℕ) (text : List ℕ) → text ≡ [] → new ≡ old → SaidLine old n Nothing text new
+  nothing_said old new n text is stays =
+      record { before = old.seen; grown = prefix_self old.seen; answer = unmoved old new n Nothing text is refl stays; within = stays; lists = ap (λ s. s.claims) stays }
+
+  bad_said : (old new : SessionState) (n : ℕ) (text : List ℕ) → text ≡ bad_text n → new ≡ old → SaidLine old n Bad text new
+  bad_said old new n text is stays =
+      record { before = old.seen; grown = prefix_self old.seen; answer = unmoved old new n Bad text is refl stays; within = stays; lists = ap (λ s. s.claims) stays }
 
   -- a command, as a session knows it
-  command_plain : (old new : SessionState) (n : ℕ) (c : Command) (text : List ℕ) → SessionCommandAnswer limits old n c text new → PlainSessionLine (kept_by old) n (known_of (Do c)) text (kept_by new)
-  command_plain old new n (command.Edit e) text a = edit_plain old new n e text a.result a.told a.text_is a.state
-  command_plain old new n (command.Reduce kind lo hi) text a = reduction_plain old new n kind lo hi text a.result a.told a.lists
-  command_plain old new n (command.Scan inclusive kind lo hi) text a = scan_plain old new n inclusive kind lo hi text a.result a.told a.text_is a.state
-  command_plain old new n _ text a = unmoved old new n Bad text a.0 refl a.1
+  command_said : (old new : SessionState) (n : ℕ) (c : Command) (text : List ℕ) → SessionCommandAnswer limits old n c text new → SaidLine old n (known_of (Do c)) text new
+  command_said old new n (command.Edit e) text a = edit_said old new n e text a.result a.told a.text_is a.state
+  command_said old new n (command.Reduce kind lo hi) text a = reduction_said old new n kind lo hi text a.result a.told a.lists
+  command_said old new n (command.Scan inclusive kind lo hi) text a = record {
+    before = new.seen;
+    grown = a.told.seen;
+    answer = scan_plain old new n inclusive kind lo hi text a.result a.told a.text_is a.state;
+    within = a.told.within;
+    lists = ap (λ s. s.claims) a.state;
+  }
+  command_said old new n _ text a = bad_said old new n text a.0 a.1
 
-  line_plain : (old new : SessionState) (n : ℕ) (line : Line) (text : List ℕ) → SessionLineAnswer limits old n line text new → PlainSessionLine (kept_by old) n (known_of line) text (kept_by new)
-  line_plain old new n Nothing text a = unmoved old new n Nothing text a.0 refl a.1
-  line_plain old new n Bad text a = unmoved old new n Bad text a.0 refl a.1
-  line_plain old new n (Do c) text a = command_plain old new n c text a
+  line_said : (old new : SessionState) (n : ℕ) (line : Line) (text : List ℕ) → SessionLineAnswer limits old n line text new → SaidLine old n (known_of line) text new
+  line_said old new n Nothing text a = nothing_said old new n text a.0 a.1
+  line_said old new n Bad text a = bad_said old new n text a.0 a.1
+  line_said old new n (Do c) text a = command_said old new n c text a
+
+  step_said : (s p : SessionState) (n : ℕ) (line text : List ℕ) (u : SessionState) → p ≡ s → TellsLine limits s n line text u → (q : SessionState) × (q ≡ u) × SessionStep limits p n line text q
+  unfolding TellsLine
+  step_said s p n line text u is step =
+      let said = line_said s u n (line_of line) text step in
+      let told : SessionStep limits s n line text u = record { plain = record { before = said.before; grown = said.grown; answer = said.answer }; within = said.within; lists = said.lists } in
+      (u, refl, subst (λ p. SessionStep limits p n line text u) (sym is) told)
+
+  -- the conversation that the code answers is that of a session
+  pub session_said : {R : Type 0} (first last : SessionState) (a b k l : Option (List ℕ)) (result : Result R Fault) → Conversed (TellsLine limits) first last a b k l result
+      → Conversed (SessionStep limits) first last a b k l result
+  session_said first last a b k l result c =
+      let came = conversed_as (λ s p. p ≡ s) (record { moves = step_said }) first first last a b k l result refl c in
+      subst (λ p. Conversed (SessionStep limits) first p a b k l result) came.1 came.2
 
   step_plain : (s : SessionState) (p : Seen) (n : ℕ) (line text : List ℕ) (u : SessionState) → p ≡ kept_by s → SessionStep limits s n line text u → (q : Seen) × (q ≡ kept_by u) × PlainSessionStep limits p n line text q
-  unfolding SessionStep
-  step_plain s p n line text u is step =
-      let told = line_plain s u n (line_of line) text step in
-      (kept_by u, refl, subst (λ p. PlainSessionStep limits p n line text (kept_by u)) (sym is) (record { before = told.0; grown = told.1; answer = told.2 }))
+  step_plain s p n line text u is step = (kept_by u, refl, subst (λ p. PlainSessionStep limits p n line text (kept_by u)) (sym is) step.plain)
 
   -- the conversation of a session is one of the interpreter
   pub session_plain : {R : Type 0} (first last : SessionState) (a b k l : Option (List ℕ)) (result : Result R Fault) → Conversed (SessionStep limits) first last a b k l result

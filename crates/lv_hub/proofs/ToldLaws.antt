@@ -14,13 +14,15 @@ use Rattle.lv_summary.specs.declared.accepted.Accepted.{Accepted}
 use Rattle.lv_refresh.specs.Carried.{Carried}
 use Rattle.lv_refresh.specs.Claim.{IsNextJob}
 use Rattle.lv_refresh.specs.Honesty.{IsHonest}
+use Rattle.lv_refresh.specs.Record.{Record, is_fresh}
 use Rattle.lv_reduce.specs.declared.reductions.Answer.{Answer}
 use Rattle.lv_reduce.specs.Answer.{IsAnswer, IsScanRefusal, range_refusal}
+use Rattle.lv_reduce.specs.Cost.{IsCost}
 use Rattle.lv_reduce.specs.Stretch.{IsStretch, StretchState}
 use Rattle.lv_live.specs.Kept.{IsLive}
 use Rattle.lv_live.specs.State.{HasClaim, HasDelivery, LiveState, node_and_version, recorded}
 use Rattle.lv_live.specs.Step.{Reduces}
-use Rattle.lv_hub.specs.Told.{AskTold, ClaimTold, EditTold, Gives, GiveTold, IsStanding, IsVector, ReductionTold, StretchTold, VouchedBy, history_of}
+use Rattle.lv_hub.specs.Told.{ClaimTold, EditTold, Gives, GiveTold, IsStanding, IsVector, ReadsTold, ReductionTold, StretchTold, VouchedBy, history_of}
 
 -- a vector of these limits has this history
 limits_said : (limits : Bounds) (h : History) → h.limits ≡ limits → h ≡ history_of limits h.journal
@@ -48,31 +50,39 @@ edit_told limits s t old new e result vector seen is answers =
       answers = subst (λ h. Answers h e result (history_of limits new)) before (subst (λ h. Answers s e result h) after answers);
     }
 
+-- what a reduction answers, and the reads that it makes
+answered_of : {S : Type 0} (o : Operations S) (r : Record) (lo hi : ℕ) (result : Result (Answer S) Refusal) → Reduces o r lo hi result → IfOk result (λ answer. IsAnswer o r.edits lo hi answer)
+answered_of o r lo hi (Ok answer) reduces = reduces.0
+answered_of o r lo hi (Err refusal) reduces = tt
+
+refused_of : {S : Type 0} (o : Operations S) (r : Record) (lo hi : ℕ) (result : Result (Answer S) Refusal) → Reduces o r lo hi result → IfErr result (λ refusal. range_refusal r.edits lo hi ≡ Some refusal)
+refused_of o r lo hi (Ok answer) reduces = tt
+refused_of o r lo hi (Err refusal) reduces = reduces
+
+reads_of : {S : Type 0} (o : Operations S) (r : Record) (lo hi : ℕ) (result : Result (Answer S) Refusal) → Reduces o r lo hi result → IfOk result (λ answer. IsCost (is_fresh r) lo hi answer.cells_read answer.summaries_read)
+reads_of o r lo hi (Ok answer) reduces = reduces.1
+reads_of o r lo hi (Err refusal) reduces = tt
+
 module _ {B S : Type 0} (o : B → Operations S) (limits : Bounds) (body : B) (s : LiveState B S) (old new : List Edit) (lo hi : ℕ) (vector : IsVector limits s.history) (of : s.body ≡ body) (seen : IsPrefix old new) (is : new ≡ s.history.journal) where
   -- it stands there
-  standing : IsLive (o s.body) s → IsStanding (o body) limits new s
-  standing live = record { limits_are = vector.limits_are; edits_are = sym is; live = subst (λ b. IsLive (o b) s) of live }
-
-  -- a reduction
-  pub reduction_told : (result : Result (Answer S) Refusal) → IsLive (o s.body) s → Reduces (o s.body) (recorded s) lo hi result → ReductionTold B (o body) limits old new lo hi result
-  reduction_told result live reduces = record {
-    seen = seen;
-    within = within_said limits s.history new vector is;
-    standing = s;
-    live = standing live;
-    reduces = subst (λ b. Reduces (o b) (recorded s) lo hi result) of reduces;
-  }
+  pub stands_there : IsLive (o s.body) s → IsStanding (o body) limits new s
+  stands_there live = record { limits_are = vector.limits_are; edits_are = sym is; live = subst (λ b. IsLive (o b) s) of live }
 
   -- an answer to a range that was asked for
-  pub ask_told : (result : Result (Answer S) Refusal) → IsLive (o s.body) s → IfOk result (λ answer. IsAnswer (o s.body) s.history.journal lo hi answer) → IfErr result (λ refusal. range_refusal s.history.journal lo hi ≡ Some refusal) → AskTold B (o body) limits old new lo hi result
-  ask_told result live answered refused = record {
+  pub ask_told : (result : Result (Answer S) Refusal) → IfOk result (λ answer. IsAnswer (o s.body) s.history.journal lo hi answer) → IfErr result (λ refusal. range_refusal s.history.journal lo hi ≡ Some refusal) → ReductionTold (o body) limits old new lo hi result
+  ask_told result answered refused = record {
     seen = seen;
     within = within_said limits s.history new vector is;
-    standing = s;
-    live = standing live;
     answered = subst (λ b. IfOk result (λ answer. IsAnswer (o b) new lo hi answer)) of (subst (λ es. IfOk result (λ answer. IsAnswer (o s.body) es lo hi answer)) (sym is) answered);
     refused = subst (λ es. IfErr result (λ refusal. range_refusal es lo hi ≡ Some refusal)) (sym is) refused;
   }
+
+  -- a reduction, and its reads
+  pub reduction_told : (result : Result (Answer S) Refusal) → Reduces (o s.body) (recorded s) lo hi result → ReductionTold (o body) limits old new lo hi result
+  reduction_told result reduces = ask_told result (answered_of (o s.body) (recorded s) lo hi result reduces) (refused_of (o s.body) (recorded s) lo hi result reduces)
+
+  pub reads_told : (result : Result (Answer S) Refusal) → IsLive (o s.body) s → Reduces (o s.body) (recorded s) lo hi result → ReadsTold B (o body) limits new lo hi result
+  reads_told result live reduces = record { standing = s; live = stands_there live; reads = reads_of (o s.body) (recorded s) lo hi result reduces }
 
   -- a copy
   pub stretch_told : (result : Result (StretchState B) Refusal) → IfOk result (λ stretch. IsStretch s.history.journal lo hi stretch) → IfOk result (λ stretch. stretch.body ≡ s.body) → IfErr result (λ refusal. IsScanRefusal s.history.journal lo hi refusal) → StretchTold body limits old new lo hi result

@@ -11,7 +11,6 @@ use Rattle.lv_geometry.specs.Elements.{IsElement}
 use Rattle.lv_geometry.specs.declared.refusals.Refusal.{Refusal}
 use Rattle.lv_geometry.specs.declared.refusals.Refusal.TheVariants.{BadRange, OutOfRange}
 use Rattle.lv_bodies.specs.declared.kinds.Kind.{Kind}
-use Rattle.lv_bodies.specs.declared.sixes.Six.{Six}
 use Rattle.lv_bodies.specs.Body.{CanFold}
 use Rattle.lv_bodies.specs.Plain.{plain_value, program_table}
 use Rattle.lv_bodies.specs.Six.{SixSummary, face_of, six_operations}
@@ -32,7 +31,8 @@ use Rattle.lv_lines.specs.Grammar.{line_of}
 use Rattle.lv_lines.specs.Replies.{Answered, Conversed}
 use Rattle.lv_transcript.specs.declared.claimed.Claimed.{Claimed}
 use Rattle.lv_transcript.specs.Transcript.{AreInOrder, IsTrueClaim}
-use Rattle.lv_hub.specs.Session.{SessionCommandAnswer, SessionLineAnswer, SessionState, SessionStep, Lists, having_counted, claim_of, up_to}
+use Rattle.lv_hub.specs.Replying.{ListsAnswer, SessionCommandAnswer, SessionLineAnswer, TellsLine, claim_of, having_counted, up_to}
+use Rattle.lv_hub.specs.Session.{SessionState}
 use Rattle.lv_hub.specs.Told.{EditTold, ReductionTold, history_of}
 use Rattle.lv_hub.proofs.PrefixLaws.{prefix_length, prefix_self, prefix_trans}
 
@@ -96,7 +96,7 @@ pub record Keeps (old new : SessionState) : Type 0 where
   pub order : All (IsTrueClaim old.seen) old.claims → AreInOrder old.claims → AreInOrder new.claims
 
 -- an edit lists nothing
-edit_lists_nothing : (s : SessionState) (result : Result Receipt Refusal) → (having_counted s result).claims ≡ s.claims
+pub edit_lists_nothing : (s : SessionState) (result : Result Receipt Refusal) → (having_counted s result).claims ≡ s.claims
 edit_lists_nothing s (Ok receipt) = refl
 edit_lists_nothing s (Err refusal) = refl
 
@@ -115,13 +115,13 @@ module _ (limits : Bounds) where
       }
 
   -- so is the answer of a reduction that was told
-  told_true : (old new : List Edit) (kind : Kind) (lo hi : ℕ) (answer : Answer SixSummary) → ReductionTold Six six_operations limits old new lo hi (Ok answer) → IsTrueClaim new (claim_of kind lo hi answer)
+  told_true : (old new : List Edit) (kind : Kind) (lo hi : ℕ) (answer : Answer SixSummary) → ReductionTold six_operations limits old new lo hi (Ok answer) → IsTrueClaim new (claim_of kind lo hi answer)
   told_true old new kind lo hi answer told =
-      answer_true new kind lo hi answer told.within (subst (λ es. IsAnswer six_operations es lo hi answer) told.live.edits_are told.reduces.0)
+      answer_true new kind lo hi answer told.within told.answered
 
   -- it is of the last edit that was seen
-  told_last : (old new : List Edit) (lo hi : ℕ) (answer : Answer SixSummary) → ReductionTold Six six_operations limits old new lo hi (Ok answer) → answer.edit ≡ length new
-  told_last old new lo hi answer told = (subst (λ es. IsAnswer six_operations es lo hi answer) told.live.edits_are told.reduces.0).edit
+  told_last : (old new : List Edit) (lo hi : ℕ) (answer : Answer SixSummary) → ReductionTold six_operations limits old new lo hi (Ok answer) → answer.edit ≡ length new
+  told_last old new lo hi answer told = told.answered.edit
 
   -- who has seen more, and lists nothing more, keeps
   keeps_by_more : (old new : SessionState) → IsPrefix old.seen new.seen → new.claims ≡ old.claims → Keeps old new
@@ -137,7 +137,7 @@ module _ (limits : Bounds) where
   keeps_same old new same = keeps_by_more old new (subst (IsPrefix old.seen) (sym (ap (λ s. s.seen) same)) (prefix_self old.seen)) (ap (λ s. s.claims) same)
 
   -- a reduction
-  reduction_keeps : (old new : SessionState) (kind : Kind) (lo hi : ℕ) (text : List ℕ) (result : Result (Answer SixSummary) Refusal) → ReductionTold Six six_operations limits old.seen new.seen lo hi result → Lists (up_to old new.seen) kind lo hi result text new → Keeps old new
+  reduction_keeps : (old new : SessionState) (kind : Kind) (lo hi : ℕ) (text : List ℕ) (result : Result (Answer SixSummary) Refusal) → ReductionTold six_operations limits old.seen new.seen lo hi result → ListsAnswer (up_to old new.seen) kind lo hi result text new → Keeps old new
   reduction_keeps old new kind lo hi text (Ok answer) told lists =
       elim lists [
         | inl listed ↦ record {
@@ -167,8 +167,8 @@ module _ (limits : Bounds) where
   line_keeps old new n Bad text a = keeps_same old new a.1
   line_keeps old new n (Do command) text a = command_keeps old new n command text a
 
-  step_keeps : (old new : SessionState) (n : ℕ) (line text : List ℕ) → SessionStep limits old n line text new → Keeps old new
-  unfolding SessionStep
+  step_keeps : (old new : SessionState) (n : ℕ) (line text : List ℕ) → TellsLine limits old n line text new → Keeps old new
+  unfolding TellsLine
   step_keeps old new n line text a = line_keeps old new n (line_of line) text a
 
   -- a line that was answered, whether its reply could be written or not
@@ -188,13 +188,13 @@ module _ (limits : Bounds) where
       }
 
   -- many lines
-  lines_keep : (old new : SessionState) (n : ℕ) (lines : List (List ℕ)) (text : List ℕ) → Answered (SessionStep limits) old n lines text new → Keeps old new
+  lines_keep : (old new : SessionState) (n : ℕ) (lines : List (List ℕ)) (text : List ℕ) → Answered (TellsLine limits) old n lines text new → Keeps old new
   lines_keep old new n [] text a = keeps_same old new a.1
   lines_keep old new n (line ∷ lines) text a =
       keeps_both old a.2 new (step_keeps old a.2 n line a.0 a.3) (lines_keep a.2 new (n + 1) lines a.1 a.4)
 
   -- a conversation
-  pub conversed_keeps : {T : Type 0} (old new : SessionState) (a b k l : Option (List ℕ)) (result : Result T Fault) → Conversed (SessionStep limits) old new a b k l result → Keeps old new
+  pub conversed_keeps : {T : Type 0} (old new : SessionState) (a b k l : Option (List ℕ)) (result : Result T Fault) → Conversed (TellsLine limits) old new a b k l result → Keeps old new
   conversed_keeps old new a b k l (Ok x) c = lines_keep old new 1 _ c.ends.2.text c.ends.2.answered
   conversed_keeps old new a b k l (Err ReadFault) c = lines_keep old new 1 _ c.ends.1.text c.ends.1.answered
   conversed_keeps old new a b k l (Err TooLong) c = lines_keep old new 1 _ c.ends.1.text c.ends.1.answered

@@ -1,9 +1,11 @@
+-- Names the files of definitions of `lv_hub`.
 pub mod Counting
 pub mod Growing
 pub mod Minuting
 pub mod Notes
 pub mod Noting
 pub mod PlainSession
+pub mod Replying
 pub mod Session
 pub mod Told
 pub mod Work

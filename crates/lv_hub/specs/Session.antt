@@ -1,25 +1,20 @@
--- What each line of a session is answered, and what it leaves: how many edits are counted, and which reductions were answered.
-use Rattle.std.specs.Prelude.{◌≡◌, ◌⊎◌, ℕ, ◌+◌, Bool, Result, Ok, Err, List, [], ◌∷◌, ◌++◌, map, filter, nat_eq}
+-- What each line of a session is answered, and what it leaves: the plain interpreter's reply, and which reductions are listed.
+use Rattle.std.specs.Prelude.{◌≡◌, ◌⊎◌, ℕ, List, ◌∷◌, [], ◌++◌, filter, length, nat_eq}
 use Rattle.lv_geometry.specs.Bounds.{Bounds}
 use Rattle.lv_geometry.specs.declared.refusals.Refusal.{Refusal}
-use Rattle.lv_geometry.specs.declared.refusals.Refusal.TheVariants.{NoMemory}
 use Rattle.lv_bodies.specs.declared.kinds.Kind.{Kind}
-use Rattle.lv_bodies.specs.Six.{SixSummary, face_of, six_operations}
-use Rattle.lv_bodies.specs.declared.sixes.Six.{Six}
+use Rattle.lv_bodies.specs.Plain.{plain_value}
 use Rattle.lv_edits.specs.declared.edit.Edit.{Edit}
-use Rattle.lv_edits.specs.declared.receipt.Receipt.{Receipt}
-use Rattle.lv_reduce.specs.declared.reductions.Answer.{Answer}
-use Rattle.lv_reduce.specs.declared.scans.Scan.{Scan}
-use Rattle.lv_lines.specs.declared.command.Command.{Command}
-use Rattle.lv_lines.specs.declared.command.Command.TheVariants as commands
+use Rattle.lv_edits.specs.Kept.{IsLegalInLimits}
+use Rattle.lv_reduce.specs.Answer.{slice_of}
+use Rattle.lv_lines.specs.declared.command.Command.TheVariants.{Reduce}
 use Rattle.lv_lines.specs.declared.command.Line.{Line}
-use Rattle.lv_lines.specs.declared.command.Line.TheVariants.{Nothing, Bad, Do}
-use Rattle.lv_lines.specs.Grammar.{line_of}
-use Rattle.lv_lines.specs.Texts.{answer_text, bad_text, refused_text, scan_text}
+use Rattle.lv_lines.specs.declared.command.Line.TheVariants.{Do}
+use Rattle.lv_lines.specs.Texts.{answer_text, refused_text}
 use Rattle.lv_transcript.specs.declared.claimed.Claimed.{Claimed}
-use Rattle.lv_script.specs.Script.{edit_text}
 use Rattle.lv_hub.specs.Counting.{ShareState}
-use Rattle.lv_hub.specs.Told.{EditTold, ReductionTold, ScanTold}
+use Rattle.lv_hub.specs.PlainSession.{PlainSessionStep, Seen, session_line_of}
+use Rattle.lv_hub.specs.Told.{history_of}
 
 -- how many edits the session's share counts, the beginning of the hub's edits that it has seen, and the reductions that were
 -- answered, in order
@@ -32,73 +27,33 @@ pub record SessionState : Type 0 where
 abbrev pub session_at : ShareState → List Claimed → SessionState
 session_at share claims = record { count = share.count; seen = share.seen; claims = claims }
 
--- the state once the hub's edits were seen up to these
-abbrev pub up_to : SessionState → List Edit → SessionState
-up_to s edits = record s { seen = edits }
-
--- the state after an edit: it is counted where it was accepted
-abbrev pub having_counted : SessionState → Result Receipt Refusal → SessionState
-having_counted s (Ok receipt) = record s { count = s.count + 1 }
-having_counted s (Err refusal) = s
+-- what the plain interpreter keeps of it
+abbrev pub kept_by : SessionState → Seen
+kept_by s = record { edits = s.seen; made = s.count }
 
 -- the reductions at each edit stand in the order that they had
 abbrev pub KeepTies : List Claimed → List Claimed → Type 0
 KeepTies old new = (edit : ℕ) → filter (λ claim. nat_eq claim.edit edit) new ≡ filter (λ claim. nat_eq claim.edit edit) old
 
--- a reduction as it is listed
-abbrev pub claim_of : Kind → ℕ → ℕ → Answer SixSummary → Claimed
-claim_of kind lo hi answer = record { edit = answer.edit; kind = kind; lo = lo; hi = hi; value = face_of kind answer.value }
+-- a reduction after some edits, as it is listed
+abbrev pub claim_at : List Edit → Kind → ℕ → ℕ → Claimed
+claim_at edits kind lo hi = record { edit = length edits; kind = kind; lo = lo; hi = hi; value = plain_value kind (slice_of edits lo hi) }
 
--- the state with one reduction more
-abbrev pub with_claim : SessionState → Claimed → SessionState
-with_claim s claim = record s { claims = s.claims ++ claim ∷ [] }
-
--- a reduction was answered and listed; or it was refused, for its range or because the list had no room, and nothing changed
-abbrev pub Lists : SessionState → Kind → ℕ → ℕ → Result (Answer SixSummary) Refusal → List ℕ → SessionState → Type 0
-Lists old kind lo hi (Ok answer) text new =
-    ((text ≡ answer_text answer.edit kind (face_of kind answer.value)) × (new ≡ with_claim old (claim_of kind lo hi answer)))
-    ⊎ ((text ≡ refused_text NoMemory) × (new ≡ old))
-Lists old kind lo hi (Err refusal) text new = (text ≡ refused_text refusal) × (new ≡ old)
-
--- a scan's values, or its refusal
-abbrev pub scan_reply_text : Bool → Kind → Result (Scan SixSummary) Refusal → List ℕ
-scan_reply_text inclusive kind (Ok scan) = scan_text scan.edit inclusive kind (map (face_of kind) scan.values)
-scan_reply_text inclusive kind (Err refusal) = refused_text refusal
+-- after some edits a reduction was answered by its value, and listed behind the others; or it was refused. Nothing else is listed
+abbrev pub Lists : List Edit → Line → List ℕ → List Claimed → List Claimed → Type 0
+Lists edits (Do (Reduce kind lo hi)) text old new =
+    ((text ≡ answer_text (length edits) kind (plain_value kind (slice_of edits lo hi))) × (new ≡ old ++ claim_at edits kind lo hi ∷ []))
+    ⊎ ((refusal : Refusal) × (text ≡ refused_text refusal) × (new ≡ old))
+Lists edits _ text old new = new ≡ old
 
 module _ (limits : Bounds) where
-  -- an edit is answered by its receipt or its refusal
-  pub record TellsEdit (old : SessionState) (e : Edit) (text : List ℕ) (new : SessionState) : Type 0 where
-    pub result : Result Receipt Refusal
-    pub told : EditTold limits old.seen new.seen e result
-    pub text_is : text ≡ edit_text result
-    pub state : new ≡ having_counted (up_to old new.seen) result
+  -- an edit, a reduction or a scan was answered after edits that are legal within the limits; any other line changed nothing
+  abbrev pub IsWithin : SessionState → List Edit → Line → SessionState → Type 0
+  IsWithin old before (Do c) new = IsLegalInLimits (history_of limits before)
+  IsWithin old before _ new = new ≡ old
 
-  -- a reduction is answered by its value, and listed; or by its refusal
-  pub record TellsReduction (old : SessionState) (kind : Kind) (lo hi : ℕ) (text : List ℕ) (new : SessionState) : Type 0 where
-    pub result : Result (Answer SixSummary) Refusal
-    pub told : ReductionTold Six six_operations limits old.seen new.seen lo hi result
-    pub lists : Lists (up_to old new.seen) kind lo hi result text new
-
-  -- a scan is answered by its values or its refusal, and changes nothing else
-  pub record TellsScan (old : SessionState) (inclusive : Bool) (kind : Kind) (lo hi : ℕ) (text : List ℕ) (new : SessionState) : Type 0 where
-    pub result : Result (Scan SixSummary) Refusal
-    pub told : ScanTold six_operations limits old.seen new.seen lo hi inclusive result
-    pub text_is : text ≡ scan_reply_text inclusive kind result
-    pub state : new ≡ up_to old new.seen
-
-  -- what a command is answered: sessions know edits, reductions and scans, and any other is bad, by the line's number
-  abbrev pub SessionCommandAnswer : SessionState → ℕ → Command → List ℕ → SessionState → Type 0
-  SessionCommandAnswer old n (commands.Edit e) text new = TellsEdit old e text new
-  SessionCommandAnswer old n (commands.Reduce kind lo hi) text new = TellsReduction old kind lo hi text new
-  SessionCommandAnswer old n (commands.Scan inclusive kind lo hi) text new = TellsScan old inclusive kind lo hi text new
-  SessionCommandAnswer old n _ text new = (text ≡ bad_text n) × (new ≡ old)
-
-  -- what a line is answered
-  abbrev pub SessionLineAnswer : SessionState → ℕ → Line → List ℕ → SessionState → Type 0
-  SessionLineAnswer old n Nothing text new = (text ≡ []) × (new ≡ old)
-  SessionLineAnswer old n Bad text new = (text ≡ bad_text n) × (new ≡ old)
-  SessionLineAnswer old n (Do command) text new = SessionCommandAnswer old n command text new
-
-  -- one line of a session, by its bytes and its number: its reply, and what it leaves
-  unfoldable pub SessionStep : SessionState → ℕ → List ℕ → List ℕ → SessionState → Type 0
-  SessionStep old n line text new = SessionLineAnswer old n (line_of line) text new
+  -- one line of a session, by its bytes and its number: the interpreter's reply, and what it leaves
+  pub record SessionStep (old : SessionState) (n : ℕ) (line text : List ℕ) (new : SessionState) : Type 0 where
+    pub plain : PlainSessionStep limits (kept_by old) n line text (kept_by new)
+    pub within : IsWithin old plain.before (session_line_of line) new
+    pub lists : Lists plain.before (session_line_of line) text old.claims new.claims

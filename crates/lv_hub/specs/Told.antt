@@ -15,14 +15,14 @@ use Rattle.lv_refresh.specs.Carried.{Carried}
 use Rattle.lv_refresh.specs.Claim.{IsNextJob}
 use Rattle.lv_refresh.specs.Delivery.{delivery_of}
 use Rattle.lv_refresh.specs.Honesty.{IsHonest, Vouched}
-use Rattle.lv_refresh.specs.Record.{Record}
+use Rattle.lv_refresh.specs.Record.{Record, is_fresh}
 use Rattle.lv_reduce.specs.declared.reductions.Answer.{Answer}
 use Rattle.lv_reduce.specs.declared.scans.Scan.{Scan}
 use Rattle.lv_reduce.specs.Answer.{IsAnswer, IsScan, IsScanRefusal, range_refusal, scan_of, slice_of}
+use Rattle.lv_reduce.specs.Cost.{IsCost}
 use Rattle.lv_reduce.specs.Stretch.{IsStretch, StretchState}
 use Rattle.lv_live.specs.Kept.{IsLive}
 use Rattle.lv_live.specs.State.{HasClaim, LiveState, node_and_version, recorded}
-use Rattle.lv_live.specs.Step.{Reduces}
 
 -- a vector whose edits are legal, within these limits
 pub record IsVector (limits : Bounds) (h : History) : Type 0 where
@@ -46,22 +46,18 @@ pub record EditTold (limits : Bounds) (old new : List Edit) (edit : Edit) (resul
   pub within : IsLegalInLimits (history_of limits before)
   pub answers : Answers (history_of limits before) edit result (history_of limits new)
 
--- of a hub whose edits were seen up to old: it came to new, and there a live vector answered a reduction
-pub record ReductionTold (B : Type 0) {S : Type 0} (o : Operations S) (limits : Bounds) (old new : List Edit) (lo hi : ℕ) (result : Result (Answer S) Refusal) : Type 0 where
+-- of a hub whose edits were seen up to old: it came to new, and a range was reduced there, which gave the fold of it
+pub record ReductionTold {S : Type 0} (o : Operations S) (limits : Bounds) (old new : List Edit) (lo hi : ℕ) (result : Result (Answer S) Refusal) : Type 0 where
   pub seen : IsPrefix old new
   pub within : IsLegalInLimits (history_of limits new)
-  pub standing : LiveState B S
-  pub live : IsStanding o limits new standing
-  pub reduces : Reduces o (recorded standing) lo hi result
-
--- of a hub whose edits were seen up to old: it came to new, and there a live vector was asked for a range, and answered the fold of it
-pub record AskTold (B : Type 0) {S : Type 0} (o : Operations S) (limits : Bounds) (old new : List Edit) (lo hi : ℕ) (result : Result (Answer S) Refusal) : Type 0 where
-  pub seen : IsPrefix old new
-  pub within : IsLegalInLimits (history_of limits new)
-  pub standing : LiveState B S
-  pub live : IsStanding o limits new standing
   pub answered : IfOk result (λ answer. IsAnswer o new lo hi answer)
   pub refused : IfErr result (λ refusal. range_refusal new lo hi ≡ Some refusal)
+
+-- a live vector with these edits gave the answer, with the reads that its fresh nodes leave
+pub record ReadsTold (B : Type 0) {S : Type 0} (o : Operations S) (limits : Bounds) (edits : List Edit) (lo hi : ℕ) (result : Result (Answer S) Refusal) : Type 0 where
+  pub standing : LiveState B S
+  pub live : IsStanding o limits edits standing
+  pub reads : IfOk result (λ answer. IsCost (is_fresh (recorded standing)) lo hi answer.cells_read answer.summaries_read)
 
 -- of a hub whose edits were seen up to old: it came to new, and a scan was answered as there
 pub record ScanTold {S : Type 0} (o : Operations S) (limits : Bounds) (old new : List Edit) (lo hi : ℕ) (inclusive : Bool) (result : Result (Scan S) Refusal) : Type 0 where

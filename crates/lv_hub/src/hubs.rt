@@ -1,8 +1,10 @@
+// The hub: a lock round a desk, and one call of the desk for each of the hub's.
 ghost use Rattle.std.specs.Prelude.{◌≡◌, ◌↔◌, ◌<◌, ◌≤◌, true, false, [], drop, length, take, Err, Some, vec_capacity};
 ghost use mathlib.Core.List.{IsPrefix};
 ghost use Rattle.lv_transcript.specs.Transcript.{AreAccepted, greatest};
+ghost use Rattle.lv_live.specs.State.{LiveState};
 ghost use Rattle.lv_hub.specs.Counting.{Counts, having_seen};
-ghost use Rattle.lv_hub.specs.Told.{AskTold, ClaimTold, EditTold, GiveTold, IsVector, ReductionTold, ScanTold, StretchTold};
+ghost use Rattle.lv_hub.specs.Told.{ClaimTold, EditTold, GiveTold, IsStanding, IsVector, ReadsTold, ReductionTold, ScanTold, StretchTold};
 
 use crate::histories::{Front, Opened};
 use crate::logged::LoggedDesk;
@@ -101,7 +103,8 @@ impl<B: Body, N: Means<B>> Hub<B, N> {
         lo: u32,
         hi: u32,
     ) -> Result<Answer<B::S>, Refusal>
-        ensures told { ReductionTold B (B.operations (B.meaning self.now)) N.limits share.old.seen share.new.seen lo hi result }
+        ensures told { ReductionTold (B.operations (B.meaning self.now)) N.limits share.old.seen share.new.seen lo hi result }
+        ensures reads { ReadsTold B (B.operations (B.meaning self.now)) N.limits share.new.seen lo hi result }
         ensures share { share.new ≡ having_seen share.old share.new.seen }
         ensures bad_range { (result ≡ Err Refusal.BadRange) ↔ (hi < lo) }
     {
@@ -119,7 +122,8 @@ impl<B: Body, N: Means<B>> Hub<B, N> {
         lo: u32,
         hi: u32,
     ) -> Result<Answer<B::S>, Refusal>
-        ensures told { AskTold B (B.operations (B.meaning self.now)) N.limits share.old.seen share.new.seen lo hi result }
+        ensures told { ReductionTold (B.operations (B.meaning self.now)) N.limits share.old.seen share.new.seen lo hi result }
+        ensures live { (standing : LiveState B B.S) × IsStanding (B.operations (B.meaning self.now)) N.limits share.new.seen standing }
         ensures share { share.new ≡ having_seen share.old share.new.seen }
         ensures bad_range { (result ≡ Err Refusal.BadRange) ↔ (hi < lo) }
     {

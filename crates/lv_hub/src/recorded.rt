@@ -6,7 +6,8 @@ ghost use Rattle.lv_lines.specs.Output.{HasRoom, Puts, PutsFront, SamePlaces};
 ghost use Rattle.lv_lines.specs.Replies.{Conversed};
 ghost use Rattle.lv_transcript.specs.Transcript.{AreInOrder, IsTrueClaim};
 ghost use Rattle.lv_hub.specs.PlainSession.{PlainSessionStep, seen_by};
-ghost use Rattle.lv_hub.specs.Session.{SessionLineAnswer, SessionState, SessionStep, session_at};
+ghost use Rattle.lv_hub.specs.Replying.{SessionLineAnswer, TellsLine};
+ghost use Rattle.lv_hub.specs.Session.{SessionState, SessionStep, session_at};
 
 use crate::hubs::Hub;
 use crate::minutes::{Begun, Minutes};
@@ -125,7 +126,7 @@ fn hold<L: Lent, N: Means<Six>, T: Wait, R: Read, W: Write, V: Write + Drop, K: 
 ) -> (Share<N>, Vec<Claimed>, Result<(), Fault>)
     requires lent { share ≡ L.holding }
     requires most { place.answers ≡ L.most }
-    ensures conversed { Conversed (SessionStep N.limits) (session_at share []) (session_at result.0 result.1.items)
+    ensures conversed { Conversed (TellsLine N.limits) (session_at share []) (session_at result.0 result.1.items)
         (R.remaining reader.old) (R.remaining reader.new) (W.contents writer.old) (W.contents writer.new) result.2 }
     ensures parts { result.0.parts ≡ share.parts }
     ensures more { share.count ≤ result.0.count }
@@ -173,7 +174,7 @@ impl<'a, N: Means<Six>, T: Wait, V: Write + Drop, K: Begun, L: Lent> Responder
 
     ghost state = { λ s. s };
 
-    ghost step = { SessionStep N.limits };
+    ghost step = { TellsLine N.limits };
 
     fn respond<W: Write>(
         &mut self,

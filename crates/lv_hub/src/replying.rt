@@ -1,9 +1,11 @@
+// How a line of a session is answered.
 ghost use Rattle.std.specs.Prelude.{◌≡◌, ◌≤◌, ◌++◌, ◌∷◌, [], ℕ, List, OnOk, IfErr, vec_len};
 ghost use Rattle.lv_geometry.specs.declared.refusals.Refusal.{Refusal};
 ghost use Rattle.lv_lines.specs.Output.{HasRoom, KeepsRoom, Puts, PutsFront, SamePlaces};
 ghost use Rattle.lv_transcript.specs.declared.claimed.Claimed.{Claimed};
 ghost use Rattle.lv_hub.specs.Counting.{having_seen};
-ghost use Rattle.lv_hub.specs.Session.{SessionCommandAnswer, SessionLineAnswer, TellsEdit, TellsReduction, TellsScan, session_at};
+ghost use Rattle.lv_hub.specs.Replying.{SessionCommandAnswer, SessionLineAnswer, TellsEdit, TellsReduction, TellsScan};
+ghost use Rattle.lv_hub.specs.Session.{session_at};
 
 use crate::hubs::Hub;
 use crate::naming::Means;

@@ -1,3 +1,4 @@
+// Sessions on a hub: lines that are read, and replies that are written.
 ghost use Rattle.std.specs.Prelude.{◌≡◌, ◌+◌, ◌≤◌, ◌++◌, ℕ, All, List, [], Ok, Err, MatchResult, OnOk, OnErr, IfOk, IfErr, vec_len, vec_capacity};
 ghost use mathlib.Core.List.{IsPrefix};
 ghost use Rattle.lv_lines.specs.Replies.{Conversed};
@@ -6,6 +7,7 @@ ghost use Rattle.lv_transcript.specs.Transcript.{AreInOrder, IsTrueClaim};
 ghost use Rattle.std.specs.List.Sorted.{IsPermutation};
 ghost use Rattle.lv_hub.specs.Counting.{ShareState};
 ghost use Rattle.lv_hub.specs.PlainSession.{PlainSessionStep, seen_by};
+ghost use Rattle.lv_hub.specs.Replying.{TellsLine};
 ghost use Rattle.lv_hub.specs.Session.{KeepTies, SessionState, SessionStep, session_at};
 
 use crate::hubs::Hub;
@@ -132,7 +134,7 @@ fn hold<K: Lent, N: Means<Six>, T: Wait, R: Read, W: Write>(
 ) -> (Share<N>, Vec<Claimed>, Result<(), Fault>)
     requires lent { share ≡ K.holding }
     requires most { place.answers ≡ K.most }
-    ensures conversed { Conversed (SessionStep N.limits) (session_at share []) (session_at result.0 result.1.items)
+    ensures conversed { Conversed (TellsLine N.limits) (session_at share []) (session_at result.0 result.1.items)
         (R.remaining reader.old) (R.remaining reader.new) (W.contents writer.old) (W.contents writer.new) result.2 }
     ensures parts { result.0.parts ≡ share.parts }
     ensures more { share.count ≤ result.0.count }
@@ -175,7 +177,7 @@ impl<'a, N: Means<Six>, T: Wait, K: Lent> Responder for Session<'a, N, T, K> {
 
     ghost state = { λ s. s };
 
-    ghost step = { SessionStep N.limits };
+    ghost step = { TellsLine N.limits };
 
     fn respond<W: Write>(
         &mut self,

@@ -1,3 +1,4 @@
+// Workers for a number of turns.
 ghost use Rattle.std.specs.Prelude.{◌≡◌, ◌+◌, ◌^◌, ◌<◌, ◌≤◌};
 
 use crate::gates::Gate;

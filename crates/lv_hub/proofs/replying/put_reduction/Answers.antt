@@ -1,14 +1,11 @@
 use Rattle.std.proofs.Common.{◌≡◌, ◌++◌, ◌∷◌, [], Ok, Err, List, refl, ap, ◌∙◌, inl, inr}
 use Rattle.lv_geometry.specs.declared.refusals.Refusal.TheVariants.{NoMemory}
-use Rattle.lv_bodies.specs.Six.{six_operations}
 use Rattle.lv_bodies.specs.declared.kinds.Shown.{Shown}
 use Rattle.lv_lines.specs.Texts.{answer_text, refused_text}
-use Rattle.lv_refresh.specs.Record.{is_fresh}
-use Rattle.lv_live.specs.State.{recorded}
 use Rattle.lv_transcript.specs.declared.claimed.Claimed.{Claimed}
 use Rattle.lv_hub.specs.Counting.{ShareState}
-use Rattle.lv_hub.specs.Session.{session_at, up_to}
-use Rattle.lv_hub.proofs.AskedLaws.{counted, refused_as_reduction, told_as_reduction}
+use Rattle.lv_hub.specs.Replying.{up_to}
+use Rattle.lv_hub.specs.Session.{session_at}
 use Rattle.lv_hub.proofs.replying.put_reduction.Goals as goal
 
 -- a state whose share saw more, and whose list became this
@@ -18,14 +15,13 @@ seen_and_listed old new claims listed is = ap (λ h. session_at h listed) is
 pub returns-in-Ok-list-clause-answer : goal.returns-in-Ok-list-clause-answer
 returns-in-Ok-list-clause-answer g c =
     let answer = c.in-Ok.answer in
-    let told = c.in-Ok.ensures.told in
     let kind = c.args.kind in
     let new = c.ask.new.share in
     let listed : Shown → Claimed = λ value. record { edit = answer.edit; kind = kind; lo = c.args.lo; hi = c.args.hi; value = value } in (
       answer_text answer.edit kind c.face-value.result,
       record {
-        result = Ok (counted (is_fresh (recorded told.standing)) c.args.lo c.args.hi answer);
-        told = told_as_reduction six_operations g.N.Naming.limits c.args.share.now.seen new.seen c.args.lo c.args.hi answer told;
+        result = Ok answer;
+        told = c.in-Ok.ensures.told;
         lists = inl (
           ap (answer_text answer.edit kind) c.face-value.ensures.shown,
           ap (λ items. session_at new items) (c.in-Ok-list.ensures.listed ∙ ap (λ value. c.args.claims.now.items ++ listed value ∷ []) c.face-value.ensures.shown)
@@ -38,12 +34,11 @@ returns-in-Ok-list-clause-answer g c =
 pub returns-in-Err-list-clause-answer : goal.returns-in-Err-list-clause-answer
 returns-in-Err-list-clause-answer g c =
     let answer = c.in-Ok.answer in
-    let told = c.in-Ok.ensures.told in
     let new = c.ask.new.share in (
       refused_text NoMemory,
       record {
-        result = Ok (counted (is_fresh (recorded told.standing)) c.args.lo c.args.hi answer);
-        told = told_as_reduction six_operations g.N.Naming.limits c.args.share.now.seen new.seen c.args.lo c.args.hi answer told;
+        result = Ok answer;
+        told = c.in-Ok.ensures.told;
         lists = inr (refl, ap (λ items. session_at new items) c.in-Err-list.ensures.unchanged.1 ∙ seen_and_listed c.args.share.now new c.args.claims.now.items _ c.in-Ok.ensures.share);
       },
       c.put_refusal.ensures.text ∙ ap (λ refusal. c.args.held.now.items ++ refused_text refusal) c.in-Err-list.ensures.unchanged.0,
@@ -55,7 +50,7 @@ returns-in-Err-clause-answer g c =
       refused_text c.in-Err.refusal,
       record {
         result = Err c.in-Err.refusal;
-        told = refused_as_reduction six_operations g.N.Naming.limits c.args.share.now.seen new.seen c.args.lo c.args.hi c.in-Err.refusal c.in-Err.ensures.told;
+        told = c.in-Err.ensures.told;
         lists = (refl, seen_and_listed c.args.share.now new c.args.claims.now.items _ c.in-Err.ensures.share);
       },
       c.put_refusal-in-Err.ensures.text,

@@ -2,7 +2,7 @@ use Rattle.std.proofs.Common.{◌≡◌, ◌≤◌, [], All, refl, rules, ap, sy
 use Rattle.std.proofs.lemmas.List.Elements.{All-nil}
 use Rattle.std.proofs.lemmas.List.Sorted.{IsNonDecreasingBy-short}
 use Rattle.lv_transcript.specs.Transcript.{AreInOrder, IsTrueClaim}
-use Rattle.lv_hub.proofs.PlainSessionLaws.{session_plain}
+use Rattle.lv_hub.proofs.PlainSessionLaws.{session_plain, session_said}
 use Rattle.lv_hub.proofs.SessionLaws.{conversed_as, given_as}
 use Rattle.lv_hub.proofs.TruthLaws.{conversed_keeps}
 use Rattle.lv_hub.proofs.sessions.run_session_at.Goals as goal
@@ -14,7 +14,8 @@ returns-clause-conversed g c =
     let came : c.hold-back.result.0.count ≡ c.back.inside.token.amount = ap (λ h. h.count) (sym c.back.view_is) in
     let sees : c.hold-back.result.0.seen ≡ c.back.inside.front = ap (λ h. h.seen) (sym c.back.view_is) in (
       record { count = c.back.inside.token.amount; seen = c.back.inside.front; claims = c.hold-back.result.1.items },
-      conversed_as c.hold-back.result.2 c.hold-back.result.1 c.listed.result c.listed.ensures (rw (← began, ← saw, ← came, ← sees) c.hold-back.ensures.conversed),
+      session_said g.N.Naming.limits _ _ _ _ _ _ _
+          (conversed_as c.hold-back.result.2 c.hold-back.result.1 c.listed.result c.listed.ensures (rw (← began, ← saw, ← came, ← sees) c.hold-back.ensures.conversed)),
       refl,
       refl,
       given_as (λ claims. claims.items ≡ c.hold-back.result.1.items) c.hold-back.result.2 c.hold-back.result.1 c.listed.result c.listed.ensures refl,
