@@ -1,3 +1,4 @@
+-- Names the files of lemmas of `livevec`.
 mod BesideLaws
 mod PlainServedLaws
 mod RecordingLaws

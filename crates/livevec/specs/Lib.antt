@@ -1,3 +1,4 @@
+-- Names the files of definitions of `livevec`.
 pub mod PlainServed
 pub mod Served
 pub mod Starting

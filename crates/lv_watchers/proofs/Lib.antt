@@ -1,3 +1,4 @@
+-- Names the files of lemmas of `lv_watchers`.
 mod AskingLaws
 mod NoticeLaws
 pub mod Noticed
