@@ -1,5 +1,5 @@
 -- What is kept by kind beside a live vector, as that is edited and asked.
-use Rattle.std.proofs.Common.{◌≡◌, ℕ, ℤ, pos, ◌-◌, ◌≤◌, None, Some, List, [], ◌∷◌, ◌++◌, length, nat_eq, take, sym, ap, ◌∙◌, subst, arith}
+use Rattle.std.proofs.Common.{◌≡◌, ℕ, ℤ, ◌-◌, ◌≤◌, None, Some, List, [], ◌∷◌, ◌++◌, length, nat_eq, take, sym, ap, ◌∙◌, subst, arith}
 use Rattle.std.specs.Int.{bit_at}
 use Rattle.std.proofs.Math.Seq.{take-append_seam}
 use Rattle.std.proofs.lemmas.List.{length_push, length-set, length-take}
@@ -18,16 +18,13 @@ use Rattle.lv_bodies.specs.Tables.{automaton_operations}
 use Rattle.lv_bodies.specs.declared.sixes.SixByTable.{SixByTable}
 use Rattle.lv_edits.specs.declared.edit.Edit.{Edit}
 use Rattle.lv_edits.specs.declared.edit.Edit.TheVariants.{Push, Pop, Write, Reserve, Swap, Truncate}
-use Rattle.lv_edits.specs.declared.receipt.Receipt.{Receipt}
-use Rattle.lv_edits.specs.declared.receipt.Receipt.TheVariants.{Written}
 use Rattle.lv_edits.specs.History.{History, applied, list_of, with_edit}
 use Rattle.lv_edits.specs.Kept.{IsLegalInLimits}
-use Rattle.lv_edits.specs.Verdict.{receipt_of, verdict_of}
-use Rattle.lv_edits.proofs.HistoryLaws.{accepted_is_possible, list_of-snoc, not_refused, unrefused_push, unrefused_write}
+use Rattle.lv_edits.specs.Verdict.{verdict_of}
+use Rattle.lv_edits.proofs.HistoryLaws.{accepted_is_possible, list_of-snoc, not_refused, unrefused_push}
 use Rattle.lv_live.specs.State.{LiveState}
 use Rattle.lv_kinds.specs.Kinds.{AreFolds, AreKept, HaveRoomFor, KeepsAlike, KindsState}
 use Rattle.lv_kinds.specs.NodeRows.{HasSameValues, NodeRowsState}
-use Rattle.lv_kinds.specs.Renewals.{IsWriteOver}
 use Rattle.livevec_c.specs.KindVectors.{IsKindVector, IsSizeAfter, before_last}
 
 -- rows that have the same values are folds alike
@@ -105,23 +102,6 @@ before_edit h new e is =
     let shorter : length (es ++ e ∷ []) - 1 ≡ length es = omega (arith, length_push es e) in
     let same : take (length (es ++ e ∷ []) - 1) (es ++ e ∷ []) ≡ es = ap (λ k. take k (es ++ e ∷ [])) shorter ∙ take-append_seam es (e ∷ []) in
     ap before_last is ∙ ap (λ j. record h { journal = j }) same
-
--- the element that stood where a write was answered so
-element_before : Receipt → ℤ
-element_before (Written n before) = before
-element_before other = pos 0
-
--- a write that was accepted and answered so is one over that element
-pub write_over : (h : History) (e : Edit) (r : Receipt) (i n : ℕ) (x before : ℤ) → IsLegalInLimits h → verdict_of h.limits h.journal e ≡ None → r ≡ receipt_of h.journal e → e ≡ Write i x → r ≡ Written n before → IsWriteOver h i before
-unfolding element_before
-write_over h e r i n x before legal free answered is told =
-    let free_write : verdict_of h.limits h.journal (Write i x) ≡ None = subst (λ e. verdict_of h.limits h.journal e ≡ None) is free in
-    let said : Written n before ≡ receipt_of h.journal (Write i x) = sym told ∙ answered ∙ ap (receipt_of h.journal) is in
-    record {
-      legal = legal.legal;
-      inside = unrefused_write h.limits (list_of h.journal) i x (not_refused h.limits h.journal (Write i x) free_write).1;
-      before_is = ap element_before said;
-    }
 
 -- what is kept of a vector is kept of one with the same body and history
 pub kept_of_same : (old new : LiveState SixByTable SixSummary) (kinds : KindsState) → new.body ≡ old.body → new.history ≡ old.history → AreKept (table_of old.body.automaton) old.history.journal kinds → AreKept (table_of new.body.automaton) new.history.journal kinds

@@ -84,12 +84,7 @@ fn follow_edit(
     requires kept { AreKept (table_of live.now.body.automaton) before.journal kinds.old }
     ensures { AreKept (table_of live.now.body.automaton) live.now.history.journal kinds.new }
 {
-    match (edit, receipt) {
-        (Edit::Write { index, value }, Receipt::Written { before, .. }) => {
-            kinds.follow_write(*index, *before, *value);
-        }
-        _ => kinds.follow(edit, size),
-    }
+    kinds.follow_made(edit, receipt, size);
 }
 
 // Makes an edit that the verdict allows, and has what is kept by kind follow it. Room for what may be asked after it is made before
