@@ -8,3 +8,4 @@ pub mod TouchLaws
 pub mod PushLaws
 pub mod RunLaws
 pub mod Slices
+mod Walks

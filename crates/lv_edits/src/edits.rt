@@ -8,6 +8,7 @@ ghost use Rattle.lv_edits.specs.Pushes.{AnswersAll, verdict_of_pushes};
 ghost use Rattle.lv_edits.specs.Verdict.{Answers, element_at, verdict_of};
 
 use crate::edit::Edit;
+use crate::journals::{Journal, Kept};
 use crate::making::make_edit;
 use crate::pushing::make_pushes;
 use crate::receipt::Receipt;
@@ -17,23 +18,23 @@ use lv_store::Store;
 use std::alloc::Global;
 use std::marker::Model;
 
-/// A vector of `i64` with the journal of its edits.
+/// A vector of `i64` with the journal of its edits, which is kept unless told otherwise.
 #[derive(Drop)]
-pub struct Edits {
+pub struct Edits<J: Journal = Kept> {
     store: Store,
-    journal: Vec<Edit>,
+    journal: J,
 }
 
-impl Model for Edits {
+impl<J: Journal> Model for Edits<J> {
     ghost use Rattle.lv_edits.specs.History.{History};
 
     ghost Value = { History };
 
     ghost use Rattle.lv_edits.specs.Inner.{HoldsReplay};
 
-    ghost view = { λ a. record { limits = a.store.limits; journal = a.journal.items } };
+    ghost view = { λ a. record { limits = a.store.limits; journal = J.noted a.journal } };
 
-    ghost invariant = { λ a. HoldsReplay a.store a.journal.items };
+    ghost invariant = { λ a. HoldsReplay a.store (J.noted a.journal) };
 }
 
 impl Edits {
@@ -42,9 +43,27 @@ impl Edits {
         ensures history { result ≡ record { limits = limits; journal = [] } }
         ensures limits { IsLegalInLimits result }
     {
+        Edits::empty(alloc, limits)
+    }
+
+    /// All edits that were accepted, the first of them first.
+    pub fn journal(&self) -> &[Edit]
+        ensures value { result.now ≡ self.now.journal }
+        ensures limits { IsLegalInLimits self.now }
+    {
+        self.journal.as_slice()
+    }
+}
+
+impl<J: Journal> Edits<J> {
+    /// An empty vector over either journal, with no bucket open. Takes no memory.
+    pub fn empty(alloc: Global, limits: Limits) -> Edits<J>
+        ensures history { result ≡ record { limits = limits; journal = [] } }
+        ensures limits { IsLegalInLimits result }
+    {
         Edits {
             store: Store::new(alloc, limits),
-            journal: Vec::new(alloc),
+            journal: J::empty(alloc),
         }
     }
 
@@ -280,14 +299,6 @@ impl Edits {
         ensures limits { IsLegalInLimits self.now }
     {
         self.store.edit()
-    }
-
-    /// All edits that were accepted, the first of them first.
-    pub fn journal(&self) -> &[Edit]
-        ensures value { result.now ≡ self.now.journal }
-        ensures limits { IsLegalInLimits self.now }
-    {
-        self.journal.as_slice()
     }
 
     /// The limits that the vector was made with.

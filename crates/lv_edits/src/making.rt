@@ -1,4 +1,4 @@
-ghost use Rattle.std.specs.Prelude.{◌≡◌, ℕ, ◌+◌, ◌<◌, ◌≤◌, max, None, [], ◌∷◌, ◌++◌, OnOk, OnErr, IfErr, vec_len, vec_capacity};
+ghost use Rattle.std.specs.Prelude.{◌≡◌, ℕ, ◌+◌, ◌<◌, ◌≤◌, max, None, [], ◌∷◌, ◌++◌, OnOk, OnErr, IfErr};
 ghost use Rattle.lv_geometry.specs.Cells.{AreFewest, capacity_of};
 ghost use Rattle.lv_store.specs.Inner.{IsStore};
 ghost use Rattle.lv_store.specs.State.{AreAlike};
@@ -6,6 +6,7 @@ ghost use Rattle.lv_edits.specs.Inner.{HoldsReplay, history_of, write_at_second}
 ghost use Rattle.lv_edits.specs.Verdict.{Answers, verdict_of};
 
 use crate::edit::Edit;
+use crate::journals::Journal;
 use crate::receipt::Receipt;
 use lv_geometry::{Refusal, capacity};
 use lv_store::Store;
@@ -13,11 +14,15 @@ use lv_store::Store;
 /// Makes an edit that the verdict allows, so that it is refused with `NoMemory` alone. The room in the journal, then the
 /// bucket, is made before anything changes.
 #[inline]
-pub fn make_edit(store: &mut Store, journal: &mut Vec<Edit>, edit: Edit) -> Result<Receipt, Refusal>
-    requires held { HoldsReplay store.old journal.old.items }
-    requires free { verdict_of store.old.limits journal.old.items edit ≡ None }
-    ensures answer { Answers (history_of store.old journal.old.items) edit result (history_of store.new journal.new.items) }
-    ensures held { HoldsReplay store.new journal.new.items }
+pub fn make_edit<J: Journal>(
+    store: &mut Store,
+    journal: &mut J,
+    edit: Edit,
+) -> Result<Receipt, Refusal>
+    requires held { HoldsReplay store.old (J.noted journal.old) }
+    requires free { verdict_of store.old.limits (J.noted journal.old) edit ≡ None }
+    ensures answer { Answers (history_of store.old (J.noted journal.old)) edit result (history_of store.new (J.noted journal.new)) }
+    ensures held { HoldsReplay store.new (J.noted journal.new) }
 {
     match edit {
         Edit::Push(x) => make_push(store, journal, x),
@@ -30,16 +35,16 @@ pub fn make_edit(store: &mut Store, journal: &mut Vec<Edit>, edit: Edit) -> Resu
 }
 
 // Makes a push that the verdict allows.
-fn make_push(store: &mut Store, journal: &mut Vec<Edit>, x: i64) -> Result<Receipt, Refusal>
-    requires held { HoldsReplay store.old journal.old.items }
-    requires free { verdict_of store.old.limits journal.old.items (Edit.Push x) ≡ None }
-    ensures answer { Answers (history_of store.old journal.old.items) (Edit.Push x) result (history_of store.new journal.new.items) }
-    ensures held { HoldsReplay store.new journal.new.items }
+fn make_push<J: Journal>(store: &mut Store, journal: &mut J, x: i64) -> Result<Receipt, Refusal>
+    requires held { HoldsReplay store.old (J.noted journal.old) }
+    requires free { verdict_of store.old.limits (J.noted journal.old) (Edit.Push x) ≡ None }
+    ensures answer { Answers (history_of store.old (J.noted journal.old)) (Edit.Push x) result (history_of store.new (J.noted journal.new)) }
+    ensures held { HoldsReplay store.new (J.noted journal.new) }
 {
     let index = store.size();
     make_room(store, journal, 1, index + 1)?;
     store.announce(Some((index, x)), None, index + 1);
-    append(journal, Edit::Push(x));
+    journal.note(Edit::Push(x));
     Ok(Receipt::Pushed {
         edit: store.edit(),
         index,
@@ -47,17 +52,17 @@ fn make_push(store: &mut Store, journal: &mut Vec<Edit>, x: i64) -> Result<Recei
 }
 
 // Makes a pop that the verdict allows.
-fn make_pop(store: &mut Store, journal: &mut Vec<Edit>) -> Result<Receipt, Refusal>
-    requires held { HoldsReplay store.old journal.old.items }
-    requires free { verdict_of store.old.limits journal.old.items Edit.Pop ≡ None }
-    ensures answer { Answers (history_of store.old journal.old.items) Edit.Pop result (history_of store.new journal.new.items) }
-    ensures held { HoldsReplay store.new journal.new.items }
+fn make_pop<J: Journal>(store: &mut Store, journal: &mut J) -> Result<Receipt, Refusal>
+    requires held { HoldsReplay store.old (J.noted journal.old) }
+    requires free { verdict_of store.old.limits (J.noted journal.old) Edit.Pop ≡ None }
+    ensures answer { Answers (history_of store.old (J.noted journal.old)) Edit.Pop result (history_of store.new (J.noted journal.new)) }
+    ensures held { HoldsReplay store.new (J.noted journal.new) }
 {
     let last = store.size() - 1;
     let value = store.read(last);
     make_room(store, journal, 1, 0)?;
     store.announce(None, None, last);
-    append(journal, Edit::Pop);
+    journal.note(Edit::Pop);
     Ok(Receipt::Popped {
         edit: store.edit(),
         value,
@@ -65,22 +70,22 @@ fn make_pop(store: &mut Store, journal: &mut Vec<Edit>) -> Result<Receipt, Refus
 }
 
 // Makes a write that the verdict allows.
-fn make_write(
+fn make_write<J: Journal>(
     store: &mut Store,
-    journal: &mut Vec<Edit>,
+    journal: &mut J,
     index: u32,
     value: i64,
 ) -> Result<Receipt, Refusal>
-    requires held { HoldsReplay store.old journal.old.items }
-    requires free { verdict_of store.old.limits journal.old.items (Edit.Write index value) ≡ None }
-    ensures answer { Answers (history_of store.old journal.old.items) (Edit.Write index value) result (history_of store.new journal.new.items) }
-    ensures held { HoldsReplay store.new journal.new.items }
+    requires held { HoldsReplay store.old (J.noted journal.old) }
+    requires free { verdict_of store.old.limits (J.noted journal.old) (Edit.Write index value) ≡ None }
+    ensures answer { Answers (history_of store.old (J.noted journal.old)) (Edit.Write index value) result (history_of store.new (J.noted journal.new)) }
+    ensures held { HoldsReplay store.new (J.noted journal.new) }
 {
     let before = store.read(index);
     make_room(store, journal, 1, 0)?;
     let size = store.size();
     store.announce(Some((index, value)), None, size);
-    append(journal, Edit::Write { index, value });
+    journal.note(Edit::Write { index, value });
     Ok(Receipt::Written {
         edit: store.edit(),
         before,
@@ -88,16 +93,20 @@ fn make_write(
 }
 
 // Makes a reserve that the verdict allows.
-fn make_reserve(store: &mut Store, journal: &mut Vec<Edit>, cells: u32) -> Result<Receipt, Refusal>
-    requires held { HoldsReplay store.old journal.old.items }
-    requires free { verdict_of store.old.limits journal.old.items (Edit.Reserve cells) ≡ None }
-    ensures answer { Answers (history_of store.old journal.old.items) (Edit.Reserve cells) result (history_of store.new journal.new.items) }
-    ensures held { HoldsReplay store.new journal.new.items }
+fn make_reserve<J: Journal>(
+    store: &mut Store,
+    journal: &mut J,
+    cells: u32,
+) -> Result<Receipt, Refusal>
+    requires held { HoldsReplay store.old (J.noted journal.old) }
+    requires free { verdict_of store.old.limits (J.noted journal.old) (Edit.Reserve cells) ≡ None }
+    ensures answer { Answers (history_of store.old (J.noted journal.old)) (Edit.Reserve cells) result (history_of store.new (J.noted journal.new)) }
+    ensures held { HoldsReplay store.new (J.noted journal.new) }
 {
     make_room(store, journal, 1, cells)?;
     let size = store.size();
     store.announce(None, None, size);
-    append(journal, Edit::Reserve(cells));
+    journal.note(Edit::Reserve(cells));
     Ok(Receipt::Reserved {
         edit: store.edit(),
         capacity: capacity(store.buckets()),
@@ -105,16 +114,16 @@ fn make_reserve(store: &mut Store, journal: &mut Vec<Edit>, cells: u32) -> Resul
 }
 
 // Makes a swap that the verdict allows.
-fn make_swap(
+fn make_swap<J: Journal>(
     store: &mut Store,
-    journal: &mut Vec<Edit>,
+    journal: &mut J,
     first: u32,
     second: u32,
 ) -> Result<Receipt, Refusal>
-    requires held { HoldsReplay store.old journal.old.items }
-    requires free { verdict_of store.old.limits journal.old.items (Edit.Swap first second) ≡ None }
-    ensures answer { Answers (history_of store.old journal.old.items) (Edit.Swap first second) result (history_of store.new journal.new.items) }
-    ensures held { HoldsReplay store.new journal.new.items }
+    requires held { HoldsReplay store.old (J.noted journal.old) }
+    requires free { verdict_of store.old.limits (J.noted journal.old) (Edit.Swap first second) ≡ None }
+    ensures answer { Answers (history_of store.old (J.noted journal.old)) (Edit.Swap first second) result (history_of store.new (J.noted journal.new)) }
+    ensures held { HoldsReplay store.new (J.noted journal.new) }
 {
     let before = store.read(first);
     let after = store.read(second);
@@ -122,7 +131,7 @@ fn make_swap(
     let other = write_at_second(first, second, before);
     let size = store.size();
     store.announce(Some((first, after)), other, size);
-    append(journal, Edit::Swap { first, second });
+    journal.note(Edit::Swap { first, second });
     Ok(Receipt::Swapped {
         edit: store.edit(),
         first: after,
@@ -131,16 +140,20 @@ fn make_swap(
 }
 
 // Makes a truncate that the verdict allows.
-fn make_truncate(store: &mut Store, journal: &mut Vec<Edit>, count: u32) -> Result<Receipt, Refusal>
-    requires held { HoldsReplay store.old journal.old.items }
-    requires free { verdict_of store.old.limits journal.old.items (Edit.Truncate count) ≡ None }
-    ensures answer { Answers (history_of store.old journal.old.items) (Edit.Truncate count) result (history_of store.new journal.new.items) }
-    ensures held { HoldsReplay store.new journal.new.items }
+fn make_truncate<J: Journal>(
+    store: &mut Store,
+    journal: &mut J,
+    count: u32,
+) -> Result<Receipt, Refusal>
+    requires held { HoldsReplay store.old (J.noted journal.old) }
+    requires free { verdict_of store.old.limits (J.noted journal.old) (Edit.Truncate count) ≡ None }
+    ensures answer { Answers (history_of store.old (J.noted journal.old)) (Edit.Truncate count) result (history_of store.new (J.noted journal.new)) }
+    ensures held { HoldsReplay store.new (J.noted journal.new) }
 {
     let size = store.size();
     make_room(store, journal, 1, 0)?;
     store.announce(None, None, count);
-    append(journal, Edit::Truncate(count));
+    journal.note(Edit::Truncate(count));
     Ok(Receipt::Truncated {
         edit: store.edit(),
         dropped: size - count,
@@ -148,9 +161,9 @@ fn make_truncate(store: &mut Store, journal: &mut Vec<Edit>, count: u32) -> Resu
 }
 
 /// Completes the write that is pending, and makes room for so many more edits, then for so many cells. Changes no element.
-pub fn make_room(
+pub fn make_room<J: Journal>(
     store: &mut Store,
-    journal: &mut Vec<Edit>,
+    journal: &mut J,
     edits: usize,
     cells: u32,
 ) -> Result<(), Refusal>
@@ -162,8 +175,8 @@ pub fn make_room(
     ensures buckets { OnOk result ((k : ℕ) → AreFewest cells k → store.new.buckets ≡ max store.old.buckets k) }
     ensures enough { OnOk result (cells ≤ capacity_of store.new.buckets) }
     ensures closed { OnErr result (store.new.buckets ≡ store.old.buckets) }
-    ensures journal { journal.new.items ≡ journal.old.items }
-    ensures edits { OnOk result (vec_len journal.new + edits ≤ vec_capacity journal.new) }
+    ensures journal { J.noted journal.new ≡ J.noted journal.old }
+    ensures edits { OnOk result (edits ≤ J.room journal.new) }
     ensures err { IfErr result (λ refusal. refusal ≡ Refusal.NoMemory) }
 {
     store.settle();
@@ -185,14 +198,4 @@ fn write_at_second(first: u32, second: u32, before: i64) -> Option<(u32, i64)>
     } else {
         Some((second, before))
     }
-}
-
-// Puts an item where there is room for it.
-fn append<T: Copy>(list: &mut Vec<T>, item: T)
-    requires { vec_len list.old < vec_capacity list.old }
-    ensures { list.new.items ≡ list.old.items ++ item ∷ [] }
-{
-    let Ok(()) = list.push(item) else {
-        unreachable!()
-    };
 }

@@ -1,25 +1,26 @@
 //! Many pushes at once.
-ghost use Rattle.std.specs.Prelude.{◌≡◌, ◌+◌, ◌≤◌, None, ◌++◌, length, map, vec_len, vec_capacity};
+ghost use Rattle.std.specs.Prelude.{◌≡◌, ◌+◌, ◌≤◌, None, ◌++◌, length, map};
 ghost use Rattle.lv_edits.specs.declared.edit.Edit.TheVariants as edit;
 ghost use Rattle.lv_edits.specs.Inner.{HoldsReplay, history_of};
 ghost use Rattle.lv_edits.specs.Pushes.{AnswersAll, verdict_of_pushes};
 
 use crate::edit::Edit;
+use crate::journals::Journal;
 use crate::making::make_room;
 use lv_geometry::Refusal;
 use lv_store::Store;
 
 /// Makes pushes that the verdict allows, so that they are refused with `NoMemory` alone. The room in the journal, then the buckets,
 /// is made before anything changes.
-pub fn make_pushes(
+pub fn make_pushes<J: Journal>(
     store: &mut Store,
-    journal: &mut Vec<Edit>,
+    journal: &mut J,
     values: &[i64],
 ) -> Result<u32, Refusal>
-    requires held { HoldsReplay store.old journal.old.items }
-    requires free { verdict_of_pushes (history_of store.old journal.old.items) values.now ≡ None }
-    ensures answer { AnswersAll (history_of store.old journal.old.items) values.now result (history_of store.new journal.new.items) }
-    ensures held { HoldsReplay store.new journal.new.items }
+    requires held { HoldsReplay store.old (J.noted journal.old) }
+    requires free { verdict_of_pushes (history_of store.old (J.noted journal.old)) values.now ≡ None }
+    ensures answer { AnswersAll (history_of store.old (J.noted journal.old)) values.now result (history_of store.new (J.noted journal.new)) }
+    ensures held { HoldsReplay store.new (J.noted journal.new) }
 {
     let size = store.size();
     make_room(store, journal, values.len(), size + values.len() as u32)?;
@@ -29,11 +30,11 @@ pub fn make_pushes(
 }
 
 // Puts pushes behind edits, where there is room for them.
-fn append_pushes(journal: &mut Vec<Edit>, values: &[i64])
-    requires { vec_len journal.old + length values.now ≤ vec_capacity journal.old }
-    ensures { journal.new.items ≡ journal.old.items ++ map edit.Push values.now }
+fn append_pushes<J: Journal>(journal: &mut J, values: &[i64])
+    requires { length values.now ≤ J.room journal.old }
+    ensures { J.noted journal.new ≡ J.noted journal.old ++ map edit.Push values.now }
 {
     for value in values {
-        journal.push_reserved(Edit::Push(*value));
+        journal.note(Edit::Push(*value));
     }
 }

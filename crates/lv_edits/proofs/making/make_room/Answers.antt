@@ -1,6 +1,5 @@
-use Rattle.std.proofs.Common.{◌≡◌, ℕ, ◌+◌, ◌≤◌, ◌∙◌, ap, sym, arith, false, max, None, Ok, Err, OnOk, OnErr, Result}
+use Rattle.std.proofs.Common.{◌≡◌, ℕ, ◌∙◌, ap, sym, false, max, None, Ok, Err, OnOk, OnErr, Result}
 use Rattle.std.specs.Result.{is_err}
-use Rattle.std.specs.Vec.{vec_len, vec_capacity}
 use Rattle.lv_geometry.specs.Cells.{AreFewest}
 use Rattle.lv_geometry.specs.declared.refusals.Refusal.{Refusal}
 use Rattle.lv_store.specs.Inner.{IsStore}
@@ -45,39 +44,39 @@ kept_where_ok (Ok done) P p = p
 kept_where_ok (Err error) P p = tt
 
 pub returns-then-is_err-clause-alike : goal.returns-then-is_err-clause-alike
-returns-then-is_err-clause-alike c = rw c.settle.ensures.state (settled_alike c.args.store.now c.requires.sound).0
+returns-then-is_err-clause-alike g c = rw c.settle.ensures.state (settled_alike c.args.store.now c.requires.sound).0
 
 pub returns-then-is_err-clause-settled : goal.returns-then-is_err-clause-settled
-returns-then-is_err-clause-settled c = rw c.settle.ensures.state (settled_alike c.args.store.now c.requires.sound).2
+returns-then-is_err-clause-settled g c = rw c.settle.ensures.state (settled_alike c.args.store.now c.requires.sound).2
 
 pub returns-then-is_err-clause-closed : goal.returns-then-is_err-clause-closed
-returns-then-is_err-clause-closed c = rw c.settle.ensures.state (settled_alike c.args.store.now c.requires.sound).1
+returns-then-is_err-clause-closed g c = rw c.settle.ensures.state (settled_alike c.args.store.now c.requires.sound).1
 
 pub open_to-requires : goal.open_to-requires
-open_to-requires c =
+open_to-requires g c =
     record { few = rw (c.settle.ensures.state, (settled_alike c.args.store.now c.requires.sound).0.limits) c.requires.few }
 
 pub returns-clause-alike : goal.returns-clause-alike
-returns-clause-alike c =
+returns-clause-alike g c =
     let state = c.settle.ensures.state in
     (readied _ _ _ _ c.requires.sound (rw state at c.open_to.ensures.ok) (rw state at c.open_to.ensures.unchanged)).alike
 
 pub returns-clause-settled : goal.returns-clause-settled
-returns-clause-settled c =
+returns-clause-settled g c =
     let state = c.settle.ensures.state in
     (readied _ _ _ _ c.requires.sound (rw state at c.open_to.ensures.ok) (rw state at c.open_to.ensures.unchanged)).settled
 
 pub returns-clause-buckets : goal.returns-clause-buckets
-returns-clause-buckets c =
+returns-clause-buckets g c =
     let state = c.settle.ensures.state in
     (readied _ _ _ _ c.requires.sound (rw state at c.open_to.ensures.ok) (rw state at c.open_to.ensures.unchanged)).buckets
 
 pub returns-clause-closed : goal.returns-clause-closed
-returns-clause-closed c =
+returns-clause-closed g c =
     let state = c.settle.ensures.state in
     (readied _ _ _ _ c.requires.sound (rw state at c.open_to.ensures.ok) (rw state at c.open_to.ensures.unchanged)).closed
 
 pub returns-clause-edits : goal.returns-clause-edits
-returns-clause-edits c =
-    let room = kept_where_no_err c.reserve.result _ (sym c.is_err.ensures.value ∙ c.if-is_err.false) c.reserve.ensures.ok in
-    kept_where_ok c.open_to.result (vec_len c.reserve.new.self + c.args.edits ≤ vec_capacity c.reserve.new.self) (omega (arith, room))
+returns-clause-edits g c =
+    let room = kept_where_no_err c.reserve.result _ (sym c.is_err.ensures.value ∙ c.if-is_err.false) c.reserve.ensures.room in
+    kept_where_ok c.open_to.result _ room

@@ -1,10 +1,10 @@
-use Rattle.std.proofs.Common.{◌≡◌, ◌++◌, map, take, vec_capacity}
+use Rattle.std.proofs.Common.{◌≡◌, ◌-◌, ◌≤◌, ◌++◌, length, map, take}
 use Rattle.lv_edits.specs.declared.edit.Edit.TheVariants.{Push}
 use Rattle.lv_edits.proofs.pushing.append_pushes.Given as goal
 
--- the pushes so far are behind the edits, and there is as much memory
+-- the pushes so far are behind the edits, and there is room for the others
 abbrev pub invariant-loop-value : goal.invariant-loop-value
-invariant-loop-value l = record {
-  items : l.journal.items ≡ l.fn.journal.items ++ map Push (take l.value-index l.values);
-  capacity : vec_capacity l.journal ≡ vec_capacity l.fn.journal;
+invariant-loop-value g l = record {
+  items : g.J.Journal.noted l.journal ≡ g.J.Journal.noted l.fn.journal ++ map Push (take l.value-index l.values);
+  room : length l.values - l.value-index ≤ g.J.Journal.room l.journal;
 }

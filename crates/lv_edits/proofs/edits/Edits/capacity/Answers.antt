@@ -3,12 +3,12 @@ use Rattle.lv_edits.proofs.HoldsLaws.{capacity_held}
 use Rattle.lv_edits.proofs.edits.Edits.capacity.Goals as goal
 
 pub returns-clause-value : goal.returns-clause-value
-returns-clause-value c =
+returns-clause-value g c =
     rw (← c.self.view_is, c.capacity.ensures.value, c.buckets.ensures.value) (capacity_held _ _ c.self.invariant)
 
 pub returns-clause-least : goal.returns-clause-least
-returns-clause-least c =
-    rw (← c.self.view_is, c.capacity.ensures.value, c.buckets.ensures.value) (IsCapacityAfter-needed c.self.inside.journal.items c.self.inside.store.buckets c.self.invariant.needed)
+returns-clause-least g c =
+    rw (← c.self.view_is, c.capacity.ensures.value, c.buckets.ensures.value) (IsCapacityAfter-needed (g.J.Journal.noted c.self.inside.journal) c.self.inside.store.buckets c.self.invariant.needed)
 
 pub returns-clause-limits : goal.returns-clause-limits
-returns-clause-limits c = rw (← c.self.view_is) c.self.invariant.kept
+returns-clause-limits g c = rw (← c.self.view_is) c.self.invariant.kept

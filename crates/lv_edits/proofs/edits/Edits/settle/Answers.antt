@@ -3,8 +3,8 @@ use Rattle.lv_edits.proofs.HoldsLaws.{HoldsReplay-alike}
 use Rattle.lv_edits.proofs.edits.Edits.settle.Goals as goal
 
 pub invariant_of-self : goal.invariant_of-self
-invariant_of-self c =
+invariant_of-self g c =
     let held = c.self.invariant in
     let settled = settled_alike c.self.inside.store held.sound in
     rw c.settle.ensures.state
-    (HoldsReplay-alike _ _ c.self.inside.journal.items held settled.0 settled.1 (rw c.settle.ensures.state at c.settle.ensures.sound))
+    (HoldsReplay-alike _ _ (g.J.Journal.noted c.self.inside.journal) held settled.0 settled.1 (rw c.settle.ensures.state at c.settle.ensures.sound))
