@@ -12,16 +12,16 @@ ghost use Rattle.lv_refresh.specs.Inner.{HintsNode, IsReady};
 
 use crate::claims::Claims;
 use lv_bodies::{Body, fold_slice};
-use lv_edits::Edits;
+use lv_edits::{Edits, Journal};
 use lv_geometry::Node;
 use lv_summary::Summaries;
 
 /// Keeps the fold of the elements of a node that is due, and hints at its parent. It is made anew for each level, so that no row is
 /// picked by the number of its level.
 #[inline(always)]
-pub fn refresh_node<B: Body>(
+pub fn refresh_node<B: Body, J: Journal>(
     claims: &mut Claims,
-    cells: &Edits,
+    cells: &Edits<J>,
     table: &mut Summaries<B::S>,
     body: &B,
     node: Node,
@@ -66,9 +66,9 @@ fn on_level(node: Node, level: u32) -> Node
 
 // What `refresh_node` does.
 #[inline(always)]
-fn refresh_at<B: Body>(
+fn refresh_at<B: Body, J: Journal>(
     claims: &mut Claims,
-    cells: &Edits,
+    cells: &Edits<J>,
     table: &mut Summaries<B::S>,
     body: &B,
     node: Node,
@@ -89,7 +89,12 @@ fn refresh_at<B: Body>(
 // The fold of a whole node's elements, computed where its contents lie: from the elements of a block, and above from the summaries of
 // the children, which are fresh.
 #[inline(always)]
-fn summary_of<B: Body>(cells: &Edits, table: &Summaries<B::S>, body: &B, node: Node) -> B::S
+fn summary_of<B: Body, J: Journal>(
+    cells: &Edits<J>,
+    table: &Summaries<B::S>,
+    body: &B,
+    node: Node,
+) -> B::S
     requires agrees { Agrees (B.operations (B.meaning body.now)) cells.now.journal table.now }
     requires whole { whole_in table.now node ≡ true }
     requires ready { IsReady table.now node }
@@ -105,7 +110,12 @@ fn summary_of<B: Body>(cells: &Edits, table: &Summaries<B::S>, body: &B, node: N
 // The fold of the elements of a whole block, where they lie unless a write is pending among them. The table only says that it is
 // whole.
 #[inline(always)]
-fn fold_block<B: Body>(cells: &Edits, _table: &Summaries<B::S>, body: &B, block: Node) -> B::S
+fn fold_block<B: Body, J: Journal>(
+    cells: &Edits<J>,
+    _table: &Summaries<B::S>,
+    body: &B,
+    block: Node,
+) -> B::S
     requires agrees { Agrees (B.operations (B.meaning body.now)) cells.now.journal _table.now }
     requires whole { whole_in _table.now block ≡ true }
     requires level { block.level ≡ 1 }
@@ -125,8 +135,8 @@ fn fold_block<B: Body>(cells: &Edits, _table: &Summaries<B::S>, body: &B, block:
 /// The fold of the elements of a whole block. `near` are elements from the first of its word of 64 blocks on, as far as they lie side
 /// by side; those of the block are among them, but for a bucket's end or a pending write.
 #[inline(always)]
-pub fn fold_near<B: Body>(
-    cells: &Edits,
+pub fn fold_near<B: Body, J: Journal>(
+    cells: &Edits<J>,
     table: &Summaries<B::S>,
     body: &B,
     near: &[i64],
@@ -147,7 +157,12 @@ pub fn fold_near<B: Body>(
 
 // The join of the summaries of a whole node's children, from left to right.
 #[inline(always)]
-fn join_children<B: Body>(cells: &Edits, table: &Summaries<B::S>, body: &B, node: Node) -> B::S
+fn join_children<B: Body, J: Journal>(
+    cells: &Edits<J>,
+    table: &Summaries<B::S>,
+    body: &B,
+    node: Node,
+) -> B::S
     requires agrees { Agrees (B.operations (B.meaning body.now)) cells.now.journal table.now }
     requires whole { whole_in table.now node ≡ true }
     requires above { 1 < node.level }
@@ -165,7 +180,12 @@ fn join_children<B: Body>(cells: &Edits, table: &Summaries<B::S>, body: &B, node
 
 // The same, from summaries side by side where they all were written.
 #[inline(always)]
-fn join_node<B: Body>(cells: &Edits, table: &Summaries<B::S>, body: &B, node: Node) -> B::S
+fn join_node<B: Body, J: Journal>(
+    cells: &Edits<J>,
+    table: &Summaries<B::S>,
+    body: &B,
+    node: Node,
+) -> B::S
     requires agrees { Agrees (B.operations (B.meaning body.now)) cells.now.journal table.now }
     requires whole { whole_in table.now node ≡ true }
     requires above { 1 < node.level }
@@ -180,8 +200,8 @@ fn join_node<B: Body>(cells: &Edits, table: &Summaries<B::S>, body: &B, node: No
 
 // The join of eight summaries, which are those of a node's children. The table only says so.
 #[inline(always)]
-fn join_all<B: Body>(
-    cells: &Edits,
+fn join_all<B: Body, J: Journal>(
+    cells: &Edits<J>,
     _table: &Summaries<B::S>,
     body: &B,
     node: Node,
