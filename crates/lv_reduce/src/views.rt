@@ -4,24 +4,23 @@ ghost use Rattle.lv_edits.specs.History.{list_of};
 ghost use Rattle.lv_edits.specs.Kept.{IsLegalInLimits};
 ghost use Rattle.lv_reduce.specs.Answer.{range_refusal};
 
-use lv_edits::Edits;
+use lv_edits::{Edits, Journal, Kept};
 use lv_geometry::Refusal;
 use lv_summary::Summaries;
 use std::alloc::AllocError;
 
 /// What a query reads: the vector's cells, and the table of summaries that are kept for them.
-#[derive(Copy)]
-pub struct View<'a, S> {
-    pub cells: &'a Edits,
+pub struct View<'a, S, J: Journal = Kept> {
+    pub cells: &'a Edits<J>,
     pub table: &'a Summaries<S>,
 }
 
-impl<'a, S> Clone for View<'a, S> {
+impl<'a, S, J: Journal> Clone for View<'a, S, J> {
     ghost is_clone = { λ x y. y ≡ x };
 
     ghost is_infallible = { λ _. ⊤ };
 
-    fn clone(&self) -> Result<View<'a, S>, AllocError> {
+    fn clone(&self) -> Result<View<'a, S, J>, AllocError> {
         Ok(View {
             cells: self.cells,
             table: self.table,
@@ -29,8 +28,10 @@ impl<'a, S> Clone for View<'a, S> {
     }
 }
 
+impl<'a, S, J: Journal> Copy for View<'a, S, J> {}
+
 // Why a range is refused, or nothing.
-pub fn refusal_of(cells: &Edits, lo: u32, hi: u32) -> Option<Refusal>
+pub fn refusal_of<J: Journal>(cells: &Edits<J>, lo: u32, hi: u32) -> Option<Refusal>
     ensures value { result ≡ range_refusal cells.now.journal lo hi }
     ensures limits { IsLegalInLimits cells.now }
     ensures order { IfNone result (lo ≤ hi) }
