@@ -28,7 +28,7 @@ use crate::pushing::follow_pushes;
 use crate::vouching::stands_here;
 use crate::writing::follow_writes;
 use lv_bodies::Body;
-use lv_edits::{Edit, Edits, Receipt};
+use lv_edits::{Edit, Edits, Journal, Kept, Receipt};
 use lv_geometry::{Limits, Node, Refusal};
 use lv_reduce::{Answer, Reads, Scan, Stretch, View};
 use lv_refresh::{Claims, Job, Outcome};
@@ -36,16 +36,16 @@ use lv_summary::{Accepted, Summaries};
 use std::alloc::Global;
 use std::marker::Model;
 
-/// A vector whose reductions and scans stay current while it is edited.
+/// A vector whose reductions and scans stay current while it is edited. Its journal is kept unless told otherwise.
 #[derive(Drop)]
-pub struct Live<B: Body> {
+pub struct Live<B: Body, J: Journal = Kept> {
     body: B,
-    cells: Edits,
+    cells: Edits<J>,
     table: Summaries<B::S>,
     claims: Claims,
 }
 
-impl<B: Body> Model for Live<B> {
+impl<B: Body, J: Journal> Model for Live<B, J> {
     ghost use Rattle.lv_live.specs.Kept.{IsLive};
     ghost use Rattle.lv_live.specs.State.{LiveState};
 
@@ -65,10 +65,74 @@ impl<B: Body> Live<B> {
         ensures unclaimed { (n : Node) → (recorded result).claimed n ≡ None }
         ensures nothing_kept { (n : Node) → (recorded result).kept n ≡ None }
     {
+        Live::empty(alloc, limits, body)
+    }
+
+    /// The accepted edits, in order.
+    pub fn journal(&self) -> &[Edit]
+        ensures { result.now ≡ self.now.history.journal }
+    {
+        self.cells.journal()
+    }
+
+    /// How many cells and summaries `reduce` reads for the elements from index `lo` up to `hi`, which is counted without reading them.
+    /// Refused with `BadRange`, then `OutOfRange`. Takes no memory.
+    pub fn cost(&self, lo: u32, hi: u32) -> Result<Reads, Refusal>
+        ensures { Costs (recorded self.now) lo hi result }
+    {
+        // The summaries agree with the journal.
+        let _ = &self.table;
+        lv_reduce::cost(self.view(), lo, hi)
+    }
+
+    /// The fold of the elements from index `lo` up to `hi` by any body, with the number of the last edit. It folds the elements where
+    /// they lie and reads no summary, so it is meant for ranges that are so short that their summaries would cost more. Refused with
+    /// `BadRange`, then `OutOfRange`. Takes no memory.
+    pub fn fold_by<K: Body>(&self, body: &K, lo: u32, hi: u32) -> Result<(u32, K::S), Refusal>
+        ensures ok { IfOk result (λ answer. IsAnswerPair (K.operations (K.meaning body.now)) self.now.history.journal lo hi answer) }
+        ensures err { IfErr result (λ refusal. range_refusal self.now.history.journal lo hi ≡ Some refusal) }
+    {
+        lv_reduce::fold_elements(&self.cells, body, lo, hi)
+    }
+
+    /// The running folds of the elements from index `lo` up to `hi`, each with its own. Refused with `BadRange`, `OutOfRange`,
+    /// then `NoMemory`.
+    pub fn scan_inclusive(&self, alloc: Global, lo: u32, hi: u32) -> Result<Scan<B::S>, Refusal>
+        ensures { Scans (B.operations (B.meaning self.now.body)) (recorded self.now) lo hi true result }
+    {
+        lv_reduce::scan_inclusive(alloc, self.view(), &self.body, lo, hi)
+    }
+
+    /// The running folds of the elements from index `lo` up to `hi`, each without its own. Refused as the inclusive scan is.
+    pub fn scan_exclusive(&self, alloc: Global, lo: u32, hi: u32) -> Result<Scan<B::S>, Refusal>
+        ensures { Scans (B.operations (B.meaning self.now.body)) (recorded self.now) lo hi false result }
+    {
+        lv_reduce::scan_exclusive(alloc, self.view(), &self.body, lo, hi)
+    }
+
+    /// The elements from index `lo` up to `hi`, copied, to be scanned while the vector is edited. Refused as a scan is.
+    pub fn copy_range(&self, alloc: Global, lo: u32, hi: u32) -> Result<Stretch<B>, Refusal>
+        ensures ok { IfOk result (λ stretch. IsStretch self.now.history.journal lo hi stretch) }
+        ensures body { IfOk result (λ stretch. stretch.body ≡ self.now.body) }
+        ensures err { IfErr result (λ refusal. IsScanRefusal self.now.history.journal lo hi refusal) }
+    {
+        Stretch::copy(alloc, &self.cells, self.body, lo, hi)
+    }
+}
+
+impl<B: Body, J: Journal> Live<B, J> {
+    /// An empty vector over either journal, for which nothing is claimed and nothing kept. Takes no memory.
+    pub fn empty(alloc: Global, limits: Limits, body: B) -> Live<B, J>
+        ensures body { result.body ≡ body }
+        ensures history { result.history ≡ record { limits = limits; journal = [] } }
+        ensures limits { IsLegalInLimits result.history }
+        ensures unclaimed { (n : Node) → (recorded result).claimed n ≡ None }
+        ensures nothing_kept { (n : Node) → (recorded result).kept n ≡ None }
+    {
         let blank = body.identity();
         Live {
             body,
-            cells: Edits::new(alloc, limits),
+            cells: Edits::empty(alloc, limits),
             table: Summaries::new(alloc, blank),
             claims: Claims::new(alloc),
         }
@@ -210,13 +274,6 @@ impl<B: Body> Live<B> {
         self.cells.edit()
     }
 
-    /// The accepted edits, in order.
-    pub fn journal(&self) -> &[Edit]
-        ensures { result.now ≡ self.now.history.journal }
-    {
-        self.cells.journal()
-    }
-
     /// The fold of the elements from index `lo` up to `hi`, at the last edit. Refused with `BadRange`, then `OutOfRange`.
     /// Takes no memory.
     pub fn reduce(&self, lo: u32, hi: u32) -> Result<Answer<B::S>, Refusal>
@@ -224,16 +281,6 @@ impl<B: Body> Live<B> {
         ensures few { IfOk result (λ answer. IsFew (is_fresh (recorded self.now)) lo hi answer.cells_read answer.summaries_read) }
     {
         lv_reduce::reduce(self.view(), &self.body, lo, hi)
-    }
-
-    /// How many cells and summaries `reduce` reads for the elements from index `lo` up to `hi`, which is counted without reading them.
-    /// Refused with `BadRange`, then `OutOfRange`. Takes no memory.
-    pub fn cost(&self, lo: u32, hi: u32) -> Result<Reads, Refusal>
-        ensures { Costs (recorded self.now) lo hi result }
-    {
-        // The summaries agree with the journal.
-        let _ = &self.table;
-        lv_reduce::cost(self.view(), lo, hi)
     }
 
     /// What `reduce` answers, keeping what is computed for it: so a range that was asked for costs at most 14 cells and 84 summaries
@@ -252,40 +299,6 @@ impl<B: Body> Live<B> {
         ensures few { IfOk result (λ answer. IsFewAsked (known_in self.old.table) (known_in self.new.table) lo hi answer.cells_read answer.summaries_read) }
     {
         lv_reduce::ask(&self.cells, &mut self.table, &self.body, lo, hi)
-    }
-
-    /// The fold of the elements from index `lo` up to `hi` by any body, with the number of the last edit. It folds the elements where
-    /// they lie and reads no summary, so it is meant for ranges that are so short that their summaries would cost more. Refused with
-    /// `BadRange`, then `OutOfRange`. Takes no memory.
-    pub fn fold_by<K: Body>(&self, body: &K, lo: u32, hi: u32) -> Result<(u32, K::S), Refusal>
-        ensures ok { IfOk result (λ answer. IsAnswerPair (K.operations (K.meaning body.now)) self.now.history.journal lo hi answer) }
-        ensures err { IfErr result (λ refusal. range_refusal self.now.history.journal lo hi ≡ Some refusal) }
-    {
-        lv_reduce::fold_elements(&self.cells, body, lo, hi)
-    }
-
-    /// The running folds of the elements from index `lo` up to `hi`, each with its own. Refused with `BadRange`, `OutOfRange`,
-    /// then `NoMemory`.
-    pub fn scan_inclusive(&self, alloc: Global, lo: u32, hi: u32) -> Result<Scan<B::S>, Refusal>
-        ensures { Scans (B.operations (B.meaning self.now.body)) (recorded self.now) lo hi true result }
-    {
-        lv_reduce::scan_inclusive(alloc, self.view(), &self.body, lo, hi)
-    }
-
-    /// The running folds of the elements from index `lo` up to `hi`, each without its own. Refused as the inclusive scan is.
-    pub fn scan_exclusive(&self, alloc: Global, lo: u32, hi: u32) -> Result<Scan<B::S>, Refusal>
-        ensures { Scans (B.operations (B.meaning self.now.body)) (recorded self.now) lo hi false result }
-    {
-        lv_reduce::scan_exclusive(alloc, self.view(), &self.body, lo, hi)
-    }
-
-    /// The elements from index `lo` up to `hi`, copied, to be scanned while the vector is edited. Refused as a scan is.
-    pub fn copy_range(&self, alloc: Global, lo: u32, hi: u32) -> Result<Stretch<B>, Refusal>
-        ensures ok { IfOk result (λ stretch. IsStretch self.now.history.journal lo hi stretch) }
-        ensures body { IfOk result (λ stretch. stretch.body ≡ self.now.body) }
-        ensures err { IfErr result (λ refusal. IsScanRefusal self.now.history.journal lo hi refusal) }
-    {
-        Stretch::copy(alloc, &self.cells, self.body, lo, hi)
     }
 
     /// A job for the least node that wants one, or none. Takes no memory.
@@ -440,7 +453,7 @@ impl<B: Body> Live<B> {
 
     /// What a query reads: the elements, and the summaries that are kept for them.
     #[inline(always)]
-    pub fn view(&self) -> View<'_, B::S>
+    pub fn view(&self) -> View<'_, B::S, J>
         ensures cells { result.cells.now ≡ self.now.history }
         ensures table { result.table.now ≡ self.now.table }
     {

@@ -8,16 +8,16 @@ ghost use Rattle.lv_refresh.specs.Claimed.{ClaimTable, record_of};
 ghost use Rattle.lv_refresh.specs.Honesty.{Stands};
 
 use lv_bodies::Body;
-use lv_edits::Edits;
+use lv_edits::{Edits, Journal};
 use lv_geometry::Node;
 use lv_refresh::{Contents, Eight, children_of};
 use lv_summary::Summaries;
 
 /// Whether contents are what stands at a whole node now.
 #[inline(always)]
-pub fn stands_here<B: Body>(
+pub fn stands_here<B: Body, J: Journal>(
     body: &B,
-    cells: &Edits,
+    cells: &Edits<J>,
     table: &Summaries<B::S>,
     node: Node,
     contents: &Contents<B::S>,
@@ -36,7 +36,7 @@ pub fn stands_here<B: Body>(
 
 // Whether elements are those of a whole block.
 #[inline(always)]
-fn have_elements(cells: &Edits, block: Node, elements: &[i64; 8]) -> bool
+fn have_elements<J: Journal>(cells: &Edits<J>, block: Node, elements: &[i64; 8]) -> bool
     requires level { block.level ≡ 1 }
     requires whole { is_below block (length (list_of cells.now.journal)) ≡ true }
     ensures { IsTrue result ↔ (elements.now ≡ elements_under cells.now.journal block) }
@@ -45,9 +45,9 @@ fn have_elements(cells: &Edits, block: Node, elements: &[i64; 8]) -> bool
 }
 
 // Whether summaries are those of a whole node's children, which are fresh. The cells are those that the table is of.
-fn have_summaries<B: Body>(
+fn have_summaries<B: Body, J: Journal>(
     body: &B,
-    _cells: &Edits,
+    _cells: &Edits<J>,
     table: &Summaries<B::S>,
     node: Node,
     summaries: &Eight<B::S>,

@@ -1,6 +1,6 @@
 use Rattle.std.proofs.Common.{◌≡◌, sym, ap, ◌∙◌}
 use Rattle.lv_live.proofs.QueryLaws.{costs_by}
-use Rattle.lv_live.proofs.live.Live.cost.Goals as goal
+use Rattle.lv_live.proofs.live.Live+B.cost.Goals as goal
 
 pub returns : goal.returns
 returns g c =
