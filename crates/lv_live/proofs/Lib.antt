@@ -1,3 +1,4 @@
+pub mod BatchLaws
 pub mod DeliverLaws
 pub mod EditLaws
 pub mod EveryRunLaws

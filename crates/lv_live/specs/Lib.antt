@@ -1,3 +1,4 @@
+pub mod Batches
 pub mod EveryRun
 pub mod Follows
 pub mod Kept

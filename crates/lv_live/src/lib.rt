@@ -5,6 +5,7 @@
 //! answer is the plain left fold at its edit. No thread is started here, and nothing waits.
 #![tactic(auto)]
 
+mod batches;
 mod delivering;
 mod events;
 mod following;
@@ -19,6 +20,9 @@ mod vouching;
 mod worlds;
 mod writing;
 
+pub use batches::{
+    Batch, BatchOutcome, BatchOutcomeOf, Batched, BlockJob, BlockOutcome, BlockOutcomeOf,
+};
 pub use events::Event;
 pub use following::{Touched, touched_indices};
 pub use issued::Issued;

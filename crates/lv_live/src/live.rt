@@ -22,6 +22,8 @@ ghost use Rattle.lv_live.specs.State.{CanRemake, HasClaim, HasDelivery, HasNoCla
 ghost use Rattle.lv_live.specs.Step.{Costs, Reduces, Scans};
 ghost use Rattle.lv_live.specs.Turns.{TakesTurn, TakesTurns};
 
+mod batches;
+
 use crate::delivering::deliver_anew;
 use crate::following::{Touched, follow, make_room, touched_indices};
 use crate::pushing::follow_pushes;

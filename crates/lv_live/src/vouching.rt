@@ -34,9 +34,9 @@ pub fn stands_here<B: Body, J: Journal>(
     }
 }
 
-// Whether elements are those of a whole block.
+/// Whether elements are those of a whole block.
 #[inline(always)]
-fn have_elements<J: Journal>(cells: &Edits<J>, block: Node, elements: &[i64; 8]) -> bool
+pub fn have_elements<J: Journal>(cells: &Edits<J>, block: Node, elements: &[i64; 8]) -> bool
     requires level { block.level ≡ 1 }
     requires whole { is_below block (length (list_of cells.now.journal)) ≡ true }
     ensures { IsTrue result ↔ (elements.now ≡ elements_under cells.now.journal block) }
