@@ -1,6 +1,7 @@
 pub mod ChainCalls
 pub mod ChainCuts
 pub mod ChainFolds
+pub mod ChainFronts
 pub mod ChainLaws
 pub mod ChainPuts
 pub mod ChainReads
@@ -10,6 +11,7 @@ pub mod ChainTrees
 pub mod FreeLaws
 pub mod PlacedLaws
 pub mod PlainLaws
+pub mod PushLaws
 pub mod RefreshLaws
 pub mod ScanSteps
 pub mod SeriesLaws

@@ -1,15 +1,17 @@
 -- What a shard's vector allows, and what an edit of it leaves.
-use Rattle.std.proofs.Common.{◌≡◌, ℕ, ℤ, ◌+◌, ◌-◌, ◌^◌, ◌*◌, ◌<◌, ◌≤◌, Some, None, List, [], ◌∷◌, ◌++◌, length, sym, ap, subst, ◌∙◌, arith, length-append, Result, Ok, Err, OnOk}
+use Rattle.std.proofs.Common.{◌≡◌, ℕ, ℤ, ◌+◌, ◌-◌, ◌^◌, ◌*◌, ◌<◌, ◌≤◌, Some, None, List, [], ◌∷◌, ◌++◌, length, map, refl, sym, ap, subst, ◌∙◌, arith, append_assoc, append-nil, length-append, Result, Ok, Err, OnOk}
 use Rattle.std.proofs.lemmas.Bool.{and_from, cond-false, cond-true, le-ltb, lt-ltb, ne_eqb}
 use Rattle.std.proofs.lemmas.Option.{same_Some}
 use Rattle.lv_geometry.specs.Bounds.{Bounds}
 use Rattle.lv_edits.specs.declared.edit.Edit.{Edit}
 use Rattle.lv_edits.specs.declared.edit.Edit.TheVariants.{Push, Pop, Write, Swap, Truncate}
 use Rattle.lv_edits.specs.declared.receipt.Receipt.{Receipt}
-use Rattle.lv_edits.specs.History.{History, applied, list_of}
+use Rattle.lv_edits.specs.History.{History, applied, list_of, with_edit}
 use Rattle.lv_edits.specs.Kept.{IsLegalInLimits}
+use Rattle.lv_edits.specs.Pushes.{AcceptsAll, with_pushes}
 use Rattle.lv_edits.specs.Verdict.{Accepts, refused_on, verdict_of}
 use Rattle.lv_edits.proofs.HistoryLaws.{accepted_is_possible, list_of_replayed, list_of-snoc, replayed-nil}
+use Rattle.lv_edits.proofs.RunLaws.{grown}
 use Rattle.lv_series.specs.Shard.{Holding, IsShard}
 
 -- the limits of a shard
@@ -88,3 +90,30 @@ ok_changed (Err x) old new e ys body made is = made
 pub still_free : (old new : History) (e : Edit) → IsShard old → IsShard new → list_of new.journal ≡ list_of old.journal → refused_on old.limits (list_of old.journal) e ≡ None → refused_on new.limits (list_of new.journal) e ≡ None
 still_free old new e shard after same free =
     ap (λ b. refused_on b (list_of new.journal) e) (after.limits ∙ sym shard.limits) ∙ ap (λ xs. refused_on old.limits xs e) same ∙ free
+
+-- pushes keep the limits, and are as many edits at the journal's end
+limits_kept : (h : History) (xs : List ℤ) → (with_pushes h xs).limits ≡ h.limits
+limits_kept h [] = refl
+limits_kept h (x ∷ xs) = limits_kept (with_edit h (Push x)) xs
+
+journal_pushed : (h : History) (xs : List ℤ) → (with_pushes h xs).journal ≡ h.journal ++ map Push xs
+journal_pushed h [] = sym (append-nil h.journal)
+journal_pushed h (x ∷ xs) = journal_pushed (with_edit h (Push x)) xs ∙ append_assoc h.journal (Push x ∷ []) (map Push xs)
+
+-- what pushes leave that were all accepted
+pub record PushesMade (old : History) (xs : List ℤ) (new : History) : Type 0 where
+  pub shard : IsShard new
+  pub list : list_of new.journal ≡ list_of old.journal ++ xs
+  pub journal : new.journal ≡ old.journal ++ map Push xs
+
+pub pushes_made : (old new : History) (xs : List ℤ) (edit : ℕ) → IsShard old → AcceptsAll old xs edit new → IsLegalInLimits new → PushesMade old xs new
+pushes_made old new xs edit shard accepts legal = record {
+  shard = record { limits = ap (λ h. h.limits) accepts.journal ∙ limits_kept old xs ∙ shard.limits; legal = legal };
+  list = ap (λ h. list_of h.journal) accepts.journal ∙ (grown old xs shard.legal.legal).list;
+  journal = ap (λ h. h.journal) accepts.journal ∙ journal_pushed old xs;
+}
+
+-- the same body and other elements
+pub ok_elements : {B X E : Type 0} (result : Result X E) (old new : Holding B) (ys : List ℤ) → new.body ≡ old.body → OnOk result (new.elements ≡ ys) → OnOk result (new ≡ record old { elements = ys })
+ok_elements (Ok x) old new ys body is = same_holding new (record old { elements = ys }) body is
+ok_elements (Err x) old new ys body is = is

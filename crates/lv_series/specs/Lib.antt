@@ -1,6 +1,7 @@
 pub mod Chain
 pub mod Numbers
 pub mod Plain
+pub mod Pushes
 pub mod Refresh
 pub mod ScanLaws
 pub mod Series

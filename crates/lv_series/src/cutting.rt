@@ -59,6 +59,25 @@ pub fn cut<B: LongBody>(
     Ok(())
 }
 
+/// Keeps so many full shards, the first ones, and makes another the last one. Takes no memory.
+pub fn keep_front<B: LongBody>(
+    full: &mut VecDeque<Shard<B>>,
+    sums: &mut Sums<B>,
+    tail: &mut Shard<B>,
+    number: usize,
+    last: &mut Shard<B>,
+)
+    ensures full { full.new.items ≡ take number full.old.items }
+    ensures sums { sums.new.sums ≡ take number sums.old.sums }
+    ensures tail { tail.new ≡ last.old }
+    ensures body { sums.new.body ≡ sums.old.body }
+    ensures first { sums.new.first ≡ sums.old.first }
+{
+    full.truncate(number);
+    keep_sums(sums, number);
+    mem::swap(tail, last);
+}
+
 /// Drops so many full shards at the front.
 pub fn drop_front<B: LongBody>(full: &mut VecDeque<Shard<B>>, sums: &mut Sums<B>, shards: usize)
     requires full { shards ≤ length full.old.items }

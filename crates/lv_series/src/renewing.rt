@@ -49,22 +49,51 @@ pub fn make_one<B: Body>(
     ensures err { OnErr result (holding_of live.new ≡ holding_of live.old) }
     ensures age { GoesOn live.old live.new age.old age.new }
 {
-    make_ready(alloc, live, age)?;
+    make_ready(alloc, live, age, 1)?;
     match live.make(edit) {
         Ok(_) => Ok(()),
         Err(_) => Err(AllocError),
     }
 }
 
-// Lets the vector of a shard take an edit more. An error is want of memory.
-fn make_ready<B: Body>(alloc: Global, live: &mut Live<B>, age: &mut u64) -> Result<(), AllocError>
-    requires { IsShard live.old.history }
+/// Pushes values to the vector of a shard, all of them or none. It is made anew before, where it doesn't take so many edits more, and has
+/// no age then. An error is want of memory, and the elements are the same then.
+pub fn make_pushes<B: Body>(
+    alloc: Global,
+    live: &mut Live<B>,
+    age: &mut u64,
+    values: &[i64],
+) -> Result<(), AllocError>
+    requires shard { IsShard live.old.history }
+    requires room { length (list_of live.old.history.journal) + length values.now ≤ 32760 }
+    ensures shard { IsShard live.new.history }
+    ensures body { live.new.body ≡ live.old.body }
+    ensures ok { OnOk result (list_of live.new.history.journal ≡ list_of live.old.history.journal ++ values.now) }
+    ensures err { OnErr result (holding_of live.new ≡ holding_of live.old) }
+    ensures age { GoesOn live.old live.new age.old age.new }
+{
+    make_ready(alloc, live, age, values.len() as u32)?;
+    match live.push_all(values) {
+        Ok(_) => Ok(()),
+        Err(_) => Err(AllocError),
+    }
+}
+
+// Lets the vector of a shard take so many edits more. An error is want of memory.
+fn make_ready<B: Body>(
+    alloc: Global,
+    live: &mut Live<B>,
+    age: &mut u64,
+    edits: u32,
+) -> Result<(), AllocError>
+    requires shard { IsShard live.old.history }
+    requires few { edits ≤ 32760 }
     ensures shard { IsShard live.new.history }
     ensures holds { holding_of live.new ≡ holding_of live.old }
-    ensures ok { OnOk result (length live.new.history.journal < 98280) }
+    ensures ok { OnOk result (length live.new.history.journal + edits ≤ 98280) }
     ensures age { IsSameOrNew live.old live.new age.old age.new }
 {
-    if live.edit() < EDITS {
+    if live.edit() <= EDITS - edits {
         return Ok(());
     }
     renew(alloc, live)?;
@@ -77,7 +106,7 @@ fn renew<B: Body>(alloc: Global, live: &mut Live<B>) -> Result<(), AllocError>
     requires { IsShard live.old.history }
     ensures shard { IsShard live.new.history }
     ensures holds { holding_of live.new ≡ holding_of live.old }
-    ensures ok { OnOk result (length live.new.history.journal < 98280) }
+    ensures ok { OnOk result (length live.new.history.journal ≤ 32760) }
     ensures same { OnErr result (live.new ≡ live.old) }
 {
     let mut fresh = empty_vector(alloc, live.body());

@@ -10,8 +10,8 @@ use lv_bodies::LongBody;
 use std::alloc::Global;
 use std::marker::Model;
 
-// The most that an index behind the last element may be: 2^62.
-const MOST: u64 = 1 << 62;
+/// The most that an index behind the last element may be: 2^62.
+pub const MOST: u64 = 1 << 62;
 
 /// A vector of `i64` that goes on: its elements and edits are bounded by memory alone, and elements at its front may expire. Elements
 /// are kept under the indices from `first` up to `size`.

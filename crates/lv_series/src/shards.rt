@@ -1,10 +1,10 @@
-ghost use Rattle.std.specs.Prelude.{◌≡◌, ◌-◌, ◌<◌, ◌≤◌, pos, [], ◌∷◌, ◌++◌, length, take, slice_set, IfOk, OnOk, OnErr, All};
+ghost use Rattle.std.specs.Prelude.{◌≡◌, ◌+◌, ◌-◌, ◌<◌, ◌≤◌, pos, [], ◌∷◌, ◌++◌, length, take, slice_set, IfOk, OnOk, OnErr, All};
 ghost use Rattle.std.specs.List.{slice_index_or, slice_range, swap};
 ghost use Rattle.lv_geometry.specs.Elements.{IsElement};
 ghost use Rattle.lv_bodies.specs.Body.{fold_of};
 ghost use Rattle.lv_series.specs.Chain.{sum_of};
 
-use crate::renewing::{copy_of, empty_vector, make_one};
+use crate::renewing::{copy_of, empty_vector, make_one, make_pushes};
 use lv_bodies::Body;
 use lv_edits::Edit;
 use lv_live::Live;
@@ -77,6 +77,16 @@ impl<B: Body> Shard<B> {
         ensures err { OnErr result (self.new ≡ self.old) }
     {
         make_one(self.alloc, &mut self.live, &mut self.age, Edit::Push(x))
+    }
+
+    /// Puts elements at the end, all of them or none.
+    pub fn push_all(&mut self, values: &[i64]) -> Result<(), AllocError>
+        requires { length self.old.elements + length values.now ≤ 32760 }
+        ensures ok { OnOk result (self.new ≡ record self.old { elements = self.old.elements ++ values.now }) }
+        ensures err { OnErr result (self.new ≡ self.old) }
+        ensures elements { All IsElement self.new.elements }
+    {
+        make_pushes(self.alloc, &mut self.live, &mut self.age, values)
     }
 
     /// Drops the last element.

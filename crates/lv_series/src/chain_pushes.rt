@@ -1,0 +1,82 @@
+//! Many pushes at a chain at once: all of them, or none.
+ghost use Rattle.std.specs.Prelude.{◌≡◌, ◌+◌, ◌*◌, ◌^◌, ◌≤◌, ◌++◌, length, take, OnOk, OnErr};
+
+use crate::chains::Chain;
+use crate::cutting::keep_front;
+use crate::places::SHARD;
+use crate::shards::Shard;
+use lv_bodies::LongBody;
+use std::alloc::AllocError;
+
+impl<B: LongBody> Chain<B> {
+    /// Puts elements at the end, all of them or none. Where the last shard has no room for them, a copy of it is made first: it takes its
+    /// place again where memory is wanting later.
+    pub fn push_all(&mut self, values: &[i64]) -> Result<(), AllocError>
+        requires { length self.old.elements + length values.now ≤ 2 ^ 62 }
+        ensures ok { OnOk result (self.new ≡ record self.old { elements = self.old.elements ++ values.now }) }
+        ensures err { OnErr result (self.new ≡ self.old) }
+    {
+        let room = SHARD - self.tail.len();
+        if values.len() <= room as usize {
+            return self.tail.push_all(values);
+        }
+        let number = self.full.len();
+        let mut last = self.tail.copy()?;
+        let done = self.push_across(values, number, &mut last);
+        drop(last);
+        done
+    }
+
+    // Puts elements at the end, one after another. Where memory is wanting, what was the last shard is it again.
+    fn push_across(
+        &mut self,
+        values: &[i64],
+        number: usize,
+        last: &mut Shard<B>,
+    ) -> Result<(), AllocError>
+        requires few { length self.old.elements + length values.now ≤ 2 ^ 62 }
+        requires front { 32760 * number ≤ length self.old.elements }
+        requires parts { self.old.elements ≡ take (32760 * number) self.old.elements ++ last.old.elements }
+        requires body { last.old.body ≡ self.old.body }
+        requires short { length last.old.elements ≤ 32760 }
+        ensures ok { OnOk result (self.new ≡ record self.old { elements = self.old.elements ++ values.now }) }
+        ensures err { OnErr result (self.new ≡ self.old) }
+    {
+        let before = self.len();
+        match self.push_each(values) {
+            Ok(()) => Ok(()),
+            Err(error) => {
+                self.go_back(before, number, last);
+                Err(error)
+            }
+        }
+    }
+
+    // Puts elements at the end, one after another, until memory is wanting.
+    fn push_each(&mut self, values: &[i64]) -> Result<(), AllocError>
+        requires { length self.old.elements + length values.now ≤ 2 ^ 62 }
+        ensures body { self.new.body ≡ self.old.body }
+        ensures front { take (length self.old.elements) self.new.elements ≡ self.old.elements }
+        ensures ok { OnOk result (self.new.elements ≡ self.old.elements ++ values.now) }
+    {
+        for i in 0..values.len() {
+            self.push(values[i])?;
+        }
+        Ok(())
+    }
+
+    // Keeps so many elements, the first ones: those of so many full shards, and of another that becomes the last one. Takes no memory.
+    fn go_back(&mut self, before: u64, number: usize, last: &mut Shard<B>)
+        requires least { before ≤ length self.old.elements }
+        requires parts { take before self.old.elements ≡ take (32760 * number) self.old.elements ++ last.old.elements }
+        requires front { 32760 * number ≤ before }
+        requires body { last.old.body ≡ self.old.body }
+        requires short { length last.old.elements ≤ 32760 }
+        ensures { self.new ≡ record self.old { elements = take before self.old.elements } }
+    {
+        if self.len() <= before {
+            return;
+        }
+        keep_front(&mut self.full, &mut self.sums, &mut self.tail, number, last);
+    }
+}
