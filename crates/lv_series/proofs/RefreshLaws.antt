@@ -1,5 +1,5 @@
 -- What jobs of a vector carry, and what becomes of their outcomes, in terms of its elements.
-use Rattle.std.proofs.Common.{◌≡◌, ℕ, ℤ, ◌+◌, ◌-◌, ◌*◌, ◌^◌, Bool, true, false, ◌&&◌, Some, List, [], ◌∷◌, ◌++◌, take, drop, length, nat_eq, if◌then◌else◌, inl, inr, refl, sym, ap, subst, ◌∙◌, arith, append-nil, append_assoc}
+use Rattle.std.proofs.Common.{◌≡◌, ℕ, ℤ, ◌+◌, ◌-◌, ◌*◌, ◌^◌, ◌≤◌, Bool, true, false, ◌&&◌, Some, List, [], ◌∷◌, ◌++◌, take, drop, length, nat_eq, if◌then◌else◌, inl, inr, refl, sym, ap, subst, ◌∙◌, arith, append-nil, append_assoc}
 use Rattle.std.proofs.lemmas.Bool.{and_parts, eqb-true, leb-true}
 use Rattle.std.specs.List.{slice_range}
 use Rattle.lv_geometry.specs.declared.nodes.Node.{Node}
@@ -19,7 +19,7 @@ use Rattle.lv_refresh.specs.Honesty.{IsHonest, Stands, Vouched}
 use Rattle.lv_refresh.proofs.HonestyLaws.{fold_of_standing, honest_after_edit, honest_same, vouched_of_honest, whole_of_wanted}
 use Rattle.lv_summary.specs.declared.accepted.Accepted.{Accepted}
 use Rattle.lv_summary.specs.declared.accepted.Accepted.TheVariants.{Held, Installed, Stale}
-use Rattle.lv_series.specs.Refresh.{GoesOn, IsLater, IsPartOf, IsSameOrNew, is_taken}
+use Rattle.lv_series.specs.Refresh.{GoesOn, IsFair, IsLater, IsPartOf, IsSameOrNew, is_taken}
 
 -- an answer that isn't stale is one where its condition holds
 taken_both : (b c : Bool) (t : ℕ) → is_taken (if b then (if c then Held else Installed) else Stale t) ≡ true → b ≡ true
@@ -43,6 +43,15 @@ module _ {B S : Type 0} (o : Operations S) (within : S → ℕ → Type 0) (laws
         inside = omega (arith, inside);
         fold = fold_of_standing o within laws (recorded s) n job.contents (can_fold s.history limits) stands ∙ ap (fold_of o) (under_is_range xs n.number (8 ^ n.level));
       }
+
+  -- what carries the elements that stand at a whole node is vouched for
+  pub vouched_of_fair : (job : Carried B S) (same : Type 0) → IsFair same 0 (list_of s.history.journal) job → Vouched o (recorded s) same job.node job.version job.contents
+  vouched_of_fair job same fair whole touched =
+      let n = job.node in
+      let xs = list_of s.history.journal in
+      let inside : (n.number + 1) * 8 ^ n.level ≤ length xs = leb-true ((n.number + 1) * 8 ^ n.level) (length xs) (and_parts _ _ whole).1 in
+      let those = fair (omega (arith, inside)) in
+      (those.0, subst (Stands o (recorded s) n) (sym those.2) (those.1, sym (under_is_range xs n.number (8 ^ n.level))))
 
   -- whole and touched at its version, where an outcome isn't stale
   pub whole_where_taken : (n : Node) (v : ℕ) → is_taken (delivery_of (recorded s) n v) ≡ true → (is_whole s.history.journal n ≡ true) × (touched_by s.history.journal n ≡ v)

@@ -5,6 +5,7 @@ use Rattle.lv_bodies.specs.Body.{Operations, fold_of}
 use Rattle.lv_edits.specs.declared.edit.Edit.{Edit}
 use Rattle.lv_live.specs.State.{HasDelivery, LiveState, SameRefresh, recorded}
 use Rattle.lv_refresh.specs.Carried.{Carried}
+use Rattle.lv_refresh.specs.declared.contents.Contents.TheVariants.{Elements}
 use Rattle.lv_refresh.specs.Contents.{fold_of_contents}
 use Rattle.lv_refresh.specs.Delivery.{delivery_of}
 use Rattle.lv_refresh.specs.Honesty.{Vouched}
@@ -56,6 +57,20 @@ end_of shard job = 32760 * shard + (job.node.number + 1) * 8 ^ job.node.level
 pub record IsJobIn {B S : Type 0} (o : Operations S) (h : Held) (shard : ℕ) (job : Carried B S) : Type 0 where
   pub inside : end_of shard job ≤ size_of h
   pub fold : h.first ≤ first_of shard job → fold_of_contents o job.contents ≡ fold_of o (slice_of h (first_of shard job) (end_of shard job))
+
+-- an outcome of level 1 carries these elements, and a statement holds: that its body is that of the elements
+abbrev pub CarriesThose : {B S : Type 0} → Type 0 → List ℤ → Carried B S → Type 0
+CarriesThose same xs job = same × (job.node.level ≡ 1) × (job.contents ≡ Elements xs)
+
+-- an outcome may be taken in, as far as a list of elements tells, of which its shard begins at an index: its node ends behind the list, or
+-- it carries what stands there
+abbrev pub IsFair : {B S : Type 0} → Type 0 → ℕ → List ℤ → Carried B S → Type 0
+IsFair same start xs job =
+    start + (job.node.number + 1) * 8 ^ job.node.level ≤ length xs → CarriesThose same (slice_range xs (start + job.node.number * 8 ^ job.node.level) (start + (job.node.number + 1) * 8 ^ job.node.level)) job
+
+-- the same of what a series keeps: there an outcome's elements mustn't have expired
+abbrev pub IsFairIn : {B S : Type 0} → Type 0 → Held → ℕ → Carried B S → Type 0
+IsFairIn same h shard job = end_of shard job ≤ size_of h → (h.first ≤ first_of shard job) × CarriesThose same (slice_of h (first_of shard job) (end_of shard job)) job
 
 -- whether an outcome was taken in, or was held already
 abbrev pub is_taken : Accepted → Bool

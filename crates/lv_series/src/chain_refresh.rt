@@ -1,6 +1,6 @@
 //! Refresh of a chain, shard after shard. Its first shard has a number that it is told.
-ghost use Rattle.std.specs.Prelude.{◌≡◌, ◌+◌, ◌^◌, ◌<◌, ◌≤◌, true, length, IfSome, IfNone, ◌⊎◌};
-ghost use Rattle.lv_series.specs.Refresh.{IsPlaced, is_taken};
+ghost use Rattle.std.specs.Prelude.{◌≡◌, ◌+◌, ◌-◌, ◌*◌, ◌^◌, ◌<◌, ◌≤◌, true, length, IfSome, IfNone, ◌⊎◌};
+ghost use Rattle.lv_series.specs.Refresh.{IsFair, IsPlaced, is_taken};
 
 use crate::chains::Chain;
 use crate::jobs::{LongJob, LongOutcome};
@@ -20,7 +20,9 @@ impl<B: LongBody> Chain<B> {
     }
 
     /// Whether an outcome may be taken in: it is stale, or its shard vouches for it.
-    pub fn vet(&self, first: u64, outcome: &LongOutcome<B>) -> bool {
+    pub fn vet(&self, first: u64, outcome: &LongOutcome<B>) -> bool
+        ensures { (first ≤ outcome.now.shard → IsFair (B.meaning self.now.body ≡ B.meaning outcome.now.job.body) (32760 * (outcome.now.shard - first)) self.now.elements outcome.now.job) → result ≡ true }
+    {
         match index_of(first, outcome.shard(), self.full.len()) {
             Some(index) => shard_at(&self.full, &self.tail, index).vet(outcome),
             None => true,

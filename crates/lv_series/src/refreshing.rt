@@ -1,7 +1,7 @@
 //! Refresh through a series. Its jobs are those of its shards' vectors: they may be run anywhere, and their outcomes may come late, stale
 //! or twice. None of these calls changes an answer.
 ghost use Rattle.std.specs.Prelude.{◌≡◌, ◌≤◌, true, IfSome};
-ghost use Rattle.lv_series.specs.Refresh.{IsJobIn, is_taken};
+ghost use Rattle.lv_series.specs.Refresh.{IsFairIn, IsJobIn, is_taken};
 
 use crate::jobs::{LongJob, LongOutcome};
 use crate::places::SHARD;
@@ -22,8 +22,11 @@ impl<B: LongBody> Series<B> {
     }
 
     /// Whether an outcome may be accepted: it is stale, or what it carries is what stands in its shard. Yes for each outcome of a job
-    /// that this series handed out. Takes no memory.
-    pub fn vet(&self, outcome: &LongOutcome<B>) -> bool {
+    /// that this series handed out. Yes, too, for one of elements that aren't all there, and for one of level 1 that carries the elements
+    /// that stand there, whoever made it. Takes no memory.
+    pub fn vet(&self, outcome: &LongOutcome<B>) -> bool
+        ensures { IsFairIn (B.meaning self.now.body ≡ B.meaning outcome.now.job.body) self.now.held outcome.now.shard outcome.now.job → result ≡ true }
+    {
         self.chain.vet(self.gone / SHARD as u64, outcome)
     }
 

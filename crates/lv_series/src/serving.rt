@@ -1,6 +1,6 @@
 //! Refresh of a shard: its jobs are claimed, and outcomes taken in, under its age.
 ghost use Rattle.std.specs.Prelude.{◌≡◌, ◌+◌, ◌<◌, ◌≤◌, true, length, IfSome};
-ghost use Rattle.lv_series.specs.Refresh.{IsPartOf, is_taken};
+ghost use Rattle.lv_series.specs.Refresh.{IsFair, IsPartOf, is_taken};
 
 use crate::ages::{accept_under, claim_under, take_age, vet_under};
 use crate::jobs::{LongJob, LongOutcome};
@@ -23,7 +23,9 @@ impl<B: Body> Shard<B> {
     }
 
     /// Whether an outcome may be taken in: it is of another age, so that it is stale, or else its vector vouches for it.
-    pub fn vet(&self, outcome: &LongOutcome<B>) -> bool {
+    pub fn vet(&self, outcome: &LongOutcome<B>) -> bool
+        ensures { IsFair (B.meaning self.now.body ≡ B.meaning outcome.now.job.body) 0 self.now.elements outcome.now.job → result ≡ true }
+    {
         vet_under(&self.live, self.age, outcome)
     }
 
