@@ -1,4 +1,4 @@
-use Rattle.std.proofs.Common.{[], map, sym, ap, ◌++◌, ◌∙◌, append-nil}
+use Rattle.std.proofs.Common.{[], map, sym, ap, ◌++◌, ◌∙◌, arith, append-nil}
 use Rattle.lv_edits.specs.declared.edit.Edit.TheVariants.{Push}
 use Rattle.lv_series.proofs.RefreshLaws.{goes_on}
 use Rattle.lv_series.proofs.ShardLaws.{pushes_made}
