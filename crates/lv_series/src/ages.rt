@@ -8,8 +8,8 @@ ghost use Rattle.lv_refresh.specs.Honesty.{IsHonest, Vouched};
 ghost use Rattle.lv_series.specs.Refresh.{IsPartOf, Receives, Takes, is_taken};
 
 use crate::jobs::{LongJob, LongJobOf, LongOutcome};
+use crate::vectors::Live;
 use lv_bodies::Body;
-use lv_live::Live;
 use lv_refresh::Outcome;
 use lv_summary::Accepted;
 

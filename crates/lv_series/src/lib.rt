@@ -31,6 +31,7 @@ mod served;
 mod serving;
 mod shards;
 mod theorems;
+mod vectors;
 mod walking;
 
 pub use answers::{Counted, LongAnswer, LongScan};

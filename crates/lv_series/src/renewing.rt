@@ -4,10 +4,10 @@ ghost use Rattle.lv_edits.specs.Verdict.{refused_on};
 ghost use Rattle.lv_series.specs.Refresh.{GoesOn, IsSameOrNew};
 ghost use Rattle.lv_series.specs.Shard.{IsShard, holding_of};
 
+use crate::vectors::Live;
 use lv_bodies::Body;
 use lv_edits::Edit;
 use lv_geometry::Limits;
-use lv_live::Live;
 use std::alloc::{AllocError, Global};
 use std::mem;
 
@@ -20,7 +20,7 @@ pub fn empty_vector<B: Body>(alloc: Global, body: B) -> Live<B>
     ensures empty { result.history.journal ≡ [] }
     ensures holds { holding_of result ≡ record { body = body; elements = [] } }
 {
-    Live::new(alloc, shard_limits(), body)
+    Live::empty(alloc, shard_limits(), body)
 }
 
 // The limits of a shard: 12 buckets, which hold 32,760 elements.

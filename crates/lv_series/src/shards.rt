@@ -5,9 +5,9 @@ ghost use Rattle.lv_bodies.specs.Body.{fold_of};
 ghost use Rattle.lv_series.specs.Chain.{sum_of};
 
 use crate::renewing::{copy_of, empty_vector, make_one, make_pushes};
+use crate::vectors::Live;
 use lv_bodies::Body;
 use lv_edits::Edit;
-use lv_live::Live;
 use std::alloc::{AllocError, Global};
 use std::marker::Model;
 
