@@ -1,13 +1,13 @@
-//! Tests of swaps and truncates on edits alone, where memory is wanting too.
+//! Tests of swaps and truncates on edits alone, over either journal, where memory is wanting too.
 use crate::same::assert_same;
-use lv_edits::{Edits, Receipt};
+use lv_edits::{Edits, Erased, Journal, Receipt};
 use lv_geometry::{Limits, Refusal};
 use std::process::Abort;
 
 // Exchanges two elements. Where memory is wanting it sees that nothing has changed, and tries again.
-fn swap_or_again(
+fn swap_or_again<J: Journal>(
     rt: &impl Abort,
-    edits: &mut Edits,
+    edits: &mut Edits<J>,
     first: u32,
     second: u32,
 ) -> Result<Receipt, Refusal> {
@@ -21,7 +21,11 @@ fn swap_or_again(
 }
 
 // Drops all but the first so many elements. Where memory is wanting it sees that nothing has changed, and tries again.
-fn truncate_or_again(rt: &impl Abort, edits: &mut Edits, count: u32) -> Result<Receipt, Refusal> {
+fn truncate_or_again<J: Journal>(
+    rt: &impl Abort,
+    edits: &mut Edits<J>,
+    count: u32,
+) -> Result<Receipt, Refusal> {
     let before = (edits.size(), edits.edit(), edits.get(0));
     let answer = edits.truncate(count);
     if answer == Err(Refusal::NoMemory) {
@@ -32,14 +36,14 @@ fn truncate_or_again(rt: &impl Abort, edits: &mut Edits, count: u32) -> Result<R
 }
 
 // Pushes an element. Where memory is wanting it pushes again.
-fn push_or_again(edits: &mut Edits, x: i64) -> Result<Receipt, Refusal> {
+fn push_or_again<J: Journal>(edits: &mut Edits<J>, x: i64) -> Result<Receipt, Refusal> {
     match edits.push(x) {
         Err(Refusal::NoMemory) => edits.push(x),
         answer => answer,
     }
 }
 
-fn check_swaps(rt: &impl Abort, edits: &mut Edits) {
+fn check_swaps<J: Journal>(rt: &impl Abort, edits: &mut Edits<J>) {
     for x in [4, 6, 9] {
         assert!(rt; push_or_again(edits, x).is_ok());
     }
@@ -86,6 +90,13 @@ fn check_swaps(rt: &impl Abort, edits: &mut Edits) {
 #[test]
 fn swaps_and_truncates_answer(rt: HostRuntime) {
     let mut edits = Edits::new(rt.alloc(), Limits::greatest());
+    check_swaps(&rt, &mut edits);
+    drop(edits);
+}
+
+#[test]
+fn swaps_and_truncates_answer_without_a_journal(rt: HostRuntime) {
+    let mut edits = Edits::<Erased>::empty(rt.alloc(), Limits::greatest());
     check_swaps(&rt, &mut edits);
     drop(edits);
 }

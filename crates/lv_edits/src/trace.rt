@@ -16,6 +16,12 @@ impl Model for Trace {
     ghost also_owns = { λ _. ftrue };
 }
 
+// It owns nothing.
+unsafe impl Send for Trace {}
+
+// It owns nothing.
+unsafe impl Sync for Trace {}
+
 impl Trace {
     /// No edits.
     pub fn new() -> Trace
