@@ -578,7 +578,7 @@ LIVEVEC_MUST_USE uint32_t livevec_run(livevec_job *job, livevec_outcome *outcome
  * Refusals: NULL, NO_HANDLE (of either slot). */
 LIVEVEC_MUST_USE livevec_vetted livevec_vet(livevec_vector *slot, livevec_outcome *outcome);
 
-/* Takes an outcome in, if vet says yes. The outcome stays as it is, and may be delivered again. Takes no memory.
+/* Delivers an outcome, if vet says yes. The outcome stays as it is, and may be delivered again. Takes no memory.
  * Refusals: NULL, NO_HANDLE (of either slot), STRANGER. */
 livevec_accepted livevec_accept(livevec_vector *slot, livevec_outcome *outcome);
 

@@ -1385,14 +1385,14 @@ class Vector(_Handle, collections.abc.Sequence[int]):
         return job if did.found else None
 
     def vouches_for(self, outcome: Outcome) -> bool:
-        """Whether `deliver` would take an outcome in: yes for each of a job of this vector, however late."""
+        """Whether `deliver` would take an outcome: yes for each of a job of this vector, however late."""
         told = _vet(self._at, _checked(outcome)._at)
         if told.refusal:
             raise _refuse(told.refusal)
         return told.yes
 
     def deliver(self, outcome: Outcome) -> Delivered:
-        """Takes an outcome in. It may be late or come twice. Raises Stranger where it isn't of a job of this vector."""
+        """Delivers an outcome. It may be late or come twice. Raises Stranger where it isn't of a job of this vector."""
         did = _accept(self._at, _checked(outcome)._at)
         if did.refusal:
             raise _refuse(did.refusal)

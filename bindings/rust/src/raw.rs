@@ -171,7 +171,7 @@ struct Scanned {
 }
 
 #[repr(C)]
-pub(crate) struct Claimed {
+pub(crate) struct ClaimedJob {
     refusal: u32,
     found: bool,
     pub(crate) level: u32,
@@ -282,7 +282,7 @@ unsafe extern "C" {
     fn livevec_scan_exclusive_affine(slot: *mut Slot, lo: u32, hi: u32, column: *mut c_void, length: usize) -> Scanned;
     fn livevec_scan_exclusive_automaton(slot: *mut Slot, lo: u32, hi: u32, column: *mut c_void, length: usize) -> Scanned;
     fn livevec_refresh(slot: *mut Slot, jobs: u32) -> Count;
-    fn livevec_claim(slot: *mut Slot, job: *mut Slot) -> Claimed;
+    fn livevec_claim(slot: *mut Slot, job: *mut Slot) -> ClaimedJob;
     fn livevec_run(job: *mut Slot, outcome: *mut Slot) -> u32;
     fn livevec_vet(slot: *mut Slot, outcome: *mut Slot) -> Vetted;
     fn livevec_accept(slot: *mut Slot, outcome: *mut Slot) -> Became;
@@ -608,7 +608,7 @@ impl Vector {
     }
 
     /// A job, if a node wants one.
-    pub(crate) fn claim(&mut self) -> Result<Option<(Claimed, Job)>, Refusal> {
+    pub(crate) fn claim(&mut self) -> Result<Option<(ClaimedJob, Job)>, Refusal> {
         let work = boxed(Work { job: Slot::empty(), outcome: Slot::empty() })?;
         // SAFETY: see above; the job's slot is empty, and lies in its box until it is dropped.
         let did = unsafe { livevec_claim(self.slot.get(), work.job.get()) };

@@ -432,12 +432,12 @@ impl Vector {
         Ok(claimed.map(|(told, raw)| Job { raw, node: Node { level: told.level, number: told.number }, version: told.version }))
     }
 
-    /// Whether [`deliver`](Vector::deliver) would take an outcome in: yes for each of a job of this vector, however late.
+    /// Whether [`deliver`](Vector::deliver) would take an outcome: yes for each of a job of this vector, however late.
     pub fn vouches_for(&self, outcome: &Outcome) -> bool {
         self.raw.vouches_for(&outcome.raw)
     }
 
-    /// Takes an outcome in. It may be late or come twice: no answer changes by that. Refused with `Stranger` where it is not one of this
+    /// Delivers an outcome. It may be late or come twice: no answer changes by that. Refused with `Stranger` where it is not one of this
     /// vector's jobs, as [`vouches_for`](Vector::vouches_for) says.
     pub fn deliver(&mut self, outcome: &Outcome) -> Result<Accepted, Refusal> {
         let did = self.raw.accept(&outcome.raw)?;

@@ -2,7 +2,7 @@
 ghost use Rattle.std.specs.Prelude.{◌≡◌, ◌+◌, ◌<◌};
 ghost use Rattle.alerts.specs.Followed.{HasFed};
 
-use lv_vector::hub::{Hub, Means, Share};
+use lv_vector::hub::{Hub, Share, WithBody};
 use lv_vector::{Edit, Six};
 use std::sync::Wait;
 
@@ -11,14 +11,14 @@ pub const READINGS: u32 = 1000;
 
 /// What a sensor's thread leaves: its share of the hub, and how many of its readings were accepted and how many refused.
 #[derive(Drop)]
-pub struct Fed<N: Means<Six>> {
+pub struct Fed<N: WithBody<Six>> {
     pub share: Share<N>,
     pub accepted: u32,
     pub refused: u32,
 }
 
 /// Pushes the readings of a sensor, in order. Its share counts those that are accepted.
-pub fn feed<N: Means<Six>, R: Wait>(
+pub fn feed<N: WithBody<Six>, R: Wait>(
     rt: &R,
     hub: &Hub<Six, N>,
     share: Share<N>,
@@ -38,7 +38,7 @@ pub fn feed<N: Means<Six>, R: Wait>(
 }
 
 // Pushes a reading, and counts it as accepted or as refused.
-fn push<N: Means<Six>, R: Wait>(rt: &R, hub: &Hub<Six, N>, fed: &mut Fed<N>, value: i64)
+fn push<N: WithBody<Six>, R: Wait>(rt: &R, hub: &Hub<Six, N>, fed: &mut Fed<N>, value: i64)
     requires few { fed.old.accepted + fed.old.refused < READINGS }
     ensures parts { fed.new.share.parts ≡ fed.old.share.parts }
     ensures count { fed.new.share.count + fed.old.accepted ≡ fed.old.share.count + fed.new.accepted }

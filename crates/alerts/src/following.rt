@@ -2,7 +2,7 @@
 ghost use Rattle.std.specs.Prelude.{◌≡◌, [], IfOk, OnOk};
 ghost use Rattle.alerts.specs.Followed.{Follows, IsWatching, KeepsFollowing};
 
-use lv_vector::hub::{Hub, Means, Question, Share, Subscriber, Told};
+use lv_vector::hub::{Hub, Question, Share, Subscriber, Told, WithBody};
 use lv_vector::{Refusal, Six};
 use std::alloc::Global;
 use std::sync::Wait;
@@ -13,14 +13,14 @@ const PAUSE_MICROSECONDS: u64 = 50;
 
 /// A subscriber, what it was told, in order, and whether it ended early for want of memory.
 #[derive(Drop)]
-pub struct Follower<N: Means<Six>> {
+pub struct Follower<N: WithBody<Six>> {
     pub subscriber: Subscriber<N>,
     pub told: Vec<Told>,
     pub starved: bool,
 }
 
 /// A subscriber with these questions and a share of its own, which was told nothing yet. Refused as `Subscriber::watch` is.
-pub fn begin<N: Means<Six>>(
+pub fn begin<N: WithBody<Six>>(
     alloc: Global,
     share: Share<N>,
     questions: &[Question],
@@ -41,7 +41,7 @@ pub fn begin<N: Means<Six>>(
 }
 
 // Registers questions in order, where there are none yet.
-fn watch_all<N: Means<Six>>(
+fn watch_all<N: WithBody<Six>>(
     subscriber: &mut Subscriber<N>,
     questions: &[Question],
 ) -> Result<(), Refusal>
@@ -57,7 +57,7 @@ fn watch_all<N: Means<Six>>(
 }
 
 /// Keeps what there is to tell until the hub's workers are dismissed, or until memory is wanting.
-pub fn follow<N: Means<Six>, R: Wait>(
+pub fn follow<N: WithBody<Six>, R: Wait>(
     rt: &R,
     alloc: Global,
     hub: &Hub<Six, N>,
@@ -70,7 +70,7 @@ pub fn follow<N: Means<Six>, R: Wait>(
 }
 
 // The same, where the follower stands.
-fn follow_all<N: Means<Six>, R: Wait>(
+fn follow_all<N: WithBody<Six>, R: Wait>(
     rt: &R,
     alloc: Global,
     hub: &Hub<Six, N>,
@@ -86,7 +86,7 @@ fn follow_all<N: Means<Six>, R: Wait>(
 }
 
 // Keeps what there is to tell next. Says whether it goes on: not where the workers are dismissed, nor where memory is wanting.
-fn follow_once<N: Means<Six>, R: Wait>(
+fn follow_once<N: WithBody<Six>, R: Wait>(
     rt: &R,
     alloc: Global,
     hub: &Hub<Six, N>,

@@ -7,7 +7,7 @@ ghost use Rattle.alerts.specs.Followed.{Follows, HasFed, KeepsFollowing};
 
 use crate::feeding::{Fed, READINGS, feed};
 use crate::following::{Follower, begin, follow};
-use lv_vector::hub::{Ended, Hub, Means, OpenGate, Opened, Question, Share, Told, attend};
+use lv_vector::hub::{Ended, Hub, OpenGate, Opened, Question, Share, Told, WithBody, attend};
 use lv_vector::{Limits, Refusal, Six};
 use std::alloc::Global;
 use std::marker::Brand;
@@ -35,7 +35,7 @@ pub struct Report {
 
 // What the threads leave: their shares as one, and the rest.
 #[derive(Drop)]
-struct Gathered<N: Means<Six>> {
+struct Gathered<N: WithBody<Six>> {
     share: Share<N>,
     ended: Ended,
     told: Vec<Told>,
@@ -46,7 +46,7 @@ struct Gathered<N: Means<Six>> {
 
 // What the threads leave, each by itself.
 #[derive(Drop)]
-struct Done<N: Means<Six>> {
+struct Done<N: WithBody<Six>> {
     follower: Follower<N>,
     first: Fed<N>,
     second: Fed<N>,
@@ -75,7 +75,7 @@ pub fn run<R: Threads + Wait + Sync>(
 }
 
 // The same at a hub of this name.
-fn run_as<N: Means<Six> + Send + Sync, R: Threads + Wait + Sync>(
+fn run_as<N: WithBody<Six> + Send + Sync, R: Threads + Wait + Sync>(
     rt: &R,
     alloc: Global,
     limits: Limits,
@@ -104,7 +104,7 @@ fn run_as<N: Means<Six> + Send + Sync, R: Threads + Wait + Sync>(
 }
 
 // Runs all threads at a hub that has no edits yet, and joins what they leave.
-fn gather<N: Means<Six> + Send + Sync, R: Threads + Wait + Sync>(
+fn gather<N: WithBody<Six> + Send + Sync, R: Threads + Wait + Sync>(
     rt: &R,
     alloc: Global,
     hub: &Hub<Six, N>,
@@ -127,7 +127,7 @@ fn gather<N: Means<Six> + Send + Sync, R: Threads + Wait + Sync>(
 }
 
 // The worker beside the others, who dismiss it. Where no thread can be made for it, it comes last, and ends at once.
-fn run_all<N: Means<Six> + Send + Sync, R: Threads + Wait + Sync>(
+fn run_all<N: WithBody<Six> + Send + Sync, R: Threads + Wait + Sync>(
     rt: &R,
     alloc: Global,
     hub: &Hub<Six, N>,
@@ -154,7 +154,7 @@ fn run_all<N: Means<Six> + Send + Sync, R: Threads + Wait + Sync>(
 }
 
 // The subscriber beside the sensors, which dismiss it. Where no thread can be made for it, it comes last, and is told at the end alone.
-fn follow_and_feed<N: Means<Six> + Send + Sync, R: Threads + Wait + Sync>(
+fn follow_and_feed<N: WithBody<Six> + Send + Sync, R: Threads + Wait + Sync>(
     rt: &R,
     alloc: Global,
     hub: &Hub<Six, N>,
@@ -188,7 +188,7 @@ fn follow_and_feed<N: Means<Six> + Send + Sync, R: Threads + Wait + Sync>(
 }
 
 // Both sensors beside one another.
-fn feed_both<N: Means<Six> + Send + Sync, R: Threads + Wait + Sync>(
+fn feed_both<N: WithBody<Six> + Send + Sync, R: Threads + Wait + Sync>(
     rt: &R,
     hub: &Hub<Six, N>,
     first: Share<N>,
@@ -209,7 +209,7 @@ fn feed_both<N: Means<Six> + Send + Sync, R: Threads + Wait + Sync>(
 }
 
 // The shares as one, and what the threads leave besides.
-fn join_all<N: Means<Six>>(done: Done<N>) -> Gathered<N>
+fn join_all<N: WithBody<Six>>(done: Done<N>) -> Gathered<N>
     requires first { done.first.accepted + done.first.refused ≡ READINGS }
     requires second { done.second.accepted + done.second.refused ≡ READINGS }
     ensures parts { result.share.parts ≡ done.follower.subscriber.share.parts + done.first.share.parts + done.second.share.parts }
@@ -244,7 +244,7 @@ fn join_all<N: Means<Six>>(done: Done<N>) -> Gathered<N>
 }
 
 // Closes the hub, and lets the subscriber tell its last. Takes no memory.
-fn finish<N: Means<Six>>(hub: Hub<Six, N>, gathered: Gathered<N>) -> Report
+fn finish<N: WithBody<Six>>(hub: Hub<Six, N>, gathered: Gathered<N>) -> Report
     requires parts { gathered.share.parts ≡ N.parts }
     requires count { gathered.share.count ≡ gathered.accepted }
     ensures told { (questions : List Question) → Follows questions gathered.share.seen gathered.ended.questions gathered.ended.told gathered.told.items → TellsOf N.limits questions result }

@@ -17,15 +17,15 @@ use Rattle.livevec.specs.Writing.{Writes}
 use Rattle.livevec.proofs.ServedLaws.{begins}
 
 -- sessions were held, by a share that has seen more
-pub held_more : (limits : Bounds) (share more : ShareState) (olds news : List Sides) (claims : List Claimed) → AreAllHeld limits share olds news claims → more.count ≡ share.count → IsPrefix share.seen more.seen
-    → AreAllHeld limits more olds news claims
-held_more limits share more olds news claims held count seen = record {
+pub held_more : (limits : Bounds) (share more : ShareState) (olds news : List Sides) (answers : List Claimed) → AreAllHeld limits share olds news answers → more.count ≡ share.count → IsPrefix share.seen more.seen
+    → AreAllHeld limits more olds news answers
+held_more limits share more olds news answers held count seen = record {
   states = held.states;
   held = held.held;
   count = count ∙ held.count;
   seen = All-weaker (λ state. IsPrefix state.seen share.seen) (λ state. IsPrefix state.seen more.seen) (λ state begun. begins state.seen share.seen more.seen begun seen) held.states held.seen;
-  claims_are = held.claims_are;
-  all_true = all_true_of_more share.seen more.seen claims seen held.all_true;
+  answers_are = held.answers_are;
+  all_true = all_true_of_more share.seen more.seen answers seen held.all_true;
 }
 
 left_as_many : (watchers : List WatcherState) → length (map left_by watchers) ≡ length watchers
@@ -47,6 +47,6 @@ closes_telling share seen history journal listed left told old new written (Ok d
       journal = journal;
       seen = subst (IsPrefix share.seen) (sym is) (begins share.seen seen history more begun);
       last = subst (λ edits. AllTellLast edits left told) (sym is) last;
-      claims = w.1.claims;
+      answers = w.1.answers;
       written = subst (Appends old new) w.1.text_is w.3;
     }

@@ -38,7 +38,7 @@ served_plainly limits olds news a b s =
       held = held_plainly limits olds news s.states s.held;
       begun = All-map (λ (seen : Seen). IsPrefix seen.edits t.journal) kept_by s.states t.seen;
       made = t.counted ∙ made_so s.states;
-      answers = t.claims;
+      answers = t.answers;
       all_true = t.all_true;
       written = subst (Appends a b) t.text_is s.written;
     }

@@ -27,7 +27,7 @@ records_so contents start history first second listed old new written ended (Ok 
     if_some file
     (λ f all. record {
       journal = first;
-      answers = w.1.claims;
+      answers = w.1.answers;
       written = subst (Appends old new) w.1.text_is w.3;
       whole = subst (WroteWhole start (contents f)) (two ∙ sym one) all;
     })

@@ -11,7 +11,7 @@ use mathlib.Core.List.{IsPrefix}
 use Rattle.lv_hub.proofs.TruthLaws.{all_true_of_more}
 use Rattle.lv_transcript.specs.declared.claimed.Claimed.{Claimed}
 use Rattle.lv_transcript.specs.Joined.{by_edit, in_a_row}
-use Rattle.lv_transcript.proofs.JoinedClaims.{by_edit_order, by_edit_permutes, by_edit_ties}
+use Rattle.lv_transcript.proofs.JoinedAnswers.{by_edit_order, by_edit_permutes, by_edit_ties}
 use Rattle.lv_lines.specs.declared.fault.Fault.{Fault}
 use Rattle.lv_lines.specs.declared.fault.Fault.TheVariants.{NoMemory, ReadFault, TooLong, WriteFault}
 use Rattle.lv_edits.specs.declared.edit.Edit.{Edit}
@@ -19,7 +19,7 @@ use Rattle.lv_geometry.specs.Bounds.{Bounds}
 use Rattle.lv_lines.specs.Replies.{Conversed}
 use Rattle.lv_edits.specs.History.{History}
 use Rattle.lv_edits.specs.Kept.{IsLegalInLimits}
-use Rattle.lv_transcript.specs.Transcript.{AreAccepted, AreInOrder, IsSoundTranscript, IsTrueClaim, Transcribes, greatest, transcript_text}
+use Rattle.lv_transcript.specs.Transcript.{AreAccepted, AreInOrder, IsSoundTranscript, IsTrueAnswer, Transcribes, greatest, transcript_text}
 use Rattle.lv_hub.specs.Counting.{AreTogether, ShareState}
 use Rattle.lv_hub.specs.Session.{KeepTies, SessionState, SessionStep, session_at}
 use Rattle.lv_hub.specs.Told.{IsVector, history_of}
@@ -82,8 +82,8 @@ pub begins : (xs ys zs : List Edit) → IsPrefix xs ys → IsPrefix ys zs → Is
 begins xs ys zs p q = (p.0 ++ q.0, sym (append_assoc xs p.0 q.0) ∙ (ap (λ w. w ++ q.0) p.1 ∙ q.1))
 
 -- one list more
-pub row_push : (lists : List (List Claimed)) (claims : List Claimed) → in_a_row (lists ++ claims ∷ []) ≡ in_a_row lists ++ claims
-row_push lists claims = flat_map-append (λ claims. claims) lists (claims ∷ []) ∙ ap (λ (more : List Claimed). in_a_row lists ++ more) (append-nil claims)
+pub row_push : (lists : List (List Claimed)) (answers : List Claimed) → in_a_row (lists ++ answers ∷ []) ≡ in_a_row lists ++ answers
+row_push lists answers = flat_map-append (λ answers. answers) lists (answers ∷ []) ∙ ap (λ (more : List Claimed). in_a_row lists ++ more) (append-nil answers)
 
 -- nothing was taken back yet
 pub takes_none : (share : ShareState) → TakesBack share share [] [] []
@@ -93,16 +93,16 @@ takes_none share = record {
   parts = omega arith;
   count = omega arith;
   seen = All-nil (λ state. IsPrefix state.seen share.seen);
-  claims_are = refl;
-  all_true = All-nil (IsTrueClaim share.seen);
+  answers_are = refl;
+  all_true = All-nil (IsTrueAnswer share.seen);
   sides_are = refl;
 }
 
 -- a share takes one session more in
-takes_one_more : (old mid new : ShareState) (ended : List Sitting) (claims more : List Claimed) (sides : List Sides) (e : Sitting)
-    → TakesBack old mid ended claims sides → AreTogether mid e.share new → e.claims ≡ Some more → e.share.parts ≡ 1 → All (IsTrueClaim e.share.seen) more
-    → TakesBack old new (ended ++ e ∷ []) (claims ++ more) (sides ++ e.sides ∷ [])
-takes_one_more old mid new ended claims more sides e t both some one true =
+takes_one_more : (old mid new : ShareState) (ended : List Sitting) (answers more : List Claimed) (sides : List Sides) (e : Sitting)
+    → TakesBack old mid ended answers sides → AreTogether mid e.share new → e.answers ≡ Some more → e.share.parts ≡ 1 → All (IsTrueAnswer e.share.seen) more
+    → TakesBack old new (ended ++ e ∷ []) (answers ++ more) (sides ++ e.sides ∷ [])
+takes_one_more old mid new ended answers more sides e t both some one true =
     let s : SessionState = session_at e.share more in
     let came : state_of e ≡ Some s = ap (option_map (session_at e.share)) some in
     record {
@@ -112,24 +112,24 @@ takes_one_more old mid new ended claims more sides e t both some one true =
       count = omega (arith, both.count, t.count, sum_by_push (λ state. state.count) t.states s);
       seen = All-push (λ state. IsPrefix state.seen new.seen) t.states s
           (All-weaker (λ state. IsPrefix state.seen mid.seen) (λ state. IsPrefix state.seen new.seen) (λ state begun. begins state.seen mid.seen new.seen begun both.first) t.states t.seen) both.second;
-      claims_are = ap (λ c. c ++ more) t.claims_are ∙ ap (λ c. answered_to t.states ++ c) (sym (append-nil more)) ∙ sym (flat_map-append (λ state. state.claims) t.states (s ∷ []));
-      all_true = All-append (IsTrueClaim new.seen) claims more (all_true_of_more mid.seen new.seen claims both.first t.all_true) (all_true_of_more e.share.seen new.seen more both.second true);
+      answers_are = ap (λ c. c ++ more) t.answers_are ∙ ap (λ c. answered_to t.states ++ c) (sym (append-nil more)) ∙ sym (flat_map-append (λ state. state.answers) t.states (s ∷ []));
+      all_true = All-append (IsTrueAnswer new.seen) answers more (all_true_of_more mid.seen new.seen answers both.first t.all_true) (all_true_of_more e.share.seen new.seen more both.second true);
       sides_are = ap (λ xs. xs ++ e.sides ∷ []) t.sides_are ∙ sym (map-append (λ ended. ended.sides) ended (e ∷ []));
     }
 
 -- the same, where its reductions and its streams went behind the others
-pub takes_next : {S : Type 0} (side : S → Sides) (old mid new : ShareState) (ended : List Sitting) (claims more took : List Claimed) (streams kept : List S) (its : S) (e : Sitting)
-    → TakesBack old mid ended claims (map side streams) → AreTogether mid e.share new → e.claims ≡ Some more → e.share.parts ≡ 1 → All (IsTrueClaim e.share.seen) more
-    → took ≡ claims ++ more → kept ≡ streams ++ its ∷ [] → side its ≡ e.sides → TakesBack old new (ended ++ e ∷ []) took (map side kept)
-takes_next side old mid new ended claims more took streams kept its e t both some one true took_is kept_is its_is =
+pub takes_next : {S : Type 0} (side : S → Sides) (old mid new : ShareState) (ended : List Sitting) (answers more took : List Claimed) (streams kept : List S) (its : S) (e : Sitting)
+    → TakesBack old mid ended answers (map side streams) → AreTogether mid e.share new → e.answers ≡ Some more → e.share.parts ≡ 1 → All (IsTrueAnswer e.share.seen) more
+    → took ≡ answers ++ more → kept ≡ streams ++ its ∷ [] → side its ≡ e.sides → TakesBack old new (ended ++ e ∷ []) took (map side kept)
+takes_next side old mid new ended answers more took streams kept its e t both some one true took_is kept_is its_is =
     let sides_are : map side kept ≡ map side streams ++ e.sides ∷ [] = ap (map side) kept_is ∙ map-append side streams (its ∷ []) ∙ ap (λ s. map side streams ++ s ∷ []) its_is in
     subst (λ took. TakesBack old new (ended ++ e ∷ []) took (map side kept)) (sym took_is)
-    (subst (λ sides. TakesBack old new (ended ++ e ∷ []) (claims ++ more) sides) (sym sides_are) (takes_one_more old mid new ended claims more (map side streams) e t both some one true))
+    (subst (λ sides. TakesBack old new (ended ++ e ∷ []) (answers ++ more) sides) (sym sides_are) (takes_one_more old mid new ended answers more (map side streams) e t both some one true))
 
 -- all that came were taken back
-pub takes_all : {S : Type 0} (side : S → Sides) (old new : ShareState) (came ended : List Sitting) (claims : List Claimed) (streams : List S)
-    → came ≡ ended → TakesBack old new came claims (map side streams) → TakesBack old new ended claims (map side streams)
-takes_all side old new came ended claims streams is t = subst (λ ended. TakesBack old new ended claims (map side streams)) is t
+pub takes_all : {S : Type 0} (side : S → Sides) (old new : ShareState) (came ended : List Sitting) (answers : List Claimed) (streams : List S)
+    → came ≡ ended → TakesBack old new came answers (map side streams) → TakesBack old new ended answers (map side streams)
+takes_all side old new came ended answers streams is t = subst (λ ended. TakesBack old new ended answers (map side streams)) is t
 
 -- one session more was given its share
 pub begins_one_more : {S : Type 0} (begun : S → Sitting) (tasks more : List Sitting) (task : Sitting) (streams : List S) (its : S)
@@ -138,14 +138,14 @@ begins_one_more begun tasks more task streams its are pushed is =
     pushed ∙ ap (λ tasks. tasks ++ task ∷ []) are ∙ ap (λ task. map begun streams ++ task ∷ []) is ∙ sym (map-append begun streams (its ∷ []))
 
 -- all sessions were held, and their shares taken back by one that had counted and seen nothing
-all_held : (limits : Bounds) (old new : ShareState) (olds news : List Sides) (begun : List Sitting) (ended : List Sitting) (claims : List Claimed)
-    → begun ≡ map begun_at olds → AreHeldFrom limits begun ended → TakesBack old new ended claims news → old.count ≡ 0 → AreAllHeld limits new olds news claims
-all_held limits old new olds news begun ended claims is held t none = record {
+all_held : (limits : Bounds) (old new : ShareState) (olds news : List Sides) (begun : List Sitting) (ended : List Sitting) (answers : List Claimed)
+    → begun ≡ map begun_at olds → AreHeldFrom limits begun ended → TakesBack old new ended answers news → old.count ≡ 0 → AreAllHeld limits new olds news answers
+all_held limits old new olds news begun ended answers is held t none = record {
   states = t.states;
   held = subst (λ news. AreHeld limits olds news t.states) (sym t.sides_are) (each_held limits olds ended t.states (subst (λ begun. AreHeldFrom limits begun ended) is held) t.states_are);
   count = omega (arith, t.count, none);
   seen = t.seen;
-  claims_are = t.claims_are;
+  answers_are = t.answers_are;
   all_true = t.all_true;
 }
 
@@ -161,30 +161,30 @@ as_many begun (s ∷ streams) = ap suc (as_many begun streams)
 pub begun_as_many : {S : Type 0} (begun : S → Sitting) (tasks : List Sitting) (streams : List S) → tasks ≡ map begun streams → length tasks ≡ length streams
 begun_as_many begun tasks streams is = ap length is ∙ as_many begun streams
 
-pub all_held_by : {S : Type 0} (side : S → Sides) (limits : Bounds) (old new : ShareState) (streams : List S) (news : List Sides) (begun : List Sitting) (ended : List Sitting) (claims : List Claimed)
-    → begun ≡ map (λ s. begun_at (side s)) streams → AreHeldFrom limits begun ended → TakesBack old new ended claims news → old.count ≡ 0 → AreAllHeld limits new (map side streams) news claims
-all_held_by side limits old new streams news begun ended claims is held t none =
-    all_held limits old new (map side streams) news begun ended claims (is ∙ begun_for side streams) held t none
+pub all_held_by : {S : Type 0} (side : S → Sides) (limits : Bounds) (old new : ShareState) (streams : List S) (news : List Sides) (begun : List Sitting) (ended : List Sitting) (answers : List Claimed)
+    → begun ≡ map (λ s. begun_at (side s)) streams → AreHeldFrom limits begun ended → TakesBack old new ended answers news → old.count ≡ 0 → AreAllHeld limits new (map side streams) news answers
+all_held_by side limits old new streams news begun ended answers is held t none =
+    all_held limits old new (map side streams) news begun ended answers (is ∙ begun_for side streams) held t none
 
 -- the transcript of the journal is that of the sessions
-module _ (limits : Bounds) (share : ShareState) (olds news : List Sides) (claims : List Claimed) (held : AreAllHeld limits share olds news claims) where
-  transcript_so : (journal : List Edit) (text : List ℕ) → IsJournal limits share journal → IsTextOf journal claims text → Transcript limits held.states text
+module _ (limits : Bounds) (share : ShareState) (olds news : List Sides) (answers : List Claimed) (held : AreAllHeld limits share olds news answers) where
+  transcript_so : (journal : List Edit) (text : List ℕ) → IsJournal limits share journal → IsTextOf journal answers text → Transcript limits held.states text
   transcript_so journal text of is = record {
     journal = journal;
-    claims = is.claims;
+    answers = is.answers;
     text_is = is.text_is;
     within = of.within;
     accepted = of.accepted;
     seen = All-weaker (λ state. IsPrefix state.seen share.seen) (λ state. IsPrefix state.seen journal) (λ state begun. begins state.seen share.seen journal begun of.seen) held.states held.seen;
     counted = of.counted ∙ held.count;
-    listed = subst (λ listed. IsPermutation listed is.claims) held.claims_are is.permutes;
-    ties = subst (λ listed. KeepTies listed is.claims) held.claims_are is.ties;
+    listed = subst (λ listed. IsPermutation listed is.answers) held.answers_are is.permutes;
+    ties = subst (λ listed. KeepTies listed is.answers) held.answers_are is.ties;
     order = is.order;
-    all_true = All-permutation (IsTrueClaim journal) claims is.claims is.permutes (all_true_of_more share.seen journal claims of.seen held.all_true);
+    all_true = All-permutation (IsTrueAnswer journal) answers is.answers is.permutes (all_true_of_more share.seen journal answers of.seen held.all_true);
   }
 
   -- where it was written, the sessions were served
-  pub served_so : {T : Type 0} (x : T) (contents_old contents_new : Option (List ℕ)) → WritesClosed {T = T} limits share claims contents_old contents_new (Ok x) → Served limits olds news contents_old contents_new
+  pub served_so : {T : Type 0} (x : T) (contents_old contents_new : Option (List ℕ)) → WritesClosed {T = T} limits share answers contents_old contents_new (Ok x) → Served limits olds news contents_old contents_new
   served_so x contents_old contents_new w =
       let written = w.written in record {
         states = held.states;
@@ -196,7 +196,7 @@ module _ (limits : Bounds) (share : ShareState) (olds news : List Sides) (claims
       }
 
   -- and else they were not
-  pub failed_so : {T : Type 0} (fault : Fault) (contents_old contents_new : Option (List ℕ)) → WritesClosed {T = T} limits share claims contents_old contents_new (Err fault) → FailsToServe limits contents_old contents_new fault
+  pub failed_so : {T : Type 0} (fault : Fault) (contents_old contents_new : Option (List ℕ)) → WritesClosed {T = T} limits share answers contents_old contents_new (Err fault) → FailsToServe limits contents_old contents_new fault
   failed_so fault contents_old contents_new w =
       elim w.written [
         | inl nothing ↦ inl nothing
@@ -237,25 +237,25 @@ closes_ill fault_of limits share listed old new written (Err failure) failed w =
     ]
 
 -- how a journal's transcript was written
-pub writes_so : {T : Type 0} (journal : List Edit) (listed claims : List Claimed) (old new : Option (List ℕ)) (result : Result T Fault)
-    → IsTextOf journal listed (transcript_text journal claims) → Transcribes old new (transcript_text journal claims) result → OnOk result (IsSoundTranscript (transcript_text journal claims)) → Writes journal listed old new result
-writes_so journal listed claims old new (Ok x) is written sound = (transcript_text journal claims, is, sound, written)
-writes_so journal listed claims old new (Err WriteFault) is written sound = inr (refl, transcript_text journal claims, is, written)
-writes_so journal listed claims old new (Err NoMemory) is written sound = inl written
-writes_so journal listed claims old new (Err ReadFault) is written sound = absurd written
-writes_so journal listed claims old new (Err TooLong) is written sound = absurd written
+pub writes_so : {T : Type 0} (journal : List Edit) (listed answers : List Claimed) (old new : Option (List ℕ)) (result : Result T Fault)
+    → IsTextOf journal listed (transcript_text journal answers) → Transcribes old new (transcript_text journal answers) result → OnOk result (IsSoundTranscript (transcript_text journal answers)) → Writes journal listed old new result
+writes_so journal listed answers old new (Ok x) is written sound = (transcript_text journal answers, is, sound, written)
+writes_so journal listed answers old new (Err WriteFault) is written sound = inr (refl, transcript_text journal answers, is, written)
+writes_so journal listed answers old new (Err NoMemory) is written sound = inl written
+writes_so journal listed answers old new (Err ReadFault) is written sound = absurd written
+writes_so journal listed answers old new (Err TooLong) is written sound = absurd written
 
 -- a session that ended well
 pub ended_so : {T : Type 0} (limits : Bounds) (old new last : SessionState) (a b k l : Option (List ℕ)) (x : T) → Conversed (SessionStep limits) old last a b k l (Ok x)
-    → new.count ≡ last.count → new.seen ≡ last.seen → new.claims ≡ last.claims → Conversed (SessionStep limits) old new a b k l ended_well
-ended_so limits old new last a b k l x c count seen claims =
-    let same : last ≡ new = λ i. record { count = sym count i; seen = sym seen i; claims = sym claims i } in
+    → new.count ≡ last.count → new.seen ≡ last.seen → new.answers ≡ last.answers → Conversed (SessionStep limits) old new a b k l ended_well
+ended_so limits old new last a b k l x c count seen answers =
+    let same : last ≡ new = λ i. record { count = sym count i; seen = sym seen i; answers = sym answers i } in
     subst (λ state. Conversed (SessionStep limits) old state a b k l ended_well) same (record { seen = c.seen; read = c.read; few = c.few; ends = c.ends })
 
--- claims in their order have a text
+-- answers in their order have a text
 pub ordered_text : (journal : List Edit) (listed : List Claimed) → IsTextOf journal listed (transcript_text journal (by_edit listed))
 ordered_text journal listed =
-    record { claims = by_edit listed; text_is = refl; permutes = by_edit_permutes listed; ties = λ edit. by_edit_ties edit listed; order = by_edit_order listed }
+    record { answers = by_edit listed; text_is = refl; permutes = by_edit_permutes listed; ties = λ edit. by_edit_ties edit listed; order = by_edit_order listed }
 
 -- the text of a closed hub's journal was written
 pub closed_so : {T : Type 0} (limits : Bounds) (share : ShareState) (h : History) (listed : List Claimed) (journal : List Edit) (old new : Option (List ℕ)) (result : Result T Fault) → journal ≡ h.journal

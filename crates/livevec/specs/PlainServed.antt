@@ -9,7 +9,7 @@ use Rattle.lv_edits.specs.declared.edit.Edit.{Edit}
 use Rattle.lv_edits.specs.Kept.{IsLegalInLimits}
 use Rattle.lv_lines.specs.Replies.{Conversed}
 use Rattle.lv_transcript.specs.declared.claimed.Claimed.{Claimed}
-use Rattle.lv_transcript.specs.Transcript.{IsTrueClaim, transcript_text}
+use Rattle.lv_transcript.specs.Transcript.{IsTrueAnswer, transcript_text}
 use Rattle.lv_hub.specs.PlainSession.{PlainSessionStep, Seen}
 use Rattle.lv_hub.specs.Told.{history_of}
 use Rattle.livevec.specs.Served.{Sides, ended_well}
@@ -39,5 +39,5 @@ module _ (limits : Bounds) where
     pub begun : All (λ seen. IsPrefix seen.edits edits) sessions
     pub made : length edits ≡ sum_by (λ seen. seen.made) sessions
     pub answers : List Claimed
-    pub all_true : All (IsTrueClaim edits) answers
+    pub all_true : All (IsTrueAnswer edits) answers
     pub written : Appends contents_old contents_new (transcript_text edits answers)

@@ -13,7 +13,7 @@ use Rattle.lv_geometry.specs.Bounds.{Bounds}
 use Rattle.lv_edits.specs.Kept.{IsLegalInLimits}
 use Rattle.lv_lines.specs.Output.{WritesFront}
 use Rattle.lv_lines.specs.Replies.{Conversed}
-use Rattle.lv_transcript.specs.Transcript.{AreAccepted, AreInOrder, IsSoundTranscript, IsTrueClaim, greatest, transcript_text}
+use Rattle.lv_transcript.specs.Transcript.{AreAccepted, AreInOrder, IsSoundTranscript, IsTrueAnswer, greatest, transcript_text}
 use Rattle.lv_hub.specs.Session.{KeepTies, SessionState, SessionStep}
 use Rattle.lv_hub.specs.Told.{history_of}
 
@@ -28,14 +28,14 @@ ended_well = Ok tt
 
 -- a session that has counted no edit, has seen none, and was answered no reduction
 abbrev pub new_session : SessionState
-new_session = record { count = 0; seen = []; claims = [] }
+new_session = record { count = 0; seen = []; answers = [] }
 
 -- the edits that sessions count together, and the reductions that they were answered, session by session
 abbrev pub counted_by : List SessionState → ℕ
 counted_by states = sum_by (λ state. state.count) states
 
 abbrev pub answered_to : List SessionState → List Claimed
-answered_to states = flat_map (λ state. state.claims) states
+answered_to states = flat_map (λ state. state.answers) states
 
 module _ (limits : Bounds) where
   -- a session was held to the end of its lines, and came to this state
@@ -49,20 +49,20 @@ module _ (limits : Bounds) where
   AreHeld _ _ _ = ⊥
 
   -- a text is the transcript of sessions that came to these states. Their edits are one list, of which each has seen a beginning, and
-  -- which has as many as they count together. The claims are the reductions that they were answered, in the order of their edits, and
+  -- which has as many as they count together. The answers are the reductions that they were answered, in the order of their edits, and
   -- at one edit in the order of the sessions.
   pub record Transcript (states : List SessionState) (text : List ℕ) : Type 0 where
     pub journal : List Edit
-    pub claims : List Claimed
-    pub text_is : text ≡ transcript_text journal claims
+    pub answers : List Claimed
+    pub text_is : text ≡ transcript_text journal answers
     pub within : IsLegalInLimits (history_of limits journal)
     pub accepted : AreAccepted greatest journal
     pub seen : All (λ state. IsPrefix state.seen journal) states
     pub counted : length journal ≡ counted_by states
-    pub listed : IsPermutation (answered_to states) claims
-    pub ties : KeepTies (answered_to states) claims
-    pub order : AreInOrder claims
-    pub all_true : All (IsTrueClaim journal) claims
+    pub listed : IsPermutation (answered_to states) answers
+    pub ties : KeepTies (answered_to states) answers
+    pub order : AreInOrder answers
+    pub all_true : All (IsTrueAnswer journal) answers
 
   -- sessions were served: each was held, and their transcript was written, which is sound
   pub record Served (old new : List Sides) (contents_old contents_new : Option (List ℕ)) : Type 0 where

@@ -20,13 +20,13 @@ use Rattle.lv_hub.specs.Told.{history_of}
 abbrev pub IsFreeBuffer : {Z : Type 0} → Vec ℕ Z → Type 0
 IsFreeBuffer held = (held.items ≡ []) × (HELD ≤ vec_capacity held)
 
--- a text is that of a journal and of these claims, once they are in order
+-- a text is that of a journal and of these answers, once they are in order
 pub record IsTextOf (journal : List Edit) (listed : List Claimed) (text : List ℕ) : Type 0 where
-  pub claims : List Claimed
-  pub text_is : text ≡ transcript_text journal claims
-  pub permutes : IsPermutation listed claims
-  pub ties : KeepTies listed claims
-  pub order : AreInOrder claims
+  pub answers : List Claimed
+  pub text_is : text ≡ transcript_text journal answers
+  pub permutes : IsPermutation listed answers
+  pub ties : KeepTies listed answers
+  pub order : AreInOrder answers
 
 -- that text was written; or nothing; or a write failed, after no more than a front of it
 abbrev pub Writes : {T : Type 0} → List Edit → List Claimed → Option (List ℕ) → Option (List ℕ) → Result T Fault → Type 0

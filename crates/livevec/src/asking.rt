@@ -1,6 +1,6 @@
 //! What the files of subscribers ask: it is read before any file is changed.
 
-use crate::failures::{Failure, Place};
+use crate::failures::{Failure, FaultPlace};
 use crate::files::{Opened, Streams, Unopened};
 use lv_geometry::Refusal;
 use lv_hub::Question;
@@ -38,7 +38,7 @@ fn questions_of<F: Read + Drop>(
         Err(Unasked::Fault(Fault::NoMemory)) => Err(Failure::memory()),
         Err(Unasked::Fault(fault)) => Err(Failure {
             fault,
-            place: Place::Session(number),
+            place: FaultPlace::Session(number),
         }),
         Err(Unasked::Damage(damage)) => Err(damaged(number, damage)),
     }
@@ -51,6 +51,6 @@ fn damaged(number: usize, damage: Damage) -> Failure {
     }
     Failure {
         fault: Fault::ReadFault,
-        place: Place::Asking(number, damage),
+        place: FaultPlace::Asking(number, damage),
     }
 }

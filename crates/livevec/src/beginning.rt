@@ -10,14 +10,14 @@ use crate::failures::Failure;
 use crate::parties::Parties;
 use crate::tasks::{Task, share_out};
 use lv_bodies::Six;
-use lv_hub::{Means, Share};
+use lv_hub::{Share, WithBody};
 use lv_watchers::{Leaving, Watch, Watcher, subscribe_all};
 use std::alloc::Global;
 use std::io::{Read, Write};
 
 /// Sessions and subscribers with their parts of the hub, and room for what subscribers leave.
 #[derive(Drop)]
-pub struct Present<N: Means<Six>, F: Read + Write + Drop> {
+pub struct Present<N: WithBody<Six>, F: Read + Write + Drop> {
     pub tasks: Vec<Task<N, F>>,
     pub watchers: Vec<Watcher<N, F>>,
     pub leaving: Leaving<F>,
@@ -25,7 +25,7 @@ pub struct Present<N: Means<Six>, F: Read + Write + Drop> {
 
 /// Gives each session and each subscriber a part of the hub, of which nobody has seen an edit. The share keeps one. Memory that is
 /// wanting is the fault, `NoMemory`; a question that no `watch` would take is `ReadFault`, though no file brings one here.
-pub fn begin_all<N: Means<Six>, F: Read + Write + Drop>(
+pub fn begin_all<N: WithBody<Six>, F: Read + Write + Drop>(
     alloc: Global,
     share: &mut Share<N>,
     parties: Parties<F>,
@@ -54,7 +54,7 @@ pub fn begin_all<N: Means<Six>, F: Read + Write + Drop>(
 }
 
 // Gives each subscriber a part of the hub, of which nobody has seen an edit.
-fn subscribe<N: Means<Six>, F: Read + Write + Drop>(
+fn subscribe<N: WithBody<Six>, F: Read + Write + Drop>(
     alloc: Global,
     share: &mut Share<N>,
     watches: Vec<Watch<F>>,

@@ -6,7 +6,7 @@ ghost use Rattle.lv_watchers.specs.Watchers.{AreWatchedFrom};
 use crate::holding::hold_each;
 use crate::tasks::Task;
 use lv_bodies::Six;
-use lv_hub::{Begun, Hub, Means, Minutes};
+use lv_hub::{Begun, Hub, Minutes, WithBody};
 use lv_watchers::Watcher;
 use std::alloc::Global;
 use std::io::{Read, Write};
@@ -17,7 +17,7 @@ use std::thread::Threads;
 /// Holds all sessions, and has subscribers told beside them. Once the last session has ended it dismisses them, and the workers. Where
 /// no thread can be made for the subscribers, they come last, and each still tells what there is to tell.
 pub fn hold_beside<
-    N: Means<Six> + Send + Sync,
+    N: WithBody<Six> + Send + Sync,
     K: Begun + Send + Sync,
     F: Read + Write + Send + Drop,
     V: Write + Send + Drop,
@@ -27,7 +27,7 @@ pub fn hold_beside<
     alloc: Global,
     hub: &Hub<Six, N>,
     minutes: Option<&Mutex<Minutes<N, V, K>>>,
-    answers: usize,
+    most: usize,
     tasks: Vec<Task<N, F>>,
     watchers: Vec<Watcher<N, F>>,
 ) -> (Vec<Task<N, F>>, Vec<Watcher<N, F>>)
@@ -35,7 +35,7 @@ pub fn hold_beside<
     ensures watched { AreWatchedFrom N.limits watchers.items result.1.items }
 {
     if watchers.len() == 0 {
-        let held = hold_and_dismiss(rt, alloc, hub, minutes, answers, tasks);
+        let held = hold_and_dismiss(rt, alloc, hub, minutes, most, tasks);
         return (held, watchers);
     }
     let (watchers, held) = thread::join(
@@ -45,14 +45,14 @@ pub fn hold_beside<
         { watch_all(rt, alloc, hub, watchers) },
         move || -> Vec<Task<N, F>>
             ensures { AreHeldFrom N.limits tasks.items result.items }
-        { hold_and_dismiss(rt, alloc, hub, minutes, answers, tasks) },
+        { hold_and_dismiss(rt, alloc, hub, minutes, most, tasks) },
     );
     (held, watchers)
 }
 
 // Holds the sessions, and dismisses workers and subscribers once all have ended.
 fn hold_and_dismiss<
-    N: Means<Six> + Send + Sync,
+    N: WithBody<Six> + Send + Sync,
     K: Begun + Send + Sync,
     F: Read + Write + Send + Drop,
     V: Write + Send + Drop,
@@ -62,18 +62,18 @@ fn hold_and_dismiss<
     alloc: Global,
     hub: &Hub<Six, N>,
     minutes: Option<&Mutex<Minutes<N, V, K>>>,
-    answers: usize,
+    most: usize,
     tasks: Vec<Task<N, F>>,
 ) -> Vec<Task<N, F>>
     ensures { AreHeldFrom N.limits tasks.items result.items }
 {
-    let held = hold_each(rt, alloc, hub, minutes, answers, tasks);
+    let held = hold_each(rt, alloc, hub, minutes, most, tasks);
     hub.dismiss(rt);
     held
 }
 
 // Has each subscriber told so, and gives them back. Takes no memory.
-fn watch_all<N: Means<Six> + Send + Sync, F: Write + Send + Drop, R: Threads + Wait + Sync>(
+fn watch_all<N: WithBody<Six> + Send + Sync, F: Write + Send + Drop, R: Threads + Wait + Sync>(
     rt: &R,
     alloc: Global,
     hub: &Hub<Six, N>,
@@ -87,7 +87,7 @@ fn watch_all<N: Means<Six> + Send + Sync, F: Write + Send + Drop, R: Threads + W
 }
 
 // Has each subscriber told, in a thread of its own where one can be made, until the hub's workers are dismissed.
-fn watch_each<N: Means<Six> + Send + Sync, F: Write + Send + Drop, R: Threads + Wait + Sync>(
+fn watch_each<N: WithBody<Six> + Send + Sync, F: Write + Send + Drop, R: Threads + Wait + Sync>(
     rt: &R,
     alloc: Global,
     hub: &Hub<Six, N>,

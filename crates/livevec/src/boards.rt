@@ -5,7 +5,7 @@ ghost use Rattle.lv_board.specs.declared.board.Board.{Board};
 ghost use Rattle.lv_board.specs.declared.seats.Seat.{Seat};
 ghost use Rattle.lv_board.specs.Tells.{IsAt};
 
-use crate::failures::{Failure, Place};
+use crate::failures::{Failure, FaultPlace};
 use crate::files::Streams;
 use lv_board::{Answering, Board, Seat, run_board_session};
 use lv_bodies::{Affine, Automaton, Best, Greatest, Kind, Least, Sum};
@@ -125,7 +125,7 @@ fn hold<B: Answering<Board<B>, Seat<B>>, F: Read + Write + Drop>(
     alloc: Global,
     task: &mut Task<'_, B, F>,
 ) {
-    let place = Place::Session(task.streams.number);
+    let place = FaultPlace::Session(task.streams.number);
     let ended = run_board_session(
         alloc,
         task.board,

@@ -2,17 +2,17 @@
 
 ghost use Rattle.std.specs.Prelude.{◌≡◌, ◌⊎◌, ◌<◌, ◌≤◌, ℕ, All, Err, HoldsAt, IfErr, IfOk, IfSome, MatchResult, Ok, OnOk, [], false, is_some, length, map, true, vec_capacity, vec_len};
 ghost use Rattle.lv_transcript.specs.Joined.{in_a_row};
-ghost use Rattle.lv_transcript.specs.Transcript.{AreAccepted, IsTrueClaim, greatest};
+ghost use Rattle.lv_transcript.specs.Transcript.{AreAccepted, IsTrueAnswer, greatest};
 ghost use Rattle.lv_watchers.specs.Watchers.{ClosesTelling};
 ghost use Rattle.livevec.specs.Starting.{Records};
 ghost use Rattle.livevec.specs.Writing.{FailsToClose, IsFreeBuffer, Writes, WritesClosed};
 
-use crate::failures::{Failure, Place};
+use crate::failures::{Failure, FaultPlace};
 use crate::files::Streams;
 use crate::minuted::{end_minutes, shown};
 use lv_bodies::Six;
 use lv_edits::Edit;
-use lv_hub::{Begun, Hub, Means, Minutes, Share};
+use lv_hub::{Begun, Hub, Minutes, Share, WithBody};
 use lv_script::Fault;
 use lv_transcript::{Queue, write_joined_transcript};
 use lv_watchers::{Leaving, Watched};
@@ -21,7 +21,7 @@ use std::io::Write;
 /// Closes a hub and writes its transcript by a buffer that was made for it, ends its minutes, and gives their file back. Then subscribers that
 /// have ended tell the last. Takes no memory. The transcript's fault comes before that of the minutes. A call drops the vector, as one above drops the hub: the proof of a body
 /// that does so by itself is long.
-pub fn write_closed<N: Means<Six>, K: Begun, F: Write + Drop, V: Write + Drop, W: Write>(
+pub fn write_closed<N: WithBody<Six>, K: Begun, F: Write + Drop, V: Write + Drop, W: Write>(
     hub: Hub<Six, N>,
     share: Share<N>,
     queues: &mut Vec<Queue>,
@@ -31,7 +31,7 @@ pub fn write_closed<N: Means<Six>, K: Begun, F: Write + Drop, V: Write + Drop, W
     writer: &mut W,
 ) -> (Option<V>, Result<(), Failure>, Vec<Watched<F>>)
     requires parts { share.parts ≡ N.parts }
-    requires all_true { All (IsTrueClaim share.seen) (in_a_row queues.old.items) }
+    requires all_true { All (IsTrueAnswer share.seen) (in_a_row queues.old.items) }
     requires buffer { IsFreeBuffer held.old }
     requires none { leaving.watched.items ≡ [] }
     requires room { vec_len leaving.left ≤ vec_capacity leaving.watched }
@@ -60,7 +60,7 @@ fn write_in_order<W: Write>(
     writer: &mut W,
 ) -> Result<(), Fault>
     requires accepted { AreAccepted greatest journal.now }
-    requires all_true { All (IsTrueClaim journal.now) (in_a_row queues.old.items) }
+    requires all_true { All (IsTrueAnswer journal.now) (in_a_row queues.old.items) }
     requires buffer { IsFreeBuffer held.old }
     ensures { Writes journal.now (in_a_row queues.old.items) (W.contents writer.old) (W.contents writer.new) result }
 {
@@ -103,13 +103,13 @@ pub fn first_unwritten<F: Write + Drop>(watched: &[Watched<F>]) -> Result<(), Fa
     ensures written { OnOk result (All (λ w. w.notices.failed ≡ false) watched.now) }
     ensures fault { IfErr result (λ failure. failure.fault ≡ Fault.WriteFault) }
     // It names one whose output failed.
-    ensures named { IfErr result (λ failure. (i : ℕ) × (i < length watched.now) × HoldsAt (λ w. (w.notices.failed ≡ true) × (failure.place ≡ Place.Session w.number)) watched.now i) }
+    ensures named { IfErr result (λ failure. (i : ℕ) × (i < length watched.now) × HoldsAt (λ w. (w.notices.failed ≡ true) × (failure.place ≡ FaultPlace.Session w.number)) watched.now i) }
 {
     for one in watched {
         if one.notices.has_failed() {
             return Err(Failure {
                 fault: Fault::WriteFault,
-                place: Place::Session(one.number),
+                place: FaultPlace::Session(one.number),
             });
         }
     }

@@ -1,6 +1,6 @@
 //! Files of replies and of notes are emptied, once all files are found fit.
 
-use crate::failures::{Failure, Place};
+use crate::failures::{Failure, FaultPlace};
 use crate::files::{Opened, Output, Streams, Unopened};
 use crate::parties::Parties;
 use crate::transcript_files::emptied;
@@ -50,6 +50,6 @@ fn empty<F: OpenFile + Drop>(
     }
     Err(Failure {
         fault: Fault::WriteFault,
-        place: Place::Opening(streams.number),
+        place: FaultPlace::Opening(streams.number),
     })
 }

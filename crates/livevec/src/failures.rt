@@ -10,7 +10,7 @@ use std::fmt;
 
 /// Where a fault came up. Files are counted from 0, as the command line names them.
 #[derive(Clone, Copy)]
-pub enum Place {
+pub enum FaultPlace {
     /// On standard input or standard output.
     Standard,
     /// Where the file of this number was opened, or that of its replies was made.
@@ -33,7 +33,7 @@ pub enum Place {
 #[derive(Clone, Copy)]
 pub struct Failure {
     pub fault: Fault,
-    pub place: Place,
+    pub place: FaultPlace,
 }
 
 impl Failure {
@@ -48,20 +48,20 @@ impl Failure {
     {
         Failure {
             fault,
-            place: Place::Standard,
+            place: FaultPlace::Standard,
         }
     }
 
     /// A question of a subscriber is refused, or memory was wanting for it.
     pub fn unwatched(refusal: Refusal) -> Failure
         ensures memory { refusal ≡ Refusal.NoMemory → result.fault ≡ Fault.NoMemory }
-        ensures refused { refusal ≢ Refusal.NoMemory → (result.fault ≡ Fault.ReadFault) × (result.place ≡ Place.Watching refusal) }
+        ensures refused { refusal ≢ Refusal.NoMemory → (result.fault ≡ Fault.ReadFault) × (result.place ≡ FaultPlace.Watching refusal) }
     {
         match refusal {
             Refusal::NoMemory => Failure::standard(Fault::NoMemory),
             _ => Failure {
                 fault: Fault::ReadFault,
-                place: Place::Watching(refusal),
+                place: FaultPlace::Watching(refusal),
             },
         }
     }
@@ -72,7 +72,7 @@ impl Failure {
     {
         Failure {
             fault,
-            place: Place::Transcript,
+            place: FaultPlace::Transcript,
         }
     }
 }
@@ -109,17 +109,19 @@ impl Told<'_> {
     // What couldn't be read.
     fn tell_read<W: fmt::Write>(&self, f: &mut fmt::Formatter<W>) -> fmt::Result {
         match self.failure.place {
-            Place::Standard | Place::Transcript => f.write_str("standard input can't be read"),
-            Place::Opening(number) => write!(f, "'{}' can't be opened", self.file(number)),
-            Place::Session(number) => write!(f, "'{}' can't be read", self.file(number)),
-            Place::False(line) => self.tell_line(f, line, "is false"),
-            Place::Misspelt(line) => self.tell_line(
+            FaultPlace::Standard | FaultPlace::Transcript => f.write_str(
+                "standard input can't be read",
+            ),
+            FaultPlace::Opening(number) => write!(f, "'{}' can't be opened", self.file(number)),
+            FaultPlace::Session(number) => write!(f, "'{}' can't be read", self.file(number)),
+            FaultPlace::False(line) => self.tell_line(f, line, "is false"),
+            FaultPlace::Misspelt(line) => self.tell_line(
                 f,
                 line,
                 "is not of a form that may stand there",
             ),
-            Place::Asking(number, damage) => self.tell_damage(f, number, damage),
-            Place::Watching(refusal) => {
+            FaultPlace::Asking(number, damage) => self.tell_damage(f, number, damage),
+            FaultPlace::Watching(refusal) => {
                 write!(f, "what a subscriber asks can't be watched: {refusal}")
             }
         }
@@ -156,7 +158,7 @@ impl Told<'_> {
     // What is too long.
     fn tell_length<W: fmt::Write>(&self, f: &mut fmt::Formatter<W>) -> fmt::Result {
         match self.failure.place {
-            Place::Opening(number) | Place::Session(number) => {
+            FaultPlace::Opening(number) | FaultPlace::Session(number) => {
                 write!(f, "'{}' has more than 2^30 bytes", self.file(number))
             }
             _ => f.write_str("standard input has more than 2^30 bytes"),
@@ -166,9 +168,16 @@ impl Told<'_> {
     // What couldn't be written.
     fn tell_write<W: fmt::Write>(&self, f: &mut fmt::Formatter<W>) -> fmt::Result {
         match self.failure.place {
-            Place::Opening(number) => write!(f, "'{}.out' can't be made", self.file(number)),
-            Place::Session(number) => write!(f, "'{}.out' can't be written", self.file(number)),
-            Place::Transcript => write!(f, "the file of --transcript can't be made or written"),
+            FaultPlace::Opening(number) => write!(f, "'{}.out' can't be made", self.file(number)),
+            FaultPlace::Session(number) => write!(
+                f,
+                "'{}.out' can't be written",
+                self.file(number)
+            ),
+            FaultPlace::Transcript => write!(
+                f,
+                "the file of --transcript can't be made or written"
+            ),
             _ => f.write_str("standard output can't be written"),
         }
     }

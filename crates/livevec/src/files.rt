@@ -3,7 +3,7 @@
 use crate::asking::ask_each;
 use crate::clashes::{Clash, REPLIES, first_clash};
 use crate::emptying::empty_with;
-use crate::failures::{Failure, Place};
+use crate::failures::{Failure, FaultPlace};
 use crate::identities::{Identity, is_written, standard_files};
 use crate::parties::Parties;
 use crate::transcript_files::open_transcript;
@@ -167,7 +167,7 @@ fn open<'a, R: Files>(
 
 // That the file of a number, or that of its replies, can't be opened.
 fn failed<'a>(number: usize, fault: Fault) -> Unopened<'a> {
-    let place = Place::Opening(number);
+    let place = FaultPlace::Opening(number);
     Unopened::Failed(Failure { fault, place })
 }
 

@@ -9,7 +9,7 @@ use crate::minuted::run_minuted;
 use crate::serving::Plan;
 use crate::tasks::Task;
 use lv_bodies::Six;
-use lv_hub::{Begun, Hub, Means, Minutes, OpenGate, Place, attend};
+use lv_hub::{Begun, Hub, Minutes, OpenGate, SessionPlace, WithBody, attend};
 use lv_script::Fault;
 use lv_transcript::Queue;
 use lv_watchers::Watcher;
@@ -22,7 +22,7 @@ use std::thread::Threads;
 /// Holds all sessions, with workers and subscribers beside them, which end when the last session has ended. Where no thread can be made
 /// for the workers, they come last, and end at once.
 pub fn hold_all<
-    N: Means<Six> + Send + Sync,
+    N: WithBody<Six> + Send + Sync,
     K: Begun + Send + Sync,
     F: Read + Write + Send + Drop,
     V: Write + Send + Drop,
@@ -42,7 +42,7 @@ pub fn hold_all<
     let Plan {
         workers,
         turns,
-        answers,
+        most,
         ..
     } = plan;
     let ((), ended) = thread::join(
@@ -51,7 +51,7 @@ pub fn hold_all<
         move || -> (Vec<Task<N, F>>, Vec<Watcher<N, F>>)
             ensures { AreHeldFrom N.limits tasks.items result.0.items
                 × AreWatchedFrom N.limits watchers.items result.1.items }
-        { hold_beside(rt, alloc, hub, minutes, answers, tasks, watchers) },
+        { hold_beside(rt, alloc, hub, minutes, most, tasks, watchers) },
     );
     ended
 }
@@ -59,7 +59,7 @@ pub fn hold_all<
 /// Holds each session in a thread of its own, where one can be made. One that finds no memory there to begin with is held behind the others,
 /// by what was put by for it.
 pub fn hold_each<
-    N: Means<Six> + Send + Sync,
+    N: WithBody<Six> + Send + Sync,
     K: Begun + Send + Sync,
     F: Read + Write + Send + Drop,
     V: Write + Send + Drop,
@@ -69,19 +69,19 @@ pub fn hold_each<
     alloc: Global,
     hub: &Hub<Six, N>,
     minutes: Option<&Mutex<Minutes<N, V, K>>>,
-    answers: usize,
+    most: usize,
     tasks: Vec<Task<N, F>>,
 ) -> Vec<Task<N, F>>
     ensures { AreHeldFrom N.limits tasks.items result.items }
 {
     let mut tasks = tasks;
-    hold_in_place(rt, alloc, hub, minutes, answers, tasks.as_mut_slice());
+    hold_in_place(rt, alloc, hub, minutes, most, tasks.as_mut_slice());
     tasks
 }
 
 // Holds them so where they stand. Takes no memory but that of threads.
 fn hold_in_place<
-    N: Means<Six> + Send + Sync,
+    N: WithBody<Six> + Send + Sync,
     K: Begun + Send + Sync,
     F: Read + Write + Send + Drop,
     V: Write + Send + Drop,
@@ -91,19 +91,19 @@ fn hold_in_place<
     alloc: Global,
     hub: &Hub<Six, N>,
     minutes: Option<&Mutex<Minutes<N, V, K>>>,
-    answers: usize,
+    most: usize,
     tasks: &mut [Task<N, F>],
 )
     ensures { AreHeldFrom N.limits tasks.old tasks.new }
 {
-    hold_at_once(rt, alloc, hub, minutes, answers, tasks);
-    hold_waiting(rt, alloc, hub, minutes, answers, tasks);
+    hold_at_once(rt, alloc, hub, minutes, most, tasks);
+    hold_waiting(rt, alloc, hub, minutes, most, tasks);
 }
 
 // Holds each that waits, in a thread of its own where one can be made. Their threads take memory before they begin, and so does each session
 // that has begun: one that finds none waits still.
 fn hold_at_once<
-    N: Means<Six> + Send + Sync,
+    N: WithBody<Six> + Send + Sync,
     K: Begun + Send + Sync,
     F: Read + Write + Send + Drop,
     V: Write + Send + Drop,
@@ -113,7 +113,7 @@ fn hold_at_once<
     alloc: Global,
     hub: &Hub<Six, N>,
     minutes: Option<&Mutex<Minutes<N, V, K>>>,
-    answers: usize,
+    most: usize,
     tasks: &mut [Task<N, F>],
 )
     ensures { AreHeldFrom N.limits tasks.old tasks.new }
@@ -122,11 +122,11 @@ fn hold_at_once<
     let held = |_: usize, task: &mut Task<N, F>|
         ensures { IsHeldOnce N.limits task.old task.new }
     {
-        let place = Place {
+        let place = SessionPlace {
             rt,
             hub,
             alloc,
-            answers,
+            most,
         };
         hold(place, minutes, task)
     };
@@ -135,7 +135,7 @@ fn hold_at_once<
 
 // Holds each that waits, one behind the other in this thread. What was put by for each is free when it begins.
 fn hold_waiting<
-    N: Means<Six> + Send + Sync,
+    N: WithBody<Six> + Send + Sync,
     K: Begun + Send + Sync,
     F: Read + Write + Send + Drop,
     V: Write + Send + Drop,
@@ -145,7 +145,7 @@ fn hold_waiting<
     alloc: Global,
     hub: &Hub<Six, N>,
     minutes: Option<&Mutex<Minutes<N, V, K>>>,
-    answers: usize,
+    most: usize,
     tasks: &mut [Task<N, F>],
 )
     ensures { AreHeldFrom N.limits tasks.old tasks.new }
@@ -153,11 +153,11 @@ fn hold_waiting<
     let held = |_: usize, task: &mut Task<N, F>|
         ensures { IsHeldOnce N.limits task.old task.new }
     {
-        let place = Place {
+        let place = SessionPlace {
             rt,
             hub,
             alloc,
-            answers,
+            most,
         };
         task.spare = None;
         hold(place, minutes, task)
@@ -166,8 +166,8 @@ fn hold_waiting<
 }
 
 // Holds a session that waits. Where it finds no memory to begin with it waits still, and nothing is changed.
-fn hold<N: Means<Six>, K: Begun, F: Read + Write + Drop, V: Write + Drop, R: Wait>(
-    place: Place<'_, N, R>,
+fn hold<N: WithBody<Six>, K: Begun, F: Read + Write + Drop, V: Write + Drop, R: Wait>(
+    place: SessionPlace<'_, N, R>,
     minutes: Option<&Mutex<Minutes<N, V, K>>>,
     task: &mut Task<N, F>,
 )
@@ -176,16 +176,16 @@ fn hold<N: Means<Six>, K: Begun, F: Read + Write + Drop, V: Write + Drop, R: Wai
     if task.ended.is_some() {
         return;
     }
-    let claims = run_minuted(
+    let answers = run_minuted(
         place,
         minutes,
         &mut task.share,
         &mut task.streams.lines,
         &mut task.streams.replies,
     );
-    let at = failures::Place::Session(task.streams.number);
-    match claims {
-        Ok(claims) => task.ended = Some(Ok(Queue::new(claims))),
+    let at = failures::FaultPlace::Session(task.streams.number);
+    match answers {
+        Ok(answers) => task.ended = Some(Ok(Queue::new(answers))),
         Err(Fault::NoMemory) => {}
         Err(fault) => task.ended = Some(Err(Failure { fault, place: at })),
     }
@@ -193,7 +193,7 @@ fn hold<N: Means<Six>, K: Begun, F: Read + Write + Drop, V: Write + Drop, R: Wai
 
 // Refreshes the hub by all workers. Their threads are made once there may be work for them; where memory is wanting for so many, one
 // goes on alone.
-fn refresh<N: Means<Six> + Send + Sync, R: Threads + Wait + Sync>(
+fn refresh<N: WithBody<Six> + Send + Sync, R: Threads + Wait + Sync>(
     rt: &R,
     alloc: Global,
     hub: &Hub<Six, N>,

@@ -3,7 +3,7 @@
 ghost use Rattle.std.specs.Prelude.{◌≡◌, ℕ, All, IfErr, IfOk, IfSome, List, [], is_some};
 ghost use mathlib.Core.List.{IsPrefix};
 ghost use Rattle.lv_lines.specs.Replies.{Conversed};
-ghost use Rattle.lv_transcript.specs.Transcript.{AreAccepted, AreInOrder, IsTrueClaim, greatest};
+ghost use Rattle.lv_transcript.specs.Transcript.{AreAccepted, AreInOrder, IsTrueAnswer, greatest};
 ghost use Rattle.lv_hub.specs.Counting.{having_seen};
 ghost use Rattle.lv_hub.specs.Minuting.{WroteWhole};
 ghost use Rattle.lv_hub.specs.Session.{SessionState, SessionStep, session_at};
@@ -11,14 +11,16 @@ ghost use Rattle.lv_hub.specs.Session.{SessionState, SessionStep, session_at};
 use crate::failures::Failure;
 use lv_bodies::Six;
 use lv_edits::Edit;
-use lv_hub::{Begun, Means, Minutes, Place, Share, run_recorded_session_at, run_session_at};
+use lv_hub::{
+    Begun, Minutes, SessionPlace, Share, WithBody, run_recorded_session_at, run_session_at,
+};
 use lv_script::{Claimed, Fault};
 use std::alloc::Global;
 use std::io::{Read, Write};
 use std::sync::{Mutex, Wait};
 
 /// Minutes of a hub whose edits nobody has seen, where there is a file for them.
-pub fn begin_minutes<N: Means<Six>, K: Begun, V: Write + Drop>(
+pub fn begin_minutes<N: WithBody<Six>, K: Begun, V: Write + Drop>(
     alloc: Global,
     file: Option<V>,
     share: &Share<N>,
@@ -37,7 +39,7 @@ pub fn begin_minutes<N: Means<Six>, K: Begun, V: Write + Drop>(
 }
 
 /// The minutes, once no session is held any more.
-pub fn unlocked<N: Means<Six>, K: Begun, V: Write + Drop>(
+pub fn unlocked<N: WithBody<Six>, K: Begun, V: Write + Drop>(
     minutes: Option<Mutex<Minutes<N, V, K>>>,
 ) -> Option<Minutes<N, V, K>>
     ensures { is_some result ≡ is_some minutes }
@@ -49,7 +51,7 @@ pub fn unlocked<N: Means<Six>, K: Begun, V: Write + Drop>(
 }
 
 /// A share that has seen what minutes took up too.
-pub fn shown<N: Means<Six>, K: Begun, V: Write + Drop>(
+pub fn shown<N: WithBody<Six>, K: Begun, V: Write + Drop>(
     minutes: &Option<Minutes<N, V, K>>,
     share: Share<N>,
 ) -> Share<N>
@@ -65,7 +67,7 @@ pub fn shown<N: Means<Six>, K: Begun, V: Write + Drop>(
 }
 
 /// Ends minutes, if there are any, by the journal of the hub, and gives their file back.
-pub fn end_minutes<N: Means<Six>, K: Begun, V: Write + Drop>(
+pub fn end_minutes<N: WithBody<Six>, K: Begun, V: Write + Drop>(
     minutes: Option<Minutes<N, V, K>>,
     journal: &[Edit],
 ) -> (Option<V>, Result<(), Fault>)
@@ -84,8 +86,8 @@ pub fn end_minutes<N: Means<Six>, K: Begun, V: Write + Drop>(
 }
 
 /// Answers the lines of a session, and has them taken up where minutes are kept.
-pub fn run_minuted<N: Means<Six>, K: Begun, V: Write + Drop, T: Wait, R: Read, W: Write>(
-    place: Place<'_, N, T>,
+pub fn run_minuted<N: WithBody<Six>, K: Begun, V: Write + Drop, T: Wait, R: Read, W: Write>(
+    place: SessionPlace<'_, N, T>,
     minutes: Option<&Mutex<Minutes<N, V, K>>>,
     share: &mut Share<N>,
     reader: &mut R,
@@ -96,10 +98,10 @@ pub fn run_minuted<N: Means<Six>, K: Begun, V: Write + Drop, T: Wait, R: Read, W
         (R.remaining reader.old) (R.remaining reader.new) (W.contents writer.old) (W.contents writer.new) result
         × (share.new.count ≡ last.count)
         × (share.new.seen ≡ last.seen)
-        × IfOk result (λ claims. claims.items ≡ last.claims) }
+        × IfOk result (λ answers. answers.items ≡ last.answers) }
     ensures parts { share.new.parts ≡ share.old.parts }
-    ensures all_true { IfOk result (λ claims. All (IsTrueClaim share.new.seen) claims.items) }
-    ensures order { IfOk result (λ claims. AreInOrder claims.items) }
+    ensures all_true { IfOk result (λ answers. All (IsTrueAnswer share.new.seen) answers.items) }
+    ensures order { IfOk result (λ answers. AreInOrder answers.items) }
 {
     match minutes {
         Some(minutes) => run_recorded_session_at(place, minutes, share, reader, writer),

@@ -1,6 +1,6 @@
 //! A script that goes on from a transcript's front.
 
-use crate::failures::{Failure, Place};
+use crate::failures::{Failure, FaultPlace};
 use crate::files::{Unopened, open_front};
 use lv_script::{Fault, FrontVerdict, Unrestored, restore_script};
 use std::alloc::Global;
@@ -18,14 +18,14 @@ pub fn restore<'a, R: Files, I: Read, W: Write>(
     let front = open_front(rt, file)?;
     match restore_script(alloc, front, reader, writer) {
         Ok(FrontVerdict::Front { .. }) => Ok(()),
-        Ok(FrontVerdict::No(line)) => Err(failed(Fault::ReadFault, Place::False(line))),
-        Ok(FrontVerdict::Bad(line)) => Err(failed(Fault::ReadFault, Place::Misspelt(line))),
-        Err(Unrestored::Front(fault)) => Err(failed(fault, Place::Session(0))),
-        Err(Unrestored::Script(fault)) => Err(failed(fault, Place::Standard)),
+        Ok(FrontVerdict::No(line)) => Err(failed(Fault::ReadFault, FaultPlace::False(line))),
+        Ok(FrontVerdict::Bad(line)) => Err(failed(Fault::ReadFault, FaultPlace::Misspelt(line))),
+        Err(Unrestored::Front(fault)) => Err(failed(fault, FaultPlace::Session(0))),
+        Err(Unrestored::Script(fault)) => Err(failed(fault, FaultPlace::Standard)),
     }
 }
 
 // That it failed.
-fn failed<'a>(fault: Fault, place: Place) -> Unopened<'a> {
+fn failed<'a>(fault: Fault, place: FaultPlace) -> Unopened<'a> {
     Unopened::Failed(Failure { fault, place })
 }

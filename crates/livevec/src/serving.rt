@@ -20,7 +20,7 @@ use crate::parties::Parties;
 use crate::tasks::{Gathered, take_back};
 use lv_bodies::Six;
 use lv_geometry::Limits;
-use lv_hub::{Begun, Hub, Means, Minutes, Opened, Share};
+use lv_hub::{Begun, Hub, Minutes, Opened, Share, WithBody};
 use lv_watchers::{Leaving, Watch, Watched, leave_all};
 use std::alloc::Global;
 use std::io::{Read, Write};
@@ -39,7 +39,7 @@ pub struct Plan {
     /// How many turns each of them takes.
     pub turns: u64,
     /// At most how many answered reductions each session keeps for the transcript.
-    pub answers: usize,
+    pub most: usize,
 }
 
 /// Holds a session for each pair of streams, in a thread of its own where one can be made, with workers beside them. Then
@@ -95,7 +95,7 @@ pub fn serve<
 
 // Serves them on a hub of this name.
 fn serve_as<
-    N: Means<Six> + Send + Sync,
+    N: WithBody<Six> + Send + Sync,
     K: Begun + Send + Sync,
     F: Read + Write + Send + Drop,
     V: Write + Send + Drop,
@@ -131,14 +131,14 @@ fn serve_as<
     match serve_all::<N, K, F, V, R>(rt, alloc, plan, &hub, &mut share, parties, file) {
         Ok((all, minutes, leaving)) => {
             let Gathered {
-                mut claims,
+                mut answers,
                 streams,
                 mut held,
             } = all;
             let (file, written, watched) = write_closed(
                 hub,
                 share,
-                &mut claims,
+                &mut answers,
                 minutes,
                 leaving,
                 &mut held,
@@ -156,7 +156,7 @@ fn serve_as<
 // Serves them on a hub, and gathers what they leave: the reductions in the order of the sessions, and what subscribers were told. Its
 // share has all parts, and has them again.
 fn serve_all<
-    N: Means<Six> + Send + Sync,
+    N: WithBody<Six> + Send + Sync,
     K: Begun + Send + Sync,
     F: Read + Write + Send + Drop,
     V: Write + Send + Drop,
@@ -177,7 +177,7 @@ fn serve_all<
     ensures parts { IfOk result (λ all. share.new.parts ≡ share.old.parts) }
     ensures buffer { IfOk result (λ all. IsFreeBuffer all.0.held) }
     ensures minuted { IfOk result (λ all. is_some all.1 ≡ is_some file) }
-    ensures held { IfOk result (λ all. AreAllHeld N.limits share.new (map (λ s. record { lines = F.remaining s.lines; replies = F.contents s.replies }) parties.streams.items) (map (λ s. record { lines = F.remaining s.lines; replies = F.contents s.replies }) all.0.streams.items) (in_a_row all.0.claims.items)) }
+    ensures held { IfOk result (λ all. AreAllHeld N.limits share.new (map (λ s. record { lines = F.remaining s.lines; replies = F.contents s.replies }) parties.streams.items) (map (λ s. record { lines = F.remaining s.lines; replies = F.contents s.replies }) all.0.streams.items) (in_a_row all.0.answers.items)) }
     ensures left { IfOk result (λ all. AreLeft share.new.seen (map (λ w. record { questions = w.questions.items; contents = F.contents w.notes }) parties.watches.items) all.2.left.items) }
     ensures none { IfOk result (λ all. all.2.watched.items ≡ []) }
     ensures room { IfOk result (λ all. vec_len all.2.left ≤ vec_capacity all.2.watched) }

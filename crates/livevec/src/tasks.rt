@@ -9,7 +9,7 @@ ghost use Rattle.livevec.specs.Writing.{IsFreeBuffer};
 use crate::failures::Failure;
 use crate::files::Streams;
 use lv_bodies::Six;
-use lv_hub::{Means, Share};
+use lv_hub::{Share, WithBody};
 use lv_lines::HELD;
 use lv_transcript::Queue;
 use std::alloc::{AllocError, Global};
@@ -36,29 +36,29 @@ impl Spare {
 /// A session with its part of the hub and memory that is put by for it. It waits until it is held; then it has the reductions that it was
 /// answered, which are true of what it has seen, or its fault.
 #[derive(Drop)]
-pub struct Task<N: Means<Six>, F: Read + Write + Drop> {
+pub struct Task<N: WithBody<Six>, F: Read + Write + Drop> {
     pub share: Share<N>,
     pub streams: Streams<F>,
     pub spare: Option<Spare>,
     pub ended: Option<Result<Queue, Failure>>,
 }
 
-impl<N: Means<Six>, F: Read + Write + Drop> Model for Task<N, F> {
+impl<N: WithBody<Six>, F: Read + Write + Drop> Model for Task<N, F> {
     ghost use Rattle.std.specs.Prelude.{◌≡◌, All, IfOk, IfSome, is_none};
-    ghost use Rattle.lv_transcript.specs.Transcript.{IsTrueClaim};
+    ghost use Rattle.lv_transcript.specs.Transcript.{IsTrueAnswer};
     ghost use Rattle.livevec.specs.Tasks.{Sitting, listed_in};
 
     ghost Value = { Sitting };
 
-    ghost view = { λ t. record { share = t.share; sides = record { lines = F.remaining t.streams.lines; replies = F.contents t.streams.replies }; waits = is_none t.ended; claims = listed_in t.ended } };
+    ghost view = { λ t. record { share = t.share; sides = record { lines = F.remaining t.streams.lines; replies = F.contents t.streams.replies }; waits = is_none t.ended; answers = listed_in t.ended } };
 
-    ghost invariant = { λ t. (t.share.parts ≡ 1) × IfSome t.ended (λ ended. IfOk ended (λ claims. All (IsTrueClaim t.share.seen) claims)) };
+    ghost invariant = { λ t. (t.share.parts ≡ 1) × IfSome t.ended (λ ended. IfOk ended (λ answers. All (IsTrueAnswer t.share.seen) answers)) };
 }
 
 /// What sessions that were held leave: the reductions that each was answered, in order, and their streams.
 #[derive(Drop)]
 pub struct Gathered<F: Drop> {
-    pub claims: Vec<Queue>,
+    pub answers: Vec<Queue>,
     pub streams: Vec<Streams<F>>,
     /// A buffer for their transcript.
     pub held: Vec<u8>,
@@ -67,11 +67,11 @@ pub struct Gathered<F: Drop> {
 impl<F: Drop> Gathered<F> {
     /// Room for what so many sessions leave, so that their end needs no memory.
     pub fn with_room(alloc: Global, sessions: usize) -> Result<Gathered<F>, Failure>
-        ensures claims { IfOk result (λ all. all.claims.items ≡ []) }
+        ensures answers { IfOk result (λ all. all.answers.items ≡ []) }
         ensures streams { IfOk result (λ all. all.streams.items ≡ []) }
         ensures held { IfOk result (λ all. IsFreeBuffer all.held) }
     {
-        let (Ok(claims), Ok(streams), Ok(held)) = (
+        let (Ok(answers), Ok(streams), Ok(held)) = (
             Vec::with_capacity(alloc, sessions),
             Vec::with_capacity(alloc, sessions),
             Vec::with_capacity(alloc, HELD),
@@ -79,7 +79,7 @@ impl<F: Drop> Gathered<F> {
             return Err(Failure::memory());
         };
         Ok(Gathered {
-            claims,
+            answers,
             streams,
             held,
         })
@@ -87,7 +87,7 @@ impl<F: Drop> Gathered<F> {
 }
 
 /// Gives each session a part of the hub, of which nobody has seen an edit, and puts memory by for it.
-pub fn share_out<N: Means<Six>, F: Read + Write + Drop>(
+pub fn share_out<N: WithBody<Six>, F: Read + Write + Drop>(
     alloc: Global,
     share: &mut Share<N>,
     streams: Vec<Streams<F>>,
@@ -119,18 +119,18 @@ pub fn share_out<N: Means<Six>, F: Read + Write + Drop>(
 
 /// Takes the parts back, and gathers the reductions in the order of the sessions, where nothing is gathered yet. The first session's
 /// fault is the fault: `NoMemory` of one that still waits.
-pub fn take_back<N: Means<Six>, F: Read + Write + Drop>(
+pub fn take_back<N: WithBody<Six>, F: Read + Write + Drop>(
     room: Gathered<F>,
     share: &mut Share<N>,
     done: Vec<Task<N, F>>,
 ) -> Result<Gathered<F>, Failure>
-    requires claims { room.claims.items ≡ [] }
+    requires answers { room.answers.items ≡ [] }
     requires streams { room.streams.items ≡ [] }
     ensures buffer { IfOk result (λ all. all.held ≡ room.held) }
-    ensures back { IfOk result (λ all. TakesBack share.old share.new done.items (in_a_row all.claims.items) (map (λ s. record { lines = F.remaining s.lines; replies = F.contents s.replies }) all.streams.items)) }
+    ensures back { IfOk result (λ all. TakesBack share.old share.new done.items (in_a_row all.answers.items) (map (λ s. record { lines = F.remaining s.lines; replies = F.contents s.replies }) all.streams.items)) }
 {
     let Gathered {
-        mut claims,
+        mut answers,
         mut streams,
         held,
     } = room;
@@ -147,7 +147,7 @@ pub fn take_back<N: Means<Six>, F: Read + Write + Drop>(
             return Err(Failure::memory());
         };
         let listed = listed?;
-        if claims.push(listed).is_err() {
+        if answers.push(listed).is_err() {
             return Err(Failure::memory());
         }
         if streams.push(its).is_err() {
@@ -155,7 +155,7 @@ pub fn take_back<N: Means<Six>, F: Read + Write + Drop>(
         }
     }
     Ok(Gathered {
-        claims,
+        answers,
         streams,
         held,
     })

@@ -12,7 +12,7 @@ use Rattle.lv_reduce.specs.declared.reductions.Answer.{Answer}
 use Rattle.lv_geometry.specs.declared.nodes.Node.{Node}
 use Rattle.lv_summary.specs.declared.accepted.Accepted.{Accepted}
 use Rattle.lv_summary.specs.declared.accepted.Accepted.TheVariants.{Held, Installed, Stale}
-use Rattle.livevec_c.specs.declared.jobs.Claimed.{Claimed}
+use Rattle.livevec_c.specs.declared.jobs.ClaimedJob.{ClaimedJob}
 use Rattle.livevec_c.specs.declared.jobs.Delivered.{Delivered}
 use Rattle.livevec_c.specs.declared.jobs.Vetted.{Vetted}
 use Rattle.livevec_c.specs.declared.results.Edited.{Edited}
@@ -104,11 +104,11 @@ reduced_by (Ok answer) = record { refusal = 0; detail = 0; edit = answer.edit; c
 reduced_by (Err refusal) = unreduced (number_of refusal) (detail_of refusal)
 
 -- a claim that found no job, or was refused
-abbrev pub unclaimed : ℕ → Claimed
+abbrev pub unclaimed : ℕ → ClaimedJob
 unclaimed refusal = record { refusal = refusal; found = false; level = 0; number = 0; version = 0 }
 
 -- a claim of a node at a version
-abbrev pub claimed_by : Node → ℕ → Claimed
+abbrev pub claimed_by : Node → ℕ → ClaimedJob
 claimed_by node version = record { refusal = 0; found = true; level = node.level; number = node.number; version = version }
 
 -- vetting where a slot does not hold what it should

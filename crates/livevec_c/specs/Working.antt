@@ -12,7 +12,7 @@ use Rattle.lv_live.specs.Turns.{TakesTurns}
 use Rattle.livevec_c.specs.declared.objects.Object.{Object}
 use Rattle.livevec_c.specs.declared.objects.Object.TheVariants.{Vector, Job, Outcome}
 use Rattle.livevec_c.specs.declared.results.Count.{Count}
-use Rattle.livevec_c.specs.declared.jobs.Claimed.{Claimed}
+use Rattle.livevec_c.specs.declared.jobs.ClaimedJob.{ClaimedJob}
 use Rattle.livevec_c.specs.declared.jobs.Delivered.{Delivered}
 use Rattle.livevec_c.specs.declared.jobs.Vetted.{Vetted}
 use Rattle.livevec_c.specs.Answers.{accepted_by, claimed_by, unaccepted, unclaimed, unvetted}
@@ -43,12 +43,12 @@ Forgets answer None new = (answer ≡ 101) × (new ≡ None)
 Forgets answer (Some old) new = (object : Object) × (new ≡ Some object) × ForgetsObject answer old object
 
 -- what a claim answers
-abbrev pub claim_answers : Option (Carried SixByTable SixSummary) → Claimed
+abbrev pub claim_answers : Option (Carried SixByTable SixSummary) → ClaimedJob
 claim_answers None = unclaimed 0
 claim_answers (Some job) = claimed_by job.node job.version
 
 -- the next job was claimed, if there is one, and it lies behind the slot
-pub record ClaimsJob (answer : Claimed) (old new : State) (slot : Option Object) : Type 0 where
+pub record ClaimsJob (answer : ClaimedJob) (old new : State) (slot : Option Object) : Type 0 where
   pub made : Option (Carried SixByTable SixSummary)
   pub answer_is : answer ≡ claim_answers made
   pub slot_is : slot ≡ option_map Job made
@@ -58,19 +58,19 @@ pub record ClaimsJob (answer : Claimed) (old new : State) (slot : Option Object)
   pub honest : IfSome made (λ job. IsHonest (six_operations_by (table_of old.body.automaton)) (recorded new) job.node job.version job.contents)
 
 -- a claim of a vector, or there was no memory, and nothing has changed
-abbrev pub ClaimsVector : Claimed → State → State → Option Object → Type 0
+abbrev pub ClaimsVector : ClaimedJob → State → State → Option Object → Type 0
 ClaimsVector answer old new slot = ((answer ≡ unclaimed 6) × (new ≡ old) × (slot ≡ None)) ⊎ ClaimsJob answer old new slot
 
-abbrev pub ClaimsObject : Claimed → Object → Object → Option Object → Type 0
+abbrev pub ClaimsObject : ClaimedJob → Object → Object → Option Object → Type 0
 ClaimsObject answer (Vector old only) new slot = (state : State) × (new ≡ Vector state only) × ClaimsVector answer old state slot
 ClaimsObject answer other new slot = (answer ≡ unclaimed 101) × (new ≡ other) × (slot ≡ None)
 
 -- the same for an empty slot of the job
-abbrev pub ClaimsInto : Claimed → Option Object → Option Object → Option Object → Type 0
+abbrev pub ClaimsInto : ClaimedJob → Option Object → Option Object → Option Object → Type 0
 ClaimsInto answer None new slot = (answer ≡ unclaimed 101) × (new ≡ None) × (slot ≡ None)
 ClaimsInto answer (Some old) new slot = (object : Object) × (new ≡ Some object) × ClaimsObject answer old object slot
 
-abbrev pub Claims : Claimed → Option Object → Option Object → Option Object → Option Object → Type 0
+abbrev pub Claims : ClaimedJob → Option Object → Option Object → Option Object → Option Object → Type 0
 Claims answer old (Some job) new slot = (answer ≡ unclaimed 104) × (new ≡ old) × (slot ≡ Some job)
 Claims answer old None new slot = ClaimsInto answer old new slot
 
@@ -111,14 +111,14 @@ Vets answer None outcome = answer ≡ unvetted
 Vets answer (Some object) outcome = VetsWith answer object outcome
 
 -- what became of an outcome that is vouched for
-pub record Takes (answer : Delivered) (old new : State) (outcome : Carried SixByTable SixSummary) : Type 0 where
+pub record Delivers (answer : Delivered) (old new : State) (outcome : Carried SixByTable SixSummary) : Type 0 where
   pub vouched : Vouched old outcome
   pub answer_is : answer ≡ accepted_by (delivery_of (recorded old) outcome.node outcome.version)
   pub delivered : HasDelivery old new outcome.node outcome.version (delivery_of (recorded old) outcome.node outcome.version)
 
--- an outcome is taken in where it is vouched for, else refused, and nothing has changed
+-- an outcome is delivered where it is vouched for, else refused, and nothing has changed
 abbrev pub AcceptsVector : Delivered → State → State → Carried SixByTable SixSummary → Type 0
-AcceptsVector answer old new outcome = ((answer ≡ unaccepted 15) × (¬ Vouched old outcome) × (new ≡ old)) ⊎ Takes answer old new outcome
+AcceptsVector answer old new outcome = ((answer ≡ unaccepted 15) × (¬ Vouched old outcome) × (new ≡ old)) ⊎ Delivers answer old new outcome
 
 abbrev pub AcceptsLive : Delivered → State → State → Object → Type 0
 AcceptsLive answer old new (Outcome outcome) = AcceptsVector answer old new outcome

@@ -42,16 +42,16 @@ fn not_scanned(refusal: u32, detail: u32) -> Scanned
 // Elements from index `at` on, before `hi`, one at least: a run of them where they lie, or the one at `at` alone, which is put into
 // `cell`, where the last edit's write of it isn't in its place yet.
 #[inline(always)]
-fn run_at<'a>(cells: &'a Edits, at: u32, hi: u32, cell: &'a mut [i64; 1]) -> &'a [i64]
+fn run_at<'a>(history: &'a Edits, at: u32, hi: u32, cell: &'a mut [i64; 1]) -> &'a [i64]
     requires order { at < hi }
-    requires inside { hi ≤ length (list_of cells.now.journal) }
-    ensures elements { result.now ≡ slice_range (list_of cells.now.journal) at (at + length result.now) }
+    requires inside { hi ≤ length (list_of history.now.journal) }
+    ensures elements { result.now ≡ slice_range (list_of history.now.journal) at (at + length result.now) }
     ensures some { 0 < length result.now }
     ensures few { at + length result.now ≤ hi }
 {
-    let run = cells.stretch(at, hi);
+    let run = history.stretch(at, hi);
     if run.is_empty() {
-        *cell = [cells.read(at)];
+        *cell = [history.read(at)];
         return &cell[..];
     }
     run
@@ -83,18 +83,18 @@ fn lay_run<B: Celled>(
 }
 
 // Puts the cells of one of the two scans of a range into a column of as many places, by runs of elements that lie side by side.
-fn lay_range<B: Celled>(body: &B, inclusive: bool, cells: &Edits, lo: u32, column: &mut [B::Cell])
-    requires { lo + length column.old ≤ length (list_of cells.now.journal) }
-    ensures { column.new ≡ map B.cell_of (scan_of inclusive (B.operations (B.meaning body.now)) (slice_of cells.now.journal lo (lo + length column.old))) }
+fn lay_range<B: Celled>(body: &B, inclusive: bool, history: &Edits, lo: u32, column: &mut [B::Cell])
+    requires { lo + length column.old ≤ length (list_of history.now.journal) }
+    ensures { column.new ≡ map B.cell_of (scan_of inclusive (B.operations (B.meaning body.now)) (slice_of history.now.journal lo (lo + length column.old))) }
 {
     // The elements are few enough for a fold.
-    let _size = cells.size();
+    let _size = history.size();
     let hi = lo + column.len() as u32;
     let mut sum = body.identity();
     let mut cell = [0];
     let mut at = lo;
     while at < hi {
-        let run = run_at(cells, at, hi, &mut cell);
+        let run = run_at(history, at, hi, &mut cell);
         sum = lay_run(body, inclusive, sum, run, (at - lo) as usize, column);
         at += run.len() as u32;
     }
@@ -104,18 +104,18 @@ fn lay_range<B: Celled>(body: &B, inclusive: bool, cells: &Edits, lo: u32, colum
 fn lay_front<B: Celled>(
     body: &B,
     inclusive: bool,
-    cells: &Edits,
+    history: &Edits,
     lo: u32,
     hi: u32,
     column: &mut [B::Cell],
 )
     requires order { lo ≤ hi }
-    requires inside { hi ≤ length (list_of cells.now.journal) }
+    requires inside { hi ≤ length (list_of history.now.journal) }
     requires room { hi - lo ≤ length column.old }
-    ensures { column.new ≡ map B.cell_of (scan_of inclusive (B.operations (B.meaning body.now)) (slice_of cells.now.journal lo hi)) ++ drop (hi - lo) column.old }
+    ensures { column.new ≡ map B.cell_of (scan_of inclusive (B.operations (B.meaning body.now)) (slice_of history.now.journal lo hi)) ++ drop (hi - lo) column.old }
 {
     let many = (hi - lo) as usize;
-    lay_range(body, inclusive, cells, lo, &mut column[..many]);
+    lay_range(body, inclusive, history, lo, &mut column[..many]);
 }
 
 // A scan of a vector.
@@ -129,8 +129,8 @@ fn scan_live<B: Celled>(
     ensures answer { result ≡ scanned lo hi (length column.old) live.now }
     ensures column { column.new ≡ filled B.plain_cell inclusive lo hi column.old live.now }
 {
-    let cells = live.view().cells;
-    if let Some(refusal) = refusal_of(cells, lo, hi) {
+    let history = live.view().cells;
+    if let Some(refusal) = refusal_of(history, lo, hi) {
         return not_scanned(refusal.number(), detail(refusal));
     }
     let many = hi - lo;
@@ -138,11 +138,11 @@ fn scan_live<B: Celled>(
         return not_scanned(SHORT_BUFFER, many);
     }
     let body = B::by(live.body().automaton);
-    lay_front(&body, inclusive, cells, lo, hi, column);
+    lay_front(&body, inclusive, history, lo, hi, column);
     Scanned {
         refusal: 0,
         detail: 0,
-        edit: cells.edit(),
+        edit: history.edit(),
         length: many,
     }
 }

@@ -18,7 +18,7 @@ use std::alloc::Global;
 /// What a claim answers.
 #[repr(C)]
 #[derive(Clone, Copy)]
-pub struct Claimed {
+pub struct ClaimedJob {
     pub refusal: u32,
     pub found: bool,
     pub level: u32,
@@ -106,10 +106,10 @@ pub extern "C" fn livevec_proved_forget(alloc: Global, slot: &mut Slot) -> u32
 }
 
 // What a claim answers that found no job, or was refused.
-fn not_claimed(refusal: u32) -> Claimed
+fn not_claimed(refusal: u32) -> ClaimedJob
     ensures { result ≡ unclaimed refusal }
 {
-    Claimed {
+    ClaimedJob {
         refusal,
         found: false,
         level: 0,
@@ -119,10 +119,10 @@ fn not_claimed(refusal: u32) -> Claimed
 }
 
 // What a claim answers that found a job.
-fn claim_answer(node: Node, version: u32) -> Claimed
+fn claim_answer(node: Node, version: u32) -> ClaimedJob
     ensures { result ≡ claimed_by node version }
 {
-    Claimed {
+    ClaimedJob {
         refusal: 0,
         found: true,
         level: node.level,
@@ -141,7 +141,7 @@ pub fn refilled(room: Box<Object>, object: Object) -> Box<Object>
 }
 
 // A claim of a vector, for an empty slot and a box.
-fn claim_into(vector: &mut KindVector, room: Box<Object>, job: &mut Slot) -> Claimed
+fn claim_into(vector: &mut KindVector, room: Box<Object>, job: &mut Slot) -> ClaimedJob
     requires { job.old.raw.inner ≡ None }
     ensures { ClaimsVector result vector.old vector.new job.new.raw.inner }
 {
@@ -156,7 +156,7 @@ fn claim_into(vector: &mut KindVector, room: Box<Object>, job: &mut Slot) -> Cla
 }
 
 // A claim of a vector, for an empty slot. Room is made before anything changes.
-fn claim_vector(alloc: Global, vector: &mut KindVector, job: &mut Slot) -> Claimed
+fn claim_vector(alloc: Global, vector: &mut KindVector, job: &mut Slot) -> ClaimedJob
     requires { job.old.raw.inner ≡ None }
     ensures { ClaimsVector result vector.old vector.new job.new.raw.inner }
 {
@@ -167,7 +167,7 @@ fn claim_vector(alloc: Global, vector: &mut KindVector, job: &mut Slot) -> Claim
 }
 
 // A claim of an object, for an empty slot.
-fn claim_of(alloc: Global, object: &mut Object, job: &mut Slot) -> Claimed
+fn claim_of(alloc: Global, object: &mut Object, job: &mut Slot) -> ClaimedJob
     requires { job.old.raw.inner ≡ None }
     ensures { ClaimsObject result object.old object.new job.new.raw.inner }
 {
@@ -179,7 +179,7 @@ fn claim_of(alloc: Global, object: &mut Object, job: &mut Slot) -> Claimed
 
 /// Puts a job for the least node that wants one into an empty slot.
 #[unsafe(no_mangle)]
-pub extern "C" fn livevec_proved_claim(alloc: Global, slot: &mut Slot, job: &mut Slot) -> Claimed
+pub extern "C" fn livevec_proved_claim(alloc: Global, slot: &mut Slot, job: &mut Slot) -> ClaimedJob
     ensures { Claims result slot.old.raw.inner job.old.raw.inner slot.new.raw.inner job.new.raw.inner }
 {
     if is_full(job) {
@@ -370,7 +370,7 @@ fn accept_with(alloc: Global, object: &mut Object, outcome: &mut Slot) -> Delive
     }
 }
 
-/// Takes an outcome in, where vetting says yes. The outcome stays as it is.
+/// Delivers an outcome, where vetting says yes. The outcome stays as it is.
 #[unsafe(no_mangle)]
 pub extern "C" fn livevec_proved_accept(
     alloc: Global,

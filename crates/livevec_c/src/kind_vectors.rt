@@ -290,7 +290,7 @@ impl KindVector {
         self.live.vet(outcome)
     }
 
-    /// Takes an outcome in: it is stale, or held already, or its summary is installed. Takes no memory.
+    /// Delivers an outcome: it is stale, or held already, or its summary is installed. Takes no memory.
     pub fn accept(&mut self, outcome: Outcome<SixByTable>) -> Accepted
         requires { Vouched (six_operations_by (table_of self.old.body.automaton)) (recorded self.old)
             (table_of self.old.body.automaton ≡ table_of outcome.body.automaton) outcome.node outcome.version outcome.contents }

@@ -64,7 +64,7 @@ impl<'a> Body for Counted<'a> {
     ghost equal = { λ s t. Prim.search rules };
 }
 
-// Claims a job, runs it and gives its outcome back, where there is a job.
+// Claims a job, runs it and delivers its outcome, where there is a job.
 fn refresh_counted(live: &mut Live<Counted<'_>>) -> Option<Accepted> {
     match live.claim() {
         Some(job) => give(live, job.run()),

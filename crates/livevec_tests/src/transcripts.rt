@@ -11,7 +11,7 @@ use std::alloc::{AllocError, Global};
 use std::process::Abort;
 use std::test::Fail;
 
-// A transcript of two edits and one claim.
+// A transcript of two edits and one answer.
 const SOUND: &str = "livevec 1\nj push 5\nj push -7\na 2 sum 0 2 18446744073709551614\nend\n";
 
 // Writes a transcript of a push, a pop and the sum between them, and compares how that ends and what was written.
@@ -24,14 +24,14 @@ fn check_transcript(
 ) -> Result<(), AllocError> {
     let mut writer = writer(alloc, takes)?;
     let edits = [Edit::Push(5), Edit::Pop];
-    let claim = Claimed {
+    let answer = Claimed {
         edit: 1,
         kind: Kind::Sum,
         lo: 0,
         hi: 1,
         value: Shown::Sum(5),
     };
-    let ended = write_transcript(alloc, &edits, &[claim], &mut writer);
+    let ended = write_transcript(alloc, &edits, &[answer], &mut writer);
     assert_same(rt, &(ended, writer.taken.as_slice()), &(end, text));
     drop(writer);
     Ok(())

@@ -19,7 +19,7 @@ use Rattle.lv_machine.proofs.ShowsLaws.{place_is}
 use Rattle.lv_machine.proofs.WordLaws.{cell_version-grows}
 use Rattle.lv_board.specs.declared.actors.Actor.{Actor}
 use Rattle.lv_board.specs.declared.actors.Basis.{Basis}
-use Rattle.lv_board.specs.declared.actors.Installed.{Installed}
+use Rattle.lv_board.specs.declared.actors.InstalledPart.{InstalledPart}
 use Rattle.lv_board.specs.declared.actors.View.{View}
 use Rattle.lv_board.specs.Rule.{ActorFits, IsThere}
 use Rattle.lv_board.specs.TableRule.{HasMade, IsSeat, ViewFits}
@@ -120,7 +120,7 @@ no_place_first : (b r : ℕ) → place b r ≢ 0
 no_place_first b r is = omega (arith, place_is b r)
 
 -- parts that were installed stand there after any move, or are displaced by later ones
-pub installed_stays : (a : ℕ) (c d : Config) (xs : List Installed) → Advances a c d → All (IsThere c.words) xs → All (IsThere d.words) xs
+pub installed_stays : (a : ℕ) (c d : Config) (xs : List InstalledPart) → Advances a c d → All (IsThere c.words) xs → All (IsThere d.words) xs
 installed_stays a c d xs on = All-weaker (IsThere c.words) (IsThere d.words) (λ p was. let more = on.words p.place (λ zero. omega (arith, was.some)) in record { some = was.some; word = omega (arith, was.word) }) xs
 
 -- what another seat's actor knows stays true

@@ -31,7 +31,7 @@ use Rattle.lv_board.specs.declared.seats.Seat.{Seat}
 use Rattle.lv_board.specs.Closing.{AreAll, IsClosed, IsKept, made_by}
 use Rattle.lv_board.specs.Ended.{IsEnded, IsSettled, shown_at}
 use Rattle.lv_board.specs.Rule.{ActorFits, terms_of}
-use Rattle.lv_board.specs.TableRule.{gathered, Holds, spent}
+use Rattle.lv_board.specs.TableRule.{gathered, TableHolds, spent}
 use Rattle.lv_board.specs.Tells.{actor_of}
 use Rattle.lv_board.proofs.Advancing.{own-nil, own-other, own-same}
 use Rattle.lv_board.proofs.Handing.{gathers}
@@ -153,10 +153,10 @@ cell_within t i within = place_within t.limits (i / 8) (i % 8) (omega arith) (om
 
 module _ {S B : Type 0} (f : B → Folding) (z key : Basis B) (is_key : key ≡ z) where
   -- the last state, where the actors of all seats stand in one view
-  pub settles : (id : ℕ) (v : View B) (actors : List Actor) (words : List ℕ) (slots : List S) → v.sits ≡ true → v.actor ∷ v.more ≡ actors → Final (Seen (Holds f key) id v) words slots → IsSettled (terms_of f z) actors words
+  pub settles : (id : ℕ) (v : View B) (actors : List Actor) (words : List ℕ) (slots : List S) → v.sits ≡ true → v.actor ∷ v.more ≡ actors → Final (Seen (TableHolds f key) id v) words slots → IsSettled (terms_of f z) actors words
   settles id v actors words slots sits are end =
-      subst (λ k. Final (Seen (Holds f k) id v) words slots → IsSettled (terms_of f z) actors words) (sym is_key)
-      (λ (last : Final (Seen (Holds f z) id v) words slots).
+      subst (λ k. Final (Seen (TableHolds f k) id v) words slots → IsSettled (terms_of f z) actors words) (sym is_key)
+      (λ (last : Final (Seen (TableHolds f z) id v) words slots).
       let (s, (rule, at), is, homes, slots) = last in
       let fits = rule.views id v at in
       let kept : (x : Actor) → ActorFits z.seats (state_of f z s rule) rule.owner id x → IsKept (state_of f z s rule).history x = λ x true_of. record { known = true_of.known; own_is = true_of.own_is } in
@@ -171,10 +171,10 @@ module _ {S B : Type 0} (f : B → Folding) (z key : Basis B) (is_key : key ≡ 
       }) end
 
   -- the last state of a board without seats
-  pub settles_alone : (actors : List Actor) (words : List ℕ) (slots : List S) → actors ≡ [] → Final (Holds f key) words slots → IsSettled (terms_of f z) actors words
+  pub settles_alone : (actors : List Actor) (words : List ℕ) (slots : List S) → actors ≡ [] → Final (TableHolds f key) words slots → IsSettled (terms_of f z) actors words
   settles_alone actors words slots none end =
-      subst (λ k. Final (Holds f k) words slots → IsSettled (terms_of f z) actors words) (sym is_key)
-      (λ (last : Final (Holds f z) words slots).
+      subst (λ k. Final (TableHolds f k) words slots → IsSettled (terms_of f z) actors words) (sym is_key)
+      (λ (last : Final (TableHolds f z) words slots).
       let (s, rule, is, homes, slots) = last in
       record {
         terms = rule.terms;
@@ -185,8 +185,8 @@ module _ {S B : Type 0} (f : B → Folding) (z key : Basis B) (is_key : key ≡ 
       }) end
 
 -- one seat is gathered into another, at the table's key
-pub gathers_at_key : (S : Type 0) {B : Type 0} (f : B → Folding) (z key : Basis B) (id : ℕ) (v : View B) (other : ℕ) (w : View B) → key ≡ z → w.sits ≡ true → Joins {S = S} (Holds f key) id v other w (gathered v w) spent
-gathers_at_key S f z key id v other w is_key sits = subst (λ k. Joins {S = S} (Holds f k) id v other w (gathered v w) spent) (sym is_key) (gathers S f z id v other w sits)
+pub gathers_at_key : (S : Type 0) {B : Type 0} (f : B → Folding) (z key : Basis B) (id : ℕ) (v : View B) (other : ℕ) (w : View B) → key ≡ z → w.sits ≡ true → Joins {S = S} (TableHolds f key) id v other w (gathered v w) spent
+gathers_at_key S f z key id v other w is_key sits = subst (λ k. Joins {S = S} (TableHolds f k) id v other w (gathered v w) spent) (sym is_key) (gathers S f z id v other w sits)
 
 -- what a settled board was
 pub ended_of : {B : Type 0} (t : Terms) (seats : List (Seat B)) (words : List ℕ) (closed : Closed) → IsSettled t (map actor_of seats) words → closed.edit ≡ edit_of (slice_index words 0) → closed.elements ≡ map (shown_at words) (range_with_len 0 (size_of (slice_index words 0))) → IsEnded t seats closed

@@ -24,7 +24,7 @@ use Rattle.lv_board.specs.declared.actors.Basis.{Basis}
 use Rattle.lv_board.specs.declared.actors.View.{View}
 use Rattle.lv_board.specs.Plays.{Exchanges, IsAccepted, IsContended}
 use Rattle.lv_board.specs.Rule.{ActorFits, terms_of}
-use Rattle.lv_board.specs.TableRule.{Holds, IsSeat, ViewFits}
+use Rattle.lv_board.specs.TableRule.{TableHolds, IsSeat, ViewFits}
 use Rattle.lv_board.specs.Stands.{IsLook, IsReady}
 use Rattle.lv_board.proofs.Handing.{Ends-none}
 use Rattle.lv_board.proofs.Advancing.{accepted_advances, installed_stays, own-same}
@@ -71,14 +71,14 @@ module _ {S B : Type 0} (f : B → Folding) (z : Basis B) (slots id look new : �
 
   -- what the exchange is to answer for, where a word is found
   abbrev Ends' : State S (View B) → ℕ → Bool → Type 0
-  Ends' s n found = (w : View B) × (a : Act S) × Valid s.homes me.1 a × Holds f z (stepped s 0 (either found new n) id me.1 w a)
+  Ends' s n found = (w : View B) × (a : Act S) × Valid s.homes me.1 a × TableHolds f z (stepped s 0 (either found new n) id me.1 w a)
       × ((carried_after me.1 a ≡ me.1) × (w ≡ record (me.0) { actor = w.actor; moves = Exchange me.0.actor.number (edit_between look new) ∷ me.0.moves }))
       × ((b : Basis B) → me.0.bases ≡ b ∷ []
       → MatchBool found
       (IsAccepted (terms_of f b) me.0.actor w.actor record { actor = me.0.actor.number; edit = edit_between look new })
       (IsContended (terms_of f b) me.0.actor w.actor n))
 
-  may_exchange : (s : State S (View B)) (rule : Holds f z s) (owner : ℕ → ℕ) → ActorFits z.seats (state_of f z s rule) owner id me.0.actor → MayExchange (terms_of f z) (state_of f z s rule) me.0.actor.number edit
+  may_exchange : (s : State S (View B)) (rule : TableHolds f z s) (owner : ℕ → ℕ) → ActorFits z.seats (state_of f z s rule) owner id me.0.actor → MayExchange (terms_of f z) (state_of f z s rule) me.0.actor.number edit
   may_exchange s rule owner x =
       let own_look : (state_of f z s rule).looks me.0.actor.number ≡ look = x.look ∙ sym is in
       record {
@@ -91,7 +91,7 @@ module _ {S B : Type 0} (f : B → Folding) (z : Basis B) (slots id look new : �
         };
       }
 
-  wins : (s : State S (View B)) (rule : Holds f z s) → get_elem? s.views id ≡ some me.0 → slice_index s.words 0 ≡ look → Ends' s (slice_index s.words 0) true
+  wins : (s : State S (View B)) (rule : TableHolds f z s) → get_elem? s.views id ≡ some me.0 → slice_index s.words 0 ≡ look → Ends' s (slice_index s.words 0) true
   wins s rule at found =
       let fits = rule.views id me.0 at in
       let based = fits.based seat.sits in
@@ -138,7 +138,7 @@ module _ {S B : Type 0} (f : B → Folding) (z : Basis B) (slots id look new : �
         },
       )
 
-  loses : (s : State S (View B)) (rule : Holds f z s) → get_elem? s.views id ≡ some me.0 → slice_index s.words 0 ≢ look → Ends' s (slice_index s.words 0) false
+  loses : (s : State S (View B)) (rule : TableHolds f z s) → get_elem? s.views id ≡ some me.0 → slice_index s.words 0 ≢ look → Ends' s (slice_index s.words 0) false
   loses s rule at other =
       let fits = rule.views id me.0 at in
       let based = fits.based seat.sits in
@@ -183,11 +183,11 @@ module _ {S B : Type 0} (f : B → Folding) (z : Basis B) (slots id look new : �
         },
       )
 
-  by_found : (s : State S (View B)) (rule : Holds f z s) → get_elem? s.views id ≡ some me.0 → (found : Bool) → nat_eq (slice_index s.words 0) look ≡ found → Ends' s (slice_index s.words 0) found
+  by_found : (s : State S (View B)) (rule : TableHolds f z s) → get_elem? s.views id ≡ some me.0 → (found : Bool) → nat_eq (slice_index s.words 0) look ≡ found → Ends' s (slice_index s.words 0) found
   by_found s rule at true is = wins s rule at (eqb-true _ _ is)
   by_found s rule at false is = loses s rule at (eqb-false _ _ is)
 
-  pub exchanges_allowed : Allows (Holds f z) slots id me 0 (λ n. either (nat_eq n look) new n) (Exchanges f (step slots 0 look new none) me)
+  pub exchanges_allowed : Allows (TableHolds f z) slots id me 0 (λ n. either (nat_eq n look) new n) (Exchanges f (step slots 0 look new none) me)
   exchanges_allowed s rule homes at below =
       let (w, a, valid, holds, same, told) = by_found s rule at (nat_eq (slice_index s.words 0) look) refl in
       (w, a, valid, holds, (same, told))
@@ -206,8 +206,8 @@ look_accepted t x y look new edit is after short free told =
     subst (λ w. IsLook t.limits.buckets t.limits.edits w y.seen) (sym word) (subst (λ h. IsLook t.limits.buckets t.limits.edits (descriptor_of (record { actor = x.number; edit = edit } ∷ x.seen)) h) (sym told.seen) (legal_look t (record { actor = x.number; edit = edit } ∷ x.seen) told.terms told.legal))
 
 module _ {S B : Type 0} (f : B → Folding) (z key : Basis B) (is_key : key ≡ z) (slots id look new : ℕ) (edit : Edit) (me : Me S (View B)) (seat : IsSeat me.0) where
-  pub exchanges_at_key : look ≡ descriptor_of me.0.actor.seen → new ≡ descriptor_after look edit → IsShortEdit edit → IsReady me.0.actor look → verdict_at record { buckets = z.buckets; edits = z.edits } look edit ≡ None → Allows (Holds f key) slots id me 0 (λ n. either (nat_eq n look) new n) (Exchanges f (step slots 0 look new none) me)
-  exchanges_at_key is after short ready free = subst (λ k. Allows (Holds f k) slots id me 0 (λ n. either (nat_eq n look) new n) (Exchanges f (step slots 0 look new none) me)) (sym is_key) (exchanges_allowed f z slots id look new edit me seat is after short ready free)
+  pub exchanges_at_key : look ≡ descriptor_of me.0.actor.seen → new ≡ descriptor_after look edit → IsShortEdit edit → IsReady me.0.actor look → verdict_at record { buckets = z.buckets; edits = z.edits } look edit ≡ None → Allows (TableHolds f key) slots id me 0 (λ n. either (nat_eq n look) new n) (Exchanges f (step slots 0 look new none) me)
+  exchanges_at_key is after short ready free = subst (λ k. Allows (TableHolds f k) slots id me 0 (λ n. either (nat_eq n look) new n) (Exchanges f (step slots 0 look new none) me)) (sym is_key) (exchanges_allowed f z slots id look new edit me seat is after short ready free)
 
 -- what an actor made is its own after an edit of its, too
 pub made_accepted : (t : Terms) (x y : Actor) (e : Edit) → own x.number x.known ≡ x.own → IsAccepted t x y record { actor = x.number; edit = e } → own y.number y.known ≡ y.own

@@ -18,7 +18,7 @@ use Rattle.lv_board.specs.declared.actors.Actor.{Actor}
 use Rattle.lv_board.specs.declared.actors.Basis.{Basis}
 use Rattle.lv_board.specs.declared.actors.View.{View}
 use Rattle.lv_board.specs.Rule.{ActorFits, IsThere, newcomer, terms_of}
-use Rattle.lv_board.specs.TableRule.{dealer_from, gathered, HasMade, Holds, informed, IsSeat, note, spent, ViewFits}
+use Rattle.lv_board.specs.TableRule.{dealer_from, gathered, HasMade, TableHolds, informed, IsSeat, note, spent, ViewFits}
 use Rattle.lv_board.proofs.Advancing.{own-nil}
 
 -- no history is an earlier one of each
@@ -109,12 +109,12 @@ none_made : {B : Type 0} {seats : ℕ} {moves : List Move} {x : Actor} → HasMa
 none_made = record { sits = λ wrong. absurd (false≢true wrong); deals = λ wrong. absurd (false≢true wrong) }
 
 module _ {S B : Type 0} (f : B → Folding) (z : Basis B) where
-  abbrev state_of : (s : State S (View B)) → Holds f z s → Config
+  abbrev state_of : (s : State S (View B)) → TableHolds f z s → Config
   state_of s rule = reached (terms_of f z) rule.moves
 
 module _ (S : Type 0) {B : Type 0} (f : B → Folding) (z : Basis B) where
   -- the dealer deals its next seat
-  pub deals : (id k : ℕ) → k < z.seats → Splits {S = S} (Holds f z) id (dealer_from z k) (dealer_from z (k + 1)) record { actor = newcomer k; sits = true; deals = false; bases = z ∷ []; moves = []; more = [] }
+  pub deals : (id k : ℕ) → k < z.seats → Splits {S = S} (TableHolds f z) id (dealer_from z k) (dealer_from z (k + 1)) record { actor = newcomer k; sits = true; deals = false; bases = z ∷ []; moves = []; more = [] }
   deals id k below s rule at =
       let c = state_of f z s rule in
       let new : ℕ = length s.views in
@@ -162,7 +162,7 @@ module _ (S : Type 0) {B : Type 0} (f : B → Folding) (z : Basis B) where
       }
 
   -- a note of what a seat knows is split off
-  pub notes : (id : ℕ) (v : View B) → Splits {S = S} (Holds f z) id v v (note v)
+  pub notes : (id : ℕ) (v : View B) → Splits {S = S} (TableHolds f z) id v v (note v)
   notes id v s rule at = record {
     terms = rule.terms;
     moves = rule.moves;
@@ -188,7 +188,7 @@ module _ (S : Type 0) {B : Type 0} (f : B → Folding) (z : Basis B) where
 
 module _ (S : Type 0) {B : Type 0} (f : B → Folding) (z : Basis B) where
   -- a seat reads a note
-  pub informs : (id : ℕ) (v : View B) (other : ℕ) (w : View B) → IsSeat v → Joins {S = S} (Holds f z) id v other w (informed v w) spent
+  pub informs : (id : ℕ) (v : View B) (other : ℕ) (w : View B) → IsSeat v → Joins {S = S} (TableHolds f z) id v other w (informed v w) spent
   informs id v other w seat s rule at apart there =
       let c = state_of f z s rule in
       let mine = rule.views id v at in
@@ -236,7 +236,7 @@ module _ (S : Type 0) {B : Type 0} (f : B → Folding) (z : Basis B) where
       }
 
   -- a seat takes in another, whose place is its own from then on
-  pub gathers : (id : ℕ) (v : View B) (other : ℕ) (w : View B) → w.sits ≡ true → Joins {S = S} (Holds f z) id v other w (gathered v w) spent
+  pub gathers : (id : ℕ) (v : View B) (other : ℕ) (w : View B) → w.sits ≡ true → Joins {S = S} (TableHolds f z) id v other w (gathered v w) spent
   gathers id v other w sits s rule at apart there =
       let c = state_of f z s rule in
       let mine = rule.views id v at in

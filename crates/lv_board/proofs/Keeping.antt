@@ -25,25 +25,25 @@ use Rattle.lv_machine.proofs.ShowsLaws.{pending, place_is}
 use Rattle.lv_machine.proofs.WordLaws.{cell_version-grows, cell_version-word, value_of-short}
 use Rattle.lv_board.specs.declared.actors.Actor.{Actor}
 use Rattle.lv_board.specs.declared.actors.Basis.{Basis}
-use Rattle.lv_board.specs.declared.actors.Installed.{Installed}
+use Rattle.lv_board.specs.declared.actors.InstalledPart.{InstalledPart}
 use Rattle.lv_board.specs.declared.actors.View.{View}
 use Rattle.lv_board.specs.Plays.{HelpsCell, HelpsMark, Installs, IsRead, Looks, Reads, SeesAll}
 use Rattle.lv_board.specs.Rule.{ActorFits, IsThere, terms_of}
-use Rattle.lv_board.specs.TableRule.{HasMade, Holds, IsSeat, ViewFits}
+use Rattle.lv_board.specs.TableRule.{HasMade, TableHolds, IsSeat, ViewFits}
 use Rattle.lv_board.proofs.Handing.{Ends-none}
 use Rattle.lv_board.proofs.Advancing.{installed_stays, moved_advances, one_made, others_made, raised_advances, view_stays}
 use Rattle.lv_board.proofs.Seated.{install_at, read_told, same_basis, seat_fits}
 
 module _ {S B : Type 0} (f : B → Folding) (z : Basis B) where
   -- the state that the rule knows of
-  abbrev pub state_of : (s : State S (View B)) → Holds f z s → Config
+  abbrev pub state_of : (s : State S (View B)) → TableHolds f z s → Config
   state_of s rule = reached (terms_of f z) rule.moves
 
-  pub shows : (s : State S (View B)) (rule : Holds f z s) → Shows (terms_of f z) (state_of s rule)
+  pub shows : (s : State S (View B)) (rule : TableHolds f z s) → Shows (terms_of f z) (state_of s rule)
   shows s rule = reached_shows (terms_of f z) rule.moves rule.terms rule.allowed
 
   -- a move of the seat `id` keeps the rule, where the seat's new view is true of the new state
-  pub rule_moved : (s : State S (View B)) (rule : Holds f z s) (id i n : ℕ) (cs : List (ℕ × S)) (u : View B) (y : Actor) (m : Move) → IsSeat u → get_elem? s.views id ≡ some u → y.number ≡ u.actor.number → mover m ≡ u.actor.number → rule.owner u.actor.number ≡ id → MayMove (terms_of f z) (state_of s rule) m → (moved (state_of s rule) m).words ≡ slice_set (state_of s rule).words i n → ViewFits f z (moved (state_of s rule) m) rule.owner id (record u { actor = y; moves = m ∷ u.moves }) → Holds f z (stepped s i n id cs (record u { actor = y; moves = m ∷ u.moves }) keeps)
+  pub rule_moved : (s : State S (View B)) (rule : TableHolds f z s) (id i n : ℕ) (cs : List (ℕ × S)) (u : View B) (y : Actor) (m : Move) → IsSeat u → get_elem? s.views id ≡ some u → y.number ≡ u.actor.number → mover m ≡ u.actor.number → rule.owner u.actor.number ≡ id → MayMove (terms_of f z) (state_of s rule) m → (moved (state_of s rule) m).words ≡ slice_set (state_of s rule).words i n → ViewFits f z (moved (state_of s rule) m) rule.owner id (record u { actor = y; moves = m ∷ u.moves }) → TableHolds f z (stepped s i n id cs (record u { actor = y; moves = m ∷ u.moves }) keeps)
   unfolding reached
   rule_moved s rule id i n cs u y m seat here number of owned may words fits = record {
     terms = rule.terms;
@@ -63,7 +63,7 @@ module _ {S B : Type 0} (f : B → Folding) (z : Basis B) where
   }
 
   -- a load of the descriptor
-  pub looks_allowed : (slots id : ℕ) (me : Me S (View B)) → IsSeat me.0 → Allows (Holds f z) slots id me 0 (λ n. n) (Looks f (step slots 0 0 0 none) me)
+  pub looks_allowed : (slots id : ℕ) (me : Me S (View B)) → IsSeat me.0 → Allows (TableHolds f z) slots id me 0 (λ n. n) (Looks f (step slots 0 0 0 none) me)
   looks_allowed slots id me seat s rule homes at below =
       let fits = rule.views id me.0 at in
       let based = fits.based seat.sits in
@@ -99,7 +99,7 @@ module _ {S B : Type 0} (f : B → Folding) (z : Basis B) where
       )
 
   -- a load of another word
-  pub reads_allowed : (slots id i : ℕ) (me : Me S (View B)) → IsSeat me.0 → Allows (Holds f z) slots id me i (λ n. n) (Reads f (step slots i 0 0 none) me)
+  pub reads_allowed : (slots id i : ℕ) (me : Me S (View B)) → IsSeat me.0 → Allows (TableHolds f z) slots id me i (λ n. n) (Reads f (step slots i 0 0 none) me)
   reads_allowed slots id i me seat s rule homes at below =
       let fits = rule.views id me.0 at in
       let based = fits.based seat.sits in
@@ -133,21 +133,21 @@ module _ {S B : Type 0} (f : B → Folding) (z : Basis B) where
       )
 
   -- raising a word to complete a pending write, or to install a part
-  raised_kept : (s : State S (View B)) (rule : Holds f z s) (id at n : ℕ) (me : Me S (View B)) (y : Actor) (m : Move) → IsSeat me.0 → get_elem? s.views id ≡ some me.0 → me.0.bases ≡ z ∷ [] → ActorFits z.seats (state_of s rule) rule.owner id me.0.actor → y.number ≡ me.0.actor.number → mover m ≡ me.0.actor.number → MayMove (terms_of f z) (state_of s rule) m → moved (state_of s rule) m ≡ raised (state_of s rule) at n → ActorFits z.seats (raised (state_of s rule) at n) rule.owner id y → Holds f z (stepped s at (max (slice_index s.words at) n) id me.1 (record (me.0) { actor = y; moves = m ∷ me.0.moves }) keeps)
+  raised_kept : (s : State S (View B)) (rule : TableHolds f z s) (id at n : ℕ) (me : Me S (View B)) (y : Actor) (m : Move) → IsSeat me.0 → get_elem? s.views id ≡ some me.0 → me.0.bases ≡ z ∷ [] → ActorFits z.seats (state_of s rule) rule.owner id me.0.actor → y.number ≡ me.0.actor.number → mover m ≡ me.0.actor.number → MayMove (terms_of f z) (state_of s rule) m → moved (state_of s rule) m ≡ raised (state_of s rule) at n → ActorFits z.seats (raised (state_of s rule) at n) rule.owner id y → TableHolds f z (stepped s at (max (slice_index s.words at) n) id me.1 (record (me.0) { actor = y; moves = m ∷ me.0.moves }) keeps)
   raised_kept s rule id at n me y m seat here based x number of may is fits =
       rule_moved s rule id at (max (slice_index s.words at) n) me.1 me.0 y m seat here number of x.owner_is may
       (ap (λ c. c.words) is ∙ ap (λ ws. slice_set (state_of s rule).words at (max (slice_index ws at) n)) (sym rule.words_are))
       (subst (λ c. ViewFits f z c rule.owner id (record (me.0) { actor = y; moves = m ∷ me.0.moves })) (sym is) (seat_fits f z (raised (state_of s rule) at n) rule.owner id me.0 y (m ∷ me.0.moves) seat based fits))
 
   -- the place of a pending write's cell, and of its block's mark, are among the words
-  pending_within : (s : State S (View B)) (rule : Holds f z s) (x : Actor) (owner : ℕ → ℕ) (id : ℕ) → ActorFits z.seats (state_of s rule) owner id x → HasPending (descriptor_of x.seen) → index_of (descriptor_of x.seen) < capacity_of z.buckets
+  pending_within : (s : State S (View B)) (rule : TableHolds f z s) (x : Actor) (owner : ℕ → ℕ) (id : ℕ) → ActorFits z.seats (state_of s rule) owner id x → HasPending (descriptor_of x.seen) → index_of (descriptor_of x.seen) < capacity_of z.buckets
   pending_within s rule x owner id fits has =
       let c = state_of s rule in
       let show = shows s rule in
       (pending (terms_of f z) x.seen rule.terms (legal_earlier (terms_of f z) x.seen (state_of s rule).history (Ends-trans x.seen x.known (state_of s rule).history fits.seen fits.known) show.legal) has).within
 
   -- completing the cell of a pending write
-  pub helps_cell_allowed : (slots id look : ℕ) (me : Me S (View B)) → IsSeat me.0 → look ≡ descriptor_of me.0.actor.seen → HasPending look → Allows (Holds f z) slots id me (cell_place (index_of look)) (λ n. max n (completing look)) (HelpsCell (step slots (cell_place (index_of look)) (completing look) 0 none) me)
+  pub helps_cell_allowed : (slots id look : ℕ) (me : Me S (View B)) → IsSeat me.0 → look ≡ descriptor_of me.0.actor.seen → HasPending look → Allows (TableHolds f z) slots id me (cell_place (index_of look)) (λ n. max n (completing look)) (HelpsCell (step slots (cell_place (index_of look)) (completing look) 0 none) me)
   helps_cell_allowed slots id look me seat is has s rule homes at below =
       let fits = rule.views id me.0 at in
       let based = fits.based seat.sits in
@@ -183,7 +183,7 @@ module _ {S B : Type 0} (f : B → Folding) (z : Basis B) where
       )
 
   -- completing the mark of its block
-  pub helps_mark_allowed : (slots id look : ℕ) (me : Me S (View B)) → IsSeat me.0 → look ≡ descriptor_of me.0.actor.seen → HasPending look → Allows (Holds f z) slots id me (mark_place (index_of look / 8)) (λ n. max n (edit_of look)) (HelpsMark (step slots (mark_place (index_of look / 8)) (edit_of look) 0 none) me)
+  pub helps_mark_allowed : (slots id look : ℕ) (me : Me S (View B)) → IsSeat me.0 → look ≡ descriptor_of me.0.actor.seen → HasPending look → Allows (TableHolds f z) slots id me (mark_place (index_of look / 8)) (λ n. max n (edit_of look)) (HelpsMark (step slots (mark_place (index_of look / 8)) (edit_of look) 0 none) me)
   helps_mark_allowed slots id look me seat is has s rule homes at below =
       let fits = rule.views id me.0 at in
       let based = fits.based seat.sits in
@@ -217,7 +217,7 @@ module _ {S B : Type 0} (f : B → Folding) (z : Basis B) where
       )
 
   -- installing a part of a block that is whole where the seat looked
-  pub installs_allowed : (slots id b p n : ℕ) (me : Me S (View B)) → IsSeat me.0 → b < blocks_of (terms_of f z).limits → p < (f z.body).parts → is_whole (edits_of me.0.actor.seen) (block b) ≡ true → n ≡ part_word (mark_of b me.0.actor.seen) ((f z.body).part p (elements_under (edits_of me.0.actor.seen) (block b))) → Allows (Holds f z) slots id me (part_place b p) (λ w. max w n) (Installs (step slots (part_place b p) n 0 none) me)
+  pub installs_allowed : (slots id b p n : ℕ) (me : Me S (View B)) → IsSeat me.0 → b < blocks_of (terms_of f z).limits → p < (f z.body).parts → is_whole (edits_of me.0.actor.seen) (block b) ≡ true → n ≡ part_word (mark_of b me.0.actor.seen) ((f z.body).part p (elements_under (edits_of me.0.actor.seen) (block b))) → Allows (TableHolds f z) slots id me (part_place b p) (λ w. max w n) (Installs (step slots (part_place b p) n 0 none) me)
   installs_allowed slots id b p n me seat near few whole is s rule homes at below =
       let fits = rule.views id me.0 at in
       let based = fits.based seat.sits in
@@ -228,7 +228,7 @@ module _ {S B : Type 0} (f : B → Folding) (z : Basis B) where
       let spot : ℕ = part_place b p in
       let value : ℕ = max (slice_index (state_of s rule).words spot) n in
       let here : slice_index (raised (state_of s rule) spot n).words spot ≡ value = get_or-set_same (state_of s rule).words spot value 0 (let q = place_is b (9 + p) in omega (arith, show.count, near, few, rule.terms.few_parts)) in
-      let put : Installed = record { place = part_place b p; word = n } in (
+      let put : InstalledPart = record { place = part_place b p; word = n } in (
         record (me.0) { actor = record (me.0.actor) { installed = put ∷ me.0.actor.installed }; moves = Install me.0.actor.number b p n ∷ me.0.moves },
         keeps,
         tt,
@@ -255,28 +255,28 @@ module _ {S B : Type 0} (f : B → Folding) (z : Basis B) where
 
 -- the same steps at the table's key, and at the places and words that the code computes
 module _ {S B : Type 0} (f : B → Folding) (z key : Basis B) (is_key : key ≡ z) (slots id : ℕ) (me : Me S (View B)) (seat : IsSeat me.0) where
-  pub looks_at_key : Allows (Holds f key) slots id me 0 (λ n. n) (Looks f (step slots 0 0 0 none) me)
-  looks_at_key = subst (λ k. Allows (Holds f k) slots id me 0 (λ n. n) (Looks f (step slots 0 0 0 none) me)) (sym is_key) (looks_allowed f z slots id me seat)
+  pub looks_at_key : Allows (TableHolds f key) slots id me 0 (λ n. n) (Looks f (step slots 0 0 0 none) me)
+  looks_at_key = subst (λ k. Allows (TableHolds f k) slots id me 0 (λ n. n) (Looks f (step slots 0 0 0 none) me)) (sym is_key) (looks_allowed f z slots id me seat)
 
-  pub reads_at_key : (i : ℕ) → Allows (Holds f key) slots id me i (λ n. n) (Reads f (step slots i 0 0 none) me)
-  reads_at_key i = subst (λ k. Allows (Holds f k) slots id me i (λ n. n) (Reads f (step slots i 0 0 none) me)) (sym is_key) (reads_allowed f z slots id i me seat)
+  pub reads_at_key : (i : ℕ) → Allows (TableHolds f key) slots id me i (λ n. n) (Reads f (step slots i 0 0 none) me)
+  reads_at_key i = subst (λ k. Allows (TableHolds f k) slots id me i (λ n. n) (Reads f (step slots i 0 0 none) me)) (sym is_key) (reads_allowed f z slots id i me seat)
 
-  pub helps_cell_at_key : (look i n : ℕ) → look ≡ descriptor_of me.0.actor.seen → HasPending look → i ≡ cell_place (index_of look) → n ≡ completing look → Allows (Holds f key) slots id me i (λ w. max w n) (HelpsCell (step slots i n 0 none) me)
+  pub helps_cell_at_key : (look i n : ℕ) → look ≡ descriptor_of me.0.actor.seen → HasPending look → i ≡ cell_place (index_of look) → n ≡ completing look → Allows (TableHolds f key) slots id me i (λ w. max w n) (HelpsCell (step slots i n 0 none) me)
   helps_cell_at_key look i n is has at word =
-      subst (λ k. Allows (Holds f k) slots id me i (λ w. max w n) (HelpsCell (step slots i n 0 none) me)) (sym is_key)
-      (subst (λ p. Allows (Holds f z) slots id me p (λ w. max w n) (HelpsCell (step slots p n 0 none) me)) (sym at)
-      (subst (λ v. Allows (Holds f z) slots id me (cell_place (index_of look)) (λ w. max w v) (HelpsCell (step slots (cell_place (index_of look)) v 0 none) me)) (sym word)
+      subst (λ k. Allows (TableHolds f k) slots id me i (λ w. max w n) (HelpsCell (step slots i n 0 none) me)) (sym is_key)
+      (subst (λ p. Allows (TableHolds f z) slots id me p (λ w. max w n) (HelpsCell (step slots p n 0 none) me)) (sym at)
+      (subst (λ v. Allows (TableHolds f z) slots id me (cell_place (index_of look)) (λ w. max w v) (HelpsCell (step slots (cell_place (index_of look)) v 0 none) me)) (sym word)
       (helps_cell_allowed f z slots id look me seat is has)))
 
-  pub helps_mark_at_key : (look i n : ℕ) → look ≡ descriptor_of me.0.actor.seen → HasPending look → i ≡ mark_place (index_of look / 8) → n ≡ edit_of look → Allows (Holds f key) slots id me i (λ w. max w n) (HelpsMark (step slots i n 0 none) me)
+  pub helps_mark_at_key : (look i n : ℕ) → look ≡ descriptor_of me.0.actor.seen → HasPending look → i ≡ mark_place (index_of look / 8) → n ≡ edit_of look → Allows (TableHolds f key) slots id me i (λ w. max w n) (HelpsMark (step slots i n 0 none) me)
   helps_mark_at_key look i n is has at word =
-      subst (λ k. Allows (Holds f k) slots id me i (λ w. max w n) (HelpsMark (step slots i n 0 none) me)) (sym is_key)
-      (subst (λ p. Allows (Holds f z) slots id me p (λ w. max w n) (HelpsMark (step slots p n 0 none) me)) (sym at)
-      (subst (λ v. Allows (Holds f z) slots id me (mark_place (index_of look / 8)) (λ w. max w v) (HelpsMark (step slots (mark_place (index_of look / 8)) v 0 none) me)) (sym word)
+      subst (λ k. Allows (TableHolds f k) slots id me i (λ w. max w n) (HelpsMark (step slots i n 0 none) me)) (sym is_key)
+      (subst (λ p. Allows (TableHolds f z) slots id me p (λ w. max w n) (HelpsMark (step slots p n 0 none) me)) (sym at)
+      (subst (λ v. Allows (TableHolds f z) slots id me (mark_place (index_of look / 8)) (λ w. max w v) (HelpsMark (step slots (mark_place (index_of look / 8)) v 0 none) me)) (sym word)
       (helps_mark_allowed f z slots id look me seat is has)))
 
-  pub installs_at_key : (b p i n : ℕ) → b < blocks_of (terms_of f z).limits → p < (f z.body).parts → is_whole (edits_of me.0.actor.seen) (block b) ≡ true → n ≡ part_word (mark_of b me.0.actor.seen) ((f z.body).part p (elements_under (edits_of me.0.actor.seen) (block b))) → i ≡ part_place b p → Allows (Holds f key) slots id me i (λ w. max w n) (Installs (step slots i n 0 none) me)
+  pub installs_at_key : (b p i n : ℕ) → b < blocks_of (terms_of f z).limits → p < (f z.body).parts → is_whole (edits_of me.0.actor.seen) (block b) ≡ true → n ≡ part_word (mark_of b me.0.actor.seen) ((f z.body).part p (elements_under (edits_of me.0.actor.seen) (block b))) → i ≡ part_place b p → Allows (TableHolds f key) slots id me i (λ w. max w n) (Installs (step slots i n 0 none) me)
   installs_at_key b p i n near few whole word at =
-      subst (λ k. Allows (Holds f k) slots id me i (λ w. max w n) (Installs (step slots i n 0 none) me)) (sym is_key)
-      (subst (λ q. Allows (Holds f z) slots id me q (λ w. max w n) (Installs (step slots q n 0 none) me)) (sym at)
+      subst (λ k. Allows (TableHolds f k) slots id me i (λ w. max w n) (Installs (step slots i n 0 none) me)) (sym is_key)
+      (subst (λ q. Allows (TableHolds f z) slots id me q (λ w. max w n) (Installs (step slots q n 0 none) me)) (sym at)
       (installs_allowed f z slots id b p n me seat near few whole word))

@@ -24,7 +24,7 @@ use Rattle.lv_machine.proofs.WordLaws.{edit_of-descriptor, size_of-descriptor}
 use Rattle.lv_board.specs.declared.actors.Basis.{Basis}
 use Rattle.lv_board.specs.declared.actors.View.{View}
 use Rattle.lv_board.specs.Rule.{ActorFits, folds, newcomer, terms_of}
-use Rattle.lv_board.specs.TableRule.{dealer_from, dealt, fresh, HasMade, Holds, informed, IsSeat, note, spent, ViewFits}
+use Rattle.lv_board.specs.TableRule.{dealer_from, dealt, fresh, HasMade, TableHolds, informed, IsSeat, note, spent, ViewFits}
 use Rattle.lv_board.specs.Stands.{IsBasis, IsLook}
 use Rattle.lv_board.proofs.Advancing.{made_by-nil, own-nil}
 use Rattle.lv_board.proofs.Handing.{deals, Ends-none, informs, notes}
@@ -56,7 +56,7 @@ only_one a b zero at = (refl, some-injective a b at)
 only_one a b (suc j) at = absurd (some-ne-none b (sym at))
 
 -- the rule holds of the words at the start
-pub opens : (S : Type 0) {B : Type 0} (f : B → Folding) (z : Basis B) (words : List ℕ) → AreTerms (terms_of f z) → words ≡ (start (terms_of f z)).words → Holds f {S = S} z (opening words [] (dealer_from z 0))
+pub opens : (S : Type 0) {B : Type 0} (f : B → Folding) (z : Basis B) (words : List ℕ) → AreTerms (terms_of f z) → words ≡ (start (terms_of f z)).words → TableHolds f {S = S} z (opening words [] (dealer_from z 0))
 unfolding reached
 opens S f z words terms is = record {
   terms = terms;
@@ -99,8 +99,8 @@ pub first_look : (buckets edits look : ℕ) (seen : List Entry) → look ≡ des
 first_look buckets edits look seen is none = subst (λ w. IsLook buckets edits w seen) (sym is) (subst (IsLook buckets edits (descriptor_of [])) (sym none) (first_of buckets edits))
 
 -- the dealer deals its next seat
-pub deals_at_key : (S : Type 0) {B : Type 0} (f : B → Folding) (z key : Basis B) (id k : ℕ) (v : View B) → key ≡ z → v ≡ dealer_from z k → k < z.seats → Splits {S = S} (Holds f key) id v (dealt v) (fresh v)
-deals_at_key S f z key id k v is_key is below = subst (λ w. Splits {S = S} (Holds f w) id v (dealt v) (fresh v)) (sym is_key) (subst (λ u. Splits {S = S} (Holds f z) id u (dealt u) (fresh u)) (sym is) (deals S f z id k below))
+pub deals_at_key : (S : Type 0) {B : Type 0} (f : B → Folding) (z key : Basis B) (id k : ℕ) (v : View B) → key ≡ z → v ≡ dealer_from z k → k < z.seats → Splits {S = S} (TableHolds f key) id v (dealt v) (fresh v)
+deals_at_key S f z key id k v is_key is below = subst (λ w. Splits {S = S} (TableHolds f w) id v (dealt v) (fresh v)) (sym is_key) (subst (λ u. Splits {S = S} (TableHolds f z) id u (dealt u) (fresh u)) (sym is) (deals S f z id k below))
 
 -- a seat's view that is fresh
 pub fresh_seat : {B : Type 0} (z : Basis B) (k : ℕ) (v w : View B) → v ≡ dealer_from z k → w ≡ fresh v → w ≡ record { actor = newcomer k; sits = true; deals = false; bases = z ∷ []; moves = []; more = [] }
@@ -119,8 +119,8 @@ dealt_more table z seats s before at is k within = elim (cases_lt k (length seat
 ]
 
 -- the handing on of what a seat knows, at the table's key
-pub notes_at_key : (S : Type 0) {B : Type 0} (f : B → Folding) (z key : Basis B) (id : ℕ) (v : View B) → key ≡ z → Splits {S = S} (Holds f key) id v v (note v)
-notes_at_key S f z key id v is_key = subst (λ w. Splits {S = S} (Holds f w) id v v (note v)) (sym is_key) (notes S f z id v)
+pub notes_at_key : (S : Type 0) {B : Type 0} (f : B → Folding) (z key : Basis B) (id : ℕ) (v : View B) → key ≡ z → Splits {S = S} (TableHolds f key) id v v (note v)
+notes_at_key S f z key id v is_key = subst (λ w. Splits {S = S} (TableHolds f w) id v v (note v)) (sym is_key) (notes S f z id v)
 
-pub informs_at_key : (S : Type 0) {B : Type 0} (f : B → Folding) (z key : Basis B) (id : ℕ) (v : View B) (other : ℕ) (w : View B) → key ≡ z → IsSeat v → Joins {S = S} (Holds f key) id v other w (informed v w) spent
-informs_at_key S f z key id v other w is_key seat = subst (λ k. Joins {S = S} (Holds f k) id v other w (informed v w) spent) (sym is_key) (informs S f z id v other w seat)
+pub informs_at_key : (S : Type 0) {B : Type 0} (f : B → Folding) (z key : Basis B) (id : ℕ) (v : View B) (other : ℕ) (w : View B) → key ≡ z → IsSeat v → Joins {S = S} (TableHolds f key) id v other w (informed v w) spent
+informs_at_key S f z key id v other w is_key seat = subst (λ k. Joins {S = S} (TableHolds f k) id v other w (informed v w) spent) (sym is_key) (informs S f z id v other w seat)

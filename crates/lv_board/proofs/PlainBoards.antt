@@ -48,7 +48,7 @@ use Rattle.lv_board.specs.declared.seats.Seat.{Seat}
 use Rattle.lv_board.specs.Calls.{GetAnswers, HasLooked, IsTryRefusal, ReduceAnswers, RefreshAnswers, TryAnswers}
 use Rattle.lv_board.specs.Closing.{IsClosed, IsKept, made_by}
 use Rattle.lv_board.specs.PlainBoard.{Adds, AddsOne, IsOneHistory, IsOutrunAt, OnlyReads, PlainBoardLine, PlainBoardStep, PlainCall, Sat, edit_of, missing, refusal_at, reply_at, sat_of, short_refusal}
-use Rattle.lv_board.specs.Session.{BoardAnswer, BoardStep, CallAnswer, CallEnds, Tries, block_of, said_read, said_reduced, said_refreshed, said_tried}
+use Rattle.lv_board.specs.Session.{BoardAnswer, BoardStep, CallAnswer, CallEnds, Tries, asked_block, said_read, said_reduced, said_refreshed, said_tried}
 use Rattle.lv_board.specs.Tells.{IsOvertaken, actor_of}
 use Rattle.lv_board.proofs.Shorts.{short_is, wide_is}
 use Rattle.lv_board.proofs.Valued.{folds_range}
@@ -180,7 +180,7 @@ module _ {S : Type 0} (t : Terms) (o : Operations S) (kind : Kind) (shown : S �
 
   -- ---- lines
 
-  call_plain : (a b : Actor) (asked : Call) (text : List ℕ) (end : Said S) → CallEnds t o asked a end b → text ≡ said_text kind (block_of asked) (said_shown shown end) → PlainCall t.limits kind plain (sat_of a) asked text (sat_of b)
+  call_plain : (a b : Actor) (asked : Call) (text : List ℕ) (end : Said S) → CallEnds t o asked a end b → text ≡ said_text kind (asked_block asked) (said_shown shown end) → PlainCall t.limits kind plain (sat_of a) asked text (sat_of b)
   call_plain a b (call.Push x) text end ends is = tries a b (call.Push x) x (edit.Push x) end text refl (λ h. refl) (λ h. refl) ends is
   call_plain a b call.Pop text end ends is =
       tried a b call.Pop edit.Pop text ends.result (record { edit = refl; refusal = λ h. refl; reply = λ h. refl }) ends.tried (is ∙ ap (λ end. said_text kind 0 (said_shown shown end)) ends.end_is)

@@ -16,7 +16,7 @@ use Rattle.lv_board.specs.Sitting.{Sitting, SittingStep}
 use Rattle.lv_board.specs.Tells.{actor_of, Stays}
 
 -- what a sitting stands for: what the seat of a board knows, in the place that it had at first
-pub record Sits {B : Type 0} (z : Basis B) (name : ℕ) (first : Seat B) (s : Sitting B) (x : Actor) : Type 0 where
+pub record StandsForActor {B : Type 0} (z : Basis B) (name : ℕ) (first : Seat B) (s : Sitting B) (x : Actor) : Type 0 where
   pub basis : s.basis ≡ z
   pub place : s.name ≡ name
   pub stays : Stays first s.seat
@@ -24,8 +24,8 @@ pub record Sits {B : Type 0} (z : Basis B) (name : ℕ) (first : Seat B) (s : Si
 
 module _ {B S : Type 0} (f : B → Folding) (o : B → Operations S) (kind : Kind) (shown : B → S → Shown) where
   -- a line by a sitting is one by the actor that it stands for
-  line_as : (z : Basis B) (name : ℕ) (first : Seat B) (s : Sitting B) (x : Actor) (n : ℕ) (line text : List ℕ) (u : Sitting B) → Sits z name first s x → SittingStep f o kind shown s n line text u
-      → (y : Actor) × Sits z name first u y × BoardStep (terms_of f z) (o z.body) kind (shown z.body) x n line text y
+  line_as : (z : Basis B) (name : ℕ) (first : Seat B) (s : Sitting B) (x : Actor) (n : ℕ) (line text : List ℕ) (u : Sitting B) → StandsForActor z name first s x → SittingStep f o kind shown s n line text u
+      → (y : Actor) × StandsForActor z name first u y × BoardStep (terms_of f z) (o z.body) kind (shown z.body) x n line text y
   line_as z name first s x n line text u fits step = (
     actor_of u.seat,
     record {
@@ -43,8 +43,8 @@ module _ {B S : Type 0} (f : B → Folding) (o : B → Operations S) (kind : Kin
       → Conversed (SittingStep f o kind shown) record { seat = seat_of first; basis = z; name = name } record { seat = seat_of last; basis = y; name = place } a b k l result
       → Stays (seat_of first) (seat_of owned) × Conversed (BoardStep (terms_of f z) (o z.body) kind (shown z.body)) (actor_of (seat_of first)) (actor_of (seat_of owned)) a b k l result
   ended_as seat_of z y name place first last owned a b k l result is c =
-      let begun : Sits z name (seat_of first) record { seat = seat_of first; basis = z; name = name } (actor_of (seat_of first)) =
+      let begun : StandsForActor z name (seat_of first) record { seat = seat_of first; basis = z; name = name } (actor_of (seat_of first)) =
       record { basis = refl; place = refl; stays = record { table = refl; terms = refl }; knows = refl } in
-      let came = conversed_as (Sits z name (seat_of first)) (record { moves = line_as z name (seat_of first) }) _ _ _ a b k l result begun c in
+      let came = conversed_as (StandsForActor z name (seat_of first)) (record { moves = line_as z name (seat_of first) }) _ _ _ a b k l result begun c in
       let same = is (sym came.1.place) in
       (rw same came.1.stays, rw (same, came.1.knows) came.2)

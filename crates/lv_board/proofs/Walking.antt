@@ -30,8 +30,8 @@ use Rattle.lv_machine.proofs.ReadyLaws.{block_whole}
 use Rattle.lv_machine.proofs.RightLaws.{same_list}
 use Rattle.lv_board.specs.declared.actors.Actor.{Actor}
 use Rattle.lv_board.specs.declared.actors.Basis.{Basis}
-use Rattle.lv_board.specs.declared.actors.Installed.{Installed}
-use Rattle.lv_board.specs.declared.underway.Walk.{Walk}
+use Rattle.lv_board.specs.declared.actors.InstalledPart.{InstalledPart}
+use Rattle.lv_board.specs.declared.underway.BoardWalk.{BoardWalk}
 use Rattle.lv_board.specs.declared.seats.Seat.{Seat}
 use Rattle.lv_board.specs.Calls.{AreInstalled, HasLooked, IsSummed}
 use Rattle.lv_board.specs.Plays.{IsRead, SeesAll}
@@ -132,7 +132,7 @@ module _ {S : Type 0} (o : Operations S) (within : S → ℕ → Type 0) (laws :
   can = let inside = legal_within t k terms legal in record { few = omega (arith, inside.few); elements = inside.elements }
 
   -- the fold of a walk can take one more element
-  pub may_grow : (walk : Walk S) → Sums o k walk → CanGrow within walk.sum
+  pub may_grow : (walk : BoardWalk S) → Sums o k walk → CanGrow within walk.sum
   may_grow walk w =
       let few = size_below t k terms legal in
       record {
@@ -142,7 +142,7 @@ module _ {S : Type 0} (o : Operations S) (within : S → ℕ → Type 0) (laws :
       }
 
   -- a walk with the cell where it stands
-  pub cell_added : (walk : Walk S) (s : S) (x y : ℤ) → Sums o k walk → walk.at < length (elements_of k) → x ≡ signed (value_of (cell_of walk.at k)) → y ≡ x → s ≡ o.join walk.sum (o.lift y) → Sums o k record { lo = walk.lo; at = walk.at + 1; sum = s; cells = walk.cells + 1; summaries = walk.summaries }
+  pub cell_added : (walk : BoardWalk S) (s : S) (x y : ℤ) → Sums o k walk → walk.at < length (elements_of k) → x ≡ signed (value_of (cell_of walk.at k)) → y ≡ x → s ≡ o.join walk.sum (o.lift y) → Sums o k record { lo = walk.lo; at = walk.at + 1; sum = s; cells = walk.cells + 1; summaries = walk.summaries }
   cell_added walk s x y w small taken same is =
       let value : x ≡ slice_index_or (elements_of k) walk.at x = taken ∙ cell_element t walk.at k terms legal small ∙ get_or_default (elements_of k) walk.at (pos 0) x small in
       record {
@@ -152,7 +152,7 @@ module _ {S : Type 0} (o : Operations S) (within : S → ℕ → Type 0) (laws :
         counts = omega (arith, w.counts);
       }
 
-  module _ (parts_of : S → List ℕ) (whole_of : List ℕ → S) (has : HasParts parts_of whole_of o) (walk : Walk S) (w : Sums o k walk) (begins : walk.at % 8 ≡ 0) (inside : walk.at + 8 ≤ length (elements_of k)) where
+  module _ (parts_of : S → List ℕ) (whole_of : List ℕ → S) (has : HasParts parts_of whole_of o) (walk : BoardWalk S) (w : Sums o k walk) (begins : walk.at % 8 ≡ 0) (inside : walk.at + 8 ≤ length (elements_of k)) where
     -- the whole of a block's parts is the fold of its eight elements
     whole_is : (parts : List ℕ) → parts ≡ parts_of (block_fold o (walk.at / 8) k) → whole_of parts ≡ fold_of o (slice_range (elements_of k) walk.at (walk.at + 8))
     whole_is parts is =
@@ -183,7 +183,7 @@ module _ {S : Type 0} (o : Operations S) (within : S → ℕ → Type 0) (laws :
     }
 
 -- a walk that comes to an index after some loads
-pub come_then : {B S : Type 0} (o : Operations S) (lo at : ℕ) (result : Result (Walk S) Refusal) (s m u : Seat B) → HasRead s m → Comes o lo at result m u → Comes o lo at result s u
+pub come_then : {B S : Type 0} (o : Operations S) (lo at : ℕ) (result : Result (BoardWalk S) Refusal) (s m u : Seat B) → HasRead s m → Comes o lo at result m u → Comes o lo at result s u
 come_then o lo at (Ok walk) s m u first next = record {
   read = read_then s m u first next.read;
   come = subst (λ h. HasCome o h lo at walk) (seen_still s m first) next.come;
@@ -211,14 +211,14 @@ looked_and_read t x m u w looked helped read =
     (seen_still u w read ∙ helped.seen)
 
 -- nor does it see anything else once it has installed parts
-pub looked_and_installed : {B : Type 0} (t : Terms) (x : Actor) (parts : List Installed) (u w : Seat B) → HasLooked t x (actor_of u) → HasInstalled parts u w → HasLooked t x (actor_of w)
+pub looked_and_installed : {B : Type 0} (t : Terms) (x : Actor) (parts : List InstalledPart) (u w : Seat B) → HasLooked t x (actor_of u) → HasInstalled parts u w → HasLooked t x (actor_of w)
 looked_and_installed t x parts u w looked has =
     looked_then t x (actor_of u) (actor_of w) looked
     (quiet_same (actor_of u) (actor_of w) (ap (λ (a : Actor). a.number) has.actor) (ap (λ (a : Actor). a.known) has.actor) (ap (λ (a : Actor). a.own) has.actor))
     (ap (λ (a : Actor). a.seen) has.actor)
 
 -- each of the first parts of a block is among those that were installed
-part_there : (t : Terms) (words : List ℕ) (b p n : ℕ) (h : List Entry) (before : List Installed) → p < n → All (IsThere words) (block_installed t b h n before) → part_word (mark_of b h) (t.folding.part p (elements_under (edits_of h) (block b))) ≤ slice_index words (part_place b p)
+part_there : (t : Terms) (words : List ℕ) (b p n : ℕ) (h : List Entry) (before : List InstalledPart) → p < n → All (IsThere words) (block_installed t b h n before) → part_word (mark_of b h) (t.folding.part p (elements_under (edits_of h) (block b))) ≤ slice_index words (part_place b p)
 part_there t words b p zero h before within all = absurd (omega arith)
 part_there t words b p (suc n) h before within all = elim (cases_lt p n) [
   | inl earlier ↦ part_there t words b p n h before earlier (All-tail (IsThere words) record { place = part_place b n; word = part_word (mark_of b h) (t.folding.part n (elements_under (edits_of h) (block b))) } (block_installed t b h n before) all)
@@ -244,7 +244,7 @@ range_free es lo hi order inside =
     cond-false _ _ _ first ∙ cond-false _ _ _ second
 
 -- a walk that has come to the end of its range has the answer
-pub summed : {S : Type 0} (o : Operations S) (k : List Entry) (lo hi edit : ℕ) (walk : Walk S) → lo ≤ hi → edit ≡ length k → HasCome o k lo hi walk → IsSummed o (edits_of k) lo hi record { edit = edit; value = walk.sum; cells_read = walk.cells; summaries_read = walk.summaries }
+pub summed : {S : Type 0} (o : Operations S) (k : List Entry) (lo hi edit : ℕ) (walk : BoardWalk S) → lo ≤ hi → edit ≡ length k → HasCome o k lo hi walk → IsSummed o (edits_of k) lo hi record { edit = edit; value = walk.sum; cells_read = walk.cells; summaries_read = walk.summaries }
 summed o k lo hi edit walk order is come =
     let sums = come.sums in
     record {

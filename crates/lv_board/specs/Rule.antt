@@ -9,7 +9,7 @@ use Rattle.lv_machine.specs.Terms.{Folding, Terms}
 use Rattle.lv_machine.specs.Words.{cell_version, edit_of, HasPending, index_of}
 use Rattle.lv_board.specs.declared.actors.Actor.{Actor}
 use Rattle.lv_board.specs.declared.actors.Basis.{Basis}
-use Rattle.lv_board.specs.declared.actors.Installed.{Installed}
+use Rattle.lv_board.specs.declared.actors.InstalledPart.{InstalledPart}
 use Rattle.lv_geometry.specs.Bounds.{Bounds}
 
 -- the limits of a basis
@@ -25,7 +25,7 @@ abbrev pub newcomer : ℕ → Actor
 newcomer number = record { number = number; seen = []; known = []; own = []; told = []; helped = false; marked = false; installed = [] }
 
 -- a part that was installed stands in the words, or a later one displaced it
-pub record IsThere (words : List ℕ) (p : Installed) : Type 0 where
+pub record IsThere (words : List ℕ) (p : InstalledPart) : Type 0 where
   pub some : 1 ≤ p.place
   pub word : p.word ≤ slice_index words p.place
 

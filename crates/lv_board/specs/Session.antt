@@ -46,14 +46,14 @@ module _ {S : Type 0} where
   said_refreshed (Err refusal) = said.Refused refusal
 
 -- the block that a call refreshes; 0 of other calls
-abbrev pub block_of : Call → ℕ
-block_of (call.Push x) = 0
-block_of call.Pop = 0
-block_of (call.Write i x) = 0
-block_of (call.Get i) = 0
-block_of call.Size = 0
-block_of (call.Reduce lo hi) = 0
-block_of (call.Refresh block) = block
+abbrev pub asked_block : Call → ℕ
+asked_block (call.Push x) = 0
+asked_block call.Pop = 0
+asked_block (call.Write i x) = 0
+asked_block (call.Get i) = 0
+asked_block call.Size = 0
+asked_block (call.Reduce lo hi) = 0
+asked_block (call.Refresh block) = block
 
 -- ---- what a call ends with, by what its actor knows before and after
 
@@ -116,7 +116,7 @@ module _ {S : Type 0} (t : Terms) (o : Operations S) where
     pub record CallAnswer (asked : Call) (a : Actor) (text : List ℕ) (b : Actor) : Type 0 where
       pub end : Said S
       pub ends : CallEnds asked a end b
-      pub text_is : text ≡ said_text kind (block_of asked) (said_shown shown end)
+      pub text_is : text ≡ said_text kind (asked_block asked) (said_shown shown end)
 
     -- a line that says nothing is answered by nothing, and a line that says nothing known by its number; then nothing changes
     abbrev pub BoardAnswer : Actor → ℕ → BoardLine → List ℕ → Actor → Type 0

@@ -31,7 +31,7 @@ use Rattle.lv_board.specs.declared.sharing.Unclosed.{Unclosed}
 use Rattle.lv_board.specs.declared.sharing.Unclosed.TheVariants as unclosed
 use Rattle.lv_board.specs.declared.sharing.Unseated.{Unseated}
 use Rattle.lv_board.specs.declared.sharing.Unseated.TheVariants.{NoMemory, NoSeat}
-use Rattle.lv_board.specs.declared.sitters.Sitter.{Sitter}
+use Rattle.lv_board.specs.declared.seats_with_board.SeatWithBoard.{SeatWithBoard}
 use Rattle.lv_board.specs.Calls.{AreInstalled, GetAnswers, HasLooked, RefreshAnswers}
 use Rattle.lv_board.specs.Closing.{IsKept}
 use Rattle.lv_board.specs.Opening.{MayOpen}
@@ -105,13 +105,13 @@ pub record IsClosedShared (old : Shared) (closed : Closed) : Type 0 where
   pub total : closed.edit ≡ sum_by (λ x. length (own x.number x.known)) old.left
 
 module _ {B S : Type 0} where
-  -- a sitter has a seat of the board, and none that is there has its number
-  pub record IsOut (o : Opened B S) (s : Sitter B S) : Type 0 where
+  -- a seat is one of the board's, and none that is there has its number
+  pub record IsOut (o : Opened B S) (s : SeatWithBoard B S) : Type 0 where
     pub board : arc_value s.board ≡ arc_value o.board
     pub apart : All (λ u. (actor_of u).number ≢ (actor_of s.seat).number) o.seats.items
 
 module _ {B S : Type 0} (count : ℕ) (parts_of : S → List ℕ) (operations : B → Operations S) (kind : Kind) (plain : B → List ℤ → Shown) where
-  abbrev pub sat_of : Sitter B S → Sat
+  abbrev pub sat_of : SeatWithBoard B S → Sat
   sat_of s = record {
     board = (arc_value s.board).table.shared.table_id;
     stamp = s.stamp;

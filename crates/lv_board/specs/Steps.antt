@@ -10,7 +10,7 @@ use Rattle.lv_geometry.specs.declared.refusals.Refusal.{Refusal}
 use Rattle.lv_geometry.specs.declared.refusals.Refusal.TheVariants.{Contended}
 use Rattle.lv_edits.specs.declared.edit.Edit.{Edit}
 use Rattle.lv_board.specs.declared.actors.Actor.{Actor}
-use Rattle.lv_board.specs.declared.actors.Installed.{Installed}
+use Rattle.lv_board.specs.declared.actors.InstalledPart.{InstalledPart}
 use Rattle.lv_board.specs.declared.seats.Seat.{Seat}
 use Rattle.lv_board.specs.Plays.{IsAccepted, IsContended, IsRead, SeesAll}
 use Rattle.lv_board.specs.Tells.{IsQuiet, IsOvertaken, HasMoved, Stays, actor_of}
@@ -48,7 +48,7 @@ module _ {B : Type 0} where
     pub moves : HasMoved HelpMark s t
 
   -- the parts that a seat installed are these now, and nothing else of it has changed
-  pub record HasInstalled (parts : List Installed) (s t : Seat B) : Type 0 where
+  pub record HasInstalled (parts : List InstalledPart) (s t : Seat B) : Type 0 where
     pub stays : Stays s t
     pub look : t.look ≡ s.look
     pub actor : actor_of t ≡ record (actor_of s) { installed = parts }

@@ -71,7 +71,7 @@ module _ {B : Type 0} (f : B → Folding) where
 
   -- there are allowed moves that lead to the words; each view is true of what they reach, each move is of a seat's number, and each
   -- seat made those of its own
-  pub record Holds {S : Type 0} (z : Basis B) (s : State S (View B)) : Type 0 where
+  pub record TableHolds {S : Type 0} (z : Basis B) (s : State S (View B)) : Type 0 where
     pub terms : AreTerms (terms_of f z)
     pub moves : List Move
     pub allowed : AreAllowed (terms_of f z) moves

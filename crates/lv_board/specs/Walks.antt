@@ -9,8 +9,8 @@ use Rattle.lv_machine.specs.Layout.{part_place}
 use Rattle.lv_machine.specs.Shows.{block, mark_of}
 use Rattle.lv_machine.specs.Terms.{AreTerms, Terms}
 use Rattle.lv_machine.specs.Words.{part_word}
-use Rattle.lv_board.specs.declared.actors.Installed.{Installed}
-use Rattle.lv_board.specs.declared.underway.Walk.{Walk}
+use Rattle.lv_board.specs.declared.actors.InstalledPart.{InstalledPart}
+use Rattle.lv_board.specs.declared.underway.BoardWalk.{BoardWalk}
 use Rattle.lv_board.specs.declared.seats.Seat.{Seat}
 use Rattle.lv_board.specs.Tells.{IsQuiet, actor_of, IsOvertaken, Stays}
 use Rattle.lv_board.specs.Stands.{IsReady}
@@ -20,25 +20,25 @@ abbrev pub block_fold : {S : Type 0} → Operations S → ℕ → List Entry →
 block_fold o b k = fold_of o (elements_under (edits_of k) (block b))
 
 -- the words of the first so many parts of a block, as a history shows it, ahead of others: the last first
-abbrev pub block_installed : Terms → ℕ → List Entry → ℕ → List Installed → List Installed
+abbrev pub block_installed : Terms → ℕ → List Entry → ℕ → List InstalledPart → List InstalledPart
 block_installed t b h zero xs = xs
 block_installed t b h (suc p) xs = record { place = part_place b p; word = part_word (mark_of b h) (t.folding.part p (elements_under (edits_of h) (block b))) } ∷ block_installed t b h p xs
 
 -- a walk has the fold of the elements before where it stands, of which it counted each once
-pub record Sums {S : Type 0} (o : Operations S) (k : List Entry) (walk : Walk S) : Type 0 where
+pub record Sums {S : Type 0} (o : Operations S) (k : List Entry) (walk : BoardWalk S) : Type 0 where
   pub low : walk.lo ≤ walk.at
   pub inside : walk.at ≤ length (elements_of k)
   pub sum : walk.sum ≡ fold_of o (slice_range (elements_of k) walk.lo walk.at)
   pub counts : walk.cells + 8 * walk.summaries + walk.lo ≡ walk.at
 
 -- a walk from an index has come to another
-pub record HasCome {S : Type 0} (o : Operations S) (k : List Entry) (lo at : ℕ) (walk : Walk S) : Type 0 where
+pub record HasCome {S : Type 0} (o : Operations S) (k : List Entry) (lo at : ℕ) (walk : BoardWalk S) : Type 0 where
   pub from : walk.lo ≡ lo
   pub here : walk.at ≡ at
   pub sums : Sums o k walk
 
 -- a walk has gone on from another, no further than to an index
-pub record HasGoneOn {S : Type 0} (o : Operations S) (k : List Entry) (hi : ℕ) (walk next : Walk S) : Type 0 where
+pub record HasGoneOn {S : Type 0} (o : Operations S) (k : List Entry) (hi : ℕ) (walk next : BoardWalk S) : Type 0 where
   pub from : next.lo ≡ walk.lo
   pub further : walk.at < next.at
   pub most : next.at ≤ hi
@@ -60,13 +60,13 @@ module _ {B : Type 0} where
 
   module _ {S : Type 0} (o : Operations S) where
     -- a walk from an index comes to another, or a load found a later edit
-    pub record Comes (lo at : ℕ) (result : Result (Walk S) Refusal) (s u : Seat B) : Type 0 where
+    pub record Comes (lo at : ℕ) (result : Result (BoardWalk S) Refusal) (s u : Seat B) : Type 0 where
       pub read : HasRead s u
       pub come : IfOk result (λ walk. HasCome o (actor_of s).seen lo at walk)
       pub overtaken : IfErr result (λ refusal. IsOvertaken (actor_of u) refusal)
 
     -- a walk goes on, or a load found a later edit
-    pub record GoesOn (hi : ℕ) (walk : Walk S) (result : Result (Walk S) Refusal) (s u : Seat B) : Type 0 where
+    pub record GoesOn (hi : ℕ) (walk : BoardWalk S) (result : Result (BoardWalk S) Refusal) (s u : Seat B) : Type 0 where
       pub read : HasRead s u
       pub gone : IfOk result (λ next. HasGoneOn o (actor_of s).seen hi walk next)
       pub overtaken : IfErr result (λ refusal. IsOvertaken (actor_of u) refusal)

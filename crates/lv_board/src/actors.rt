@@ -25,7 +25,7 @@ impl<B: Copy> Clone for Basis<B> {
 }
 
 /// A part of a block's summary that a seat installed: its place among the words, and its word. No value of it is made.
-pub struct Installed {
+pub struct InstalledPart {
     pub place: usize,
     pub word: u64,
 }
@@ -45,7 +45,7 @@ pub struct Actor {
     pub helped: bool,
     pub marked: bool,
     /// The parts that it installed, the last first. Each stands yet, or a later one displaced it.
-    pub installed: LinkedList<Installed>,
+    pub installed: LinkedList<InstalledPart>,
 }
 
 /// The view of a token at the table. No value of it is made.

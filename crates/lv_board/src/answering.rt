@@ -8,7 +8,7 @@ ghost use Rattle.lv_board.specs.Session.{BoardAnswer};
 ghost use Rattle.lv_board.specs.Tells.{actor_of, IsAt, Stays};
 
 use crate::board::Board;
-use crate::calls::block_of;
+use crate::calls::asked_block;
 use crate::seats::Seat;
 use lv_bodies::{Affine, Automaton, Best, Greatest, Least, Parted, Sum};
 use lv_script::{BoardLine, LINE, put_bad, put_said, said_shown};
@@ -154,7 +154,7 @@ fn answer_line<B: Parted>(
             put_said(
                 held,
                 board.terms.body.kind(),
-                block_of(call),
+                asked_block(call),
                 said_shown(&board.terms.body, said),
             );
         }

@@ -5,7 +5,7 @@ ghost use Rattle.lv_board.specs.Calls.{HasLooked};
 ghost use Rattle.lv_board.specs.Closing.{IsStill};
 ghost use Rattle.lv_board.specs.Sharing.{EndsWithin, PlainAnswers};
 ghost use Rattle.lv_board.specs.Rule.{folds, terms_of};
-ghost use Rattle.lv_board.specs.Session.{CallEnds, block_of, said_read, said_reduced, said_refreshed, said_tried};
+ghost use Rattle.lv_board.specs.Session.{CallEnds, asked_block, said_read, said_reduced, said_refreshed, said_tried};
 ghost use Rattle.lv_board.specs.Tells.{actor_of, IsAt, IsSame, Stays};
 
 use crate::board::Board;
@@ -118,8 +118,8 @@ fn refreshed<S: Copy>(answer: Result<Refreshed, Refusal>) -> Said<S>
 }
 
 // The block that a call refreshes; 0 of other calls.
-pub(crate) fn block_of(call: Call) -> u32
-    ensures { result ≡ block_of call }
+pub(crate) fn asked_block(call: Call) -> u32
+    ensures { result ≡ asked_block call }
 {
     match call {
         Call::Refresh(block) => block,

@@ -1,4 +1,4 @@
-//! A board that its sitters share, with those of its seats that are there.
+//! A board that is shared, with those of its seats that are there.
 ghost use Rattle.std.specs.Prelude.{◌<◌, ◌≤◌, map, nat_eq, vec_capacity, All};
 ghost use Rattle.std.specs.Arc.{arc_value};
 ghost use Rattle.std.specs.List.{IsDistinct};
@@ -12,7 +12,7 @@ use lv_bodies::Parted;
 use std::alloc::Global;
 use std::sync::Arc;
 
-/// A board that its sitters share, and those of its seats that are there: none has them. Its stamp tells it from other boards.
+/// A board that is shared, and those of its seats that are there: none has them. Its stamp tells it from other boards.
 #[derive(Drop)]
 pub struct Opened<B: Parted> {
     pub(crate) stamp: u64,

@@ -11,7 +11,7 @@ ghost use Rattle.lv_board.specs.Walks.{block_fold, Comes, GoesOn, HasCome, HasRe
 
 use crate::board::Board;
 use crate::seats::Seat;
-use crate::underway::Walk;
+use crate::underway::BoardWalk;
 use crate::words::{edit_in, part_place_of, part_value_in, part_version_in, size_in};
 use lv_bodies::{Parted, fold_more};
 use lv_geometry::Refusal;
@@ -58,12 +58,12 @@ impl<B: Parted> Board<B> {
     }
 
     // A walk that begins at an index.
-    pub(crate) fn start_walk(&self, lo: u32) -> Walk<B::S>
+    pub(crate) fn start_walk(&self, lo: u32) -> BoardWalk<B::S>
         ensures range { (result.lo ≡ lo) × (result.at ≡ lo) }
         ensures sum { result.sum ≡ (B.operations (B.meaning self.now.terms.body)).identity }
         ensures reads { (result.cells ≡ 0) × (result.summaries ≡ 0) }
     {
-        Walk {
+        BoardWalk {
             lo,
             at: lo,
             sum: self.terms.body.identity(),
@@ -76,9 +76,9 @@ impl<B: Parted> Board<B> {
     pub(crate) fn walk_cells(
         &self,
         seat: &mut Seat<B>,
-        walk: Walk<B::S>,
+        walk: BoardWalk<B::S>,
         end: u32,
-    ) -> Result<Walk<B::S>, Refusal>
+    ) -> Result<BoardWalk<B::S>, Refusal>
         requires here { IsAt self.now.table.shared.table_id self.now.terms seat.old }
         requires may { MayRead (terms_of (folds B.PARTS B.parts_of (λ b. B.operations (B.meaning b))) self.now.terms) seat.old }
         requires sums { Sums (B.operations (B.meaning self.now.terms.body)) (actor_of seat.old).seen walk }
@@ -92,7 +92,7 @@ impl<B: Parted> Board<B> {
                 Err(refusal) => return Err(refusal),
                 Ok(value) => value,
             };
-            walk = Walk {
+            walk = BoardWalk {
                 lo: walk.lo,
                 at: walk.at + 1,
                 sum: fold_more(&self.terms.body, walk.sum, value),
@@ -104,7 +104,7 @@ impl<B: Parted> Board<B> {
     }
 
     // A walk with the block where it stands, of which these are the parts.
-    fn with_block(&self, seat: &Seat<B>, walk: Walk<B::S>, parts: [u32; 4]) -> Walk<B::S>
+    fn with_block(&self, seat: &Seat<B>, walk: BoardWalk<B::S>, parts: [u32; 4]) -> BoardWalk<B::S>
         requires may { MayRead (terms_of (folds B.PARTS B.parts_of (λ b. B.operations (B.meaning b))) self.now.terms) seat.now }
         requires sums { Sums (B.operations (B.meaning self.now.terms.body)) (actor_of seat.now).seen walk }
         requires begins { walk.at % 8 ≡ 0 }
@@ -112,7 +112,7 @@ impl<B: Parted> Board<B> {
         requires parts { parts ≡ B.parts_of (block_fold (B.operations (B.meaning self.now.terms.body)) (walk.at / 8) (actor_of seat.now).seen) }
         ensures { HasCome (B.operations (B.meaning self.now.terms.body)) (actor_of seat.now).seen walk.lo (walk.at + 8) result }
     {
-        Walk {
+        BoardWalk {
             lo: walk.lo,
             at: walk.at + 8,
             sum: self.terms.body.combine(walk.sum, B::of_parts(parts)),
@@ -122,7 +122,11 @@ impl<B: Parted> Board<B> {
     }
 
     // Goes on by the block that begins where the walk stands: from its parts where they are fresh, else by its cells.
-    fn walk_block(&self, seat: &mut Seat<B>, walk: Walk<B::S>) -> Result<Walk<B::S>, Refusal>
+    fn walk_block(
+        &self,
+        seat: &mut Seat<B>,
+        walk: BoardWalk<B::S>,
+    ) -> Result<BoardWalk<B::S>, Refusal>
         requires here { IsAt self.now.table.shared.table_id self.now.terms seat.old }
         requires may { MayRead (terms_of (folds B.PARTS B.parts_of (λ b. B.operations (B.meaning b))) self.now.terms) seat.old }
         requires sums { Sums (B.operations (B.meaning self.now.terms.body)) (actor_of seat.old).seen walk }
@@ -142,7 +146,12 @@ impl<B: Parted> Board<B> {
     }
 
     // Goes on by a whole block that begins where the walk stands, else by one cell.
-    fn walk_on(&self, seat: &mut Seat<B>, walk: Walk<B::S>, hi: u32) -> Result<Walk<B::S>, Refusal>
+    fn walk_on(
+        &self,
+        seat: &mut Seat<B>,
+        walk: BoardWalk<B::S>,
+        hi: u32,
+    ) -> Result<BoardWalk<B::S>, Refusal>
         requires here { IsAt self.now.table.shared.table_id self.now.terms seat.old }
         requires may { MayRead (terms_of (folds B.PARTS B.parts_of (λ b. B.operations (B.meaning b))) self.now.terms) seat.old }
         requires sums { Sums (B.operations (B.meaning self.now.terms.body)) (actor_of seat.old).seen walk }
@@ -158,7 +167,7 @@ impl<B: Parted> Board<B> {
     }
 
     // Goes through a range of the elements.
-    fn walk_range(&self, seat: &mut Seat<B>, lo: u32, hi: u32) -> Result<Walk<B::S>, Refusal>
+    fn walk_range(&self, seat: &mut Seat<B>, lo: u32, hi: u32) -> Result<BoardWalk<B::S>, Refusal>
         requires here { IsAt self.now.table.shared.table_id self.now.terms seat.old }
         requires may { MayRead (terms_of (folds B.PARTS B.parts_of (λ b. B.operations (B.meaning b))) self.now.terms) seat.old }
         requires order { lo ≤ hi }

@@ -1,5 +1,5 @@
 //! The rule of the table: the words are those of a reachable state.
-ghost use Rattle.lv_board.specs.TableRule.{dealer, Holds};
+ghost use Rattle.lv_board.specs.TableRule.{dealer, TableHolds};
 ghost use Rattle.lv_board.specs.Rule.{folds};
 
 use crate::actors::{Basis, View};
@@ -13,7 +13,7 @@ pub struct Reached<B> {
 }
 
 impl<B: Parted> TableRule<(), View<B>, Basis<B>> for Reached<B> {
-    ghost holds = { Holds (folds B.PARTS B.parts_of (λ b. B.operations (B.meaning b))) };
+    ghost holds = { TableHolds (folds B.PARTS B.parts_of (λ b. B.operations (B.meaning b))) };
 
     ghost first = { dealer };
 }

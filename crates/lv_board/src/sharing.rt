@@ -10,7 +10,7 @@ use crate::board::Board;
 use crate::opened::Opened;
 use crate::remains::Closed;
 use crate::seats::Seat;
-use crate::sitters::Sitter;
+use crate::seats_with_board::SeatWithBoard;
 use lv_bodies::{Parted, Shown};
 use lv_geometry::{Limits, Refusal};
 use lv_machine::{Call, Said};
@@ -76,7 +76,7 @@ impl<B: Parted> Opened<B> {
     }
 
     /// The seat that has been there for the longest; at first they are there in the order of their numbers.
-    pub fn sit(&mut self) -> Result<Sitter<B>, Unseated>
+    pub fn sit(&mut self) -> Result<SeatWithBoard<B>, Unseated>
         ensures ok { IfOk result (λ s. Sits (shared_of B.PARTS B.parts_of (λ b. B.operations (B.meaning b)) B.the_kind B.plain self.old) (sat_of B.PARTS B.parts_of (λ b. B.operations (B.meaning b)) B.the_kind B.plain s) (shared_of B.PARTS B.parts_of (λ b. B.operations (B.meaning b)) B.the_kind B.plain self.new)) }
         ensures out { IfOk result (λ s. IsOut self.new s) }
         ensures err { IfErr result (λ why. ((shared_of B.PARTS B.parts_of (λ b. B.operations (B.meaning b)) B.the_kind B.plain self.new) ≡ (shared_of B.PARTS B.parts_of (λ b. B.operations (B.meaning b)) B.the_kind B.plain self.old)) × IsUnseated (shared_of B.PARTS B.parts_of (λ b. B.operations (B.meaning b)) B.the_kind B.plain self.old) why) }
@@ -88,7 +88,7 @@ impl<B: Parted> Opened<B> {
             return Err(Unseated::NoMemory);
         };
         let seat = self.seats.remove(0);
-        Ok(Sitter {
+        Ok(SeatWithBoard {
             stamp: self.stamp,
             board,
             seat,
@@ -97,19 +97,19 @@ impl<B: Parted> Opened<B> {
 
     /// Takes a seat back, with all that it knows: it may be taken again, and when all are there the board can be closed. A seat of a
     /// board of another stamp comes back as it was. One of this stamp is this board's.
-    pub fn take_back(&mut self, sitter: Sitter<B>) -> Result<(), Sitter<B>>
-        requires own { sitter.stamp ≡ self.old.stamp → IsOut self.old sitter }
-        ensures ok { OnOk result (IsBack (shared_of B.PARTS B.parts_of (λ b. B.operations (B.meaning b)) B.the_kind B.plain self.old) (sat_of B.PARTS B.parts_of (λ b. B.operations (B.meaning b)) B.the_kind B.plain sitter) (shared_of B.PARTS B.parts_of (λ b. B.operations (B.meaning b)) B.the_kind B.plain self.new)) }
-        ensures err { IfErr result (λ same. (same ≡ sitter) × (sitter.stamp ≢ self.old.stamp) × ((shared_of B.PARTS B.parts_of (λ b. B.operations (B.meaning b)) B.the_kind B.plain self.new) ≡ (shared_of B.PARTS B.parts_of (λ b. B.operations (B.meaning b)) B.the_kind B.plain self.old))) }
+    pub fn take_back(&mut self, seat_with_board: SeatWithBoard<B>) -> Result<(), SeatWithBoard<B>>
+        requires own { seat_with_board.stamp ≡ self.old.stamp → IsOut self.old seat_with_board }
+        ensures ok { OnOk result (IsBack (shared_of B.PARTS B.parts_of (λ b. B.operations (B.meaning b)) B.the_kind B.plain self.old) (sat_of B.PARTS B.parts_of (λ b. B.operations (B.meaning b)) B.the_kind B.plain seat_with_board) (shared_of B.PARTS B.parts_of (λ b. B.operations (B.meaning b)) B.the_kind B.plain self.new)) }
+        ensures err { IfErr result (λ same. (same ≡ seat_with_board) × (seat_with_board.stamp ≢ self.old.stamp) × ((shared_of B.PARTS B.parts_of (λ b. B.operations (B.meaning b)) B.the_kind B.plain self.new) ≡ (shared_of B.PARTS B.parts_of (λ b. B.operations (B.meaning b)) B.the_kind B.plain self.old))) }
     {
-        if sitter.stamp != self.stamp {
-            return Err(sitter);
+        if seat_with_board.stamp != self.stamp {
+            return Err(seat_with_board);
         }
-        let Sitter {
+        let SeatWithBoard {
             stamp: _,
             board,
             seat,
-        } = sitter;
+        } = seat_with_board;
         drop(board);
         self.seats.push_reserved(seat);
         Ok(())
@@ -153,7 +153,7 @@ impl<B: Parted> Opened<B> {
     }
 }
 
-impl<B: Parted> Sitter<B> {
+impl<B: Parted> SeatWithBoard<B> {
     /// Makes a call, and gives what it ends with, a fold as its plain value. An edit is tried so often at most, and once at least.
     pub fn make(&mut self, call: Call, tries: u32) -> Said<Shown>
         ensures makes { Makes tries call (sat_of B.PARTS B.parts_of (λ b. B.operations (B.meaning b)) B.the_kind B.plain self.old) result (sat_of B.PARTS B.parts_of (λ b. B.operations (B.meaning b)) B.the_kind B.plain self.new) }

@@ -12,7 +12,7 @@ use Rattle.lv_lines.specs.declared.fault.Fault.{Fault}
 use Rattle.lv_transcript.specs.declared.claimed.Claimed.{Claimed}
 use Rattle.lv_transcript.specs.Fronts.{AreTrueAfter, Entry, edits_in}
 use Rattle.lv_transcript.specs.Scribing.{EndsWhole, ScribeState, Scribed, Scribes, whole_bytes}
-use Rattle.lv_transcript.specs.Transcript.{AreAccepted, AreAcceptedAfter, IsTrueClaim, greatest}
+use Rattle.lv_transcript.specs.Transcript.{AreAccepted, AreAcceptedAfter, IsTrueAnswer, greatest}
 use Rattle.lv_hub.specs.Minuting.{AreMinutes, HasFront, MinutesEnd, MinutesState, ScribesAll, last_after}
 use Rattle.lv_hub.proofs.PrefixLaws.{prefix_length, prefix_self}
 
@@ -22,7 +22,7 @@ use Rattle.lv_hub.proofs.PrefixLaws.{prefix_length, prefix_self}
 edits_in_both : (first second : List Entry) → edits_in (first ++ second) ≡ edits_in first ++ edits_in second
 edits_in_both [] second = refl
 edits_in_both (inl e ∷ first) second = ap (λ (es : List Edit). e ∷ es) (edits_in_both first second)
-edits_in_both (inr claim ∷ first) second = edits_in_both first second
+edits_in_both (inr reduction ∷ first) second = edits_in_both first second
 
 -- edits as entries
 edits_in_edits : (edits : List Edit) → edits_in (map inl edits) ≡ edits
@@ -37,20 +37,20 @@ last_of_edits : (last : ℕ) (entries : List Entry) (edits : List Edit) → last
 last_of_edits last [] [] = refl
 last_of_edits last [] (e ∷ edits) = last_of_edits last [] edits
 last_of_edits last (inl e ∷ entries) edits = last_of_edits last entries edits
-last_of_edits last (inr claim ∷ entries) edits = last_of_edits claim.edit entries edits
+last_of_edits last (inr reduction ∷ entries) edits = last_of_edits reduction.edit entries edits
 
 -- the last answer is the last
-last_of_answer : (last : ℕ) (entries : List Entry) (claim : Claimed) → last_after last (entries ++ inr claim ∷ []) ≡ claim.edit
-last_of_answer last [] claim = refl
-last_of_answer last (inl e ∷ entries) claim = last_of_answer last entries claim
-last_of_answer last (inr other ∷ entries) claim = last_of_answer other.edit entries claim
+last_of_answer : (last : ℕ) (entries : List Entry) (reduction : Claimed) → last_after last (entries ++ inr reduction ∷ []) ≡ reduction.edit
+last_of_answer last [] reduction = refl
+last_of_answer last (inl e ∷ entries) reduction = last_of_answer last entries reduction
+last_of_answer last (inr other ∷ entries) reduction = last_of_answer other.edit entries reduction
 
 -- what is true behind true entries is true with them
 true_both : (before : List Edit) (last : ℕ) (first second : List Entry) → AreTrueAfter before last first → AreTrueAfter (before ++ edits_in first) (last_after last first) second → AreTrueAfter before last (first ++ second)
 true_both before last [] second holds later = subst (λ (es : List Edit). AreTrueAfter es last second) (append-nil before) later
 true_both before last (inl e ∷ first) second holds later =
     (holds.0, holds.1, true_both (before ++ e ∷ []) last first second holds.2 (subst (λ (es : List Edit). AreTrueAfter es (last_after last first) second) (sym (append_assoc before (e ∷ []) (edits_in first))) later))
-true_both before last (inr claim ∷ first) second holds later = (holds.0, holds.1, true_both before claim.edit first second holds.2 later)
+true_both before last (inr reduction ∷ first) second holds later = (holds.0, holds.1, true_both before reduction.edit first second holds.2 later)
 
 -- edits that are accepted are true
 true_edits : (before : List Edit) (last : ℕ) (edits : List Edit) → All CarriesElement edits → AreAcceptedAfter greatest before edits → AreTrueAfter before last (map inl edits)
@@ -102,14 +102,14 @@ take_first (suc n) (suc m) [] few = refl
 take_first (suc n) (suc m) (x ∷ xs) few = ap (λ (ys : List _). x ∷ ys) (take_first n m xs (omega (arith, few)))
 
 -- what is true of edits, and of no later one than the n-th, is true of the first n
-true_of_first : (edits : List Edit) (n : ℕ) (claim : Claimed) → n ≤ length edits → claim.edit ≤ n → IsTrueClaim edits claim → IsTrueClaim (take n edits) claim
-true_of_first edits n claim there few holds =
-    let same : take claim.edit (take n edits) ≡ take claim.edit edits = take_first claim.edit n edits few in
+true_of_first : (edits : List Edit) (n : ℕ) (reduction : Claimed) → n ≤ length edits → reduction.edit ≤ n → IsTrueAnswer edits reduction → IsTrueAnswer (take n edits) reduction
+true_of_first edits n reduction there few holds =
+    let same : take reduction.edit (take n edits) ≡ take reduction.edit edits = take_first reduction.edit n edits few in
     record {
       edit = omega (arith, few, there, length-take n edits);
       range = holds.range;
-      end = subst (λ (es : List Edit). claim.hi ≤ length (list_of es)) (sym same) holds.end;
-      value = subst (λ (es : List Edit). claim.value ≡ plain_value claim.kind (slice_range (list_of es) claim.lo claim.hi)) (sym same) holds.value;
+      end = subst (λ (es : List Edit). reduction.hi ≤ length (list_of es)) (sym same) holds.end;
+      value = subst (λ (es : List Edit). reduction.value ≡ plain_value reduction.kind (slice_range (list_of es) reduction.lo reduction.hi)) (sym same) holds.value;
     }
 
 -- one edit more was given
@@ -165,17 +165,17 @@ module _ (start : Option (List ℕ)) where
       }
 
   -- an answer was taken up
-  pub minutes_answer : (s : MinutesState) (claim : Claimed) (scribe : ScribeState) → AreMinutes start s → IsTrueClaim s.seen claim → s.last ≤ claim.edit → claim.edit ≤ s.edits → Scribes s.scribe (inr claim) scribe
-      → AreMinutes start record s { scribe = scribe; last = claim.edit }
-  minutes_answer s claim scribe was holds order there gives =
-      let of : IsTrueClaim (edits_in was.entries) claim = subst (λ (es : List Edit). IsTrueClaim es claim) (sym was.edits_are) (true_of_first s.seen s.edits claim was.within there holds) in
+  pub minutes_answer : (s : MinutesState) (reduction : Claimed) (scribe : ScribeState) → AreMinutes start s → IsTrueAnswer s.seen reduction → s.last ≤ reduction.edit → reduction.edit ≤ s.edits → Scribes s.scribe (inr reduction) scribe
+      → AreMinutes start record s { scribe = scribe; last = reduction.edit }
+  minutes_answer s reduction scribe was holds order there gives =
+      let of : IsTrueAnswer (edits_in was.entries) reduction = subst (λ (es : List Edit). IsTrueAnswer es reduction) (sym was.edits_are) (true_of_first s.seen s.edits reduction was.within there holds) in
       record {
-        entries = was.entries ++ inr claim ∷ [];
+        entries = was.entries ++ inr reduction ∷ [];
         given = gives start was.entries was.given;
-        all_true = true_both [] 0 was.entries (inr claim ∷ []) was.all_true (subst (λ (n : ℕ). n ≤ claim.edit) (sym was.last_is) order, of, tt);
-        edits_are = edits_in_both was.entries (inr claim ∷ []) ∙ append-nil (edits_in was.entries) ∙ was.edits_are;
+        all_true = true_both [] 0 was.entries (inr reduction ∷ []) was.all_true (subst (λ (n : ℕ). n ≤ reduction.edit) (sym was.last_is) order, of, tt);
+        edits_are = edits_in_both was.entries (inr reduction ∷ []) ∙ append-nil (edits_in was.entries) ∙ was.edits_are;
         within = was.within;
-        last_is = last_of_answer 0 was.entries claim;
+        last_is = last_of_answer 0 was.entries reduction;
         in_time = there;
         accepted = was.accepted;
       }

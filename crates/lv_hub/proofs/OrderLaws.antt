@@ -22,9 +22,9 @@ ties_are_equal a b =
     ]
 
 -- a stable sort by the edit keeps the order of the reductions at each edit
-pub ties_kept : (old new : List Claimed) → IsStableByKey (λ (claim : Claimed). claim.edit) nat_cmp old new → KeepTies old new
+pub ties_kept : (old new : List Claimed) → IsStableByKey (λ (reduction : Claimed). reduction.edit) nat_cmp old new → KeepTies old new
 ties_kept old new stable = λ edit.
     let one : Claimed = record { edit = edit; kind = Sum; lo = 0; hi = 0; value = shown.Sum 0 } in
-    ap (λ (test : Claimed → Bool). filter test new) (λ i claim. sym (ties_are_equal edit claim.edit) i)
+    ap (λ (test : Claimed → Bool). filter test new) (λ i reduction. sym (ties_are_equal edit reduction.edit) i)
     ∙ stable one
-    ∙ ap (λ (test : Claimed → Bool). filter test old) (λ i claim. ties_are_equal edit claim.edit i)
+    ∙ ap (λ (test : Claimed → Bool). filter test old) (λ i reduction. ties_are_equal edit reduction.edit i)

@@ -81,7 +81,7 @@ module _ (limits : Bounds) where
     grown : IsPrefix old.seen before
     answer : PlainAt before (kept_by old) n line text (kept_by new)
     within : IsWithin limits old before line new
-    lists : Lists before line text old.claims new.claims
+    lists : Lists before line text old.answers new.answers
 
   -- a command that nothing refuses
   granted : (old new : Seen) (before : List Edit) (n : ℕ) (c : Command) (text : List ℕ) → refusal_of (plain_at limits before) c ≡ None → text ≡ reply_of [] (plain_at limits before) c
@@ -129,7 +129,7 @@ module _ (limits : Bounds) where
     grown = told.seen;
     answer = edit_plain old new n e text result told is state;
     within = told.within;
-    lists = ap (λ s. s.claims) state ∙ edit_lists_nothing (up_to old new.seen) result;
+    lists = ap (λ s. s.answers) state ∙ edit_lists_nothing (up_to old new.seen) result;
   }
 
   -- a reduction
@@ -145,14 +145,14 @@ module _ (limits : Bounds) where
               grown = told.seen;
               answer = granted (kept_by old) (kept_by new) new.seen n (command.Reduce kind lo hi) text is.granted text_is (seen_more old new new.seen refl (ap (λ s. s.count) listed.1));
               within = told.within;
-              lists = inl (text_is, ap (λ s. s.claims) listed.1 ∙ ap₂ (λ edit shown. old.claims ++ record { edit = edit; kind = kind; lo = lo; hi = hi; value = shown } ∷ []) is.edit value);
+              lists = inl (text_is, ap (λ s. s.answers) listed.1 ∙ ap₂ (λ edit shown. old.answers ++ record { edit = edit; kind = kind; lo = lo; hi = hi; value = shown } ∷ []) is.edit value);
             }
         | inr full ↦ record {
           before = new.seen;
           grown = told.seen;
           answer = wanting (kept_by old) (kept_by new) new.seen n (command.Reduce kind lo hi) text is.granted full.0 (seen_more old new new.seen refl (ap (λ s. s.count) full.1));
           within = told.within;
-          lists = inr (NoMemory, full.0, ap (λ s. s.claims) full.1);
+          lists = inr (NoMemory, full.0, ap (λ s. s.answers) full.1);
         }
       ]
   reduction_said old new n kind lo hi text (Err refusal) told lists = record {
@@ -160,7 +160,7 @@ module _ (limits : Bounds) where
     grown = told.seen;
     answer = refused (kept_by old) (kept_by new) new.seen n (command.Reduce kind lo hi) text refusal told.refused lists.0 (seen_more old new new.seen refl (ap (λ s. s.count) lists.1));
     within = told.within;
-    lists = inr (refusal, lists.0, ap (λ s. s.claims) lists.1);
+    lists = inr (refusal, lists.0, ap (λ s. s.answers) lists.1);
   }
 
   -- a scan
@@ -185,11 +185,11 @@ module _ (limits : Bounds) where
 
   nothing_said : (old new : SessionState) (n : ℕ) (text : List ℕ) → text ≡ [] → new ≡ old → SaidLine old n Nothing text new
   nothing_said old new n text is stays =
-      record { before = old.seen; grown = prefix_self old.seen; answer = unmoved old new n Nothing text is refl stays; within = stays; lists = ap (λ s. s.claims) stays }
+      record { before = old.seen; grown = prefix_self old.seen; answer = unmoved old new n Nothing text is refl stays; within = stays; lists = ap (λ s. s.answers) stays }
 
   bad_said : (old new : SessionState) (n : ℕ) (text : List ℕ) → text ≡ bad_text n → new ≡ old → SaidLine old n Bad text new
   bad_said old new n text is stays =
-      record { before = old.seen; grown = prefix_self old.seen; answer = unmoved old new n Bad text is refl stays; within = stays; lists = ap (λ s. s.claims) stays }
+      record { before = old.seen; grown = prefix_self old.seen; answer = unmoved old new n Bad text is refl stays; within = stays; lists = ap (λ s. s.answers) stays }
 
   -- a command, as a session knows it
   command_said : (old new : SessionState) (n : ℕ) (c : Command) (text : List ℕ) → SessionCommandAnswer limits old n c text new → SaidLine old n (known_of (Do c)) text new
@@ -200,7 +200,7 @@ module _ (limits : Bounds) where
     grown = a.told.seen;
     answer = scan_plain old new n inclusive kind lo hi text a.result a.told a.text_is a.state;
     within = a.told.within;
-    lists = ap (λ s. s.claims) a.state;
+    lists = ap (λ s. s.answers) a.state;
   }
   command_said old new n _ text a = bad_said old new n text a.0 a.1
 

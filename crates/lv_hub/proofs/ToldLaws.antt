@@ -22,7 +22,7 @@ use Rattle.lv_reduce.specs.Stretch.{IsStretch, StretchState}
 use Rattle.lv_live.specs.Kept.{IsLive}
 use Rattle.lv_live.specs.State.{HasClaim, HasDelivery, LiveState, node_and_version, recorded}
 use Rattle.lv_live.specs.Step.{Reduces}
-use Rattle.lv_hub.specs.Told.{ClaimTold, EditTold, Gives, GiveTold, IsStanding, IsVector, ReadsTold, ReductionTold, StretchTold, VouchedBy, history_of}
+use Rattle.lv_hub.specs.Told.{ClaimTold, EditTold, Delivers, DeliveryTold, IsStanding, IsVector, ReadsTold, ReductionTold, StretchTold, VouchedBy, history_of}
 
 -- a vector of these limits has this history
 limits_said : (limits : Bounds) (h : History) → h.limits ≡ limits → h ≡ history_of limits h.journal
@@ -110,8 +110,8 @@ claim_told o limits body s t result vector of live stays next claimed job_body h
 }
 
 -- an outcome
-pub give_told : {B S M : Type 0} (meaning : B → M) (operations : M → Operations S) (limits : Bounds) (body : B) (s : LiveState B S) (outcome : Carried B S) (result : Result Accepted Refusal) → IsVector limits s.history → s.body ≡ body → IsLive (operations (meaning s.body)) s → Gives (recorded s) (VouchedBy meaning operations s outcome) outcome result → GiveTold meaning operations body limits outcome result
-give_told meaning operations limits body s outcome result vector of live gives =
+pub delivery_told : {B S M : Type 0} (meaning : B → M) (operations : M → Operations S) (limits : Bounds) (body : B) (s : LiveState B S) (outcome : Carried B S) (result : Result Accepted Refusal) → IsVector limits s.history → s.body ≡ body → IsLive (operations (meaning s.body)) s → Delivers (recorded s) (VouchedBy meaning operations s outcome) outcome result → DeliveryTold meaning operations body limits outcome result
+delivery_told meaning operations limits body s outcome result vector of live gives =
     record { state = s; vector = vector; of = of; live = subst (λ b. IsLive (operations (meaning b)) s) of live; gives = gives }
 
 -- an outcome that is given leaves body and history

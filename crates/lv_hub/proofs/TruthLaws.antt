@@ -30,8 +30,8 @@ use Rattle.lv_lines.specs.declared.fault.Fault.TheVariants.{NoMemory, ReadFault,
 use Rattle.lv_lines.specs.Grammar.{line_of}
 use Rattle.lv_lines.specs.Replies.{Answered, Conversed}
 use Rattle.lv_transcript.specs.declared.claimed.Claimed.{Claimed}
-use Rattle.lv_transcript.specs.Transcript.{AreInOrder, IsTrueClaim}
-use Rattle.lv_hub.specs.Replying.{ListsAnswer, SessionCommandAnswer, SessionLineAnswer, TellsLine, claim_of, having_counted, up_to}
+use Rattle.lv_transcript.specs.Transcript.{AreInOrder, IsTrueAnswer}
+use Rattle.lv_hub.specs.Replying.{ListsAnswer, SessionCommandAnswer, SessionLineAnswer, TellsLine, listed_of, having_counted, up_to}
 use Rattle.lv_hub.specs.Session.{SessionState}
 use Rattle.lv_hub.specs.Told.{EditTold, ReductionTold, history_of}
 use Rattle.lv_hub.proofs.PrefixLaws.{prefix_length, prefix_self, prefix_trans}
@@ -43,19 +43,19 @@ edit_grows limits old new e (Ok receipt) told =
 edit_grows limits old new e (Err refusal) told = subst (IsPrefix old) (sym (ap (λ h. h.journal) told.answers.same)) told.seen
 
 -- what is true of a beginning is true of the whole
-pub true_of_more : (xs ys : List Edit) (claim : Claimed) → IsPrefix xs ys → IsTrueClaim xs claim → IsTrueClaim ys claim
-true_of_more xs ys claim more holds =
-    let same : take claim.edit ys ≡ take claim.edit xs = ap (take claim.edit) (sym more.1) ∙ take-append-le claim.edit xs more.0 holds.edit in
+pub true_of_more : (xs ys : List Edit) (reduction : Claimed) → IsPrefix xs ys → IsTrueAnswer xs reduction → IsTrueAnswer ys reduction
+true_of_more xs ys reduction more holds =
+    let same : take reduction.edit ys ≡ take reduction.edit xs = ap (take reduction.edit) (sym more.1) ∙ take-append-le reduction.edit xs more.0 holds.edit in
     record {
       edit = omega (arith, prefix_length xs ys more, holds.edit);
       range = holds.range;
-      end = subst (λ es. claim.hi ≤ length (list_of es)) (sym same) holds.end;
-      value = subst (λ es. claim.value ≡ plain_value claim.kind (slice_range (list_of es) claim.lo claim.hi)) (sym same) holds.value;
+      end = subst (λ es. reduction.hi ≤ length (list_of es)) (sym same) holds.end;
+      value = subst (λ es. reduction.value ≡ plain_value reduction.kind (slice_range (list_of es) reduction.lo reduction.hi)) (sym same) holds.value;
     }
 
 -- so it is with many
-pub all_true_of_more : (xs ys : List Edit) (claims : List Claimed) → IsPrefix xs ys → All (IsTrueClaim xs) claims → All (IsTrueClaim ys) claims
-all_true_of_more xs ys claims more = All-weaker (IsTrueClaim xs) (IsTrueClaim ys) (λ claim. true_of_more xs ys claim more) claims
+pub all_true_of_more : (xs ys : List Edit) (answers : List Claimed) → IsPrefix xs ys → All (IsTrueAnswer xs) answers → All (IsTrueAnswer ys) answers
+all_true_of_more xs ys answers more = All-weaker (IsTrueAnswer xs) (IsTrueAnswer ys) (λ reduction. true_of_more xs ys reduction more) answers
 
 -- a range that isn't refused lies in the list
 record IsRange (edits : List Edit) (lo hi : ℕ) : Type 0 where
@@ -82,27 +82,27 @@ slice_folds limits edits lo hi within =
       elements = All-take IsElement (hi - lo) (drop lo xs) (All-drop IsElement lo xs within.elements);
     }
 
--- one claim more, at the last edit that is seen
-order_push : (xs ys : List Edit) (claims : List Claimed) (claim : Claimed) → IsPrefix xs ys → claim.edit ≡ length ys → All (IsTrueClaim xs) claims → AreInOrder claims → AreInOrder (claims ++ claim ∷ [])
-order_push xs ys claims claim more last holds rises =
-    IsNonDecreasingBy-push (λ claim. claim.edit) claims claim rises (λ d some.
-    let one = All-get_or (IsTrueClaim xs) claims (length claims - 1) d (omega (arith, some)) holds in omega (arith, one.edit, prefix_length xs ys more, last))
+-- one answer more, at the last edit that is seen
+order_push : (xs ys : List Edit) (answers : List Claimed) (reduction : Claimed) → IsPrefix xs ys → reduction.edit ≡ length ys → All (IsTrueAnswer xs) answers → AreInOrder answers → AreInOrder (answers ++ reduction ∷ [])
+order_push xs ys answers reduction more last holds rises =
+    IsNonDecreasingBy-push (λ reduction. reduction.edit) answers reduction rises (λ d some.
+    let one = All-get_or (IsTrueAnswer xs) answers (length answers - 1) d (omega (arith, some)) holds in omega (arith, one.edit, prefix_length xs ys more, last))
 
 -- what a session's step keeps: it has seen more, and where all that is listed was true of what was seen, it is still; and it stands in
 -- the order of time
 pub record Keeps (old new : SessionState) : Type 0 where
   pub seen : IsPrefix old.seen new.seen
-  pub all_true : All (IsTrueClaim old.seen) old.claims → All (IsTrueClaim new.seen) new.claims
-  pub order : All (IsTrueClaim old.seen) old.claims → AreInOrder old.claims → AreInOrder new.claims
+  pub all_true : All (IsTrueAnswer old.seen) old.answers → All (IsTrueAnswer new.seen) new.answers
+  pub order : All (IsTrueAnswer old.seen) old.answers → AreInOrder old.answers → AreInOrder new.answers
 
 -- an edit lists nothing
-pub edit_lists_nothing : (s : SessionState) (result : Result Receipt Refusal) → (having_counted s result).claims ≡ s.claims
+pub edit_lists_nothing : (s : SessionState) (result : Result Receipt Refusal) → (having_counted s result).answers ≡ s.answers
 edit_lists_nothing s (Ok receipt) = refl
 edit_lists_nothing s (Err refusal) = refl
 
 module _ (limits : Bounds) where
   -- an answer is true, by its edits
-  answer_true : (edits : List Edit) (kind : Kind) (lo hi : ℕ) (answer : Answer SixSummary) → IsLegalInLimits (history_of limits edits) → IsAnswer six_operations edits lo hi answer → IsTrueClaim edits (claim_of kind lo hi answer)
+  answer_true : (edits : List Edit) (kind : Kind) (lo hi : ℕ) (answer : Answer SixSummary) → IsLegalInLimits (history_of limits edits) → IsAnswer six_operations edits lo hi answer → IsTrueAnswer edits (listed_of kind lo hi answer)
   answer_true edits kind lo hi answer within is =
       let all : take answer.edit edits ≡ edits = take_all answer.edit edits (omega (arith, is.edit)) in
       let range = in_range edits lo hi is.granted in
@@ -115,7 +115,7 @@ module _ (limits : Bounds) where
       }
 
   -- so is the answer of a reduction that was told
-  told_true : (old new : List Edit) (kind : Kind) (lo hi : ℕ) (answer : Answer SixSummary) → ReductionTold six_operations limits old new lo hi (Ok answer) → IsTrueClaim new (claim_of kind lo hi answer)
+  told_true : (old new : List Edit) (kind : Kind) (lo hi : ℕ) (answer : Answer SixSummary) → ReductionTold six_operations limits old new lo hi (Ok answer) → IsTrueAnswer new (listed_of kind lo hi answer)
   told_true old new kind lo hi answer told =
       answer_true new kind lo hi answer told.within told.answered
 
@@ -124,17 +124,17 @@ module _ (limits : Bounds) where
   told_last old new lo hi answer told = told.answered.edit
 
   -- who has seen more, and lists nothing more, keeps
-  keeps_by_more : (old new : SessionState) → IsPrefix old.seen new.seen → new.claims ≡ old.claims → Keeps old new
+  keeps_by_more : (old new : SessionState) → IsPrefix old.seen new.seen → new.answers ≡ old.answers → Keeps old new
   keeps_by_more old new more same =
       record {
         seen = more;
-        all_true = λ holds. subst (All (IsTrueClaim new.seen)) (sym same) (all_true_of_more old.seen new.seen old.claims more holds);
+        all_true = λ holds. subst (All (IsTrueAnswer new.seen)) (sym same) (all_true_of_more old.seen new.seen old.answers more holds);
         order = λ holds rises. subst AreInOrder (sym same) rises;
       }
 
   -- so does who changes nothing
   keeps_same : (old new : SessionState) → new ≡ old → Keeps old new
-  keeps_same old new same = keeps_by_more old new (subst (IsPrefix old.seen) (sym (ap (λ s. s.seen) same)) (prefix_self old.seen)) (ap (λ s. s.claims) same)
+  keeps_same old new same = keeps_by_more old new (subst (IsPrefix old.seen) (sym (ap (λ s. s.seen) same)) (prefix_self old.seen)) (ap (λ s. s.answers) same)
 
   -- a reduction
   reduction_keeps : (old new : SessionState) (kind : Kind) (lo hi : ℕ) (text : List ℕ) (result : Result (Answer SixSummary) Refusal) → ReductionTold six_operations limits old.seen new.seen lo hi result → ListsAnswer (up_to old new.seen) kind lo hi result text new → Keeps old new
@@ -143,22 +143,22 @@ module _ (limits : Bounds) where
         | inl listed ↦ record {
           seen = told.seen;
           all_true = λ holds.
-              subst (All (IsTrueClaim new.seen)) (sym (ap (λ s. s.claims) listed.1))
-              (All-push (IsTrueClaim new.seen) old.claims (claim_of kind lo hi answer) (all_true_of_more old.seen new.seen old.claims told.seen holds) (told_true old.seen new.seen kind lo hi answer told));
+              subst (All (IsTrueAnswer new.seen)) (sym (ap (λ s. s.answers) listed.1))
+              (All-push (IsTrueAnswer new.seen) old.answers (listed_of kind lo hi answer) (all_true_of_more old.seen new.seen old.answers told.seen holds) (told_true old.seen new.seen kind lo hi answer told));
           order = λ holds rises.
-              subst AreInOrder (sym (ap (λ s. s.claims) listed.1))
-              (order_push old.seen new.seen old.claims (claim_of kind lo hi answer) told.seen (told_last old.seen new.seen lo hi answer told) holds rises);
+              subst AreInOrder (sym (ap (λ s. s.answers) listed.1))
+              (order_push old.seen new.seen old.answers (listed_of kind lo hi answer) told.seen (told_last old.seen new.seen lo hi answer told) holds rises);
         }
-        | inr not_listed ↦ keeps_by_more old new told.seen (ap (λ s. s.claims) not_listed.1)
+        | inr not_listed ↦ keeps_by_more old new told.seen (ap (λ s. s.answers) not_listed.1)
       ]
-  reduction_keeps old new kind lo hi text (Err refusal) told lists = keeps_by_more old new told.seen (ap (λ s. s.claims) lists.1)
+  reduction_keeps old new kind lo hi text (Err refusal) told lists = keeps_by_more old new told.seen (ap (λ s. s.answers) lists.1)
 
   -- a command
   command_keeps : (old new : SessionState) (n : ℕ) (command : Command) (text : List ℕ) → SessionCommandAnswer limits old n command text new → Keeps old new
   command_keeps old new n (commands.Edit e) text a =
-      keeps_by_more old new (edit_grows limits old.seen new.seen e a.result a.told) (ap (λ s. s.claims) a.state ∙ edit_lists_nothing (up_to old new.seen) a.result)
+      keeps_by_more old new (edit_grows limits old.seen new.seen e a.result a.told) (ap (λ s. s.answers) a.state ∙ edit_lists_nothing (up_to old new.seen) a.result)
   command_keeps old new n (commands.Reduce kind lo hi) text a = reduction_keeps old new kind lo hi text a.result a.told a.lists
-  command_keeps old new n (commands.Scan inclusive kind lo hi) text a = keeps_by_more old new a.told.seen (ap (λ s. s.claims) a.state)
+  command_keeps old new n (commands.Scan inclusive kind lo hi) text a = keeps_by_more old new a.told.seen (ap (λ s. s.answers) a.state)
   command_keeps old new n _ text a = keeps_same old new a.1
 
   -- a line
@@ -174,7 +174,7 @@ module _ (limits : Bounds) where
   -- a line that was answered, whether its reply could be written or not
   pub answered_keeps : (P Q : List ℕ → Type 0) (old new : SessionState) (n : ℕ) (line : Line) (result : Result (Unit {0}) Fault)
       → OnOk result ((text : List ℕ) × SessionLineAnswer limits old n line text new × P text) → IfErr result (λ fault. (fault ≡ WriteFault) × (text : List ℕ) × SessionLineAnswer limits old n line text new × Q text)
-      → All (IsTrueClaim old.seen) old.claims → All (IsTrueClaim new.seen) new.claims
+      → All (IsTrueAnswer old.seen) old.answers → All (IsTrueAnswer new.seen) new.answers
   answered_keeps P Q old new n line (Ok u) ok err = (line_keeps old new n line ok.0 ok.1).all_true
   answered_keeps P Q old new n line (Err fault) ok err = (line_keeps old new n line err.1 err.2).all_true
 

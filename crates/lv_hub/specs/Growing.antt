@@ -21,18 +21,18 @@ abbrev pub permit_after : ℕ → List Entry → ℕ
 permit_after permit [] = permit
 permit_after permit (entry ∷ log) = if nat_eq entry.by permit then permit_after entry.next log else permit_after permit log
 
--- a permit's cell is at home once it is spent
+-- a permit's word is at home once it is spent
 abbrev pub IsSpent : List Cell → ℕ → Type 0
-IsSpent cells permit = (cell cells permit).1 ≡ true
+IsSpent words permit = (cell words permit).1 ≡ true
 
 -- nothing was added by a permit
 abbrev pub IsUnspent : ℕ → List Entry → Type 0
 IsUnspent permit log = All (λ entry. entry.by ≢ permit) log
 
 -- the first word is at home, so that steps are made on it; what was added was added by permits that are spent
-pub record IsKept (cells : List Cell) (log : List Entry) : Type 0 where
-  pub first : IsSpent cells 0
-  pub spent : All (λ entry. IsSpent cells entry.by) log
+pub record IsKept (words : List Cell) (log : List Entry) : Type 0 where
+  pub first : IsSpent words 0
+  pub spent : All (λ entry. IsSpent words entry.by) log
 
 -- the first word of a book
 abbrev pub head_of : Book → Named

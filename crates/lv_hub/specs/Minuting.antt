@@ -20,7 +20,7 @@ pub record MinutesState : Type 0 where
 abbrev pub last_after : ℕ → List Entry → ℕ
 last_after last [] = last
 last_after last (inl edit ∷ entries) = last_after last entries
-last_after last (inr claim ∷ entries) = last_after claim.edit entries
+last_after last (inr reduction ∷ entries) = last_after reduction.edit entries
 
 -- a scribe was given these edits besides
 abbrev pub ScribesAll : ScribeState → List Edit → ScribeState → Type 0

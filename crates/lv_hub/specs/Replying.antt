@@ -30,17 +30,17 @@ having_counted s (Ok receipt) = record s { count = s.count + 1 }
 having_counted s (Err refusal) = s
 
 -- a reduction as it is listed
-abbrev pub claim_of : Kind → ℕ → ℕ → Answer SixSummary → Claimed
-claim_of kind lo hi answer = record { edit = answer.edit; kind = kind; lo = lo; hi = hi; value = face_of kind answer.value }
+abbrev pub listed_of : Kind → ℕ → ℕ → Answer SixSummary → Claimed
+listed_of kind lo hi answer = record { edit = answer.edit; kind = kind; lo = lo; hi = hi; value = face_of kind answer.value }
 
 -- the state with one reduction more
-abbrev pub with_claim : SessionState → Claimed → SessionState
-with_claim s claim = record s { claims = s.claims ++ claim ∷ [] }
+abbrev pub with_listed : SessionState → Claimed → SessionState
+with_listed s claim = record s { answers = s.answers ++ claim ∷ [] }
 
 -- a reduction was answered and listed; or it was refused, for its range or because the list had no room, and nothing changed
 abbrev pub ListsAnswer : SessionState → Kind → ℕ → ℕ → Result (Answer SixSummary) Refusal → List ℕ → SessionState → Type 0
 ListsAnswer old kind lo hi (Ok answer) text new =
-    ((text ≡ answer_text answer.edit kind (face_of kind answer.value)) × (new ≡ with_claim old (claim_of kind lo hi answer)))
+    ((text ≡ answer_text answer.edit kind (face_of kind answer.value)) × (new ≡ with_listed old (listed_of kind lo hi answer)))
     ⊎ ((text ≡ refused_text NoMemory) × (new ≡ old))
 ListsAnswer old kind lo hi (Err refusal) text new = (text ≡ refused_text refusal) × (new ≡ old)
 

@@ -21,11 +21,11 @@ use Rattle.lv_hub.specs.Told.{history_of}
 pub record SessionState : Type 0 where
   pub count : ℕ
   pub seen : List Edit
-  pub claims : List Claimed
+  pub answers : List Claimed
 
 -- the state of a session with this share, where these reductions were answered
 abbrev pub session_at : ShareState → List Claimed → SessionState
-session_at share claims = record { count = share.count; seen = share.seen; claims = claims }
+session_at share answers = record { count = share.count; seen = share.seen; answers = answers }
 
 -- what the plain interpreter keeps of it
 abbrev pub kept_by : SessionState → Seen
@@ -33,7 +33,7 @@ kept_by s = record { edits = s.seen; made = s.count }
 
 -- the reductions at each edit stand in the order that they had
 abbrev pub KeepTies : List Claimed → List Claimed → Type 0
-KeepTies old new = (edit : ℕ) → filter (λ claim. nat_eq claim.edit edit) new ≡ filter (λ claim. nat_eq claim.edit edit) old
+KeepTies old new = (edit : ℕ) → filter (λ reduction. nat_eq reduction.edit edit) new ≡ filter (λ reduction. nat_eq reduction.edit edit) old
 
 -- a reduction after some edits, as it is listed
 abbrev pub claim_at : List Edit → Kind → ℕ → ℕ → Claimed
@@ -56,4 +56,4 @@ module _ (limits : Bounds) where
   pub record SessionStep (old : SessionState) (n : ℕ) (line text : List ℕ) (new : SessionState) : Type 0 where
     pub plain : PlainSessionStep limits (kept_by old) n line text (kept_by new)
     pub within : IsWithin old plain.before (session_line_of line) new
-    pub lists : Lists plain.before (session_line_of line) text old.claims new.claims
+    pub lists : Lists plain.before (session_line_of line) text old.answers new.answers

@@ -88,10 +88,10 @@ pub record ClaimTold {B S : Type 0} (o : Operations S) (body : B) (limits : Boun
   pub body_is : IfSome result (λ job. job.body ≡ body)
   pub honest : IfSome result (λ job. IsHonest o (recorded after) job.node job.version job.contents)
 
--- an outcome is taken where it is vouched for, and becomes what becomes of a delivery; else it is a stranger
-abbrev pub Gives : Record → Type 0 → {B S : Type 0} → Carried B S → Result Accepted Refusal → Type 0
-Gives r vouched outcome (Ok accepted) = vouched × (accepted ≡ delivery_of r outcome.node outcome.version)
-Gives r vouched outcome (Err refusal) = (¬ vouched) × (refusal ≡ Stranger)
+-- an outcome is delivered where it is vouched for, and becomes what becomes of a delivery; else it is a stranger
+abbrev pub Delivers : Record → Type 0 → {B S : Type 0} → Carried B S → Result Accepted Refusal → Type 0
+Delivers r vouched outcome (Ok accepted) = vouched × (accepted ≡ delivery_of r outcome.node outcome.version)
+Delivers r vouched outcome (Err refusal) = (¬ vouched) × (refusal ≡ Stranger)
 
 -- a vector vouches for an outcome: its node isn't whole, or was touched by another edit last; or else its body means the same, and
 -- what it carries stands here
@@ -99,10 +99,10 @@ abbrev pub VouchedBy : {B S M : Type 0} → (B → M) → (M → Operations S) �
 VouchedBy meaning operations state outcome =
     Vouched (operations (meaning state.body)) (recorded state) (meaning state.body ≡ meaning outcome.body) outcome.node outcome.version outcome.contents
 
--- an outcome was taken or refused as after some legal edits of the hub's vector, which has this body and is a live one
-pub record GiveTold {B S M : Type 0} (meaning : B → M) (operations : M → Operations S) (body : B) (limits : Bounds) (outcome : Carried B S) (result : Result Accepted Refusal) : Type 0 where
+-- an outcome was delivered or refused as after some legal edits of the hub's vector, which has this body and is a live one
+pub record DeliveryTold {B S M : Type 0} (meaning : B → M) (operations : M → Operations S) (body : B) (limits : Bounds) (outcome : Carried B S) (result : Result Accepted Refusal) : Type 0 where
   pub state : LiveState B S
   pub vector : IsVector limits state.history
   pub of : state.body ≡ body
   pub live : IsLive (operations (meaning body)) state
-  pub gives : Gives (recorded state) (VouchedBy meaning operations state outcome) outcome result
+  pub gives : Delivers (recorded state) (VouchedBy meaning operations state outcome) outcome result

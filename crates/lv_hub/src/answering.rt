@@ -8,10 +8,10 @@ ghost use Rattle.lv_hub.specs.Notes.{answer_to};
 ghost use Rattle.lv_hub.specs.Noting.{IsAnswered};
 ghost use Rattle.lv_hub.specs.Told.{IsVector, history_of};
 
+use crate::desk_with_history::DeskWithHistory;
 use crate::desks::Desk;
 use crate::hubs::Hub;
-use crate::logged::LoggedDesk;
-use crate::naming::{Means, Naming};
+use crate::naming::{Naming, WithBody};
 use crate::questions::Question;
 use crate::shares::Share;
 use lv_bodies::{Shown, Six, face};
@@ -60,7 +60,7 @@ impl<N: Naming> Desk<Six, N> {
     }
 }
 
-impl<N: Means<Six>> LoggedDesk<Six, N> {
+impl<N: WithBody<Six>> DeskWithHistory<Six, N> {
     /// The same, where the share sees all edits; says how many there are.
     pub fn answer_all(
         &mut self,
@@ -82,7 +82,7 @@ impl<N: Means<Six>> LoggedDesk<Six, N> {
     }
 }
 
-impl<N: Means<Six>> Hub<Six, N> {
+impl<N: WithBody<Six>> Hub<Six, N> {
     /// What each question is answered, in place of the values that there were: all of them at one edit, up to which the share then sees
     /// the hub's edits. Gives the number of that edit. Takes no memory.
     pub fn answer_all<R: Wait>(
@@ -100,6 +100,9 @@ impl<N: Means<Six>> Hub<Six, N> {
         ensures capacity { vec_capacity values.new ≡ vec_capacity values.old }
         ensures share { share.new ≡ having_seen share.old share.new.seen }
     {
-        self.room.lock(rt).desk.answer_all(share, questions, values)
+        self.locked
+            .lock(rt)
+            .desk
+            .answer_all(share, questions, values)
     }
 }

@@ -3,7 +3,7 @@ ghost use Rattle.std.specs.Prelude.{◌≡◌, ◌+◌, ◌≤◌};
 
 use crate::gates::Gate;
 use crate::hubs::Hub;
-use crate::naming::Means;
+use crate::naming::WithBody;
 use crate::worked::Worked;
 use lv_bodies::Body;
 use std::sync::Wait;
@@ -13,7 +13,7 @@ use std::sync::Wait;
 ///
 /// For a claim it goes last: while other threads have the lock it naps, at most eight times a tenth of a millisecond. A claim that
 /// found no job is a turn too. A worker whose turns are used up doesn't sleep any more, and wakes another in its place.
-pub fn attend<B: Body, N: Means<B>, G: Gate, R: Wait>(
+pub fn attend<B: Body, N: WithBody<B>, G: Gate, R: Wait>(
     rt: &R,
     hub: &Hub<B, N>,
     gate: &G,

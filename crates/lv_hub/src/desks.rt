@@ -8,9 +8,9 @@ ghost use Rattle.lv_refresh.specs.Honesty.{IsHonest};
 ghost use Rattle.lv_live.specs.Kept.{IsLive};
 ghost use Rattle.lv_live.specs.State.{HasClaim, HasDelivery, SameLive, SameRefresh, node_and_version, recorded};
 ghost use Rattle.lv_hub.specs.Counting.{Counts};
-ghost use Rattle.lv_hub.specs.Told.{Gives, IsVector, VouchedBy};
+ghost use Rattle.lv_hub.specs.Told.{Delivers, IsVector, VouchedBy};
 
-use crate::histories::Front;
+use crate::histories::HistoryPrefix;
 use crate::naming::Naming;
 use crate::shares::Share;
 use lv_bodies::Body;
@@ -44,7 +44,7 @@ impl<B: Body, N: Naming> Model for Desk<B, N> {
 }
 
 impl<B: Body, N: Naming> Desk<B, N> {
-    /// An empty vector, with a share of all parts of the blank's ledger, which counts nothing, and has seen what the front has. Takes
+    /// An empty vector, with a share of all parts of the blank's ledger, which counts nothing, and has seen what the prefix has. Takes
     /// no memory.
     pub fn new(
         alloc: Global,
@@ -52,7 +52,7 @@ impl<B: Body, N: Naming> Desk<B, N> {
         body: B,
         blank: Blank,
         parts: u64,
-        front: Front<N>,
+        prefix: HistoryPrefix<N>,
     ) -> (Desk<B, N>, Share<N>)
         requires name { blank.name ≡ N.name }
         requires all { blank.parts ≡ N.parts }
@@ -63,11 +63,11 @@ impl<B: Body, N: Naming> Desk<B, N> {
         ensures history { result.0.history ≡ record { limits = limits; journal = [] } }
         ensures unclaimed { (n : Node) → (recorded result.0).claimed n ≡ None }
         ensures nothing_kept { (n : Node) → (recorded result.0).kept n ≡ None }
-        ensures share { result.1 ≡ record { parts = parts; count = 0; seen = front } }
+        ensures share { result.1 ≡ record { parts = parts; count = 0; seen = prefix } }
     {
         let (book, token) = blank.open::<N>();
         let live = Live::new(alloc, limits, body);
-        (Desk { live, book }, Share::whole(token, front, parts))
+        (Desk { live, book }, Share::whole(token, prefix, parts))
     }
 
     /// Makes an edit, and counts it on the share where it is accepted. Refused as `Live::apply` is.
@@ -111,9 +111,9 @@ impl<B: Body, N: Naming> Desk<B, N> {
         job
     }
 
-    /// Takes an outcome in. Refused with `Stranger` exactly where `Live::vet` says no. Takes no memory.
+    /// Delivers an outcome. Refused with `Stranger` exactly where `Live::vet` says no. Takes no memory.
     pub fn give(&mut self, outcome: Outcome<B>) -> Result<Accepted, Refusal>
-        ensures answer { Gives (recorded self.old) (VouchedBy B.meaning B.operations self.old outcome) outcome result }
+        ensures answer { Delivers (recorded self.old) (VouchedBy B.meaning B.operations self.old outcome) outcome result }
         ensures delivered { IfOk result (λ accepted. HasDelivery self.old self.new outcome.node outcome.version accepted) }
         ensures unchanged { OnErr result (self.new ≡ self.old) }
         ensures vector { IsVector N.limits self.old.history }

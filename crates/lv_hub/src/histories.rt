@@ -18,7 +18,7 @@ impl Rule<Entry, u64> for Law {
     ghost use base.Fml.{ftrue};
     ghost use Rattle.lv_hub.specs.Growing.{IsKept};
 
-    ghost holds = { λ cells log. IsKept cells log };
+    ghost holds = { λ words log. IsKept words log };
 
     ghost first = { [] };
 
@@ -133,11 +133,11 @@ impl Opened {
         Opened { word, pen, seen }
     }
 
-    /// The history under a name: the right to add to it, and a front that has seen nothing.
-    pub fn named<N: Naming>(self) -> (Head<N>, Front<N>)
+    /// The history under a name: the right to add to it, and a prefix that has seen nothing.
+    pub fn named<N: Naming>(self) -> (Head<N>, HistoryPrefix<N>)
         requires { self ≡ N.history }
         ensures head { result.0 ≡ [] }
-        ensures front { result.1 ≡ [] }
+        ensures prefix { result.1 ≡ [] }
     {
         let Opened { word, pen, seen } = self;
         let head = Head {
@@ -147,8 +147,8 @@ impl Opened {
             seen,
             of: PhantomData,
         };
-        let front = head.front();
-        (head, front)
+        let prefix = head.prefix();
+        (head, prefix)
     }
 }
 
@@ -177,13 +177,13 @@ impl<N: Naming> Model for Head<N> {
 
 /// A beginning of a history that was seen. Contracts see it as its edits.
 #[derive(Drop)]
-pub struct Front<N: Naming> {
+pub struct HistoryPrefix<N: Naming> {
     edits: u64,
     seen: Seen<Entry, u64, Law>,
     of: PhantomData<N>,
 }
 
-impl<N: Naming> Model for Front<N> {
+impl<N: Naming> Model for HistoryPrefix<N> {
     ghost use Rattle.std.specs.Prelude.{◌≡◌, List, length};
     ghost use Rattle.lv_edits.specs.declared.edit.Edit.{Edit};
     ghost use Rattle.lv_hub.specs.Growing.{edits_by};
@@ -196,30 +196,30 @@ impl<N: Naming> Model for Front<N> {
 }
 
 impl<N: Naming> Head<N> {
-    // All of its edits, as a front.
-    fn front(&self) -> Front<N>
+    // All of its edits, as a prefix.
+    fn prefix(&self) -> HistoryPrefix<N>
         ensures { result ≡ self.now }
     {
-        Front {
+        HistoryPrefix {
             edits: self.edits,
             seen: self.seen.again(),
             of: PhantomData,
         }
     }
 
-    /// The same, which a front that is handed in begins: by its permit nobody else has added to the history.
-    pub fn grown(&mut self, front: &Front<N>) -> Front<N>
+    /// The same, which a prefix that is handed in begins: by its permit nobody else has added to the history.
+    pub fn grown(&mut self, prefix: &HistoryPrefix<N>) -> HistoryPrefix<N>
         ensures all { result ≡ self.old }
-        ensures begins { IsPrefix front.now self.old }
+        ensures begins { IsPrefix prefix.now self.old }
         ensures same { self.new ≡ self.old }
     {
         let mut both = self.seen.again();
-        both.learn(&front.seen);
+        both.learn(&prefix.seen);
         let mut offer: Offer<Entry, u64, Law, Nothing> = both.plain::<Nothing, (), Look>(&());
         let _ = self
             .word
             .compare_exchange::<Look, Nothing>(0, 0, &mut both, &mut offer, &mut self.pen);
-        self.front()
+        self.prefix()
     }
 
     /// Adds an edit, and spends its permit by that. Another takes its place.
@@ -242,7 +242,7 @@ impl<N: Naming> Head<N> {
     }
 }
 
-impl<N: Naming> Front<N> {
+impl<N: Naming> HistoryPrefix<N> {
     /// How many edits it has seen.
     pub fn count(&self) -> u64
         ensures { result ≡ length self.now }
@@ -251,18 +251,18 @@ impl<N: Naming> Front<N> {
     }
 
     /// A copy.
-    pub fn again(&self) -> Front<N>
+    pub fn again(&self) -> HistoryPrefix<N>
         ensures { result ≡ self.now }
     {
-        Front {
+        HistoryPrefix {
             edits: self.edits,
             seen: self.seen.again(),
             of: PhantomData,
         }
     }
 
-    /// The longer of two fronts, which the other begins.
-    pub fn longer(&self, other: &Front<N>) -> Front<N>
+    /// The longer of two prefixes, which the other begins.
+    pub fn longer(&self, other: &HistoryPrefix<N>) -> HistoryPrefix<N>
         ensures one { (result ≡ self.now) ⊎ (result ≡ other.now) }
         ensures this { IsPrefix self.now result }
         ensures that { IsPrefix other.now result }

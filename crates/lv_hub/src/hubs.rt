@@ -4,12 +4,12 @@ ghost use mathlib.Core.List.{IsPrefix};
 ghost use Rattle.lv_transcript.specs.Transcript.{AreAccepted, greatest};
 ghost use Rattle.lv_live.specs.State.{LiveState};
 ghost use Rattle.lv_hub.specs.Counting.{Counts, having_seen};
-ghost use Rattle.lv_hub.specs.Told.{ClaimTold, EditTold, GiveTold, IsStanding, IsVector, ReadsTold, ReductionTold, ScanTold, StretchTold};
+ghost use Rattle.lv_hub.specs.Told.{ClaimTold, EditTold, DeliveryTold, IsStanding, IsVector, ReadsTold, ReductionTold, ScanTold, StretchTold};
 
-use crate::histories::{Front, Opened};
-use crate::logged::LoggedDesk;
-use crate::naming::Means;
-use crate::rooms::Room;
+use crate::desk_with_history::DeskWithHistory;
+use crate::histories::{HistoryPrefix, Opened};
+use crate::locked_state::LockedState;
+use crate::naming::WithBody;
 use crate::shares::Share;
 use lv_bodies::Body;
 use lv_edits::{Edit, Receipt};
@@ -27,8 +27,8 @@ use std::thread::Threads;
 /// A live vector that threads share. Each of its calls but `new` and `close` waits for the lock, and holds it for one call of
 /// its desk. Its edits are one list, which only grows; contracts see the hub as its body. A share that is handed in is this hub's.
 #[derive(Drop)]
-pub struct Hub<B: Body, N: Means<B>> {
-    pub(crate) room: Mutex<Room<B, N>>,
+pub struct Hub<B: Body, N: WithBody<B>> {
+    pub(crate) locked: Mutex<LockedState<B, N>>,
     // Where workers sleep.
     pub(crate) bell: Condvar,
     // Where subscribers sleep.
@@ -37,7 +37,7 @@ pub struct Hub<B: Body, N: Means<B>> {
     body: B,
 }
 
-impl<B: Body, N: Means<B>> Model for Hub<B, N> {
+impl<B: Body, N: WithBody<B>> Model for Hub<B, N> {
     ghost use Rattle.std.specs.Prelude.{◌≡◌, Some};
 
     ghost Value = { B };
@@ -47,7 +47,7 @@ impl<B: Body, N: Means<B>> Model for Hub<B, N> {
     ghost invariant = { λ h. N.body ≡ Some h.body };
 }
 
-impl<B: Body, N: Means<B>> Hub<B, N> {
+impl<B: Body, N: WithBody<B>> Hub<B, N> {
     /// An empty vector, with a share of all parts of the blank's ledger, which counts nothing and has seen nothing. Its edits go into
     /// the history that was opened. Takes no memory.
     pub fn new(
@@ -68,9 +68,9 @@ impl<B: Body, N: Means<B>> Hub<B, N> {
         ensures body { result.0 ≡ body }
         ensures share { result.1 ≡ record { parts = parts; count = 0; seen = [] } }
     {
-        let (desk, share) = LoggedDesk::new(alloc, limits, body, blank, parts, opened);
+        let (desk, share) = DeskWithHistory::new(alloc, limits, body, blank, parts, opened);
         let hub = Hub {
-            room: Mutex::new(Room::new(desk)),
+            locked: Mutex::new(LockedState::new(desk)),
             bell: Condvar::new(),
             news: Condvar::new(),
             body,
@@ -89,7 +89,7 @@ impl<B: Body, N: Means<B>> Hub<B, N> {
         ensures told { EditTold N.limits share.old.seen share.new.seen edit result }
         ensures counts { Counts (having_seen share.old share.new.seen) result share.new }
     {
-        let (answer, wakes, calls) = self.room.lock(rt).edit(share, edit);
+        let (answer, wakes, calls) = self.locked.lock(rt).edit(share, edit);
         self.wake(wakes, calls);
         answer
     }
@@ -108,9 +108,9 @@ impl<B: Body, N: Means<B>> Hub<B, N> {
         ensures share { share.new ≡ having_seen share.old share.new.seen }
         ensures bad_range { (result ≡ Err Refusal.BadRange) ↔ (hi < lo) }
     {
-        let mut room = self.room.lock(rt);
-        room.desk.show(share);
-        room.desk.live().reduce(lo, hi)
+        let mut locked = self.locked.lock(rt);
+        locked.desk.show(share);
+        locked.desk.live().reduce(lo, hi)
     }
 
     /// The same, keeping what is computed for it: so a range that was asked for is cheap until an edit touches it. Refused as
@@ -127,9 +127,9 @@ impl<B: Body, N: Means<B>> Hub<B, N> {
         ensures share { share.new ≡ having_seen share.old share.new.seen }
         ensures bad_range { (result ≡ Err Refusal.BadRange) ↔ (hi < lo) }
     {
-        let mut room = self.room.lock(rt);
-        room.desk.show(share);
-        room.desk.ask(lo, hi)
+        let mut locked = self.locked.lock(rt);
+        locked.desk.show(share);
+        locked.desk.ask(lo, hi)
     }
 
     /// The running folds of the elements from index `lo` up to `hi`, each with its own, computed from a copy by several threads once
@@ -214,41 +214,41 @@ impl<B: Body, N: Means<B>> Hub<B, N> {
         ensures told { StretchTold self.now N.limits share.old.seen share.new.seen lo hi result }
         ensures share { share.new ≡ having_seen share.old share.new.seen }
     {
-        let mut room = self.room.lock(rt);
-        room.desk.show(share);
-        room.desk.live().copy_range(alloc, lo, hi)
+        let mut locked = self.locked.lock(rt);
+        locked.desk.show(share);
+        locked.desk.live().copy_range(alloc, lo, hi)
     }
 
-    /// Lets a front of this hub see all edits, and puts those from index `from` on into a buffer, in place of what it has, as many as
+    /// Lets a prefix of this hub see all edits, and puts those from index `from` on into a buffer, in place of what it has, as many as
     /// there is room for. Takes no memory.
     pub fn copy_edits<R: Wait>(
         &self,
         rt: &R,
-        front: &mut Front<N>,
+        prefix: &mut HistoryPrefix<N>,
         from: usize,
         buffer: &mut Vec<Edit>,
     )
-        ensures begins { IsPrefix front.old front.new }
-        ensures copied { buffer.new.items ≡ take (vec_capacity buffer.old) (drop from front.new) }
-        ensures few { length front.new ≤ 16777215 }
-        ensures accepted { AreAccepted greatest front.new }
+        ensures begins { IsPrefix prefix.old prefix.new }
+        ensures copied { buffer.new.items ≡ take (vec_capacity buffer.old) (drop from prefix.new) }
+        ensures few { length prefix.new ≤ 16777215 }
+        ensures accepted { AreAccepted greatest prefix.new }
     {
-        self.room.lock(rt).desk.copy_edits(front, from, buffer);
+        self.locked.lock(rt).desk.copy_edits(prefix, from, buffer);
     }
 
     /// A job for the least node that wants one, or none. Takes no memory.
     pub fn claim<R: Wait>(&self, rt: &R) -> Option<Job<B>>
         ensures { ClaimTold (B.operations (B.meaning self.now)) self.now N.limits result }
     {
-        self.room.lock(rt).desk.claim()
+        self.locked.lock(rt).desk.claim()
     }
 
-    /// Takes an outcome in. Refused with `Stranger` where its node is whole and was touched last by the edit that it names, and its
+    /// Delivers an outcome. Refused with `Stranger` where its node is whole and was touched last by the edit that it names, and its
     /// body or contents are not this vector's. Takes no memory.
     pub fn give<R: Wait>(&self, rt: &R, outcome: Outcome<B>) -> Result<Accepted, Refusal>
-        ensures { GiveTold B.meaning B.operations self.now N.limits outcome result }
+        ensures { DeliveryTold B.meaning B.operations self.now N.limits outcome result }
     {
-        self.room.lock(rt).desk.give(outcome)
+        self.locked.lock(rt).desk.give(outcome)
     }
 
     /// The vector, once all threads are done: the share that is handed in has all parts. Its journal has as many edits as the
@@ -261,6 +261,6 @@ impl<B: Body, N: Means<B>> Hub<B, N> {
         ensures seen { IsPrefix share.seen result.history.journal }
         ensures accepted { AreAccepted greatest result.history.journal }
     {
-        self.room.into_inner().desk.close(share)
+        self.locked.into_inner().desk.close(share)
     }
 }

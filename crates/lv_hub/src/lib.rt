@@ -5,13 +5,14 @@
 //! Beside the desk lies the history of its edits, with the one permit to add to it, and each share has seen a beginning of it: so the
 //! hub's calls tell of one list of edits. A call on the hub takes the lock, makes one call of the desk and releases it.
 //!
-//! Workers claim jobs and give their outcomes back; they compute with no lock held. Those that attend sleep where no node wants a
+//! Workers claim jobs and deliver their outcomes; they compute with no lock held. Those that attend sleep where no node wants a
 //! job, until an edit wakes them or they are dismissed. A session answers the lines of a script so. A subscriber is told of the edits
 //! that change the answers to its questions. It does not say that a thread gets on, nor in which order.
 #![tactic(auto)]
 
 mod answering;
 mod attending;
+mod desk_with_history;
 mod desks;
 mod ended;
 mod entries;
@@ -19,14 +20,13 @@ mod gates;
 mod histories;
 mod hubs;
 mod laws;
-mod logged;
+mod locked_state;
 mod minutes;
 mod naming;
 mod noting;
 mod questions;
 mod recorded;
 mod replying;
-mod rooms;
 mod sessions;
 mod shares;
 mod sleeping;
@@ -39,14 +39,14 @@ pub use attending::attend;
 pub use desks::Desk;
 pub use ended::Ended;
 pub use gates::{Gate, OpenGate};
-pub use histories::{Front, Opened};
+pub use histories::{HistoryPrefix, Opened};
 pub use hubs::Hub;
 pub use laws::replies_are_true_of_one_list;
 pub use minutes::{Begun, Minutes};
-pub use naming::{Means, Naming};
+pub use naming::{Naming, WithBody};
 pub use questions::Question;
 pub use recorded::{run_recorded_session, run_recorded_session_at};
-pub use replying::Place;
+pub use replying::SessionPlace;
 pub use sessions::{in_order, run_session, run_session_at};
 pub use shares::Share;
 pub use subscribers::Subscriber;

@@ -3,13 +3,13 @@ ghost use Rattle.std.specs.Prelude.{◌≡◌, [], All, IfErr, IfOk, IfSome, Lis
 ghost use mathlib.Core.List.{IsPrefix};
 ghost use Rattle.lv_edits.specs.Kept.{CarriesElement};
 ghost use Rattle.lv_transcript.specs.Scribing.{Scribed};
-ghost use Rattle.lv_transcript.specs.Transcript.{AreAccepted, IsTrueClaim, greatest};
+ghost use Rattle.lv_transcript.specs.Transcript.{AreAccepted, IsTrueAnswer, greatest};
 ghost use Rattle.lv_hub.specs.Counting.{having_seen};
 ghost use Rattle.lv_hub.specs.Minuting.{HasFront, MinutesEnd, ScribesAll};
 
-use crate::histories::Front;
+use crate::histories::HistoryPrefix;
 use crate::hubs::Hub;
-use crate::naming::{Means, Naming};
+use crate::naming::{Naming, WithBody};
 use crate::shares::Share;
 use lv_bodies::Six;
 use lv_edits::Edit;
@@ -40,7 +40,7 @@ impl Begun for Brand {
 pub struct Minutes<N: Naming, W: Write + Drop, K: Begun> {
     scribe: Scribe<W>,
     // A beginning of the hub's edits.
-    front: Front<N>,
+    prefix: HistoryPrefix<N>,
     // How many of them the scribe was given.
     edits: usize,
     // The edit of the last answer that it was given.
@@ -57,12 +57,12 @@ impl<N: Naming, W: Write + Drop, K: Begun> Model for Minutes<N, W, K> {
 
     ghost Value = { MinutesState };
 
-    ghost view = { λ m. record { scribe = m.scribe; seen = m.front; edits = m.edits; last = m.last } };
+    ghost view = { λ m. record { scribe = m.scribe; seen = m.prefix; edits = m.edits; last = m.last } };
 
-    ghost invariant = { λ m. AreMinutes K.start (record { scribe = m.scribe; seen = m.front; edits = m.edits; last = m.last }) };
+    ghost invariant = { λ m. AreMinutes K.start (record { scribe = m.scribe; seen = m.prefix; edits = m.edits; last = m.last }) };
 }
 
-impl<N: Means<Six>, W: Write + Drop, K: Begun> Minutes<N, W, K> {
+impl<N: WithBody<Six>, W: Write + Drop, K: Begun> Minutes<N, W, K> {
     /// Minutes of a hub of which nobody has seen an edit. All memory that they need is taken here.
     pub fn new(alloc: Global, writer: W, share: &Share<N>) -> Result<Minutes<N, W, K>, AllocError>
         requires start { K.start ≡ W.contents writer }
@@ -72,7 +72,7 @@ impl<N: Means<Six>, W: Write + Drop, K: Begun> Minutes<N, W, K> {
         let batch = Vec::with_capacity(alloc, BATCH)?;
         Ok(Minutes {
             scribe: Scribe::new(alloc, writer)?,
-            front: share.front(),
+            prefix: share.prefix(),
             edits: 0,
             last: 0,
             missed: false,
@@ -88,15 +88,15 @@ impl<N: Means<Six>, W: Write + Drop, K: Begun> Minutes<N, W, K> {
         rt: &R,
         hub: &Hub<Six, N>,
         share: &Share<N>,
-        claim: Option<Claimed>,
+        reduction: Option<Claimed>,
     )
-        requires { IfSome claim (IsTrueClaim share.now.seen) }
+        requires { IfSome reduction (IsTrueAnswer share.now.seen) }
         ensures { HasFront K.start self.new.scribe.contents self.new.seen }
     {
         self.catch_up(rt, hub, share);
         self.take_batch(rt, hub, share);
-        if let Some(claim) = claim {
-            self.answer(&claim);
+        if let Some(reduction) = reduction {
+            self.answer(&reduction);
         }
         self.flush();
     }
@@ -115,23 +115,23 @@ impl<N: Means<Six>, W: Write + Drop, K: Begun> Minutes<N, W, K> {
     fn take_batch<R: Wait>(&mut self, rt: &R, hub: &Hub<Six, N>, share: &Share<N>)
         ensures { IsPrefix share.now.seen self.new.seen }
     {
-        let mut front = share.longer(&self.front);
-        hub.copy_edits(rt, &mut front, self.edits, &mut self.batch);
+        let mut prefix = share.longer(&self.prefix);
+        hub.copy_edits(rt, &mut prefix, self.edits, &mut self.batch);
         give_all(&mut self.scribe, self.batch.as_slice());
         self.edits += self.batch.len();
-        self.front = front;
+        self.prefix = prefix;
     }
 
     // Takes an answer up.
-    fn answer(&mut self, claim: &Claimed)
-        requires { IsTrueClaim self.old.seen claim.now }
+    fn answer(&mut self, reduction: &Claimed)
+        requires { IsTrueAnswer self.old.seen reduction.now }
     {
-        if claim.edit < self.last || self.edits < claim.edit as usize {
+        if reduction.edit < self.last || self.edits < reduction.edit as usize {
             self.missed = true;
             return;
         }
-        self.scribe.answer(claim);
-        self.last = claim.edit;
+        self.scribe.answer(reduction);
+        self.last = reduction.edit;
     }
 
     // Writes all that is held. What was written then is a front.
@@ -147,7 +147,7 @@ impl<N: Means<Six>, W: Write + Drop, K: Begun> Minutes<N, W, K> {
         ensures more { IsPrefix share.old.seen share.new.seen }
         ensures same { share.new ≡ having_seen share.old share.new.seen }
     {
-        share.learn(&self.front);
+        share.learn(&self.prefix);
     }
 
     /// Takes the other edits of a journal up, writes the last line, and gives the writer back. The fault is `WriteFault`, where a

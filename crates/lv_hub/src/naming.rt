@@ -22,11 +22,11 @@ impl Naming for Brand {
 }
 
 /// The same, with the body of the hub's vector.
-pub trait Means<B>: Naming {
+pub trait WithBody<B>: Naming {
     // The body of the hub's vector.
     ghost body: { Option B };
 }
 
-impl<B> Means<B> for Brand {
+impl<B> WithBody<B> for Brand {
     ghost body = { None };
 }

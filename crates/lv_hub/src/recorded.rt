@@ -4,16 +4,16 @@ ghost use mathlib.Core.List.{IsPrefix};
 ghost use Rattle.lv_edits.specs.declared.edit.Edit.{Edit};
 ghost use Rattle.lv_lines.specs.Output.{HasRoom, Puts, PutsFront, SamePlaces};
 ghost use Rattle.lv_lines.specs.Replies.{Conversed};
-ghost use Rattle.lv_transcript.specs.Transcript.{AreInOrder, IsTrueClaim};
+ghost use Rattle.lv_transcript.specs.Transcript.{AreInOrder, IsTrueAnswer};
 ghost use Rattle.lv_hub.specs.PlainSession.{PlainSessionStep, seen_by};
 ghost use Rattle.lv_hub.specs.Replying.{SessionLineAnswer, TellsLine};
 ghost use Rattle.lv_hub.specs.Session.{SessionState, SessionStep, session_at};
 
 use crate::hubs::Hub;
 use crate::minutes::{Begun, Minutes};
-use crate::naming::Means;
-use crate::replying::{Place, answer_line};
-use crate::sessions::{Lent, listed};
+use crate::naming::WithBody;
+use crate::replying::{SessionPlace, answer_line};
+use crate::sessions::{SessionStart, listed};
 use crate::shares::Share;
 use lv_bodies::Six;
 use lv_script::{Claimed, Command, Fault, LINE, Line, Outbox, Responder, converse, read_line};
@@ -28,7 +28,14 @@ use std::sync::{Mutex, Wait};
 ///
 /// The minutes are locked while a line is answered that may be an edit or a reduction, and until that is written: so whoever reads
 /// the reply finds it there.
-pub fn run_recorded_session<N: Means<Six>, T: Wait, R: Read, W: Write, V: Write + Drop, K: Begun>(
+pub fn run_recorded_session<
+    N: WithBody<Six>,
+    T: Wait,
+    R: Read,
+    W: Write,
+    V: Write + Drop,
+    K: Begun,
+>(
     rt: &T,
     alloc: Global,
     hub: &Hub<Six, N>,
@@ -42,7 +49,7 @@ pub fn run_recorded_session<N: Means<Six>, T: Wait, R: Read, W: Write, V: Write 
         (R.remaining reader.old) (R.remaining reader.new) (W.contents writer.old) (W.contents writer.new) result
         × (share.new.count ≡ last.count)
         × (share.new.seen ≡ last.seen)
-        × IfOk result (λ claims. claims.items ≡ last.claims) }
+        × IfOk result (λ answers. answers.items ≡ last.answers) }
     // Line by line the replies are those of the plain interpreter, each at some edits of the hub's.
     ensures plain { Conversed (PlainSessionStep N.limits) (seen_by share.old) (seen_by share.new)
         (R.remaining reader.old) (R.remaining reader.new) (W.contents writer.old) (W.contents writer.new) result }
@@ -50,28 +57,28 @@ pub fn run_recorded_session<N: Means<Six>, T: Wait, R: Read, W: Write, V: Write 
     ensures more { share.old.count ≤ share.new.count }
     ensures seen { IsPrefix share.old.seen share.new.seen }
     // Each reduction is true of the edits that were seen.
-    ensures all_true { IfOk result (λ claims. All (IsTrueClaim share.new.seen) claims.items) }
-    ensures order { IfOk result (λ claims. AreInOrder claims.items) }
+    ensures all_true { IfOk result (λ answers. All (IsTrueAnswer share.new.seen) answers.items) }
+    ensures order { IfOk result (λ answers. AreInOrder answers.items) }
 {
-    let place = Place {
+    let place = SessionPlace {
         rt,
         hub,
         alloc,
-        answers: usize::MAX,
+        most: usize::MAX,
     };
     run_recorded_session_at(place, minutes, share, reader, writer)
 }
 
 /// The same at a place, which says how many reductions are listed at most.
 pub fn run_recorded_session_at<
-    N: Means<Six>,
+    N: WithBody<Six>,
     T: Wait,
     R: Read,
     W: Write,
     V: Write + Drop,
     K: Begun,
 >(
-    place: Place<'_, N, T>,
+    place: SessionPlace<'_, N, T>,
     minutes: &Mutex<Minutes<N, V, K>>,
     share: &mut Share<N>,
     reader: &mut R,
@@ -82,7 +89,7 @@ pub fn run_recorded_session_at<
         (R.remaining reader.old) (R.remaining reader.new) (W.contents writer.old) (W.contents writer.new) result
         × (share.new.count ≡ last.count)
         × (share.new.seen ≡ last.seen)
-        × IfOk result (λ claims. claims.items ≡ last.claims) }
+        × IfOk result (λ answers. answers.items ≡ last.answers) }
     // Line by line the replies are those of the plain interpreter, each at some edits of the hub's.
     ensures plain { Conversed (PlainSessionStep N.limits) (seen_by share.old) (seen_by share.new)
         (R.remaining reader.old) (R.remaining reader.new) (W.contents writer.old) (W.contents writer.new) result }
@@ -90,85 +97,85 @@ pub fn run_recorded_session_at<
     ensures more { share.old.count ≤ share.new.count }
     ensures seen { IsPrefix share.old.seen share.new.seen }
     // Each reduction is true of the edits that were seen.
-    ensures all_true { IfOk result (λ claims. All (IsTrueClaim share.new.seen) claims.items) }
-    ensures order { IfOk result (λ claims. AreInOrder claims.items) }
-    ensures few { IfOk result (λ claims. vec_len claims ≤ place.entry.answers) }
+    ensures all_true { IfOk result (λ answers. All (IsTrueAnswer share.new.seen) answers.items) }
+    ensures order { IfOk result (λ answers. AreInOrder answers.items) }
+    ensures few { IfOk result (λ answers. vec_len answers ≤ place.entry.most) }
 {
     let Share {
         token,
-        front,
+        prefix,
         parts,
         count,
     } = share;
     let none = token.empty();
     let lent = Share {
         token: mem::replace(token, none),
-        front: front.again(),
+        prefix: prefix.again(),
         parts: *parts,
         count: *count,
     };
-    let (back, claims, ended) = hold::<Brand, N, T, R, W, V, K>(
+    let (back, answers, ended) = hold::<Brand, N, T, R, W, V, K>(
         place, minutes, lent, reader, writer,
     );
     *token = back.token;
-    *front = back.front;
+    *prefix = back.prefix;
     *count = back.count;
-    listed(claims, ended)
+    listed(answers, ended)
 }
 
 // Holds a session with a share, and gives the share back with the reductions that were answered.
-fn hold<L: Lent, N: Means<Six>, T: Wait, R: Read, W: Write, V: Write + Drop, K: Begun>(
-    place: Place<'_, N, T>,
+fn hold<L: SessionStart, N: WithBody<Six>, T: Wait, R: Read, W: Write, V: Write + Drop, K: Begun>(
+    place: SessionPlace<'_, N, T>,
     minutes: &Mutex<Minutes<N, V, K>>,
     share: Share<N>,
     reader: &mut R,
     writer: &mut W,
 ) -> (Share<N>, Vec<Claimed>, Result<(), Fault>)
     requires lent { share ≡ L.holding }
-    requires most { place.answers ≡ L.most }
+    requires most { place.most ≡ L.most }
     ensures conversed { Conversed (TellsLine N.limits) (session_at share []) (session_at result.0 result.1.items)
         (R.remaining reader.old) (R.remaining reader.new) (W.contents writer.old) (W.contents writer.new) result.2 }
     ensures parts { result.0.parts ≡ share.parts }
     ensures more { share.count ≤ result.0.count }
-    ensures few { vec_len result.1 ≤ place.entry.answers }
+    ensures few { vec_len result.1 ≤ place.entry.most }
 {
     let alloc = place.alloc;
     let mut session: Recorded<'_, N, T, V, K, L> = Recorded {
         place,
         minutes,
         share,
-        claims: Vec::new(alloc),
+        answers: Vec::new(alloc),
         of: PhantomData,
     };
     let ended = converse(alloc, &mut session, reader, writer);
-    let Recorded { share, claims, .. } = session;
-    (share, claims, ended)
+    let Recorded { share, answers, .. } = session;
+    (share, answers, ended)
 }
 
 // What answers the lines of a session.
 #[derive(Drop)]
-struct Recorded<'a, N: Means<Six>, T: Wait, V: Write + Drop, K: Begun, L: Lent> {
-    place: Place<'a, N, T>,
+struct Recorded<'a, N: WithBody<Six>, T: Wait, V: Write + Drop, K: Begun, L: SessionStart> {
+    place: SessionPlace<'a, N, T>,
     minutes: &'a Mutex<Minutes<N, V, K>>,
     share: Share<N>,
-    claims: Vec<Claimed>,
+    answers: Vec<Claimed>,
     of: PhantomData<L>,
 }
 
-impl<'a, N: Means<Six>, T: Wait, V: Write + Drop, K: Begun, L: Lent> Model
+impl<'a, N: WithBody<Six>, T: Wait, V: Write + Drop, K: Begun, L: SessionStart> Model
     for Recorded<'a, N, T, V, K, L> {
     ghost use Rattle.std.specs.Prelude.{◌≡◌, ◌≤◌, All, vec_len};
-    ghost use Rattle.lv_transcript.specs.Transcript.{IsTrueClaim};
+    ghost use Rattle.lv_transcript.specs.Transcript.{IsTrueAnswer};
     ghost use Rattle.lv_hub.specs.Session.{SessionState, session_at};
 
     ghost Value = { SessionState };
 
-    ghost view = { λ s. session_at s.share s.claims.items };
+    ghost view = { λ s. session_at s.share s.answers.items };
 
-    ghost invariant = { λ s. (s.share.parts ≡ L.holding.parts) × (L.holding.count ≤ s.share.count) × All (IsTrueClaim s.share.seen) s.claims.items × (s.place.answers ≡ L.most) × (vec_len s.claims ≤ L.most) };
+    ghost invariant = { λ s. (s.share.parts ≡ L.holding.parts) × (L.holding.count ≤ s.share.count) × All (IsTrueAnswer s.share.seen) s.answers.items × (s.place.most ≡ L.most) × (vec_len s.answers ≤ L.most) };
 }
 
-impl<'a, N: Means<Six>, T: Wait, V: Write + Drop, K: Begun, L: Lent> Responder
+impl<'a, N: WithBody<Six>, T: Wait, V: Write + Drop, K: Begun, L: SessionStart> Responder
     for Recorded<'a, N, T, V, K, L> {
     ghost State = { SessionState };
 
@@ -189,7 +196,7 @@ impl<'a, N: Means<Six>, T: Wait, V: Write + Drop, K: Begun, L: Lent> Responder
                 &self.place,
                 self.minutes,
                 &mut self.share,
-                &mut self.claims,
+                &mut self.answers,
                 number,
                 line,
                 outbox,
@@ -198,7 +205,7 @@ impl<'a, N: Means<Six>, T: Wait, V: Write + Drop, K: Begun, L: Lent> Responder
         answer_true(
             &self.place,
             &mut self.share,
-            &mut self.claims,
+            &mut self.answers,
             number,
             line,
             outbox,
@@ -212,69 +219,69 @@ fn is_minuted(line: &Line) -> bool {
 }
 
 // Answers a line. All reductions that are listed stay true.
-fn answer_true<N: Means<Six>, T: Wait, W: Write>(
-    place: &Place<'_, N, T>,
+fn answer_true<N: WithBody<Six>, T: Wait, W: Write>(
+    place: &SessionPlace<'_, N, T>,
     share: &mut Share<N>,
-    claims: &mut Vec<Claimed>,
+    answers: &mut Vec<Claimed>,
     number: u32,
     line: Line,
     outbox: &mut Outbox<'_, W>,
 ) -> Result<(), Fault>
     requires room { HasRoom outbox.old.held.now LINE }
-    requires all_true { All (IsTrueClaim share.old.seen) claims.old.items }
+    requires all_true { All (IsTrueAnswer share.old.seen) answers.old.items }
     ensures places { SamePlaces outbox.old outbox.new }
     ensures ok { OnOk result ((reply : List ℕ)
-        × SessionLineAnswer N.limits (session_at share.old claims.old.items) number line reply (session_at share.new claims.new.items)
+        × SessionLineAnswer N.limits (session_at share.old answers.old.items) number line reply (session_at share.new answers.new.items)
         × Puts W.contents outbox.old outbox.new reply) }
     ensures fault { IfErr result (λ fault. (fault ≡ Fault.WriteFault) × (reply : List ℕ)
-        × SessionLineAnswer N.limits (session_at share.old claims.old.items) number line reply (session_at share.new claims.new.items)
+        × SessionLineAnswer N.limits (session_at share.old answers.old.items) number line reply (session_at share.new answers.new.items)
         × PutsFront W.contents outbox.old outbox.new reply) }
     ensures parts { share.new.parts ≡ share.old.parts }
     ensures more { share.old.count ≤ share.new.count }
-    ensures all_true { All (IsTrueClaim share.new.seen) claims.new.items }
-    ensures few { vec_len claims.old ≤ place.now.answers → vec_len claims.new ≤ place.now.answers }
+    ensures all_true { All (IsTrueAnswer share.new.seen) answers.new.items }
+    ensures few { vec_len answers.old ≤ place.now.most → vec_len answers.new ≤ place.now.most }
 {
-    answer_line(place, share, claims, number, line, outbox)
+    answer_line(place, share, answers, number, line, outbox)
 }
 
 // Answers a line while the minutes are locked, and has them take up what came of it.
-fn answer_minuted<N: Means<Six>, T: Wait, W: Write, V: Write + Drop, K: Begun>(
-    place: &Place<'_, N, T>,
+fn answer_minuted<N: WithBody<Six>, T: Wait, W: Write, V: Write + Drop, K: Begun>(
+    place: &SessionPlace<'_, N, T>,
     minutes: &Mutex<Minutes<N, V, K>>,
     share: &mut Share<N>,
-    claims: &mut Vec<Claimed>,
+    answers: &mut Vec<Claimed>,
     number: u32,
     line: Line,
     outbox: &mut Outbox<'_, W>,
 ) -> Result<(), Fault>
     requires room { HasRoom outbox.old.held.now LINE }
-    requires all_true { All (IsTrueClaim share.old.seen) claims.old.items }
+    requires all_true { All (IsTrueAnswer share.old.seen) answers.old.items }
     ensures places { SamePlaces outbox.old outbox.new }
     ensures ok { OnOk result ((reply : List ℕ)
-        × SessionLineAnswer N.limits (session_at share.old claims.old.items) number line reply (session_at share.new claims.new.items)
+        × SessionLineAnswer N.limits (session_at share.old answers.old.items) number line reply (session_at share.new answers.new.items)
         × Puts W.contents outbox.old outbox.new reply) }
     ensures fault { IfErr result (λ fault. (fault ≡ Fault.WriteFault) × (reply : List ℕ)
-        × SessionLineAnswer N.limits (session_at share.old claims.old.items) number line reply (session_at share.new claims.new.items)
+        × SessionLineAnswer N.limits (session_at share.old answers.old.items) number line reply (session_at share.new answers.new.items)
         × PutsFront W.contents outbox.old outbox.new reply) }
     ensures parts { share.new.parts ≡ share.old.parts }
     ensures more { share.old.count ≤ share.new.count }
-    ensures all_true { All (IsTrueClaim share.new.seen) claims.new.items }
-    ensures few { vec_len claims.old ≤ place.now.answers → vec_len claims.new ≤ place.now.answers }
+    ensures all_true { All (IsTrueAnswer share.new.seen) answers.new.items }
+    ensures few { vec_len answers.old ≤ place.now.most → vec_len answers.new ≤ place.now.most }
 {
     let mut minutes = minutes.lock(place.rt);
-    let before = claims.len();
-    let answered = answer_true(place, share, claims, number, line, outbox);
-    minutes.take_up(place.rt, place.hub, share, newest(claims, before));
+    let before = answers.len();
+    let answered = answer_true(place, share, answers, number, line, outbox);
+    minutes.take_up(place.rt, place.hub, share, newest(answers, before));
     answered
 }
 
 // The last of some reductions, where there are more than there were.
-fn newest(claims: &[Claimed], before: usize) -> Option<Claimed>
-    ensures { (edits : List Edit) → All (IsTrueClaim edits) claims.now → IfSome result (IsTrueClaim edits) }
+fn newest(answers: &[Claimed], before: usize) -> Option<Claimed>
+    ensures { (edits : List Edit) → All (IsTrueAnswer edits) answers.now → IfSome result (IsTrueAnswer edits) }
 {
-    let last = claims.len().checked_sub(1)?;
+    let last = answers.len().checked_sub(1)?;
     if last < before {
         return None;
     }
-    Some(claims[last])
+    Some(answers[last])
 }

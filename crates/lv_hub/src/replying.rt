@@ -8,7 +8,7 @@ ghost use Rattle.lv_hub.specs.Replying.{SessionCommandAnswer, SessionLineAnswer,
 ghost use Rattle.lv_hub.specs.Session.{session_at};
 
 use crate::hubs::Hub;
-use crate::naming::Means;
+use crate::naming::WithBody;
 use crate::shares::Share;
 use lv_bodies::{Kind, Six, face};
 use lv_edits::Edit;
@@ -24,18 +24,18 @@ use std::sync::Wait;
 /// Where a session is held: a hub, the handle by which it is waited for, what memory is taken from, and at most how many reductions
 /// are listed. Past that a reduction is refused as where its entry finds no room.
 #[derive(Drop)]
-pub struct Place<'a, N: Means<Six>, T> {
+pub struct SessionPlace<'a, N: WithBody<Six>, T> {
     pub rt: &'a T,
     pub hub: &'a Hub<Six, N>,
     pub alloc: Global,
-    pub answers: usize,
+    pub most: usize,
 }
 
-/// Answers a line of a session, on a hub: its share counts what is accepted, and `claims` lists the reductions.
-pub fn answer_line<N: Means<Six>, T: Wait, W: Write>(
-    place: &Place<'_, N, T>,
+/// Answers a line of a session, on a hub: its share counts what is accepted, and `answers` lists the reductions.
+pub fn answer_line<N: WithBody<Six>, T: Wait, W: Write>(
+    place: &SessionPlace<'_, N, T>,
     share: &mut Share<N>,
-    claims: &mut Vec<Claimed>,
+    answers: &mut Vec<Claimed>,
     number: u32,
     line: Line,
     outbox: &mut Outbox<'_, W>,
@@ -43,20 +43,20 @@ pub fn answer_line<N: Means<Six>, T: Wait, W: Write>(
     requires { HasRoom outbox.old.held.now LINE }
     ensures places { SamePlaces outbox.old outbox.new }
     ensures ok { OnOk result ((reply : List ℕ)
-        × SessionLineAnswer N.limits (session_at share.old claims.old.items) number line reply (session_at share.new claims.new.items)
+        × SessionLineAnswer N.limits (session_at share.old answers.old.items) number line reply (session_at share.new answers.new.items)
         × Puts W.contents outbox.old outbox.new reply) }
     ensures fault { IfErr result (λ fault. (fault ≡ Fault.WriteFault) × (reply : List ℕ)
-        × SessionLineAnswer N.limits (session_at share.old claims.old.items) number line reply (session_at share.new claims.new.items)
+        × SessionLineAnswer N.limits (session_at share.old answers.old.items) number line reply (session_at share.new answers.new.items)
         × PutsFront W.contents outbox.old outbox.new reply) }
     ensures parts { share.new.parts ≡ share.old.parts }
     ensures more { share.old.count ≤ share.new.count }
-    ensures few { vec_len claims.old ≤ place.now.answers → vec_len claims.new ≤ place.now.answers }
+    ensures few { vec_len answers.old ≤ place.now.most → vec_len answers.new ≤ place.now.most }
 {
     match line {
         Line::Nothing => {}
         Line::Bad => put_bad(outbox.held, number),
         Line::Do(command) => {
-            return answer(place, share, claims, number, command, outbox);
+            return answer(place, share, answers, number, command, outbox);
         }
     }
     Ok(())
@@ -64,10 +64,10 @@ pub fn answer_line<N: Means<Six>, T: Wait, W: Write>(
 
 // Answers a command, which is bad unless it is an edit, a reduction or a scan. Only the reply to a scan may be longer than
 // what is held.
-fn answer<N: Means<Six>, T: Wait, W: Write>(
-    place: &Place<'_, N, T>,
+fn answer<N: WithBody<Six>, T: Wait, W: Write>(
+    place: &SessionPlace<'_, N, T>,
     share: &mut Share<N>,
-    claims: &mut Vec<Claimed>,
+    answers: &mut Vec<Claimed>,
     number: u32,
     command: Command,
     outbox: &mut Outbox<'_, W>,
@@ -75,21 +75,21 @@ fn answer<N: Means<Six>, T: Wait, W: Write>(
     requires { HasRoom outbox.old.held.now LINE }
     ensures places { SamePlaces outbox.old outbox.new }
     ensures ok { OnOk result ((reply : List ℕ)
-        × SessionCommandAnswer N.limits (session_at share.old claims.old.items) number command reply (session_at share.new claims.new.items)
+        × SessionCommandAnswer N.limits (session_at share.old answers.old.items) number command reply (session_at share.new answers.new.items)
         × Puts W.contents outbox.old outbox.new reply) }
     ensures fault { IfErr result (λ fault. (fault ≡ Fault.WriteFault) × (reply : List ℕ)
-        × SessionCommandAnswer N.limits (session_at share.old claims.old.items) number command reply (session_at share.new claims.new.items)
+        × SessionCommandAnswer N.limits (session_at share.old answers.old.items) number command reply (session_at share.new answers.new.items)
         × PutsFront W.contents outbox.old outbox.new reply) }
     ensures parts { share.new.parts ≡ share.old.parts }
     ensures more { share.old.count ≤ share.new.count }
-    ensures few { vec_len claims.old ≤ place.now.answers → vec_len claims.new ≤ place.now.answers }
+    ensures few { vec_len answers.old ≤ place.now.most → vec_len answers.new ≤ place.now.most }
 {
     match command {
         Command::Edit(edit) => put_edit(place, share, edit, outbox.held),
         Command::Reduce { kind, lo, hi } => put_reduction(
             place,
             share,
-            claims,
+            answers,
             kind,
             lo,
             hi,
@@ -119,15 +119,15 @@ fn answer<N: Means<Six>, T: Wait, W: Write>(
 }
 
 // Makes an edit, and tells its receipt or its refusal.
-fn put_edit<N: Means<Six>, T: Wait>(
-    place: &Place<'_, N, T>,
+fn put_edit<N: WithBody<Six>, T: Wait>(
+    place: &SessionPlace<'_, N, T>,
     share: &mut Share<N>,
     edit: Edit,
     held: &mut Vec<u8>,
 )
     requires { HasRoom held.old LINE }
     ensures answer { (reply : List ℕ)
-        × ((claims : List Claimed) → TellsEdit N.limits (session_at share.old claims) edit reply (session_at share.new claims))
+        × ((answers : List Claimed) → TellsEdit N.limits (session_at share.old answers) edit reply (session_at share.new answers))
         × (held.new.items ≡ held.old.items ++ reply) }
     ensures parts { share.new.parts ≡ share.old.parts }
     ensures more { share.old.count ≤ share.new.count }
@@ -140,10 +140,10 @@ fn put_edit<N: Means<Six>, T: Wait>(
 }
 
 // Reduces a range, and lists the answer.
-fn put_reduction<N: Means<Six>, T: Wait>(
-    place: &Place<'_, N, T>,
+fn put_reduction<N: WithBody<Six>, T: Wait>(
+    place: &SessionPlace<'_, N, T>,
     share: &mut Share<N>,
-    claims: &mut Vec<Claimed>,
+    answers: &mut Vec<Claimed>,
     kind: Kind,
     lo: u32,
     hi: u32,
@@ -151,23 +151,23 @@ fn put_reduction<N: Means<Six>, T: Wait>(
 )
     requires { HasRoom held.old LINE }
     ensures answer { (reply : List ℕ)
-        × TellsReduction N.limits (session_at share.old claims.old.items) kind lo hi reply (session_at share.new claims.new.items)
+        × TellsReduction N.limits (session_at share.old answers.old.items) kind lo hi reply (session_at share.new answers.new.items)
         × (held.new.items ≡ held.old.items ++ reply) }
     ensures share { share.new ≡ having_seen share.old share.new.seen }
     ensures room { KeepsRoom held.old held.new }
-    ensures few { vec_len claims.old ≤ place.now.answers → vec_len claims.new ≤ place.now.answers }
+    ensures few { vec_len answers.old ≤ place.now.most → vec_len answers.new ≤ place.now.most }
 {
     match place.hub.ask(place.rt, share, lo, hi) {
         Ok(answer) => {
             let value = face(kind, answer.value);
-            let claim = Claimed {
+            let reduction = Claimed {
                 edit: answer.edit,
                 kind,
                 lo,
                 hi,
                 value,
             };
-            match list(claims, place.answers, claim) {
+            match list(answers, place.most, reduction) {
                 Ok(()) => put_answer(held, answer.edit, kind, value),
                 Err(refusal) => put_refusal(held, refusal),
             }
@@ -177,23 +177,23 @@ fn put_reduction<N: Means<Six>, T: Wait>(
 }
 
 // Lists a reduction behind others, where it finds room and fewer than so many are listed.
-fn list(claims: &mut Vec<Claimed>, most: usize, claim: Claimed) -> Result<(), Refusal>
-    ensures listed { OnOk result (claims.new.items ≡ claims.old.items ++ claim ∷ []) }
-    ensures unchanged { IfErr result (λ refusal. (refusal ≡ Refusal.NoMemory) × (claims.new.items ≡ claims.old.items)) }
-    ensures few { vec_len claims.old ≤ most → vec_len claims.new ≤ most }
+fn list(answers: &mut Vec<Claimed>, most: usize, reduction: Claimed) -> Result<(), Refusal>
+    ensures listed { OnOk result (answers.new.items ≡ answers.old.items ++ reduction ∷ []) }
+    ensures unchanged { IfErr result (λ refusal. (refusal ≡ Refusal.NoMemory) × (answers.new.items ≡ answers.old.items)) }
+    ensures few { vec_len answers.old ≤ most → vec_len answers.new ≤ most }
 {
-    if most <= claims.len() {
+    if most <= answers.len() {
         return Err(Refusal::NoMemory);
     }
-    match claims.push(claim) {
+    match answers.push(reduction) {
         Ok(()) => Ok(()),
         Err(_) => Err(Refusal::NoMemory),
     }
 }
 
 // Scans a range, and tells the values.
-fn put_scanned<N: Means<Six>, T: Wait, W: Write>(
-    place: &Place<'_, N, T>,
+fn put_scanned<N: WithBody<Six>, T: Wait, W: Write>(
+    place: &SessionPlace<'_, N, T>,
     share: &mut Share<N>,
     asked: &Asked,
     outbox: &mut Outbox<'_, W>,
@@ -201,10 +201,10 @@ fn put_scanned<N: Means<Six>, T: Wait, W: Write>(
     requires { HasRoom outbox.old.held.now LINE }
     ensures places { SamePlaces outbox.old outbox.new }
     ensures ok { OnOk result ((reply : List ℕ)
-        × ((claims : List Claimed) → TellsScan N.limits (session_at share.old claims) asked.now.inclusive asked.now.kind asked.now.lo asked.now.hi reply (session_at share.new claims))
+        × ((answers : List Claimed) → TellsScan N.limits (session_at share.old answers) asked.now.inclusive asked.now.kind asked.now.lo asked.now.hi reply (session_at share.new answers))
         × Puts W.contents outbox.old outbox.new reply) }
     ensures fault { IfErr result (λ fault. (fault ≡ Fault.WriteFault) × (reply : List ℕ)
-        × ((claims : List Claimed) → TellsScan N.limits (session_at share.old claims) asked.now.inclusive asked.now.kind asked.now.lo asked.now.hi reply (session_at share.new claims))
+        × ((answers : List Claimed) → TellsScan N.limits (session_at share.old answers) asked.now.inclusive asked.now.kind asked.now.lo asked.now.hi reply (session_at share.new answers))
         × PutsFront W.contents outbox.old outbox.new reply) }
     ensures share { share.new ≡ having_seen share.old share.new.seen }
 {

@@ -3,7 +3,7 @@ ghost use Rattle.std.specs.Prelude.{◌≡◌, ◌+◌, ◌≤◌, ◌++◌, ℕ
 ghost use mathlib.Core.List.{IsPrefix};
 ghost use Rattle.lv_lines.specs.Replies.{Conversed};
 ghost use Rattle.lv_transcript.specs.declared.claimed.Claimed.{Claimed};
-ghost use Rattle.lv_transcript.specs.Transcript.{AreInOrder, IsTrueClaim};
+ghost use Rattle.lv_transcript.specs.Transcript.{AreInOrder, IsTrueAnswer};
 ghost use Rattle.std.specs.List.Sorted.{IsPermutation};
 ghost use Rattle.lv_hub.specs.Counting.{ShareState};
 ghost use Rattle.lv_hub.specs.PlainSession.{PlainSessionStep, seen_by};
@@ -11,8 +11,8 @@ ghost use Rattle.lv_hub.specs.Replying.{TellsLine};
 ghost use Rattle.lv_hub.specs.Session.{KeepTies, SessionState, SessionStep, session_at};
 
 use crate::hubs::Hub;
-use crate::naming::Means;
-use crate::replying::{Place, answer_line};
+use crate::naming::WithBody;
+use crate::replying::{SessionPlace, answer_line};
 use crate::shares::Share;
 use lv_bodies::Six;
 use lv_script::{Claimed, Fault, LINE, Outbox, Responder, converse, read_line};
@@ -27,7 +27,7 @@ use std::sync::Wait;
 ///
 /// The share counts the edits that were accepted, and sees the hub's edits up to each answer. Ends with the faults of a script; edits accepted before a fault stay, and
 /// stay counted.
-pub fn run_session<N: Means<Six>, T: Wait, R: Read, W: Write>(
+pub fn run_session<N: WithBody<Six>, T: Wait, R: Read, W: Write>(
     rt: &T,
     alloc: Global,
     hub: &Hub<Six, N>,
@@ -40,7 +40,7 @@ pub fn run_session<N: Means<Six>, T: Wait, R: Read, W: Write>(
         (R.remaining reader.old) (R.remaining reader.new) (W.contents writer.old) (W.contents writer.new) result
         × (share.new.count ≡ last.count)
         × (share.new.seen ≡ last.seen)
-        × IfOk result (λ claims. claims.items ≡ last.claims) }
+        × IfOk result (λ answers. answers.items ≡ last.answers) }
     // Line by line the replies are those of the plain interpreter, each at some edits of the hub's.
     ensures plain { Conversed (PlainSessionStep N.limits) (seen_by share.old) (seen_by share.new)
         (R.remaining reader.old) (R.remaining reader.new) (W.contents writer.old) (W.contents writer.new) result }
@@ -48,21 +48,21 @@ pub fn run_session<N: Means<Six>, T: Wait, R: Read, W: Write>(
     ensures more { share.old.count ≤ share.new.count }
     ensures seen { IsPrefix share.old.seen share.new.seen }
     // Each reduction is true of the edits that were seen.
-    ensures all_true { IfOk result (λ claims. All (IsTrueClaim share.new.seen) claims.items) }
-    ensures order { IfOk result (λ claims. AreInOrder claims.items) }
+    ensures all_true { IfOk result (λ answers. All (IsTrueAnswer share.new.seen) answers.items) }
+    ensures order { IfOk result (λ answers. AreInOrder answers.items) }
 {
-    let place = Place {
+    let place = SessionPlace {
         rt,
         hub,
         alloc,
-        answers: usize::MAX,
+        most: usize::MAX,
     };
     run_session_at(place, share, reader, writer)
 }
 
 /// The same at a place, which says how many reductions are listed at most.
-pub fn run_session_at<N: Means<Six>, T: Wait, R: Read, W: Write>(
-    place: Place<'_, N, T>,
+pub fn run_session_at<N: WithBody<Six>, T: Wait, R: Read, W: Write>(
+    place: SessionPlace<'_, N, T>,
     share: &mut Share<N>,
     reader: &mut R,
     writer: &mut W,
@@ -72,7 +72,7 @@ pub fn run_session_at<N: Means<Six>, T: Wait, R: Read, W: Write>(
         (R.remaining reader.old) (R.remaining reader.new) (W.contents writer.old) (W.contents writer.new) result
         × (share.new.count ≡ last.count)
         × (share.new.seen ≡ last.seen)
-        × IfOk result (λ claims. claims.items ≡ last.claims) }
+        × IfOk result (λ answers. answers.items ≡ last.answers) }
     // Line by line the replies are those of the plain interpreter, each at some edits of the hub's.
     ensures plain { Conversed (PlainSessionStep N.limits) (seen_by share.old) (seen_by share.new)
         (R.remaining reader.old) (R.remaining reader.new) (W.contents writer.old) (W.contents writer.new) result }
@@ -80,99 +80,99 @@ pub fn run_session_at<N: Means<Six>, T: Wait, R: Read, W: Write>(
     ensures more { share.old.count ≤ share.new.count }
     ensures seen { IsPrefix share.old.seen share.new.seen }
     // Each reduction is true of the edits that were seen.
-    ensures all_true { IfOk result (λ claims. All (IsTrueClaim share.new.seen) claims.items) }
-    ensures order { IfOk result (λ claims. AreInOrder claims.items) }
-    ensures few { IfOk result (λ claims. vec_len claims ≤ place.entry.answers) }
+    ensures all_true { IfOk result (λ answers. All (IsTrueAnswer share.new.seen) answers.items) }
+    ensures order { IfOk result (λ answers. AreInOrder answers.items) }
+    ensures few { IfOk result (λ answers. vec_len answers ≤ place.entry.most) }
 {
     let Share {
         token,
-        front,
+        prefix,
         parts,
         count,
     } = share;
     let none = token.empty();
     let lent = Share {
         token: mem::replace(token, none),
-        front: front.again(),
+        prefix: prefix.again(),
         parts: *parts,
         count: *count,
     };
-    let (back, claims, ended) = hold::<Brand, N, T, R, W>(place, lent, reader, writer);
+    let (back, answers, ended) = hold::<Brand, N, T, R, W>(place, lent, reader, writer);
     *token = back.token;
-    *front = back.front;
+    *prefix = back.prefix;
     *count = back.count;
-    listed(claims, ended)
+    listed(answers, ended)
 }
 
 // The reductions that were answered, where the session came to its end.
-pub(crate) fn listed(claims: Vec<Claimed>, ended: Result<(), Fault>) -> Result<Vec<Claimed>, Fault>
-    ensures { MatchResult ended (λ _. result ≡ Ok claims) (λ fault. result ≡ Err fault) }
+pub(crate) fn listed(answers: Vec<Claimed>, ended: Result<(), Fault>) -> Result<Vec<Claimed>, Fault>
+    ensures { MatchResult ended (λ _. result ≡ Ok answers) (λ fault. result ≡ Err fault) }
 {
     ended?;
-    Ok(claims)
+    Ok(answers)
 }
 
 /// What a share holds when it is lent to a session, and at most how many reductions that lists.
-pub trait Lent {
+pub trait SessionStart {
     ghost holding: { ShareState };
 
     ghost most: { ℕ };
 }
 
-impl Lent for Brand {
+impl SessionStart for Brand {
     ghost holding = { record { parts = 0; count = 0; seen = [] } };
 
     ghost most = { 0 };
 }
 
 // Holds a session with a share, and gives the share back with the reductions that were answered.
-fn hold<K: Lent, N: Means<Six>, T: Wait, R: Read, W: Write>(
-    place: Place<'_, N, T>,
+fn hold<K: SessionStart, N: WithBody<Six>, T: Wait, R: Read, W: Write>(
+    place: SessionPlace<'_, N, T>,
     share: Share<N>,
     reader: &mut R,
     writer: &mut W,
 ) -> (Share<N>, Vec<Claimed>, Result<(), Fault>)
     requires lent { share ≡ K.holding }
-    requires most { place.answers ≡ K.most }
+    requires most { place.most ≡ K.most }
     ensures conversed { Conversed (TellsLine N.limits) (session_at share []) (session_at result.0 result.1.items)
         (R.remaining reader.old) (R.remaining reader.new) (W.contents writer.old) (W.contents writer.new) result.2 }
     ensures parts { result.0.parts ≡ share.parts }
     ensures more { share.count ≤ result.0.count }
-    ensures few { vec_len result.1 ≤ place.entry.answers }
+    ensures few { vec_len result.1 ≤ place.entry.most }
 {
     let alloc = place.alloc;
     let mut session: Session<'_, N, T, K> = Session {
         place,
         share,
-        claims: Vec::new(alloc),
+        answers: Vec::new(alloc),
         of: PhantomData,
     };
     let ended = converse(alloc, &mut session, reader, writer);
-    let Session { share, claims, .. } = session;
-    (share, claims, ended)
+    let Session { share, answers, .. } = session;
+    (share, answers, ended)
 }
 
 // What answers the lines of a session.
 #[derive(Drop)]
-struct Session<'a, N: Means<Six>, T: Wait, K: Lent> {
-    place: Place<'a, N, T>,
+struct Session<'a, N: WithBody<Six>, T: Wait, K: SessionStart> {
+    place: SessionPlace<'a, N, T>,
     share: Share<N>,
-    claims: Vec<Claimed>,
+    answers: Vec<Claimed>,
     of: PhantomData<K>,
 }
 
-impl<'a, N: Means<Six>, T: Wait, K: Lent> Model for Session<'a, N, T, K> {
+impl<'a, N: WithBody<Six>, T: Wait, K: SessionStart> Model for Session<'a, N, T, K> {
     ghost use Rattle.std.specs.Prelude.{◌≡◌, ◌≤◌, vec_len};
     ghost use Rattle.lv_hub.specs.Session.{SessionState, session_at};
 
     ghost Value = { SessionState };
 
-    ghost view = { λ s. session_at s.share s.claims.items };
+    ghost view = { λ s. session_at s.share s.answers.items };
 
-    ghost invariant = { λ s. (s.share.parts ≡ K.holding.parts) × (K.holding.count ≤ s.share.count) × (s.place.answers ≡ K.most) × (vec_len s.claims ≤ K.most) };
+    ghost invariant = { λ s. (s.share.parts ≡ K.holding.parts) × (K.holding.count ≤ s.share.count) × (s.place.most ≡ K.most) × (vec_len s.answers ≤ K.most) };
 }
 
-impl<'a, N: Means<Six>, T: Wait, K: Lent> Responder for Session<'a, N, T, K> {
+impl<'a, N: WithBody<Six>, T: Wait, K: SessionStart> Responder for Session<'a, N, T, K> {
     ghost State = { SessionState };
 
     ghost state = { λ s. s };
@@ -189,7 +189,7 @@ impl<'a, N: Means<Six>, T: Wait, K: Lent> Responder for Session<'a, N, T, K> {
         answer_line(
             &self.place,
             &mut self.share,
-            &mut self.claims,
+            &mut self.answers,
             number,
             read_line(line),
             outbox,
@@ -199,11 +199,11 @@ impl<'a, N: Means<Six>, T: Wait, K: Lent> Responder for Session<'a, N, T, K> {
 
 /// Puts the reductions of several sessions in the order of their edits, for a transcript; those at one edit stay in theirs.
 /// Where there is no memory to sort them in, none has moved.
-pub fn in_order(claims: &mut Vec<Claimed>) -> Result<(), AllocError>
-    ensures order { OnOk result (AreInOrder claims.new.items) }
-    ensures same { IsPermutation claims.old.items claims.new.items }
-    ensures stable { KeepTies claims.old.items claims.new.items }
-    ensures unmoved { OnErr result (claims.new.items ≡ claims.old.items) }
+pub fn in_order(answers: &mut Vec<Claimed>) -> Result<(), AllocError>
+    ensures order { OnOk result (AreInOrder answers.new.items) }
+    ensures same { IsPermutation answers.old.items answers.new.items }
+    ensures stable { KeepTies answers.old.items answers.new.items }
+    ensures unmoved { OnErr result (answers.new.items ≡ answers.old.items) }
 {
-    claims.sort_by_key(|claim: &Claimed| claim.edit)
+    answers.sort_by_key(|reduction: &Claimed| reduction.edit)
 }

@@ -3,7 +3,7 @@ ghost use Rattle.std.specs.Prelude.{◌≡◌, ◌+◌, ◌%◌, ◌^◌, ◌<�
 ghost use mathlib.Core.List.{IsPrefix};
 ghost use Rattle.lv_hub.specs.Counting.{AreTogether, ShareState, having_seen};
 
-use crate::histories::{Front, Head};
+use crate::histories::{Head, HistoryPrefix};
 use crate::naming::Naming;
 use std::marker::Model;
 use std::sync::ledger::{Book, Share as Token};
@@ -13,7 +13,7 @@ use std::sync::ledger::{Book, Share as Token};
 #[derive(Drop)]
 pub struct Share<N: Naming> {
     pub(crate) token: Token<N>,
-    pub(crate) front: Front<N>,
+    pub(crate) prefix: HistoryPrefix<N>,
     pub(crate) parts: u64,
     pub(crate) count: u64,
 }
@@ -21,22 +21,22 @@ pub struct Share<N: Naming> {
 impl<N: Naming> Model for Share<N> {
     ghost Value = { ShareState };
 
-    ghost view = { λ s. record { parts = s.token.parts; count = s.token.amount; seen = s.front } };
+    ghost view = { λ s. record { parts = s.token.parts; count = s.token.amount; seen = s.prefix } };
 
     ghost invariant = { λ s. (0 < s.token.parts) × (s.parts ≡ s.token.parts % 2 ^ 64) × (s.count ≡ s.token.amount % 2 ^ 64) };
 }
 
 impl<N: Naming> Share<N> {
     // The share of all parts, as the ledger opens, with what it has seen.
-    pub(crate) fn whole(token: Token<N>, front: Front<N>, parts: u64) -> Share<N>
+    pub(crate) fn whole(token: Token<N>, prefix: HistoryPrefix<N>, parts: u64) -> Share<N>
         requires some { 0 < parts }
         requires parts { token.parts ≡ parts }
         requires count { token.amount ≡ 0 }
-        ensures { result ≡ record { parts = parts; count = 0; seen = front } }
+        ensures { result ≡ record { parts = parts; count = 0; seen = prefix } }
     {
         Share {
             token,
-            front,
+            prefix,
             parts,
             count: 0,
         }
@@ -66,7 +66,7 @@ impl<N: Naming> Share<N> {
         self.parts = self.parts.wrapping_sub(1);
         Share {
             token,
-            front: self.front.again(),
+            prefix: self.prefix.again(),
             parts: 1,
             count: 0,
         }
@@ -78,47 +78,47 @@ impl<N: Naming> Share<N> {
     {
         let Share {
             token,
-            front,
+            prefix,
             parts,
             count,
         } = other;
-        let front = self.front.longer(&front);
-        self.front = front;
+        let prefix = self.prefix.longer(&prefix);
+        self.prefix = prefix;
         self.token.merge(token);
         self.parts = self.parts.wrapping_add(parts);
         self.count = self.count.wrapping_add(count);
     }
 
-    /// Sees what a front of the same hub has seen.
-    pub fn learn(&mut self, front: &Front<N>)
+    /// Sees what a prefix of the same hub has seen.
+    pub fn learn(&mut self, prefix: &HistoryPrefix<N>)
         ensures this { IsPrefix self.old.seen self.new.seen }
-        ensures that { IsPrefix front.now self.new.seen }
+        ensures that { IsPrefix prefix.now self.new.seen }
         ensures same { self.new ≡ having_seen self.old self.new.seen }
     {
-        let longer = self.front.longer(front);
-        self.front = longer;
+        let longer = self.prefix.longer(prefix);
+        self.prefix = longer;
     }
 
-    // The longer of a front and of what it has seen, which both begin.
-    pub(crate) fn longer(&self, front: &Front<N>) -> Front<N>
+    // The longer of a prefix and of what it has seen, which both begin.
+    pub(crate) fn longer(&self, prefix: &HistoryPrefix<N>) -> HistoryPrefix<N>
         ensures this { IsPrefix self.now.seen result }
-        ensures that { IsPrefix front.now result }
+        ensures that { IsPrefix prefix.now result }
     {
-        self.front.longer(front)
+        self.prefix.longer(prefix)
     }
 
-    // What it has seen, as a front.
-    pub(crate) fn front(&self) -> Front<N>
+    // What it has seen, as a prefix.
+    pub(crate) fn prefix(&self) -> HistoryPrefix<N>
         ensures { result ≡ self.now.seen }
     {
-        self.front.again()
+        self.prefix.again()
     }
 
     // How many edits it has seen.
     pub(crate) fn seen(&self) -> u64
         ensures { result ≡ length self.now.seen }
     {
-        self.front.count()
+        self.prefix.count()
     }
 
     // Sees all edits.
@@ -127,8 +127,8 @@ impl<N: Naming> Share<N> {
         ensures seen { self.new ≡ having_seen self.old head.old }
         ensures same { head.new ≡ head.old }
     {
-        let front = head.grown(&self.front);
-        self.front = front;
+        let prefix = head.grown(&self.prefix);
+        self.prefix = prefix;
     }
 
     // Counts one edit more, in the book too.

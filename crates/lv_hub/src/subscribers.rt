@@ -5,7 +5,7 @@ ghost use Rattle.lv_hub.specs.Notes.{IsToldIf, answer_to, question_refusal};
 
 use crate::ended::Ended;
 use crate::hubs::Hub;
-use crate::naming::Means;
+use crate::naming::WithBody;
 use crate::noting::{make_room, note_all};
 use crate::questions::Question;
 use crate::shares::Share;
@@ -28,17 +28,17 @@ const PAUSE_MICROSECONDS: u64 = 1000;
 ///
 /// It may miss edits, never goes back, and tells all it says at one edit. Whoever drops it drops its share.
 #[derive(Drop)]
-pub struct Subscriber<N: Means<Six>> {
+pub struct Subscriber<N: WithBody<Six>> {
     share: Share<N>,
     questions: Vec<Question>,
     told: Vec<Shown>,
-    // Room for answers, and for the last notes.
+    // LockedState for answers, and for the last notes.
     values: Vec<Shown>,
     notes: Vec<Note>,
     pause: Duration,
 }
 
-impl<N: Means<Six>> Model for Subscriber<N> {
+impl<N: WithBody<Six>> Model for Subscriber<N> {
     ghost use Rattle.std.specs.Prelude.{◌≡◌, ◌≤◌, length, vec_capacity};
     ghost use Rattle.lv_hub.specs.Notes.{SubscriberState};
 
@@ -49,7 +49,7 @@ impl<N: Means<Six>> Model for Subscriber<N> {
     ghost invariant = { λ s. (length s.told.items ≡ length s.questions.items) × (length s.questions.items ≤ vec_capacity s.told) × (length s.questions.items ≤ vec_capacity s.values) × (length s.questions.items ≤ vec_capacity s.notes) };
 }
 
-impl<N: Means<Six>> Subscriber<N> {
+impl<N: WithBody<Six>> Subscriber<N> {
     /// A subscriber without questions, with a share of its own. Takes no memory.
     pub fn new(alloc: Global, share: Share<N>) -> Subscriber<N>
         ensures { result ≡ record { share = share; questions = []; told = [] } }

@@ -3,7 +3,7 @@ ghost use Rattle.std.specs.Prelude.{◌≡◌, ◌+◌, ◌^◌, ◌<◌, ◌≤
 
 use crate::gates::Gate;
 use crate::hubs::Hub;
-use crate::naming::Means;
+use crate::naming::WithBody;
 use crate::worked::Worked;
 use lv_bodies::Body;
 use lv_refresh::Job;
@@ -11,9 +11,9 @@ use std::sync::Wait;
 use std::thread;
 
 impl Worked {
-    // Passes the gate with a job that was claimed, computes it and gives the outcome, with no lock held between.
+    // Passes the gate with a job that was claimed, computes it and delivers the outcome, with no lock held between.
     #[inline(always)]
-    pub(crate) fn finish<B: Body, N: Means<B>, G: Gate, R: Wait>(
+    pub(crate) fn finish<B: Body, N: WithBody<B>, G: Gate, R: Wait>(
         &mut self,
         rt: &R,
         hub: &Hub<B, N>,
@@ -34,8 +34,8 @@ impl Worked {
 }
 
 /// Refreshes a hub for a number of turns. In each turn it claims a job and, where there is one, passes the gate, computes it
-/// and gives the outcome, with no lock held between; where there is none it lets other threads run.
-pub fn work<B: Body, N: Means<B>, G: Gate, R: Wait>(
+/// and delivers the outcome, with no lock held between; where there is none it lets other threads run.
+pub fn work<B: Body, N: WithBody<B>, G: Gate, R: Wait>(
     rt: &R,
     hub: &Hub<B, N>,
     gate: &G,

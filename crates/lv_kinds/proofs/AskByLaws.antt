@@ -16,12 +16,12 @@ use Rattle.lv_reduce.proofs.AskLaws.{any_node, node_elements, node_whole, none_g
 use Rattle.lv_reduce.proofs.NodeLaws.{cell_fits, first_of_aligned}
 use Rattle.lv_reduce.proofs.PieceLaws.{slice-joined, slice-nothing, slice-within, slices_can_join}
 use Rattle.lv_reduce.proofs.UsedLaws.{top_parts, used_parts}
-use Rattle.lv_reduce.proofs.Walk.{IsWalk, no_top_here, top_in_node, walk_cell, walk_node, walk_starts}
+use Rattle.lv_reduce.proofs.WalkLaws.{IsWalk, no_top_here, top_in_node, walk_cell, walk_node, walk_starts}
 use Rattle.lv_kinds.specs.Asked.{CanAskBy, KnowsBy, LearnsBy}
 use Rattle.lv_kinds.specs.Kinds.{is_flagged}
 use Rattle.lv_kinds.specs.NodeRows.{NodeRowsState}
 use Rattle.lv_kinds.specs.Runs.{EndsBy, GoesOnBy, IsInside, IsRun, IsSomeFold, KnowsRun, StandsBy}
-use Rattle.lv_kinds.specs.declared.walks.Walk.{Walk}
+use Rattle.lv_kinds.specs.declared.walks.KindWalk.{KindWalk}
 use Rattle.lv_kinds.proofs.KnowByLaws.{learns_along, learns_nothing}
 
 -- the node of a level that fits, inside a vector, is whole
@@ -90,7 +90,7 @@ passes_run bit lo hi level first flags (suc count) low high passes fits greatest
 
 module _ {S : Type 0} (o : Operations S) (edits : List Edit) (bit : ℕ) where
   -- what a walk has passed
-  pub stands_passes : (w : Walk S) (flags : NodeRowsState ℕ) (rows : NodeRowsState S) → StandsBy o edits bit w flags rows → Passes bit w.lo w.hi w.at flags
+  pub stands_passes : (w : KindWalk S) (flags : NodeRowsState ℕ) (rows : NodeRowsState S) → StandsBy o edits bit w flags rows → Passes bit w.lo w.hi w.at flags
   stands_passes w flags rows stands = record { cells = stands.walk_cells; summaries = stands.walk_summaries; walk = stands.walk; known = stands.known }
 
   -- it begins at the start of the range
@@ -120,11 +120,11 @@ module _ {S : Type 0} (o : Operations S) (edits : List Edit) (bit : ℕ) where
       record { cells = passes.cells; summaries = passes.summaries; walk = passes.walk; known = λ l i low high before top. learns.kept (over l i) (passes.known l i low high before top) }
 
   -- a walk that goes nowhere
-  pub goes_on_here : (w : Walk S) (flags : NodeRowsState ℕ) (rows : NodeRowsState S) → StandsBy o edits bit w flags rows → GoesOnBy o edits bit w w flags flags rows rows
+  pub goes_on_here : (w : KindWalk S) (flags : NodeRowsState ℕ) (rows : NodeRowsState S) → StandsBy o edits bit w flags rows → GoesOnBy o edits bit w w flags flags rows rows
   goes_on_here w flags rows stands = record { lo = refl; hi = refl; stands = stands; learns = learns_nothing bit flags rows }
 
   -- one that goes on twice
-  pub goes_on_along : (w mid next : Walk S) (old flags new : NodeRowsState ℕ) (old_rows rows new_rows : NodeRowsState S) → GoesOnBy o edits bit w mid old flags old_rows rows → GoesOnBy o edits bit mid next flags new rows new_rows → GoesOnBy o edits bit w next old new old_rows new_rows
+  pub goes_on_along : (w mid next : KindWalk S) (old flags new : NodeRowsState ℕ) (old_rows rows new_rows : NodeRowsState S) → GoesOnBy o edits bit w mid old flags old_rows rows → GoesOnBy o edits bit mid next flags new rows new_rows → GoesOnBy o edits bit w next old new old_rows new_rows
   goes_on_along w mid next old flags new old_rows rows new_rows first then =
       record { lo = then.lo ∙ first.lo; hi = then.hi ∙ first.hi; stands = then.stands; learns = learns_along bit old flags new old_rows rows new_rows first.learns then.learns }
 
@@ -137,18 +137,18 @@ module _ {S : Type 0} (o : Operations S) (edits : List Edit) (bit : ℕ) where
       omega (arith, last.ends, one)
 
   -- so it lies inside the vector
-  pub run_is_inside : (w : Walk S) (flags : NodeRowsState ℕ) (rows : NodeRowsState S) (level end : ℕ) → StandsBy o edits bit w flags rows → IsRun w.at w.hi level end → 1 ≤ level → level ≤ 6 → w.at / 8 ^ level < end → IsInside edits (over level w.at) end
+  pub run_is_inside : (w : KindWalk S) (flags : NodeRowsState ℕ) (rows : NodeRowsState S) (level end : ℕ) → StandsBy o edits bit w flags rows → IsRun w.at w.hi level end → 1 ≤ level → level ≤ 6 → w.at / 8 ^ level < end → IsInside edits (over level w.at) end
   run_is_inside w flags rows level end stands run low high some =
       record { low = low; high = high; some = some; inside = omega (arith, run_ends w.at w.hi level end run some, stands.inside) }
 
   -- where the walk stands there is a fold
-  pub some_fold : (w : Walk S) (flags : NodeRowsState ℕ) (rows : NodeRowsState S) (level end : ℕ) → StandsBy o edits bit w flags rows → IsRun w.at w.hi level end → w.at / 8 ^ level < end → IsSomeFold o edits w.value (first_index (over level w.at))
+  pub some_fold : (w : KindWalk S) (flags : NodeRowsState ℕ) (rows : NodeRowsState S) (level end : ℕ) → StandsBy o edits bit w flags rows → IsRun w.at w.hi level end → w.at / 8 ^ level < end → IsSomeFold o edits w.value (first_index (over level w.at))
   some_fold w flags rows level end stands run some =
       let here = run.begins some in
       (w.lo, omega (arith, here, stands.walk.low), stands.fold ∙ ap (λ at. fold_of o (slice_range (list_of edits) w.lo at)) (sym here))
 
   -- and it goes on over the run
-  pub goes_on_run : (w : Walk S) (old new : NodeRowsState ℕ) (old_rows new_rows : NodeRowsState S) (level end : ℕ) (r : S) → StandsBy o edits bit w old old_rows → IsRun w.at w.hi level end → 1 ≤ level → level ≤ 6 → w.at / 8 ^ level < end
+  pub goes_on_run : (w : KindWalk S) (old new : NodeRowsState ℕ) (old_rows new_rows : NodeRowsState S) (level end : ℕ) (r : S) → StandsBy o edits bit w old old_rows → IsRun w.at w.hi level end → 1 ≤ level → level ≤ 6 → w.at / 8 ^ level < end
       → KnowsRun o edits bit (over level w.at) end w.value r old new old_rows new_rows
       → GoesOnBy o edits bit w (record { lo = w.lo; hi = w.hi; at = end * 8 ^ level; value = r }) old new old_rows new_rows
   goes_on_run w old new old_rows new_rows level end r stands run low high some knows =
@@ -176,7 +176,7 @@ module _ {S : Type 0} (o : Operations S) (edits : List Edit) (bit : ℕ) where
       passes.known l i low high (omega (arith, used.high, first_of_aligned l i parts.aligned, some_width l)) top
 
   -- so it has ended
-  pub ends_here : (w : Walk S) (at : ℕ) (s : S) (old new : NodeRowsState ℕ) (old_rows new_rows : NodeRowsState S) → CanAskBy o edits bit new new_rows → LearnsBy bit old new old_rows new_rows → s ≡ fold_of o (slice_range (list_of edits) w.lo at) → Passes bit w.lo w.hi at new → w.hi ≤ at → EndsBy o edits bit w s old new old_rows new_rows
+  pub ends_here : (w : KindWalk S) (at : ℕ) (s : S) (old new : NodeRowsState ℕ) (old_rows new_rows : NodeRowsState S) → CanAskBy o edits bit new new_rows → LearnsBy bit old new old_rows new_rows → s ≡ fold_of o (slice_range (list_of edits) w.lo at) → Passes bit w.lo w.hi at new → w.hi ≤ at → EndsBy o edits bit w s old new old_rows new_rows
   ends_here w at s old new old_rows new_rows can learns fold passes end =
       let all : at ≡ w.hi = omega (arith, passes.walk.high) in
       record { can = can; learns = learns; fold = fold ∙ ap (λ at. fold_of o (slice_range (list_of edits) w.lo at)) all; known = passes_all w.lo w.hi at new passes end }
@@ -213,7 +213,7 @@ pub record TakesRest {S : Type 0} (o : Operations S) (edits : List Edit) (bit lo
   pub passes : Passes bit lo hi at new
 
 -- a walk that goes on, and then to the end, comes to the end
-pub ends_along : {S : Type 0} (o : Operations S) (edits : List Edit) (bit : ℕ) (w next : Walk S) (s : S) (old mid new : NodeRowsState ℕ) (old_rows mid_rows new_rows : NodeRowsState S) → GoesOnBy o edits bit w next old mid old_rows mid_rows → EndsBy o edits bit next s mid new mid_rows new_rows → EndsBy o edits bit w s old new old_rows new_rows
+pub ends_along : {S : Type 0} (o : Operations S) (edits : List Edit) (bit : ℕ) (w next : KindWalk S) (s : S) (old mid new : NodeRowsState ℕ) (old_rows mid_rows new_rows : NodeRowsState S) → GoesOnBy o edits bit w next old mid old_rows mid_rows → EndsBy o edits bit next s mid new mid_rows new_rows → EndsBy o edits bit w s old new old_rows new_rows
 ends_along o edits bit w next s old mid new old_rows mid_rows new_rows first then =
     record {
       can = then.can;

@@ -9,14 +9,14 @@ use Rattle.lv_edits.specs.History.{list_of}
 use Rattle.lv_reduce.specs.Asked.{AreTopsKnown}
 use Rattle.lv_reduce.specs.Cost.{is_top}
 use Rattle.lv_reduce.specs.Pieces.{Fits}
-use Rattle.lv_reduce.proofs.Walk.{IsWalk}
+use Rattle.lv_reduce.proofs.WalkLaws.{IsWalk}
 use Rattle.lv_kinds.specs.Asked.{CanAskBy, LearnsBy}
 use Rattle.lv_kinds.specs.Kinds.{is_flagged}
 use Rattle.lv_kinds.specs.NodeRows.{NodeRowsState}
-use Rattle.lv_kinds.specs.declared.walks.Walk.{Walk}
+use Rattle.lv_kinds.specs.declared.walks.KindWalk.{KindWalk}
 
 -- where a walk stands: the value is the fold of what is before, and the greatest nodes before are kept
-pub record StandsBy {S : Type 0} (o : Operations S) (edits : List Edit) (bit : ℕ) (w : Walk S) (flags : NodeRowsState ℕ) (rows : NodeRowsState S) : Type 0 where
+pub record StandsBy {S : Type 0} (o : Operations S) (edits : List Edit) (bit : ℕ) (w : KindWalk S) (flags : NodeRowsState ℕ) (rows : NodeRowsState S) : Type 0 where
   pub can : CanAskBy o edits bit flags rows
   pub inside : w.hi ≤ length (list_of edits)
   pub few : w.hi ≤ 2 ^ 20
@@ -27,14 +27,14 @@ pub record StandsBy {S : Type 0} (o : Operations S) (edits : List Edit) (bit : �
   pub known : (l i : ℕ) → 1 ≤ l → l ≤ 6 → i < w.at → is_top (λ n. true) w.lo w.hi l i ≡ true → is_flagged flags bit (over l i) ≡ true
 
 -- a walk goes on over its range, and keeps what it computes
-pub record GoesOnBy {S : Type 0} (o : Operations S) (edits : List Edit) (bit : ℕ) (w next : Walk S) (old new : NodeRowsState ℕ) (old_rows new_rows : NodeRowsState S) : Type 0 where
+pub record GoesOnBy {S : Type 0} (o : Operations S) (edits : List Edit) (bit : ℕ) (w next : KindWalk S) (old new : NodeRowsState ℕ) (old_rows new_rows : NodeRowsState S) : Type 0 where
   pub lo : next.lo ≡ w.lo
   pub hi : next.hi ≡ w.hi
   pub stands : StandsBy o edits bit next new new_rows
   pub learns : LearnsBy bit old new old_rows new_rows
 
 -- it comes to the end of its range: what it has then is the fold of the range, whose greatest nodes are kept
-pub record EndsBy {S : Type 0} (o : Operations S) (edits : List Edit) (bit : ℕ) (w : Walk S) (s : S) (old new : NodeRowsState ℕ) (old_rows new_rows : NodeRowsState S) : Type 0 where
+pub record EndsBy {S : Type 0} (o : Operations S) (edits : List Edit) (bit : ℕ) (w : KindWalk S) (s : S) (old new : NodeRowsState ℕ) (old_rows new_rows : NodeRowsState S) : Type 0 where
   pub can : CanAskBy o edits bit new new_rows
   pub learns : LearnsBy bit old new old_rows new_rows
   pub fold : s ≡ fold_of o (slice_range (list_of edits) w.lo w.hi)

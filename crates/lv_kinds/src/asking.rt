@@ -15,7 +15,7 @@ ghost use Rattle.lv_kinds.specs.Runs.{EndsBy, StandsBy};
 use crate::node_rows::{NodeRows, value_of};
 use crate::of_six::OfSix;
 use crate::runs::take_runs;
-use crate::walks::Walk;
+use crate::walks::KindWalk;
 use lv_bodies::{SixSummary, fold_more, fold_slice};
 use lv_geometry::{Node, Refusal, width};
 use lv_reduce::{View, greatest_level, join, refusal_of};
@@ -45,7 +45,7 @@ pub fn ask_by<K: OfSix>(
         return Err(refusal);
     }
     let value = body.identity();
-    let begun = Walk {
+    let begun = KindWalk {
         lo,
         hi,
         at: lo,
@@ -63,7 +63,7 @@ fn finish<K: OfSix>(
     body: &K,
     flags: &mut NodeRows<u8>,
     rows: &mut NodeRows<K::S>,
-    walk: Walk<K::S>,
+    walk: KindWalk<K::S>,
 ) -> K::S
     requires parts { ArePartsFolds (K.operations (K.meaning body.now)) K.part_in view.cells.now.journal view.table.now }
     requires stands { StandsBy (K.operations (K.meaning body.now)) view.cells.now.journal K.bit walk flags.old rows.old }
@@ -82,7 +82,7 @@ fn take_rest<K: OfSix>(
     body: &K,
     flags: &mut NodeRows<u8>,
     rows: &mut NodeRows<K::S>,
-    walk: Walk<K::S>,
+    walk: KindWalk<K::S>,
 ) -> K::S
     requires parts { ArePartsFolds (K.operations (K.meaning body.now)) K.part_in view.cells.now.journal view.table.now }
     requires stands { StandsBy (K.operations (K.meaning body.now)) view.cells.now.journal K.bit walk flags.old rows.old }

@@ -6,7 +6,7 @@ ghost use Rattle.lv_kinds.specs.Runs.{GoesOnBy, IsRun, StandsBy};
 use crate::joining::join_run;
 use crate::node_rows::NodeRows;
 use crate::of_six::OfSix;
-use crate::walks::Walk;
+use crate::walks::KindWalk;
 use lv_bodies::{SixSummary, fold_more};
 use lv_geometry::{Node, width};
 use lv_reduce::View;
@@ -18,8 +18,8 @@ pub fn take_runs<K: OfSix>(
     body: &K,
     flags: &mut NodeRows<u8>,
     rows: &mut NodeRows<K::S>,
-    walk: Walk<K::S>,
-) -> Walk<K::S>
+    walk: KindWalk<K::S>,
+) -> KindWalk<K::S>
     requires parts { ArePartsFolds (K.operations (K.meaning body.now)) K.part_in view.cells.now.journal view.table.now }
     requires stands { StandsBy (K.operations (K.meaning body.now)) view.cells.now.journal K.bit walk flags.old rows.old }
     ensures { GoesOnBy (K.operations (K.meaning body.now)) view.entry.cells.now.journal K.bit walk result flags.old flags.new rows.old rows.new }
@@ -38,8 +38,8 @@ fn rise<K: OfSix>(
     body: &K,
     flags: &mut NodeRows<u8>,
     rows: &mut NodeRows<K::S>,
-    walk: Walk<K::S>,
-) -> Walk<K::S>
+    walk: KindWalk<K::S>,
+) -> KindWalk<K::S>
     requires parts { ArePartsFolds (K.operations (K.meaning body.now)) K.part_in view.cells.now.journal view.table.now }
     requires stands { StandsBy (K.operations (K.meaning body.now)) view.cells.now.journal K.bit walk flags.old rows.old }
     ensures { GoesOnBy (K.operations (K.meaning body.now)) view.entry.cells.now.journal K.bit walk result flags.old flags.new rows.old rows.new }
@@ -57,8 +57,8 @@ fn cross<K: OfSix>(
     body: &K,
     flags: &mut NodeRows<u8>,
     rows: &mut NodeRows<K::S>,
-    walk: Walk<K::S>,
-) -> Walk<K::S>
+    walk: KindWalk<K::S>,
+) -> KindWalk<K::S>
     requires parts { ArePartsFolds (K.operations (K.meaning body.now)) K.part_in view.cells.now.journal view.table.now }
     requires stands { StandsBy (K.operations (K.meaning body.now)) view.cells.now.journal K.bit walk flags.old rows.old }
     ensures { GoesOnBy (K.operations (K.meaning body.now)) view.entry.cells.now.journal K.bit walk result flags.old flags.new rows.old rows.new }
@@ -78,8 +78,8 @@ fn pass_summit<K: OfSix>(
     body: &K,
     flags: &mut NodeRows<u8>,
     rows: &mut NodeRows<K::S>,
-    walk: Walk<K::S>,
-) -> Walk<K::S>
+    walk: KindWalk<K::S>,
+) -> KindWalk<K::S>
     requires parts { ArePartsFolds (K.operations (K.meaning body.now)) K.part_in view.cells.now.journal view.table.now }
     requires stands { StandsBy (K.operations (K.meaning body.now)) view.cells.now.journal K.bit walk flags.old rows.old }
     ensures { GoesOnBy (K.operations (K.meaning body.now)) view.entry.cells.now.journal K.bit walk result flags.old flags.new rows.old rows.new }
@@ -99,8 +99,8 @@ fn sink<K: OfSix>(
     body: &K,
     flags: &mut NodeRows<u8>,
     rows: &mut NodeRows<K::S>,
-    walk: Walk<K::S>,
-) -> Walk<K::S>
+    walk: KindWalk<K::S>,
+) -> KindWalk<K::S>
     requires parts { ArePartsFolds (K.operations (K.meaning body.now)) K.part_in view.cells.now.journal view.table.now }
     requires stands { StandsBy (K.operations (K.meaning body.now)) view.cells.now.journal K.bit walk flags.old rows.old }
     ensures { GoesOnBy (K.operations (K.meaning body.now)) view.entry.cells.now.journal K.bit walk result flags.old flags.new rows.old rows.new }
@@ -118,9 +118,9 @@ fn take_run<K: OfSix>(
     body: &K,
     flags: &mut NodeRows<u8>,
     rows: &mut NodeRows<K::S>,
-    walk: Walk<K::S>,
+    walk: KindWalk<K::S>,
     level: u32,
-) -> Walk<K::S>
+) -> KindWalk<K::S>
     requires parts { ArePartsFolds (K.operations (K.meaning body.now)) K.part_in view.cells.now.journal view.table.now }
     requires stands { StandsBy (K.operations (K.meaning body.now)) view.cells.now.journal K.bit walk flags.old rows.old }
     requires low { 1 ≤ level }
@@ -133,7 +133,7 @@ fn take_run<K: OfSix>(
         return walk;
     }
     let value = join_run(view, body, flags, rows, walk.value, first, end);
-    Walk {
+    KindWalk {
         lo: walk.lo,
         hi: walk.hi,
         at: end * width(level),
@@ -171,8 +171,8 @@ fn take_cells<K: OfSix>(
     body: &K,
     flags: &NodeRows<u8>,
     rows: &NodeRows<K::S>,
-    walk: Walk<K::S>,
-) -> Walk<K::S>
+    walk: KindWalk<K::S>,
+) -> KindWalk<K::S>
     requires stands { StandsBy (K.operations (K.meaning body.now)) view.cells.now.journal K.bit walk flags.now rows.now }
     ensures { GoesOnBy (K.operations (K.meaning body.now)) view.entry.cells.now.journal K.bit walk result flags.now flags.now rows.now rows.now }
 {
@@ -186,7 +186,7 @@ fn take_cells<K: OfSix>(
     for at in walk.at..end {
         value = fold_more(body, value, view.cells.read(at));
     }
-    Walk {
+    KindWalk {
         lo: walk.lo,
         hi: walk.hi,
         at: end,

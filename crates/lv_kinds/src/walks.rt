@@ -5,19 +5,19 @@ use std::alloc::AllocError;
 
 /// Where a walk over a range stands: at an index, with the fold by one kind of the elements before it.
 #[derive(Copy)]
-pub struct Walk<S> {
+pub struct KindWalk<S> {
     pub lo: u32,
     pub hi: u32,
     pub at: u32,
     pub value: S,
 }
 
-impl<S: Copy> Clone for Walk<S> {
+impl<S: Copy> Clone for KindWalk<S> {
     ghost is_clone = { λ x y. y ≡ x };
 
     ghost is_infallible = { λ _. ⊤ };
 
-    fn clone(&self) -> Result<Walk<S>, AllocError> {
+    fn clone(&self) -> Result<KindWalk<S>, AllocError> {
         Ok(*self)
     }
 }

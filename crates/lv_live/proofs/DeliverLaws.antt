@@ -15,7 +15,7 @@ use Rattle.lv_summary.proofs.TableLaws.{current_of_installed, same_node-self, ve
 use Rattle.lv_refresh.specs.declared.contents.Contents.{Contents}
 use Rattle.lv_refresh.specs.Carried.{Carried}
 use Rattle.lv_refresh.specs.Claim.{IsNextJob}
-use Rattle.lv_refresh.specs.Claimed.{ClaimTable, claim_blocks, claimed_in, is_hinted}
+use Rattle.lv_refresh.specs.ClaimTable.{ClaimTable, claim_blocks, claimed_in, is_hinted}
 use Rattle.lv_refresh.specs.Contents.{fold_of_contents}
 use Rattle.lv_refresh.specs.Honesty.{IsHonest, Stands, Vouched}
 use Rattle.lv_refresh.specs.Inner.{IsReady}

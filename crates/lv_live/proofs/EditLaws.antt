@@ -11,7 +11,7 @@ use Rattle.lv_geometry.specs.Cells.{capacity_of}
 use Rattle.lv_edits.proofs.HistoryLaws.{accepted_is_possible, list_of-snoc, not_refused, unrefused_push, unrefused_swap, unrefused_write}
 use Rattle.lv_summary.specs.Changes.{AnswersAlike}
 use Rattle.lv_summary.specs.Table.{Table}
-use Rattle.lv_refresh.specs.Claimed.{ClaimTable}
+use Rattle.lv_refresh.specs.ClaimTable.{ClaimTable}
 use Rattle.lv_live.specs.Follows.{ClaimsAlike, ClaimsFollow, HaveBlocks, HaveRows, TableFollows}
 use Rattle.lv_live.specs.State.{LiveState, SameRefresh}
 use Rattle.lv_live.proofs.LiveLaws.{kept_followed, room_after}

@@ -24,7 +24,7 @@ use Rattle.lv_summary.specs.Changes.{AnswersAlike, Keeps, OnlyLearns, TouchesEac
 use Rattle.lv_summary.specs.Table.{Table, computed_in, delivery_in, has_version, kept_in, touched_in, whole_in}
 use Rattle.lv_known.proofs.AgreesLaws.{agrees_after_touches, agrees_alike, agrees_empty, agrees_installed, whole_agrees}
 use Rattle.lv_summary.proofs.TableLaws.{same_node-eq, version_kept}
-use Rattle.lv_refresh.specs.Claimed.{AreHints, ClaimTable, claim_blocks, claimed_in, is_hinted, record_of}
+use Rattle.lv_refresh.specs.ClaimTable.{AreHints, ClaimTable, claim_blocks, claimed_in, is_hinted, record_of}
 use Rattle.lv_refresh.specs.Delivery.{delivery_of}
 use Rattle.lv_refresh.specs.Record.{SameRecord}
 use Rattle.lv_refresh.proofs.HonestyLaws.{whole_of_wanted}

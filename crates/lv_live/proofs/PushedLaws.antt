@@ -22,7 +22,7 @@ use Rattle.lv_known.proofs.PushedLaws.{agrees_pushed}
 use Rattle.lv_summary.specs.Changes.{AnswersAlike}
 use Rattle.lv_summary.specs.Table.{Table}
 use Rattle.lv_refresh.specs.Claim.{wants_job}
-use Rattle.lv_refresh.specs.Claimed.{AreHints, ClaimTable, claim_blocks, is_hinted, record_of}
+use Rattle.lv_refresh.specs.ClaimTable.{AreHints, ClaimTable, claim_blocks, is_hinted, record_of}
 use Rattle.lv_refresh.specs.Record.{Record, SameRecord}
 use Rattle.lv_refresh.proofs.HonestyLaws.{whole_of_wanted}
 use Rattle.lv_refresh.proofs.RecordLaws.{kept_past}

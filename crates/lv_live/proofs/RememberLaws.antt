@@ -12,7 +12,7 @@ use Rattle.lv_summary.specs.Changes.{AfterDelivery, AnswersAlike}
 use Rattle.lv_summary.specs.Table.{Table, computed_in, delivery_in, fresh_in, is_computed_in, kept_in, known_in, touched_in, whole_in}
 use Rattle.lv_summary.proofs.TableLaws.{current_of_installed, fresh_in-kept, known_entry_in-same, same_node-eq, whole_in-size}
 use Rattle.lv_known.proofs.AgreesLaws.{whole_agrees}
-use Rattle.lv_refresh.specs.Claimed.{ClaimTable}
+use Rattle.lv_refresh.specs.ClaimTable.{ClaimTable}
 use Rattle.lv_live.specs.Follows.{TableFollows}
 use Rattle.lv_live.specs.Kept.{IsLive}
 use Rattle.lv_live.specs.State.{LiveState, Remembers}

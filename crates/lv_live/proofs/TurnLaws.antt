@@ -7,7 +7,7 @@ use Rattle.lv_edits.specs.Touch.{elements_under}
 use Rattle.lv_summary.specs.declared.accepted.Accepted.TheVariants.{Installed}
 use Rattle.lv_summary.specs.Table.{Table, delivery_in, kept_in, known_in}
 use Rattle.lv_summary.proofs.TableLaws.{current_of_installed, version_kept}
-use Rattle.lv_refresh.specs.Claimed.{AreHints, ClaimTable, claim_blocks, claimed_in, record_of}
+use Rattle.lv_refresh.specs.ClaimTable.{AreHints, ClaimTable, claim_blocks, claimed_in, record_of}
 use Rattle.lv_known.specs.Agrees.{Agrees}
 use Rattle.lv_known.proofs.AgreesLaws.{agrees_installed}
 use Rattle.lv_refresh.specs.Refreshed.{RefreshesEach, RefreshesNext, RefreshesOne}

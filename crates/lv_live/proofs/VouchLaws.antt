@@ -13,7 +13,7 @@ use Rattle.lv_summary.proofs.TableLaws.{entry_of_fresh}
 use Rattle.lv_refresh.specs.declared.contents.Contents.TheVariants.{Children}
 use Rattle.lv_refresh.specs.declared.contents.Eight.{Eight}
 use Rattle.lv_refresh.specs.Claim.{children_fresh}
-use Rattle.lv_refresh.specs.Claimed.{ClaimTable, record_of}
+use Rattle.lv_refresh.specs.ClaimTable.{ClaimTable, record_of}
 use Rattle.lv_refresh.specs.Contents.{in_order}
 use Rattle.lv_refresh.specs.Honesty.{Stands}
 use Rattle.lv_refresh.specs.Inner.{children_fresh_in}

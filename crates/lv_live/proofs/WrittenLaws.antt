@@ -12,7 +12,7 @@ use Rattle.lv_edits.proofs.BatchLaws.{free_parts, length-edits, length-writes}
 use Rattle.lv_edits.proofs.HistoryLaws.{applied_write, legal-snoc, list_of-snoc, not_refused, unrefused_write}
 use Rattle.lv_known.specs.Agrees.{Agrees}
 use Rattle.lv_summary.specs.Table.{Table}
-use Rattle.lv_refresh.specs.Claimed.{AreHints, ClaimTable, record_of}
+use Rattle.lv_refresh.specs.ClaimTable.{AreHints, ClaimTable, record_of}
 use Rattle.lv_live.specs.Follows.{ClaimsFollow, TableFollows}
 use Rattle.lv_live.specs.Kept.{IsLive}
 use Rattle.lv_live.specs.State.{LiveState, Remembers, SameRefresh}

@@ -7,7 +7,7 @@ use Rattle.lv_summary.specs.declared.accepted.Accepted.{Accepted}
 use Rattle.lv_summary.specs.declared.accepted.Accepted.TheVariants.{Held, Installed, Stale}
 use Rattle.lv_summary.specs.Changes.{HasSize, TouchesEach}
 use Rattle.lv_summary.specs.Table.{Table}
-use Rattle.lv_refresh.specs.Claimed.{ClaimTable, claim_blocks, claimed_in, is_hinted}
+use Rattle.lv_refresh.specs.ClaimTable.{ClaimTable, claim_blocks, claimed_in, is_hinted}
 use Rattle.lv_refresh.specs.Inner.{HintsNode}
 use Rattle.lv_live.specs.declared.following.Touched.{Touched}
 use Rattle.lv_live.specs.declared.following.Touched.TheVariants.{Nothing, One, Two}

@@ -6,7 +6,7 @@ use Rattle.lv_edits.specs.History.{History, list_of, replayed}
 use Rattle.lv_edits.specs.Pushes.{with_pushes}
 use Rattle.lv_known.specs.Agrees.{Agrees}
 use Rattle.lv_summary.specs.Table.{Table, blocks_in, computed_in, kept_in}
-use Rattle.lv_refresh.specs.Claimed.{AreHints, ClaimTable, record_of}
+use Rattle.lv_refresh.specs.ClaimTable.{AreHints, ClaimTable, record_of}
 use Rattle.lv_live.specs.Follows.{ClaimsAlike}
 
 -- so many values are pushed to a history that is legal, the first at this index, after so many edits

@@ -8,7 +8,7 @@ use Rattle.lv_summary.specs.declared.accepted.Accepted.{Accepted}
 use Rattle.lv_summary.specs.Table.{Table, known_in}
 use Rattle.lv_refresh.specs.Carried.{Carried}
 use Rattle.lv_refresh.specs.Claim.{children_fresh}
-use Rattle.lv_refresh.specs.Claimed.{ClaimTable, record_of}
+use Rattle.lv_refresh.specs.ClaimTable.{ClaimTable, record_of}
 use Rattle.lv_refresh.specs.Record.{Record}
 use Rattle.lv_live.specs.Step.{after_accepted, with_version}
 

@@ -6,7 +6,7 @@ use Rattle.lv_edits.specs.Batches.{with_edits, writes_at}
 use Rattle.lv_edits.specs.History.{History, list_of, replayed}
 use Rattle.lv_known.specs.Agrees.{Agrees}
 use Rattle.lv_summary.specs.Table.{Table, blocks_in, computed_in, kept_in}
-use Rattle.lv_refresh.specs.Claimed.{AreHints, ClaimTable, record_of}
+use Rattle.lv_refresh.specs.ClaimTable.{AreHints, ClaimTable, record_of}
 use Rattle.lv_live.specs.Follows.{ClaimsAlike}
 
 -- values are written at indices of a legal history's list, a value at each, after so many edits

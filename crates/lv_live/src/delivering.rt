@@ -6,7 +6,7 @@ ghost use Rattle.lv_edits.specs.Touch.{elements_under};
 ghost use Rattle.lv_known.specs.Agrees.{Agrees};
 ghost use Rattle.lv_summary.specs.Changes.{AfterDelivery};
 ghost use Rattle.lv_summary.specs.Table.{delivery_in};
-ghost use Rattle.lv_refresh.specs.Claimed.{claim_blocks};
+ghost use Rattle.lv_refresh.specs.ClaimTable.{claim_blocks};
 ghost use Rattle.lv_refresh.specs.Inner.{IsReady};
 ghost use Rattle.lv_live.specs.Follows.{ClaimsHear};
 
@@ -20,22 +20,22 @@ use lv_summary::{Accepted, Summaries};
 /// node's parent is hinted at so.
 pub fn deliver_anew<B: Body, J: Journal>(
     claims: &mut Claims,
-    cells: &Edits<J>,
+    history: &Edits<J>,
     table: &mut Summaries<B::S>,
     body: &B,
     node: Node,
     version: u32,
 ) -> Accepted
-    requires agrees { Agrees (B.operations (B.meaning body.now)) cells.now.journal table.old }
+    requires agrees { Agrees (B.operations (B.meaning body.now)) history.now.journal table.old }
     requires ready { delivery_in table.old node version ≡ Accepted.Installed → IsReady table.old node }
     requires inside { delivery_in table.old node version ≡ Accepted.Installed → is_below node (8 * claim_blocks claims.old) ≡ true }
     ensures accepted { result ≡ delivery_in table.old node version }
-    ensures after { AfterDelivery table.old table.new node version (fold_of (B.operations (B.meaning body.now)) (elements_under cells.now.journal node)) result }
+    ensures after { AfterDelivery table.old table.new node version (fold_of (B.operations (B.meaning body.now)) (elements_under history.now.journal node)) result }
     ensures hears { ClaimsHear claims.old claims.new node result }
 {
     let accepted = delivery(table, node, version);
     if let Accepted::Installed = accepted {
-        refresh_node(claims, cells, table, body, node, version);
+        refresh_node(claims, history, table, body, node, version);
     }
     accepted
 }

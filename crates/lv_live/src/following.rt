@@ -2,7 +2,7 @@ ghost use Rattle.std.specs.Prelude.{◌≡◌, ◌+◌, ◌*◌, ◌/◌, ◌<�
 ghost use Rattle.lv_edits.specs.Touch.{indices_written};
 ghost use Rattle.lv_summary.specs.Changes.{AnswersAlike, TouchesEach};
 ghost use Rattle.lv_summary.specs.Table.{blocks_in};
-ghost use Rattle.lv_refresh.specs.Claimed.{claim_blocks};
+ghost use Rattle.lv_refresh.specs.ClaimTable.{claim_blocks};
 ghost use Rattle.lv_live.specs.Follows.{ClaimsAlike, ClaimsFollow, HaveBlocks, HaveRows, TableFollows, indices_in};
 
 use lv_edits::Edit;

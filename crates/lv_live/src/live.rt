@@ -42,7 +42,7 @@ use std::marker::Model;
 #[derive(Drop)]
 pub struct Live<B: Body, J: Journal = Kept> {
     body: B,
-    cells: Edits<J>,
+    history: Edits<J>,
     table: Summaries<B::S>,
     claims: Claims,
 }
@@ -53,9 +53,9 @@ impl<B: Body, J: Journal> Model for Live<B, J> {
 
     ghost Value = { LiveState B B.S };
 
-    ghost view = { λ a. record { body = a.body; history = a.cells; table = a.table; claims = a.claims } };
+    ghost view = { λ a. record { body = a.body; history = a.history; table = a.table; claims = a.claims } };
 
-    ghost invariant = { λ a. IsLive (B.operations (B.meaning a.body)) record { body = a.body; history = a.cells; table = a.table; claims = a.claims } };
+    ghost invariant = { λ a. IsLive (B.operations (B.meaning a.body)) record { body = a.body; history = a.history; table = a.table; claims = a.claims } };
 }
 
 impl<B: Body> Live<B> {
@@ -74,7 +74,7 @@ impl<B: Body> Live<B> {
     pub fn journal(&self) -> &[Edit]
         ensures { result.now ≡ self.now.history.journal }
     {
-        self.cells.journal()
+        self.history.journal()
     }
 
     /// How many cells and summaries `reduce` reads for the elements from index `lo` up to `hi`, which is counted without reading them.
@@ -94,7 +94,7 @@ impl<B: Body> Live<B> {
         ensures ok { IfOk result (λ answer. IsAnswerPair (K.operations (K.meaning body.now)) self.now.history.journal lo hi answer) }
         ensures err { IfErr result (λ refusal. range_refusal self.now.history.journal lo hi ≡ Some refusal) }
     {
-        lv_reduce::fold_elements(&self.cells, body, lo, hi)
+        lv_reduce::fold_elements(&self.history, body, lo, hi)
     }
 
     /// The running folds of the elements from index `lo` up to `hi`, each with its own. Refused with `BadRange`, `OutOfRange`,
@@ -118,7 +118,7 @@ impl<B: Body> Live<B> {
         ensures body { IfOk result (λ stretch. stretch.body ≡ self.now.body) }
         ensures err { IfErr result (λ refusal. IsScanRefusal self.now.history.journal lo hi refusal) }
     {
-        Stretch::copy(alloc, &self.cells, self.body, lo, hi)
+        Stretch::copy(alloc, &self.history, self.body, lo, hi)
     }
 }
 
@@ -134,7 +134,7 @@ impl<B: Body, J: Journal> Live<B, J> {
         let blank = body.identity();
         Live {
             body,
-            cells: Edits::empty(alloc, limits),
+            history: Edits::empty(alloc, limits),
             table: Summaries::new(alloc, blank),
             claims: Claims::new(alloc),
         }
@@ -147,7 +147,7 @@ impl<B: Body, J: Journal> Live<B, J> {
         ensures refresh { SameRefresh self.old self.new }
         ensures remembers { Remembers self.old self.new }
     {
-        match self.cells.verdict(&edit) {
+        match self.history.verdict(&edit) {
             Some(refusal) => Err(refusal),
             None => self.make(edit),
         }
@@ -164,13 +164,13 @@ impl<B: Body, J: Journal> Live<B, J> {
     {
         let touched = touched_indices(&edit, self.table.size());
         make_room(&mut self.table, &mut self.claims, touched)?;
-        let receipt = self.cells.make(edit)?;
+        let receipt = self.history.make(edit)?;
         follow(
             &mut self.table,
             &mut self.claims,
             touched,
-            self.cells.edit(),
-            self.cells.size(),
+            self.history.edit(),
+            self.history.size(),
         );
         Ok(receipt)
     }
@@ -184,21 +184,21 @@ impl<B: Body, J: Journal> Live<B, J> {
         ensures refresh { SameRefresh self.old self.new }
         ensures remembers { Remembers self.old self.new }
     {
-        if let Some(refusal) = self.cells.verdict_of_pushes(values) {
+        if let Some(refusal) = self.history.verdict_of_pushes(values) {
             return Err(refusal);
         }
         if values.is_empty() {
-            return Ok(self.cells.edit());
+            return Ok(self.history.edit());
         }
-        let first = self.cells.size();
-        let edit = self.cells.edit();
+        let first = self.history.size();
+        let edit = self.history.edit();
         let count = values.len() as u32;
         make_room(
             &mut self.table,
             &mut self.claims,
             Touched::One(first + count - 1),
         )?;
-        let last = self.cells.push_all(values)?;
+        let last = self.history.push_all(values)?;
         follow_pushes(&mut self.table, &mut self.claims, first, edit, count);
         Ok(last)
     }
@@ -213,8 +213,8 @@ impl<B: Body, J: Journal> Live<B, J> {
         ensures refresh { SameRefresh self.old self.new }
         ensures remembers { Remembers self.old self.new }
     {
-        let edit = self.cells.edit();
-        let last = self.cells.write_all(indices, values)?;
+        let edit = self.history.edit();
+        let last = self.history.write_all(indices, values)?;
         follow_writes(&mut self.table, &mut self.claims, indices, edit);
         Ok(last)
     }
@@ -223,21 +223,21 @@ impl<B: Body, J: Journal> Live<B, J> {
     pub fn verdict(&self, edit: &Edit) -> Option<Refusal>
         ensures { result ≡ verdict_of self.now.history.limits self.now.history.journal edit.now }
     {
-        self.cells.verdict(edit)
+        self.history.verdict(edit)
     }
 
     /// Why pushes, one after another, would be refused, want of memory apart; none where all would be accepted.
     pub fn verdict_of_pushes(&self, values: &[i64]) -> Option<Refusal>
         ensures { result ≡ verdict_of_pushes self.now.history values.now }
     {
-        self.cells.verdict_of_pushes(values)
+        self.history.verdict_of_pushes(values)
     }
 
     /// Why writes at indices, one after another, would be refused, want of memory apart; none where all would be accepted.
     pub fn verdict_of_writes(&self, indices: &[u32]) -> Option<Refusal>
         ensures { (xs : List ℤ) → length indices.now ≡ length xs → result ≡ verdict_of_edits self.now.history (writes_at indices.now xs) }
     {
-        self.cells.verdict_of_writes(indices)
+        self.history.verdict_of_writes(indices)
     }
 
     /// Completes what is pending. Changes no answer.
@@ -245,35 +245,35 @@ impl<B: Body, J: Journal> Live<B, J> {
         ensures same { SameLive self.old self.new }
         ensures remembers { Remembers self.old self.new }
     {
-        self.cells.settle();
+        self.history.settle();
     }
 
     /// The element at an index. Refused with `OutOfRange`.
     pub fn get(&self, i: u32) -> Result<i64, Refusal>
         ensures { result ≡ element_at self.now.history.journal i }
     {
-        self.cells.get(i)
+        self.history.get(i)
     }
 
     /// How many elements there are.
     pub fn size(&self) -> u32
         ensures { result ≡ length (list_of self.now.history.journal) }
     {
-        self.cells.size()
+        self.history.size()
     }
 
     /// How many elements fit into the open buckets.
     pub fn capacity(&self) -> u32
         ensures { result ≡ capacity_after self.now.history.journal }
     {
-        self.cells.capacity()
+        self.history.capacity()
     }
 
     /// The number of the last accepted edit, 0 before any.
     pub fn edit(&self) -> u32
         ensures { result ≡ length self.now.history.journal }
     {
-        self.cells.edit()
+        self.history.edit()
     }
 
     /// The fold of the elements from index `lo` up to `hi`, at the last edit. Refused with `BadRange`, then `OutOfRange`.
@@ -300,7 +300,7 @@ impl<B: Body, J: Journal> Live<B, J> {
         ensures quiet { AreTopsKnown (known_in self.old.table) lo hi → self.new.table ≡ self.old.table }
         ensures few { IfOk result (λ answer. IsFewAsked (known_in self.old.table) (known_in self.new.table) lo hi answer.cells_read answer.summaries_read) }
     {
-        lv_reduce::ask(&self.cells, &mut self.table, &self.body, lo, hi)
+        lv_reduce::ask(&self.history, &mut self.table, &self.body, lo, hi)
     }
 
     /// A job for the least node that wants one, or none. Takes no memory.
@@ -312,7 +312,7 @@ impl<B: Body, J: Journal> Live<B, J> {
         ensures honest { IfSome result (λ job. IsHonest (B.operations (B.meaning self.old.body)) (recorded self.new) job.node job.version job.contents) }
         ensures remembers { Remembers self.old self.new }
     {
-        self.claims.claim(&self.cells, &self.table, self.body)
+        self.claims.claim(&self.history, &self.table, self.body)
     }
 
     /// Does jobs in place, the least first, at most so many: each is claimed, run and delivered. Tells how many it did; fewer than
@@ -331,8 +331,8 @@ impl<B: Body, J: Journal> Live<B, J> {
     fn complete(&mut self)
         ensures { self.new ≡ self.old }
     {
-        let cells = &mut self.cells;
-        cells.settle();
+        let history = &mut self.history;
+        history.settle();
     }
 
     // Takes turns, at most so many, while a node wants a job.
@@ -360,7 +360,7 @@ impl<B: Body, J: Journal> Live<B, J> {
         ensures remembers { Remembers self.old self.new }
     {
         self.claims
-            .refresh_blocks(&self.cells, &mut self.table, &self.body, jobs)
+            .refresh_blocks(&self.history, &mut self.table, &self.body, jobs)
     }
 
     // Claims the least node that wants a job, computes its summary where its contents lie, and installs that. Tells whether a node
@@ -373,7 +373,7 @@ impl<B: Body, J: Journal> Live<B, J> {
         ensures remembers { Remembers self.old self.new }
     {
         self.claims
-            .refresh_next(&self.cells, &mut self.table, &self.body)
+            .refresh_next(&self.history, &mut self.table, &self.body)
     }
 
     /// Forgets all claims. Jobs that were handed out stay good. Takes no memory.
@@ -397,10 +397,10 @@ impl<B: Body, J: Journal> Live<B, J> {
         }
         let contents = outcome.as_contents();
         self.body.same(&outcome.body())
-            && stands_here(&self.body, &self.cells, &self.table, node, contents)
+            && stands_here(&self.body, &self.history, &self.table, node, contents)
     }
 
-    /// Takes an outcome in: it is stale, or held already, or its summary is installed. Takes no memory.
+    /// Delivers an outcome: it is stale, or held already, or its summary is installed. Takes no memory.
     #[inline(always)]
     pub fn accept(&mut self, outcome: Outcome<B>) -> Accepted
         requires { Vouched (B.operations (B.meaning self.old.body)) (recorded self.old)
@@ -419,7 +419,7 @@ impl<B: Body, J: Journal> Live<B, J> {
         accepted
     }
 
-    /// Takes in what a job of this vector gave, by the job's node and version alone: what it carried stands here still where its outcome
+    /// Delivers what a job of this vector gave, by the job's node and version alone: what it carried stands here still where its outcome
     /// is to be installed, and so that is made anew. Takes no memory.
     pub fn deliver(&mut self, node: Node, version: u32) -> Accepted
         requires { CanRemake (recorded self.old) node version }
@@ -429,7 +429,7 @@ impl<B: Body, J: Journal> Live<B, J> {
     {
         deliver_anew(
             &mut self.claims,
-            &self.cells,
+            &self.history,
             &mut self.table,
             &self.body,
             node,
@@ -460,7 +460,7 @@ impl<B: Body, J: Journal> Live<B, J> {
         ensures table { result.table.now ≡ self.now.table }
     {
         View {
-            cells: &self.cells,
+            cells: &self.history,
             table: &self.table,
         }
     }

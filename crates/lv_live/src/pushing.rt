@@ -1,7 +1,7 @@
 //! How the table of summaries and the claims follow many pushes at once.
 ghost use Rattle.std.specs.Prelude.{◌≡◌, ◌+◌, ◌*◌, ◌<◌, ◌≤◌};
 ghost use Rattle.lv_summary.specs.Table.{blocks_in};
-ghost use Rattle.lv_refresh.specs.Claimed.{claim_blocks};
+ghost use Rattle.lv_refresh.specs.ClaimTable.{claim_blocks};
 ghost use Rattle.lv_live.specs.Pushed.{PushesFollow};
 
 use crate::following::{Touched, follow};

@@ -4,7 +4,7 @@ ghost use Rattle.lv_edits.specs.History.{list_of};
 ghost use Rattle.lv_edits.specs.Touch.{elements_under};
 ghost use Rattle.lv_known.specs.Agrees.{Agrees};
 ghost use Rattle.lv_summary.specs.Table.{whole_in};
-ghost use Rattle.lv_refresh.specs.Claimed.{ClaimTable, record_of};
+ghost use Rattle.lv_refresh.specs.ClaimTable.{ClaimTable, record_of};
 ghost use Rattle.lv_refresh.specs.Honesty.{Stands};
 
 use lv_bodies::Body;
@@ -17,45 +17,45 @@ use lv_summary::Summaries;
 #[inline(always)]
 pub fn stands_here<B: Body, J: Journal>(
     body: &B,
-    cells: &Edits<J>,
+    history: &Edits<J>,
     table: &Summaries<B::S>,
     node: Node,
     contents: &Contents<B::S>,
 ) -> bool
-    requires agrees { Agrees (B.operations (B.meaning body.now)) cells.now.journal table.now }
+    requires agrees { Agrees (B.operations (B.meaning body.now)) history.now.journal table.now }
     requires whole { whole_in table.now node ≡ true }
-    ensures { (c : ClaimTable) → IsTrue result ↔ Stands (B.operations (B.meaning body.now)) (record_of cells.now.journal table.now c) node contents.now }
+    ensures { (c : ClaimTable) → IsTrue result ↔ Stands (B.operations (B.meaning body.now)) (record_of history.now.journal table.now c) node contents.now }
 {
     match contents {
-        Contents::Elements(elements) => node.level == 1 && have_elements(cells, node, elements),
+        Contents::Elements(elements) => node.level == 1 && have_elements(history, node, elements),
         Contents::Children(summaries) => {
-            node.level > 1 && have_summaries(body, cells, table, node, summaries)
+            node.level > 1 && have_summaries(body, history, table, node, summaries)
         }
     }
 }
 
 /// Whether elements are those of a whole block.
 #[inline(always)]
-pub fn have_elements<J: Journal>(cells: &Edits<J>, block: Node, elements: &[i64; 8]) -> bool
+pub fn have_elements<J: Journal>(history: &Edits<J>, block: Node, elements: &[i64; 8]) -> bool
     requires level { block.level ≡ 1 }
-    requires whole { is_below block (length (list_of cells.now.journal)) ≡ true }
-    ensures { IsTrue result ↔ (elements.now ≡ elements_under cells.now.journal block) }
+    requires whole { is_below block (length (list_of history.now.journal)) ≡ true }
+    ensures { IsTrue result ↔ (elements.now ≡ elements_under history.now.journal block) }
 {
-    *elements == cells.block(block.number)
+    *elements == history.block(block.number)
 }
 
 // Whether summaries are those of a whole node's children, which are fresh. The cells are those that the table is of.
 fn have_summaries<B: Body, J: Journal>(
     body: &B,
-    _cells: &Edits<J>,
+    _history: &Edits<J>,
     table: &Summaries<B::S>,
     node: Node,
     summaries: &Eight<B::S>,
 ) -> bool
-    requires agrees { Agrees (B.operations (B.meaning body.now)) _cells.now.journal table.now }
+    requires agrees { Agrees (B.operations (B.meaning body.now)) _history.now.journal table.now }
     requires whole { whole_in table.now node ≡ true }
     requires above { 1 < node.level }
-    ensures { (c : ClaimTable) → IsTrue result ↔ Stands (B.operations (B.meaning body.now)) (record_of _cells.now.journal table.now c) node (Contents.Children summaries.now) }
+    ensures { (c : ClaimTable) → IsTrue result ↔ Stands (B.operations (B.meaning body.now)) (record_of _history.now.journal table.now c) node (Contents.Children summaries.now) }
 {
     match children_of(table, node) {
         Some(here) => same_summaries(body, &here, summaries),

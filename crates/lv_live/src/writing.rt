@@ -1,6 +1,6 @@
 //! How the table of summaries and the claims follow many writes at once.
 ghost use Rattle.std.specs.Prelude.{◌≡◌, ◌+◌, ◌*◌, ◌<◌, ◌≤◌, All, length};
-ghost use Rattle.lv_refresh.specs.Claimed.{claim_blocks};
+ghost use Rattle.lv_refresh.specs.ClaimTable.{claim_blocks};
 ghost use Rattle.lv_live.specs.Written.{WritesFollow};
 
 use crate::following::{Touched, follow};

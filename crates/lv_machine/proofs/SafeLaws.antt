@@ -17,7 +17,7 @@ use Rattle.lv_machine.specs.Layout.{cell_place, mark_place, part_place, place}
 use Rattle.lv_machine.specs.Calls.{place_of}
 use Rattle.lv_machine.specs.Moves.{Config, IsComplete, Shows}
 use Rattle.lv_machine.specs.Progress.{Knows, MayEdit, terms_of, Walks, WalksBlock}
-use Rattle.lv_machine.specs.Ready.{CanAdvance, CanMove, CanPack, CanWalk, Holds, IsIndexShort}
+use Rattle.lv_machine.specs.Ready.{CanAdvance, CanMove, CanPack, CanWalk, CoversAtMost, IsIndexShort}
 use Rattle.lv_machine.specs.Terms.{AreTerms, blocks_of}
 use Rattle.lv_machine.specs.Words.{cell_version, edit_of, index_of, size_of}
 use Rattle.lv_machine.proofs.HistoryLaws.{length_below, size_below}
@@ -105,7 +105,7 @@ module _ {S : Type 0} (o : Operations S) (within : S → ℕ → Type 0) (laws :
   mark_fits b near complete = omega (arith, (mark_at (terms_of o count parts_of limits seats) c k terms shows ends b near complete).late, few_entries)
 
   -- the fold of a part of the list is that of no more elements than lie before its end
-  holds : (s : S) (lo at : ℕ) → lo ≤ at → at ≤ length (elements_of k) → s ≡ fold_of o (slice_range (elements_of k) lo at) → Holds within s at
+  holds : (s : S) (lo at : ℕ) → lo ≤ at → at ≤ length (elements_of k) → s ≡ fold_of o (slice_range (elements_of k) lo at) → CoversAtMost within s at
   holds s lo at low inside is = record {
     count = at - lo;
     held = subst (λ u. within u (at - lo)) (sym is) (slice-within o within laws (elements_of k) (seen_can_fold o count parts_of whole_of limits seats 0 c k terms shows ends) lo at low inside);

@@ -140,19 +140,19 @@ abbrev pub sees_next : {S : Type 0} → List ℕ → ℕ → Task S → Config
 sees_next words look t = moved (sees words look) (move_of 0 t)
 
 -- the block that is to be refreshed, if that is what a call is for
-abbrev pub block_of_goal : Goal → Option ℕ
-block_of_goal (goal.Refresh b) = Some b
-block_of_goal _ = None
+abbrev pub goal_block : Goal → Option ℕ
+goal_block (goal.Refresh b) = Some b
+goal_block _ = None
 
 -- the block that a call refreshes, if it does
-abbrev pub block_of : {S : Type 0} → Task S → Option ℕ
-block_of (task.Look g) = block_of_goal g
-block_of (task.CompleteCell g) = block_of_goal g
-block_of (task.CompleteMark g) = block_of_goal g
-block_of (task.KeepMark b) = Some b
-block_of (task.KeepCell keep) = Some keep.block
-block_of (task.KeepPart b parts) = Some b
-block_of _ = None
+abbrev pub task_block : {S : Type 0} → Task S → Option ℕ
+task_block (task.Look g) = goal_block g
+task_block (task.CompleteCell g) = goal_block g
+task_block (task.CompleteMark g) = goal_block g
+task_block (task.KeepMark b) = Some b
+task_block (task.KeepCell keep) = Some keep.block
+task_block (task.KeepPart b parts) = Some b
+task_block _ = None
 
 module _ {S : Type 0} (o : Operations S) (count : ℕ) (parts_of : S → List ℕ) (whole_of : List ℕ → S) where
   -- what a call does once its look's pending write is complete, or there is none

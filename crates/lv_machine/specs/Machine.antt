@@ -16,7 +16,7 @@ use Rattle.lv_machine.specs.declared.tasks.Task.TheVariants as task
 use Rattle.lv_machine.specs.declared.actors.Actor.{Actor}
 use Rattle.lv_machine.specs.History.{descriptor_of}
 use Rattle.lv_machine.specs.Terms.{blocks_of}
-use Rattle.lv_machine.specs.Calls.{advanced, block_of, goal_of, outcome_of, place_of, sees_next, task_after}
+use Rattle.lv_machine.specs.Calls.{advanced, task_block, goal_of, outcome_of, place_of, sees_next, task_after}
 
 -- a machine: its body and limits, the words, and of each actor its look, and its call, if one is under way
 pub record MachineState (B S : Type 0) : Type 0 where
@@ -44,7 +44,7 @@ first_state body limits actors = record {
 
 -- the block that an actor's call refreshes, if it does
 unfoldable pub block_refreshed : {B S : Type 0} → MachineState B S → ℕ → Option ℕ
-block_refreshed m a = option_and_then (λ actor. option_and_then block_of actor.task) (slice_get m.actors a)
+block_refreshed m a = option_and_then (λ actor. option_and_then task_block actor.task) (slice_get m.actors a)
 
 -- a machine with other words, and another state of one actor
 abbrev pub with_actor : {B S : Type 0} → MachineState B S → List ℕ → ℕ → Actor S → MachineState B S

@@ -24,7 +24,7 @@ pub record CanPack (look : ℕ) (edit : Edit) : Type 0 where
   pub index : IsIndexShort edit
 
 -- a summary is that of at most n elements
-pub record Holds {S : Type 0} (within : S → ℕ → Type 0) (s : S) (n : ℕ) : Type 0 where
+pub record CoversAtMost {S : Type 0} (within : S → ℕ → Type 0) (s : S) (n : ℕ) : Type 0 where
   pub count : ℕ
   pub held : within s count
   pub most : count ≤ n
@@ -33,7 +33,7 @@ pub record Holds {S : Type 0} (within : S → ℕ → Type 0) (s : S) (n : ℕ) 
 pub record CanWalk {S : Type 0} (within : S → ℕ → Type 0) (walk : Walk S) : Type 0 where
   pub order : walk.at < walk.hi
   pub short : walk.hi ≤ 4088
-  pub holds : Holds within walk.sum walk.at
+  pub holds : CoversAtMost within walk.sum walk.at
   pub cells : walk.cells ≤ walk.at
   pub summaries : walk.summaries ≤ walk.at
 
@@ -43,12 +43,12 @@ pub record CanTake {S : Type 0} (within : S → ℕ → Type 0) (count : ℕ) (w
   pub walks : CanWalk within walk
   pub block : walk.at + 8 ≤ walk.hi
   pub few : parts.number < 4
-  pub whole : part_version found ≡ parts.version → count ≤ parts.number + 1 → Holds within (whole_of (slice_set parts.values parts.number (part_value found))) 8
+  pub whole : part_version found ≡ parts.version → count ≤ parts.number + 1 → CoversAtMost within (whole_of (slice_set parts.values parts.number (part_value found))) 8
 
 -- a refresh can go on with a cell
 pub record CanKeep {S : Type 0} (within : S → ℕ → Type 0) (keep : Keep S) (found : ℕ) : Type 0 where
   pub short : keep.at < 4088
-  pub holds : Holds within keep.sum keep.at
+  pub holds : CoversAtMost within keep.sum keep.at
   pub version : cell_version found < 16777216
 
 module _ {S : Type 0} where

@@ -2,7 +2,7 @@
 ghost use Rattle.std.specs.Prelude.{◌≡◌, ◌+◌, ◌*◌, ◌<◌, ◌≤◌, [], ◌∷◌, length, replicate, slice_get, slice_set, Some, None, IfOk, IfErr, OnOk, OnErr, if◌then◌else◌};
 ghost use Rattle.lv_edits.specs.Verdict.{IsRefusal};
 ghost use Rattle.lv_machine.specs.History.{descriptor_of};
-ghost use Rattle.lv_machine.specs.Calls.{block_of, block_of_goal, goal_of, is_short, outcome_of, task_after};
+ghost use Rattle.lv_machine.specs.Calls.{task_block, goal_block, goal_of, is_short, outcome_of, task_after};
 ghost use Rattle.lv_machine.specs.Machine.{begins, block_refreshed, called, first_state, gone_on, idle, machine_run, machine_step, setting_refusal, stepped};
 ghost use Rattle.lv_machine.specs.Progress.{IsGoal};
 ghost use Rattle.lv_machine.specs.Terms.{blocks_of};
@@ -93,7 +93,7 @@ impl<B: Parted> Machine<B> {
                     task: Some(task),
                     ..
                 },
-            ) => block_of(task),
+            ) => task_block(task),
             Some(Actor { task: None, .. }) => None,
             None => None,
         }
@@ -179,13 +179,11 @@ impl<B: Parted> Machine<B> {
 }
 
 // The block that a call refreshes, if it does.
-fn block_of<S: Copy>(task: Task<S>) -> Option<u32>
-    ensures { result ≡ block_of task }
+fn task_block<S: Copy>(task: Task<S>) -> Option<u32>
+    ensures { result ≡ task_block task }
 {
     match task {
-        Task::Look(goal) | Task::CompleteCell(goal) | Task::CompleteMark(goal) => block_of_goal(
-            goal,
-        ),
+        Task::Look(goal) | Task::CompleteCell(goal) | Task::CompleteMark(goal) => goal_block(goal),
         Task::KeepMark(block) | Task::KeepPart { block, .. } => Some(block),
         Task::KeepCell(keep) => Some(keep.block),
         _ => None,
@@ -193,8 +191,8 @@ fn block_of<S: Copy>(task: Task<S>) -> Option<u32>
 }
 
 // The block that is to be refreshed, if that is what a call is for.
-fn block_of_goal(goal: Goal) -> Option<u32>
-    ensures { result ≡ block_of_goal goal }
+fn goal_block(goal: Goal) -> Option<u32>
+    ensures { result ≡ goal_block goal }
 {
     match goal {
         Goal::Refresh(block) => Some(block),

@@ -21,7 +21,7 @@ use Rattle.lv_reduce.proofs.KnowLaws.{counted, counted-is, counted-le, counted-m
 use Rattle.lv_reduce.proofs.NodeLaws.{cell_fits, first_of_aligned}
 use Rattle.lv_reduce.proofs.PieceLaws.{slice-joined, slice-nothing, slice-within, slices_can_join}
 use Rattle.lv_reduce.proofs.UsedLaws.{top_parts, used_parts}
-use Rattle.lv_reduce.proofs.Walk.{IsWalk, first_top, no_top_here, top_in_node, walk_cell, walk_ends, walk_node, walk_starts}
+use Rattle.lv_reduce.proofs.WalkLaws.{IsWalk, first_top, no_top_here, top_in_node, walk_cell, walk_ends, walk_node, walk_starts}
 
 -- every node is one of those that the walk goes over
 abbrev pub any_node : Node → Bool

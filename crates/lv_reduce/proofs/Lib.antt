@@ -11,5 +11,5 @@ mod RunLaws
 pub mod ScanLaws
 mod TwoLaws
 pub mod UsedLaws
-pub mod Walk
+pub mod WalkLaws
 mod Zeros

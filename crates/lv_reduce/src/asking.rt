@@ -17,23 +17,23 @@ use lv_summary::Summaries;
 /// the table. So a range that was asked for costs at most 14 cells and 84 summaries until an edit touches it. Refused with `BadRange`,
 /// then `OutOfRange`: the table is then unchanged. Takes no memory.
 pub fn ask<B: Body, J: Journal>(
-    cells: &Edits<J>,
+    history: &Edits<J>,
     table: &mut Summaries<B::S>,
     body: &B,
     lo: u32,
     hi: u32,
 ) -> Result<Answer<B::S>, Refusal>
-    requires agrees { Agrees (B.operations (B.meaning body.now)) cells.now.journal table.old }
-    ensures ok { IfOk result (λ answer. IsAnswer (B.operations (B.meaning body.now)) cells.now.journal lo hi answer) }
-    ensures err { IfErr result (λ refusal. range_refusal cells.now.journal lo hi ≡ Some refusal) }
+    requires agrees { Agrees (B.operations (B.meaning body.now)) history.now.journal table.old }
+    ensures ok { IfOk result (λ answer. IsAnswer (B.operations (B.meaning body.now)) history.now.journal lo hi answer) }
+    ensures err { IfErr result (λ refusal. range_refusal history.now.journal lo hi ≡ Some refusal) }
     ensures unchanged { OnErr result (table.new ≡ table.old) }
-    ensures agrees { Agrees (B.operations (B.meaning body.now)) cells.now.journal table.new }
+    ensures agrees { Agrees (B.operations (B.meaning body.now)) history.now.journal table.new }
     ensures learns { OnlyLearns table.old table.new }
     ensures known { IfOk result (λ _. AreTopsKnown (known_in table.new) lo hi) }
     ensures quiet { AreTopsKnown (known_in table.old) lo hi → table.new ≡ table.old }
     ensures few { IfOk result (λ answer. IsFewAsked (known_in table.old) (known_in table.new) lo hi answer.cells_read answer.summaries_read) }
 {
-    if let Some(refusal) = refusal_of(cells, lo, hi) {
+    if let Some(refusal) = refusal_of(history, lo, hi) {
         return Err(refusal);
     }
     let mut value = body.identity();
@@ -43,11 +43,11 @@ pub fn ask<B: Body, J: Journal>(
     while at < hi {
         let level = greatest_level(at, hi);
         if level == 0 {
-            value = fold_more(body, value, cells.read(at));
+            value = fold_more(body, value, history.read(at));
             at += 1;
             cells_read += 1;
         } else {
-            let known = know(cells, table, body, Node::over(level, at));
+            let known = know(history, table, body, Node::over(level, at));
             value = join(body, value, known.summary);
             at += width(level);
             cells_read += known.cells_read;
@@ -55,7 +55,7 @@ pub fn ask<B: Body, J: Journal>(
         }
     }
     Ok(Answer {
-        edit: cells.edit(),
+        edit: history.edit(),
         value,
         cells_read,
         summaries_read,
@@ -64,14 +64,14 @@ pub fn ask<B: Body, J: Journal>(
 
 // The summary of a whole node: what is known, or else computed from the node's children, which are asked first.
 fn know<B: Body, J: Journal>(
-    cells: &Edits<J>,
+    history: &Edits<J>,
     table: &mut Summaries<B::S>,
     body: &B,
     node: Node,
 ) -> Known<B::S>
-    requires agrees { Agrees (B.operations (B.meaning body.now)) cells.now.journal table.old }
+    requires agrees { Agrees (B.operations (B.meaning body.now)) history.now.journal table.old }
     requires whole { whole_in table.old node ≡ true }
-    ensures { Knows (B.operations (B.meaning body.now)) cells.now.journal table.old table.new node result }
+    ensures { Knows (B.operations (B.meaning body.now)) history.now.journal table.old table.new node result }
 {
     if let Some(summary) = table.known(node) {
         return Known {
@@ -81,15 +81,15 @@ fn know<B: Body, J: Journal>(
         };
     }
     // The elements are few enough for a fold.
-    let _size = cells.size();
+    let _size = history.size();
     if node.level == 1 {
-        return know_block(cells, table, body, node);
+        return know_block(history, table, body, node);
     }
     let mut summary = body.identity();
     let mut cells_read = 0;
     let mut summaries_read = 0;
     for k in 0..8 {
-        let known = know(cells, table, body, node.child(k));
+        let known = know(history, table, body, node.child(k));
         summary = join(body, summary, known.summary);
         cells_read += known.cells_read;
         summaries_read += known.summaries_read;
@@ -104,18 +104,18 @@ fn know<B: Body, J: Journal>(
 
 // The summary of a whole block that is not known, computed from its elements.
 fn know_block<B: Body, J: Journal>(
-    cells: &Edits<J>,
+    history: &Edits<J>,
     table: &mut Summaries<B::S>,
     body: &B,
     block: Node,
 ) -> Known<B::S>
-    requires agrees { Agrees (B.operations (B.meaning body.now)) cells.now.journal table.old }
+    requires agrees { Agrees (B.operations (B.meaning body.now)) history.now.journal table.old }
     requires whole { whole_in table.old block ≡ true }
     requires level { block.level ≡ 1 }
     requires unknown { known_in table.old block ≡ false }
-    ensures { Knows (B.operations (B.meaning body.now)) cells.now.journal table.old table.new block result }
+    ensures { Knows (B.operations (B.meaning body.now)) history.now.journal table.old table.new block result }
 {
-    let elements = cells.block(block.number);
+    let elements = history.block(block.number);
     let summary = fold_slice(body, &elements);
     table.learn(block, summary);
     Known {

@@ -11,16 +11,19 @@ use lv_geometry::Refusal;
 /// they lie, one after the other, and reads no summary: for a range so short that its summaries would cost more. Refused with
 /// `BadRange`, then `OutOfRange`. Takes no memory.
 pub fn fold_elements<B: Body>(
-    cells: &Edits,
+    history: &Edits,
     body: &B,
     lo: u32,
     hi: u32,
 ) -> Result<(u32, B::S), Refusal>
-    ensures ok { IfOk result (λ answer. IsAnswerPair (B.operations (B.meaning body.now)) cells.now.journal lo hi answer) }
-    ensures err { IfErr result (λ refusal. range_refusal cells.now.journal lo hi ≡ Some refusal) }
+    ensures ok { IfOk result (λ answer. IsAnswerPair (B.operations (B.meaning body.now)) history.now.journal lo hi answer) }
+    ensures err { IfErr result (λ refusal. range_refusal history.now.journal lo hi ≡ Some refusal) }
 {
-    if let Some(refusal) = refusal_of(cells, lo, hi) {
+    if let Some(refusal) = refusal_of(history, lo, hi) {
         return Err(refusal);
     }
-    Ok((cells.edit(), fold_range(Row::Cells(cells), body, lo, hi)))
+    Ok((
+        history.edit(),
+        fold_range(Row::Cells(history), body, lo, hi),
+    ))
 }

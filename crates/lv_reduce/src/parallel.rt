@@ -95,16 +95,16 @@ pub fn par_scan_slice<R: Threads + Sync, B: Body>(
 }
 
 /// The elements of a range, copied out of the vector, with room made at once.
-pub fn copy_range(alloc: Global, cells: &Edits, lo: u32, hi: u32) -> Result<Vec<i64>, AllocError>
+pub fn copy_range(alloc: Global, history: &Edits, lo: u32, hi: u32) -> Result<Vec<i64>, AllocError>
     requires order { lo ≤ hi }
-    requires inside { hi ≤ length (list_of cells.now.journal) }
-    ensures { IfOk result (λ xs. xs.items ≡ slice_of cells.now.journal lo hi) }
+    requires inside { hi ≤ length (list_of history.now.journal) }
+    ensures { IfOk result (λ xs. xs.items ≡ slice_of history.now.journal lo hi) }
 {
     let mut xs = Vec::with_capacity(alloc, (hi - lo) as usize)?;
     let mut cell = [0];
     let mut at = lo;
     while at < hi {
-        let run = run_at(cells, at, hi, &mut cell);
+        let run = run_at(history, at, hi, &mut cell);
         xs.extend_from_slice(run)?;
         at += run.len() as u32;
     }

@@ -34,23 +34,23 @@ pub fn fold_range<B: Body>(row: Row<'_>, body: &B, lo: u32, hi: u32) -> B::S
     ensures { result ≡ fold_of (B.operations (B.meaning body.now)) (slice_range (elements_in row.entry) lo hi) }
 {
     match row {
-        Row::Cells(cells) => fold_cells(cells, body, lo, hi),
+        Row::Cells(history) => fold_cells(history, body, lo, hi),
         Row::Slice(xs) => fold_slice(body, &xs[lo as usize..hi as usize]),
     }
 }
 
 // The fold of a range of a vector, by runs of elements that lie side by side.
-fn fold_cells<B: Body>(cells: &Edits, body: &B, lo: u32, hi: u32) -> B::S
-    requires can { CanFold (list_of cells.now.journal) }
+fn fold_cells<B: Body>(history: &Edits, body: &B, lo: u32, hi: u32) -> B::S
+    requires can { CanFold (list_of history.now.journal) }
     requires order { lo ≤ hi }
-    requires inside { hi ≤ length (list_of cells.now.journal) }
-    ensures { result ≡ fold_of (B.operations (B.meaning body.now)) (slice_of cells.now.journal lo hi) }
+    requires inside { hi ≤ length (list_of history.now.journal) }
+    ensures { result ≡ fold_of (B.operations (B.meaning body.now)) (slice_of history.now.journal lo hi) }
 {
     let mut sum = body.identity();
     let mut cell = [0];
     let mut at = lo;
     while at < hi {
-        let run = run_at(cells, at, hi, &mut cell);
+        let run = run_at(history, at, hi, &mut cell);
         sum = fold_on(body, sum, run);
         at += run.len() as u32;
     }

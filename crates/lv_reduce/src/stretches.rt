@@ -37,24 +37,24 @@ impl<B: Body> Stretch<B> {
     /// made at once.
     pub fn copy(
         alloc: Global,
-        cells: &Edits,
+        history: &Edits,
         body: B,
         lo: u32,
         hi: u32,
     ) -> Result<Stretch<B>, Refusal>
-        ensures ok { IfOk result (λ stretch. IsStretch cells.now.journal lo hi stretch) }
+        ensures ok { IfOk result (λ stretch. IsStretch history.now.journal lo hi stretch) }
         ensures body { IfOk result (λ stretch. stretch.body ≡ body) }
-        ensures err { IfErr result (λ refusal. IsScanRefusal cells.now.journal lo hi refusal) }
+        ensures err { IfErr result (λ refusal. IsScanRefusal history.now.journal lo hi refusal) }
     {
-        if let Some(refusal) = refusal_of(cells, lo, hi) {
+        if let Some(refusal) = refusal_of(history, lo, hi) {
             return Err(refusal);
         }
-        let Ok(elements) = copy_range(alloc, cells, lo, hi) else {
+        let Ok(elements) = copy_range(alloc, history, lo, hi) else {
             return Err(Refusal::NoMemory);
         };
         Ok(Stretch {
             body,
-            edit: cells.edit(),
+            edit: history.edit(),
             elements,
         })
     }

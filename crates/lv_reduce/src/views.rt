@@ -31,13 +31,13 @@ impl<'a, S, J: Journal> Clone for View<'a, S, J> {
 impl<'a, S, J: Journal> Copy for View<'a, S, J> {}
 
 // Why a range is refused, or nothing.
-pub fn refusal_of<J: Journal>(cells: &Edits<J>, lo: u32, hi: u32) -> Option<Refusal>
-    ensures value { result ≡ range_refusal cells.now.journal lo hi }
-    ensures limits { IsLegalInLimits cells.now }
+pub fn refusal_of<J: Journal>(history: &Edits<J>, lo: u32, hi: u32) -> Option<Refusal>
+    ensures value { result ≡ range_refusal history.now.journal lo hi }
+    ensures limits { IsLegalInLimits history.now }
     ensures order { IfNone result (lo ≤ hi) }
-    ensures inside { IfNone result (hi ≤ length (list_of cells.now.journal)) }
+    ensures inside { IfNone result (hi ≤ length (list_of history.now.journal)) }
 {
-    let size = cells.size();
+    let size = history.size();
     if hi < lo {
         Some(Refusal::BadRange)
     } else if size < hi {
@@ -50,16 +50,16 @@ pub fn refusal_of<J: Journal>(cells: &Edits<J>, lo: u32, hi: u32) -> Option<Refu
 /// Elements from index `at` on, before `hi`, one at least: a run of them where they lie, or the one at `at` alone, which is put into
 /// `cell`, where the last edit's write of it isn't in its place yet.
 #[inline(always)]
-pub fn run_at<'a>(cells: &'a Edits, at: u32, hi: u32, cell: &'a mut [i64; 1]) -> &'a [i64]
+pub fn run_at<'a>(history: &'a Edits, at: u32, hi: u32, cell: &'a mut [i64; 1]) -> &'a [i64]
     requires order { at < hi }
-    requires inside { hi ≤ length (list_of cells.now.journal) }
-    ensures elements { result.now ≡ slice_range (list_of cells.now.journal) at (at + length result.now) }
+    requires inside { hi ≤ length (list_of history.now.journal) }
+    ensures elements { result.now ≡ slice_range (list_of history.now.journal) at (at + length result.now) }
     ensures some { 0 < length result.now }
     ensures few { at + length result.now ≤ hi }
 {
-    let run = cells.stretch(at, hi);
+    let run = history.stretch(at, hi);
     if run.is_empty() {
-        *cell = [cells.read(at)];
+        *cell = [history.read(at)];
         return &cell[..];
     }
     run

@@ -7,7 +7,7 @@ use Rattle.lv_geometry.specs.declared.nodes.Node.{Node}
 use Rattle.lv_geometry.specs.Levels.{thing_at}
 use Rattle.lv_geometry.specs.Nodes.{is_below, is_node}
 use Rattle.lv_geometry.proofs.NodeLaws.{covers_more, level_of_node}
-use Rattle.lv_refresh.specs.Claimed.{ClaimRows, ClaimTable, claim_blocks, claimed_in, is_hinted, no_claims, version_of}
+use Rattle.lv_refresh.specs.ClaimTable.{ClaimRows, ClaimTable, claim_blocks, claimed_in, is_hinted, no_claims, version_of}
 use Rattle.lv_refresh.specs.Inner.{AreClaims, AreFilled, ClaimLevelState, FillsClaims, ForgetsClaims, HaveSameRows, claims_of}
 use Rattle.lv_refresh.proofs.RowLaws.{AreClaims-by_rows, AreClaims-same, claim_blocks-rows, claim_blocks-same, claimed_in-inside, claimed_in-outside, is_hinted-inside, is_hinted-outside, row_of_node, rows_at, rows_at-thing}
 

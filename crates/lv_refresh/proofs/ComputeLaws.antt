@@ -18,7 +18,7 @@ use Rattle.lv_summary.specs.Table.{Table, delivery_in, entry_in, fresh_in, touch
 use Rattle.lv_known.proofs.AgreesLaws.{entry_folds}
 use Rattle.lv_known.proofs.FoldableLaws.{part_can_fold}
 use Rattle.lv_summary.proofs.TableLaws.{delivery_in-current, same_node-self}
-use Rattle.lv_refresh.specs.Claimed.{AreHints, ClaimTable, claimed_in, record_of}
+use Rattle.lv_refresh.specs.ClaimTable.{AreHints, ClaimTable, claimed_in, record_of}
 use Rattle.lv_refresh.specs.Inner.{HintsNode, IsReady, ServesNode, children_fresh_in, wants_in}
 use Rattle.lv_refresh.specs.Record.{is_version}
 use Rattle.lv_refresh.specs.Refreshed.{RefreshesNext}

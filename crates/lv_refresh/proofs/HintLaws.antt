@@ -7,7 +7,7 @@ use Rattle.lv_geometry.specs.Levels.{thing_at, with_thing}
 use Rattle.lv_geometry.specs.Nodes.{is_node, over, same_node}
 use Rattle.lv_geometry.proofs.NodeLaws.{at_each_level, level_of_node}
 use Rattle.lv_summary.proofs.TableLaws.{node_of_same}
-use Rattle.lv_refresh.specs.Claimed.{ClaimTable, is_hinted}
+use Rattle.lv_refresh.specs.ClaimTable.{ClaimTable, is_hinted}
 use Rattle.lv_refresh.specs.Inner.{AreClaims, ClaimLevelState, HintsAt, HintsNode, claims_of}
 use Rattle.lv_refresh.specs.Marks.{is_marked}
 use Rattle.lv_refresh.proofs.RowLaws.{AreClaims-same, claim_blocks-same, claimed_in-same, is_hinted-inside, is_hinted-outside, rows_at}

@@ -19,7 +19,7 @@ use Rattle.lv_refresh.specs.declared.contents.Contents.{Contents}
 use Rattle.lv_refresh.specs.declared.contents.Contents.TheVariants.{Children, Elements}
 use Rattle.lv_refresh.specs.Carried.{Carried}
 use Rattle.lv_refresh.specs.Claim.{IsNextJob, children_fresh, wants_job}
-use Rattle.lv_refresh.specs.Claimed.{AreHints, ClaimTable, claimed_in, record_of}
+use Rattle.lv_refresh.specs.ClaimTable.{AreHints, ClaimTable, claimed_in, record_of}
 use Rattle.lv_refresh.specs.Contents.{CanFoldContents, in_order}
 use Rattle.lv_refresh.specs.Honesty.{Stands}
 use Rattle.lv_refresh.specs.Inner.{AreContentsIn, HintsWants, IsJobOf, ServesNext, ServesNode, children_fresh_in, wants_in}

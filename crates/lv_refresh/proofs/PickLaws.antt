@@ -5,7 +5,7 @@ use Rattle.std.proofs.lemmas.List.{get_or-set_other, get_or-set_same}
 use Rattle.lv_geometry.specs.declared.nodes.Node.{Node}
 use Rattle.lv_geometry.specs.Nodes.{is_below, is_node}
 use Rattle.lv_summary.specs.Table.{Table, fresh_in, touched_in, whole_in}
-use Rattle.lv_refresh.specs.Claimed.{ClaimRows, version_of}
+use Rattle.lv_refresh.specs.ClaimTable.{ClaimRows, version_of}
 use Rattle.lv_refresh.specs.Inner.{IsFirstHint, Passes, Picks, UnhintsAt, children_fresh_in, node_at, wants_at, wants_in, with_claim}
 use Rattle.lv_refresh.specs.Marks.{is_marked}
 use Rattle.lv_refresh.specs.Record.{is_version}

@@ -9,7 +9,7 @@ use Rattle.lv_geometry.specs.declared.nodes.Node.{Node}
 use Rattle.lv_geometry.specs.Levels.{thing_at}
 use Rattle.lv_geometry.specs.Nodes.{is_below, is_node}
 use Rattle.lv_geometry.proofs.NodeLaws.{at_each_level, level_of_node, number_below, some_width}
-use Rattle.lv_refresh.specs.Claimed.{ClaimRows, ClaimTable, claim_blocks, claimed_in, is_hinted, no_claims, version_of}
+use Rattle.lv_refresh.specs.ClaimTable.{ClaimRows, ClaimTable, claim_blocks, claimed_in, is_hinted, no_claims, version_of}
 use Rattle.lv_refresh.specs.Inner.{AreClaims, ClaimLevelState, IsClaimLevel, claims_of}
 use Rattle.lv_refresh.specs.Marks.{is_marked}
 

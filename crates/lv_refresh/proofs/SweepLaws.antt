@@ -17,7 +17,7 @@ use Rattle.lv_summary.specs.Changes.{Keeps}
 use Rattle.lv_summary.specs.Table.{Table, touched_in, whole_in}
 use Rattle.lv_summary.proofs.TableLaws.{same_node-eq, version_kept}
 use Rattle.lv_refresh.specs.Claim.{wants_job}
-use Rattle.lv_refresh.specs.Claimed.{AreHints, ClaimRows, ClaimTable, claim_blocks, claimed_in, is_hinted, record_of, version_of}
+use Rattle.lv_refresh.specs.ClaimTable.{AreHints, ClaimRows, ClaimTable, claim_blocks, claimed_in, is_hinted, record_of, version_of}
 use Rattle.lv_geometry.specs.declared.levels.Levels.{Levels}
 use Rattle.lv_geometry.specs.Levels.{with_thing}
 use Rattle.lv_refresh.specs.Inner.{AreClaims, CanServe, ClaimLevelState, HintsNode, Picks, ServesNode, UnhintsWord, claims_of, node_at, wants_at, wants_in, with_claim}

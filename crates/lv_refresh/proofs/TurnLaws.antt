@@ -8,7 +8,7 @@ use Rattle.lv_geometry.proofs.NodeLaws.{level_of_node, node_of_level}
 use Rattle.lv_summary.specs.Table.{Table}
 use Rattle.lv_summary.proofs.TableLaws.{node_of_same}
 use Rattle.lv_refresh.specs.Claim.{Before}
-use Rattle.lv_refresh.specs.Claimed.{ClaimTable, claim_blocks, claimed_in, is_hinted, version_of}
+use Rattle.lv_refresh.specs.ClaimTable.{ClaimTable, claim_blocks, claimed_in, is_hinted, version_of}
 use Rattle.lv_refresh.specs.Inner.{AreClaims, CanServe, GivesNext, HintsWants, Passes, Picks, ServesNext, ServesNode, ServesNone, node_at, wants_at, wants_in}
 use Rattle.lv_refresh.specs.Marks.{is_marked}
 use Rattle.lv_refresh.proofs.PickLaws.{version_of-stamp, whole_of_wants, wants_in-outside}

@@ -12,7 +12,7 @@ use Rattle.lv_refresh.specs.declared.contents.Contents.{Contents}
 use Rattle.lv_refresh.specs.declared.contents.Contents.TheVariants.{Elements, Children}
 use Rattle.lv_refresh.specs.Carried.{Carried}
 use Rattle.lv_refresh.specs.Claim.{Before}
-use Rattle.lv_refresh.specs.Claimed.{ClaimRows, ClaimTable, claim_blocks, claimed_in, is_hinted, no_claims, version_of}
+use Rattle.lv_refresh.specs.ClaimTable.{ClaimRows, ClaimTable, claim_blocks, claimed_in, is_hinted, no_claims, version_of}
 use Rattle.lv_refresh.specs.Contents.{in_order}
 use Rattle.lv_refresh.specs.Marks.{is_marked}
 use Rattle.lv_refresh.specs.Record.{is_version}

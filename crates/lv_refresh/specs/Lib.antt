@@ -1,6 +1,6 @@
 pub mod Carried
 pub mod Claim
-pub mod Claimed
+pub mod ClaimTable
 pub mod Contents
 pub mod Delivery
 pub mod Honesty

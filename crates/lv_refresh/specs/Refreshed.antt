@@ -8,7 +8,7 @@ use Rattle.lv_edits.specs.Touch.{elements_under}
 use Rattle.lv_summary.specs.Changes.{Keeps}
 use Rattle.lv_summary.specs.Table.{Table}
 use Rattle.lv_refresh.specs.Claim.{IsNextJob}
-use Rattle.lv_refresh.specs.Claimed.{ClaimTable, claimed_in, is_hinted, record_of}
+use Rattle.lv_refresh.specs.ClaimTable.{ClaimTable, claimed_in, is_hinted, record_of}
 
 -- the least node that wants a job was refreshed: it is claimed at the number of the edit that touched it last, the fold of its
 -- elements is kept for it at that version, and its parent is hinted at, if it has one

@@ -5,7 +5,7 @@ use Rattle.lv_edits.specs.declared.edit.Edit.{Edit}
 use Rattle.lv_known.specs.Agrees.{Agrees}
 use Rattle.lv_summary.specs.Table.{Table}
 use Rattle.lv_refresh.specs.Claim.{wants_job}
-use Rattle.lv_refresh.specs.Claimed.{AreHints, ClaimTable, claim_blocks, record_of}
+use Rattle.lv_refresh.specs.ClaimTable.{AreHints, ClaimTable, claim_blocks, record_of}
 use Rattle.lv_refresh.specs.Inner.{node_at}
 use Rattle.lv_refresh.specs.Refreshed.{RefreshesEach}
 

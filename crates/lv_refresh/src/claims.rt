@@ -3,7 +3,7 @@ ghost use Rattle.lv_geometry.specs.Levels.{thing_at};
 ghost use Rattle.lv_geometry.specs.Nodes.{is_below, is_node, over, parent, same_node};
 ghost use Rattle.lv_known.specs.Agrees.{Agrees};
 ghost use Rattle.lv_refresh.specs.Claim.{IsNextJob};
-ghost use Rattle.lv_refresh.specs.Claimed.{AreHints, claim_blocks, claimed_in, is_hinted, record_of};
+ghost use Rattle.lv_refresh.specs.ClaimTable.{AreHints, claim_blocks, claimed_in, is_hinted, record_of};
 ghost use Rattle.lv_refresh.specs.Honesty.{Stands};
 ghost use Rattle.lv_refresh.specs.Refreshed.{RefreshesNext};
 ghost use Rattle.lv_refresh.specs.Inner.{AreFilled, CanServe, GivesNext, HaveRoom, HaveSameRows, HintsNode, HintsWants, ServesNext};
@@ -31,7 +31,7 @@ pub struct Claims {
 }
 
 impl Model for Claims {
-    ghost use Rattle.lv_refresh.specs.Claimed.{ClaimTable};
+    ghost use Rattle.lv_refresh.specs.ClaimTable.{ClaimTable};
     ghost use Rattle.lv_refresh.specs.Inner.{AreClaims, claims_of};
 
     ghost Value = { ClaimTable };
@@ -138,23 +138,23 @@ impl Claims {
     /// node wants one. Takes no memory, and looks only at nodes that are hinted at.
     pub fn claim<B: Body, J: Journal>(
         &mut self,
-        cells: &Edits<J>,
+        history: &Edits<J>,
         table: &Summaries<B::S>,
         body: B,
     ) -> Option<Job<B>>
-        requires agrees { Agrees (B.operations (B.meaning body)) cells.now.journal table.now }
-        requires hints { AreHints (record_of cells.now.journal table.now self.old) self.old }
+        requires agrees { Agrees (B.operations (B.meaning body)) history.now.journal table.now }
+        requires hints { AreHints (record_of history.now.journal table.now self.old) self.old }
         requires grown { table.now.size ≤ 8 * claim_blocks self.old }
-        ensures next { IsNextJob (record_of cells.now.journal table.now self.old) (option_map (λ job. (job.node, job.version)) result) }
+        ensures next { IsNextJob (record_of history.now.journal table.now self.old) (option_map (λ job. (job.node, job.version)) result) }
         ensures claimed { IfSome result (λ job. (n : Node) → claimed_in self.new n ≡ (if same_node n job.node then Some job.version else claimed_in self.old n)) }
         ensures idle { IfNone result ((n : Node) → claimed_in self.new n ≡ claimed_in self.old n) }
-        ensures hints { AreHints (record_of cells.now.journal table.now self.new) self.new }
-        ensures job { IfSome result (λ job. Stands (B.operations (B.meaning body)) (record_of cells.now.journal table.now self.old) job.node job.contents) }
+        ensures hints { AreHints (record_of history.now.journal table.now self.new) self.new }
+        ensures job { IfSome result (λ job. Stands (B.operations (B.meaning body)) (record_of history.now.journal table.now self.old) job.node job.contents) }
         ensures body { IfSome result (λ job. job.body ≡ body) }
         ensures blocks { claim_blocks self.new ≡ claim_blocks self.old }
     {
         match self.next(table) {
-            Some((node, version)) => job_of(cells, table, node, version, body),
+            Some((node, version)) => job_of(history, table, node, version, body),
             None => None,
         }
     }
@@ -164,24 +164,24 @@ impl Claims {
     #[inline(always)]
     pub fn refresh_next<B: Body, J: Journal>(
         &mut self,
-        cells: &Edits<J>,
+        history: &Edits<J>,
         table: &mut Summaries<B::S>,
         body: &B,
     ) -> bool
-        requires agrees { Agrees (B.operations (B.meaning body.now)) cells.now.journal table.old }
-        requires hints { AreHints (record_of cells.now.journal table.old self.old) self.old }
+        requires agrees { Agrees (B.operations (B.meaning body.now)) history.now.journal table.old }
+        requires hints { AreHints (record_of history.now.journal table.old self.old) self.old }
         requires grown { table.old.size ≤ 8 * claim_blocks self.old }
-        ensures refreshed { result ≡ true → RefreshesNext (B.operations (B.meaning body.now)) cells.now.journal table.old table.new self.old self.new }
-        ensures idle { result ≡ false → IsNextJob (record_of cells.now.journal table.old self.old) None }
+        ensures refreshed { result ≡ true → RefreshesNext (B.operations (B.meaning body.now)) history.now.journal table.old table.new self.old self.new }
+        ensures idle { result ≡ false → IsNextJob (record_of history.now.journal table.old self.old) None }
         ensures claimed { result ≡ false → (n : Node) → claimed_in self.new n ≡ claimed_in self.old n }
         ensures same { result ≡ false → table.new ≡ table.old }
-        ensures hints { AreHints (record_of cells.now.journal table.old self.new) self.new }
+        ensures hints { AreHints (record_of history.now.journal table.old self.new) self.new }
         ensures blocks { claim_blocks self.new ≡ claim_blocks self.old }
     {
         let Some((node, version)) = self.next(table) else {
             return false;
         };
-        refresh_node(self, cells, table, body, node, version);
+        refresh_node(self, history, table, body, node, version);
         true
     }
 

@@ -1,5 +1,5 @@
 ghost use Rattle.std.specs.Prelude.{◌≡◌, ◌+◌, ◌-◌, ◌*◌, ◌^◌, ◌<◌, ◌≤◌, length, nat_eq, slice_index, IfSome, IfNone, OnOk, IfErr, ℕ, false};
-ghost use Rattle.lv_refresh.specs.Claimed.{no_claims, version_of};
+ghost use Rattle.lv_refresh.specs.ClaimTable.{no_claims, version_of};
 ghost use Rattle.lv_refresh.specs.Inner.{FillsClaims, ForgetsClaims, HintsAt, IsFirstHint, UnhintsAt, UnhintsWord, with_claim};
 ghost use Rattle.lv_refresh.specs.Marks.{is_marked};
 ghost use Rattle.lv_refresh.specs.Record.{is_version};

@@ -1,6 +1,6 @@
 ghost use Rattle.std.specs.Prelude.{◌≡◌, ◌*◌, ◌^◌, ◌≤◌, length, true, false, slice_index, IfSome, IfNone};
 ghost use Rattle.lv_summary.specs.Table.{touched_in};
-ghost use Rattle.lv_refresh.specs.Claimed.{version_of};
+ghost use Rattle.lv_refresh.specs.ClaimTable.{version_of};
 ghost use Rattle.lv_refresh.specs.Inner.{wants_in};
 
 use crate::level::Level;

@@ -60,7 +60,7 @@ module _ {B S : Type 0} (o : Operations S) (within : S → ℕ → Type 0) (laws
       let both = and_parts (is_whole es n) (nat_eq (touched_by es n) v) (taken_both (is_whole es n && nat_eq (touched_by es n) v) (is_version v ((recorded s).kept n)) (touched_by es n) taken) in
       (both.0, eqb-true (touched_by es n) v both.1)
 
-  -- what is taken in of what is vouched for is of the elements that stand here
+  -- what is delivered of what is vouched for is of the elements that stand here
   pub part_of_taken : (job : Carried B S) (same : Type 0) (answer : Accepted) → Vouched o (recorded s) same job.node job.version job.contents → answer ≡ delivery_of (recorded s) job.node job.version → is_taken answer ≡ true → IsPartOf o 0 (list_of s.history.journal) job
   part_of_taken job same answer vouched is taken =
       let there = whole_where_taken job.node job.version (ap is_taken (sym is) ∙ taken) in

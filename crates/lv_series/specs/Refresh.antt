@@ -72,7 +72,7 @@ IsFair same start xs job =
 abbrev pub IsFairIn : {B S : Type 0} → Type 0 → Held → ℕ → Carried B S → Type 0
 IsFairIn same h shard job = end_of shard job ≤ size_of h → (h.first ≤ first_of shard job) × CarriesThose same (slice_of h (first_of shard job) (end_of shard job)) job
 
--- whether an outcome was taken in, or was held already
+-- whether an outcome that was delivered was installed, or was held already
 abbrev pub is_taken : Accepted → Bool
 is_taken answer.Installed = true
 is_taken answer.Held = true
@@ -88,7 +88,7 @@ module _ {B S : Type 0} (o : Operations S) (same : Type 0) (old : LiveState B S)
   PassesBy said new = (said ≡ answer.Stale 0) × (new ≡ old)
 
   -- what becomes of an outcome for a vector: one that isn't vouched for is stale; else it is what the vector answers. Body and edits stay
-  pub record Takes (job : Carried B S) (said : Accepted) (new : LiveState B S) : Type 0 where
+  pub record Delivers (job : Carried B S) (said : Accepted) (new : LiveState B S) : Type 0 where
     pub body : new.body ≡ old.body
     pub history : new.history ≡ old.history
     pub unvouched : (IsVouched job → ⊥) → PassesBy said new
@@ -100,4 +100,4 @@ module _ {B S : Type 0} (o : Operations S) (same : Type 0) (old : LiveState B S)
     pub body : new.body ≡ old.body
     pub history : new.history ≡ old.history
     pub other : told ≢ age → PassesBy said new
-    pub own : told ≡ age → Takes job said new
+    pub own : told ≡ age → Delivers job said new

@@ -5,7 +5,7 @@ ghost use Rattle.lv_edits.specs.History.{list_of};
 ghost use Rattle.lv_live.specs.State.{HasClaim, node_and_version, recorded};
 ghost use Rattle.lv_refresh.specs.Claim.{IsNextJob};
 ghost use Rattle.lv_refresh.specs.Honesty.{IsHonest, Vouched};
-ghost use Rattle.lv_series.specs.Refresh.{IsPartOf, Receives, Takes, is_taken};
+ghost use Rattle.lv_series.specs.Refresh.{IsPartOf, Receives, Delivers, is_taken};
 
 use crate::jobs::{LongJob, LongJobOf, LongOutcome};
 use crate::vectors::Live;
@@ -73,7 +73,7 @@ pub fn accept_under<B: Body>(live: &mut Live<B>, age: u64, outcome: LongOutcome<
 // Takes an outcome into a vector of its age.
 fn accept_vetted<B: Body>(live: &mut Live<B>, outcome: Outcome<B>) -> Accepted
     requires { IsLegalInLimits live.old.history }
-    ensures takes { Takes (B.operations (B.meaning live.old.body)) (B.meaning live.old.body ≡ B.meaning outcome.body) live.old outcome result live.new }
+    ensures takes { Delivers (B.operations (B.meaning live.old.body)) (B.meaning live.old.body ≡ B.meaning outcome.body) live.old outcome result live.new }
     ensures part { is_taken result ≡ true → IsPartOf (B.operations (B.meaning live.old.body)) 0 (list_of live.old.history.journal) outcome }
 {
     if !live.vet(&outcome) {

@@ -19,7 +19,7 @@ impl<B: LongBody> Chain<B> {
         claim_first(&mut self.full, &mut self.tail, first, ages)
     }
 
-    /// Whether an outcome may be taken in: it is stale, or its shard vouches for it.
+    /// Whether an outcome may be delivered: it is stale, or its shard vouches for it.
     pub fn vet(&self, first: u64, outcome: &LongOutcome<B>) -> bool
         ensures { (first ≤ outcome.now.shard → IsFair (B.meaning self.now.body ≡ B.meaning outcome.now.job.body) (32760 * (outcome.now.shard - first)) self.now.elements outcome.now.job) → result ≡ true }
     {
@@ -29,7 +29,7 @@ impl<B: LongBody> Chain<B> {
         }
     }
 
-    /// Takes an outcome in. One of a shard that isn't there is stale. Takes no memory.
+    /// Delivers an outcome. One of a shard that isn't there is stale. Takes no memory.
     pub fn accept(&mut self, first: u64, outcome: LongOutcome<B>) -> Accepted
         ensures same { self.new ≡ self.old }
         ensures placed { is_taken result ≡ true → IsPlaced (B.operations (B.meaning self.old.body)) self.old.elements first outcome.shard outcome.job }

@@ -30,7 +30,7 @@ impl<B: LongBody> Series<B> {
         self.chain.vet(self.gone / SHARD as u64, outcome)
     }
 
-    /// Takes an outcome in, whoever made it: its summary is installed, or held already, or it is stale. It is stale, at edit 0, where its
+    /// Delivers an outcome, whoever made it: its summary is installed, or held already, or it is stale. It is stale, at edit 0, where its
     /// shard was dropped or made anew since, and where what it carries isn't what stands there. Else it is so where an edit has touched its
     /// node, and tells the last one of the shard's vector. Takes no memory.
     pub fn accept(&mut self, outcome: LongOutcome<B>) -> Accepted

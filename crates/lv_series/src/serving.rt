@@ -1,4 +1,4 @@
-//! Refresh of a shard: its jobs are claimed, and outcomes taken in, under its age.
+//! Refresh of a shard: its jobs are claimed, and outcomes delivered, under its age.
 ghost use Rattle.std.specs.Prelude.{◌≡◌, ◌+◌, ◌<◌, ◌≤◌, true, length, IfSome};
 ghost use Rattle.lv_series.specs.Refresh.{IsFair, IsPartOf, is_taken};
 
@@ -22,14 +22,14 @@ impl<B: Body> Shard<B> {
         claim_under(&mut self.live, number, self.age)
     }
 
-    /// Whether an outcome may be taken in: it is of another age, so that it is stale, or else its vector vouches for it.
+    /// Whether an outcome may be delivered: it is of another age, so that it is stale, or else its vector vouches for it.
     pub fn vet(&self, outcome: &LongOutcome<B>) -> bool
         ensures { IsFair (B.meaning self.now.body ≡ B.meaning outcome.now.job.body) 0 self.now.elements outcome.now.job → result ≡ true }
     {
         vet_under(&self.live, self.age, outcome)
     }
 
-    /// Takes an outcome in, where it is of its age and vouched for. Takes no memory.
+    /// Delivers an outcome, where it is of its age and vouched for. Takes no memory.
     pub fn accept(&mut self, outcome: LongOutcome<B>) -> Accepted
         ensures same { self.new ≡ self.old }
         ensures part { is_taken result ≡ true → IsPartOf (B.operations (B.meaning self.old.body)) 0 self.old.elements outcome.job }

@@ -261,7 +261,7 @@ impl Standing {
         self.live.vet(outcome)
     }
 
-    /// Takes an outcome in: it is stale, or held already, or its summary is installed. Takes no memory.
+    /// Delivers an outcome: it is stale, or held already, or its summary is installed. Takes no memory.
     pub fn accept(&mut self, outcome: Outcome<Six>) -> Accepted
         requires { Vouched six_operations (recorded self.old.live)
             (⟦<Six as Body>⟧.meaning self.old.live.body ≡ ⟦<Six as Body>⟧.meaning outcome.body) outcome.node outcome.version outcome.contents }

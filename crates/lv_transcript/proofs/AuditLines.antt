@@ -11,10 +11,10 @@ use Rattle.lv_lines.specs.declared.command.Command.TheVariants as command
 use Rattle.lv_lines.specs.declared.command.Line.TheVariants.{Do}
 use Rattle.lv_lines.specs.Texts.{shown_text}
 use Rattle.lv_transcript.specs.declared.auditor.Stage.{Stage}
-use Rattle.lv_transcript.specs.declared.auditor.Stage.TheVariants.{Start, Edits, Claims, End, No, Bad, NoMemory}
+use Rattle.lv_transcript.specs.declared.auditor.Stage.TheVariants.{Start, Edits, AnswersFollow, End, No, Bad, NoMemory}
 use Rattle.lv_transcript.specs.declared.transcript_lines.Question.{Question}
 use Rattle.lv_transcript.specs.Transcript.{edit_line, greatest, end_line, IsEdit}
-use Rattle.lv_transcript.specs.Auditing.{AuditState, ClaimBecomes, EditBecomes, Becomes, IsAnswered, IsQuestion, MayEnd, Takes, TakesClaim, TakesEdit, TakesLater, question_of, text_of}
+use Rattle.lv_transcript.specs.Auditing.{AuditState, AnswerLineBecomes, EditBecomes, Becomes, IsAnswered, IsQuestion, MayEnd, Takes, TakesAnswer, TakesEdit, TakesLater, question_of, text_of}
 use Rattle.lv_transcript.proofs.ReadTranscripts.{line_of-edit_line, question_in-text_of}
 
 -- what follows where the lines that may be taken are the same
@@ -69,11 +69,11 @@ Becomes-edit number old line e (No n) journal at fits is ends =
     ))
 Becomes-edit number old line e NoMemory journal at fits is ends = inr (inr refl)
 Becomes-edit number old line e Start journal at fits is ends = absurd ends
-Becomes-edit number old line e Claims journal at fits is ends = absurd ends
+Becomes-edit number old line e AnswersFollow journal at fits is ends = absurd ends
 Becomes-edit number old line e End journal at fits is ends = absurd ends
 Becomes-edit number old line e (Bad n) journal at fits is ends = absurd ends
 
--- ---- claims
+-- ---- answers
 
 -- a line that begins with a question begins with no other
 pub same_question : (line first second : List ℕ) (p q : Question) → IsQuestion p → IsQuestion q → line ≡ text_of p ++ first → line ≡ text_of q ++ second → p ≡ q
@@ -85,18 +85,18 @@ same_value : (question first second : List ℕ) → question ++ first ≡ questi
 same_value question first second same =
     sym (drop-append_seam question first) ∙ ap (drop (length question)) same ∙ drop-append_seam question second
 
--- a claim that is taken is answered right
-taken_is_answered : (old next : AuditState) (line value : List ℕ) (q : Question) → IsQuestion q → line ≡ text_of q ++ value → TakesClaim old line next → IsAnswered old.journal old.last q value
+-- an answer that is taken is answered right
+taken_is_answered : (old next : AuditState) (line value : List ℕ) (q : Question) → IsQuestion q → line ≡ text_of q ++ value → TakesAnswer old line next → IsAnswered old.journal old.last q value
 taken_is_answered old next line value q fits is t =
-    let asked = question_of t.claim in
-    let same : asked ≡ q = same_question line (shown_text t.claim.value) value asked q t.fits fits t.text is in
-    let right : IsAnswered old.journal old.last asked (shown_text t.claim.value) = record {
+    let asked = question_of t.answer in
+    let same : asked ≡ q = same_question line (shown_text t.answer.value) value asked q t.fits fits t.text is in
+    let right : IsAnswered old.journal old.last asked (shown_text t.answer.value) = record {
       order = t.order;
       edit = t.holds.edit;
       answer = record { range = t.holds.range; end = t.holds.end; right = ap shown_text t.holds.value };
     } in
-    let behind : shown_text t.claim.value ≡ value =
-    same_value (text_of asked) (shown_text t.claim.value) value (sym t.text ∙ is ∙ ap (λ (p : Question). text_of p ++ value) (sym same)) in
+    let behind : shown_text t.answer.value ≡ value =
+    same_value (text_of asked) (shown_text t.answer.value) value (sym t.text ∙ is ∙ ap (λ (p : Question). text_of p ++ value) (sym same)) in
     subst (λ (p : Question). IsAnswered old.journal old.last p value) same (subst (IsAnswered old.journal old.last asked) behind right)
 
 -- the last line begins with no question
@@ -112,32 +112,32 @@ not_taken old next line value q fits is wrong (inr t) = not_last q value line is
 disordered : (last edit : ℕ) → edit < last → last ≤ edit → ⊥
 disordered last edit before after = absurd (omega arith)
 
--- what became of a claim is what became of its line
-pub Becomes-claim : (number : ℕ) (old : AuditState) (line value : List ℕ) (q : Question) (stage : Stage) (reached : ℕ) → MayEnd old.stage → IsQuestion q → line ≡ text_of q ++ value
-    → ClaimBecomes number old.journal old.last q value stage reached → Becomes number line (TakesLater old line) record old { stage = stage; last = reached }
-Becomes-claim number old line value q Claims reached at fits is ends =
+-- what became of an answer is what became of its line
+pub Becomes-answer : (number : ℕ) (old : AuditState) (line value : List ℕ) (q : Question) (stage : Stage) (reached : ℕ) → MayEnd old.stage → IsQuestion q → line ≡ text_of q ++ value
+    → AnswerLineBecomes number old.journal old.last q value stage reached → Becomes number line (TakesLater old line) record old { stage = stage; last = reached }
+Becomes-answer number old line value q AnswersFollow reached at fits is ends =
     let answer = ends.0.answer in
     inl (inl record {
-      claim = record { edit = q.edit; kind = q.kind; lo = q.lo; hi = q.hi; value = plain_value q.kind (slice_range (list_of (take q.edit old.journal)) q.lo q.hi) };
+      answer = record { edit = q.edit; kind = q.kind; lo = q.lo; hi = q.hi; value = plain_value q.kind (slice_range (list_of (take q.edit old.journal)) q.lo q.hi) };
       at = at;
       fits = fits;
       text = is ∙ ap (λ (xs : List ℕ). text_of q ++ xs) answer.right;
       order = ends.0.order;
       holds = record { edit = ends.0.edit; range = answer.range; end = answer.end; value = refl };
-      next = ap (λ (n : ℕ). record old { stage = Claims; last = n }) ends.1;
+      next = ap (λ (n : ℕ). record old { stage = AnswersFollow; last = n }) ends.1;
     })
-Becomes-claim number old line value q (No n) reached at fits is ends =
+Becomes-answer number old line value q (No n) reached at fits is ends =
     inr (inl ((ends.0, inr (q.edit, q.kind, q.lo, q.hi, value, is)), λ next taken. not_taken old next line value q fits is ends.2 taken))
-Becomes-claim number old line value q (Bad n) reached at fits is ends =
+Becomes-answer number old line value q (Bad n) reached at fits is ends =
     inr (inl (ends.0, λ next taken. not_taken old next line value q fits is (λ answered. disordered old.last q.edit ends.1 answered.order) taken))
-Becomes-claim number old line value q NoMemory reached at fits is ends = inr (inr refl)
-Becomes-claim number old line value q Start reached at fits is ends = absurd ends
-Becomes-claim number old line value q Edits reached at fits is ends = absurd ends
-Becomes-claim number old line value q End reached at fits is ends = absurd ends
+Becomes-answer number old line value q NoMemory reached at fits is ends = inr (inr refl)
+Becomes-answer number old line value q Start reached at fits is ends = absurd ends
+Becomes-answer number old line value q Edits reached at fits is ends = absurd ends
+Becomes-answer number old line value q End reached at fits is ends = absurd ends
 
 -- a line that is not the last, and begins with no question, is not taken after the edits
 pub none_later : (old next : AuditState) (line : List ℕ) → line ≢ end_line → ((q : Question) (value : List ℕ) → IsQuestion q → line ≢ text_of q ++ value) → TakesLater old line next → ⊥
-none_later old next line other none (inl t) = none (question_of t.claim) (shown_text t.claim.value) t.fits t.text
+none_later old next line other none (inl t) = none (question_of t.answer) (shown_text t.answer.value) t.fits t.text
 none_later old next line other none (inr t) = other t.text
 
 -- ---- at their stages
@@ -148,9 +148,9 @@ Becomes-at_edits n old new line at short =
     Becomes-same n line (λ next. TakesEdit old line next ⊎ TakesLater old line next) (Takes old line) new (λ next taken. (short, inr taken))
     (λ next taken. elim taken.1 [ inl t ↦ absurd (cc (at, t.at)) | inr t ↦ t ])
 
--- where claims may stand
-pub Becomes-at_claims : (n : ℕ) (old new : AuditState) (line : List ℕ) → old.stage ≡ Claims → length line ≤ 120 → Becomes n line (TakesLater old line) new → Becomes n line (Takes old line) new
-Becomes-at_claims n old new line at short =
+-- where answers may stand
+pub Becomes-at_answers : (n : ℕ) (old new : AuditState) (line : List ℕ) → old.stage ≡ AnswersFollow → length line ≤ 120 → Becomes n line (TakesLater old line) new → Becomes n line (Takes old line) new
+Becomes-at_answers n old new line at short =
     Becomes-same n line (TakesLater old line) (Takes old line) new (λ next taken. (short, inr (inr taken)))
     (λ next taken. elim taken.1 [ inl t ↦ absurd (cc (at, t.at)) | inr (inl t) ↦ absurd (cc (at, t.at)) | inr (inr t) ↦ t ])
 

@@ -5,7 +5,7 @@ use Rattle.lv_edits.specs.declared.edit.Edit.{Edit}
 use Rattle.lv_lines.specs.Texts.{shown_text}
 use Rattle.lv_lines.specs.Replies.{Answered}
 use Rattle.lv_transcript.specs.declared.auditor.Stage.{Stage}
-use Rattle.lv_transcript.specs.declared.auditor.Stage.TheVariants.{Start, Edits, Claims, End, No, Bad, NoMemory}
+use Rattle.lv_transcript.specs.declared.auditor.Stage.TheVariants.{Start, Edits, AnswersFollow, End, No, Bad, NoMemory}
 use Rattle.lv_transcript.specs.Transcript.{HasForm}
 use Rattle.lv_transcript.specs.Auditing.{AuditState, AuditStep, IsFaultOf, MayEnd, Takes, TakesEdit, TakesFirst, TakesLater, is_fault, is_stopped, question_of}
 use Rattle.lv_transcript.proofs.AuditLines.{edit_line-injective, no_edit_later, not_last, same_question}
@@ -16,7 +16,7 @@ use Rattle.lv_transcript.proofs.AuditLines.{edit_line-injective, no_edit_later, 
 pub stopped_takes_none : (old new : AuditState) (line : List ℕ) → is_stopped old.stage ≡ true → Takes old line new → ⊥
 stopped_takes_none old new line stopped taken =
     let at_stage = λ (s : Stage) (at : old.stage ≡ s) (going : is_stopped s ≡ false). true≢false (sym stopped ∙ ap is_stopped at ∙ going) in
-    let at_end = λ (at : MayEnd old.stage). elim at as (λ _. ⊥) [ inl e ↦ at_stage Edits e refl | inr e ↦ at_stage Claims e refl ] in
+    let at_end = λ (at : MayEnd old.stage). elim at as (λ _. ⊥) [ inl e ↦ at_stage Edits e refl | inr e ↦ at_stage AnswersFollow e refl ] in
     elim taken.1 as (λ _. ⊥) [
       | inl t ↦ at_stage Start t.at refl
       | inr (inl t) ↦ at_stage Edits t.at refl
@@ -32,11 +32,11 @@ not_start stage start (inr at) = absurd (cc (start, at))
 -- a line that comes after the edits is taken in one way
 same_later : (old a b : AuditState) (line : List ℕ) → TakesLater old line a → TakesLater old line b → a ≡ b
 same_later old a b line (inl p) (inl q) =
-    let same : question_of p.claim ≡ question_of q.claim =
-    same_question line (shown_text p.claim.value) (shown_text q.claim.value) (question_of p.claim) (question_of q.claim) p.fits q.fits p.text q.text in
-    p.next ∙ ap (λ (n : ℕ). record old { stage = Claims; last = n }) (ap (λ asked. asked.edit) same) ∙ sym q.next
-same_later old a b line (inl p) (inr q) = absurd (not_last (question_of p.claim) (shown_text p.claim.value) line p.text q.text)
-same_later old a b line (inr p) (inl q) = absurd (not_last (question_of q.claim) (shown_text q.claim.value) line q.text p.text)
+    let same : question_of p.answer ≡ question_of q.answer =
+    same_question line (shown_text p.answer.value) (shown_text q.answer.value) (question_of p.answer) (question_of q.answer) p.fits q.fits p.text q.text in
+    p.next ∙ ap (λ (n : ℕ). record old { stage = AnswersFollow; last = n }) (ap (λ asked. asked.edit) same) ∙ sym q.next
+same_later old a b line (inl p) (inr q) = absurd (not_last (question_of p.answer) (shown_text p.answer.value) line p.text q.text)
+same_later old a b line (inr p) (inl q) = absurd (not_last (question_of q.answer) (shown_text q.answer.value) line q.text p.text)
 same_later old a b line (inr p) (inr q) = p.next ∙ sym q.next
 
 -- a line is taken in one way
@@ -56,7 +56,7 @@ same_way old a b line (inr (inr p)) (inr (inr q)) = same_later old a b line p q
 
 -- ---- many lines
 
--- among lines that are numbered from n, that of this number has the form of an edit or of a claim
+-- among lines that are numbered from n, that of this number has the form of an edit or of an answer
 pub record IsNamed (lines : List (List ℕ)) (number n : ℕ) : Type 0 where
   pub front : List (List ℕ)
   pub line : List ℕ
@@ -94,7 +94,7 @@ fault_of_line n line (Bad k) fault = refl
 fault_of_line n line NoMemory fault = absurd fault
 fault_of_line n line Start fault = absurd fault
 fault_of_line n line Edits fault = absurd fault
-fault_of_line n line Claims fault = absurd fault
+fault_of_line n line AnswersFollow fault = absurd fault
 fault_of_line n line End fault = absurd fault
 
 -- a fault stops it
@@ -104,7 +104,7 @@ fault_stops (Bad n) fault = refl
 fault_stops NoMemory fault = refl
 fault_stops Start fault = fault
 fault_stops Edits fault = fault
-fault_stops Claims fault = fault
+fault_stops AnswersFollow fault = fault
 fault_stops End fault = fault
 
 -- one that has stopped does not end

@@ -18,7 +18,7 @@ use Rattle.lv_transcript.specs.declared.auditor.Stage.TheVariants.{End, NoMemory
 use Rattle.lv_transcript.specs.declared.auditor.Stage.TheVariants as stages
 use Rattle.lv_transcript.specs.declared.auditor.Verdict.{Verdict}
 use Rattle.lv_transcript.specs.declared.auditor.Verdict.TheVariants.{Yes, No, Bad}
-use Rattle.lv_transcript.specs.Transcript.{claim_line, edit_line, first_line, end_line, transcript_lines, verdict_text, Audited, IsEdit, IsRight, IsSoundTranscript, NamesRight}
+use Rattle.lv_transcript.specs.Transcript.{answer_line, edit_line, first_line, end_line, transcript_lines, verdict_text, Audited, IsEdit, IsRight, IsSoundTranscript, NamesRight}
 use Rattle.lv_transcript.specs.Auditing.{AuditState, AuditStep, IsVerdictAt, start_state}
 use Rattle.lv_transcript.proofs.TakenLines.{taken_lines}
 use Rattle.lv_transcript.proofs.AuditRuns.{named_false, no_replies, runs_short, taken_or_none, taken_to_end}
@@ -43,19 +43,19 @@ sound_at_end seen text new a end =
     let taken = taken_lines new lines end runs in
     record {
       edits = taken.edits;
-      claims = taken.claims;
+      answers = taken.answers;
       text = subst (λ (ls : List (List ℕ)). AreEnded seen ls) (sym same ∙ taken.lines_are) (bytes_of_lines seen);
       elements = All-weaker IsEdit CarriesElement carries_of_fits taken.edits taken.fit;
       accepted = taken.accepted;
-      order = in_order_of_rise 0 taken.claims taken.rise;
+      order = in_order_of_rise 0 taken.answers taken.rise;
       all_true = taken.all_true;
     }
 
 -- the lines of a sound transcript
-lines_of_sound : (seen : List ℕ) (sound : IsSoundTranscript seen) → All (All IsPrintable) (transcript_lines sound.edits sound.claims) → lines_of seen ≡ transcript_lines sound.edits sound.claims
+lines_of_sound : (seen : List ℕ) (sound : IsSoundTranscript seen) → All (All IsPrintable) (transcript_lines sound.edits sound.answers) → lines_of seen ≡ transcript_lines sound.edits sound.answers
 lines_of_sound seen sound printable =
-    let front = first_line ∷ (map edit_line sound.edits ++ map claim_line sound.claims) in
-    let lines = transcript_lines sound.edits sound.claims in
+    let front = first_line ∷ (map edit_line sound.edits ++ map answer_line sound.answers) in
+    let lines = transcript_lines sound.edits sound.answers in
     let whole = All-weaker (All IsPrintable) IsUnended unended_printable lines printable in
     elim sound.text [
       | inl is ↦ ap lines_of is ∙ lines_of_text lines whole
@@ -65,8 +65,8 @@ lines_of_sound seen sound printable =
 -- and an audit of a sound transcript comes to the end, unless there is no memory
 ends_on_sound : (seen text : List ℕ) (new : AuditState) → Answered AuditStep start_state 1 (map (take 121) (lines_of seen)) text new → new.stage ≢ NoMemory → IsSoundTranscript seen → new.stage ≡ End
 ends_on_sound seen text new a memory sound =
-    let lines = transcript_lines sound.edits sound.claims in
-    let known = sound_lines sound.edits sound.claims sound.elements sound.accepted sound.order sound.all_true in
+    let lines = transcript_lines sound.edits sound.answers in
+    let known = sound_lines sound.edits sound.answers sound.elements sound.accepted sound.order sound.all_true in
     let short = runs_short start_state known.runs.end lines known.runs.runs in
     let same : map (take 121) (lines_of seen) ≡ lines = ap (map (take 121)) (lines_of_sound seen sound known.printable) ∙ first_of_short lines short in
     elim (taken_or_none start_state 1 lines text new known.runs.end (subst (λ (ls : List (List ℕ)). Answered AuditStep start_state 1 ls text new) same a) known.runs.runs) [
@@ -81,7 +81,7 @@ yes_at_end (stages.No n) verdict told = (λ is. absurd (cc is), (λ yes. absurd 
 yes_at_end (stages.Bad n) verdict told = (λ is. absurd (cc is), (λ yes. absurd (cc (told, yes)), λ is. absurd (cc is)))
 yes_at_end stages.Start verdict told = (λ is. absurd (cc is), (λ yes. absurd (cc (told.1, yes)), λ is. absurd (cc is)))
 yes_at_end stages.Edits verdict told = (λ is. absurd (cc is), (λ yes. absurd (cc (told.1, yes)), λ is. absurd (cc is)))
-yes_at_end stages.Claims verdict told = (λ is. absurd (cc is), (λ yes. absurd (cc (told.1, yes)), λ is. absurd (cc is)))
+yes_at_end stages.AnswersFollow verdict told = (λ is. absurd (cc is), (λ yes. absurd (cc (told.1, yes)), λ is. absurd (cc is)))
 yes_at_end NoMemory verdict told = absurd told
 
 -- which line a `no` names
@@ -99,7 +99,7 @@ no_at_false (stages.Bad k) n told = absurd (cc told)
 no_at_false End n told = absurd (cc told)
 no_at_false stages.Start n told = absurd (cc told.1)
 no_at_false stages.Edits n told = absurd (cc told.1)
-no_at_false stages.Claims n told = absurd (cc told.1)
+no_at_false stages.AnswersFollow n told = absurd (cc told.1)
 no_at_false NoMemory n told = absurd told
 
 -- the line that it names

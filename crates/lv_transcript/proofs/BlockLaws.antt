@@ -9,7 +9,7 @@ use Rattle.lv_geometry.specs.Elements.{IsElement}
 use Rattle.lv_bodies.specs.Body.{BodyLaws, CanFold, CanJoin, Operations, fold_of}
 use Rattle.lv_bodies.specs.FoldLaws.{fold_of-append, fold_of-within}
 use Rattle.lv_edits.proofs.Slices.{length-slice_range, part_of_push, part_of_set, part_of_take}
-use Rattle.lv_transcript.specs.Blocks.{AreFolds, IsFold, block_of, with_places}
+use Rattle.lv_transcript.specs.Blocks.{AreFolds, IsFold, block_elements, with_places}
 
 -- what is known of a block stands in a place of the list
 known_below : {S : Type 0} (folds : List (Option S)) (k : ℕ) (s : S) → slice_index_or folds k None ≡ Some s → k < length folds
@@ -105,10 +105,10 @@ module _ {S : Type 0} (o : Operations S) (xs : List ℤ) where
     }
 
     -- the fold of a block is kept in its place
-    pub folds-learn : (k : ℕ) (s : S) → IsFold o (block_of xs k) s → AreFolds o xs (slice_set folds k (Some s))
+    pub folds-learn : (k : ℕ) (s : S) → IsFold o (block_elements xs k) s → AreFolds o xs (slice_set folds k (Some s))
     folds-learn k s is = record {
       whole = omega (arith, kept.whole, length-set folds k (Some s));
-      right = λ j t known. learnt folds k s j t known (kept.right j t) (λ same told. subst (λ n. IsFold o (block_of xs n) t) (sym same) (subst (IsFold o (block_of xs k)) told is));
+      right = λ j t known. learnt folds k s j t known (kept.right j t) (λ same told. subst (λ n. IsFold o (block_elements xs n) t) (sym same) (subst (IsFold o (block_elements xs k)) told is));
     }
 
 -- a slice that ends later has a further slice at its end

@@ -13,7 +13,7 @@ use Rattle.lv_lines.specs.Output.{Writes, WritesFront}
 use Rattle.lv_lines.specs.Replies.{Answered, Conversed}
 use Rattle.lv_lines.proofs.OutputLemmas.{Writes-put, WritesFront-after}
 use Rattle.lv_transcript.specs.declared.auditor.Stage.{Stage}
-use Rattle.lv_transcript.specs.declared.auditor.Stage.TheVariants.{Start, Edits, Claims, End, NoMemory}
+use Rattle.lv_transcript.specs.declared.auditor.Stage.TheVariants.{Start, Edits, AnswersFollow, End, NoMemory}
 use Rattle.lv_transcript.specs.declared.auditor.Stage.TheVariants as stages
 use Rattle.lv_transcript.specs.declared.fronts.FrontVerdict.{FrontVerdict}
 use Rattle.lv_transcript.specs.declared.fronts.FrontVerdict.TheVariants as verdicts
@@ -104,7 +104,7 @@ told_at new lines t n verdict End count at going told =
             answers_are = omega (arith, count, long, length-append shown (end_line ∷ []), length-map t.entries entry_line, all, entries_counted t.entries);
           }
     ]
-told_at new lines t n verdict Claims count at going told =
+told_at new lines t n verdict AnswersFollow count at going told =
     elim t.ends [
       | inl none ↦ absurd (cc (at, none.0))
       | inr (inl some) ↦ absurd (cc (at, some.0))
@@ -146,7 +146,7 @@ right_at : (seen text : List ℕ) (new : FrontState) (verdict : FrontVerdict) (s
     → IsFoundAt new.audit.stage new.lines (length new.audit.journal) verdict → IsRightOfFront seen new.audit.journal verdict
 right_at seen text new verdict Start at a told = front_found seen text new verdict a (ap is_stopped at) told
 right_at seen text new verdict Edits at a told = front_found seen text new verdict a (ap is_stopped at) told
-right_at seen text new verdict Claims at a told = front_found seen text new verdict a (ap is_stopped at) told
+right_at seen text new verdict AnswersFollow at a told = front_found seen text new verdict a (ap is_stopped at) told
 right_at seen text new verdict End at a told = front_found seen text new verdict a (ap is_stopped at) told
 right_at seen text new verdict (stages.No n) at a told =
     let is : verdict ≡ verdicts.No n = subst (λ (s : Stage). IsFoundAt s new.lines (length new.audit.journal) verdict) at told in

@@ -7,16 +7,16 @@ use Rattle.lv_edits.specs.declared.edit.Edit.{Edit}
 use Rattle.lv_edits.specs.History.{list_of}
 use Rattle.lv_edits.specs.Kept.{CarriesElement}
 use Rattle.lv_edits.specs.Verdict.{verdict_of}
-use Rattle.lv_transcript.specs.declared.auditor.Stage.TheVariants.{Start, Edits, Claims, End}
+use Rattle.lv_transcript.specs.declared.auditor.Stage.TheVariants.{Start, Edits, AnswersFollow, End}
 use Rattle.lv_transcript.specs.declared.claimed.Claimed.{Claimed}
-use Rattle.lv_transcript.specs.Transcript.{claim_line, edit_line, end_line, first_line, greatest, transcript_text, AreAccepted, AreAcceptedAfter, IsEdit, IsSoundTranscript, IsTrueClaim}
+use Rattle.lv_transcript.specs.Transcript.{answer_line, edit_line, end_line, first_line, greatest, transcript_text, AreAccepted, AreAcceptedAfter, IsEdit, IsSoundTranscript, IsTrueAnswer}
 use Rattle.lv_transcript.specs.Auditing.{AuditState, Takes, start_state}
 use Rattle.lv_transcript.specs.FrontSteps.{open_again, reopened}
 use Rattle.lv_transcript.specs.Fronts.{AreEntryLines, AreFrontLines, AreTrueAfter, Entry, answers_in, edits_in, entry_line}
 use Rattle.lv_transcript.proofs.TakenLines.{RiseFrom}
 use Rattle.lv_transcript.proofs.AuditedTranscripts.{carries_of_fits}
 use Rattle.lv_transcript.proofs.FrontRuns.{FrontRuns}
-use Rattle.lv_transcript.proofs.SoundTranscripts.{IsWithin, accepted_fits, beginnings_within, in_order_of_rise, line_of_edit, plain_claim, within_none}
+use Rattle.lv_transcript.proofs.SoundTranscripts.{IsWithin, accepted_fits, beginnings_within, in_order_of_rise, line_of_edit, plain_answer, within_none}
 
 -- ---- from lines that are taken to entries
 
@@ -71,9 +71,9 @@ entries_of old new (line ∷ lines) at runs =
           let rest : AreEntries next new lines = entries_of next new lines refl (subst (λ (s : AuditState). FrontRuns s lines new) there runs.2) in
           with_entry old next new line lines (inl t.edit) t.text rest (λ holds. (carries_of_fits t.edit t.fits, t.verdict, holds)) (append_assoc old.journal (t.edit ∷ []) (edits_in rest.entries))
       | inr (inr (inl t)) ↦
-          let next : AuditState = record { stage = Edits; journal = old.journal; last = t.claim.edit } in
+          let next : AuditState = record { stage = Edits; journal = old.journal; last = t.answer.edit } in
           let rest : AreEntries next new lines = entries_of next new lines refl (subst (λ (s : AuditState). FrontRuns s lines new) (ap reopened t.next) runs.2) in
-          with_entry old next new line lines (inr t.claim) t.text rest (λ holds. (t.order, t.holds, holds)) refl
+          with_entry old next new line lines (inr t.answer) t.text rest (λ holds. (t.order, t.holds, holds)) refl
       | inr (inr (inr t)) ↦
           let ended : AuditState = record old { stage = End } in
           let last = none_behind_end ended new lines refl (subst (λ (s : AuditState). FrontRuns s lines new) (ap reopened t.next) runs.2) in
@@ -146,41 +146,41 @@ front_lines_of new (line ∷ lines) t =
 
 -- ---- in the order of a transcript
 
--- a claim that is true of some edits is true of them with more behind
-claim_later : (before more : List Edit) (claim : Claimed) → IsTrueClaim before claim → IsTrueClaim (before ++ more) claim
-claim_later before more claim holds =
-    let same : take claim.edit (before ++ more) ≡ take claim.edit before = take-append-le claim.edit before more holds.edit in
+-- an answer that is true of some edits is true of them with more behind
+answer_later : (before more : List Edit) (answer : Claimed) → IsTrueAnswer before answer → IsTrueAnswer (before ++ more) answer
+answer_later before more answer holds =
+    let same : take answer.edit (before ++ more) ≡ take answer.edit before = take-append-le answer.edit before more holds.edit in
     record {
       edit = omega (arith, holds.edit, length-append before more);
       range = holds.range;
-      end = subst (λ (js : List Edit). claim.hi ≤ length (list_of js)) (sym same) holds.end;
-      value = subst (λ (js : List Edit). claim.value ≡ plain_value claim.kind (slice_range (list_of js) claim.lo claim.hi)) (sym same) holds.value;
+      end = subst (λ (js : List Edit). answer.hi ≤ length (list_of js)) (sym same) holds.end;
+      value = subst (λ (js : List Edit). answer.value ≡ plain_value answer.kind (slice_range (list_of js) answer.lo answer.hi)) (sym same) holds.value;
     }
 
 -- edits that are accepted, and answers that are true and rise
 pub record AreInPlace (before : List Edit) (last : ℕ) (edits : List Edit) (answers : List Claimed) : Type 0 where
   pub accepted : AreAcceptedAfter greatest before edits
   pub elements : All CarriesElement edits
-  pub all_true : All (IsTrueClaim (before ++ edits)) answers
+  pub all_true : All (IsTrueAnswer (before ++ edits)) answers
   pub rise : RiseFrom last answers
 
 -- what is true in the order of time is so in the order of a transcript
 in_place : (before : List Edit) (last : ℕ) (entries : List Entry) → AreTrueAfter before last entries → AreInPlace before last (edits_in entries) (answers_in entries)
-in_place before last [] holds = record { accepted = tt; elements = All-nil CarriesElement; all_true = All-nil (IsTrueClaim (before ++ [])); rise = tt }
+in_place before last [] holds = record { accepted = tt; elements = All-nil CarriesElement; all_true = All-nil (IsTrueAnswer (before ++ [])); rise = tt }
 in_place before last (inl e ∷ entries) holds =
     let rest = in_place (before ++ e ∷ []) last entries holds.2 in
     record {
       accepted = (holds.1, rest.accepted);
       elements = All-cons CarriesElement e (edits_in entries) holds.0 rest.elements;
-      all_true = subst (λ (js : List Edit). All (IsTrueClaim js) (answers_in entries)) (append_assoc before (e ∷ []) (edits_in entries)) rest.all_true;
+      all_true = subst (λ (js : List Edit). All (IsTrueAnswer js) (answers_in entries)) (append_assoc before (e ∷ []) (edits_in entries)) rest.all_true;
       rise = rest.rise;
     }
-in_place before last (inr claim ∷ entries) holds =
-    let rest = in_place before claim.edit entries holds.2 in
+in_place before last (inr answer ∷ entries) holds =
+    let rest = in_place before answer.edit entries holds.2 in
     record {
       accepted = rest.accepted;
       elements = rest.elements;
-      all_true = All-cons (IsTrueClaim (before ++ edits_in entries)) claim (answers_in entries) (claim_later before (edits_in entries) claim holds.1) rest.all_true;
+      all_true = All-cons (IsTrueAnswer (before ++ edits_in entries)) answer (answers_in entries) (answer_later before (edits_in entries) answer holds.1) rest.all_true;
       rise = (holds.0, rest.rise);
     }
 
@@ -192,7 +192,7 @@ sound_in_place entries holds =
     let placed = in_place [] 0 entries holds in
     record {
       edits = edits_in entries;
-      claims = answers_in entries;
+      answers = answers_in entries;
       text = inl refl;
       elements = placed.elements;
       accepted = placed.accepted;
@@ -204,7 +204,7 @@ sound_in_place entries holds =
 pub entries_counted : (entries : List Entry) → length entries ≡ length (edits_in entries) + length (answers_in entries)
 entries_counted [] = refl
 entries_counted (inl e ∷ entries) = omega (arith, entries_counted entries)
-entries_counted (inr claim ∷ entries) = omega (arith, entries_counted entries)
+entries_counted (inr answer ∷ entries) = omega (arith, entries_counted entries)
 
 -- ---- from entries to lines that are taken
 
@@ -272,19 +272,19 @@ entries_taken before last (inl e ∷ entries) lines known holds are =
           subst (λ (ls : List (List ℕ)). RunsOn old ls) (sym is)
           (one_taken old next (edit_line e) (map entry_line entries ++ end_line ∷ []) taken (entries_taken (before ++ e ∷ []) last entries (map entry_line entries ++ end_line ∷ []) after holds.2 (inr refl)))
     ]
-entries_taken before last (inr claim ∷ entries) lines known holds are =
+entries_taken before last (inr answer ∷ entries) lines known holds are =
     let old : AuditState = record { stage = Edits; journal = before; last = last } in
-    let plain = plain_claim before (begin_within before known) claim holds.1 in
-    let next : AuditState = record { stage = Claims; journal = before; last = claim.edit } in
-    let taken : Takes old (claim_line claim) next =
-    (plain.line.short, inr (inr (inl record { claim = claim; at = inl refl; fits = plain.fits; text = refl; order = holds.0; holds = holds.1; next = refl }))) in
+    let plain = plain_answer before (begin_within before known) answer holds.1 in
+    let next : AuditState = record { stage = AnswersFollow; journal = before; last = answer.edit } in
+    let taken : Takes old (answer_line answer) next =
+    (plain.line.short, inr (inr (inl record { answer = answer; at = inl refl; fits = plain.fits; text = refl; order = holds.0; holds = holds.1; next = refl }))) in
     elim are [
       | inl is ↦
           subst (λ (ls : List (List ℕ)). RunsOn old ls) (sym is)
-          (one_taken old next (claim_line claim) (map entry_line entries) taken (entries_taken before claim.edit entries (map entry_line entries) known holds.2 (inl refl)))
+          (one_taken old next (answer_line answer) (map entry_line entries) taken (entries_taken before answer.edit entries (map entry_line entries) known holds.2 (inl refl)))
       | inr is ↦
           subst (λ (ls : List (List ℕ)). RunsOn old ls) (sym is)
-          (one_taken old next (claim_line claim) (map entry_line entries ++ end_line ∷ []) taken (entries_taken before claim.edit entries (map entry_line entries ++ end_line ∷ []) known holds.2 (inr refl)))
+          (one_taken old next (answer_line answer) (map entry_line entries ++ end_line ∷ []) taken (entries_taken before answer.edit entries (map entry_line entries ++ end_line ∷ []) known holds.2 (inr refl)))
     ]
 
 -- the lines of a front are taken

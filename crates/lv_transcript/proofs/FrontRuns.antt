@@ -2,7 +2,7 @@
 use Rattle.std.proofs.Common.{◌≡◌, ◌⊎◌, ℕ, ◌+◌, true, false, List, [], ◌∷◌, length, refl, sym, ap, ◌∙◌, subst, inl, inr, arith, true≢false}
 use Rattle.lv_lines.specs.Replies.{Answered}
 use Rattle.lv_transcript.specs.declared.auditor.Stage.{Stage}
-use Rattle.lv_transcript.specs.declared.auditor.Stage.TheVariants.{Start, Edits, Claims, End, No, Bad, NoMemory}
+use Rattle.lv_transcript.specs.declared.auditor.Stage.TheVariants.{Start, Edits, AnswersFollow, End, No, Bad, NoMemory}
 use Rattle.lv_transcript.specs.Auditing.{AuditState, IsFaultOf, Takes, is_stopped}
 use Rattle.lv_transcript.specs.FrontSteps.{FrontState, FrontStep, open_again, reopened}
 use Rattle.lv_transcript.proofs.AuditRuns.{IsNamed, fault_of_line, fault_stops, one_more, same_way, stopped_takes_none, taken_is_none}
@@ -20,7 +20,7 @@ stopped_is_same NoMemory stopped = refl
 stopped_is_same Start stopped = refl
 stopped_is_same End stopped = refl
 stopped_is_same Edits stopped = refl
-stopped_is_same Claims stopped = absurd (true≢false (sym stopped))
+stopped_is_same AnswersFollow stopped = absurd (true≢false (sym stopped))
 
 reopened_stopped : (s : AuditState) → is_stopped s.stage ≡ true → reopened s ≡ s
 reopened_stopped s stopped = ap (λ (stage : Stage). record s { stage = stage }) (stopped_is_same s.stage stopped)
@@ -86,7 +86,7 @@ open_again_no k NoMemory is = is
 open_again_no k Start is = is
 open_again_no k End is = is
 open_again_no k Edits is = is
-open_again_no k Claims is = absurd (cc is)
+open_again_no k AnswersFollow is = absurd (cc is)
 
 -- where it has found a line false, that has the right form
 pub front_named : (old : FrontState) (n : ℕ) (lines : List (List ℕ)) (text : List ℕ) (new : FrontState) (k : ℕ) → Answered FrontStep old n lines text new → (old.audit.stage ≡ No k → ⊥)

@@ -1,5 +1,5 @@
 -- Names the files of lemmas of `lv_transcript`.
-pub mod JoinedClaims
+pub mod JoinedAnswers
 pub mod WrittenTranscripts
 pub mod ReadTranscripts
 pub mod AuditLines

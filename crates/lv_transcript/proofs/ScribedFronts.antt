@@ -13,9 +13,9 @@ use Rattle.lv_lines.proofs.InputLemmas.{whole_lines_of-append, whole_lines_of-en
 use Rattle.lv_lines.proofs.OutputLemmas.{Writes-all, Writes-trans, WritesFront-after, WritesFront-longer}
 use Rattle.lv_transcript.specs.Fronts.{AreEntryLines, AreFrontLines, AreTrueAfter, Entry, IsFront, entry_line}
 use Rattle.lv_transcript.specs.Scribing.{EndsWhole, GotFront, ScribeState, Scribed, WroteOrHolds, front_bytes, whole_bytes}
-use Rattle.lv_transcript.specs.Transcript.{claim_line, edit_line, end_line, ended, first_line, IsEdit}
+use Rattle.lv_transcript.specs.Transcript.{answer_line, edit_line, end_line, ended, first_line, IsEdit}
 use Rattle.lv_transcript.proofs.FrontEntries.{AreBefore, all_within, begin_within, first_of, none_before, one_more_before, rest_of}
-use Rattle.lv_transcript.proofs.SoundTranscripts.{accepted_fits, line_of_edit, plain_claim}
+use Rattle.lv_transcript.proofs.SoundTranscripts.{accepted_fits, line_of_edit, plain_answer}
 use Rattle.lv_transcript.proofs.TranscriptBytes.{IsUnended, unended_printable}
 
 -- ---- whole lines of a front of a text
@@ -42,10 +42,10 @@ entries_unended before last (inl e ∷ entries) known holds =
     let fits : IsEdit e = accepted_fits before e (all_within before known) holds.1 holds.0 in
     All-cons IsUnended (edit_line e) (map entry_line entries) (unended_printable (edit_line e) (line_of_edit e fits).printable)
     (entries_unended (before ++ e ∷ []) last entries (one_more_before before e known holds.0 holds.1) holds.2)
-entries_unended before last (inr claim ∷ entries) known holds =
-    let plain = plain_claim before (begin_within before known) claim holds.1 in
-    All-cons IsUnended (claim_line claim) (map entry_line entries) (unended_printable (claim_line claim) plain.line.printable)
-    (entries_unended before claim.edit entries known holds.2)
+entries_unended before last (inr answer ∷ entries) known holds =
+    let plain = plain_answer before (begin_within before known) answer holds.1 in
+    All-cons IsUnended (answer_line answer) (map entry_line entries) (unended_printable (answer_line answer) plain.line.printable)
+    (entries_unended before answer.edit entries known holds.2)
 
 -- so have the first line and these
 front_unended : (entries : List Entry) → AreTrueAfter [] 0 entries → All IsUnended (first_line ∷ map entry_line entries)
@@ -88,7 +88,7 @@ first_lines (entry ∷ entries) (line ∷ lines) p =
 true_front : (before : List Edit) (last : ℕ) (some rest : List Entry) → AreTrueAfter before last (some ++ rest) → AreTrueAfter before last some
 true_front before last [] rest holds = tt
 true_front before last (inl e ∷ some) rest holds = (holds.0, holds.1, true_front (before ++ e ∷ []) last some rest holds.2)
-true_front before last (inr claim ∷ some) rest holds = (holds.0, holds.1, true_front before claim.edit some rest holds.2)
+true_front before last (inr answer ∷ some) rest holds = (holds.0, holds.1, true_front before answer.edit some rest holds.2)
 
 -- ---- bytes that are a front
 

@@ -22,9 +22,9 @@ use Rattle.lv_lines.specs.Texts.{shown_text}
 use Rattle.lv_lines.proofs.PrintedWords.{IsPrintable, no_control, plain_number}
 use Rattle.lv_lines.proofs.ReadAgain.{length-printed, plain_kind, printed_printable}
 use Rattle.lv_transcript.specs.declared.auditor.Stage.{Stage}
-use Rattle.lv_transcript.specs.declared.auditor.Stage.TheVariants.{Edits, Claims, End}
+use Rattle.lv_transcript.specs.declared.auditor.Stage.TheVariants.{Edits, AnswersFollow, End}
 use Rattle.lv_transcript.specs.declared.claimed.Claimed.{Claimed}
-use Rattle.lv_transcript.specs.Transcript.{claim_line, edit_line, first_line, greatest, end_line, question_text, transcript_lines, AreAccepted, AreAcceptedAfter, AreInOrder, IsEdit, IsTrueClaim}
+use Rattle.lv_transcript.specs.Transcript.{answer_line, edit_line, first_line, greatest, end_line, question_text, transcript_lines, AreAccepted, AreAcceptedAfter, AreInOrder, IsEdit, IsTrueAnswer}
 use Rattle.lv_transcript.specs.Auditing.{AuditState, IsQuestion, MayEnd, Takes, question_of, start_state}
 use Rattle.lv_transcript.proofs.TakenLines.{RiseFrom}
 use Rattle.lv_transcript.proofs.AuditRuns.{Runs}
@@ -102,7 +102,7 @@ line_of_edit e fits =
       printable = All-append IsPrintable (codes "j ") (printed command) (printable_bytes (codes "j ") refl) (printed_printable command fits);
     }
 
--- the beginning of a claim's line has at most 56 bytes
+-- the beginning of an answer's line has at most 56 bytes
 record IsBeginning (text : List ℕ) : Type 0 where
   short : length text ≤ 56
   printable : All IsPrintable text
@@ -112,8 +112,8 @@ both : (xs ys : List ℕ) → All IsPrintable xs → All IsPrintable ys → All 
 both xs ys p q = All-append IsPrintable xs ys p q
 
 -- a question's text is such
-beginning_of_claim : (edit : ℕ) (kind : Kind) (lo hi : ℕ) → edit < 2 ^ 32 → lo < 2 ^ 32 → hi < 2 ^ 32 → IsBeginning (question_text edit kind lo hi)
-beginning_of_claim edit kind lo hi p q r =
+beginning_of_answer : (edit : ℕ) (kind : Kind) (lo hi : ℕ) → edit < 2 ^ 32 → lo < 2 ^ 32 → hi < 2 ^ 32 → IsBeginning (question_text edit kind lo hi)
+beginning_of_answer edit kind lo hi p q r =
     let e = decimal edit in
     let k = kind_name kind in
     let l = decimal lo in
@@ -148,52 +148,52 @@ slice_folds journal lo hi within =
       elements = All-take IsElement (hi - lo) (drop lo xs) (All-drop IsElement lo xs within.elements);
     }
 
--- a true claim, as a line
-pub record IsPlainClaim (claim : Claimed) : Type 0 where
-  pub fits : IsQuestion (question_of claim)
-  pub line : IsLine (claim_line claim)
+-- a true answer, as a line
+pub record IsPlainAnswer (answer : Claimed) : Type 0 where
+  pub fits : IsQuestion (question_of answer)
+  pub line : IsLine (answer_line answer)
 
--- each true claim is one, where each beginning of the journal is within the limits
-pub plain_claim : (edits : List Edit) → ((k : ℕ) → IsWithin (take k edits)) → (claim : Claimed) → IsTrueClaim edits claim → IsPlainClaim claim
-plain_claim edits beginnings claim holds =
+-- each true answer is one, where each beginning of the journal is within the limits
+pub plain_answer : (edits : List Edit) → ((k : ℕ) → IsWithin (take k edits)) → (answer : Claimed) → IsTrueAnswer edits answer → IsPlainAnswer answer
+plain_answer edits beginnings answer holds =
     let all : IsWithin edits = subst (λ (js : List Edit). IsWithin js) (take_all (length edits) edits (omega arith)) (beginnings (length edits)) in
-    let then = beginnings claim.edit in
-    let few : claim.edit < 2 ^ 32 = omega (arith, all.edits, holds.edit) in
-    let near : claim.hi < 2 ^ 32 = omega (arith, then.few, holds.end) in
-    let first : claim.lo < 2 ^ 32 = omega (arith, holds.range) in
-    let begins = beginning_of_claim claim.edit claim.kind claim.lo claim.hi few first near in
-    let shown : IsShownText (shown_text claim.value) =
-    rw holds.value (shown_plain claim.kind _ (slice_folds (take claim.edit edits) claim.lo claim.hi then)) in
-    let question = question_text claim.edit claim.kind claim.lo claim.hi in
+    let then = beginnings answer.edit in
+    let few : answer.edit < 2 ^ 32 = omega (arith, all.edits, holds.edit) in
+    let near : answer.hi < 2 ^ 32 = omega (arith, then.few, holds.end) in
+    let first : answer.lo < 2 ^ 32 = omega (arith, holds.range) in
+    let begins = beginning_of_answer answer.edit answer.kind answer.lo answer.hi few first near in
+    let shown : IsShownText (shown_text answer.value) =
+    rw holds.value (shown_plain answer.kind _ (slice_folds (take answer.edit edits) answer.lo answer.hi then)) in
+    let question = question_text answer.edit answer.kind answer.lo answer.hi in
     record {
       fits = record { edit = few; lo = first; hi = near };
       line = record {
-        short = omega (arith, begins.short, shown.short, length-append question (shown_text claim.value));
-        printable = both question (shown_text claim.value) begins.printable shown.printable;
+        short = omega (arith, begins.short, shown.short, length-append question (shown_text answer.value));
+        printable = both question (shown_text answer.value) begins.printable shown.printable;
       };
     }
 
--- ---- claims in order
+-- ---- answers in order
 
--- claims in order rise from any edit that is not after the first
-rise_in_order : (last : ℕ) (claims : List Claimed) → ((d : Claimed) → 0 < length claims → last ≤ (get_or claims 0 d).edit) → AreInOrder claims → RiseFrom last claims
+-- answers in order rise from any edit that is not after the first
+rise_in_order : (last : ℕ) (answers : List Claimed) → ((d : Claimed) → 0 < length answers → last ≤ (get_or answers 0 d).edit) → AreInOrder answers → RiseFrom last answers
 rise_in_order last [] first order = tt
-rise_in_order last (claim ∷ claims) first order =
-    (first claim (omega arith), rise_in_order claim.edit claims (λ d some. order 0 1 d (omega arith) (omega arith)) (λ i j d le lt. order (suc i) (suc j) d (omega arith) (omega arith)))
+rise_in_order last (answer ∷ answers) first order =
+    (first answer (omega arith), rise_in_order answer.edit answers (λ d some. order 0 1 d (omega arith) (omega arith)) (λ i j d le lt. order (suc i) (suc j) d (omega arith) (omega arith)))
 
--- the first of claims that rise is not before that edit, and no later one is
-rise_above : (last : ℕ) (claims : List Claimed) → RiseFrom last claims → (j : ℕ) (d : Claimed) → j < length claims → last ≤ (get_or claims j d).edit
+-- the first of answers that rise is not before that edit, and no later one is
+rise_above : (last : ℕ) (answers : List Claimed) → RiseFrom last answers → (j : ℕ) (d : Claimed) → j < length answers → last ≤ (get_or answers j d).edit
 rise_above last [] rise j d lt = absurd (omega arith)
-rise_above last (claim ∷ claims) rise zero d lt = rise.0
-rise_above last (claim ∷ claims) rise (suc j) d lt = omega (arith, rise.0, rise_above claim.edit claims rise.1 j d (omega arith))
+rise_above last (answer ∷ answers) rise zero d lt = rise.0
+rise_above last (answer ∷ answers) rise (suc j) d lt = omega (arith, rise.0, rise_above answer.edit answers rise.1 j d (omega arith))
 
--- claims that rise are in order
-pub in_order_of_rise : (last : ℕ) (claims : List Claimed) → RiseFrom last claims → AreInOrder claims
+-- answers that rise are in order
+pub in_order_of_rise : (last : ℕ) (answers : List Claimed) → RiseFrom last answers → AreInOrder answers
 in_order_of_rise last [] rise i j d le lt = absurd (omega arith)
-in_order_of_rise last (claim ∷ claims) rise zero zero d le lt = omega arith
-in_order_of_rise last (claim ∷ claims) rise zero (suc j) d le lt = rise_above claim.edit claims rise.1 j d (omega arith)
-in_order_of_rise last (claim ∷ claims) rise (suc i) zero d le lt = absurd (omega arith)
-in_order_of_rise last (claim ∷ claims) rise (suc i) (suc j) d le lt = in_order_of_rise claim.edit claims rise.1 i j d (omega arith) (omega arith)
+in_order_of_rise last (answer ∷ answers) rise zero zero d le lt = omega arith
+in_order_of_rise last (answer ∷ answers) rise zero (suc j) d le lt = rise_above answer.edit answers rise.1 j d (omega arith)
+in_order_of_rise last (answer ∷ answers) rise (suc i) zero d le lt = absurd (omega arith)
+in_order_of_rise last (answer ∷ answers) rise (suc i) (suc j) d le lt = in_order_of_rise answer.edit answers rise.1 i j d (omega arith) (omega arith)
 
 -- ---- the lines are taken
 
@@ -213,52 +213,52 @@ last_taken old at =
     let end : AuditState = record old { stage = End } in
     record { end = end; runs = (end, (lit≤ tt, inr (inr (inr record { at = at; text = refl; next = refl }))), refl); at_end = refl }
 
-module _ (edits : List Edit) (plain : (claim : Claimed) → IsTrueClaim edits claim → IsPlainClaim claim) where
-  -- true claims that rise are, and then the last line
-  claims_taken : (stage : Stage) (last : ℕ) (claims : List Claimed) → MayEnd stage → All (IsTrueClaim edits) claims → RiseFrom last claims
-      → RunsToEnd record { stage = stage; journal = edits; last = last } (map claim_line claims ++ end_line ∷ [])
-  claims_taken stage last [] at holds rise = last_taken record { stage = stage; journal = edits; last = last } at
-  claims_taken stage last (claim ∷ claims) at holds rise =
-      let here = All-head (IsTrueClaim edits) claim claims holds in
-      let one = plain claim here in
-      first_taken record { stage = stage; journal = edits; last = last } record { stage = Claims; journal = edits; last = claim.edit } (claim_line claim) (map claim_line claims ++ end_line ∷ [])
-      (one.line.short, inr (inr (inl record { claim = claim; at = at; fits = one.fits; text = refl; order = rise.0; holds = here; next = refl })))
-      (claims_taken Claims claim.edit claims (inr refl) (All-tail (IsTrueClaim edits) claim claims holds) rise.1)
+module _ (edits : List Edit) (plain : (answer : Claimed) → IsTrueAnswer edits answer → IsPlainAnswer answer) where
+  -- true answers that rise are, and then the last line
+  answers_taken : (stage : Stage) (last : ℕ) (answers : List Claimed) → MayEnd stage → All (IsTrueAnswer edits) answers → RiseFrom last answers
+      → RunsToEnd record { stage = stage; journal = edits; last = last } (map answer_line answers ++ end_line ∷ [])
+  answers_taken stage last [] at holds rise = last_taken record { stage = stage; journal = edits; last = last } at
+  answers_taken stage last (answer ∷ answers) at holds rise =
+      let here = All-head (IsTrueAnswer edits) answer answers holds in
+      let one = plain answer here in
+      first_taken record { stage = stage; journal = edits; last = last } record { stage = AnswersFollow; journal = edits; last = answer.edit } (answer_line answer) (map answer_line answers ++ end_line ∷ [])
+      (one.line.short, inr (inr (inl record { answer = answer; at = at; fits = one.fits; text = refl; order = rise.0; holds = here; next = refl })))
+      (answers_taken AnswersFollow answer.edit answers (inr refl) (All-tail (IsTrueAnswer edits) answer answers holds) rise.1)
 
   -- accepted edits are, and then those
-  edits_taken : (before more : List Edit) (claims : List Claimed) → before ++ more ≡ edits → AreAcceptedAfter greatest before more → All IsEdit more → All (IsTrueClaim edits) claims → RiseFrom 0 claims
-      → RunsToEnd record { stage = Edits; journal = before; last = 0 } (map edit_line more ++ map claim_line claims ++ end_line ∷ [])
-  edits_taken before [] claims all accepted fit holds rise =
-      rw (sym (append-nil before) ∙ all) (claims_taken Edits 0 claims (inl refl) holds rise)
-  edits_taken before (e ∷ more) claims all accepted fit holds rise =
+  edits_taken : (before more : List Edit) (answers : List Claimed) → before ++ more ≡ edits → AreAcceptedAfter greatest before more → All IsEdit more → All (IsTrueAnswer edits) answers → RiseFrom 0 answers
+      → RunsToEnd record { stage = Edits; journal = before; last = 0 } (map edit_line more ++ map answer_line answers ++ end_line ∷ [])
+  edits_taken before [] answers all accepted fit holds rise =
+      rw (sym (append-nil before) ∙ all) (answers_taken Edits 0 answers (inl refl) holds rise)
+  edits_taken before (e ∷ more) answers all accepted fit holds rise =
       let here = All-head IsEdit e more fit in
       first_taken record { stage = Edits; journal = before; last = 0 } record { stage = Edits; journal = before ++ e ∷ []; last = 0 } (edit_line e)
-      (map edit_line more ++ map claim_line claims ++ end_line ∷ [])
+      (map edit_line more ++ map answer_line answers ++ end_line ∷ [])
       ((line_of_edit e here).short, inr (inl record { edit = e; at = refl; fits = here; text = refl; verdict = accepted.0; next = refl }))
-      (edits_taken (before ++ e ∷ []) more claims (append_assoc before (e ∷ []) more ∙ all) accepted.1 (All-tail IsEdit e more fit) holds rise)
+      (edits_taken (before ++ e ∷ []) more answers (append_assoc before (e ∷ []) more ∙ all) accepted.1 (All-tail IsEdit e more fit) holds rise)
 
 -- what is known of a sound transcript's lines
-pub record AreSoundLines (edits : List Edit) (claims : List Claimed) : Type 0 where
-  pub runs : RunsToEnd start_state (transcript_lines edits claims)
-  pub printable : All (All IsPrintable) (transcript_lines edits claims)
+pub record AreSoundLines (edits : List Edit) (answers : List Claimed) : Type 0 where
+  pub runs : RunsToEnd start_state (transcript_lines edits answers)
+  pub printable : All (All IsPrintable) (transcript_lines edits answers)
 
 -- the lines of a sound transcript are taken from the first to the last, and have no LF
-pub sound_lines : (edits : List Edit) (claims : List Claimed) → All CarriesElement edits → AreAccepted greatest edits → AreInOrder claims → All (IsTrueClaim edits) claims → AreSoundLines edits claims
-sound_lines edits claims carry accepted order holds =
+pub sound_lines : (edits : List Edit) (answers : List Claimed) → All CarriesElement edits → AreAccepted greatest edits → AreInOrder answers → All (IsTrueAnswer edits) answers → AreSoundLines edits answers
+sound_lines edits answers carry accepted order holds =
     let fit = all_fit [] edits within_none accepted carry in
-    let plain = plain_claim edits (λ k. beginnings_within [] edits k within_none accepted carry) in
-    let rise = rise_in_order 0 claims (λ d some. omega arith) order in
+    let plain = plain_answer edits (λ k. beginnings_within [] edits k within_none accepted carry) in
+    let rise = rise_in_order 0 answers (λ d some. omega arith) order in
     let after_first : AuditState = record { stage = Edits; journal = []; last = 0 } in
     let printable_edits = All-map (All IsPrintable) edit_line edits (All-weaker IsEdit (λ e. All IsPrintable (edit_line e)) (λ e fits. (line_of_edit e fits).printable) edits fit) in
-    let printable_claims = All-map (All IsPrintable) claim_line claims (All-weaker (IsTrueClaim edits) (λ c. All IsPrintable (claim_line c)) (λ c true. (plain c true).line.printable) claims holds) in
+    let printable_answers = All-map (All IsPrintable) answer_line answers (All-weaker (IsTrueAnswer edits) (λ c. All IsPrintable (answer_line c)) (λ c true. (plain c true).line.printable) answers holds) in
     record {
       runs =
-          first_taken start_state after_first first_line (map edit_line edits ++ map claim_line claims ++ end_line ∷ [])
+          first_taken start_state after_first first_line (map edit_line edits ++ map answer_line answers ++ end_line ∷ [])
           (lit≤ tt, inl record { at = refl; text = refl; next = refl })
-          (edits_taken edits plain [] edits claims refl accepted fit holds rise);
+          (edits_taken edits plain [] edits answers refl accepted fit holds rise);
       printable =
-          All-cons (All IsPrintable) first_line (map edit_line edits ++ map claim_line claims ++ end_line ∷ []) (printable_bytes first_line refl)
-          (All-append (All IsPrintable) (map edit_line edits ++ map claim_line claims) (end_line ∷ [])
-          (All-append (All IsPrintable) (map edit_line edits) (map claim_line claims) printable_edits printable_claims)
+          All-cons (All IsPrintable) first_line (map edit_line edits ++ map answer_line answers ++ end_line ∷ []) (printable_bytes first_line refl)
+          (All-append (All IsPrintable) (map edit_line edits ++ map answer_line answers) (end_line ∷ [])
+          (All-append (All IsPrintable) (map edit_line edits) (map answer_line answers) printable_edits printable_answers)
           (All-cons (All IsPrintable) end_line [] (printable_bytes end_line refl) (All-nil (All IsPrintable))));
     }

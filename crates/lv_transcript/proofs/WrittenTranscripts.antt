@@ -11,7 +11,7 @@ use Rattle.lv_lines.specs.declared.fault.Fault.TheVariants.{WriteFault}
 use Rattle.lv_lines.specs.Output.{Writes, WritesFront}
 use Rattle.lv_lines.proofs.OutputLemmas.{Writes-put, Writes-sent, Writes-all, Writes-trans, WritesFront-after, WritesFront-longer}
 use Rattle.lv_transcript.specs.declared.claimed.Claimed.{Claimed}
-use Rattle.lv_transcript.specs.Transcript.{first_line, end_line, edit_line, claim_line, transcript_text, Transcribes}
+use Rattle.lv_transcript.specs.Transcript.{first_line, end_line, edit_line, answer_line, transcript_text, Transcribes}
 
 -- ---- the pieces of a list, one for each element
 
@@ -75,55 +75,55 @@ first_text = first_line ++ 10 ∷ []
 abbrev pub edits_text : List Edit → List ℕ
 edits_text edits = flat_map (λ edit. edit_line edit ++ 10 ∷ []) edits
 
--- the lines of the claims, ended
-abbrev pub claims_text : List Claimed → List ℕ
-claims_text claims = flat_map (λ claim. claim_line claim ++ 10 ∷ []) claims
+-- the lines of the answers, ended
+abbrev pub answers_text : List Claimed → List ℕ
+answers_text answers = flat_map (λ answer. answer_line answer ++ 10 ∷ []) answers
 
 -- the last line, ended
 abbrev pub last_text : List ℕ
 last_text = end_line ++ 10 ∷ []
 
 -- a transcript is these four texts
-pub transcript_text-parts : (edits : List Edit) (claims : List Claimed) → transcript_text edits claims ≡ ((first_text ++ edits_text edits) ++ claims_text claims) ++ last_text
-transcript_text-parts edits claims =
+pub transcript_text-parts : (edits : List Edit) (answers : List Claimed) → transcript_text edits answers ≡ ((first_text ++ edits_text edits) ++ answers_text answers) ++ last_text
+transcript_text-parts edits answers =
     let f : List ℕ → List ℕ = λ line. line ++ 10 ∷ [] in
-    let middle = map edit_line edits ++ map claim_line claims in
-    let two = flat_map-append f (map edit_line edits) (map claim_line claims) ∙ ap (λ (xs : List ℕ). xs ++ flat_map f (map claim_line claims)) (flat_map-map f edit_line edits)
-    ∙ ap (λ (xs : List ℕ). edits_text edits ++ xs) (flat_map-map f claim_line claims) in
+    let middle = map edit_line edits ++ map answer_line answers in
+    let two = flat_map-append f (map edit_line edits) (map answer_line answers) ∙ ap (λ (xs : List ℕ). xs ++ flat_map f (map answer_line answers)) (flat_map-map f edit_line edits)
+    ∙ ap (λ (xs : List ℕ). edits_text edits ++ xs) (flat_map-map f answer_line answers) in
     let three = flat_map-append f middle (end_line ∷ []) ∙ ap (λ (xs : List ℕ). xs ++ last_text) two in
     ap (λ (xs : List ℕ). first_text ++ xs) three
 
-module _ (edits : List Edit) (claims : List Claimed) {start : Option (List ℕ)} where
+module _ (edits : List Edit) (answers : List Claimed) {start : Option (List ℕ)} where
   -- a failed write ends it
-  pub Transcribes-fault : (T : Type 0) (contents : Option (List ℕ)) (fault : Fault) → fault ≡ WriteFault → WritesFront start [] contents (transcript_text edits claims)
-      → Transcribes {T = T} start contents (transcript_text edits claims) (Err fault)
+  pub Transcribes-fault : (T : Type 0) (contents : Option (List ℕ)) (fault : Fault) → fault ≡ WriteFault → WritesFront start [] contents (transcript_text edits answers)
+      → Transcribes {T = T} start contents (transcript_text edits answers) (Err fault)
   Transcribes-fault T contents fault failed front = rw failed front
 
   -- no more than a front of the first line and the edits was written
   pub WritesFront-edits : {contents : Option (List ℕ)} {held : List ℕ} → held ≡ first_text → WritesFront start held contents (edits_text edits)
-      → WritesFront start [] contents (transcript_text edits claims)
+      → WritesFront start [] contents (transcript_text edits answers)
   WritesFront-edits {contents} {held} put front =
-      rw (transcript_text-parts edits claims)
-      (WritesFront-longer last_text (WritesFront-longer (claims_text claims) (WritesFront-after (Writes-put start [] held first_text put) front)))
+      rw (transcript_text-parts edits answers)
+      (WritesFront-longer last_text (WritesFront-longer (answers_text answers) (WritesFront-after (Writes-put start [] held first_text put) front)))
 
   -- the first line and the edits were written
   pub Writes-edits : {contents : Option (List ℕ)} {first held : List ℕ} → first ≡ first_text → Writes start first contents held (edits_text edits)
       → Writes start [] contents held (first_text ++ edits_text edits)
   Writes-edits {contents} {first} {held} put all = Writes-trans (Writes-put start [] first first_text put) all
 
-  -- and no more than a front of the claims
-  pub WritesFront-claims : {mid contents : Option (List ℕ)} {held : List ℕ} → Writes start [] mid held (first_text ++ edits_text edits) → WritesFront mid held contents (claims_text claims)
-      → WritesFront start [] contents (transcript_text edits claims)
-  WritesFront-claims all front = rw (transcript_text-parts edits claims) (WritesFront-longer last_text (WritesFront-after all front))
+  -- and no more than a front of the answers
+  pub WritesFront-answers : {mid contents : Option (List ℕ)} {held : List ℕ} → Writes start [] mid held (first_text ++ edits_text edits) → WritesFront mid held contents (answers_text answers)
+      → WritesFront start [] contents (transcript_text edits answers)
+  WritesFront-answers all front = rw (transcript_text-parts edits answers) (WritesFront-longer last_text (WritesFront-after all front))
 
   -- all of it was written, or no more than a front of its last line
   pub Transcribes-sent : {T : Type 0} (mid contents : Option (List ℕ)) (held left : List ℕ) (result : Result T Fault)
-      → Writes start [] mid held ((first_text ++ edits_text edits) ++ claims_text claims)
+      → Writes start [] mid held ((first_text ++ edits_text edits) ++ answers_text answers)
       → OnOk result ((left ≡ []) × Writes mid held contents left last_text)
       → IfErr result (λ fault. (fault ≡ WriteFault) × WritesFront mid held contents last_text)
-      → Transcribes start contents (transcript_text edits claims) result
+      → Transcribes start contents (transcript_text edits answers) result
   Transcribes-sent mid contents held left (Ok x) all sent unsent =
-      Writes-all start contents (transcript_text edits claims)
-      (subst (λ (h : List ℕ). Writes start [] contents h (transcript_text edits claims)) sent.0 (rw (transcript_text-parts edits claims) (Writes-trans all sent.1)))
+      Writes-all start contents (transcript_text edits answers)
+      (subst (λ (h : List ℕ). Writes start [] contents h (transcript_text edits answers)) sent.0 (rw (transcript_text-parts edits answers) (Writes-trans all sent.1)))
   Transcribes-sent mid contents held left (Err fault) all sent unsent =
-      rw (unsent.0, transcript_text-parts edits claims) (WritesFront-after all unsent.1)
+      rw (unsent.0, transcript_text-parts edits answers) (WritesFront-after all unsent.1)

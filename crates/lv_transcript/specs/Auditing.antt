@@ -14,9 +14,9 @@ use Rattle.lv_transcript.specs.declared.transcript_lines.Question.{Question}
 use Rattle.lv_transcript.specs.declared.claimed.Claimed.{Claimed}
 use Rattle.lv_transcript.specs.declared.auditor.Verdict.{Verdict}
 use Rattle.lv_transcript.specs.declared.auditor.Verdict.TheVariants as verdicts
-use Rattle.lv_transcript.specs.Transcript.{claim_line, edit_line, first_line, greatest, end_line, question_text, HasForm, IsEdit, IsTrueClaim}
+use Rattle.lv_transcript.specs.Transcript.{answer_line, edit_line, first_line, greatest, end_line, question_text, HasForm, IsEdit, IsTrueAnswer}
 
--- ---- a question: what a claim asks
+-- ---- a question: what an answer asks
 
 -- its text
 abbrev pub text_of : Question → List ℕ
@@ -62,9 +62,9 @@ abbrev pub question_in : List (List ℕ) → Option Question
 question_in [] = None
 question_in (word ∷ words) = question_before words
 
--- what a claim asks
+-- what an answer asks
 abbrev pub question_of : Claimed → Question
-question_of claim = record { edit = claim.edit; kind = claim.kind; lo = claim.lo; hi = claim.hi }
+question_of answer = record { edit = answer.edit; kind = answer.kind; lo = answer.lo; hi = answer.hi }
 
 -- bytes are the right answer to a question, on the list after its edit
 pub record IsAnswer (xs : List ℤ) (question : Question) (value : List ℕ) : Type 0 where
@@ -80,13 +80,13 @@ pub record IsAnswered (journal : List Edit) (last : ℕ) (question : Question) (
 
 -- ---- how far an audit has come
 
--- what comes next or was found, the edits so far, and the edit of the last claim
+-- what comes next or was found, the edits so far, and the edit of the last answer
 pub record AuditState : Type 0 where
   pub stage : Stage
   pub journal : List Edit
   pub last : ℕ
 
--- the state of an audit that is at a stage, has replayed all edits so far, and has come to the edit of the last claim
+-- the state of an audit that is at a stage, has replayed all edits so far, and has come to the edit of the last answer
 abbrev pub state_of : Stage → History → ℕ → AuditState
 state_of stage edits last = record { stage = stage; journal = edits.journal; last = last }
 
@@ -105,9 +105,9 @@ abbrev pub is_stopped : Stage → Bool
 is_stopped stages.NoMemory = true
 is_stopped stage = is_fault stage
 
--- edits may be followed by edits, claims and the last line, and claims by claims and the last line
+-- edits may be followed by edits, answers and the last line, and answers by answers and the last line
 abbrev pub MayEnd : Stage → Type 0
-MayEnd stage = (stage ≡ stages.Edits) ⊎ (stage ≡ stages.Claims)
+MayEnd stage = (stage ≡ stages.Edits) ⊎ (stage ≡ stages.AnswersFollow)
 
 -- the first line is taken
 pub record TakesFirst (old : AuditState) (line : List ℕ) (new : AuditState) : Type 0 where
@@ -124,15 +124,15 @@ pub record TakesEdit (old : AuditState) (line : List ℕ) (new : AuditState) : T
   pub verdict : verdict_of greatest old.journal edit ≡ None
   pub next : new ≡ record old { journal = old.journal ++ edit ∷ [] }
 
--- the line of a claim is taken, which comes in order and is true
-pub record TakesClaim (old : AuditState) (line : List ℕ) (new : AuditState) : Type 0 where
-  pub claim : Claimed
+-- the line of an answer is taken, which comes in order and is true
+pub record TakesAnswer (old : AuditState) (line : List ℕ) (new : AuditState) : Type 0 where
+  pub answer : Claimed
   pub at : MayEnd old.stage
-  pub fits : IsQuestion (question_of claim)
-  pub text : line ≡ claim_line claim
-  pub order : old.last ≤ claim.edit
-  pub holds : IsTrueClaim old.journal claim
-  pub next : new ≡ record old { stage = stages.Claims; last = claim.edit }
+  pub fits : IsQuestion (question_of answer)
+  pub text : line ≡ answer_line answer
+  pub order : old.last ≤ answer.edit
+  pub holds : IsTrueAnswer old.journal answer
+  pub next : new ≡ record old { stage = stages.AnswersFollow; last = answer.edit }
 
 -- the last line is taken
 pub record TakesLast (old : AuditState) (line : List ℕ) (new : AuditState) : Type 0 where
@@ -142,7 +142,7 @@ pub record TakesLast (old : AuditState) (line : List ℕ) (new : AuditState) : T
 
 -- a line that comes after the edits is taken
 abbrev pub TakesLater : AuditState → List ℕ → AuditState → Type 0
-TakesLater old line new = TakesClaim old line new ⊎ TakesLast old line new
+TakesLater old line new = TakesAnswer old line new ⊎ TakesLast old line new
 
 -- a line of at most 120 bytes is taken where it may stand
 abbrev pub Takes : AuditState → List ℕ → AuditState → Type 0
@@ -176,17 +176,17 @@ EditBecomes number old edit (stages.No n) new = (n ≡ number) × (verdict_of gr
 EditBecomes number old edit stages.NoMemory new = Unit {0}
 EditBecomes number old edit _ new = ⊥
 
--- what became of the claim of line n: it is true, or isn't, or comes out of order, or there was no memory
-abbrev pub ClaimBecomes : ℕ → List Edit → ℕ → Question → List ℕ → Stage → ℕ → Type 0
-ClaimBecomes number journal last question value stages.Claims reached = IsAnswered journal last question value × (reached ≡ question.edit)
-ClaimBecomes number journal last question value (stages.No n) reached = (n ≡ number) × (last ≤ question.edit) × (IsAnswered journal last question value → ⊥)
-ClaimBecomes number journal last question value (stages.Bad n) reached = (n ≡ number) × (question.edit < last)
-ClaimBecomes number journal last question value stages.NoMemory reached = Unit {0}
-ClaimBecomes number journal last question value _ reached = ⊥
+-- what became of the answer of line n: it is true, or isn't, or comes out of order, or there was no memory
+abbrev pub AnswerLineBecomes : ℕ → List Edit → ℕ → Question → List ℕ → Stage → ℕ → Type 0
+AnswerLineBecomes number journal last question value stages.AnswersFollow reached = IsAnswered journal last question value × (reached ≡ question.edit)
+AnswerLineBecomes number journal last question value (stages.No n) reached = (n ≡ number) × (last ≤ question.edit) × (IsAnswered journal last question value → ⊥)
+AnswerLineBecomes number journal last question value (stages.Bad n) reached = (n ≡ number) × (question.edit < last)
+AnswerLineBecomes number journal last question value stages.NoMemory reached = Unit {0}
+AnswerLineBecomes number journal last question value _ reached = ⊥
 
 -- what became of the answer of line n on the list after its edit: it is right, or isn't, or there was no memory
 abbrev pub AnswerBecomes : ℕ → List ℤ → Question → List ℕ → Stage → Type 0
-AnswerBecomes number xs question value stages.Claims = IsAnswer xs question value
+AnswerBecomes number xs question value stages.AnswersFollow = IsAnswer xs question value
 AnswerBecomes number xs question value (stages.No n) = (n ≡ number) × (IsAnswer xs question value → ⊥)
 AnswerBecomes number xs question value stages.NoMemory = Unit {0}
 AnswerBecomes number xs question value _ = ⊥

@@ -12,8 +12,8 @@ use Rattle.lv_bodies.specs.Tables.{automaton_operations}
 use Rattle.lv_transcript.specs.declared.kind_folds.KindFolds.{KindFolds}
 
 -- a block of a list
-abbrev pub block_of : List ℤ → ℕ → List ℤ
-block_of xs k = slice_range xs (k * 1024) ((k + 1) * 1024)
+abbrev pub block_elements : List ℤ → ℕ → List ℤ
+block_elements xs k = slice_range xs (k * 1024) ((k + 1) * 1024)
 
 -- places for the folds of so many blocks, where there are fewer: in each further one there is nothing
 abbrev pub with_places : {S : Type 0} → List (Option S) → ℕ → List (Option S)
@@ -27,7 +27,7 @@ pub record IsFold {S : Type 0} (o : Operations S) (xs : List ℤ) (s : S) : Type
 -- what is kept is the fold of each block, or nothing; the blocks are whole
 pub record AreFolds {S : Type 0} (o : Operations S) (xs : List ℤ) (folds : List (Option S)) : Type 0 where
   pub whole : length folds * 1024 ≤ length xs
-  pub right : (k : ℕ) (s : S) → slice_index_or folds k None ≡ Some s → IsFold o (block_of xs k) s
+  pub right : (k : ℕ) (s : S) → slice_index_or folds k None ≡ Some s → IsFold o (block_elements xs k) s
 
 -- the same for each kind
 pub record AreKept (folds : KindFolds) (xs : List ℤ) : Type 0 where

@@ -19,7 +19,7 @@ pub record FrontState : Type 0 where
 
 -- behind an answer an edit may come
 abbrev pub open_again : Stage → Stage
-open_again stages.Claims = stages.Edits
+open_again stages.AnswersFollow = stages.Edits
 open_again stage = stage
 
 abbrev pub reopened : AuditState → AuditState
@@ -42,7 +42,7 @@ FrontStep old n line text new =
 abbrev pub IsFoundAt : Stage → ℕ → ℕ → FrontVerdict → Type 0
 IsFoundAt stages.Start lines edits verdict = verdict ≡ verdicts.Front 0 0
 IsFoundAt stages.Edits lines edits verdict = verdict ≡ verdicts.Front edits (lines - 1 - edits)
-IsFoundAt stages.Claims lines edits verdict = verdict ≡ verdicts.Front edits (lines - 1 - edits)
+IsFoundAt stages.AnswersFollow lines edits verdict = verdict ≡ verdicts.Front edits (lines - 1 - edits)
 IsFoundAt stages.End lines edits verdict = verdict ≡ verdicts.Front edits (lines - 2 - edits)
 IsFoundAt (stages.No n) lines edits verdict = verdict ≡ verdicts.No n
 IsFoundAt (stages.Bad n) lines edits verdict = verdict ≡ verdicts.Bad n

@@ -15,7 +15,7 @@ use Rattle.lv_transcript.specs.declared.claimed.Claimed.{Claimed}
 use Rattle.lv_transcript.specs.declared.fronts.FrontVerdict.{FrontVerdict}
 use Rattle.lv_transcript.specs.declared.fronts.FrontVerdict.TheVariants as verdicts
 use Rattle.lv_transcript.specs.declared.fronts.FoundFront.{FoundFront}
-use Rattle.lv_transcript.specs.Transcript.{claim_line, edit_line, end_line, first_line, greatest, transcript_text, AreAccepted, HasFormAt, IsSoundTranscript, IsTrueClaim, IsWhole}
+use Rattle.lv_transcript.specs.Transcript.{answer_line, edit_line, end_line, first_line, greatest, transcript_text, AreAccepted, HasFormAt, IsSoundTranscript, IsTrueAnswer, IsWhole}
 
 -- ---- what a front is
 
@@ -26,19 +26,19 @@ Entry = Edit ⊎ Claimed
 -- its line
 abbrev pub entry_line : Entry → List ℕ
 entry_line (inl edit) = edit_line edit
-entry_line (inr claim) = claim_line claim
+entry_line (inr answer) = answer_line answer
 
 -- the edits among some entries, in order
 abbrev pub edits_in : List Entry → List Edit
 edits_in [] = []
 edits_in (inl edit ∷ entries) = edit ∷ edits_in entries
-edits_in (inr claim ∷ entries) = edits_in entries
+edits_in (inr answer ∷ entries) = edits_in entries
 
 -- the answers among them
 abbrev pub answers_in : List Entry → List Claimed
 answers_in [] = []
 answers_in (inl edit ∷ entries) = answers_in entries
-answers_in (inr claim ∷ entries) = claim ∷ answers_in entries
+answers_in (inr answer ∷ entries) = answer ∷ answers_in entries
 
 -- entries that are true in the order of time, after some edits, and an answer at edit last: each edit is accepted after those before it; each
 -- answer is true of the edits before it, and of an edit that is not before that of the answer before it
@@ -46,7 +46,7 @@ abbrev pub AreTrueAfter : List Edit → ℕ → List Entry → Type 0
 AreTrueAfter before last [] = Unit {0}
 AreTrueAfter before last (inl edit ∷ entries) =
     CarriesElement edit × (verdict_of greatest before edit ≡ None) × AreTrueAfter (before ++ edit ∷ []) last entries
-AreTrueAfter before last (inr claim ∷ entries) = (last ≤ claim.edit) × IsTrueClaim before claim × AreTrueAfter before claim.edit entries
+AreTrueAfter before last (inr answer ∷ entries) = (last ≤ answer.edit) × IsTrueAnswer before answer × AreTrueAfter before answer.edit entries
 
 -- lines are those of entries, perhaps with the last line behind them
 abbrev pub AreEntryLines : List Entry → List (List ℕ) → Type 0

@@ -1,21 +1,21 @@
--- Claims of several lists as one list: in the rising order of their edits.
+-- AnswersFollow of several lists as one list: in the rising order of their edits.
 use Rattle.std.specs.Prelude.{List, [], ◌∷◌, cond, nat_lt}
 use Rattle.std.specs.List.{flat_map}
 use Rattle.lv_transcript.specs.declared.claimed.Claimed.{Claimed}
 
 -- several lists, one behind the other
 abbrev pub in_a_row : List (List Claimed) → List Claimed
-in_a_row lists = flat_map (λ claims. claims) lists
+in_a_row lists = flat_map (λ answers. answers) lists
 
--- a claim put among others: before the first whose edit is not below its own
+-- an answer put among others: before the first whose edit is not below its own
 abbrev pub put_before : Claimed → List Claimed → List Claimed
-put_before claim [] = claim ∷ []
-put_before claim (first ∷ rest) = cond (nat_lt first.edit claim.edit) (first ∷ put_before claim rest) (claim ∷ first ∷ rest)
+put_before answer [] = answer ∷ []
+put_before answer (first ∷ rest) = cond (nat_lt first.edit answer.edit) (first ∷ put_before answer rest) (answer ∷ first ∷ rest)
 
--- claims in the rising order of their edits; those at one edit stand as they stood
+-- answers in the rising order of their edits; those at one edit stand as they stood
 abbrev pub by_edit : List Claimed → List Claimed
 by_edit [] = []
-by_edit (claim ∷ claims) = put_before claim (by_edit claims)
+by_edit (answer ∷ answers) = put_before answer (by_edit answers)
 
 -- several lists joined so
 abbrev pub joined : List (List Claimed) → List Claimed

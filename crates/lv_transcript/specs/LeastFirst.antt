@@ -1,21 +1,21 @@
--- How the list with the least claim is found: words for private functions.
+-- How the list with the least answer is found: words for private functions.
 use Rattle.std.specs.Prelude.{◌≡◌, ℕ, ◌<◌, ◌≤◌, All, List, [], ◌∷◌, ◌++◌, MatchOption, Option, length}
 use Rattle.lv_transcript.specs.declared.claimed.Claimed.{Claimed}
 
--- no claim's edit is below this, or each is above it
+-- no answer's edit is below this, or each is above it
 abbrev pub AreFrom : ℕ → List Claimed → Type 0
-AreFrom edit claims = All (λ claim. edit ≤ claim.edit) claims
+AreFrom edit answers = All (λ answer. edit ≤ answer.edit) answers
 
 abbrev pub AreAbove : ℕ → List Claimed → Type 0
-AreAbove edit claims = All (λ claim. edit < claim.edit) claims
+AreAbove edit answers = All (λ answer. edit < answer.edit) answers
 
--- a list begins with a claim of this edit, which none of its claims is below
-pub record BeginsAt (edit : ℕ) (claims : List Claimed) : Type 0 where
+-- a list begins with an answer of this edit, which none of its answers is below
+pub record BeginsAt (edit : ℕ) (answers : List Claimed) : Type 0 where
   pub first : Claimed
   pub rest : List Claimed
-  pub is : claims ≡ first ∷ rest
+  pub is : answers ≡ first ∷ rest
   pub edit_is : first.edit ≡ edit
-  pub least : AreFrom edit claims
+  pub least : AreFrom edit answers
 
 -- the list of this index begins at this edit, the least of all; those before it begin later
 pub record IsLeast (index edit : ℕ) (lists : List (List Claimed)) : Type 0 where
@@ -30,4 +30,4 @@ pub record IsLeast (index edit : ℕ) (lists : List (List Claimed)) : Type 0 whe
 
 -- what was found among some lists: the index and the edit of that one, or none where all are empty
 abbrev pub FindsLeast : List (List Claimed) → Option (ℕ × ℕ) → Type 0
-FindsLeast lists found = MatchOption found (All (λ claims. claims ≡ []) lists) (λ found. IsLeast found.0 found.1 lists)
+FindsLeast lists found = MatchOption found (All (λ answers. answers ≡ []) lists) (λ found. IsLeast found.0 found.1 lists)

@@ -37,18 +37,18 @@ end_line = codes "end"
 abbrev pub edit_line : Edit → List ℕ
 edit_line e = codes "j " ++ printed (command.Edit e)
 
--- what the line of a claim begins with: all but its value
+-- what the line of an answer begins with: all but its value
 abbrev pub question_text : ℕ → Kind → ℕ → ℕ → List ℕ
 question_text edit kind lo hi =
     codes "a " ++ decimal edit ++ codes " " ++ kind_name kind ++ codes " " ++ decimal lo ++ codes " " ++ decimal hi ++ codes " "
 
--- the line of a claim
-abbrev pub claim_line : Claimed → List ℕ
-claim_line claim = question_text claim.edit claim.kind claim.lo claim.hi ++ shown_text claim.value
+-- the line of an answer
+abbrev pub answer_line : Claimed → List ℕ
+answer_line answer = question_text answer.edit answer.kind answer.lo answer.hi ++ shown_text answer.value
 
--- the lines of a transcript: its first line, one for each edit, one for each claim, and its last line
+-- the lines of a transcript: its first line, one for each edit, one for each answer, and its last line
 abbrev pub transcript_lines : List Edit → List Claimed → List (List ℕ)
-transcript_lines edits claims = first_line ∷ [] ++ map edit_line edits ++ map claim_line claims ++ end_line ∷ []
+transcript_lines edits answers = first_line ∷ [] ++ map edit_line edits ++ map answer_line answers ++ end_line ∷ []
 
 -- lines as a text: each is ended by LF
 abbrev pub ended : List (List ℕ) → List ℕ
@@ -56,7 +56,7 @@ ended lines = flat_map (λ line. line ++ 10 ∷ []) lines
 
 -- the text of a transcript
 abbrev pub transcript_text : List Edit → List Claimed → List ℕ
-transcript_text edits claims = ended (transcript_lines edits claims)
+transcript_text edits answers = ended (transcript_lines edits answers)
 
 -- ---- when it is sound
 
@@ -73,28 +73,28 @@ AreAcceptedAfter limits before (edit ∷ edits) = (verdict_of limits before edit
 abbrev pub AreAccepted : Bounds → List Edit → Type 0
 AreAccepted limits edits = AreAcceptedAfter limits [] edits
 
--- claims in rising order of their edits, equal ones allowed
+-- answers in rising order of their edits, equal ones allowed
 abbrev pub AreInOrder : List Claimed → Type 0
-AreInOrder claims = IsNonDecreasingBy (λ claim. claim.edit) claims
+AreInOrder answers = IsNonDecreasingBy (λ answer. answer.edit) answers
 
--- a claim is true of a journal: its edit is at most the number of edits (0 stands for before the first), its range lies in the list
+-- an answer is true of a journal: its edit is at most the number of edits (0 stands for before the first), its range lies in the list
 -- after that edit, and its value is the plain one there
-pub record IsTrueClaim (edits : List Edit) (claim : Claimed) : Type 0 where
-  pub edit : claim.edit ≤ length edits
-  pub range : claim.lo ≤ claim.hi
-  pub end : claim.hi ≤ length (list_of (take claim.edit edits))
-  pub value : claim.value ≡ plain_value claim.kind (slice_range (list_of (take claim.edit edits)) claim.lo claim.hi)
+pub record IsTrueAnswer (edits : List Edit) (answer : Claimed) : Type 0 where
+  pub edit : answer.edit ≤ length edits
+  pub range : answer.lo ≤ answer.hi
+  pub end : answer.hi ≤ length (list_of (take answer.edit edits))
+  pub value : answer.value ≡ plain_value answer.kind (slice_range (list_of (take answer.edit edits)) answer.lo answer.hi)
 
--- bytes are a sound transcript: the text of edits that a vector of the greatest limits accepts, and of true claims in
+-- bytes are a sound transcript: the text of edits that a vector of the greatest limits accepts, and of true answers in
 -- order; the last LF may be missing
 pub record IsSoundTranscript (bytes : List ℕ) : Type 0 where
   pub edits : List Edit
-  pub claims : List Claimed
-  pub text : (bytes ≡ transcript_text edits claims) ⊎ (bytes ++ 10 ∷ [] ≡ transcript_text edits claims)
+  pub answers : List Claimed
+  pub text : (bytes ≡ transcript_text edits answers) ⊎ (bytes ++ 10 ∷ [] ≡ transcript_text edits answers)
   pub elements : All CarriesElement edits
   pub accepted : AreAccepted greatest edits
-  pub order : AreInOrder claims
-  pub all_true : All (IsTrueClaim edits) claims
+  pub order : AreInOrder answers
+  pub all_true : All (IsTrueAnswer edits) answers
 
 -- ---- its audit
 
@@ -108,13 +108,13 @@ verdict_text Yes = reply_line (codes "yes")
 verdict_text (No n) = reply_line (codes "no " ++ decimal n)
 verdict_text (Bad n) = bad_text n
 
--- a line has the form of an edit, or begins as a claim does, with any value behind that
+-- a line has the form of an edit, or begins as an answer does, with any value behind that
 abbrev pub HasForm : List ℕ → Type 0
 HasForm line =
     ((edit : Edit) × IsEdit edit × (line ≡ edit_line edit))
     ⊎ ((edit : ℕ) × (kind : Kind) × (lo : ℕ) × (hi : ℕ) × (value : List ℕ) × (line ≡ question_text edit kind lo hi ++ value))
 
--- the line of this number among some lines has the form of an edit or of a claim
+-- the line of this number among some lines has the form of an edit or of an answer
 pub record HasFormAt (lines : List (List ℕ)) (number : ℕ) : Type 0 where
   pub front : List (List ℕ)
   pub line : List ℕ

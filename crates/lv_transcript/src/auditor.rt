@@ -1,16 +1,16 @@
-//! The audit of a transcript: each edit is made anew, and each claim computed.
+//! The audit of a transcript: each edit is made anew, and each answer computed.
 ghost use Rattle.std.specs.Prelude.{◌≡◌, ◌↔◌, ℕ, ◌^◌, ◌≤◌, ◌++◌, ◌⊎◌, [], IfOk, MatchResult, IsTrue, length, take, vec_capacity};
 ghost use Rattle.lv_lines.specs.Output.{HasRoom};
 ghost use Rattle.lv_lines.specs.Texts.{shown_text};
 ghost use Rattle.lv_edits.specs.History.{list_of};
 ghost use Rattle.lv_lines.specs.declared.replies.TheConstants.{LINE};
-ghost use Rattle.lv_transcript.specs.Auditing.{AnswerBecomes, AuditState, start_state, state_of, Audits, AuditStep, ClaimBecomes, EditBecomes, Becomes, FirstBecomes, IsVerdictAt, MayEnd, Takes, TakesEdit, TakesLater};
+ghost use Rattle.lv_transcript.specs.Auditing.{AnswerBecomes, AuditState, start_state, state_of, Audits, AuditStep, AnswerLineBecomes, EditBecomes, Becomes, FirstBecomes, IsVerdictAt, MayEnd, Takes, TakesEdit, TakesLater};
 ghost use Rattle.lv_transcript.specs.Blocks.{AreKept};
 ghost use Rattle.lv_transcript.specs.FrontSteps.{open_again};
 ghost use Rattle.lv_transcript.specs.Transcript.{greatest, verdict_text, Audited};
 
 use crate::plain_ranges::Replay;
-use crate::transcript_lines::{Question, read_claim, read_edit};
+use crate::transcript_lines::{Question, read_answer, read_edit};
 use lv_bodies::Shown;
 use lv_edits::{Edit, Edits};
 use lv_geometry::Limits;
@@ -33,7 +33,7 @@ pub enum Verdict {
 
 /// Audits a transcript: reads it to its end, and writes the verdict as a line.
 ///
-/// Each edit is made anew, and each claim's value is the left fold of the elements of its range: it is joined from folds of blocks
+/// Each edit is made anew, and each answer's value is the left fold of the elements of its range: it is joined from folds of blocks
 /// of 1,024 elements, which are kept until an edit touches them. Memory grows with the journal, and not with the text. Nothing is written where a read fails, which is `ReadFault`, where the
 /// input has more than 2^30 bytes, which is `TooLong`, and where there is no memory, which is `NoMemory`. A failed
 /// write, and one that takes no byte, is `WriteFault`.
@@ -78,10 +78,10 @@ fn put_verdict(held: &mut Vec<u8>, verdict: Verdict)
 pub(crate) enum Stage {
     /// The first line.
     Start,
-    /// Edits, claims, or the last line.
+    /// Edits, answers, or the last line.
     Edits,
-    /// Claims, or the last line.
-    Claims,
+    /// Answers, or the last line.
+    AnswersFollow,
     /// Nothing: the last line was read.
     End,
     /// The line of this number is false.
@@ -97,7 +97,7 @@ pub(crate) enum Stage {
 pub(crate) struct Auditor {
     pub(crate) stage: Stage,
     lines: u32,
-    // All edits so far, and the list after those up to the last claim.
+    // All edits so far, and the list after those up to the last answer.
     pub(crate) edits: Edits,
     pub(crate) replay: Replay,
     // The text of the line that is read, or of its value.
@@ -148,7 +148,7 @@ impl Auditor {
         ensures { MatchResult result (IsVerdictAt self.now.stage) (λ fault. fault ≡ Fault.NoMemory) }
     {
         match self.stage {
-            Stage::Start | Stage::Edits | Stage::Claims => {
+            Stage::Start | Stage::Edits | Stage::AnswersFollow => {
                 Ok(Verdict::Bad(self.lines.saturating_add(1)))
             }
             Stage::End => Ok(Verdict::Yes),
@@ -165,19 +165,19 @@ impl Auditor {
         self.lines = number;
         match self.stage {
             Stage::No(_) | Stage::Bad(_) | Stage::NoMemory => {}
-            Stage::Start | Stage::Edits | Stage::Claims | Stage::End => {
+            Stage::Start | Stage::Edits | Stage::AnswersFollow | Stage::End => {
                 self.stage = self.next_stage(number, line);
             }
         }
     }
 
-    // Lets an edit come behind a claim.
+    // Lets an edit come behind an answer.
     pub(crate) fn reopen(&mut self)
         ensures stage { self.new.stage ≡ open_again self.old.stage }
         ensures edits { self.new.edits ≡ self.old.edits }
         ensures replay { self.new.replay ≡ self.old.replay }
     {
-        if let Stage::Claims = self.stage {
+        if let Stage::AnswersFollow = self.stage {
             self.stage = Stage::Edits;
         }
     }
@@ -192,7 +192,7 @@ impl Auditor {
         match self.stage {
             Stage::Start => first_stage(number, line),
             Stage::Edits => self.edit_or_later(number, line),
-            Stage::Claims => self.claim_or_last(number, line),
+            Stage::AnswersFollow => self.answer_or_last(number, line),
             Stage::End | Stage::No(_) | Stage::Bad(_) | Stage::NoMemory => Stage::Bad(number),
         }
     }
@@ -205,7 +205,7 @@ impl Auditor {
     {
         match read_edit(line, &mut self.text) {
             Some(edit) => self.take_edit(number, edit),
-            None => self.claim_or_last(number, line),
+            None => self.answer_or_last(number, line),
         }
     }
 
@@ -224,22 +224,22 @@ impl Auditor {
     }
 
     // The stage behind a line that is not that of an edit.
-    fn claim_or_last(&mut self, number: u32, line: &[u8]) -> Stage
+    fn answer_or_last(&mut self, number: u32, line: &[u8]) -> Stage
         requires { MayEnd self.old.stage }
         ensures { Becomes number line.now (TakesLater (state_of self.old.stage self.old.edits self.old.replay.edit) line.now) (state_of result self.new.edits self.new.replay.edit) }
     {
         if line == b"end".as_slice() {
             return Stage::End;
         }
-        match read_claim(line, &mut self.text) {
-            Some((question, value)) => self.take_claim(number, question, value),
+        match read_answer(line, &mut self.text) {
+            Some((question, value)) => self.take_answer(number, question, value),
             None => Stage::Bad(number),
         }
     }
 
-    // Answers a claim's question anew, and compares.
-    fn take_claim(&mut self, number: u32, question: Question, value: &[u8]) -> Stage
-        ensures claim { ClaimBecomes number self.old.edits.journal self.old.replay.edit question value.now result self.new.replay.edit }
+    // Asks an answer's question anew, and compares.
+    fn take_answer(&mut self, number: u32, question: Question, value: &[u8]) -> Stage
+        ensures answer { AnswerLineBecomes number self.old.edits.journal self.old.replay.edit question value.now result self.new.replay.edit }
         ensures edits { self.new.edits ≡ self.old.edits }
     {
         if question.edit < self.replay.edit {
@@ -258,7 +258,7 @@ impl Auditor {
         self.judge(number, question, value)
     }
 
-    // The stage behind a claim, on the list after its edit.
+    // The stage behind an answer, on the list after its edit.
     fn judge(&mut self, number: u32, question: Question, value: &[u8]) -> Stage
         ensures answer { AnswerBecomes number self.old.replay.list.items question value.now result }
         ensures edits { self.new.edits ≡ self.old.edits }
@@ -272,7 +272,7 @@ impl Auditor {
             return Stage::NoMemory;
         };
         if is_text_of(shown, value, &mut self.text) {
-            return Stage::Claims;
+            return Stage::AnswersFollow;
         }
         Stage::No(number)
     }

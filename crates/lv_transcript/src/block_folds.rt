@@ -1,6 +1,6 @@
 //! The folds of a list's blocks by one body: each is computed once it is asked for, and forgotten once an edit touches its block.
 ghost use Rattle.std.specs.Prelude.{◌≡◌, ◌+◌, ◌*◌, ◌/◌, ◌^◌, ◌<◌, ◌≤◌, None, IfOk, is_ok, if◌then◌else◌, length, take, slice_set, slice_range, vec_len};
-ghost use Rattle.lv_transcript.specs.Blocks.{AreFolds, IsFold, block_of, with_places};
+ghost use Rattle.lv_transcript.specs.Blocks.{AreFolds, IsFold, block_elements, with_places};
 
 use lv_bodies::{Body, fold_slice};
 use std::alloc::AllocError;
@@ -90,7 +90,7 @@ fn fold_block<B: Body>(body: &B, list: &[i64], folds: &mut Vec<Option<B::S>>, bl
     requires few { length list.now ≤ 2 ^ 20 }
     requires room { block < vec_len folds.old }
     requires folds { AreFolds (B.operations (B.meaning body.now)) list.now folds.old.items }
-    ensures fold { IsFold (B.operations (B.meaning body.now)) (block_of list.now block) result }
+    ensures fold { IsFold (B.operations (B.meaning body.now)) (block_elements list.now block) result }
     ensures folds { AreFolds (B.operations (B.meaning body.now)) list.now folds.new.items }
     ensures room { vec_len folds.new ≡ vec_len folds.old }
 {

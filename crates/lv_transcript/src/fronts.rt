@@ -160,7 +160,7 @@ impl FrontAuditor {
         let edits = self.auditor.edits.edit();
         match self.auditor.stage {
             Stage::Start => Ok(front_of(0, 0)),
-            Stage::Edits | Stage::Claims => {
+            Stage::Edits | Stage::AnswersFollow => {
                 Ok(front_of(edits, self.lines.saturating_sub(1).saturating_sub(edits)))
             }
             Stage::End => Ok(front_of(edits, self.lines.saturating_sub(2).saturating_sub(edits))),

@@ -1,4 +1,4 @@
-//! Claims that are taken one after the other, from several lists at once.
+//! Answers that are taken one after the other, from several lists at once.
 ghost use Rattle.std.specs.Prelude.{◌≡◌, [], ◌∷◌, ◌++◌, List, MatchOption, length};
 ghost use Rattle.lv_transcript.specs.declared.claimed.Claimed.{Claimed};
 ghost use Rattle.lv_transcript.specs.LeastFirst.{BeginsAt, FindsLeast};
@@ -8,10 +8,10 @@ ghost use Rattle.lv_transcript.specs.Transcript.{AreInOrder};
 use crate::claimed::Claimed;
 use std::marker::Model;
 
-/// Claims in rising order of their edits, which are taken one after the other.
+/// Answers in rising order of their edits, which are taken one after the other.
 #[derive(Drop)]
 pub struct Queue {
-    claims: Vec<Claimed>,
+    answers: Vec<Claimed>,
     // How many of them were taken.
     taken: usize,
 }
@@ -23,47 +23,47 @@ impl Model for Queue {
 
     ghost Value = { List Claimed };
 
-    ghost view = { λ q. drop q.taken q.claims.items };
+    ghost view = { λ q. drop q.taken q.answers.items };
 
-    ghost invariant = { λ q. AreInOrder q.claims.items };
+    ghost invariant = { λ q. AreInOrder q.answers.items };
 }
 
 impl Queue {
-    /// All of some claims. Takes no memory.
-    pub fn new(claims: Vec<Claimed>) -> Queue
-        requires order { AreInOrder claims.items }
-        ensures { result ≡ claims.items }
+    /// All of some answers. Takes no memory.
+    pub fn new(answers: Vec<Claimed>) -> Queue
+        requires order { AreInOrder answers.items }
+        ensures { result ≡ answers.items }
     {
-        Queue { claims, taken: 0 }
+        Queue { answers, taken: 0 }
     }
 
-    // The edit of the first claim, which none is below.
+    // The edit of the first answer, which none is below.
     fn first_edit(&self) -> Option<u32>
         ensures { MatchOption result (self.now ≡ []) (λ edit. BeginsAt edit self.now) }
     {
-        match self.claims.as_slice().get(self.taken) {
-            Some(claim) => Some(claim.edit),
+        match self.answers.as_slice().get(self.taken) {
+            Some(answer) => Some(answer.edit),
             None => None,
         }
     }
 
-    // Takes the first claim.
+    // Takes the first answer.
     fn take_first(&mut self) -> Option<Claimed>
-        ensures { MatchOption result (self.old ≡ []) (λ claim. self.old ≡ claim ∷ self.new) }
+        ensures { MatchOption result (self.old ≡ []) (λ answer. self.old ≡ answer ∷ self.new) }
     {
-        match self.claims.as_slice().get(self.taken) {
-            Some(claim) => {
+        match self.answers.as_slice().get(self.taken) {
+            Some(answer) => {
                 self.taken += 1;
-                Some(*claim)
+                Some(*answer)
             }
             None => None,
         }
     }
 }
 
-/// Takes the claim of the least edit, that of the first queue where several have one.
+/// Takes the answer of the least edit, that of the first queue where several have one.
 pub(crate) fn take_least(queues: &mut Vec<Queue>) -> Option<Claimed>
-    ensures { MatchOption result (in_a_row queues.old.items ≡ []) (λ claim. joined queues.old.items ≡ claim ∷ joined queues.new.items) }
+    ensures { MatchOption result (in_a_row queues.old.items ≡ []) (λ answer. joined queues.old.items ≡ answer ∷ joined queues.new.items) }
 {
     match least(queues.as_slice()) {
         Some((index, _)) => queues[index].take_first(),
@@ -71,7 +71,7 @@ pub(crate) fn take_least(queues: &mut Vec<Queue>) -> Option<Claimed>
     }
 }
 
-// Which queue has the claim of the least edit, and that edit.
+// Which queue has the answer of the least edit, and that edit.
 fn least(queues: &[Queue]) -> Option<(usize, u32)>
     ensures { FindsLeast queues.now result }
 {

@@ -5,7 +5,7 @@ ghost use Rattle.lv_transcript.specs.Fronts.{Entry};
 ghost use Rattle.lv_transcript.specs.Scribing.{EndsWhole, Rests, Scribed, Scribes};
 
 use crate::claimed::Claimed;
-use crate::transcripts::{write_claim, write_edit, write_end};
+use crate::transcripts::{write_answer, write_edit, write_end};
 use lv_edits::Edit;
 use lv_lines::{Fault, HELD, Outbox, put};
 use std::alloc::{AllocError, Global};
@@ -65,8 +65,8 @@ impl<W: Write + Drop> Scribe<W> {
     }
 
     /// Takes an answer, likewise.
-    pub fn answer(&mut self, claim: &Claimed)
-        ensures { Scribes self.old (inr claim.now) self.new }
+    pub fn answer(&mut self, answer: &Claimed)
+        ensures { Scribes self.old (inr answer.now) self.new }
     {
         if self.failed {
             return;
@@ -75,7 +75,7 @@ impl<W: Write + Drop> Scribe<W> {
             writer: &mut self.writer,
             held: &mut self.held,
         };
-        match write_claim(*claim, &mut outbox) {
+        match write_answer(*answer, &mut outbox) {
             Ok(()) => {}
             Err(_) => self.failed = true,
         }

@@ -13,10 +13,10 @@ use lv_lines::{
     Command, Line, kind_name, next_word, number, put, put_command, put_number, read_line,
 };
 
-/// At most how many bytes the line of an edit has, and that of a claim before its value.
+/// At most how many bytes the line of an edit has, and that of an answer before its value.
 pub(crate) const HEAD: usize = 80;
 
-/// What a claim asks: the value of a kind over a range, after an edit.
+/// What an answer asks: the value of a kind over a range, after an edit.
 #[derive(Clone, Copy)]
 pub(crate) struct Question {
     pub(crate) edit: u32,
@@ -37,7 +37,7 @@ pub(crate) fn put_edit_line(held: &mut Vec<u8>, edit: Edit)
     put_command(held, &Command::Edit(edit));
 }
 
-/// Puts what the line of a claim begins with, up to its value, after what is held.
+/// Puts what the line of an answer begins with, up to its value, after what is held.
 pub(crate) fn put_question(held: &mut Vec<u8>, edit: u32, kind: Kind, lo: u32, hi: u32)
     requires { HasRoom held.old HEAD }
     ensures text { held.new.items ≡ held.old.items ++ question_text edit kind lo hi }
@@ -93,9 +93,9 @@ fn edit_of(command: Command) -> Option<Edit>
 
 /// The question that a line begins with, letter for letter, and the bytes after it. The question's text is put into
 /// `text`, in place of what is there.
-pub(crate) fn read_claim<'a>(line: &'a [u8], text: &mut Vec<u8>) -> Option<(Question, &'a [u8])>
+pub(crate) fn read_answer<'a>(line: &'a [u8], text: &mut Vec<u8>) -> Option<(Question, &'a [u8])>
     requires { HEAD ≤ vec_capacity text.old }
-    ensures claim { MatchOption result ((question : Question) (value : List ℕ) → IsQuestion question → line.now ≢ text_of question ++ value)
+    ensures answer { MatchOption result ((question : Question) (value : List ℕ) → IsQuestion question → line.now ≢ text_of question ++ value)
         (λ read. IsQuestion read.0 × (line.now ≡ text_of read.0 ++ read.1.now)) }
     ensures room { KeepsRoom text.old text.new }
 {

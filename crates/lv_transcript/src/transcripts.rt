@@ -3,7 +3,7 @@ ghost use Rattle.std.specs.Prelude.{◌≡◌, ◌≤◌, [], ◌∷◌, ◌++�
 ghost use Rattle.std.specs.List.{flat_map};
 ghost use Rattle.lv_lines.specs.Output.{Puts, PutsFront, SamePlaces};
 ghost use Rattle.lv_transcript.specs.Joined.{in_a_row, joined};
-ghost use Rattle.lv_transcript.specs.Transcript.{edit_line, claim_line, end_line, transcript_text, greatest, AreAccepted, AreInOrder, IsEdit, IsTrueClaim, IsSoundTranscript, Transcribes};
+ghost use Rattle.lv_transcript.specs.Transcript.{edit_line, answer_line, end_line, transcript_text, greatest, AreAccepted, AreInOrder, IsEdit, IsTrueAnswer, IsSoundTranscript, Transcribes};
 
 use crate::claimed::Claimed;
 use crate::queues::{Queue, take_least};
@@ -13,30 +13,30 @@ use lv_lines::{Fault, HELD, LINE, Outbox, put, put_shown};
 use std::alloc::Global;
 use std::io::Write;
 
-/// Writes the transcript of a journal and of what was claimed of it, and flushes the writer. The claims stand in
+/// Writes the transcript of a journal and of the answers of it, and flushes the writer. The answers stand in
 /// rising order of their edits.
 ///
-/// Where the journal is one that a vector of the greatest limits accepts, and each claim is true, the transcript is
+/// Where the journal is one that a vector of the greatest limits accepts, and each answer is true, the transcript is
 /// sound: an audit of it answers yes. Memory is fixed, and taken before anything is written: where there is none, the
 /// fault is `NoMemory`. A failed write, and one that takes no byte, is `WriteFault`.
 pub fn write_transcript<W: Write>(
     alloc: Global,
     edits: &[Edit],
-    claims: &[Claimed],
+    answers: &[Claimed],
     writer: &mut W,
 ) -> Result<(), Fault>
-    requires { AreInOrder claims.now }
-    ensures text { Transcribes (W.contents writer.old) (W.contents writer.new) (transcript_text edits.now claims.now) result }
-    ensures sound { AreAccepted greatest edits.now → All (IsTrueClaim edits.now) claims.now
-        → OnOk result (IsSoundTranscript (transcript_text edits.now claims.now)) }
+    requires { AreInOrder answers.now }
+    ensures text { Transcribes (W.contents writer.old) (W.contents writer.new) (transcript_text edits.now answers.now) result }
+    ensures sound { AreAccepted greatest edits.now → All (IsTrueAnswer edits.now) answers.now
+        → OnOk result (IsSoundTranscript (transcript_text edits.now answers.now)) }
 {
     let Ok(mut held) = Vec::with_capacity(alloc, HELD) else {
         return Err(Fault::NoMemory);
     };
-    write_by(edits, claims, &mut held, writer)
+    write_by(edits, answers, &mut held, writer)
 }
 
-/// Writes the transcript of a journal and of what was claimed of it in several queues, and flushes the writer. The claims go out in the
+/// Writes the transcript of a journal and of the answers of it in several queues, and flushes the writer. The answers go out in the
 /// order of their edits; those at one edit in the order of the queues.
 ///
 /// It is as sound as one that `write_transcript` writes. No memory is taken: lines are held in a buffer that was made for it, which has
@@ -50,7 +50,7 @@ pub fn write_joined_transcript<W: Write>(
     requires held { held.old.items ≡ [] }
     requires room { HELD ≤ vec_capacity held.old }
     ensures text { Transcribes (W.contents writer.old) (W.contents writer.new) (transcript_text edits.now (joined queues.old.items)) result }
-    ensures sound { AreAccepted greatest edits.now → All (IsTrueClaim edits.now) (in_a_row queues.old.items)
+    ensures sound { AreAccepted greatest edits.now → All (IsTrueAnswer edits.now) (in_a_row queues.old.items)
         → OnOk result (IsSoundTranscript (transcript_text edits.now (joined queues.old.items))) }
     ensures fault { IfErr result (λ fault. fault ≡ Fault.WriteFault) }
 {
@@ -79,33 +79,33 @@ fn write_joined_lines<W: Write>(
 // Writes a transcript by a buffer that was made for it.
 fn write_by<W: Write>(
     edits: &[Edit],
-    claims: &[Claimed],
+    answers: &[Claimed],
     held: &mut Vec<u8>,
     writer: &mut W,
 ) -> Result<(), Fault>
     requires held { held.old.items ≡ [] }
     requires room { HELD ≤ vec_capacity held.old }
-    ensures text { Transcribes (W.contents writer.old) (W.contents writer.new) (transcript_text edits.now claims.now) result }
+    ensures text { Transcribes (W.contents writer.old) (W.contents writer.new) (transcript_text edits.now answers.now) result }
     ensures fits { OnOk result (All IsEdit edits.now) }
 {
     let mut outbox = Outbox { writer, held };
-    write_lines(edits, claims, &mut outbox)
+    write_lines(edits, answers, &mut outbox)
 }
 
 // Writes the lines of a transcript by an empty outbox.
 fn write_lines<W: Write>(
     edits: &[Edit],
-    claims: &[Claimed],
+    answers: &[Claimed],
     outbox: &mut Outbox<'_, W>,
 ) -> Result<(), Fault>
     requires held { outbox.old.held.now.items ≡ [] }
     ensures places { SamePlaces outbox.old outbox.new }
-    ensures text { Transcribes (W.contents outbox.old.writer.now) (W.contents outbox.new.writer.now) (transcript_text edits.now claims.now) result }
+    ensures text { Transcribes (W.contents outbox.old.writer.now) (W.contents outbox.new.writer.now) (transcript_text edits.now answers.now) result }
     ensures fits { OnOk result (All IsEdit edits.now) }
 {
     put(outbox.held, b"livevec 1\n");
     write_edits(edits, outbox)?;
-    write_claims(claims, outbox)?;
+    write_answers(answers, outbox)?;
     write_end(outbox)
 }
 
@@ -151,44 +151,47 @@ pub(crate) fn write_edit<W: Write>(edit: Edit, outbox: &mut Outbox<'_, W>) -> Re
     Ok(())
 }
 
-// Writes the lines of the claims behind what is held.
-fn write_claims<W: Write>(claims: &[Claimed], outbox: &mut Outbox<'_, W>) -> Result<(), Fault>
+// Writes the lines of the answers behind what is held.
+fn write_answers<W: Write>(answers: &[Claimed], outbox: &mut Outbox<'_, W>) -> Result<(), Fault>
     ensures places { SamePlaces outbox.old outbox.new }
     ensures ok { OnOk result (Puts W.contents outbox.old outbox.new
-        (flat_map (λ claim. claim_line claim ++ 10 ∷ []) claims.now)) }
+        (flat_map (λ answer. answer_line answer ++ 10 ∷ []) answers.now)) }
     ensures fault { IfErr result (λ fault. (fault ≡ Fault.WriteFault)
-        × PutsFront W.contents outbox.old outbox.new (flat_map (λ claim. claim_line claim ++ 10 ∷ []) claims.now)) }
+        × PutsFront W.contents outbox.old outbox.new (flat_map (λ answer. answer_line answer ++ 10 ∷ []) answers.now)) }
 {
-    for claim in claims {
-        write_claim(*claim, outbox)?;
+    for answer in answers {
+        write_answer(*answer, outbox)?;
     }
     Ok(())
 }
 
-// Writes the lines of the claims in some queues behind what is held.
+// Writes the lines of the answers in some queues behind what is held.
 fn write_queues<W: Write>(queues: &mut Vec<Queue>, outbox: &mut Outbox<'_, W>) -> Result<(), Fault>
     ensures places { SamePlaces outbox.old outbox.new }
     ensures ok { OnOk result (Puts W.contents outbox.old outbox.new
-        (flat_map (λ claim. claim_line claim ++ 10 ∷ []) (joined queues.old.items))) }
+        (flat_map (λ answer. answer_line answer ++ 10 ∷ []) (joined queues.old.items))) }
     ensures fault { IfErr result (λ fault. (fault ≡ Fault.WriteFault)
-        × PutsFront W.contents outbox.old outbox.new (flat_map (λ claim. claim_line claim ++ 10 ∷ []) (joined queues.old.items))) }
+        × PutsFront W.contents outbox.old outbox.new (flat_map (λ answer. answer_line answer ++ 10 ∷ []) (joined queues.old.items))) }
 {
-    while let Some(claim) = take_least(queues) {
-        write_claim(claim, outbox)?;
+    while let Some(answer) = take_least(queues) {
+        write_answer(answer, outbox)?;
     }
     Ok(())
 }
 
-// Writes the line of a claim behind what is held.
-pub(crate) fn write_claim<W: Write>(claim: Claimed, outbox: &mut Outbox<'_, W>) -> Result<(), Fault>
+// Writes the line of an answer behind what is held.
+pub(crate) fn write_answer<W: Write>(
+    answer: Claimed,
+    outbox: &mut Outbox<'_, W>,
+) -> Result<(), Fault>
     ensures places { SamePlaces outbox.old outbox.new }
-    ensures ok { OnOk result (Puts W.contents outbox.old outbox.new (claim_line claim ++ 10 ∷ [])) }
+    ensures ok { OnOk result (Puts W.contents outbox.old outbox.new (answer_line answer ++ 10 ∷ [])) }
     ensures fault { IfErr result (λ fault. (fault ≡ Fault.WriteFault)
         × PutsFront W.contents outbox.old outbox.new []) }
 {
     outbox.make_room(LINE)?;
-    put_question(outbox.held, claim.edit, claim.kind, claim.lo, claim.hi);
-    put_shown(outbox.held, claim.value);
+    put_question(outbox.held, answer.edit, answer.kind, answer.lo, answer.hi);
+    put_shown(outbox.held, answer.value);
     put(outbox.held, b"\n");
     Ok(())
 }

@@ -116,7 +116,7 @@ pub served_watched : (share : ShareState) (watches : List WatchState) (left : Li
     → ServedWatched watches news contents_old contents_new
 served_watched share watches left news contents_old contents_new are closed = record {
   edits = closed.journal;
-  answers = closed.claims;
+  answers = closed.answers;
   written = closed.written;
   watched = watched_each share.seen closed.journal watches left news closed.seen are closed.last;
 }

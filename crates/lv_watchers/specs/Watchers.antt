@@ -66,5 +66,5 @@ pub record ClosesTelling (share : ShareState) (left : List LeftState) (told : Li
   pub journal : List Edit
   pub seen : IsPrefix share.seen journal
   pub last : AllTellLast journal left told
-  pub claims : List Claimed
-  pub written : Appends contents_old contents_new (transcript_text journal claims)
+  pub answers : List Claimed
+  pub written : Appends contents_old contents_new (transcript_text journal answers)

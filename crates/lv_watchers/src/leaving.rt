@@ -8,7 +8,7 @@ ghost use Rattle.lv_watchers.specs.Watchers.{AllTellLast, TakesWatchers, TellsLa
 use crate::notices::Notices;
 use crate::watchers::Watcher;
 use lv_bodies::Six;
-use lv_hub::{Ended, Means, Share};
+use lv_hub::{Ended, Share, WithBody};
 use lv_live::Live;
 use std::alloc::{AllocError, Global};
 use std::io::Write;
@@ -104,7 +104,7 @@ impl<F: Write + Drop> Leaving<F> {
 }
 
 /// Takes the parts of subscribers back, and gathers what they leave, where nothing is gathered yet. Takes no memory.
-pub fn leave_all<N: Means<Six>, F: Write + Drop>(
+pub fn leave_all<N: WithBody<Six>, F: Write + Drop>(
     room: Leaving<F>,
     share: &mut Share<N>,
     watchers: Vec<Watcher<N, F>>,

@@ -10,7 +10,7 @@ use crate::leaving::Left;
 use crate::notices::Notices;
 use lv_bodies::Six;
 use lv_geometry::Refusal;
-use lv_hub::{Hub, Means, Question, Share, Subscriber};
+use lv_hub::{Hub, Question, Share, Subscriber, WithBody};
 use std::alloc::Global;
 use std::io::Write;
 use std::marker::Model;
@@ -29,13 +29,13 @@ pub struct Watch<F: Drop> {
 
 /// A subscriber of a hub with one part of it, and what writes its lines.
 #[derive(Drop)]
-pub struct Watcher<N: Means<Six>, F: Write + Drop> {
+pub struct Watcher<N: WithBody<Six>, F: Write + Drop> {
     number: usize,
     subscriber: Subscriber<N>,
     notices: Notices<F>,
 }
 
-impl<N: Means<Six>, F: Write + Drop> Model for Watcher<N, F> {
+impl<N: WithBody<Six>, F: Write + Drop> Model for Watcher<N, F> {
     ghost use Rattle.std.specs.Prelude.{◌≡◌};
     ghost use Rattle.lv_watchers.specs.Noticing.{WatcherState};
 
@@ -46,7 +46,7 @@ impl<N: Means<Six>, F: Write + Drop> Model for Watcher<N, F> {
     ghost invariant = { λ w. (w.subscriber.share.parts ≡ 1) × (w.subscriber.share.count ≡ 0) };
 }
 
-impl<N: Means<Six>, F: Write + Drop> Watcher<N, F> {
+impl<N: WithBody<Six>, F: Write + Drop> Watcher<N, F> {
     /// Has its subscriber told of edits, until the hub's workers are dismissed or a write fails. Where memory is wanting it looks
     /// again after a pause. At the end it looks once more, without sleep.
     pub fn run<R: Wait>(&mut self, rt: &R, alloc: Global, hub: &Hub<Six, N>)
@@ -114,7 +114,7 @@ impl<N: Means<Six>, F: Write + Drop> Watcher<N, F> {
 
 // A subscriber with a share, which asks its questions. Refused as they are, and with `NoMemory`.
 #[tactic(auto, using(crate::proofs::Noticed::subscribed))]
-fn subscribe<N: Means<Six>, F: Write + Drop>(
+fn subscribe<N: WithBody<Six>, F: Write + Drop>(
     alloc: Global,
     share: Share<N>,
     watch: Watch<F>,
@@ -144,7 +144,7 @@ fn subscribe<N: Means<Six>, F: Write + Drop>(
 }
 
 // Has a subscriber without questions ask these. Refused as `Subscriber::watch` is.
-fn ask_all<N: Means<Six>>(
+fn ask_all<N: WithBody<Six>>(
     subscriber: &mut Subscriber<N>,
     questions: &[Question],
 ) -> Result<(), Refusal>
@@ -162,7 +162,7 @@ fn ask_all<N: Means<Six>>(
 
 /// Gives each subscriber a part of the hub, of which nobody has seen an edit. The first question that is refused, as
 /// `Subscriber::watch` does, is the refusal; or else `NoMemory`.
-pub fn subscribe_all<N: Means<Six>, F: Write + Drop>(
+pub fn subscribe_all<N: WithBody<Six>, F: Write + Drop>(
     alloc: Global,
     share: &mut Share<N>,
     watches: Vec<Watch<F>>,

@@ -7,7 +7,7 @@ use crate::told::{Told, again, begin, end, first};
 use lv_bodies::Sum;
 use lv_edits::Edit;
 use lv_geometry::{Limits, Refusal};
-use lv_hub::{Desk, Hub, Means, Naming, Opened, Share};
+use lv_hub::{Desk, Hub, Naming, Opened, Share, WithBody};
 use std::alloc::Global;
 use std::marker::Brand;
 use std::sync::Wait;
@@ -63,7 +63,7 @@ pub fn edit_desk<R: Eprint>(rt: &R, alloc: Global, row: Row) -> Told {
     of_desk::<Brand, R>(rt, alloc, limits, blank, opened, row)
 }
 
-fn try_hub<N: Means<Sum>, R: Wait + Eprint>(
+fn try_hub<N: WithBody<Sum>, R: Wait + Eprint>(
     rt: &R,
     hub: &Hub<Sum, N>,
     share: &mut Share<N>,
@@ -86,7 +86,7 @@ fn try_hub<N: Means<Sum>, R: Wait + Eprint>(
 }
 
 // The edit, how many values there are, and the last.
-fn scan<N: Means<Sum>, R: Threads + Wait + Sync>(
+fn scan<N: WithBody<Sum>, R: Threads + Wait + Sync>(
     rt: &R,
     alloc: Global,
     hub: &Hub<Sum, N>,
@@ -103,7 +103,7 @@ fn scan<N: Means<Sum>, R: Threads + Wait + Sync>(
     Ok((scan.edit, scan.values.len(), last))
 }
 
-fn try_scan<N: Means<Sum>, R: Threads + Wait + Eprint + Sync>(
+fn try_scan<N: WithBody<Sum>, R: Threads + Wait + Eprint + Sync>(
     rt: &R,
     alloc: Global,
     hub: &Hub<Sum, N>,
@@ -133,7 +133,7 @@ enum Ask {
     Scan(bool),
 }
 
-fn of_hub<N: Means<Sum>, R: Threads + Wait + Eprint + Sync>(
+fn of_hub<N: WithBody<Sum>, R: Threads + Wait + Eprint + Sync>(
     rt: &R,
     alloc: Global,
     limits: Limits,

@@ -15,7 +15,7 @@ use std::test::Fail;
 use std::thread;
 
 // Pushes equal elements in turn, and sees that each is accepted.
-pub(crate) fn push_all<B: Body, N: Means<B>, R: Wait + Abort>(
+pub(crate) fn push_all<B: Body, N: WithBody<B>, R: Wait + Abort>(
     rt: &R,
     hub: &Hub<B, N>,
     share: &mut Share<N>,
@@ -31,7 +31,7 @@ pub(crate) fn push_all<B: Body, N: Means<B>, R: Wait + Abort>(
 }
 
 // How many edits a share of all parts counts, and how many the journal of its hub has, which is closed.
-pub(crate) fn counts_at_close<N: Means<Sum>>(hub: Hub<Sum, N>, share: Share<N>) -> (u64, usize)
+pub(crate) fn counts_at_close<N: WithBody<Sum>>(hub: Hub<Sum, N>, share: Share<N>) -> (u64, usize)
     requires { share.parts ≡ N.parts }
 {
     let counted = share.count();
@@ -42,7 +42,7 @@ pub(crate) fn counts_at_close<N: Means<Sum>>(hub: Hub<Sum, N>, share: Share<N>) 
 }
 
 // The outcome of a hub's next job.
-pub(crate) fn next_outcome<B: Body, N: Means<B>, R: Wait>(
+pub(crate) fn next_outcome<B: Body, N: WithBody<B>, R: Wait>(
     rt: &R,
     hub: &Hub<B, N>,
 ) -> Result<Outcome<B>, Fail> {
@@ -53,7 +53,7 @@ pub(crate) fn next_outcome<B: Body, N: Means<B>, R: Wait>(
 }
 
 // Sees what a reduction from the first element answers: at which edit, and the sum.
-pub(crate) fn assert_sum<N: Means<Sum>, R: Wait + Abort>(
+pub(crate) fn assert_sum<N: WithBody<Sum>, R: Wait + Abort>(
     rt: &R,
     hub: &Hub<Sum, N>,
     share: &mut Share<N>,
@@ -69,7 +69,7 @@ pub(crate) fn assert_sum<N: Means<Sum>, R: Wait + Abort>(
 }
 
 // Sees what a hub answers where it is given an outcome.
-pub(crate) fn assert_given<N: Means<Sum>, R: Wait + Abort>(
+pub(crate) fn assert_given<N: WithBody<Sum>, R: Wait + Abort>(
     rt: &R,
     hub: &Hub<Sum, N>,
     outcome: Outcome<Sum>,
@@ -79,7 +79,7 @@ pub(crate) fn assert_given<N: Means<Sum>, R: Wait + Abort>(
 }
 
 // Writes over an element, and sees the edit's number and that a 1 stood there.
-pub(crate) fn overwrite_a_one<N: Means<Sum>, R: Wait + Abort>(
+pub(crate) fn overwrite_a_one<N: WithBody<Sum>, R: Wait + Abort>(
     rt: &R,
     hub: &Hub<Sum, N>,
     share: &mut Share<N>,

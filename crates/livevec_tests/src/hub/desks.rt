@@ -94,8 +94,8 @@ fn desk_alone<N: Naming>(
     requires limits { limits ≡ N.limits }
     requires history { opened ≡ N.history }
 {
-    let (_head, front) = opened.named::<N>();
-    let (mut desk, mut share) = Desk::<Sum, N>::new(alloc, limits, Sum, blank, 3, front);
+    let (_head, prefix) = opened.named::<N>();
+    let (mut desk, mut share) = Desk::<Sum, N>::new(alloc, limits, Sum, blank, 3, prefix);
     let seen = assert_desk(rt, &mut desk, &mut share);
     drop(desk);
     seen

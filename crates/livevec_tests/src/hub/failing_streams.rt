@@ -19,7 +19,7 @@ const LINES: &[u8] = b"push 5\nreduce sum 0 1\npop\npop\n";
 
 const REPLIES: &[u8] = b"edit 1 at 0\nat 1 sum 5\nedit 2 value 5\nrefused 2\n";
 
-const CLAIM: Claimed = Claimed {
+const ANSWER: Claimed = Claimed {
     edit: 1,
     kind: Kind::Sum,
     lo: 0,
@@ -38,7 +38,7 @@ struct Streams {
 type Held = (Result<Vec<Claimed>, Fault>, u64, usize);
 
 // A hub at which one session is held, closed.
-fn hold_alone<N: Means<Six>, R: Wait>(
+fn hold_alone<N: WithBody<Six>, R: Wait>(
     rt: &R,
     alloc: Global,
     limits: Limits,
@@ -55,7 +55,7 @@ fn hold_alone<N: Means<Six>, R: Wait>(
     requires body { N.body ≡ Some body }
 {
     let (hub, mut share) = Hub::<Six, N>::new(alloc, limits, body, blank, 1, opened);
-    let claims = run_session(
+    let answers = run_session(
         rt,
         alloc,
         &hub,
@@ -67,13 +67,17 @@ fn hold_alone<N: Means<Six>, R: Wait>(
     let live = hub.close(share);
     let made = live.journal().len();
     drop(live);
-    (claims, counted, made)
+    (answers, counted, made)
 }
 
 // Sees how a session ends: with the one reduction listed, or with a fault.
-fn assert_ended(rt: &impl Abort, claims: Result<Vec<Claimed>, Fault>, end: Result<(), Fault>) {
-    match claims {
-        Ok(claims) => assert_same(rt, &(Ok(()), claims.as_slice()), &(end, [CLAIM].as_slice())),
+fn assert_ended(rt: &impl Abort, answers: Result<Vec<Claimed>, Fault>, end: Result<(), Fault>) {
+    match answers {
+        Ok(answers) => assert_same(
+            rt,
+            &(Ok(()), answers.as_slice()),
+            &(end, [ANSWER].as_slice()),
+        ),
         Err(fault) => assert_same(rt, &Err(fault), &end),
     }
 }
@@ -100,7 +104,7 @@ fn check(
         writer: writer(alloc, takes)?,
     };
     let (limits, blank, opened) = (Limits::greatest(), Blank::new(1), Opened::new());
-    let (claims, counted, made) = hold_alone::<Brand, _>(
+    let (answers, counted, made) = hold_alone::<Brand, _>(
         rt,
         alloc,
         limits,
@@ -109,7 +113,7 @@ fn check(
         Six,
         &mut streams,
     );
-    assert_ended(rt, claims, end);
+    assert_ended(rt, answers, end);
     assert_same(rt, &streams.writer.taken.as_slice(), &replies);
     assert_same(rt, &counted, &(made as u64));
     Ok(())

@@ -112,7 +112,7 @@ type HeldAnswers = (
 );
 
 // Asks so, while a worker stands.
-fn while_held<B: Body<S = u64>, N: Means<B>, R: Wait>(
+fn while_held<B: Body<S = u64>, N: WithBody<B>, R: Wait>(
     rt: &R,
     hub: &Hub<B, N>,
     share: &mut Share<N>,
@@ -129,7 +129,7 @@ fn while_held<B: Body<S = u64>, N: Means<B>, R: Wait>(
 }
 
 // Makes a new hub one of eight elements 1. A worker's first job is held, and the main thread asks beside it.
-fn hold_once<B: Body<S = u64>, N: Means<B> + Send + Sync, R: Threads + Wait + Abort + Sync>(
+fn hold_once<B: Body<S = u64>, N: WithBody<B> + Send + Sync, R: Threads + Wait + Abort + Sync>(
     rt: &R,
     hub: &Hub<B, N>,
     share: &mut Share<N>,
@@ -144,7 +144,7 @@ fn hold_once<B: Body<S = u64>, N: Means<B> + Send + Sync, R: Threads + Wait + Ab
 }
 
 // What was done while a job of a hub of eight elements 1 was held.
-fn hold_a_job<B: Body<S = u64>, N: Means<B> + Send + Sync, R: Threads + Wait + Abort + Sync>(
+fn hold_a_job<B: Body<S = u64>, N: WithBody<B> + Send + Sync, R: Threads + Wait + Abort + Sync>(
     rt: &R,
     alloc: Global,
     limits: Limits,

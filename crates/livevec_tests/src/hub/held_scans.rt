@@ -19,7 +19,7 @@ use std::thread;
 use std::thread::Threads;
 
 // One of the two scans of a hub's first two elements. The first `lift` of it stands.
-fn scan_two<B: Body<S = u64>, N: Means<B>, R: Threads + Wait + Sync>(
+fn scan_two<B: Body<S = u64>, N: WithBody<B>, R: Threads + Wait + Sync>(
     rt: &R,
     alloc: Global,
     hub: &Hub<B, N>,
@@ -35,7 +35,7 @@ fn scan_two<B: Body<S = u64>, N: Means<B>, R: Threads + Wait + Sync>(
 }
 
 // Pushes while a scan stands, and lets it go on.
-fn push_beside<B: Body<S = u64>, N: Means<B>, R: Wait>(
+fn push_beside<B: Body<S = u64>, N: WithBody<B>, R: Wait>(
     rt: &R,
     hub: &Hub<B, N>,
     share: &mut Share<N>,
@@ -51,7 +51,7 @@ fn push_beside<B: Body<S = u64>, N: Means<B>, R: Wait>(
 type ScanAndPush = (Result<Scan<u64>, Refusal>, Result<Receipt, Refusal>);
 
 // Makes a new hub one of two elements 1. One thread scans them and is held, and another pushes.
-fn hold_once<B: Body<S = u64>, N: Means<B> + Send + Sync, R: Threads + Wait + Abort + Sync>(
+fn hold_once<B: Body<S = u64>, N: WithBody<B> + Send + Sync, R: Threads + Wait + Abort + Sync>(
     rt: &R,
     alloc: Global,
     hub: &Hub<B, N>,
@@ -72,7 +72,7 @@ fn hold_once<B: Body<S = u64>, N: Means<B> + Send + Sync, R: Threads + Wait + Ab
 }
 
 // The same of a hub of its own.
-fn hold_a_scan<B: Body<S = u64>, N: Means<B> + Send + Sync, R: Threads + Wait + Abort + Sync>(
+fn hold_a_scan<B: Body<S = u64>, N: WithBody<B> + Send + Sync, R: Threads + Wait + Abort + Sync>(
     rt: &R,
     alloc: Global,
     limits: Limits,

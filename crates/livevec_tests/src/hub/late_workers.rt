@@ -28,7 +28,7 @@ fn one_stale() -> Worked {
 }
 
 // While the first worker stands at its gate, a second one works for a turn, and then the first element is overwritten.
-fn overtake<N: Means<Sum>, R: Wait>(
+fn overtake<N: WithBody<Sum>, R: Wait>(
     rt: &R,
     hub: &Hub<Sum, N>,
     share: &mut Share<N>,
@@ -45,7 +45,7 @@ fn overtake<N: Means<Sum>, R: Wait>(
 type DoneLate = (Worked, (Worked, Result<Receipt, Refusal>));
 
 // A worker that claimed the first block stands at its gate while another works and the main thread edits.
-fn work_late<N: Means<Sum> + Send + Sync, R: Threads + Wait + Sync>(
+fn work_late<N: WithBody<Sum> + Send + Sync, R: Threads + Wait + Sync>(
     rt: &R,
     hub: &Hub<Sum, N>,
     share: &mut Share<N>,
@@ -68,7 +68,7 @@ fn assert_done_late(rt: &impl Abort, done: DoneLate) {
 }
 
 // Makes a new hub one of 16 elements 1, where a worker is late.
-fn assert_late<N: Means<Sum> + Send + Sync, R: Threads + Wait + Abort + Sync>(
+fn assert_late<N: WithBody<Sum> + Send + Sync, R: Threads + Wait + Abort + Sync>(
     rt: &R,
     hub: &Hub<Sum, N>,
     share: &mut Share<N>,
@@ -82,7 +82,7 @@ fn assert_late<N: Means<Sum> + Send + Sync, R: Threads + Wait + Abort + Sync>(
 }
 
 // A hub of 16 elements 1, where a worker is late.
-fn late_worker<N: Means<Sum> + Send + Sync, R: Threads + Wait + Abort + Sync>(
+fn late_worker<N: WithBody<Sum> + Send + Sync, R: Threads + Wait + Abort + Sync>(
     rt: &R,
     alloc: Global,
     limits: Limits,

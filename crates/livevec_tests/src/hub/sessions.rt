@@ -32,12 +32,12 @@ fn lines_of(alloc: Global, x: i64) -> Result<String, Fail> {
 // What a session came to: the reductions that it lists, and its replies.
 #[derive(Drop)]
 struct Heard {
-    claims: Result<Vec<Claimed>, Fault>,
+    answers: Result<Vec<Claimed>, Fault>,
     replies: Vec<u8>,
 }
 
 // Holds a session over some lines, on a share of its own, which it hands back.
-fn hold<N: Means<Six>, R: Wait>(
+fn hold<N: WithBody<Six>, R: Wait>(
     rt: &R,
     alloc: Global,
     hub: &Hub<Six, N>,
@@ -49,12 +49,12 @@ fn hold<N: Means<Six>, R: Wait>(
     let mut share = share;
     let mut replies = Vec::new(alloc);
     let mut reader = lines.as_bytes();
-    let claims = run_session(rt, alloc, hub, &mut share, &mut reader, &mut replies);
-    (share, Heard { claims, replies })
+    let answers = run_session(rt, alloc, hub, &mut share, &mut reader, &mut replies);
+    (share, Heard { answers, replies })
 }
 
 // Holds two sessions, each in a thread of its own; both shares together are handed back.
-fn hold_two<N: Means<Six> + Send + Sync, R: Threads + Wait + Sync>(
+fn hold_two<N: WithBody<Six> + Send + Sync, R: Threads + Wait + Sync>(
     rt: &R,
     alloc: Global,
     hub: &Hub<Six, N>,
@@ -137,11 +137,11 @@ fn check_transcript(
     rt: &impl Abort,
     alloc: Global,
     journal: &[Edit],
-    claims: &mut Vec<Claimed>,
+    answers: &mut Vec<Claimed>,
 ) -> Result<(), Fail> {
-    in_order(claims)?;
+    in_order(answers)?;
     let mut text = Vec::new(alloc);
-    write_transcript(alloc, journal, claims.as_slice(), &mut text)?;
+    write_transcript(alloc, journal, answers.as_slice(), &mut text)?;
     let words: Vec<&str> = str::from_utf8(text.as_slice())?
         .split_whitespace()
         .collect(alloc)?;
@@ -168,14 +168,14 @@ fn check_history(
     assert_same(rt, &journal.len(), &400);
     check_replies(rt, alloc, journal, 1, one.replies.as_slice())?;
     check_replies(rt, alloc, journal, 1000, other.replies.as_slice())?;
-    let mut claims = one.claims?;
-    let mut more = other.claims?;
-    claims.append(&mut more)?;
-    check_transcript(rt, alloc, journal, &mut claims)
+    let mut answers = one.answers?;
+    let mut more = other.answers?;
+    answers.append(&mut more)?;
+    check_transcript(rt, alloc, journal, &mut answers)
 }
 
 // A hub at which two sessions are held, closed.
-fn one_history<N: Means<Six> + Send + Sync, R: Threads + Wait + Abort + Sync>(
+fn one_history<N: WithBody<Six> + Send + Sync, R: Threads + Wait + Abort + Sync>(
     rt: &R,
     alloc: Global,
     limits: Limits,

@@ -54,7 +54,7 @@ fn let_it_sleep(clock: &impl Clock) {
 
 // Pushes a block that a worker claims, and once it had time to fall asleep another one; then the worker is dismissed. Says whether
 // the first block was claimed, and whether both were.
-fn push_then_dismiss<N: Means<Sum>, R: Wait + Clock + Abort>(
+fn push_then_dismiss<N: WithBody<Sum>, R: Wait + Clock + Abort>(
     rt: &R,
     hub: &Hub<Sum, N>,
     share: &mut Share<N>,
@@ -70,7 +70,7 @@ fn push_then_dismiss<N: Means<Sum>, R: Wait + Clock + Abort>(
 }
 
 // A worker of a thousand turns attends while two blocks are pushed.
-fn assert_woken<N: Means<Sum> + Send + Sync, R: Threads + Wait + Clock + Abort + Sync>(
+fn assert_woken<N: WithBody<Sum> + Send + Sync, R: Threads + Wait + Clock + Abort + Sync>(
     rt: &R,
     hub: &Hub<Sum, N>,
     share: &mut Share<N>,
@@ -85,7 +85,7 @@ fn assert_woken<N: Means<Sum> + Send + Sync, R: Threads + Wait + Clock + Abort +
     assert_same(rt, &seen, &(installed(2), (true, true)));
 }
 
-fn woken<N: Means<Sum> + Send + Sync, R: Threads + Wait + Clock + Abort + Sync>(
+fn woken<N: WithBody<Sum> + Send + Sync, R: Threads + Wait + Clock + Abort + Sync>(
     rt: &R,
     alloc: Global,
     limits: Limits,
@@ -118,7 +118,7 @@ fn an_edit_wakes_a_sleeping_worker(rt: HostRuntime) {
 }
 
 // What eight workers did that would attend for good, on a hub with nothing to do, and were dismissed.
-fn dismiss_eight<N: Means<Sum> + Send + Sync, R: Threads + Wait + Clock + Sync>(
+fn dismiss_eight<N: WithBody<Sum> + Send + Sync, R: Threads + Wait + Clock + Sync>(
     rt: &R,
     alloc: Global,
     hub: &Hub<Sum, N>,
@@ -137,7 +137,7 @@ fn dismiss_eight<N: Means<Sum> + Send + Sync, R: Threads + Wait + Clock + Sync>(
 
 // Eight workers end when they are dismissed, and so does one that comes later, though a job is wanted; who works by turns alone
 // still finds it.
-fn assert_dismissed<N: Means<Sum> + Send + Sync, R: Threads + Wait + Clock + Abort + Sync>(
+fn assert_dismissed<N: WithBody<Sum> + Send + Sync, R: Threads + Wait + Clock + Abort + Sync>(
     rt: &R,
     alloc: Global,
     hub: &Hub<Sum, N>,
@@ -153,7 +153,7 @@ fn assert_dismissed<N: Means<Sum> + Send + Sync, R: Threads + Wait + Clock + Abo
     Ok(())
 }
 
-fn dismissed<N: Means<Sum> + Send + Sync, R: Threads + Wait + Clock + Abort + Sync>(
+fn dismissed<N: WithBody<Sum> + Send + Sync, R: Threads + Wait + Clock + Abort + Sync>(
     rt: &R,
     alloc: Global,
     limits: Limits,

@@ -18,7 +18,7 @@ use std::test::Fail;
 use std::thread::Threads;
 
 // Makes a new hub one of eight equal elements, and computes its first job.
-fn outcome_of_eight<B: Body, N: Means<B>, R: Wait + Abort>(
+fn outcome_of_eight<B: Body, N: WithBody<B>, R: Wait + Abort>(
     rt: &R,
     hub: &Hub<B, N>,
     share: &mut Share<N>,
@@ -29,7 +29,7 @@ fn outcome_of_eight<B: Body, N: Means<B>, R: Wait + Abort>(
 }
 
 // The outcome of the first job of a hub of eight equal elements.
-fn first_outcome<B: Body, N: Means<B>, R: Wait + Abort>(
+fn first_outcome<B: Body, N: WithBody<B>, R: Wait + Abort>(
     rt: &R,
     alloc: Global,
     limits: Limits,
@@ -52,7 +52,7 @@ fn first_outcome<B: Body, N: Means<B>, R: Wait + Abort>(
 }
 
 // Makes a new hub one of eight equal elements, and gives it an outcome.
-fn give_to_eight<B: Body, N: Means<B>, R: Wait + Abort>(
+fn give_to_eight<B: Body, N: WithBody<B>, R: Wait + Abort>(
     rt: &R,
     hub: &Hub<B, N>,
     share: &mut Share<N>,
@@ -64,7 +64,7 @@ fn give_to_eight<B: Body, N: Means<B>, R: Wait + Abort>(
 }
 
 // What a hub of eight equal elements answers where it is given an outcome.
-fn answer_to<B: Body, N: Means<B>, R: Wait + Abort>(
+fn answer_to<B: Body, N: WithBody<B>, R: Wait + Abort>(
     rt: &R,
     alloc: Global,
     limits: Limits,
@@ -94,7 +94,7 @@ fn assert_scan(rt: &impl Abort, scan: &Scan<u64>, edit: u32, values: &[u64]) {
 }
 
 // Gives a hub of eight elements 1 the outcome of another, and then its own, twice.
-fn assert_own_alone<N: Means<Sum>, R: Wait + Abort>(
+fn assert_own_alone<N: WithBody<Sum>, R: Wait + Abort>(
     rt: &R,
     hub: &Hub<Sum, N>,
     share: &mut Share<N>,
@@ -111,7 +111,7 @@ fn assert_own_alone<N: Means<Sum>, R: Wait + Abort>(
 }
 
 // Sees that a hub of eight elements 1 follows a write of 5, and that the other's outcome is late now.
-fn assert_follows<N: Means<Sum>, R: Threads + Wait + Abort + Sync>(
+fn assert_follows<N: WithBody<Sum>, R: Threads + Wait + Abort + Sync>(
     rt: &R,
     alloc: Global,
     hub: &Hub<Sum, N>,
@@ -126,7 +126,7 @@ fn assert_follows<N: Means<Sum>, R: Threads + Wait + Abort + Sync>(
 }
 
 // Sees both scans of the elements 5 and 1 that a hub begins with at edit 9.
-fn assert_scans<N: Means<Sum>, R: Threads + Wait + Abort + Sync>(
+fn assert_scans<N: WithBody<Sum>, R: Threads + Wait + Abort + Sync>(
     rt: &R,
     alloc: Global,
     hub: &Hub<Sum, N>,
@@ -140,7 +140,7 @@ fn assert_scans<N: Means<Sum>, R: Threads + Wait + Abort + Sync>(
 }
 
 // Makes a new hub one of eight elements 1, and gives it an outcome of another before and after a write.
-fn assert_strangers<N: Means<Sum>, R: Threads + Wait + Abort + Sync>(
+fn assert_strangers<N: WithBody<Sum>, R: Threads + Wait + Abort + Sync>(
     rt: &R,
     alloc: Global,
     hub: &Hub<Sum, N>,
@@ -156,7 +156,7 @@ fn assert_strangers<N: Means<Sum>, R: Threads + Wait + Abort + Sync>(
 }
 
 // A hub of eight elements 1, given an outcome of another before and after a write, and closed.
-fn one_hub_of_two<N: Means<Sum>, R: Threads + Wait + Abort + Sync>(
+fn one_hub_of_two<N: WithBody<Sum>, R: Threads + Wait + Abort + Sync>(
     rt: &R,
     alloc: Global,
     limits: Limits,

@@ -15,15 +15,15 @@ use std::sync::Wait;
 use std::sync::ledger::Blank;
 use std::test::Fail;
 
-// Claims a hub's next job and gives its outcome.
-fn refresh<N: Means<Sum>, R: Wait + Abort>(rt: &R, hub: &Hub<Sum, N>) -> Result<(), Fail> {
+// Claims a hub's next job and delivers its outcome.
+fn refresh<N: WithBody<Sum>, R: Wait + Abort>(rt: &R, hub: &Hub<Sum, N>) -> Result<(), Fail> {
     let outcome = next_outcome(rt, hub)?;
     assert_given(rt, hub, outcome, Ok(Accepted::Installed));
     Ok(())
 }
 
 // Makes a new hub one of 64 equal elements, whose eight blocks were refreshed.
-fn eight_blocks<N: Means<Sum>, R: Wait + Abort>(
+fn eight_blocks<N: WithBody<Sum>, R: Wait + Abort>(
     rt: &R,
     hub: &Hub<Sum, N>,
     share: &mut Share<N>,
@@ -37,7 +37,7 @@ fn eight_blocks<N: Means<Sum>, R: Wait + Abort>(
 }
 
 // Makes a new hub one of 64 elements 2, and computes the job of the node over its eight blocks.
-fn outcome_of_64<N: Means<Sum>, R: Wait + Abort>(
+fn outcome_of_64<N: WithBody<Sum>, R: Wait + Abort>(
     rt: &R,
     hub: &Hub<Sum, N>,
     share: &mut Share<N>,
@@ -53,7 +53,7 @@ fn outcome_of_64<N: Means<Sum>, R: Wait + Abort>(
 }
 
 // The outcome of the node over the eight blocks of a hub of 64 elements 2.
-fn outcome_above<N: Means<Sum>, R: Wait + Abort>(
+fn outcome_above<N: WithBody<Sum>, R: Wait + Abort>(
     rt: &R,
     alloc: Global,
     limits: Limits,
@@ -75,7 +75,7 @@ fn outcome_above<N: Means<Sum>, R: Wait + Abort>(
 }
 
 // Makes a new hub one of 64 elements 1, and gives it an outcome above the blocks of another before and after a write.
-fn assert_strangers_above<N: Means<Sum>, R: Wait + Abort>(
+fn assert_strangers_above<N: WithBody<Sum>, R: Wait + Abort>(
     rt: &R,
     hub: &Hub<Sum, N>,
     share: &mut Share<N>,
@@ -89,7 +89,7 @@ fn assert_strangers_above<N: Means<Sum>, R: Wait + Abort>(
 }
 
 // A hub of 64 elements 1, given an outcome above the blocks of another before and after a write.
-fn one_hub_of_64<N: Means<Sum>, R: Wait + Abort>(
+fn one_hub_of_64<N: WithBody<Sum>, R: Wait + Abort>(
     rt: &R,
     alloc: Global,
     limits: Limits,

@@ -16,7 +16,11 @@ use std::thread;
 use std::thread::Threads;
 
 // Pushes 500 elements on a share of its own, and hands it back.
-fn push_500<N: Means<Sum>, R: Wait + Abort>(rt: &R, hub: &Hub<Sum, N>, share: Share<N>) -> Share<N>
+fn push_500<N: WithBody<Sum>, R: Wait + Abort>(
+    rt: &R,
+    hub: &Hub<Sum, N>,
+    share: Share<N>,
+) -> Share<N>
     ensures { result.parts ≡ share.parts }
 {
     let mut share = share;
@@ -25,7 +29,7 @@ fn push_500<N: Means<Sum>, R: Wait + Abort>(rt: &R, hub: &Hub<Sum, N>, share: Sh
 }
 
 // Two threads push 500 elements each; both shares together are handed back.
-fn push_from_two<N: Means<Sum> + Send + Sync, R: Threads + Wait + Abort + Sync>(
+fn push_from_two<N: WithBody<Sum> + Send + Sync, R: Threads + Wait + Abort + Sync>(
     rt: &R,
     hub: &Hub<Sum, N>,
     share: Share<N>,
@@ -45,7 +49,7 @@ fn push_from_two<N: Means<Sum> + Send + Sync, R: Threads + Wait + Abort + Sync>(
 }
 
 // A hub that two threads edit, closed.
-fn total<N: Means<Sum> + Send + Sync, R: Threads + Wait + Abort + Sync>(
+fn total<N: WithBody<Sum> + Send + Sync, R: Threads + Wait + Abort + Sync>(
     rt: &R,
     alloc: Global,
     limits: Limits,
@@ -78,7 +82,7 @@ fn totals_over_threads(rt: HostRuntime) {
 }
 
 // Pushes a 1. Where memory is wanting it sees that the share counts nothing, and pushes again.
-fn push_or_again<N: Means<Sum>, R: Wait + Abort>(
+fn push_or_again<N: WithBody<Sum>, R: Wait + Abort>(
     rt: &R,
     hub: &Hub<Sum, N>,
     share: &mut Share<N>,
@@ -94,7 +98,7 @@ fn push_or_again<N: Means<Sum>, R: Wait + Abort>(
     first
 }
 
-fn push_nine<N: Means<Sum>, R: Wait + Abort>(rt: &R, hub: &Hub<Sum, N>, share: &mut Share<N>)
+fn push_nine<N: WithBody<Sum>, R: Wait + Abort>(rt: &R, hub: &Hub<Sum, N>, share: &mut Share<N>)
     ensures { share.new.parts ≡ share.old.parts }
 {
     for index in 0..9 {
@@ -104,7 +108,7 @@ fn push_nine<N: Means<Sum>, R: Wait + Abort>(rt: &R, hub: &Hub<Sum, N>, share: &
     }
 }
 
-fn nine_pushes<N: Means<Sum>, R: Wait + Abort>(
+fn nine_pushes<N: WithBody<Sum>, R: Wait + Abort>(
     rt: &R,
     alloc: Global,
     limits: Limits,

@@ -25,7 +25,7 @@ impl<B: Body, J: Journal> Live<B, J> {
         ensures ok { IfOk result (λ batch. batch ≡ due_jobs self.now.body (recorded self.now) first (min blocks (length (list_of self.now.history.journal) / 8 - first))) }
         ensures err { IfErr result (λ refusal. refusal ≡ Refusal.NoMemory) }
     {
-        let count = blocks.min((self.cells.size() / 8).saturating_sub(first));
+        let count = blocks.min((self.history.size() / 8).saturating_sub(first));
         match self.due_blocks(alloc, first, count) {
             Err(AllocError) => Err(Refusal::NoMemory),
             Ok(jobs) => Ok(Batch { jobs }),
@@ -60,7 +60,7 @@ impl<B: Body, J: Journal> Live<B, J> {
         jobs.push(BlockJob {
             number,
             version,
-            elements: self.cells.block(number),
+            elements: self.history.block(number),
             body: self.body,
         })?;
         Ok(())
@@ -93,7 +93,7 @@ impl<B: Body, J: Journal> Live<B, J> {
         told
     }
 
-    // Takes an outcome in, where it is vouched for, and counts what became of it.
+    // Delivers an outcome, where it is vouched for, and counts what became of it.
     #[inline(always)]
     fn accept_next(&mut self, outcome: &BlockOutcome<B>, told: Batched) -> Batched
         requires { all_told told < 2 ^ 64 - 1 }
@@ -124,10 +124,10 @@ impl<B: Body, J: Journal> Live<B, J> {
         if !self.table.whole(block) || self.table.touched(block) != job.version {
             return true;
         }
-        self.body.same(&job.body) && have_elements(&self.cells, block, &job.elements)
+        self.body.same(&job.body) && have_elements(&self.history, block, &job.elements)
     }
 
-    // Takes an outcome in: it is stale, or held already, or its summary is installed.
+    // Delivers an outcome: it is stale, or held already, or its summary is installed.
     #[inline(always)]
     fn accept_block(&mut self, outcome: &BlockOutcome<B>) -> Accepted
         requires { Vouched (B.operations (B.meaning self.old.body)) (recorded self.old)

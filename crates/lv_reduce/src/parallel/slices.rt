@@ -217,7 +217,7 @@ fn scan_piece<B: Body>(
     let before = befores[start / size];
     let lo = part.lo + start as u32;
     match part.row {
-        Row::Cells(cells) => scan_cells(body, inclusive, before, cells, lo, piece),
+        Row::Cells(history) => scan_cells(body, inclusive, before, history, lo, piece),
         Row::Slice(xs) => {
             let from = lo as usize;
             scan_into(
@@ -238,14 +238,14 @@ fn scan_cells<B: Body>(
     body: &B,
     inclusive: bool,
     before: B::S,
-    cells: &Edits,
+    history: &Edits,
     lo: u32,
     values: &mut [B::S],
 )
-    requires can { CanFold (list_of cells.now.journal) }
-    requires before { (first : ℕ) × (first ≤ lo) × (before ≡ fold_of (B.operations (B.meaning body.now)) (slice_of cells.now.journal first lo)) }
-    requires inside { lo + length values.old ≤ length (list_of cells.now.journal) }
-    ensures { values.new ≡ scan_from inclusive (B.operations (B.meaning body.now)) before (slice_of cells.now.journal lo (lo + length values.old)) }
+    requires can { CanFold (list_of history.now.journal) }
+    requires before { (first : ℕ) × (first ≤ lo) × (before ≡ fold_of (B.operations (B.meaning body.now)) (slice_of history.now.journal first lo)) }
+    requires inside { lo + length values.old ≤ length (list_of history.now.journal) }
+    ensures { values.new ≡ scan_from inclusive (B.operations (B.meaning body.now)) before (slice_of history.now.journal lo (lo + length values.old)) }
 {
     let hi = lo + values.len() as u32;
     let mut sum = before;
@@ -253,7 +253,7 @@ fn scan_cells<B: Body>(
     let mut at = lo;
     while at < hi {
         let from = (at - lo) as usize;
-        let run = run_at(cells, at, hi, &mut cell);
+        let run = run_at(history, at, hi, &mut cell);
         sum = scan_into(body, inclusive, sum, run, from, values);
         at += run.len() as u32;
     }

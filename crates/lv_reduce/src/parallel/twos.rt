@@ -112,7 +112,7 @@ fn push_part<B: Body>(part: Part<'_>, body: &B, inclusive: bool, values: &mut Ve
     ensures capacity { vec_capacity values.new ≡ vec_capacity values.old }
 {
     match part.row {
-        Row::Cells(cells) => push_cells(body, inclusive, cells, part.lo, part.hi, values),
+        Row::Cells(history) => push_cells(body, inclusive, history, part.lo, part.hi, values),
         Row::Slice(xs) => push_folds(
             body,
             inclusive,
@@ -127,18 +127,18 @@ fn push_part<B: Body>(part: Part<'_>, body: &B, inclusive: bool, values: &mut Ve
 fn push_cells<B: Body>(
     body: &B,
     inclusive: bool,
-    cells: &Edits,
+    history: &Edits,
     lo: u32,
     hi: u32,
     values: &mut Vec<B::S>,
 ) -> B::S
-    requires can { CanFold (list_of cells.now.journal) }
+    requires can { CanFold (list_of history.now.journal) }
     requires order { lo ≤ hi }
-    requires inside { hi ≤ length (list_of cells.now.journal) }
+    requires inside { hi ≤ length (list_of history.now.journal) }
     requires empty { (values.old.items ≡ []) × (vec_len values.old ≡ 0) }
     requires room { hi - lo ≤ vec_capacity values.old }
-    ensures values { values.new.items ≡ scan_of inclusive (B.operations (B.meaning body.now)) (slice_of cells.now.journal lo hi) }
-    ensures sum { result ≡ fold_of (B.operations (B.meaning body.now)) (slice_of cells.now.journal lo hi) }
+    ensures values { values.new.items ≡ scan_of inclusive (B.operations (B.meaning body.now)) (slice_of history.now.journal lo hi) }
+    ensures sum { result ≡ fold_of (B.operations (B.meaning body.now)) (slice_of history.now.journal lo hi) }
     ensures len { vec_len values.new ≡ hi - lo }
     ensures capacity { vec_capacity values.new ≡ vec_capacity values.old }
 {
@@ -146,7 +146,7 @@ fn push_cells<B: Body>(
     let mut cell = [0];
     let mut at = lo;
     while at < hi {
-        let run = run_at(cells, at, hi, &mut cell);
+        let run = run_at(history, at, hi, &mut cell);
         sum = push_folds(body, inclusive, sum, run, values);
         at += run.len() as u32;
     }

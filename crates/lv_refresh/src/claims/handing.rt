@@ -15,62 +15,62 @@ use lv_summary::Summaries;
 /// The job of a node that wants one; none where one of its children is not fresh.
 #[inline(always)]
 pub fn job_of<B: Body, J: Journal>(
-    cells: &Edits<J>,
+    history: &Edits<J>,
     table: &Summaries<B::S>,
     node: Node,
     version: u32,
     body: B,
 ) -> Option<Job<B>>
-    requires agrees { Agrees (B.operations (B.meaning body)) cells.now.journal table.now }
+    requires agrees { Agrees (B.operations (B.meaning body)) history.now.journal table.now }
     requires whole { whole_in table.now node ≡ true }
-    ensures job { IfSome result (λ job. IsJobOf cells.now.journal table.now node version body job) }
+    ensures job { IfSome result (λ job. IsJobOf history.now.journal table.now node version body job) }
     ensures none { IfNone result ((1 < node.level) × (children_fresh_in table.now node ≡ false)) }
 {
     if node.level == 1 {
-        block_job(cells, table, node, version, body)
+        block_job(history, table, node, version, body)
     } else {
-        parent_job(cells, table, node, version, body)
+        parent_job(history, table, node, version, body)
     }
 }
 
 // The job of a block. It has a function of its own, since most jobs are of blocks, and eight summaries are wide.
 #[inline(never)]
 fn block_job<B: Body, J: Journal>(
-    cells: &Edits<J>,
+    history: &Edits<J>,
     table: &Summaries<B::S>,
     node: Node,
     version: u32,
     body: B,
 ) -> Option<Job<B>>
-    requires agrees { Agrees (B.operations (B.meaning body)) cells.now.journal table.now }
+    requires agrees { Agrees (B.operations (B.meaning body)) history.now.journal table.now }
     requires whole { whole_in table.now node ≡ true }
     requires level { node.level ≡ 1 }
-    ensures job { IfSome result (λ job. IsJobOf cells.now.journal table.now node version body job) }
+    ensures job { IfSome result (λ job. IsJobOf history.now.journal table.now node version body job) }
     ensures some { IfNone result ⊥ }
 {
     // The elements are few enough for a fold, and of 64 bits.
-    let _size = cells.size();
-    let elements = cells.block(node.number);
+    let _size = history.size();
+    let elements = history.block(node.number);
     Some(JobOf::new(node, version, Contents::Elements(elements), body))
 }
 
 // The job of a node above level 1; none where one of its children is not fresh.
 #[inline(never)]
 fn parent_job<B: Body, J: Journal>(
-    cells: &Edits<J>,
+    history: &Edits<J>,
     table: &Summaries<B::S>,
     node: Node,
     version: u32,
     body: B,
 ) -> Option<Job<B>>
-    requires agrees { Agrees (B.operations (B.meaning body)) cells.now.journal table.now }
+    requires agrees { Agrees (B.operations (B.meaning body)) history.now.journal table.now }
     requires whole { whole_in table.now node ≡ true }
     requires above { 1 < node.level }
-    ensures job { IfSome result (λ job. IsJobOf cells.now.journal table.now node version body job) }
+    ensures job { IfSome result (λ job. IsJobOf history.now.journal table.now node version body job) }
     ensures none { IfNone result (children_fresh_in table.now node ≡ false) }
 {
     // The elements are few enough for a fold, and of 64 bits.
-    let _size = cells.size();
+    let _size = history.size();
     let summaries = children_of(table, node)?;
     Some(JobOf::new(node, version, Contents::Children(summaries), body))
 }

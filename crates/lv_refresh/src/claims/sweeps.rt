@@ -2,7 +2,7 @@
 ghost use Rattle.std.specs.Prelude.{◌≡◌, ℕ, ◌+◌, ◌*◌, ◌/◌, ◌<◌, ◌≤◌, length, false, slice_range, IfSome, IfNone};
 ghost use Rattle.lv_edits.specs.History.{list_of};
 ghost use Rattle.lv_known.specs.Agrees.{Agrees};
-ghost use Rattle.lv_refresh.specs.Claimed.{AreHints, claim_blocks, claimed_in, record_of};
+ghost use Rattle.lv_refresh.specs.ClaimTable.{AreHints, claim_blocks, claimed_in, record_of};
 ghost use Rattle.lv_refresh.specs.Inner.{HintsWants, ServesNode, node_at, wants_in};
 ghost use Rattle.lv_refresh.specs.Refreshed.{RefreshesEach};
 ghost use Rattle.lv_refresh.specs.Sweep.{IsSwept, Sweeps};
@@ -22,17 +22,17 @@ impl Claims {
     #[inline(always)]
     pub fn refresh_blocks<B: Body, J: Journal>(
         &mut self,
-        cells: &Edits<J>,
+        history: &Edits<J>,
         table: &mut Summaries<B::S>,
         body: &B,
         jobs: u32,
     ) -> u32
-        requires agrees { Agrees (B.operations (B.meaning body.now)) cells.now.journal table.old }
-        requires hints { AreHints (record_of cells.now.journal table.old self.old) self.old }
+        requires agrees { Agrees (B.operations (B.meaning body.now)) history.now.journal table.old }
+        requires hints { AreHints (record_of history.now.journal table.old self.old) self.old }
         requires grown { table.old.size ≤ 8 * claim_blocks self.old }
-        ensures refreshed { RefreshesEach (B.operations (B.meaning body.now)) cells.now.journal table.old table.new self.old self.new result }
-        ensures agrees { Agrees (B.operations (B.meaning body.now)) cells.now.journal table.new }
-        ensures hints { AreHints (record_of cells.now.journal table.new self.new) self.new }
+        ensures refreshed { RefreshesEach (B.operations (B.meaning body.now)) history.now.journal table.old table.new self.old self.new result }
+        ensures agrees { Agrees (B.operations (B.meaning body.now)) history.now.journal table.new }
+        ensures hints { AreHints (record_of history.now.journal table.new self.new) self.new }
         ensures blocks { claim_blocks self.new ≡ claim_blocks self.old }
         ensures most { result ≤ jobs }
     {
@@ -48,7 +48,7 @@ impl Claims {
             if jobs - done < 64 || !self.levels.level_1.has_word(word) {
                 return done;
             }
-            done += self.refresh_word(cells, table, body, word);
+            done += self.refresh_word(history, table, body, word);
         }
         done
     }
@@ -57,17 +57,17 @@ impl Claims {
     #[inline(never)]
     fn refresh_word<B: Body, J: Journal>(
         &mut self,
-        cells: &Edits<J>,
+        history: &Edits<J>,
         table: &mut Summaries<B::S>,
         body: &B,
         word: u32,
     ) -> u32
-        requires swept { IsSwept (B.operations (B.meaning body.now)) cells.now.journal table.old self.old (64 * word) }
+        requires swept { IsSwept (B.operations (B.meaning body.now)) history.now.journal table.old self.old (64 * word) }
         requires inside { 512 * word + 512 ≤ table.old.size }
-        ensures sweeps { Sweeps (B.operations (B.meaning body.now)) cells.now.journal table.old table.new self.old self.new result (64 * word + 64) }
+        ensures sweeps { Sweeps (B.operations (B.meaning body.now)) history.now.journal table.old table.new self.old self.new result (64 * word + 64) }
         ensures few { result ≤ 64 }
     {
-        let done = self.refresh_each(cells, table, body, word);
+        let done = self.refresh_each(history, table, body, word);
         self.levels.level_1.unhint_word(word);
         done
     }
@@ -76,22 +76,22 @@ impl Claims {
     #[inline(always)]
     fn refresh_each<B: Body, J: Journal>(
         &mut self,
-        cells: &Edits<J>,
+        history: &Edits<J>,
         table: &mut Summaries<B::S>,
         body: &B,
         word: u32,
     ) -> u32
-        requires swept { IsSwept (B.operations (B.meaning body.now)) cells.now.journal table.old self.old (64 * word) }
+        requires swept { IsSwept (B.operations (B.meaning body.now)) history.now.journal table.old self.old (64 * word) }
         requires inside { 512 * word + 512 ≤ table.old.size }
-        ensures sweeps { Sweeps (B.operations (B.meaning body.now)) cells.now.journal table.old table.new self.old self.new result (64 * word + 64) }
+        ensures sweeps { Sweeps (B.operations (B.meaning body.now)) history.now.journal table.old table.new self.old self.new result (64 * word + 64) }
         ensures few { result ≤ 64 }
     {
         // The elements are few enough for their indices to be of 32 bits.
-        let _size = cells.size();
-        let near = cells.stretch(512 * word, 512 * word + 512);
+        let _size = history.size();
+        let near = history.stretch(512 * word, 512 * word + 512);
         let mut done = 0;
         for number in 64 * word..64 * word + 64 {
-            done += self.refresh_block(cells, table, body, near, number);
+            done += self.refresh_block(history, table, body, near, number);
         }
         done
     }
@@ -101,23 +101,23 @@ impl Claims {
     #[inline(always)]
     fn refresh_block<B: Body, J: Journal>(
         &mut self,
-        cells: &Edits<J>,
+        history: &Edits<J>,
         table: &mut Summaries<B::S>,
         body: &B,
         near: &[i64],
         number: u32,
     ) -> u32
-        requires swept { IsSwept (B.operations (B.meaning body.now)) cells.now.journal table.old self.old number }
+        requires swept { IsSwept (B.operations (B.meaning body.now)) history.now.journal table.old self.old number }
         requires inside { 8 * number + 8 ≤ table.old.size }
-        requires near { near.now ≡ slice_range (list_of cells.now.journal) (512 * (number / 64)) (512 * (number / 64) + length near.now) }
-        ensures sweeps { Sweeps (B.operations (B.meaning body.now)) cells.now.journal table.old table.new self.old self.new result (number + 1) }
+        requires near { near.now ≡ slice_range (list_of history.now.journal) (512 * (number / 64)) (512 * (number / 64) + length near.now) }
+        ensures sweeps { Sweeps (B.operations (B.meaning body.now)) history.now.journal table.old table.new self.old self.new result (number + 1) }
         ensures few { result ≤ 1 }
     {
         let Some(version) = self.claim_block(table, number) else {
             return 0;
         };
         let block = Node { level: 1, number };
-        let summary = fold_near(cells, table, body, near, block);
+        let summary = fold_near(history, table, body, near, block);
         table.install_due(block, version, summary);
         self.hint_above(block);
         1

@@ -7,5 +7,5 @@ ghosts-run_as-N-Ledger g a = record { name = a.blank.name; parts = a.blank.parts
 abbrev pub ghosts-run_as-N-Naming : goal.ghosts-run_as-N-Naming
 ghosts-run_as-N-Naming g a = record { limits = a.limits; history = a.opened }
 
-abbrev pub ghosts-run_as-N-Means : goal.ghosts-run_as-N-Means
-ghosts-run_as-N-Means g a = record { body = Some a.body }
+abbrev pub ghosts-run_as-N-WithBody : goal.ghosts-run_as-N-WithBody
+ghosts-run_as-N-WithBody g a = record { body = Some a.body }

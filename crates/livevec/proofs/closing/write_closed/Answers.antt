@@ -1,7 +1,7 @@
 use Rattle.std.proofs.Common.{All, List, subst, sym, ap}
 use mathlib.Core.List.{IsPrefix}
 use Rattle.lv_edits.specs.declared.edit.Edit.{Edit}
-use Rattle.lv_transcript.specs.Transcript.{IsTrueClaim}
+use Rattle.lv_transcript.specs.Transcript.{IsTrueAnswer}
 use Rattle.lv_hub.proofs.TruthLaws.{all_true_of_more}
 use Rattle.lv_transcript.specs.Joined.{in_a_row}
 use Rattle.livevec.proofs.RecordingLaws.{records_so}
@@ -14,7 +14,7 @@ pub write_in_order-written-requires-clause-all_true : goal.write_in_order-writte
 write_in_order-written-requires-clause-all_true g c =
     let share = c.args.share.seen in
     let journal = c.close-live.result.history.journal in
-    subst (λ es. All (IsTrueClaim es) (in_a_row c.args.queues.now.items)) (sym c.journal.ensures)
+    subst (λ es. All (IsTrueAnswer es) (in_a_row c.args.queues.now.items)) (sym c.journal.ensures)
     (all_true_of_more share journal (in_a_row c.args.queues.now.items) (begins share c.shown-share.result.seen journal c.shown-share.ensures.more c.close-live.ensures.seen) c.requires.all_true)
 
 -- it was written where nothing failed

@@ -2,7 +2,7 @@ use Rattle.lv_transcript.specs.Joined.{in_a_row, joined}
 use Rattle.livevec.proofs.ServedLaws.{ordered_text, writes_so}
 use Rattle.livevec.proofs.closing.write_in_order.Goals as goal
 
--- the text is that of the claims in their order, in which they are as true
+-- the text is that of the answers in their order, in which they are as true
 pub returns : goal.returns
 returns g c =
     let lists = c.args.queues.now.items in

@@ -8,8 +8,8 @@ ghosts-serve_as-N-Ledger g a = record { name = a.blank.name; parts = a.blank.par
 abbrev pub ghosts-serve_as-N-Naming : goal.ghosts-serve_as-N-Naming
 ghosts-serve_as-N-Naming g a = record { limits = a.plan.limits; history = a.opened }
 
-abbrev pub ghosts-serve_as-N-Means : goal.ghosts-serve_as-N-Means
-ghosts-serve_as-N-Means g a = record { body = Some a.body }
+abbrev pub ghosts-serve_as-N-WithBody : goal.ghosts-serve_as-N-WithBody
+ghosts-serve_as-N-WithBody g a = record { body = Some a.body }
 
 abbrev pub ghosts-serve_as-K-Begun : goal.ghosts-serve_as-K-Begun
 ghosts-serve_as-K-Begun g a = record { start = start_of g.V.Write.contents a.file }

@@ -17,8 +17,8 @@ loop-streams-preserved g c =
     let pushed : is_ok c.push.result ≡ true = search rules in
     let rest = c.split.ensures.rest in
     let sides : Sides = record { lines = g.F.Read.remaining c.in-Some.streams.lines; replies = g.F.Write.contents c.in-Some.streams.replies } in
-    let task : Sitting = record { share = c.split.result; sides = sides; waits = true; claims = None } in
-    let begun : task ≡ begun_at sides = ap (λ share. record { share = share; sides = sides; waits = true; claims = None }) (c.split.ensures.one ∙ ap (λ seen. record { parts = 1; count = 0; seen = seen }) i.5) in (
+    let task : Sitting = record { share = c.split.result; sides = sides; waits = true; answers = None } in
+    let begun : task ≡ begun_at sides = ap (λ share. record { share = share; sides = sides; waits = true; answers = None }) (c.split.ensures.one ∙ ap (λ seen. record { parts = 1; count = 0; seen = seen }) i.5) in (
       tt,
       tt,
       begins_one_more _ c.loop-streams.tasks.items _ task c.loop-streams.yielded c.in-Some.streams i.2 (rw pushed at c.push.ensures.items) begun,

@@ -7,4 +7,4 @@ abbrev pub invariant-loop-session : goal.invariant-loop-session
 invariant-loop-session g l =
     (goal.iterator-loop-session g).can_next l.session-iterator ×
     (goal.iterator-loop-session g).is_finite l.session-iterator ×
-    TakesBack l.fn.share l.share l.yielded (in_a_row l.claims.items) (map (λ s. record { lines = g.F.Read.remaining s.lines; replies = g.F.Write.contents s.replies }) l.streams.items)
+    TakesBack l.fn.share l.share l.yielded (in_a_row l.answers.items) (map (λ s. record { lines = g.F.Read.remaining s.lines; replies = g.F.Write.contents s.replies }) l.streams.items)

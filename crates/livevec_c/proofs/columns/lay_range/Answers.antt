@@ -10,15 +10,15 @@ use Rattle.livevec_c.proofs.columns.lay_range.Goals as goal
 pub lay_run-sum-requires-clause-can : goal.lay_run-sum-requires-clause-can
 lay_run-sum-requires-clause-can g c κs within =
     let meaning = g.B.Body.meaning c.args.body.now in
-    let xs = list_of c.args.cells.now.journal in
-    let can = can_fold c.args.cells.now c.size-size.ensures.limits in
+    let xs = list_of c.args.history.now.journal in
+    let can = can_fold c.args.history.now c.size-size.ensures.limits in
     slice_can_go_on (g.B.Body.operations meaning) (g.B.Body.is_within meaning) (g.B.Body.laws c.args.body.now) xs can c.args.lo c.loop-at.at (length c.run_at-run.result.now) c.loop-at.invariant.low (omega (arith, c.requires, c.loop-at-test.true, c.run_at-run.ensures.few)) c.loop-at.sum c.loop-at.invariant.sum
 
 pub loop-at-preserved : goal.loop-at-preserved
 loop-at-preserved g c =
     let o = g.B.Body.operations (g.B.Body.meaning c.args.body.now) in
     let cell_of = g.B.Celled.cell_of in
-    let xs = list_of c.args.cells.now.journal in
+    let xs = list_of c.args.history.now.journal in
     let lo = c.args.lo in
     let at = c.loop-at.at in
     let run = c.run_at-run.result.now in
@@ -27,7 +27,7 @@ loop-at-preserved g c =
     let new = c.lay_run-sum.new.column in
     let more = slice_range-run xs lo at run kept.low c.run_at-run.ensures.elements in
     let place : at + length run - lo ≡ at - lo + length run = omega (arith, kept.low) in
-    let front = scan_of c.args.inclusive o (slice_of c.args.cells.now.journal lo at) in
+    let front = scan_of c.args.inclusive o (slice_of c.args.history.now.journal lo at) in
     let rest = scan_from c.args.inclusive o c.loop-at.sum run in
     let gone = slice_scanned o c.args.inclusive xs lo at (at + length run) run more c.loop-at.sum c.lay_run-sum.result front (front ++ rest) kept.sum refl made.sum refl in
     record {
@@ -46,7 +46,7 @@ loop-at-preserved g c =
 pub returns : goal.returns
 returns g c =
     let o = g.B.Body.operations (g.B.Body.meaning c.args.body.now) in
-    let journal = c.args.cells.now.journal in
+    let journal = c.args.history.now.journal in
     let hi = c.args.lo + length c.args.column.now in
     let kept = c.loop-at.invariant in
     let all : c.loop-at.at ≡ hi = omega (arith, kept.high, c.loop-at-test.false) in

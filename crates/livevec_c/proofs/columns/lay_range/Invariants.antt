@@ -10,8 +10,8 @@ invariant-loop-at g l =
     record {
       low : l.lo ≤ l.at;
       high : l.at ≤ l.hi;
-      cells : take (l.at - l.lo) l.column ≡ map g.B.Celled.cell_of (scan_of l.inclusive o (slice_of l.cells.journal l.lo l.at));
-      sum : l.sum ≡ fold_of o (slice_of l.cells.journal l.lo l.at);
+      cells : take (l.at - l.lo) l.column ≡ map g.B.Celled.cell_of (scan_of l.inclusive o (slice_of l.history.journal l.lo l.at));
+      sum : l.sum ≡ fold_of o (slice_of l.history.journal l.lo l.at);
       len : length l.column ≡ length l.initial.column;
     }
 

@@ -7,7 +7,7 @@ use Rattle.livevec_c.proofs.columns.run_at.Goals as goal
 
 pub returns-then-is_empty-clause-elements : goal.returns-then-is_empty-clause-elements
 returns-then-is_empty-clause-elements c =
-    let xs = list_of c.args.cells.now.journal in
+    let xs = list_of c.args.history.now.journal in
     let x = c.read.result in
     let small : c.args.at < length xs = omega (arith, c.requires.order, c.requires.inside) in
     let fits : FitsSigned w64 x = search rules in

@@ -3,7 +3,7 @@ use Rattle.std.proofs.Common.{◌≡◌, ℕ, ◌+◌, ◌-◌, List, ◌∷◌,
 use Rattle.lv_machine.specs.declared.moves.Move.TheVariants.{Install}
 use Rattle.lv_machine.specs.Layout.{block_at, row_at}
 use Rattle.lv_board.specs.declared.actors.Actor.{Actor}
-use Rattle.lv_board.specs.declared.actors.Installed.{Installed}
+use Rattle.lv_board.specs.declared.actors.InstalledPart.{InstalledPart}
 use Rattle.lv_board.specs.Rule.{folds}
 use Rattle.lv_board.proofs.Seated.{install_at}
 use Rattle.lv_board.proofs.Keeping.{installs_at_key}
@@ -23,7 +23,7 @@ fetch_max-requires g c = (
 pub invariant_of-seat : goal.invariant_of-seat
 invariant_of-seat g c =
     let told = c.fetch_max.ensures.2 in
-    let put : Installed = record { place = c.part_place_of.result; word = c.args.word } in
+    let put : InstalledPart = record { place = c.part_place_of.result; word = c.args.word } in
     let x : Actor = record (c.args.seat.now.token.me.0.actor) { installed = put ∷ c.args.seat.now.token.me.0.actor.installed } in
     let same : c.fetch_max.new.seat.me.0.actor.seen ≡ c.args.seat.now.token.me.0.actor.seen = ap (λ v. v.actor.seen) told.1 in
     record {
@@ -37,7 +37,7 @@ invariant_of-seat g c =
 
 pub returns-clause-installed : goal.returns-clause-installed
 returns-clause-installed g c =
-    let put : ℕ → List Installed = λ at. record { place = at; word = c.args.word } ∷ c.args.seat.now.token.me.0.actor.installed in
+    let put : ℕ → List InstalledPart = λ at. record { place = at; word = c.args.word } ∷ c.args.seat.now.token.me.0.actor.installed in
     record {
       stays = record { table = c.fetch_max.ensures.0; terms = refl };
       look = refl;

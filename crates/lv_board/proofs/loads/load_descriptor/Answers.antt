@@ -4,7 +4,7 @@ use mathlib.Core.Option.{none}
 use Rattle.atomic_table.specs.Table.{Allows, step}
 use Rattle.lv_board.specs.Plays.{Looks}
 use Rattle.lv_board.specs.Rule.{folds}
-use Rattle.lv_board.specs.TableRule.{Holds}
+use Rattle.lv_board.specs.TableRule.{TableHolds}
 use Rattle.lv_board.proofs.Keeping.{looks_allowed}
 use Rattle.lv_board.proofs.Seating.{based_after, look_found, seat_after}
 use Rattle.lv_board.proofs.loads.load_descriptor.Goals as goal
@@ -13,7 +13,7 @@ pub load-seat-requires : goal.load-seat-requires
 load-seat-requires g c = (
   c.requires.here,
   omega (arith, c.requires.count),
-  subst (λ k. Allows (Holds (folds g.B.Parted.PARTS g.B.Parted.parts_of (λ b. g.B.Body.operations (g.B.Body.meaning b))) k) c.args.table.now.shared.table_id.slots c.args.seat.now.token.id c.args.seat.now.token.me 0 (λ n. n) (Looks (folds g.B.Parted.PARTS g.B.Parted.parts_of (λ b. g.B.Body.operations (g.B.Body.meaning b))) (step c.args.table.now.shared.table_id.slots 0 0 0 none) c.args.seat.now.token.me)) (sym c.requires.key)
+  subst (λ k. Allows (TableHolds (folds g.B.Parted.PARTS g.B.Parted.parts_of (λ b. g.B.Body.operations (g.B.Body.meaning b))) k) c.args.table.now.shared.table_id.slots c.args.seat.now.token.id c.args.seat.now.token.me 0 (λ n. n) (Looks (folds g.B.Parted.PARTS g.B.Parted.parts_of (λ b. g.B.Body.operations (g.B.Body.meaning b))) (step c.args.table.now.shared.table_id.slots 0 0 0 none) c.args.seat.now.token.me)) (sym c.requires.key)
       (looks_allowed (folds g.B.Parted.PARTS g.B.Parted.parts_of (λ b. g.B.Body.operations (g.B.Body.meaning b))) c.args.seat.now.terms _ _ _ c.args.seat.now.sits),
 )
 

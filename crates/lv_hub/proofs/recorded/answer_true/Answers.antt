@@ -4,4 +4,4 @@ use Rattle.lv_hub.proofs.recorded.answer_true.Goals as goal
 
 pub returns-clause-all_true : goal.returns-clause-all_true
 returns-clause-all_true g c =
-    answered_keeps g.N.Naming.limits _ _ (session_at c.args.share.now c.args.claims.now.items) (session_at c.answer_line.new.share c.answer_line.new.claims.items) c.args.number c.args.line c.answer_line.result c.answer_line.ensures.ok c.answer_line.ensures.fault c.requires.all_true
+    answered_keeps g.N.Naming.limits _ _ (session_at c.args.share.now c.args.answers.now.items) (session_at c.answer_line.new.share c.answer_line.new.answers.items) c.args.number c.args.line c.answer_line.result c.answer_line.ensures.ok c.answer_line.ensures.fault c.requires.all_true

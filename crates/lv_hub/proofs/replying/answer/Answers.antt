@@ -13,13 +13,13 @@ if_err (Err e) holds then = then e holds
 
 pub returns-in-Scan-clause-ok : goal.returns-in-Scan-clause-ok
 returns-in-Scan-clause-ok g c =
-    on_ok c.put_scanned.result c.put_scanned.ensures.ok (λ told. (told.0, rw c.in-Scan.is (told.1 c.args.claims.now.items), told.2))
+    on_ok c.put_scanned.result c.put_scanned.ensures.ok (λ told. (told.0, rw c.in-Scan.is (told.1 c.args.answers.now.items), told.2))
 
 pub returns-in-Scan-clause-fault : goal.returns-in-Scan-clause-fault
 returns-in-Scan-clause-fault g c =
-    if_err c.put_scanned.result c.put_scanned.ensures.fault (λ fault told. (told.0, told.1, rw c.in-Scan.is (told.2 c.args.claims.now.items), told.3))
+    if_err c.put_scanned.result c.put_scanned.ensures.fault (λ fault told. (told.0, told.1, rw c.in-Scan.is (told.2 c.args.answers.now.items), told.3))
 
 pub returns-in-Edit-clause-ok : goal.returns-in-Edit-clause-ok
 returns-in-Edit-clause-ok g c =
     let told = c.put_edit.ensures.answer in
-    (told.0, rw c.in-Edit.is (told.1 c.args.claims.now.items), Writes-put _ _ _ _ told.2)
+    (told.0, rw c.in-Edit.is (told.1 c.args.answers.now.items), Writes-put _ _ _ _ told.2)

@@ -6,14 +6,14 @@ use Rattle.lv_hub.proofs.replying.put_edit.Goals as goal
 pub returns-in-Ok-clause-answer : goal.returns-in-Ok-clause-answer
 returns-in-Ok-clause-answer g c = (
   edit_text (Ok c.in-Ok.receipt),
-  λ claims. record { result = Ok c.in-Ok.receipt; told = c.in-Ok.ensures.told; text_is = refl; state = ap (λ h. session_at h claims) c.in-Ok.ensures.counts },
+  λ answers. record { result = Ok c.in-Ok.receipt; told = c.in-Ok.ensures.told; text_is = refl; state = ap (λ h. session_at h answers) c.in-Ok.ensures.counts },
   c.put_receipt.ensures.text,
 )
 
 pub returns-in-Err-clause-answer : goal.returns-in-Err-clause-answer
 returns-in-Err-clause-answer g c = (
   edit_text (Err c.in-Err.refusal),
-  λ claims. record { result = Err c.in-Err.refusal; told = c.in-Err.ensures.told; text_is = refl; state = ap (λ h. session_at h claims) c.in-Err.ensures.counts },
+  λ answers. record { result = Err c.in-Err.refusal; told = c.in-Err.ensures.told; text_is = refl; state = ap (λ h. session_at h answers) c.in-Err.ensures.counts },
   c.put_refusal.ensures.text,
 )
 

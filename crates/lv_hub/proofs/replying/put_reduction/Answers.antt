@@ -9,8 +9,8 @@ use Rattle.lv_hub.specs.Session.{session_at}
 use Rattle.lv_hub.proofs.replying.put_reduction.Goals as goal
 
 -- a state whose share saw more, and whose list became this
-seen_and_listed : (old new : ShareState) (claims listed : List Claimed) → new ≡ record old { seen = new.seen } → session_at new listed ≡ record (up_to (session_at old claims) new.seen) { claims = listed }
-seen_and_listed old new claims listed is = ap (λ h. session_at h listed) is
+seen_and_listed : (old new : ShareState) (answers listed : List Claimed) → new ≡ record old { seen = new.seen } → session_at new listed ≡ record (up_to (session_at old answers) new.seen) { answers = listed }
+seen_and_listed old new answers listed is = ap (λ h. session_at h listed) is
 
 pub returns-in-Ok-list-clause-answer : goal.returns-in-Ok-list-clause-answer
 returns-in-Ok-list-clause-answer g c =
@@ -24,8 +24,8 @@ returns-in-Ok-list-clause-answer g c =
         told = c.in-Ok.ensures.told;
         lists = inl (
           ap (answer_text answer.edit kind) c.face-value.ensures.shown,
-          ap (λ items. session_at new items) (c.in-Ok-list.ensures.listed ∙ ap (λ value. c.args.claims.now.items ++ listed value ∷ []) c.face-value.ensures.shown)
-              ∙ seen_and_listed c.args.share.now new c.args.claims.now.items _ c.in-Ok.ensures.share,
+          ap (λ items. session_at new items) (c.in-Ok-list.ensures.listed ∙ ap (λ value. c.args.answers.now.items ++ listed value ∷ []) c.face-value.ensures.shown)
+              ∙ seen_and_listed c.args.share.now new c.args.answers.now.items _ c.in-Ok.ensures.share,
         );
       },
       c.put_answer.ensures.text,
@@ -39,7 +39,7 @@ returns-in-Err-list-clause-answer g c =
       record {
         result = Ok answer;
         told = c.in-Ok.ensures.told;
-        lists = inr (refl, ap (λ items. session_at new items) c.in-Err-list.ensures.unchanged.1 ∙ seen_and_listed c.args.share.now new c.args.claims.now.items _ c.in-Ok.ensures.share);
+        lists = inr (refl, ap (λ items. session_at new items) c.in-Err-list.ensures.unchanged.1 ∙ seen_and_listed c.args.share.now new c.args.answers.now.items _ c.in-Ok.ensures.share);
       },
       c.put_refusal.ensures.text ∙ ap (λ refusal. c.args.held.now.items ++ refused_text refusal) c.in-Err-list.ensures.unchanged.0,
     )
@@ -51,7 +51,7 @@ returns-in-Err-clause-answer g c =
       record {
         result = Err c.in-Err.refusal;
         told = c.in-Err.ensures.told;
-        lists = (refl, seen_and_listed c.args.share.now new c.args.claims.now.items _ c.in-Err.ensures.share);
+        lists = (refl, seen_and_listed c.args.share.now new c.args.answers.now.items _ c.in-Err.ensures.share);
       },
       c.put_refusal-in-Err.ensures.text,
     )

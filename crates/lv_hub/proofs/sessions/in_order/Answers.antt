@@ -10,8 +10,8 @@ on_ok (Err e) then holds = holds
 
 pub returns-clause-order : goal.returns-clause-order
 returns-clause-order c =
-    on_ok c.sort_by_key.result (λ sorted. IsNonDecreasingBy-from_sort_by_key (λ claim. claim.edit) _ sorted (λ a r q k. search rules)) c.sort_by_key.ensures.sorted
+    on_ok c.sort_by_key.result (λ sorted. IsNonDecreasingBy-from_sort_by_key (λ reduction. reduction.edit) _ sorted (λ a r q k. search rules)) c.sort_by_key.ensures.sorted
 
 pub returns-clause-stable : goal.returns-clause-stable
 returns-clause-stable c =
-    ties_kept _ _ (c.sort_by_key.ensures.stable (λ claim. claim.edit) (always_returns_same _ (λ a r. r ≡ a.0.now.edit) _ (λ a r q k. search rules)))
+    ties_kept _ _ (c.sort_by_key.ensures.stable (λ reduction. reduction.edit) (always_returns_same _ (λ a r. r ≡ a.0.now.edit) _ (λ a r q k. search rules)))

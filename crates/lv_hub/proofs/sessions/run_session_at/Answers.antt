@@ -1,7 +1,7 @@
 use Rattle.std.proofs.Common.{◌≡◌, ◌≤◌, [], All, refl, rules, ap, sym, arith, vec_len}
 use Rattle.std.proofs.lemmas.List.Elements.{All-nil}
 use Rattle.std.proofs.lemmas.List.Sorted.{IsNonDecreasingBy-short}
-use Rattle.lv_transcript.specs.Transcript.{AreInOrder, IsTrueClaim}
+use Rattle.lv_transcript.specs.Transcript.{AreInOrder, IsTrueAnswer}
 use Rattle.lv_hub.proofs.PlainSessionLaws.{session_plain, session_said}
 use Rattle.lv_hub.proofs.SessionLaws.{conversed_as, given_as}
 use Rattle.lv_hub.proofs.TruthLaws.{conversed_keeps}
@@ -12,13 +12,13 @@ returns-clause-conversed g c =
     let began : c.replace.result.amount ≡ c.args.share.now.count = search rules in
     let saw : c.again.result ≡ c.args.share.now.seen = search rules in
     let came : c.hold-back.result.0.count ≡ c.back.inside.token.amount = ap (λ h. h.count) (sym c.back.view_is) in
-    let sees : c.hold-back.result.0.seen ≡ c.back.inside.front = ap (λ h. h.seen) (sym c.back.view_is) in (
-      record { count = c.back.inside.token.amount; seen = c.back.inside.front; claims = c.hold-back.result.1.items },
+    let sees : c.hold-back.result.0.seen ≡ c.back.inside.prefix = ap (λ h. h.seen) (sym c.back.view_is) in (
+      record { count = c.back.inside.token.amount; seen = c.back.inside.prefix; answers = c.hold-back.result.1.items },
       session_said g.N.Naming.limits _ _ _ _ _ _ _
           (conversed_as c.hold-back.result.2 c.hold-back.result.1 c.listed.result c.listed.ensures (rw (← began, ← saw, ← came, ← sees) c.hold-back.ensures.conversed)),
       refl,
       refl,
-      given_as (λ claims. claims.items ≡ c.hold-back.result.1.items) c.hold-back.result.2 c.hold-back.result.1 c.listed.result c.listed.ensures refl,
+      given_as (λ answers. answers.items ≡ c.hold-back.result.1.items) c.hold-back.result.2 c.hold-back.result.1 c.listed.result c.listed.ensures refl,
     )
 
 pub returns-clause-plain : goal.returns-clause-plain
@@ -31,25 +31,25 @@ returns-clause-plain g c =
 pub returns-clause-seen : goal.returns-clause-seen
 returns-clause-seen g c =
     let saw : c.again.result ≡ c.args.share.now.seen = search rules in
-    let sees : c.hold-back.result.0.seen ≡ c.back.inside.front = ap (λ h. h.seen) (sym c.back.view_is) in
+    let sees : c.hold-back.result.0.seen ≡ c.back.inside.prefix = ap (λ h. h.seen) (sym c.back.view_is) in
     let keeps = conversed_keeps g.N.Naming.limits _ _ _ _ _ _ c.hold-back.result.2 c.hold-back.ensures.conversed in
     rw (← saw, ← sees) keeps.seen
 
 pub returns-clause-all_true : goal.returns-clause-all_true
 returns-clause-all_true g c =
-    let sees : c.hold-back.result.0.seen ≡ c.back.inside.front = ap (λ h. h.seen) (sym c.back.view_is) in
+    let sees : c.hold-back.result.0.seen ≡ c.back.inside.prefix = ap (λ h. h.seen) (sym c.back.view_is) in
     let keeps = conversed_keeps g.N.Naming.limits _ _ _ _ _ _ c.hold-back.result.2 c.hold-back.ensures.conversed in
-    let holds : All (IsTrueClaim c.back.inside.front) c.hold-back.result.1.items = rw (← sees) (keeps.all_true (All-nil (IsTrueClaim c.again.result))) in
-    given_as (λ claims. All (IsTrueClaim c.back.inside.front) claims.items) c.hold-back.result.2 c.hold-back.result.1 c.listed.result c.listed.ensures holds
+    let holds : All (IsTrueAnswer c.back.inside.prefix) c.hold-back.result.1.items = rw (← sees) (keeps.all_true (All-nil (IsTrueAnswer c.again.result))) in
+    given_as (λ answers. All (IsTrueAnswer c.back.inside.prefix) answers.items) c.hold-back.result.2 c.hold-back.result.1 c.listed.result c.listed.ensures holds
 
 -- they were listed in the order of time
 pub returns-clause-order : goal.returns-clause-order
 returns-clause-order g c =
     let keeps = conversed_keeps g.N.Naming.limits _ _ _ _ _ _ c.hold-back.result.2 c.hold-back.ensures.conversed in
-    let rises : AreInOrder c.hold-back.result.1.items = keeps.order (All-nil (IsTrueClaim c.again.result)) (IsNonDecreasingBy-short (λ claim. claim.edit) [] (omega arith)) in
-    given_as (λ claims. AreInOrder claims.items) c.hold-back.result.2 c.hold-back.result.1 c.listed.result c.listed.ensures rises
+    let rises : AreInOrder c.hold-back.result.1.items = keeps.order (All-nil (IsTrueAnswer c.again.result)) (IsNonDecreasingBy-short (λ claim. claim.edit) [] (omega arith)) in
+    given_as (λ answers. AreInOrder answers.items) c.hold-back.result.2 c.hold-back.result.1 c.listed.result c.listed.ensures rises
 
 -- and no more than there may be
 pub returns-clause-few : goal.returns-clause-few
 returns-clause-few g c =
-    given_as (λ claims. vec_len claims ≤ c.args.place.answers) c.hold-back.result.2 c.hold-back.result.1 c.listed.result c.listed.ensures c.hold-back.ensures.few
+    given_as (λ answers. vec_len answers ≤ c.args.place.most) c.hold-back.result.2 c.hold-back.result.1 c.listed.result c.listed.ensures c.hold-back.ensures.few

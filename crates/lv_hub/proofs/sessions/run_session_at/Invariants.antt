@@ -1,4 +1,4 @@
 use Rattle.lv_hub.proofs.sessions.run_session_at.Given as goal
 
 abbrev pub ghosts-hold : goal.ghosts-hold
-ghosts-hold g a = record { holding = a.share; most = a.place.answers }
+ghosts-hold g a = record { holding = a.share; most = a.place.most }

@@ -4,7 +4,7 @@ use Rattle.lv_edits.specs.History.{list_of}
 use Rattle.lv_known.proofs.FoldableLaws.{can_fold}
 use Rattle.lv_reduce.proofs.ScanLaws.{fold_of-slice-more}
 use Rattle.lv_kinds.specs.Runs.{StandsBy}
-use Rattle.lv_kinds.specs.declared.walks.Walk.{Walk}
+use Rattle.lv_kinds.specs.declared.walks.KindWalk.{KindWalk}
 use Rattle.lv_kinds.proofs.AskByLaws.{cells_greatest, cells_inside, passes_cell, passing_can_grow, stands_here, stands_passes}
 use Rattle.lv_kinds.proofs.KnowByLaws.{learns_nothing}
 use Rattle.lv_kinds.proofs.runs.take_cells.Goals as goal
@@ -19,7 +19,7 @@ fold_more-value-requires-after_bounds g c κs within =
     let meaning = g.K.Body.meaning c.args.body.now in
     let o = g.K.Body.operations meaning in
     let edits = c.args.view.cells.now.journal in
-    let here : Walk g.row.K-S.Denot = record { lo = c.args.walk.lo; hi = c.args.walk.hi; at = c.loop-at.at; value = c.loop-at.value } in
+    let here : KindWalk g.row.K-S.Denot = record { lo = c.args.walk.lo; hi = c.args.walk.hi; at = c.loop-at.at; value = c.loop-at.value } in
     let some = cells_inside c.args.walk.at c.args.walk.hi c.run_end-end.result c.loop-at.at c.run_end-end.ensures (omega arith) c.loop-at-test.true in
     passing_can_grow o (g.K.Body.is_within meaning) (g.K.Body.laws c.args.body.now) edits (can_fold c.args.view.cells.now c.size-size.ensures.limits) g.K.OfSix.bit
     c.args.walk.lo c.args.walk.hi c.loop-at.at c.loop-at.value c.args.flags.now (stands_passes o edits g.K.OfSix.bit here c.args.flags.now c.args.rows.now c.loop-at.invariant) c.loop-at.invariant.inside c.loop-at.invariant.fold some
@@ -33,7 +33,7 @@ loop-at-preserved g c =
     let bit = g.K.OfSix.bit in
     let at = c.loop-at.at in
     let x = c.read.result in
-    let here : Walk g.row.K-S.Denot = record { lo = c.args.walk.lo; hi = c.args.walk.hi; at = at; value = c.loop-at.value } in
+    let here : KindWalk g.row.K-S.Denot = record { lo = c.args.walk.lo; hi = c.args.walk.hi; at = at; value = c.loop-at.value } in
     let some = cells_inside c.args.walk.at c.args.walk.hi c.run_end-end.result at c.run_end-end.ensures (omega arith) c.loop-at-test.true in
     let small : at < length xs = omega (arith, some, c.loop-at.invariant.inside) in
     let fits : FitsSigned w64 x = search rules in

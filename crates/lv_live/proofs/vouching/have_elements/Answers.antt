@@ -8,5 +8,5 @@ use Rattle.lv_live.proofs.vouching.have_elements.Goals as goal
 
 pub returns : goal.returns
 returns g c =
-    let cells : c.block.result ≡ elements_under c.args.cells.now.journal c.args.block = rw c.requires.level c.block.ensures.value in
+    let cells : c.block.result ≡ elements_under c.args.history.now.journal c.args.block = rw c.requires.level c.block.ensures.value in
     subst (λ xs. IsTrue c.eq.result ↔ (c.args.elements.now ≡ xs)) cells (rw c.eq.ensures (exact_pointwise int_eq Decides-int_eq c.args.elements.now c.block.result))

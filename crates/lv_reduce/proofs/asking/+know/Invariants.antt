@@ -11,4 +11,4 @@ decreases-know g l = l.node.level
 abbrev pub invariant-loop-k : goal.invariant-loop-k
 invariant-loop-k g l =
     let meaning = g.B.Body.meaning l.body in
-    (can : CanFold (list_of l.cells.journal)) × Gathers (g.B.Body.operations meaning) (g.B.Body.is_within meaning) (g.B.Body.laws l.body) l.cells.journal can l.initial.table l.table l.node l.k l.summary l.cells_read l.summaries_read
+    (can : CanFold (list_of l.history.journal)) × Gathers (g.B.Body.operations meaning) (g.B.Body.is_within meaning) (g.B.Body.laws l.body) l.history.journal can l.initial.table l.table l.node l.k l.summary l.cells_read l.summaries_read

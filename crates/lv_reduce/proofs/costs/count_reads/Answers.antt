@@ -3,7 +3,7 @@ use Rattle.lv_geometry.proofs.NodeLaws.{some_width}
 use Rattle.lv_summary.specs.Table.{fresh_in}
 use Rattle.lv_reduce.proofs.BlockWalks.{walk_unread}
 use Rattle.lv_reduce.proofs.GreatestLaws.{fresh_of_piece}
-use Rattle.lv_reduce.proofs.Walk.{walk_node, walk_ends, walk_starts}
+use Rattle.lv_reduce.proofs.WalkLaws.{walk_node, walk_ends, walk_starts}
 use Rattle.lv_reduce.proofs.costs.count_reads.Goals as goal
 
 pub loop-at-init : goal.loop-at-init

@@ -1,6 +1,6 @@
 use Rattle.std.proofs.Common.{◌-◌}
 use Rattle.lv_summary.specs.Table.{fresh_in}
-use Rattle.lv_reduce.proofs.Walk.{IsWalk}
+use Rattle.lv_reduce.proofs.WalkLaws.{IsWalk}
 use Rattle.lv_reduce.proofs.costs.count_reads.Given as goal
 
 -- the walk has come so far

@@ -5,7 +5,7 @@ use Rattle.lv_reduce.proofs.parallel.copy_range.Goals as goal
 
 pub loop-at-preserved : goal.loop-at-preserved
 loop-at-preserved c =
-    let xs = list_of c.args.cells.now.journal in
+    let xs = list_of c.args.history.now.journal in
     let lo = c.args.lo in
     let at = c.loop-at.at in
     let run = c.run_at-run.result.now in

@@ -7,7 +7,7 @@ abbrev pub invariant-loop-at : goal.invariant-loop-at
 invariant-loop-at l = record {
   low : l.lo ≤ l.at;
   high : l.at ≤ l.hi;
-  copied : l.xs.items ≡ slice_of l.cells.journal l.lo l.at;
+  copied : l.xs.items ≡ slice_of l.history.journal l.lo l.at;
   count : vec_len l.xs ≡ l.at - l.lo;
   room : l.hi - l.lo ≤ vec_capacity l.xs;
 }

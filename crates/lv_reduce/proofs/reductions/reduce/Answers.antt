@@ -10,7 +10,7 @@ use Rattle.lv_known.proofs.FoldableLaws.{can_fold}
 use Rattle.lv_reduce.proofs.PieceLaws.{piece_folds, slice-joined, slice-nothing, slice-within, slices_can_join}
 use Rattle.lv_reduce.proofs.ScanLaws.{fold_of-slice-more}
 use Rattle.lv_reduce.proofs.GreatestLaws.{fresh_of_piece}
-use Rattle.lv_reduce.proofs.Walk.{walk_cell, walk_node, walk_ends, walk_starts}
+use Rattle.lv_reduce.proofs.WalkLaws.{walk_cell, walk_node, walk_ends, walk_starts}
 use Rattle.lv_reduce.proofs.reductions.reduce.Goals as goal
 
 pub loop-at-init : goal.loop-at-init

@@ -2,7 +2,7 @@ use Rattle.std.proofs.Common.{◌≡◌, ◌-◌}
 use Rattle.lv_bodies.specs.Body.{fold_of}
 use Rattle.lv_summary.specs.Table.{fresh_in}
 use Rattle.lv_reduce.specs.Answer.{slice_of}
-use Rattle.lv_reduce.proofs.Walk.{IsWalk}
+use Rattle.lv_reduce.proofs.WalkLaws.{IsWalk}
 use Rattle.lv_reduce.proofs.reductions.reduce.Given as goal
 
 -- the walk has come so far, with the fold of what is before

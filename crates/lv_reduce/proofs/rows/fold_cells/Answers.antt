@@ -6,14 +6,14 @@ use Rattle.lv_reduce.proofs.rows.fold_cells.Goals as goal
 pub fold_on-sum-requires-after_bounds : goal.fold_on-sum-requires-after_bounds
 fold_on-sum-requires-after_bounds g c κs within =
     let meaning = g.B.Body.meaning c.args.body.now in
-    let xs = list_of c.args.cells.now.journal in
+    let xs = list_of c.args.history.now.journal in
     let count = length c.run_at-run.result.now in
     slice_can_go_on (g.B.Body.operations meaning) (g.B.Body.is_within meaning) (g.B.Body.laws c.args.body.now) xs c.requires.can c.args.lo c.loop-at.at count c.loop-at.invariant.low (omega (arith, c.requires.inside, c.run_at-run.ensures.few)) c.loop-at.sum c.loop-at.invariant.sum
 
 pub loop-at-preserved : goal.loop-at-preserved
 loop-at-preserved g c =
     let meaning = g.B.Body.meaning c.args.body.now in
-    let xs = list_of c.args.cells.now.journal in
+    let xs = list_of c.args.history.now.journal in
     let run = c.run_at-run.result.now in
     record {
       low = omega (arith, c.loop-at.invariant.low);

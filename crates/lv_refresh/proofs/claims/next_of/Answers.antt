@@ -1,5 +1,5 @@
 use Rattle.std.proofs.Common.{◌≡◌, get_or, ◌∙◌}
-use Rattle.lv_refresh.specs.Claimed.{version_of}
+use Rattle.lv_refresh.specs.ClaimTable.{version_of}
 use Rattle.lv_refresh.proofs.PickLaws.{Passes-from, Picks-from, hints_after, row_of_wanted}
 use Rattle.lv_refresh.proofs.claims.next_of.Goals as goal
 

@@ -1,4 +1,4 @@
--- What the loop keeps in `least`: which queue has the claim of the least edit, and that edit.
+-- What the loop keeps in `least`: which queue has the answer of the least edit, and that edit.
 use Rattle.std.proofs.Common.{take}
 use Rattle.lv_transcript.specs.LeastFirst.{FindsLeast}
 use Rattle.lv_transcript.proofs.queues.least.Given as goal

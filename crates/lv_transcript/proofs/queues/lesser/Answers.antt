@@ -1,5 +1,5 @@
--- Proof of `lesser`: the queue with the claim of the least edit, with one queue more.
-use Rattle.lv_transcript.proofs.JoinedClaims.{empty_fits, finds_kept, later_fits}
+-- Proof of `lesser`: the queue with the answer of the least edit, with one queue more.
+use Rattle.lv_transcript.proofs.JoinedAnswers.{empty_fits, finds_kept, later_fits}
 use Rattle.lv_transcript.proofs.queues.lesser.Goals as goal
 
 pub returns-in_default : goal.returns-in_default

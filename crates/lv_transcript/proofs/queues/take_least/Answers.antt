@@ -1,7 +1,7 @@
--- Proof of `take_least`: takes the claim of the least edit, that of the first queue where several have one.
+-- Proof of `take_least`: takes the answer of the least edit, that of the first queue where several have one.
 use Rattle.std.proofs.Common.{subst}
 use Rattle.lv_transcript.specs.LeastFirst.{IsLeast}
-use Rattle.lv_transcript.proofs.JoinedClaims.{least_taken, none_in_a_row}
+use Rattle.lv_transcript.proofs.JoinedAnswers.{least_taken, none_in_a_row}
 use Rattle.lv_transcript.proofs.queues.take_least.Goals as goal
 
 pub returns-in-Some : goal.returns-in-Some

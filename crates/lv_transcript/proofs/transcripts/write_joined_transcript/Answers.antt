@@ -7,22 +7,22 @@ use Rattle.lv_edits.specs.Kept.{CarriesElement}
 use Rattle.lv_lines.specs.declared.fault.Fault.{Fault}
 use Rattle.lv_transcript.specs.declared.claimed.Claimed.{Claimed}
 use Rattle.lv_transcript.specs.Joined.{by_edit, in_a_row}
-use Rattle.lv_transcript.specs.Transcript.{AreAccepted, IsEdit, IsSoundTranscript, IsTrueClaim, greatest, transcript_text}
+use Rattle.lv_transcript.specs.Transcript.{AreAccepted, IsEdit, IsSoundTranscript, IsTrueAnswer, greatest, transcript_text}
 use Rattle.lv_transcript.proofs.AuditedTranscripts.{carries_of_fits}
-use Rattle.lv_transcript.proofs.JoinedClaims.{by_edit_order, by_edit_permutes}
+use Rattle.lv_transcript.proofs.JoinedAnswers.{by_edit_order, by_edit_permutes}
 use Rattle.lv_transcript.proofs.transcripts.write_joined_transcript.Goals as goal
 
--- accepted edits, and true claims in their order, have a sound text
-sound_so : {T : Type 0} (edits : List Edit) (listed : List Claimed) (result : Result T Fault) → OnOk result (All IsEdit edits) → AreAccepted greatest edits → All (IsTrueClaim edits) listed
+-- accepted edits, and true answers in their order, have a sound text
+sound_so : {T : Type 0} (edits : List Edit) (listed : List Claimed) (result : Result T Fault) → OnOk result (All IsEdit edits) → AreAccepted greatest edits → All (IsTrueAnswer edits) listed
     → OnOk result (IsSoundTranscript (transcript_text edits (by_edit listed)))
 sound_so edits listed (Ok x) fits accepted holds = record {
   edits = edits;
-  claims = by_edit listed;
+  answers = by_edit listed;
   text = inl refl;
   elements = All-weaker IsEdit CarriesElement carries_of_fits edits fits;
   accepted = accepted;
   order = by_edit_order listed;
-  all_true = All-permutation (IsTrueClaim edits) listed (by_edit listed) (by_edit_permutes listed) holds;
+  all_true = All-permutation (IsTrueAnswer edits) listed (by_edit listed) (by_edit_permutes listed) holds;
 }
 sound_so edits listed (Err fault) fits accepted holds = tt
 

@@ -8,5 +8,5 @@ ghosts-of_hub-N-Ledger g a = record { name = a.blank.name; parts = a.blank.parts
 abbrev pub ghosts-of_hub-N-Naming : goal.ghosts-of_hub-N-Naming
 ghosts-of_hub-N-Naming g a = record { limits = a.limits; history = a.opened }
 
-abbrev pub ghosts-of_hub-N-Means : goal.ghosts-of_hub-N-Means
-ghosts-of_hub-N-Means g a = record { body = Some a.body }
+abbrev pub ghosts-of_hub-N-WithBody : goal.ghosts-of_hub-N-WithBody
+ghosts-of_hub-N-WithBody g a = record { body = Some a.body }

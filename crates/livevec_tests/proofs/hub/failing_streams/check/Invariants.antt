@@ -8,5 +8,5 @@ ghosts-hold_alone-N-Ledger g a = record { name = a.blank.name; parts = a.blank.p
 abbrev pub ghosts-hold_alone-N-Naming : goal.ghosts-hold_alone-N-Naming
 ghosts-hold_alone-N-Naming g a = record { limits = a.limits; history = a.opened }
 
-abbrev pub ghosts-hold_alone-N-Means : goal.ghosts-hold_alone-N-Means
-ghosts-hold_alone-N-Means g a = record { body = Some a.body }
+abbrev pub ghosts-hold_alone-N-WithBody : goal.ghosts-hold_alone-N-WithBody
+ghosts-hold_alone-N-WithBody g a = record { body = Some a.body }

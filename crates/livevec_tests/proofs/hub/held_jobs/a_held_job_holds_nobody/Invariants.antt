@@ -8,5 +8,5 @@ ghosts-hold_a_job-N-Ledger g a = record { name = a.blank.name; parts = a.blank.p
 abbrev pub ghosts-hold_a_job-N-Naming : goal.ghosts-hold_a_job-N-Naming
 ghosts-hold_a_job-N-Naming g a = record { limits = a.limits; history = a.opened }
 
-abbrev pub ghosts-hold_a_job-N-Means : goal.ghosts-hold_a_job-N-Means
-ghosts-hold_a_job-N-Means g a = record { body = Some a.body }
+abbrev pub ghosts-hold_a_job-N-WithBody : goal.ghosts-hold_a_job-N-WithBody
+ghosts-hold_a_job-N-WithBody g a = record { body = Some a.body }

@@ -8,5 +8,5 @@ ghosts-hold_a_scan-N-Ledger g a = record { name = a.blank.name; parts = a.blank.
 abbrev pub ghosts-hold_a_scan-N-Naming : goal.ghosts-hold_a_scan-N-Naming
 ghosts-hold_a_scan-N-Naming g a = record { limits = a.limits; history = a.opened }
 
-abbrev pub ghosts-hold_a_scan-N-Means : goal.ghosts-hold_a_scan-N-Means
-ghosts-hold_a_scan-N-Means g a = record { body = Some a.body }
+abbrev pub ghosts-hold_a_scan-N-WithBody : goal.ghosts-hold_a_scan-N-WithBody
+ghosts-hold_a_scan-N-WithBody g a = record { body = Some a.body }

@@ -8,5 +8,5 @@ ghosts-late_worker-N-Ledger g a = record { name = a.blank.name; parts = a.blank.
 abbrev pub ghosts-late_worker-N-Naming : goal.ghosts-late_worker-N-Naming
 ghosts-late_worker-N-Naming g a = record { limits = a.limits; history = a.opened }
 
-abbrev pub ghosts-late_worker-N-Means : goal.ghosts-late_worker-N-Means
-ghosts-late_worker-N-Means g a = record { body = Some a.body }
+abbrev pub ghosts-late_worker-N-WithBody : goal.ghosts-late_worker-N-WithBody
+ghosts-late_worker-N-WithBody g a = record { body = Some a.body }

@@ -8,5 +8,5 @@ ghosts-one_history-N-Ledger g a = record { name = a.blank.name; parts = a.blank.
 abbrev pub ghosts-one_history-N-Naming : goal.ghosts-one_history-N-Naming
 ghosts-one_history-N-Naming g a = record { limits = a.limits; history = a.opened }
 
-abbrev pub ghosts-one_history-N-Means : goal.ghosts-one_history-N-Means
-ghosts-one_history-N-Means g a = record { body = Some a.body }
+abbrev pub ghosts-one_history-N-WithBody : goal.ghosts-one_history-N-WithBody
+ghosts-one_history-N-WithBody g a = record { body = Some a.body }

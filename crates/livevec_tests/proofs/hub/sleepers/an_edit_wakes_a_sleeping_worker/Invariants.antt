@@ -8,5 +8,5 @@ ghosts-woken-N-Ledger g a = record { name = a.blank.name; parts = a.blank.parts 
 abbrev pub ghosts-woken-N-Naming : goal.ghosts-woken-N-Naming
 ghosts-woken-N-Naming g a = record { limits = a.limits; history = a.opened }
 
-abbrev pub ghosts-woken-N-Means : goal.ghosts-woken-N-Means
-ghosts-woken-N-Means g a = record { body = Some a.body }
+abbrev pub ghosts-woken-N-WithBody : goal.ghosts-woken-N-WithBody
+ghosts-woken-N-WithBody g a = record { body = Some a.body }

@@ -8,5 +8,5 @@ ghosts-dismissed-N-Ledger g a = record { name = a.blank.name; parts = a.blank.pa
 abbrev pub ghosts-dismissed-N-Naming : goal.ghosts-dismissed-N-Naming
 ghosts-dismissed-N-Naming g a = record { limits = a.limits; history = a.opened }
 
-abbrev pub ghosts-dismissed-N-Means : goal.ghosts-dismissed-N-Means
-ghosts-dismissed-N-Means g a = record { body = Some a.body }
+abbrev pub ghosts-dismissed-N-WithBody : goal.ghosts-dismissed-N-WithBody
+ghosts-dismissed-N-WithBody g a = record { body = Some a.body }

@@ -8,8 +8,8 @@ ghosts-first_outcome-N-Ledger g a = record { name = a.blank.name; parts = a.blan
 abbrev pub ghosts-first_outcome-N-Naming : goal.ghosts-first_outcome-N-Naming
 ghosts-first_outcome-N-Naming g a = record { limits = a.limits; history = a.opened }
 
-abbrev pub ghosts-first_outcome-N-Means : goal.ghosts-first_outcome-N-Means
-ghosts-first_outcome-N-Means g a = record { body = Some a.body }
+abbrev pub ghosts-first_outcome-N-WithBody : goal.ghosts-first_outcome-N-WithBody
+ghosts-first_outcome-N-WithBody g a = record { body = Some a.body }
 
 abbrev pub ghosts-answer_to-N-Ledger : goal.ghosts-answer_to-N-Ledger
 ghosts-answer_to-N-Ledger g a = record { name = a.blank.name; parts = a.blank.parts }
@@ -17,5 +17,5 @@ ghosts-answer_to-N-Ledger g a = record { name = a.blank.name; parts = a.blank.pa
 abbrev pub ghosts-answer_to-N-Naming : goal.ghosts-answer_to-N-Naming
 ghosts-answer_to-N-Naming g a = record { limits = a.limits; history = a.opened }
 
-abbrev pub ghosts-answer_to-N-Means : goal.ghosts-answer_to-N-Means
-ghosts-answer_to-N-Means g a = record { body = Some a.body }
+abbrev pub ghosts-answer_to-N-WithBody : goal.ghosts-answer_to-N-WithBody
+ghosts-answer_to-N-WithBody g a = record { body = Some a.body }

@@ -8,8 +8,8 @@ ghosts-first_outcome-N-Ledger g a = record { name = a.blank.name; parts = a.blan
 abbrev pub ghosts-first_outcome-N-Naming : goal.ghosts-first_outcome-N-Naming
 ghosts-first_outcome-N-Naming g a = record { limits = a.limits; history = a.opened }
 
-abbrev pub ghosts-first_outcome-N-Means : goal.ghosts-first_outcome-N-Means
-ghosts-first_outcome-N-Means g a = record { body = Some a.body }
+abbrev pub ghosts-first_outcome-N-WithBody : goal.ghosts-first_outcome-N-WithBody
+ghosts-first_outcome-N-WithBody g a = record { body = Some a.body }
 
 abbrev pub ghosts-one_hub_of_two-N-Ledger : goal.ghosts-one_hub_of_two-N-Ledger
 ghosts-one_hub_of_two-N-Ledger g a = record { name = a.blank.name; parts = a.blank.parts }
@@ -17,5 +17,5 @@ ghosts-one_hub_of_two-N-Ledger g a = record { name = a.blank.name; parts = a.bla
 abbrev pub ghosts-one_hub_of_two-N-Naming : goal.ghosts-one_hub_of_two-N-Naming
 ghosts-one_hub_of_two-N-Naming g a = record { limits = a.limits; history = a.opened }
 
-abbrev pub ghosts-one_hub_of_two-N-Means : goal.ghosts-one_hub_of_two-N-Means
-ghosts-one_hub_of_two-N-Means g a = record { body = Some a.body }
+abbrev pub ghosts-one_hub_of_two-N-WithBody : goal.ghosts-one_hub_of_two-N-WithBody
+ghosts-one_hub_of_two-N-WithBody g a = record { body = Some a.body }

@@ -8,8 +8,8 @@ ghosts-outcome_above-N-Ledger g a = record { name = a.blank.name; parts = a.blan
 abbrev pub ghosts-outcome_above-N-Naming : goal.ghosts-outcome_above-N-Naming
 ghosts-outcome_above-N-Naming g a = record { limits = a.limits; history = a.opened }
 
-abbrev pub ghosts-outcome_above-N-Means : goal.ghosts-outcome_above-N-Means
-ghosts-outcome_above-N-Means g a = record { body = Some a.body }
+abbrev pub ghosts-outcome_above-N-WithBody : goal.ghosts-outcome_above-N-WithBody
+ghosts-outcome_above-N-WithBody g a = record { body = Some a.body }
 
 abbrev pub ghosts-one_hub_of_64-N-Ledger : goal.ghosts-one_hub_of_64-N-Ledger
 ghosts-one_hub_of_64-N-Ledger g a = record { name = a.blank.name; parts = a.blank.parts }
@@ -17,5 +17,5 @@ ghosts-one_hub_of_64-N-Ledger g a = record { name = a.blank.name; parts = a.blan
 abbrev pub ghosts-one_hub_of_64-N-Naming : goal.ghosts-one_hub_of_64-N-Naming
 ghosts-one_hub_of_64-N-Naming g a = record { limits = a.limits; history = a.opened }
 
-abbrev pub ghosts-one_hub_of_64-N-Means : goal.ghosts-one_hub_of_64-N-Means
-ghosts-one_hub_of_64-N-Means g a = record { body = Some a.body }
+abbrev pub ghosts-one_hub_of_64-N-WithBody : goal.ghosts-one_hub_of_64-N-WithBody
+ghosts-one_hub_of_64-N-WithBody g a = record { body = Some a.body }

@@ -8,5 +8,5 @@ ghosts-total-N-Ledger g a = record { name = a.blank.name; parts = a.blank.parts 
 abbrev pub ghosts-total-N-Naming : goal.ghosts-total-N-Naming
 ghosts-total-N-Naming g a = record { limits = a.limits; history = a.opened }
 
-abbrev pub ghosts-total-N-Means : goal.ghosts-total-N-Means
-ghosts-total-N-Means g a = record { body = Some a.body }
+abbrev pub ghosts-total-N-WithBody : goal.ghosts-total-N-WithBody
+ghosts-total-N-WithBody g a = record { body = Some a.body }

@@ -8,5 +8,5 @@ ghosts-nine_pushes-N-Ledger g a = record { name = a.blank.name; parts = a.blank.
 abbrev pub ghosts-nine_pushes-N-Naming : goal.ghosts-nine_pushes-N-Naming
 ghosts-nine_pushes-N-Naming g a = record { limits = a.limits; history = a.opened }
 
-abbrev pub ghosts-nine_pushes-N-Means : goal.ghosts-nine_pushes-N-Means
-ghosts-nine_pushes-N-Means g a = record { body = Some a.body }
+abbrev pub ghosts-nine_pushes-N-WithBody : goal.ghosts-nine_pushes-N-WithBody
+ghosts-nine_pushes-N-WithBody g a = record { body = Some a.body }

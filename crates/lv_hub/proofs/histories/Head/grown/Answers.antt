@@ -30,5 +30,5 @@ returns-clause-begins g c =
     let now = c.compare_exchange.new.seen.log in
     let this : IsPrefix mine both = subst (λ (l : List Entry). IsPrefix l both) (ap (λ s. s.log) c.again-both.ensures) c.learn.ensures.2 in
     let still = still_unspent p mine now (prefix_trans mine both now this e.6) (subst (λ q. IsUnspent q now) i.5 e.7.unspent) in
-    let that = begins_so p c.front.inside.seen.log now (prefix_trans c.front.inside.seen.log both now c.learn.ensures.3 e.6) in
-    rw (← c.self.view_is, ← c.front.view_is) (subst (λ all. IsPrefix (edits_by p c.front.inside.seen.log) all) still.edits that)
+    let that = begins_so p c.prefix.inside.seen.log now (prefix_trans c.prefix.inside.seen.log both now c.learn.ensures.3 e.6) in
+    rw (← c.self.view_is, ← c.prefix.view_is) (subst (λ all. IsPrefix (edits_by p c.prefix.inside.seen.log) all) still.edits that)

@@ -22,6 +22,6 @@ pub returns-clause-head : goal.returns-clause-head
 returns-clause-head g c =
     (none_yet _ _ c.self.inside.seen.log (ap (λ h. h.permit) (c.self.view_is ∙ c.requires)) c.self.invariant.3).0
 
-pub returns-clause-front : goal.returns-clause-front
-returns-clause-front g c =
-    c.front-front.ensures ∙ (none_yet _ _ c.self.inside.seen.log (ap (λ h. h.permit) (c.self.view_is ∙ c.requires)) c.self.invariant.3).0
+pub returns-clause-prefix : goal.returns-clause-prefix
+returns-clause-prefix g c =
+    c.prefix-prefix.ensures ∙ (none_yet _ _ c.self.inside.seen.log (ap (λ h. h.permit) (c.self.view_is ∙ c.requires)) c.self.invariant.3).0

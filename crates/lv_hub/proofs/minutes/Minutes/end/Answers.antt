@@ -10,7 +10,7 @@ use Rattle.lv_hub.proofs.minutes.Minutes.end.Goals as goal
 -- all edits of the journal were given
 pub returns-clause-ends : goal.returns-clause-ends
 returns-clause-ends g c =
-    let s : MinutesState = record { scribe = c.self.inside.scribe; seen = c.self.inside.front; edits = c.self.inside.edits; last = c.self.inside.last } in
+    let s : MinutesState = record { scribe = c.self.inside.scribe; seen = c.self.inside.prefix; edits = c.self.inside.edits; last = c.self.inside.last } in
     let journal = c.args.journal.now in
     let begins = subst (λ (m : MinutesState). IsPrefix m.seen journal) (sym c.self.view_is) c.requires.begins in
     let back = c.split_at.ensures.back in
@@ -21,7 +21,7 @@ returns-clause-ends g c =
 -- an answer was missed
 pub returns-then-missed-clause-ends : goal.returns-then-missed-clause-ends
 returns-then-missed-clause-ends g c =
-    let s : MinutesState = record { scribe = c.self.inside.scribe; seen = c.self.inside.front; edits = c.self.inside.edits; last = c.self.inside.last } in
+    let s : MinutesState = record { scribe = c.self.inside.scribe; seen = c.self.inside.prefix; edits = c.self.inside.edits; last = c.self.inside.last } in
     let journal = c.args.journal.now in
     let begins = subst (λ (m : MinutesState). IsPrefix m.seen journal) (sym c.self.view_is) c.requires.begins in
     let back = c.split_at.ensures.back in

@@ -7,8 +7,8 @@ use Rattle.lv_hub.proofs.minutes.Minutes.take_batch.Goals as goal
 -- the edits that were copied were given
 pub invariant_of-self : goal.invariant_of-self
 invariant_of-self g c =
-    let s : MinutesState = record { scribe = c.self.inside.scribe; seen = c.self.inside.front; edits = c.self.inside.edits; last = c.self.inside.last } in
-    let seen = c.copy_edits.new.front in
-    let more = prefix_trans c.self.inside.front c.longer-front.result seen c.longer-front.ensures.that c.copy_edits.ensures.begins in
+    let s : MinutesState = record { scribe = c.self.inside.scribe; seen = c.self.inside.prefix; edits = c.self.inside.edits; last = c.self.inside.last } in
+    let seen = c.copy_edits.new.prefix in
+    let more = prefix_trans c.self.inside.prefix c.longer-prefix.result seen c.longer-prefix.ensures.that c.copy_edits.ensures.begins in
     minutes_edits g.K.Begun.start s seen c.as_slice.result.now _ c.len.result c.give_all.new.scribe c.self.invariant more c.copy_edits.ensures.accepted
     (c.as_slice.ensures.value ∙ c.copy_edits.ensures.copied) c.give_all.ensures.elements c.give_all.ensures.given (omega (arith, c.len.ensures, c.as_slice.ensures.len))

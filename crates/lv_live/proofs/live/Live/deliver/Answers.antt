@@ -22,10 +22,10 @@ returns-clause-delivered g c =
     let laws = g.B.Body.laws c.self.inside.body in
     let anew = c.deliver_anew in
     rw (← c.self.view_is)
-    (delivered o within laws _ c.self.invariant anew.new.table anew.new.claims c.args.node c.args.version (fold_of o (elements_under c.self.inside.cells.journal c.args.node)) anew.result (claimed_heard o within laws _ c.self.invariant anew.new.claims c.args.node anew.result anew.ensures.hears) anew.ensures.after)
+    (delivered o within laws _ c.self.invariant anew.new.table anew.new.claims c.args.node c.args.version (fold_of o (elements_under c.self.inside.history.journal c.args.node)) anew.result (claimed_heard o within laws _ c.self.invariant anew.new.claims c.args.node anew.result anew.ensures.hears) anew.ensures.after)
 
 pub returns-clause-remembers : goal.returns-clause-remembers
 returns-clause-remembers g c =
     let anew = c.deliver_anew in
-    let fold = fold_of (g.B.Body.operations (g.B.Body.meaning c.self.inside.body)) (elements_under c.self.inside.cells.journal c.args.node) in
+    let fold = fold_of (g.B.Body.operations (g.B.Body.meaning c.self.inside.body)) (elements_under c.self.inside.history.journal c.args.node) in
     rw (← c.self.view_is) (λ n known whole touched. known_after_delivery c.self.inside.table anew.new.table c.args.node c.args.version fold anew.result anew.ensures.accepted anew.ensures.after n known)

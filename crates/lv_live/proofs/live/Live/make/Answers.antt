@@ -12,8 +12,8 @@ use Rattle.lv_live.proofs.live.Live.make.Goals as goal
 pub make_room-requires : goal.make_room-requires
 make_room-requires g c =
     let s = c.self.inside in
-    let written : indices_written (list_of s.cells.journal) c.args.edit ≡ indices_in c.touched_indices-touched.result = sym (c.touched_indices-touched.ensures (list_of s.cells.journal) (sym c.self.invariant.agrees.size ∙ sym c.size.ensures.value)) in
-    written_inside s.cells c.args.edit (indices_in c.touched_indices-touched.result) c.self.invariant.limits (rw (← c.self.view_is) at c.requires) written
+    let written : indices_written (list_of s.history.journal) c.args.edit ≡ indices_in c.touched_indices-touched.result = sym (c.touched_indices-touched.ensures (list_of s.history.journal) (sym c.self.invariant.agrees.size ∙ sym c.size.ensures.value)) in
+    written_inside s.history c.args.edit (indices_in c.touched_indices-touched.result) c.self.invariant.limits (rw (← c.self.view_is) at c.requires) written
 
 pub invariant_of-self : goal.invariant_of-self
 invariant_of-self g c = live_alike _ _ _ _ c.self.invariant c.make_room.ensures.table c.make_room.ensures.claims
@@ -25,17 +25,17 @@ invariant_of-self-in_err-receipt g c =
 pub follow-requires-clause-size : goal.follow-requires-clause-size
 follow-requires-clause-size g c =
     let s = c.self.inside in
-    let free : verdict_of s.cells.limits s.cells.journal c.args.edit ≡ None = rw (← c.self.view_is) at c.requires in
-    let written : indices_written (list_of s.cells.journal) c.args.edit ≡ indices_in c.touched_indices-touched.result = sym (c.touched_indices-touched.ensures (list_of s.cells.journal) (sym c.self.invariant.agrees.size ∙ sym c.size.ensures.value)) in
-    let room : length (list_of s.cells.journal) ≤ 8 * blocks_in c.make_room.new.table = omega (arith, c.self.invariant.agrees.size, c.size.ensures.value, c.size.ensures.room, c.make_room.ensures.more) in
-    let fits = room_accepted s.cells c.make.new.self c.args.edit (indices_in c.touched_indices-touched.result) (blocks_in c.make_room.new.table) c.self.invariant.limits free c.in_ok-receipt.ensures.answer.journal written room c.in_ok-make_room.ensures.rows in
+    let free : verdict_of s.history.limits s.history.journal c.args.edit ≡ None = rw (← c.self.view_is) at c.requires in
+    let written : indices_written (list_of s.history.journal) c.args.edit ≡ indices_in c.touched_indices-touched.result = sym (c.touched_indices-touched.ensures (list_of s.history.journal) (sym c.self.invariant.agrees.size ∙ sym c.size.ensures.value)) in
+    let room : length (list_of s.history.journal) ≤ 8 * blocks_in c.make_room.new.table = omega (arith, c.self.invariant.agrees.size, c.size.ensures.value, c.size.ensures.room, c.make_room.ensures.more) in
+    let fits = room_accepted s.history c.make.new.self c.args.edit (indices_in c.touched_indices-touched.result) (blocks_in c.make_room.new.table) c.self.invariant.limits free c.in_ok-receipt.ensures.answer.journal written room c.in_ok-make_room.ensures.rows in
     omega (arith, fits, c.size-2.ensures.value)
 
 pub invariant_of-self-2 : goal.invariant_of-self-2
 invariant_of-self-2 g c =
     let s = c.self.inside in
-    let free : verdict_of s.cells.limits s.cells.journal c.args.edit ≡ None = rw (← c.self.view_is) at c.requires in
-    let written : indices_written (list_of s.cells.journal) c.args.edit ≡ indices_in c.touched_indices-touched.result = sym (c.touched_indices-touched.ensures (list_of s.cells.journal) (sym c.self.invariant.agrees.size ∙ sym c.size.ensures.value)) in
+    let free : verdict_of s.history.limits s.history.journal c.args.edit ≡ None = rw (← c.self.view_is) at c.requires in
+    let written : indices_written (list_of s.history.journal) c.args.edit ≡ indices_in c.touched_indices-touched.result = sym (c.touched_indices-touched.ensures (list_of s.history.journal) (sym c.self.invariant.agrees.size ∙ sym c.size.ensures.value)) in
     let grown = live_alike _ _ _ _ c.self.invariant c.make_room.ensures.table c.make_room.ensures.claims in
     live_after_edit _ _ c.args.edit c.make.new.self _ _ (indices_in c.touched_indices-touched.result) grown free c.in_ok-receipt.ensures.answer.journal c.in_ok-receipt.ensures.limits written c.in_ok-make_room.ensures.claim_rows
     (rw (← c.edit.ensures.value) (rw (← c.size-2.ensures.value) c.follow.ensures.table)) c.follow.ensures.claims

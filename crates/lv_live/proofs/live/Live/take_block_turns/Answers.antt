@@ -12,4 +12,4 @@ returns-clause-turns g c =
 
 pub returns-clause-remembers : goal.returns-clause-remembers
 returns-clause-remembers g c =
-    rw (← c.self.view_is) (each_taken (g.B.Body.operations (g.B.Body.meaning c.self.inside.body)) record { body = c.self.inside.body; history = c.self.inside.cells; table = c.self.inside.table; claims = c.self.inside.claims } c.refresh_blocks.new.table c.refresh_blocks.new.self c.refresh_blocks.result c.self.invariant.agrees c.refresh_blocks.ensures.refreshed).remembers
+    rw (← c.self.view_is) (each_taken (g.B.Body.operations (g.B.Body.meaning c.self.inside.body)) record { body = c.self.inside.body; history = c.self.inside.history; table = c.self.inside.table; claims = c.self.inside.claims } c.refresh_blocks.new.table c.refresh_blocks.new.self c.refresh_blocks.result c.self.invariant.agrees c.refresh_blocks.ensures.refreshed).remembers

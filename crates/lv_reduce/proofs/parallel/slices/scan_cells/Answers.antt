@@ -10,7 +10,7 @@ pub scan_into-sum-requires-clause-can : goal.scan_into-sum-requires-clause-can
 scan_into-sum-requires-clause-can g c κs within =
     let meaning = g.B.Body.meaning c.args.body.now in
     let o = g.B.Body.operations meaning in
-    let xs = list_of c.args.cells.now.journal in
+    let xs = list_of c.args.history.now.journal in
     let at = c.loop-at.at in
     let kept = c.loop-at.invariant in
     let so_far = slice_went_on o xs c.requires.before.0 c.args.lo at c.requires.before.1 kept.low c.args.before c.loop-at.sum c.requires.before.2 kept.sum in
@@ -19,7 +19,7 @@ scan_into-sum-requires-clause-can g c κs within =
 pub loop-at-preserved : goal.loop-at-preserved
 loop-at-preserved g c =
     let o = g.B.Body.operations (g.B.Body.meaning c.args.body.now) in
-    let xs = list_of c.args.cells.now.journal in
+    let xs = list_of c.args.history.now.journal in
     let lo = c.args.lo in
     let at = c.loop-at.at in
     let run = c.run_at-run.result.now in
@@ -40,7 +40,7 @@ loop-at-preserved g c =
 pub returns : goal.returns
 returns g c =
     let o = g.B.Body.operations (g.B.Body.meaning c.args.body.now) in
-    let journal = c.args.cells.now.journal in
+    let journal = c.args.history.now.journal in
     let hi = c.args.lo + length c.args.values.now in
     let kept = c.loop-at.invariant in
     let all : c.loop-at.at ≡ hi = omega (arith, kept.high, c.loop-at-test.false) in

@@ -10,8 +10,8 @@ invariant-loop-at g l =
     record {
       low : l.lo ≤ l.at;
       high : l.at ≤ l.hi;
-      values : take (l.at - l.lo) l.values ≡ scan_from l.inclusive o l.fn.before (slice_of l.cells.journal l.lo l.at);
-      sum : l.sum ≡ reached o l.fn.before (slice_of l.cells.journal l.lo l.at);
+      values : take (l.at - l.lo) l.values ≡ scan_from l.inclusive o l.fn.before (slice_of l.history.journal l.lo l.at);
+      sum : l.sum ≡ reached o l.fn.before (slice_of l.history.journal l.lo l.at);
       len : length l.values ≡ length l.initial.values;
     }
 

@@ -10,8 +10,8 @@ invariant-loop-at g l =
     record {
       low : l.lo ≤ l.at;
       high : l.at ≤ l.hi;
-      values : l.values.items ≡ scan_of l.inclusive o (slice_of l.cells.journal l.lo l.at);
-      sum : l.sum ≡ fold_of o (slice_of l.cells.journal l.lo l.at);
+      values : l.values.items ≡ scan_of l.inclusive o (slice_of l.history.journal l.lo l.at);
+      sum : l.sum ≡ fold_of o (slice_of l.history.journal l.lo l.at);
       count : vec_len l.values ≡ l.at - l.lo;
       capacity : vec_capacity l.values ≡ vec_capacity l.initial.values;
     }

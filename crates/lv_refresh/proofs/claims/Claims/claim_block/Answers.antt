@@ -1,7 +1,7 @@
 use Rattle.std.proofs.Common.{◌≡◌, ℕ, ◌<◌, ◌≤◌, true, get_or, nat_le, nat_lt, refl, sym, ◌∙◌}
 use Rattle.std.proofs.lemmas.Bool.{leb-true, ltb-true}
 use Rattle.lv_geometry.proofs.NodeLaws.{at_each_level}
-use Rattle.lv_refresh.specs.Claimed.{version_of}
+use Rattle.lv_refresh.specs.ClaimTable.{version_of}
 use Rattle.lv_refresh.specs.Inner.{claims_of, node_at}
 use Rattle.lv_refresh.proofs.PickLaws.{row_of_wanted}
 use Rattle.lv_refresh.proofs.SweepLaws.{Picks-block, wants_by_row}

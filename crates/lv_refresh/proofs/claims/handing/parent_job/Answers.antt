@@ -5,7 +5,7 @@ use Rattle.lv_refresh.proofs.claims.handing.parent_job.Goals as goal
 
 pub new-requires-clause-contents : goal.new-requires-clause-contents
 new-requires-clause-contents g c κs within =
-    can_fold_gathered _ c.args.cells.now.journal c.args.table.now c.requires.agrees record { levels = [] } _ (g.B.Body.laws c.args.body) c.args.cells.now refl c.size-size.ensures.limits c.args.node (Children c.in_ok-summaries.summaries)
+    can_fold_gathered _ c.args.history.now.journal c.args.table.now c.requires.agrees record { levels = [] } _ (g.B.Body.laws c.args.body) c.args.history.now refl c.size-size.ensures.limits c.args.node (Children c.in_ok-summaries.summaries)
     c.requires.whole (c.requires.above, c.in_ok-summaries.ensures.some)
 
 pub children_of-requires : goal.children_of-requires

@@ -1,4 +1,4 @@
--- Proof of `Standing::accept`: takes an outcome in: it is stale, or held already, or its summary is installed.
+-- Proof of `Standing::accept`: delivers an outcome: it is stale, or held already, or its summary is installed.
 use Rattle.lv_standing.proofs.standing.Standing.accept.Goals as goal
 
 pub accept-requires-after_bounds : goal.accept-requires-after_bounds

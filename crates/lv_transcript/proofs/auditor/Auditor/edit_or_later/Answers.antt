@@ -14,4 +14,4 @@ returns-in-Some c =
 pub returns-in-None : goal.returns-in-None
 returns-in-None c =
     let self = c.args.self.now in
-    Becomes-no_edit c.args.number (state_of self.stage self.edits self.replay.edit) _ c.args.line.now c.in-None.ensures.edit c.claim_or_last.ensures
+    Becomes-no_edit c.args.number (state_of self.stage self.edits self.replay.edit) _ c.args.line.now c.in-None.ensures.edit c.answer_or_last.ensures
