@@ -1,3 +1,4 @@
+-- Names the files of lemmas of `alerts`.
 mod Beginnings
 mod CountingLaws
 mod TellingLaws

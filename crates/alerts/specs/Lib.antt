@@ -1,2 +1,3 @@
+-- Names the files of definitions of `alerts`.
 pub mod Alerts
 pub mod Followed

@@ -1,3 +1,4 @@
+-- Names the files of lemmas of `livevec_c`.
 pub mod AsBox
 pub mod ColumnAnswers
 pub mod ColumnFolds

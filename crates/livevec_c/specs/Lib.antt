@@ -1,3 +1,4 @@
+-- Names the files of definitions of `livevec_c`.
 pub mod Only
 pub mod Owned
 pub mod Answers

@@ -1,3 +1,4 @@
+//! Closed boards: what the vector was, and its elements.
 ghost use Rattle.std.specs.Prelude.{◌≡◌, length};
 ghost use Rattle.livevec_c.specs.Answers.{element_in};
 

@@ -1,3 +1,4 @@
+-- Names the files of lemmas of `lv_bodies`.
 pub mod Entries
 pub mod PairFolds
 pub mod RunSums

@@ -1,3 +1,4 @@
+-- Names the files of definitions of `lv_bodies`.
 pub mod Automata
 pub mod BestLaws
 pub mod Body

@@ -1,3 +1,4 @@
+//! The affine body: the map that the elements are in turn, modulo 2^32.
 ghost use Rattle.std.specs.Prelude.{◌≡◌};
 
 use crate::bodies::Body;

@@ -1,3 +1,4 @@
+//! The automaton: where eight states lead by the elements in turn.
 ghost use Rattle.std.specs.Prelude.{◌≡◌, ◌↔◌, ℕ, ◌+◌, ◌*◌, ◌%◌, ◌<◌, ◌≤◌, IsTrue, IsOk, IfOk, IsErrOf, nat_lt, List, length, map, slice_index, All, Any};
 ghost use Rattle.std.specs.List.{list_all};
 ghost use Rattle.lv_bodies.specs.Tables.{is_table, has_states, join_state_maps};

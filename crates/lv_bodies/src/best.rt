@@ -1,3 +1,4 @@
+//! The best run: the greatest total of neighbours, of which there is at least one.
 ghost use Rattle.std.specs.Prelude.{◌≡◌};
 
 use crate::bodies::Body;

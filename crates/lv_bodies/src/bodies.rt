@@ -1,3 +1,4 @@
+//! Bodies: what a reduction computes, and the laws that each proves.
 ghost use Rattle.std.specs.Prelude.{◌≡◌, ◌↔◌, ℕ, ℤ, IsTrue};
 ghost use Rattle.lv_bodies.specs.Body.{Operations, BodyLaws, CanJoin, JoinsEndToEnd};
 ghost use Rattle.lv_bodies.specs.FoldLaws.{fold_of-append};

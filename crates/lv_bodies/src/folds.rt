@@ -1,3 +1,4 @@
+//! The left fold of a slice by a body.
 ghost use Rattle.std.specs.Prelude.{◌≡◌, ◌+◌, ◌^◌, ◌≤◌, ℕ, ℤ, length, All};
 ghost use Rattle.lv_geometry.specs.Elements.{IsElement};
 ghost use Rattle.lv_bodies.specs.Body.{fold_of, CanGrow};

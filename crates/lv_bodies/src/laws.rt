@@ -1,3 +1,4 @@
+//! What holds of the plain values and of the bodies' folds, each as a function of no effect that promises it.
 ghost use Rattle.std.specs.Prelude.{◌≡◌, ℤ, List};
 ghost use Rattle.lv_bodies.specs.Body.{fold_of};
 ghost use Rattle.lv_bodies.specs.Parts.{HasParts};

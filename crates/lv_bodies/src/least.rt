@@ -1,3 +1,4 @@
+//! The least element, as a body.
 use crate::bodies::Body;
 use crate::kinds::{Kind, Shown};
 use crate::parts::{Parted, low_bits};

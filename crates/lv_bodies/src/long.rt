@@ -1,3 +1,4 @@
+//! Bodies whose summaries may be those of up to 2^62 elements.
 ghost use Rattle.std.specs.Prelude.{◌≡◌};
 ghost use Rattle.lv_bodies.specs.Long.{CanJoinLong, LongLaws};
 

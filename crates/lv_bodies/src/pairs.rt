@@ -1,3 +1,4 @@
+//! Two bodies side by side, as one.
 use crate::bodies::Body;
 use std::alloc::AllocError;
 

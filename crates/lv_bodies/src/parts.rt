@@ -1,3 +1,4 @@
+//! Bodies whose summary of a block goes into at most four numbers of 32 bits.
 ghost use Rattle.std.specs.Prelude.{◌≡◌, ℕ, ◌≤◌, List};
 ghost use Rattle.lv_bodies.specs.Parts.{AreParts, HasParts, low_32, widened};
 

@@ -1,3 +1,4 @@
+//! Bodies of one kind, whose summaries can be shown.
 ghost use Rattle.std.specs.Prelude.{◌≡◌, ℤ, List};
 ghost use Rattle.lv_bodies.specs.Body.{fold_of, CanFold};
 

@@ -1,3 +1,4 @@
+//! All six bodies as one: with the program's automaton, or with any.
 ghost use Rattle.std.specs.Prelude.{◌≡◌, ℕ, ℤ, List};
 ghost use Rattle.lv_bodies.specs.Automata.{table_of};
 ghost use Rattle.lv_bodies.specs.Body.{CanFold, fold_of};

@@ -1,3 +1,4 @@
+//! The sum modulo 2^64, as a body.
 ghost use Rattle.std.specs.Prelude.{◌≡◌, ◌↔◌, ℕ, ℤ, IsTrue};
 
 use crate::bodies::Body;

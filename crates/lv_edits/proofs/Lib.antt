@@ -1,3 +1,4 @@
+-- Names the files of lemmas of `lv_edits`.
 pub mod BatchLaws
 pub mod CapacityLaws
 pub mod HistoryLaws

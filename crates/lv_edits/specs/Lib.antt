@@ -1,3 +1,4 @@
+-- Names the files of definitions of `lv_edits`.
 pub mod Batches
 pub mod Capacity
 pub mod History

@@ -1,3 +1,4 @@
+//! A vector with the journal of its edits: verdicts, receipts, and what is read of it.
 ghost use Rattle.std.specs.Prelude.{◌≡◌, ℤ, ◌+◌, ◌*◌, ◌<◌, ◌≤◌, None, List, [], length, take, drop};
 ghost use Rattle.std.specs.List.{slice_index_or, slice_range};
 ghost use Rattle.lv_edits.specs.Batches.{AnswersEdits, verdict_of_edits, writes_at};

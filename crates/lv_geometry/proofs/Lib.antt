@@ -1,3 +1,4 @@
+-- Names the files of lemmas of `lv_geometry`.
 pub mod Capacities
 pub mod HighestBits
 pub mod LevelLaws

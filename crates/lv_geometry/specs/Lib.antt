@@ -1,3 +1,4 @@
+-- Names the files of definitions of `lv_geometry`.
 pub mod Bounds
 pub mod Cells
 pub mod Elements

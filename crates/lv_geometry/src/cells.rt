@@ -1,3 +1,4 @@
+//! Where an index lies in the buckets, and how many cells so many buckets hold.
 ghost use Rattle.std.specs.Prelude.{◌≡◌, ◌+◌, ◌*◌, ◌^◌, ◌<◌, ◌≤◌};
 ghost use Rattle.lv_geometry.specs.Cells.{capacity_of, index_of, IsCell, IsPlaceOf, AreFewest};
 

@@ -1,3 +1,4 @@
+//! The limits of one vector: of its buckets and of its edits.
 ghost use Rattle.std.specs.Prelude.{◌≡◌, ◌≤◌, ◌↔◌, IsOk, IfOk, IfErr};
 ghost use Rattle.lv_geometry.specs.Cells.{capacity_of};
 ghost use Rattle.lv_geometry.specs.Bounds.{AreAllowed};

@@ -1,3 +1,4 @@
+//! Nodes: the indices that one summary stands for, and the block of an index.
 ghost use Rattle.std.specs.Prelude.{◌≡◌, ◌+◌, ◌*◌, ◌/◌, ◌^◌, ◌<◌, ◌≤◌, ◌&&◌};
 ghost use Rattle.std.specs.Int.{div_ceil};
 ghost use Rattle.lv_geometry.specs.Nodes.{child, first_index, is_below, is_node, over, parent};

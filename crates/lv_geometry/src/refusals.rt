@@ -1,3 +1,4 @@
+//! Refusals: why a call is refused, its number and its text.
 ghost use Rattle.std.specs.Prelude.{◌≡◌};
 
 use std::error::Error;

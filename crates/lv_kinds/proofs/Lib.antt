@@ -1,3 +1,4 @@
+-- Names the files of lemmas of `lv_kinds`.
 pub mod AnswerLaws
 mod AskByLaws
 mod BitLaws

@@ -1,3 +1,4 @@
+-- Names the files of definitions of `lv_kinds`.
 pub mod Asked
 pub mod Inner
 pub mod KindSummaries

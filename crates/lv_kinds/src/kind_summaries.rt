@@ -1,3 +1,4 @@
+//! Summaries by one kind, of whichever kind it is.
 ghost use Rattle.std.specs.Prelude.{◌≡◌, ℤ, List, [], ◌∷◌, ◌++◌};
 ghost use Rattle.lv_bodies.specs.Body.{CanFold};
 ghost use Rattle.lv_kinds.specs.KindSummaries.{kind_of, part_of, shown_of, summary_of};

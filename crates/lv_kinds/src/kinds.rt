@@ -1,3 +1,4 @@
+//! What a vector keeps of what it was asked, a row a kind.
 ghost use Rattle.std.specs.Prelude.{◌≡◌, ℕ, ℤ, ◌+◌, ◌≤◌, ◌++◌, ◌∷◌, [], true, false, Some, None, List, length, IfErr, IfOk, OnErr, OnOk};
 ghost use Rattle.std.specs.List.{list_any, range_with_len};
 ghost use Rattle.lv_geometry.specs.Nodes.{covers, is_node};

@@ -1,3 +1,4 @@
+//! Rows with a value for each node, level by level.
 ghost use Rattle.std.specs.Prelude.{◌≡◌, ◌⊎◌, ℕ, drop, length, IfSome, ◌+◌, ◌-◌, ◌*◌, ◌^◌, ◌<◌, ◌≤◌, ◌++◌, true, nat_eq, replicate, OnOk, IfErr, vec_capacity, vec_len, if◌then◌else◌};
 ghost use Rattle.std.specs.List.{slice_index_or};
 ghost use Rattle.lv_geometry.specs.Nodes.{child, is_below, is_node};

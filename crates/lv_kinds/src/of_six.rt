@@ -1,3 +1,4 @@
+//! Which part of a summary of all six each kind is.
 ghost use Rattle.std.specs.Prelude.{◌≡◌, ℕ, ℤ, ◌^◌, ◌<◌, List};
 ghost use Rattle.lv_bodies.specs.Body.{fold_of};
 ghost use Rattle.lv_bodies.specs.Six.{six_operations_by};

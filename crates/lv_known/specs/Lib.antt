@@ -1,1 +1,2 @@
+-- Names the files of definitions of `lv_known`.
 pub mod Agrees

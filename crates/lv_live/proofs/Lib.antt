@@ -1,3 +1,4 @@
+-- Names the files of lemmas of `lv_live`.
 pub mod BatchLaws
 pub mod DeliverLaws
 pub mod EditLaws

@@ -1,3 +1,4 @@
+-- Names the files of definitions of `lv_live`.
 pub mod Batches
 pub mod EveryRun
 pub mod Follows

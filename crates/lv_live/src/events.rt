@@ -1,3 +1,4 @@
+//! Events: what a live vector can be told to do.
 use lv_edits::Edit;
 
 /// What may happen to a live vector.

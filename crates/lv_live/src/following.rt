@@ -1,3 +1,4 @@
+//! How the table of summaries and the claims follow an edit: which indices it touches, and rows for their blocks.
 ghost use Rattle.std.specs.Prelude.{◌≡◌, ◌+◌, ◌*◌, ◌/◌, ◌<◌, ◌≤◌, ℤ, List, length, OnOk, OnErr, IfErr};
 ghost use Rattle.lv_edits.specs.Touch.{indices_written};
 ghost use Rattle.lv_summary.specs.Changes.{AnswersAlike, TouchesEach};

@@ -1,3 +1,4 @@
+//! Jobs that were handed out, by their numbers.
 ghost use Rattle.std.specs.Prelude.{◌≡◌, ◌+◌, ◌-◌, ◌<◌, ◌≤◌, None, [], ◌∷◌, ◌++◌, nat_eq, length, option_map, slice_get, OnOk, IfErr, if◌then◌else◌};
 ghost use Rattle.lv_live.specs.State.{job_at, node_and_version};
 

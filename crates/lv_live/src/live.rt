@@ -1,3 +1,4 @@
+//! The live vector: edits, the summaries kept for them, and claims of jobs.
 ghost use Rattle.std.specs.Prelude.{◌≡◌, ℤ, ◌↔◌, ◌+◌, ◌*◌, ◌/◌, ◌<◌, ◌≤◌, IsTrue, None, Some, option_map, List, [], length, IfOk, IfSome, OnOk, OnErr, IfErr, true, false};
 ghost use Rattle.lv_geometry.specs.declared.nodes.Node.{Node};
 ghost use Rattle.lv_edits.specs.Batches.{AnswersEdits, verdict_of_edits, writes_at};

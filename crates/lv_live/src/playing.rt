@@ -1,3 +1,4 @@
+//! Events played in turn, with the reply to each.
 ghost use Rattle.std.specs.Prelude.{◌≡◌, ◌+◌, ◌≤◌, ◌<◌, [], ◌∷◌, ◌++◌, List, length, vec_capacity, vec_len};
 ghost use Rattle.lv_refresh.specs.Carried.{Carried};
 ghost use Rattle.lv_live.specs.Kept.{IsWorld};

@@ -1,3 +1,4 @@
+//! Replies to events.
 use lv_edits::Receipt;
 use lv_geometry::{Node, Refusal};
 use lv_reduce::{Answer, Scan};

@@ -1,3 +1,4 @@
+//! The live-fold theorem and its company, each as a function of no effect that promises it.
 ghost use Rattle.std.specs.Prelude.{◌≡◌, ℕ, List, ◌++◌, length};
 ghost use Rattle.lv_geometry.specs.Bounds.{Bounds};
 ghost use Rattle.lv_geometry.specs.declared.nodes.Node.{Node};

@@ -1,3 +1,4 @@
+//! Whether contents are what stands at a node now.
 ghost use Rattle.std.specs.Prelude.{◌≡◌, ◌↔◌, ◌<◌, IsTrue, true, length};
 ghost use Rattle.lv_geometry.specs.Nodes.{is_below};
 ghost use Rattle.lv_edits.specs.History.{list_of};

@@ -1,3 +1,4 @@
+//! A live vector with every job that it handed out.
 ghost use Rattle.std.specs.Prelude.{◌≡◌, ◌+◌, ◌≤◌, None, [], length, IfOk, IfErr, OnErr};
 ghost use Rattle.lv_geometry.specs.declared.nodes.Node.{Node};
 ghost use Rattle.lv_live.specs.State.{SameSetting, world_record};

@@ -1,3 +1,4 @@
+-- Names the files of lemmas of `lv_reduce`.
 pub mod AskLaws
 mod BlockWalks
 mod Bounds

@@ -1,3 +1,4 @@
+-- Names the files of definitions of `lv_reduce`.
 pub mod Answer
 pub mod Asked
 pub mod Cost

@@ -1,3 +1,4 @@
+//! A reduction that keeps what it computes.
 ghost use Rattle.std.specs.Prelude.{◌≡◌, ◌+◌, ◌*◌, ◌≤◌, true, false, length, IfOk, IfErr, OnErr};
 ghost use Rattle.lv_edits.specs.History.{list_of};
 ghost use Rattle.lv_known.specs.Agrees.{Agrees};

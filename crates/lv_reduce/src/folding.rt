@@ -1,3 +1,4 @@
+//! The fold of a range by any body, from the elements alone.
 ghost use Rattle.std.specs.Prelude.{◌≡◌, Some, IfOk, IfErr};
 ghost use Rattle.lv_reduce.specs.Answer.{IsAnswerPair, range_refusal};
 

@@ -1,3 +1,4 @@
+//! Reductions and scans by as many threads as pay.
 ghost use Rattle.std.specs.Prelude.{◌≡◌, ◌^◌, ◌≤◌, length, IfOk, IfErr};
 ghost use Rattle.lv_bodies.specs.Scan.{exclusive_scan, inclusive_scan};
 ghost use Rattle.lv_edits.specs.History.{list_of};

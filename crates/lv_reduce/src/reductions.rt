@@ -1,3 +1,4 @@
+//! A reduction: from fresh summaries, and from cells where there are none.
 ghost use Rattle.std.specs.Prelude.{◌≡◌, ⊤, ◌+◌, ◌-◌, ◌*◌, ◌/◌, ◌%◌, ◌^◌, ◌<◌, ◌≤◌, ℕ, length, true, false, IfOk, IfErr, IfSome, IfNone};
 ghost use Rattle.lv_bodies.specs.Body.{CanJoin};
 ghost use Rattle.lv_known.specs.Agrees.{Agrees};

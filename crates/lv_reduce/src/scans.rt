@@ -1,3 +1,4 @@
+//! Both scans of a range, by one thread.
 ghost use Rattle.std.specs.Prelude.{◌≡◌, ◌+◌, ◌<◌, ◌≤◌, [], ◌∷◌, ◌++◌, length, vec_len, vec_capacity, IfOk, IfErr, if◌then◌else◌};
 ghost use Rattle.lv_bodies.specs.Scan.{exclusive_scan, inclusive_scan};
 ghost use Rattle.lv_reduce.specs.Answer.{IsScan, IsScanRefusal, scan_of, slice_of};

@@ -1,3 +1,4 @@
+//! Elements of a range that were copied out, to be scanned while the vector is edited.
 ghost use Rattle.std.specs.Prelude.{◌≡◌, IfOk, IfErr};
 ghost use Rattle.lv_reduce.specs.Answer.{IsScanRefusal, scan_of};
 ghost use Rattle.lv_reduce.specs.Stretch.{IsStretch};

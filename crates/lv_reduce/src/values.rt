@@ -1,3 +1,4 @@
+//! The values of a scan.
 ghost use Rattle.std.specs.Prelude.{◌≡◌, ◌==◌, length};
 
 use std::marker::Model;

@@ -1,3 +1,4 @@
+//! What a query reads, which ranges it refuses, and runs of elements where they lie.
 ghost use Rattle.std.specs.Prelude.{◌≡◌, ⊤, ◌+◌, ◌<◌, ◌≤◌, length, IfNone};
 ghost use Rattle.std.specs.List.{slice_range};
 ghost use Rattle.lv_edits.specs.History.{list_of};

@@ -1,3 +1,4 @@
+-- Names the files of lemmas of `lv_refresh`.
 mod ClaimLaws
 mod ComputeLaws
 mod GatherLaws

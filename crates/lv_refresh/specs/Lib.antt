@@ -1,3 +1,4 @@
+-- Names the files of definitions of `lv_refresh`.
 pub mod Carried
 pub mod Claim
 pub mod ClaimTable

@@ -1,3 +1,4 @@
+//! Claims: which nodes are claimed, hints at those that may want a job, and the next job.
 ghost use Rattle.std.specs.Prelude.{◌≡◌, ℕ, ◌*◌, ◌/◌, ◌<◌, ◌≤◌, ◌&&◌, ◌||◌, true, false, None, Some, option_map, IfSome, IfNone, OnOk, OnErr, IfErr, if◌then◌else◌};
 ghost use Rattle.lv_geometry.specs.Levels.{thing_at};
 ghost use Rattle.lv_geometry.specs.Nodes.{is_below, is_node, over, parent, same_node};

@@ -1,3 +1,4 @@
+//! Summaries that are computed where the elements lie.
 ghost use Rattle.std.specs.Prelude.{◌≡◌, ℕ, ◌+◌, ◌*◌, ◌/◌, ◌<◌, length, true, slice_get, slice_range};
 ghost use Rattle.lv_geometry.specs.Nodes.{child, is_below, parent};
 ghost use Rattle.lv_bodies.specs.Body.{fold_of};

@@ -1,3 +1,4 @@
+//! What a node's summary is computed from: eight elements, or eight summaries.
 use std::alloc::AllocError;
 
 /// Eight values, in order.

@@ -1,3 +1,4 @@
+//! The summaries of a node's children, where all eight are fresh.
 ghost use Rattle.std.specs.Prelude.{◌≡◌, ℕ, ◌<◌, ◌≤◌, true, false, slice_get, IfSome, IfNone};
 ghost use Rattle.lv_geometry.specs.Nodes.{child};
 ghost use Rattle.lv_summary.specs.Table.{entry_in, whole_in};

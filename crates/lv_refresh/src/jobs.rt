@@ -1,3 +1,4 @@
+//! Jobs: a node's contents, to be folded anywhere.
 ghost use Rattle.std.specs.Prelude.{◌≡◌, true};
 ghost use Rattle.lv_geometry.specs.Nodes.{is_node};
 ghost use Rattle.lv_refresh.specs.Contents.{CanFoldContents};

@@ -1,3 +1,4 @@
+//! The claims and hints of one level.
 ghost use Rattle.std.specs.Prelude.{◌≡◌, ◌+◌, ◌-◌, ◌*◌, ◌^◌, ◌<◌, ◌≤◌, length, nat_eq, slice_index, IfSome, IfNone, OnOk, IfErr, ℕ, false};
 ghost use Rattle.lv_refresh.specs.ClaimTable.{no_claims, version_of};
 ghost use Rattle.lv_refresh.specs.Inner.{FillsClaims, ForgetsClaims, HintsAt, IsFirstHint, UnhintsAt, UnhintsWord, with_claim};

@@ -1,3 +1,4 @@
+//! Outcomes: what jobs came to.
 ghost use Rattle.std.specs.Prelude.{◌≡◌, true};
 ghost use Rattle.lv_geometry.specs.Nodes.{is_node};
 ghost use Rattle.lv_refresh.specs.Contents.{CanFoldContents, fold_of_contents};

@@ -1,3 +1,4 @@
+//! Whether a node wants a job.
 ghost use Rattle.std.specs.Prelude.{◌≡◌, ◌*◌, ◌^◌, ◌≤◌, length, true, false, slice_index, IfSome, IfNone};
 ghost use Rattle.lv_summary.specs.Table.{touched_in};
 ghost use Rattle.lv_refresh.specs.ClaimTable.{version_of};

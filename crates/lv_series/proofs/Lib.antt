@@ -1,3 +1,4 @@
+-- Names the files of lemmas of `lv_series`.
 pub mod ChainCalls
 pub mod ChainCuts
 pub mod ChainFolds

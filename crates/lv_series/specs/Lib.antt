@@ -1,3 +1,4 @@
+-- Names the files of definitions of `lv_series`.
 pub mod Chain
 pub mod Numbers
 pub mod Plain

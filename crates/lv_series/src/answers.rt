@@ -1,3 +1,4 @@
+//! Answers of a series.
 ghost use Rattle.std.specs.Prelude.{◌≡◌, ⊤};
 
 use std::alloc::AllocError;

@@ -1,3 +1,4 @@
+//! Elements in shards side by side, with the folds of the full ones.
 ghost use Rattle.std.specs.Prelude.{◌≡◌, ◌+◌, ◌-◌, ◌*◌, ◌/◌, ◌^◌, ◌<◌, ◌≤◌, pos, [], ◌∷◌, ◌++◌, length, take, drop, slice_set, OnOk, OnErr, All};
 ghost use Rattle.std.specs.List.{slice_index_or, swap};
 ghost use Rattle.lv_geometry.specs.Elements.{IsElement};

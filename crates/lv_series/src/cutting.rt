@@ -1,3 +1,4 @@
+//! Shards and folds that are dropped, at the front or at the end.
 ghost use Rattle.std.specs.Prelude.{◌≡◌, ◌+◌, ◌<◌, ◌≤◌, [], ◌∷◌, ◌++◌, length, take, drop, OnOk, OnErr};
 ghost use Rattle.std.specs.List.{slice_index_or};
 ghost use Rattle.lv_series.specs.Shard.{Holding};

@@ -1,3 +1,4 @@
+//! The fold of a range from the folds of shards.
 ghost use Rattle.std.specs.Prelude.{◌≡◌, ◌+◌, ◌^◌, ◌<◌, ◌≤◌, ℤ, List, ◌++◌, length};
 ghost use Rattle.std.specs.List.{slice_index_or, slice_range};
 ghost use Rattle.lv_bodies.specs.Body.{fold_of};

@@ -1,3 +1,4 @@
+//! Where an element of a chain stands: in which shard, at which index.
 ghost use Rattle.std.specs.Prelude.{◌≡◌, ◌+◌, ◌*◌, ◌<◌, ◌≤◌};
 
 /// How many elements a full shard holds.

@@ -1,3 +1,4 @@
+//! A shard's vector that is made anew before it has taken all edits that it may.
 ghost use Rattle.std.specs.Prelude.{◌≡◌, ◌+◌, ◌<◌, ◌≤◌, None, Some, [], ◌∷◌, ◌++◌, length, IfOk, OnOk, OnErr};
 ghost use Rattle.lv_edits.specs.History.{applied, list_of};
 ghost use Rattle.lv_edits.specs.Verdict.{refused_on};

@@ -1,3 +1,4 @@
+//! A full last shard goes among the full ones.
 ghost use Rattle.std.specs.Prelude.{◌≡◌, ◌+◌, ◌^◌, ◌<◌, length, [], ◌∷◌, ◌++◌, IfOk, OnOk, OnErr};
 ghost use Rattle.lv_series.specs.Chain.{sum_of};
 ghost use Rattle.lv_sums.specs.Sums.{AreFolds};

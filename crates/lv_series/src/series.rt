@@ -1,3 +1,4 @@
+//! The series: a vector that goes on, and whose front may be dropped.
 ghost use Rattle.std.specs.Prelude.{◌≡◌, ◌+◌, ◌/◌, ◌^◌, ◌≤◌, [], length, All, true};
 ghost use Rattle.lv_geometry.specs.Elements.{IsElement};
 ghost use Rattle.lv_series.specs.Plain.{plain_series};

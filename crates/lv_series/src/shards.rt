@@ -1,3 +1,4 @@
+//! A shard: at most 32,760 elements in a live vector of their own.
 ghost use Rattle.std.specs.Prelude.{◌≡◌, ◌+◌, ◌-◌, ◌<◌, ◌≤◌, pos, [], ◌∷◌, ◌++◌, length, take, slice_set, IfOk, OnOk, OnErr, All};
 ghost use Rattle.std.specs.List.{slice_index_or, slice_range, swap};
 ghost use Rattle.lv_geometry.specs.Elements.{IsElement};

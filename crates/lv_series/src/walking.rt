@@ -1,3 +1,4 @@
+//! The shard of a number.
 ghost use Rattle.std.specs.Prelude.{◌≡◌};
 ghost use Rattle.std.specs.List.{slice_index_or};
 

@@ -1,3 +1,4 @@
+-- Names the files of lemmas of `lv_series_script`.
 mod Finding
 mod KnownLaws
 mod LongShown

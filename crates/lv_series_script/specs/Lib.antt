@@ -1,3 +1,4 @@
+-- Names the files of definitions of `lv_series_script`.
 pub mod Inside
 pub mod LongGrammar
 pub mod LongQueries

@@ -1,3 +1,4 @@
+-- Names the files of lemmas of `lv_shards`.
 pub mod Back
 pub mod Grouping
 pub mod InOrder

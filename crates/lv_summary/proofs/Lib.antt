@@ -1,3 +1,4 @@
+-- Names the files of lemmas of `lv_summary`.
 mod Changes
 mod ChildLaws
 mod LateLaws

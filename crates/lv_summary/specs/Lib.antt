@@ -1,3 +1,4 @@
+-- Names the files of definitions of `lv_summary`.
 pub mod Changes
 pub mod Inner
 pub mod Table

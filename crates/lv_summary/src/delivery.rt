@@ -1,3 +1,4 @@
+//! What becomes of a summary that is delivered, and whether nodes are whole and fresh.
 ghost use Rattle.std.specs.Prelude.{◌≡◌, ◌≤◌, true, false, IfSome, IfNone};
 ghost use Rattle.lv_geometry.specs.Nodes.{is_node};
 ghost use Rattle.lv_summary.specs.Inner.{IsLevelOf, IsRowOf, IsSound, table_of};

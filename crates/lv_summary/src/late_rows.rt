@@ -1,3 +1,4 @@
+//! Rows that cost addresses alone until they are written.
 ghost use Rattle.std.specs.Prelude.{◌≡◌, ◌+◌, ◌<◌, ◌≤◌, [], length, replicate, true, slice_get, slice_set, Some, IfSome, vec_capacity};
 ghost use Rattle.lv_summary.specs.Inner.{AreEight, lengthened};
 

@@ -1,3 +1,4 @@
+//! The rows of one level: which edit touched a node, and what is kept for it.
 ghost use Rattle.std.specs.Prelude.{◌≡◌, ℕ, ◌+◌, ◌-◌, ◌<◌, ◌≤◌, ◌++◌, ◌==◌, ◌||◌, length, replicate, true, false, slice_index, slice_get, Some, OnOk, IfErr, IfSome, IfNone, vec_len, vec_capacity};
 ghost use Rattle.std.specs.List.{list_all, range_with_len};
 ghost use Rattle.lv_summary.specs.Inner.{AreEight, filled, with_kept, with_learnt, with_touch};

@@ -1,3 +1,4 @@
+//! The table of summaries: what is kept for each node.
 ghost use Rattle.std.specs.Prelude.{◌≡◌, ℕ, length, slice_get, ◌/◌, ◌*◌, ◌<◌, ◌≤◌, ◌&&◌, not, true, false, option_map, Some, None, OnOk, OnErr, IfErr, IfSome, IfNone};
 ghost use Rattle.std.specs.List.{list_all, range_with_len};
 ghost use Rattle.lv_geometry.specs.Nodes.{child};

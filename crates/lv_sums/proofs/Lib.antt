@@ -1,3 +1,4 @@
+-- Names the files of lemmas of `lv_sums`.
 pub mod InOrder
 pub mod Keeping
 pub mod LevelLaws

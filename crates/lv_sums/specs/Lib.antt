@@ -1,2 +1,3 @@
+-- Names the files of definitions of `lv_sums`.
 pub mod Levels
 pub mod Sums

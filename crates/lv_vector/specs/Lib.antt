@@ -1,3 +1,4 @@
+-- Names the files of definitions of `lv_vector`.
 pub use Rattle.lv_bodies.specs.Plain
 pub use Rattle.lv_bodies.specs.Sums
 pub use Rattle.lv_bodies.specs.SumLaws

@@ -1,3 +1,4 @@
+-- Names the files of lemmas of `lv_where`.
 pub mod BeginningLaws
 pub mod PlaceLaws
 pub mod SearchLaws

@@ -1,3 +1,4 @@
+-- Names the files of definitions of `lv_where`.
 pub mod Searches
 pub mod Sought
 pub mod Where

@@ -1,2 +1,3 @@
+-- Names the files of lemmas of `shared_samples`.
 mod Histories
 mod Telling

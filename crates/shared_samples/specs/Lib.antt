@@ -1,1 +1,2 @@
+-- Names the files of definitions of `shared_samples`.
 pub mod Reports

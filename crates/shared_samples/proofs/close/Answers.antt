@@ -1,3 +1,4 @@
+-- Proof of `close`: what the board came to when all probes are done, and their reports.
 use Rattle.std.proofs.Common.{sym, subst}
 use Rattle.lv_board.specs.Closing.{AreAll, AreAt}
 use Rattle.shared_samples.specs.declared.probes.TheConstants.{SAMPLES}

@@ -1,3 +1,4 @@
+-- Proof of `total`: the total of a window's readings, modulo 2^64.
 use Rattle.std.proofs.Common.{◌≡◌, ℕ, Result, Ok, Err, IfOk, ◌∙◌}
 use Rattle.lv_vector.specs.Refusal.{Refusal}
 use Rattle.lv_vector.specs.Plain.{plain_sum}

@@ -1,3 +1,4 @@
+-- Proof of `feed`: pushes the readings of a sensor, in order.
 use Rattle.std.proofs.Common.{◌∙◌, arith}
 use Rattle.alerts.proofs.feeding.feed.Goals as goal
 

@@ -1,3 +1,4 @@
+-- Proof of `push`: pushes a reading, and counts it as accepted or as refused.
 use Rattle.std.proofs.Common.{arith}
 use Rattle.alerts.proofs.CountingLaws.{counts_none, counts_one}
 use Rattle.alerts.proofs.feeding.push.Goals as goal

@@ -1,3 +1,4 @@
+-- Proof of `finish`: closes the hub, and lets the subscriber tell its last.
 use Rattle.std.proofs.Common.{◌∙◌}
 use Rattle.alerts.proofs.TellingLaws.{tells_last}
 use Rattle.alerts.proofs.running.finish.Goals as goal

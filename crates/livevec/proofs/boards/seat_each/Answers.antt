@@ -1,3 +1,4 @@
+-- Proof of `seat_each`: gives each session a seat.
 use Rattle.lv_board.specs.Tells.{IsAt}
 use Rattle.livevec.proofs.Seats.{each_popped}
 use Rattle.livevec.proofs.boards.seat_each.Goals as goal

@@ -1,3 +1,4 @@
+-- What the loop keeps in `seat_each`: gives each session a seat.
 use Rattle.std.specs.Prelude.{All}
 use Rattle.lv_board.specs.Tells.{IsAt}
 use Rattle.livevec.proofs.boards.seat_each.Given as goal

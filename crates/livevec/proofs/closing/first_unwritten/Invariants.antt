@@ -1,3 +1,4 @@
+-- What the loop keeps in `first_unwritten`: that all that subscribers were told was written; or else the first whose output failed is the fault.
 use Rattle.std.specs.Prelude.{◌≡◌, All, false, take}
 use Rattle.livevec.proofs.closing.first_unwritten.Given as goal
 

@@ -1,3 +1,4 @@
+-- Proof of `write_in_order`: writes the transcript of a journal, with the reductions in the order of their edits.
 use Rattle.lv_transcript.specs.Joined.{in_a_row, joined}
 use Rattle.livevec.proofs.ServedLaws.{ordered_text, writes_so}
 use Rattle.livevec.proofs.closing.write_in_order.Goals as goal

@@ -1,3 +1,4 @@
+-- Proof of `hold_in_place`: holds them so where they stand.
 use Rattle.livevec.proofs.ServedLaws.{are_held_again}
 use Rattle.livevec.proofs.holding.hold_in_place.Goals as goal
 

@@ -1,3 +1,4 @@
+-- Proof of `end_minutes`: ends minutes, if there are any, by the journal of the hub, and gives their file back.
 use Rattle.livevec.proofs.RecordingLaws.{whole_so}
 use Rattle.livevec.proofs.minuted.end_minutes.Goals as goal
 

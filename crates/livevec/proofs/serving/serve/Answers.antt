@@ -1,3 +1,4 @@
+-- Proof of `serve`: holds a session for each pair of streams, in a thread of its own where one can be made, with workers beside them.
 use Rattle.std.proofs.lemmas.Result.{IfOk-weaker}
 use Rattle.livevec.proofs.PlainServedLaws.{served_plainly}
 use Rattle.livevec.proofs.ServedLaws.{starts_there}

@@ -1,3 +1,4 @@
+-- The ghosts that are handed on in `serve`: holds a session for each pair of streams, in a thread of its own where one can be made, with workers beside them.
 use Rattle.std.proofs.Common.{Some}
 use Rattle.livevec.specs.Starting.{start_of}
 use Rattle.livevec.proofs.serving.serve.Given as goal

@@ -1,3 +1,4 @@
+-- Proof of `serve_all`: serves them on a hub, and gathers what they leave: the reductions in the order of the sessions, and what subscribers were told.
 use Rattle.std.proofs.Common.{◌∙◌, ap, arith, vec_capacity}
 use Rattle.lv_watchers.proofs.WatchedLaws.{all_left, watched_as_many}
 use Rattle.livevec.proofs.BesideLaws.{held_more, taken_as_many}

@@ -1,3 +1,4 @@
+-- Proof of `serve_as`: serves them on a hub of this name.
 use Rattle.std.proofs.Common.{◌∙◌}
 use Rattle.lv_watchers.proofs.WatchedLaws.{served_watched}
 use Rattle.livevec.proofs.RecordingLaws.{passes_all, passes_ill, passes_well}

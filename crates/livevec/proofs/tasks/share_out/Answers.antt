@@ -1,3 +1,4 @@
+-- Proof of `share_out`: gives each session a part of the hub, of which nobody has seen an edit, and puts memory by for it.
 use Rattle.std.proofs.Common.{◌≡◌, ◌∙◌, None, is_ok, true, refl, ap, sym, map, rules, arith}
 use Rattle.std.proofs.lemmas.Iterator.Adapters.{YieldsList-from_vec}
 use Rattle.std.proofs.lemmas.Iterator.Consumers.{YieldsList-turn, YieldsList-end}

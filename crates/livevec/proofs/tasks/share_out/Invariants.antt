@@ -1,3 +1,4 @@
+-- What the loop keeps in `share_out`: gives each session a part of the hub, of which nobody has seen an edit, and puts memory by for it.
 use Rattle.std.proofs.Common.{◌≡◌, ◌+◌, [], vec_len, length, map}
 use Rattle.livevec.specs.Tasks.{begun_at}
 use Rattle.livevec.proofs.tasks.share_out.Given as goal

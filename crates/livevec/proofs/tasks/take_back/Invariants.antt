@@ -1,3 +1,4 @@
+-- What the loop keeps in `take_back`: takes the parts back, and gathers the reductions in the order of the sessions, where nothing is gathered yet.
 use Rattle.std.proofs.Common.{map}
 use Rattle.lv_transcript.specs.Joined.{in_a_row}
 use Rattle.livevec.specs.Tasks.{TakesBack}

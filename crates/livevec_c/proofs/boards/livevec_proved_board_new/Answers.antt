@@ -1,3 +1,4 @@
+-- Proof of `livevec_proved_board_new`: puts a new board with so many seats into an empty slot.
 use Rattle.std.proofs.Common.{refl, inr, sym}
 use Rattle.livevec_c.proofs.Empty.{is_none-None}
 use Rattle.livevec_c.proofs.Programs.{board_alike}

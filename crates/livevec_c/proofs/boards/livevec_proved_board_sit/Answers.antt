@@ -1,3 +1,4 @@
+-- Proof of `livevec_proved_board_sit`: puts the first of the seats that are there into an empty slot.
 use Rattle.std.proofs.Common.{◌∙◌, Some, ap, sym}
 use Rattle.livevec_c.proofs.Empty.{is_none-None}
 use Rattle.livevec_c.proofs.boards.livevec_proved_board_sit.Goals as goal

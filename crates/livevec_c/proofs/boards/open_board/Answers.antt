@@ -1,3 +1,4 @@
+-- Proof of `open_board`: puts a new board into an empty slot.
 use Rattle.std.proofs.Common.{inl, inr}
 use Rattle.livevec_c.proofs.boards.open_board.Goals as goal
 

@@ -1,3 +1,4 @@
+-- Proof of `open_kind`: a new board of a kind.
 use Rattle.livevec_c.proofs.Programs.{newly_alike}
 use Rattle.livevec_c.proofs.boards.open_kind.Goals as goal
 

@@ -1,3 +1,4 @@
+-- Proof of `sit_at`: the first of the seats that are there.
 use Rattle.livevec_c.proofs.boards.sit_at.Goals as goal
 
 -- each arm by its call

@@ -1,3 +1,4 @@
+-- Proof of `sit_board`: puts the first of the seats that are there into an empty slot.
 use Rattle.std.proofs.Common.{Some, ap, refl, inr, ◌∙◌}
 use Rattle.livevec_c.proofs.Seatless.{nobody_sits}
 use Rattle.livevec_c.proofs.boards.sit_board.Goals as goal

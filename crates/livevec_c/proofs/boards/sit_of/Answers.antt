@@ -1,3 +1,4 @@
+-- Proof of `sit_of`.
 use Rattle.std.proofs.Common.{refl}
 use Rattle.livevec_c.proofs.boards.sit_of.Goals as goal
 

@@ -1,3 +1,4 @@
+-- Proof of `take_at`: takes a seat back at its board.
 use Rattle.std.proofs.Common.{ap}
 use Rattle.livevec_c.specs.declared.kind_seats.KindSeat.TheVariants as seats
 use Rattle.livevec_c.specs.Kinds.{sat_at}

@@ -1,3 +1,4 @@
+-- Proof of `take_back_by`.
 use Rattle.std.proofs.Common.{refl}
 use Rattle.livevec_c.proofs.boards_back.take_back_by.Goals as goal
 

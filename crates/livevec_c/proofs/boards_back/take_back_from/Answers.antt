@@ -1,3 +1,4 @@
+-- Proof of `take_back_from`.
 use Rattle.std.proofs.Common.{◌∙◌, Some, ap, sym}
 use Rattle.livevec_c.proofs.boards_back.take_back_from.Goals as goal
 

@@ -1,3 +1,4 @@
+-- Proof of `value_of_vector`: a value of a vector, which keeps what it computes by that kind.
 use Rattle.livevec_c.proofs.KindAnswers.{answers_value, refuses_value}
 use Rattle.std.proofs.Common.{ap}
 use Rattle.livevec_c.proofs.by_kind.value_of_vector.Goals as goal

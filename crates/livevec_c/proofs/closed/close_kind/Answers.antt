@@ -1,3 +1,4 @@
+-- Proof of `close_kind`: the vector of a board whose seats are all there, or the board again.
 use Rattle.livevec_c.proofs.closed.close_kind.Goals as goal
 
 -- each arm by its call; the search took nine seconds

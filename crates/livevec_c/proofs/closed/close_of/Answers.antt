@@ -1,3 +1,4 @@
+-- Proof of `close_of`: closes an object that is a board.
 use Rattle.std.proofs.Common.{sym}
 use Rattle.livevec_c.proofs.closed.close_of.Goals as goal
 

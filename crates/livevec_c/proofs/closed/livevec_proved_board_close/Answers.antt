@@ -1,3 +1,4 @@
+-- Proof of `livevec_proved_board_close`: closes a board whose seats are all there.
 use Rattle.std.proofs.Common.{◌∙◌, Some, ap, sym}
 use Rattle.livevec_c.proofs.closed.livevec_proved_board_close.Goals as goal
 

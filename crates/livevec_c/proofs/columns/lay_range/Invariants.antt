@@ -1,3 +1,4 @@
+-- What the loop keeps in `lay_range`: puts the cells of one of the two scans of a range into a column of as many places, by runs of elements that lie side by side.
 use Rattle.std.proofs.Common.{◌-◌, ◌≡◌, ◌≤◌, length, map, take}
 use Rattle.lv_bodies.specs.Body.{fold_of}
 use Rattle.lv_reduce.specs.Answer.{scan_of, slice_of}

@@ -1,3 +1,4 @@
+-- What the loop keeps in `lay_run`: puts the cells of the scan of some elements, from what stands before them, into a column from a place on.
 use Rattle.std.proofs.Common.{◌≡◌, ◌+◌, ◌++◌, ◌^◌, ◌≤◌, ℕ, length, map, slice_range, take}
 use Rattle.lv_reduce.specs.Running.{reached, scan_from}
 use Rattle.livevec_c.proofs.columns.lay_run.Given as goal

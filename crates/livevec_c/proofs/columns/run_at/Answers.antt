@@ -1,3 +1,4 @@
+-- Proof of `run_at`: elements from index `at` on, before `hi`, one at least.
 use Rattle.std.proofs.Common.{◌<◌, ◌∷◌, [], FitsSigned, length, rules, ap, ◌∙◌, arith}
 use Rattle.std.specs.Int.{w64}
 use Rattle.std.proofs.lemmas.Int.{to_z-of_z}

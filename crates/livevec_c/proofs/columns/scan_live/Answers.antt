@@ -1,3 +1,4 @@
+-- Proof of `scan_live`: a scan of a vector.
 use Rattle.std.proofs.Common.{◌≡◌, ◌-◌, ◌++◌, ◌≤◌, drop, length, map, sym, subst, arith}
 use Rattle.std.specs.Prelude.{None}
 use Rattle.lv_bodies.specs.Automata.{table_of}

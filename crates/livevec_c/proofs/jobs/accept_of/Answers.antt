@@ -1,3 +1,4 @@
+-- Proof of `accept_of`: delivers an object to another.
 use Rattle.std.proofs.Common.{refl}
 use Rattle.livevec_c.proofs.jobs.accept_of.Goals as goal
 

@@ -1,3 +1,4 @@
+-- Proof of `claim_of`: a claim of an object, for an empty slot.
 use Rattle.std.proofs.Common.{refl}
 use Rattle.livevec_c.proofs.jobs.claim_of.Goals as goal
 

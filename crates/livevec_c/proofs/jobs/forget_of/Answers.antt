@@ -1,3 +1,4 @@
+-- Proof of `forget_of`: forgets the claims of an object.
 use Rattle.std.proofs.Common.{refl}
 use Rattle.livevec_c.proofs.jobs.forget_of.Goals as goal
 

@@ -1,3 +1,4 @@
+-- Proof of `livevec_proved_forget`: forgets all claims.
 use Rattle.std.proofs.Common.{◌∙◌, Some, ap, sym}
 use Rattle.livevec_c.proofs.jobs.livevec_proved_forget.Goals as goal
 

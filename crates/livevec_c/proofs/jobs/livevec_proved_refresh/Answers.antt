@@ -1,3 +1,4 @@
+-- Proof of `livevec_proved_refresh`: computes at most so many summaries in place.
 use Rattle.std.proofs.Common.{◌∙◌, Some, ap, sym}
 use Rattle.livevec_c.proofs.jobs.livevec_proved_refresh.Goals as goal
 

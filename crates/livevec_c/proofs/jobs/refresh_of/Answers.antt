@@ -1,3 +1,4 @@
+-- Proof of `refresh_of`: a refresh of an object.
 use Rattle.std.proofs.Common.{refl}
 use Rattle.livevec_c.proofs.jobs.refresh_of.Goals as goal
 

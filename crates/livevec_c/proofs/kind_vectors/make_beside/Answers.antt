@@ -1,3 +1,4 @@
+-- Proof of `make_beside`: makes an edit that the verdict allows, and has what is kept by kind follow it.
 use Rattle.std.proofs.Common.{◌≡◌, ◌≤◌, None, length, subst, sym}
 use Rattle.lv_bodies.specs.Automata.{table_of}
 use Rattle.lv_edits.specs.History.{list_of, with_edit}

@@ -1,3 +1,4 @@
+-- The ghost that is handed on in `make_beside`: makes an edit that the verdict allows, and has what is kept by kind follow it.
 use Rattle.livevec_c.specs.KindVectors.{before_last}
 use Rattle.livevec_c.proofs.kind_vectors.make_beside.Given as goal
 

@@ -1,3 +1,4 @@
+-- Proof of `livevec_proved_new`: puts a new vector with the program's automaton into an empty slot.
 use Rattle.std.proofs.Common.{refl, inr, sym}
 use Rattle.livevec_c.proofs.Empty.{is_none-None}
 use Rattle.livevec_c.proofs.Openings.{opens_alike}

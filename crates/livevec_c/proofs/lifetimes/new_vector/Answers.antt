@@ -1,3 +1,4 @@
+-- Proof of `new_vector`: a new vector in a place of its own, of one kind or of all six.
 use Rattle.livevec_c.proofs.lifetimes.new_vector.Goals as goal
 
 pub returns : goal.returns

@@ -1,3 +1,4 @@
+-- Proof of `open`: puts a new vector into an empty slot.
 use Rattle.std.proofs.Common.{refl, inr}
 use Rattle.livevec_c.proofs.lifetimes.open.Goals as goal
 

@@ -1,3 +1,4 @@
+-- Proof of `livevec_proved_push_all`: puts elements at the end, all of them or none.
 use Rattle.std.proofs.Common.{◌∙◌, Some, ap, sym}
 use Rattle.livevec_c.proofs.pushes.livevec_proved_push_all.Goals as goal
 

@@ -1,3 +1,4 @@
+-- Proof of `push_at_object`: pushes at an object.
 use Rattle.std.proofs.Common.{refl}
 use Rattle.livevec_c.proofs.PushedLaws.{no_more_pushes}
 use Rattle.livevec_c.proofs.pushes.push_at_object.Goals as goal

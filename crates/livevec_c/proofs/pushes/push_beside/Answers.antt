@@ -1,3 +1,4 @@
+-- Proof of `push_beside`: pushes values at a live vector, all of them or none, and has what is kept by kind follow.
 use Rattle.std.proofs.Common.{◌≡◌, ◌+◌, None, ap, arith, length, refl, subst, sym, ◌∙◌}
 use Rattle.lv_bodies.specs.Automata.{table_of}
 use Rattle.lv_edits.specs.Pushes.{verdict_of_pushes, with_pushes}

@@ -1,3 +1,4 @@
+-- Proof of `name_for`: the bytes of a name for C, which end in a zero.
 use Rattle.std.proofs.Common.{◌≡◌, ◌∙◌, ◌++◌, List, ℕ, length, drop, replicate, ap}
 use Rattle.std.proofs.lemmas.List.{drop-replicate}
 use Rattle.livevec_c.specs.Queried.{name_for}

@@ -1,3 +1,4 @@
+-- Proof of `note_one`: notes a question where its value is another than it was told, behind so many notes, and tells how many there are then.
 use Rattle.std.proofs.Common.{◌≡◌, [], refl, rules, sym, inl, arith}
 use Rattle.std.proofs.lemmas.List.{take-append-drop}
 use Rattle.livevec_c.proofs.NotingLaws.{noted_one}

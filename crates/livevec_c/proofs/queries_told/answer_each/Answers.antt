@@ -1,3 +1,4 @@
+-- Proof of `answer_each`: what each question is answered by a vector, in place of the values that there were.
 use Rattle.std.proofs.Common.{◌∙◌, arith, rules}
 use Rattle.livevec_c.proofs.NotingLaws.{next_answered}
 use Rattle.livevec_c.proofs.queries_told.answer_each.Goals as goal

@@ -1,3 +1,4 @@
+-- What the loop keeps in `answer_each`: what each question is answered by a vector, in place of the values that there were.
 use Rattle.std.proofs.Common.{◌≡◌, ◌≤◌, length, map, take, vec_capacity, vec_len}
 use Rattle.livevec_c.specs.Queried.{answer_by}
 use Rattle.livevec_c.proofs.queries_told.answer_each.Given as goal

@@ -1,3 +1,4 @@
+-- Proof of `answer_one`: what a question is answered by a vector.
 use Rattle.std.proofs.Common.{◌≡◌, ◌∙◌, length, min, ap}
 use Rattle.lv_edits.specs.History.{list_of}
 use Rattle.livevec_c.proofs.QueriedLaws.{answers_question}

@@ -1,3 +1,4 @@
+-- Proof of `ask_of`.
 use Rattle.std.proofs.Common.{refl}
 use Rattle.livevec_c.proofs.reads.ask_of.Goals as goal
 

@@ -1,3 +1,4 @@
+-- Proof of `ask_vector`: a reduction of a vector, which is of all six kinds, and keeps what it computes.
 use Rattle.livevec_c.proofs.reads.ask_vector.Goals as goal
 
 pub returns-in-None : goal.returns-in-None

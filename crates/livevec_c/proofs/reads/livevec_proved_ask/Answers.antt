@@ -1,3 +1,4 @@
+-- Proof of `livevec_proved_ask`.
 use Rattle.std.proofs.Common.{◌∙◌, Some, ap, sym}
 use Rattle.livevec_c.proofs.PlainAnswers.{asks_plain}
 use Rattle.livevec_c.proofs.reads.livevec_proved_ask.Goals as goal

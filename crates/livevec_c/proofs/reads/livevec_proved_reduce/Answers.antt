@@ -1,3 +1,4 @@
+-- Proof of `livevec_proved_reduce`: the plain values of the elements of a range.
 use Rattle.std.proofs.Common.{◌∙◌, Some, ap, sym}
 use Rattle.livevec_c.proofs.PlainAnswers.{reduces_plain}
 use Rattle.livevec_c.proofs.reads.livevec_proved_reduce.Goals as goal

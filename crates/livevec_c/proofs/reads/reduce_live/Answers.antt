@@ -1,3 +1,4 @@
+-- Proof of `reduce_live`: a reduction of a vector, which is of all six kinds.
 use Rattle.livevec_c.proofs.reads.reduce_live.Goals as goal
 
 pub returns-in-None : goal.returns-in-None

@@ -1,3 +1,4 @@
+-- Proof of `call_of`: a call of an object.
 use Rattle.std.proofs.Common.{refl}
 use Rattle.livevec_c.proofs.seats.call_of.Goals as goal
 

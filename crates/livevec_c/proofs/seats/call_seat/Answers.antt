@@ -1,3 +1,4 @@
+-- Proof of `call_seat`: a call of a seat.
 use Rattle.livevec_c.proofs.seats.call_seat.Goals as goal
 
 pub returns-in-Sum : goal.returns-in-Sum

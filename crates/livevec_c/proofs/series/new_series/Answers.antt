@@ -1,3 +1,4 @@
+-- Proof of `new_series`: a new series in a place of its own.
 use Rattle.std.proofs.Common.{ap, ◌∙◌}
 use Rattle.livevec_c.specs.declared.objects.Object.TheVariants.{Series}
 use Rattle.livevec_c.proofs.series.new_series.Goals as goal

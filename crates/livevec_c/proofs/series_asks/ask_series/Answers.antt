@@ -1,3 +1,4 @@
+-- Proof of `ask_series`: a reduction of a series, which keeps what it computes.
 use Rattle.std.proofs.Common.{◌∙◌}
 use Rattle.livevec_c.proofs.SeriesLaws.{values_answered}
 use Rattle.livevec_c.proofs.series_asks.ask_series.Goals as goal

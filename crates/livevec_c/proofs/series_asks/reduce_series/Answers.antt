@@ -1,3 +1,4 @@
+-- Proof of `reduce_series`: a reduction of a series.
 use Rattle.std.proofs.Common.{◌∙◌}
 use Rattle.livevec_c.proofs.SeriesLaws.{values_answered}
 use Rattle.livevec_c.proofs.series_asks.reduce_series.Goals as goal

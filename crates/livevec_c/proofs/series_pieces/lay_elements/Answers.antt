@@ -1,3 +1,4 @@
+-- Proof of `lay_elements`: puts the elements from an index on into a buffer, one for each of its places.
 use Rattle.std.proofs.Common.{◌++◌, ◌∷◌, [], ◌≤◌, FitsSigned, length, length-set, rules, sym, ap, ◌∙◌, arith}
 use Rattle.std.specs.Int.{w64}
 use Rattle.std.proofs.lemmas.Int.{to_z-of_z}

@@ -1,3 +1,4 @@
+-- What the loop keeps in `lay_elements`: puts the elements from an index on into a buffer, one for each of its places.
 use Rattle.std.proofs.Common.{◌≡◌, ◌+◌, length, take}
 use Rattle.lv_series.specs.Series.{slice_of}
 use Rattle.livevec_c.proofs.series_pieces.lay_elements.Given as goal

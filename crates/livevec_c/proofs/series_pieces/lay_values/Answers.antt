@@ -1,3 +1,4 @@
+-- Proof of `lay_values`: puts the running values of a range into a buffer, from an index on, one for each of its places.
 use Rattle.std.proofs.Common.{◌≡◌, ◌++◌, ◌∷◌, [], FitsSigned, length, length-set, map, if◌then◌else◌, rules, sym, ap, subst, ◌∙◌, arith}
 use Rattle.std.specs.Int.{w64}
 use Rattle.std.specs.List.{range_with_len}

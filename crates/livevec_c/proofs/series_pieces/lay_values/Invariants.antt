@@ -1,3 +1,4 @@
+-- What the loop keeps in `lay_values`: puts the running values of a range into a buffer, from an index on, one for each of its places.
 use Rattle.std.proofs.Common.{◌≡◌, ◌+◌, length, map, take}
 use Rattle.std.specs.List.{range_with_len}
 use Rattle.lv_bodies.specs.Automata.{table_of}

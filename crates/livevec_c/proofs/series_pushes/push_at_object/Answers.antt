@@ -1,3 +1,4 @@
+-- Proof of `push_at_object`: pushes at an object.
 use Rattle.std.proofs.Common.{refl}
 use Rattle.livevec_c.proofs.series_pushes.push_at_object.Goals as goal
 

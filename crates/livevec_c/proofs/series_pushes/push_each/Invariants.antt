@@ -1,3 +1,4 @@
+-- What the loop keeps in `push_each`: pushes at a series, in order, until one is refused.
 use Rattle.std.proofs.Common.{◌≡◌, take}
 use Rattle.livevec_c.specs.SeriesBehind.{with_pushed}
 use Rattle.livevec_c.proofs.series_pushes.push_each.Given as goal

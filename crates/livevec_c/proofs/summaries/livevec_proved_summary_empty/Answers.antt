@@ -1,3 +1,4 @@
+-- Proof of `livevec_proved_summary_empty`: the summary of no elements, by the program's automaton.
 use Rattle.std.proofs.Common.{ap, ◌∙◌}
 use Rattle.lv_shards.specs.Summaries.{empty_of, leads_of}
 use Rattle.livevec_c.specs.Summed.{summarised}

@@ -1,3 +1,4 @@
+-- Proof of `livevec_proved_summary_empty_with_table`.
 use Rattle.std.proofs.Common.{◌≡◌, true, false, refl, ap, ◌∙◌}
 use Rattle.lv_shards.specs.Summaries.{empty_of, leads_of}
 use Rattle.livevec_c.specs.Summed.{summarised}

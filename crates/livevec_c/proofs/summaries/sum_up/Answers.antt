@@ -1,3 +1,4 @@
+-- Proof of `sum_up`: the summary of a range of a vector.
 use Rattle.std.proofs.Common.{Some, ap, ◌∙◌, sym, subst}
 use Rattle.lv_bodies.specs.Automata.{table_of}
 use Rattle.lv_shards.specs.Summaries.{leads_of}

@@ -1,3 +1,4 @@
+-- Proof of `edit_held`: an edit of what lies behind a slot.
 use Rattle.std.proofs.Common.{◌∙◌, Some, ap, sym}
 use Rattle.livevec_c.proofs.vectors.edit_held.Goals as goal
 

@@ -1,3 +1,4 @@
+-- Proof of `edit_object`: an edit of an object.
 use Rattle.std.proofs.Common.{refl}
 use Rattle.livevec_c.proofs.vectors.edit_object.Goals as goal
 

@@ -1,3 +1,4 @@
+-- Proof of `livevec_proved_write_all`: overwrites the elements at some indices, each by the value at the same place: all of them, or none.
 use Rattle.std.proofs.Common.{◌∙◌, Some, ap, sym}
 use Rattle.livevec_c.proofs.writes.livevec_proved_write_all.Goals as goal
 

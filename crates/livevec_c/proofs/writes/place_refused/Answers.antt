@@ -1,3 +1,4 @@
+-- Proof of `place_refused`: which of writes at indices, one after another, is the first that would be refused, want of memory apart; 0 where none would be.
 use Rattle.std.proofs.Common.{◌≡◌, ℤ, List, ap, subst, sym, ◌∙◌, length, cond, is_some, arith}
 use Rattle.lv_edits.specs.Batches.{writes_at}
 use Rattle.lv_edits.specs.History.{list_of}

@@ -1,3 +1,4 @@
+-- What the loop keeps in `place_refused`: which of writes at indices, one after another, is the first that would be refused, want of memory apart; 0 where none would be.
 use Rattle.livevec_c.proofs.WrittenLaws.{AreFreeBefore}
 use Rattle.livevec_c.proofs.writes.place_refused.Given as goal
 

@@ -1,3 +1,4 @@
+-- Proof of `write_at_object`: writes at an object.
 use Rattle.std.proofs.Common.{refl}
 use Rattle.livevec_c.proofs.writes.write_at_object.Goals as goal
 

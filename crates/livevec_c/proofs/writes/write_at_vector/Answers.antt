@@ -1,3 +1,4 @@
+-- Proof of `write_at_vector`: writes at a vector.
 use Rattle.std.proofs.Common.{Ok, ap, sym}
 use Rattle.lv_edits.proofs.BatchLaws.{length-writes}
 use Rattle.livevec_c.proofs.writes.write_at_vector.Goals as goal

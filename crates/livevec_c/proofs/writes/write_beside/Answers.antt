@@ -1,3 +1,4 @@
+-- Proof of `write_beside`: writes values at indices of a live vector, all of them or none, and has what is kept by kind follow.
 use Rattle.std.proofs.Common.{◌≡◌, None, length, refl, subst, sym}
 use Rattle.lv_bodies.specs.Automata.{table_of}
 use Rattle.lv_kinds.specs.Kinds.{AreKept}

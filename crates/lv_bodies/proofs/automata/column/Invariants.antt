@@ -1,3 +1,4 @@
+-- What the loop keeps in `column`: the states that the table has for a remainder.
 use Rattle.std.proofs.Common.{◌≡◌, ℕ, ◌<◌, [], length, slice_index, slice_index_or}
 use Rattle.lv_bodies.proofs.automata.column.Given as goal
 

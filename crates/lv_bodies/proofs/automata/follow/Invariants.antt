@@ -1,3 +1,4 @@
+-- What the loop keeps in `follow`: the states reached by the first row, and from there by the second.
 use Rattle.std.proofs.Common.{◌≡◌, ℕ, ◌<◌, length, slice_index}
 use Rattle.lv_bodies.proofs.automata.follow.Given as goal
 

@@ -1,3 +1,4 @@
+-- What the loop keeps in `unpack`: the eight states in these bits.
 use Rattle.std.proofs.Common.{◌≡◌, ℕ, ◌*◌, ◌/◌, ◌%◌, ◌^◌, ◌<◌, length, slice_index}
 use Rattle.lv_bodies.proofs.automata.unpack.Given as goal
 

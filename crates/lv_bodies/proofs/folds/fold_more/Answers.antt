@@ -1,3 +1,4 @@
+-- Proof of `fold_more`: a fold with one more element at its end.
 use Rattle.std.proofs.Common.{◌≡◌, ◌+◌, ap, ◌∙◌, sym, subst, w64}
 use Rattle.std.proofs.lemmas.Int.{to_z-of_z}
 use Rattle.lv_bodies.proofs.folds.fold_more.Given.{Over}

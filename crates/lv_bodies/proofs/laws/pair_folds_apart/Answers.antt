@@ -1,3 +1,4 @@
+-- Proof of `pair_folds_apart`: the fold of a pair is the pair of the folds.
 use Rattle.lv_bodies.proofs.PairFolds.{fold_of-pair}
 use Rattle.lv_bodies.proofs.laws.pair_folds_apart.Goals as goal
 

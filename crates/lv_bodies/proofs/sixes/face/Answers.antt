@@ -1,3 +1,4 @@
+-- Proof of `face`: shows the summary of one kind.
 use Rattle.std.proofs.Common.{◌∙◌}
 use Rattle.lv_bodies.specs.Plain.{program_table}
 use Rattle.lv_bodies.proofs.SixFolds.{face_of-fold}

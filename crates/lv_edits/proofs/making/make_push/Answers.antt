@@ -1,3 +1,4 @@
+-- Proof of `make_push`: makes a push that the verdict allows.
 use Rattle.std.proofs.Common.{◌+◌, ◌≤◌, ap, ◌∙◌, arith}
 use Rattle.std.specs.Int.{w64}
 use Rattle.std.proofs.lemmas.Int.{to_z-of_z}

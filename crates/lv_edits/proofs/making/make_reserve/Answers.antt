@@ -1,3 +1,4 @@
+-- Proof of `make_reserve`: makes a reserve that the verdict allows.
 use Rattle.std.proofs.Common.{◌+◌, ap, ◌∙◌}
 use Rattle.lv_edits.specs.declared.edit.Edit.TheVariants.{Reserve}
 use Rattle.lv_edits.specs.Capacity.{capacity_after}

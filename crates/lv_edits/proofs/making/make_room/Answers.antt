@@ -1,3 +1,4 @@
+-- Proof of `make_room`: completes the write that is pending, and makes room for so many more edits, then for so many cells.
 use Rattle.std.proofs.Common.{◌≡◌, ℕ, ◌∙◌, ap, sym, false, max, None, Ok, Err, OnOk, OnErr, Result}
 use Rattle.std.specs.Result.{is_err}
 use Rattle.lv_geometry.specs.Cells.{AreFewest}

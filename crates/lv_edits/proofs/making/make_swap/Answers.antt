@@ -1,3 +1,4 @@
+-- Proof of `make_swap`: makes a swap that the verdict allows.
 use Rattle.std.proofs.Common.{◌+◌, pos, ap, ◌∙◌, arith}
 use Rattle.std.specs.Int.{w64}
 use Rattle.std.proofs.lemmas.Int.{to_z-of_z}

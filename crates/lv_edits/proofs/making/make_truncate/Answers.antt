@@ -1,3 +1,4 @@
+-- Proof of `make_truncate`: makes a truncate that the verdict allows.
 use Rattle.std.proofs.Common.{◌+◌, ap, ◌∙◌, arith}
 use Rattle.lv_edits.specs.declared.edit.Edit.TheVariants.{Truncate}
 use Rattle.lv_edits.proofs.HoldsLaws.{Answers-no_memory, HoldsReplay-alike, edits_left, size_held, truncate_fits, truncate_held}

@@ -1,3 +1,4 @@
+-- What the loop keeps in `append_pushes`: puts pushes behind edits, where there is room for them.
 use Rattle.std.proofs.Common.{◌≡◌, ◌-◌, ◌≤◌, ◌++◌, length, map, take}
 use Rattle.lv_edits.specs.declared.edit.Edit.TheVariants.{Push}
 use Rattle.lv_edits.proofs.pushing.append_pushes.Given as goal

@@ -1,3 +1,4 @@
+-- What the loop keeps in `write_each`: makes writes that the verdict allows, one after another, where the journal has room for them.
 use Rattle.std.proofs.Common.{◌≡◌, ◌-◌, ◌≤◌, None, drop, length}
 use Rattle.lv_edits.specs.Batches.{verdict_of_edits, with_edits, writes_at}
 use Rattle.lv_edits.specs.Inner.{HoldsReplay, history_of}

@@ -1,3 +1,4 @@
+-- Proof of `buckets_for`: the fewest buckets that hold `n` cells.
 use Rattle.std.proofs.Common.{◌+◌, ◌-◌, arith}
 use Rattle.std.proofs.lemmas.Nat.{pow_pos}
 use Rattle.lv_geometry.proofs.HighestBits.{bucket_of_last, times_eight, twice}

@@ -1,3 +1,4 @@
+-- Proof of `capacity`: how many cells `k` open buckets hold.
 use Rattle.std.proofs.Common.{◌^◌, ◌≤◌, arith}
 use Rattle.std.proofs.lemmas.Nat.{one_shl}
 use Rattle.std.proofs.Math.Pow.{pow_mono}

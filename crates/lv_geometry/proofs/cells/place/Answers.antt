@@ -1,3 +1,4 @@
+-- Proof of `place`: the place of index `i`, in constant time: the bucket is found by counting bits.
 use Rattle.std.proofs.Common.{◌≡◌, ◌+◌, ◌-◌, ◌*◌, ◌^◌, ◌%◌, ◌≤◌, arith}
 use Rattle.std.proofs.lemmas.Nat.{one_shl}
 use Rattle.lv_geometry.specs.Cells.{IsPlaceOf}

@@ -1,3 +1,4 @@
+-- Proof of `rows_of`: how many rows each level needs for so many blocks: one for each block, and above one for each eight below, and for those that are left over.
 use Rattle.std.proofs.Common.{◌≡◌, ℕ, ◌+◌, ◌*◌, ◌<◌, ◌≤◌, arith}
 use Rattle.std.specs.Int.{div_ceil}
 use Rattle.lv_geometry.specs.declared.levels.Levels.{Levels}

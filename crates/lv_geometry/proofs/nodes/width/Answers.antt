@@ -1,3 +1,4 @@
+-- Proof of `width`: how many indices a node of a level has.
 use Rattle.lv_geometry.proofs.NodeLaws.{width_by_shift}
 use Rattle.lv_geometry.proofs.nodes.width.Goals as goal
 

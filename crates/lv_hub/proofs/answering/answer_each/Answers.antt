@@ -1,3 +1,4 @@
+-- Proof of `answer_each`: what each question is answered by a vector, in place of the values that there were.
 use Rattle.std.proofs.Common.{◌∙◌, ap, arith, rules}
 use Rattle.lv_hub.proofs.NoteLaws.{next_answered}
 use Rattle.lv_hub.proofs.answering.answer_each.Goals as goal

@@ -1,3 +1,4 @@
+-- What the loop keeps in `answer_each`: what each question is answered by a vector, in place of the values that there were.
 use Rattle.std.proofs.Common.{◌≡◌, ◌≤◌, length, map, take, vec_capacity, vec_len}
 use Rattle.lv_live.specs.State.{SameLive}
 use Rattle.lv_hub.specs.Notes.{answer_to}

@@ -1,3 +1,4 @@
+-- Proof of `answer_one`: what a question is answered by a vector.
 use Rattle.std.proofs.Common.{◌∙◌, ap, arith}
 use Rattle.lv_bodies.specs.Plain.{plain_value}
 use Rattle.lv_edits.specs.History.{list_of}

@@ -1,3 +1,4 @@
+-- What the loop keeps in `attend`: refreshes a hub for a number of turns, as `work` does, and sleeps where no node wants a job, until an edit wakes it.
 use Rattle.std.proofs.Common.{◌≡◌, ◌+◌, ◌≤◌}
 use Rattle.lv_hub.proofs.attending.attend.Given as goal
 

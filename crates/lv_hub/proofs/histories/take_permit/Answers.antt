@@ -1,3 +1,4 @@
+-- Proof of `take_permit`: a new permit, by which nothing was added up to what is seen then.
 use Rattle.std.proofs.Common.{ap, sym, ◌∙◌}
 use Rattle.lv_hub.proofs.StepLaws.{grants_moves}
 use Rattle.lv_hub.proofs.histories.take_permit.Goals as goal

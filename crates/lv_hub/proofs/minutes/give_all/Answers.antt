@@ -1,3 +1,4 @@
+-- Proof of `give_all`: gives edits to a scribe.
 use Rattle.std.proofs.Common.{pos, arith}
 use Rattle.std.proofs.lemmas.List.{take_more}
 use Rattle.std.proofs.lemmas.List.Elements.{All-push}

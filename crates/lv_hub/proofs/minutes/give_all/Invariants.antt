@@ -1,3 +1,4 @@
+-- What the loop keeps in `give_all`: gives edits to a scribe.
 use Rattle.std.proofs.Common.{All, take}
 use Rattle.lv_edits.specs.Kept.{CarriesElement}
 use Rattle.lv_hub.specs.Minuting.{ScribesAll}

@@ -1,3 +1,4 @@
+-- Proof of `note_all`: notes each question whose value is another than it was told before, in place of the notes that there were.
 use Rattle.std.proofs.Common.{arith, rules}
 use Rattle.lv_hub.proofs.NoteLaws.{next_noted}
 use Rattle.lv_hub.proofs.noting.note_all.Goals as goal

@@ -1,3 +1,4 @@
+-- What the loop keeps in `note_all`: notes each question whose value is another than it was told before, in place of the notes that there were.
 use Rattle.std.proofs.Common.{◌≤◌, length, take, vec_capacity, vec_len}
 use Rattle.lv_hub.specs.Notes.{AreNotesOf}
 use Rattle.lv_hub.proofs.noting.note_all.Given as goal

@@ -1,3 +1,4 @@
+-- Proof of `note_one`: notes a question where its value is another than it was told before.
 use Rattle.std.proofs.Common.{◌≡◌, [], ◌∷◌, refl, rules, sym, inl, inr}
 use Rattle.std.proofs.lemmas.List.{append-nil}
 use Rattle.lv_hub.proofs.noting.note_one.Goals as goal

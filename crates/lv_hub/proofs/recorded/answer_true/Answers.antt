@@ -1,3 +1,4 @@
+-- Proof of `answer_true`: answers a line.
 use Rattle.lv_hub.specs.Session.{session_at}
 use Rattle.lv_hub.proofs.TruthLaws.{answered_keeps}
 use Rattle.lv_hub.proofs.recorded.answer_true.Goals as goal

@@ -1,3 +1,4 @@
+-- Proof of `answer`: answers a command, which is bad unless it is an edit, a reduction or a scan.
 use Rattle.std.proofs.Common.{Result, Ok, Err, OnOk, IfErr}
 use Rattle.lv_lines.proofs.OutputLemmas.{Writes-put}
 use Rattle.lv_hub.proofs.replying.answer.Goals as goal

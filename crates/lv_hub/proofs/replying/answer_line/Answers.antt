@@ -1,3 +1,4 @@
+-- Proof of `answer_line`: answers a line of a session, on a hub: its share counts what is accepted, and `answers` lists the reductions.
 use Rattle.std.proofs.Common.{[], refl, sym}
 use Rattle.std.proofs.lemmas.List.{append-nil}
 use Rattle.lv_lines.proofs.OutputLemmas.{Writes-put}

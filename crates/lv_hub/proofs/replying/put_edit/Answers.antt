@@ -1,3 +1,4 @@
+-- Proof of `put_edit`: makes an edit, and tells its receipt or its refusal.
 use Rattle.std.proofs.Common.{Ok, Err, refl, ap, arith}
 use Rattle.lv_script.specs.Script.{edit_text}
 use Rattle.lv_hub.specs.Session.{session_at}

@@ -1,3 +1,4 @@
+-- Proof of `put_reduction`: reduces a range, and lists the answer.
 use Rattle.std.proofs.Common.{◌≡◌, ◌++◌, ◌∷◌, [], Ok, Err, List, refl, ap, ◌∙◌, inl, inr}
 use Rattle.lv_geometry.specs.declared.refusals.Refusal.TheVariants.{NoMemory}
 use Rattle.lv_bodies.specs.declared.kinds.Shown.{Shown}

@@ -1,3 +1,4 @@
+-- Proof of `run_session_at`.
 use Rattle.std.proofs.Common.{◌≡◌, ◌≤◌, [], All, refl, rules, ap, sym, arith, vec_len}
 use Rattle.std.proofs.lemmas.List.Elements.{All-nil}
 use Rattle.std.proofs.lemmas.List.Sorted.{IsNonDecreasingBy-short}

@@ -1,3 +1,4 @@
+-- The ghosts that are handed on in `run_session_at`.
 use Rattle.lv_hub.proofs.sessions.run_session_at.Given as goal
 
 abbrev pub ghosts-hold : goal.ghosts-hold

@@ -1,3 +1,4 @@
+-- Proof of `learn`.
 use Rattle.std.proofs.Common.{◌≡◌, nat_eq, sym, ap, ◌∙◌, arith}
 use Rattle.std.specs.Int.{bit_at}
 use Rattle.std.proofs.lemmas.Bool.{and_parts}

@@ -1,3 +1,4 @@
+-- What the loop keeps in `learn`, and the measure of its calls of `learn`.
 use Rattle.lv_kinds.proofs.KnowByLaws.{GathersBy}
 use Rattle.lv_kinds.proofs.asking.+learn.Given as goal
 

@@ -1,3 +1,4 @@
+-- Proof of `ask_by`: the fold by one kind of the elements from index `lo` up to `hi`, with the number of the last edit; what is computed for it is kept in the kind's rows.
 use Rattle.std.proofs.Common.{arith}
 use Rattle.lv_known.proofs.FoldableLaws.{can_fold}
 use Rattle.lv_kinds.proofs.AskByLaws.{stands_at_start}

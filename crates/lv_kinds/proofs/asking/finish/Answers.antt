@@ -1,3 +1,4 @@
+-- Proof of `finish`: the fold of the whole range.
 use Rattle.lv_kinds.proofs.AskByLaws.{ends_here, stands_passes}
 use Rattle.lv_kinds.proofs.KnowByLaws.{learns_nothing}
 use Rattle.lv_kinds.proofs.asking.finish.Goals as goal

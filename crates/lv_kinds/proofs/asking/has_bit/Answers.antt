@@ -1,3 +1,4 @@
+-- Proof of `has_bit`: whether a byte has the kind's bit.
 use Rattle.lv_kinds.proofs.BitLaws.{bit_is_shared}
 use Rattle.lv_kinds.proofs.asking.has_bit.Goals as goal
 

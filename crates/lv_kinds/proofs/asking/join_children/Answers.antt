@@ -1,3 +1,4 @@
+-- Proof of `join_children`: the join of what is kept of the eight children of a whole node, from left to right.
 use Rattle.std.proofs.Common.{◌≡◌, ap, ◌∙◌, arith}
 use Rattle.std.specs.List.{slice_index_or}
 use Rattle.std.proofs.lemmas.Bool.{and_parts}

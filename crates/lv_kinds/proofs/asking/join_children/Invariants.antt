@@ -1,3 +1,4 @@
+-- What the loop keeps in `join_children`: the join of what is kept of the eight children of a whole node, from left to right.
 use Rattle.std.proofs.Common.{◌≡◌}
 use Rattle.lv_bodies.specs.Body.{fold_of}
 use Rattle.lv_kinds.proofs.KnowByLaws.{first_children}

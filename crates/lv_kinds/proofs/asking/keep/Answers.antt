@@ -1,3 +1,4 @@
+-- Proof of `keep`: keeps a summary of a node, and sets its bit.
 use Rattle.std.proofs.Common.{ap, subst, ◌∙◌}
 use Rattle.std.specs.Int.Bits.{bit_or}
 use Rattle.lv_kinds.specs.NodeRows.{PutsValue}

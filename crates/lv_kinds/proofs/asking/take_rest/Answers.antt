@@ -1,3 +1,4 @@
+-- Proof of `take_rest`: takes what is left of a range, node by node: at each index the greatest one that begins there and ends in the range.
 use Rattle.std.proofs.Common.{◌<◌, ◌≤◌, FitsSigned, length, rules, ap, ◌∙◌, w64, arith}
 use Rattle.std.proofs.lemmas.Int.{to_z-of_z}
 use Rattle.lv_geometry.proofs.NodeLaws.{some_width}

@@ -1,3 +1,4 @@
+-- What the loop keeps in `take_rest`: takes what is left of a range, node by node: at each index the greatest one that begins there and ends in the range.
 use Rattle.std.proofs.Common.{◌-◌}
 use Rattle.lv_kinds.proofs.AskByLaws.{TakesRest}
 use Rattle.lv_kinds.proofs.asking.take_rest.Given as goal

@@ -1,3 +1,4 @@
+-- Proof of `join_kept`: joins the summaries of a run to a fold, up to the first that isn't kept.
 use Rattle.std.proofs.Common.{◌≡◌, ◌+◌, ◌-◌, ◌<◌, true, nat_eq, sym, ap, ◌∙◌, inl, inr, arith}
 use Rattle.std.specs.Int.{bit_at}
 use Rattle.std.proofs.lemmas.Bool.{cases_lt}

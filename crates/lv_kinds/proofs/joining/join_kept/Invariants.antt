@@ -1,3 +1,4 @@
+-- What the loop keeps in `join_kept`: joins the summaries of a run to a fold, up to the first that isn't kept.
 use Rattle.std.proofs.Common.{◌≡◌, ℕ, ◌+◌, ◌*◌, ◌^◌, ◌<◌, true}
 use Rattle.lv_geometry.specs.Nodes.{first_index}
 use Rattle.lv_kinds.specs.Kinds.{is_flagged}

@@ -1,3 +1,4 @@
+-- Proof of `join_run`: joins the summaries of a run to a fold.
 use Rattle.lv_kinds.proofs.RunLaws.{joined_is_fold, knows_run_along}
 use Rattle.lv_kinds.proofs.joining.join_run.Goals as goal
 

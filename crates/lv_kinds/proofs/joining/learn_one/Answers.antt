@@ -1,3 +1,4 @@
+-- Proof of `learn_one`: joins the summary of one node of a run to a fold.
 use Rattle.std.proofs.Common.{arith}
 use Rattle.lv_geometry.specs.Nodes.{first_index}
 use Rattle.lv_known.proofs.FoldableLaws.{can_fold}

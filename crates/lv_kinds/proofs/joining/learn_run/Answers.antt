@@ -1,3 +1,4 @@
+-- Proof of `learn_run`: joins the summaries of a run to a fold, of which the first isn't kept.
 use Rattle.std.proofs.Common.{◌≡◌, ◌+◌, subst, arith}
 use Rattle.lv_kinds.proofs.RunLaws.{from_number, joined_is_fold, knows_run_along}
 use Rattle.lv_kinds.specs.Runs.{KnowsRun}

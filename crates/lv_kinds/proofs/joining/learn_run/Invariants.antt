@@ -1,3 +1,4 @@
+-- What the loop keeps in `learn_run`: joins the summaries of a run to a fold, of which the first isn't kept.
 use Rattle.std.proofs.Common.{◌-◌, ◌≤◌}
 use Rattle.lv_kinds.specs.Runs.{KnowsRun}
 use Rattle.lv_kinds.proofs.joining.learn_run.Given as goal

@@ -1,3 +1,4 @@
+-- Proof of `clear_all`: puts a blank for each node that has one of some indices.
 use Rattle.std.proofs.Common.{◌≡◌, ◌+◌, ◌++◌, ◌∷◌, [], take, get_or, subst, sym, arith}
 use Rattle.std.proofs.lemmas.List.{take_all, take_more}
 use Rattle.lv_kinds.specs.Inner.{ClearsEach}

@@ -1,3 +1,4 @@
+-- What the loop keeps in `clear_all`: puts a blank for each node that has one of some indices.
 use Rattle.std.proofs.Common.{take}
 use Rattle.lv_kinds.specs.Inner.{ClearsEach}
 use Rattle.lv_kinds.proofs.kinds.clear_all.Given as goal

@@ -1,3 +1,4 @@
+-- Proof of `clear_each`: puts a blank for each node that has one of these indices.
 use Rattle.lv_kinds.proofs.KeptLaws.{ClearsEach-two}
 use Rattle.lv_kinds.proofs.kinds.clear_each.Goals as goal
 

@@ -1,3 +1,4 @@
+-- Proof of `clear_run`: puts a blank for each node that has one of so many indices from one on, once for each block.
 use Rattle.std.proofs.Common.{◌≡◌, ◌+◌, ◌-◌, ◌/◌, ◌<◌, refl, arith}
 use Rattle.lv_edits.proofs.RunLaws.{AreOfBlock-from}
 use Rattle.lv_kinds.proofs.PushedLaws.{ClearsEach-more, ClearsEach-none}

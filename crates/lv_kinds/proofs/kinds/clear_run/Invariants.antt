@@ -1,3 +1,4 @@
+-- What the loop keeps in `clear_run`: puts a blank for each node that has one of so many indices from one on, once for each block.
 use Rattle.std.proofs.Common.{◌-◌, ◌≤◌}
 use Rattle.std.specs.List.{range_with_len}
 use Rattle.lv_kinds.specs.Inner.{ClearsEach}

@@ -1,3 +1,4 @@
+-- What the loop keeps in `eight_or_blank`.
 use Rattle.std.proofs.Common.{◌≡◌, ℕ, ◌+◌, ◌<◌, length}
 use Rattle.std.specs.List.{slice_index_or}
 use Rattle.lv_kinds.proofs.node_rows.eight_or_blank.Given as goal

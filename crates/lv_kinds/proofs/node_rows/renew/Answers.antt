@@ -1,3 +1,4 @@
+-- Proof of `renew`: adds to the sum of each node that has index `i`, and leaves the bit of sums alone there; where none was written it clears the byte.
 use Rattle.std.proofs.Common.{◌≡◌}
 use Rattle.lv_kinds.proofs.RenewLaws.{HasMemory-kept, RenewsNodes-levels}
 use Rattle.lv_kinds.proofs.node_rows.renew.Goals as goal

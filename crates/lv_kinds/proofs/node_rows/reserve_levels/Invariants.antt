@@ -1,3 +1,4 @@
+-- What the loop keeps in `reserve_levels`: makes memory for so many values on each level.
 use Rattle.std.proofs.Common.{ℕ, ◌<◌, ◌≤◌, vec_capacity}
 use Rattle.lv_geometry.specs.Levels.{thing_at}
 use Rattle.lv_kinds.specs.Inner.{HaveSameItems}

@@ -1,3 +1,4 @@
+-- Proof of `renew_levels`: on each level, adds to the sum of the node that has index `i`, and leaves the bit of sums alone there.
 use Rattle.std.proofs.Common.{ℕ, ◌/◌, ◌^◌, ◌≤◌, vec_capacity}
 use Rattle.std.specs.Global.{Vec}
 use Rattle.lv_geometry.proofs.NodeLaws.{at_each_level}

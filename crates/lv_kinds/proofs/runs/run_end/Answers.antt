@@ -1,3 +1,4 @@
+-- Proof of `run_end`: the number behind a run of a level that begins at an index, or that of the index itself where there is none.
 use Rattle.std.proofs.Common.{◌≡◌, ◌+◌, ◌*◌, ◌/◌, ◌%◌, ◌^◌, min, ap, ◌∙◌, sym, arith}
 use Rattle.lv_geometry.proofs.NodeLaws.{some_width}
 use Rattle.lv_kinds.proofs.RunLaws.{neighbours_run}

@@ -1,3 +1,4 @@
+-- Proof of `take_cells`: takes the elements before the next block, or those behind the last one that ends in the range.
 use Rattle.std.proofs.Common.{◌≡◌, ◌+◌, ◌<◌, FitsSigned, length, rules, refl, subst, w64, arith}
 use Rattle.std.proofs.lemmas.Int.{to_z-of_z}
 use Rattle.lv_edits.specs.History.{list_of}

@@ -1,3 +1,4 @@
+-- What the loop keeps in `take_cells`: takes the elements before the next block, or those behind the last one that ends in the range.
 use Rattle.lv_kinds.specs.Runs.{StandsBy}
 use Rattle.lv_kinds.proofs.runs.take_cells.Given as goal
 

@@ -1,3 +1,4 @@
+-- Proof of `take_run`: takes the run of a level that begins where a walk stands.
 use Rattle.std.proofs.Common.{◌≡◌, ◌*◌, ◌/◌, ◌^◌, ◌<◌, ◌≤◌, ap, arith}
 use Rattle.lv_geometry.specs.Nodes.{over}
 use Rattle.lv_kinds.specs.Runs.{KnowsRun}

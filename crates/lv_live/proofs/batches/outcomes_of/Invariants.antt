@@ -1,3 +1,4 @@
+-- What the loop keeps in `outcomes_of`: the outcome of each job, in order, with room made at once.
 use Rattle.std.proofs.Common.{◌≡◌, take}
 use Rattle.lv_live.proofs.batches.outcomes_of.Given as goal
 

@@ -1,3 +1,4 @@
+-- Proof of `claim`: claims a job for the least node that wants one, and keeps it under its number.
 use Rattle.std.proofs.Common.{Some}
 use Rattle.lv_live.proofs.WorldLaws.{step_claim, world_claim}
 use Rattle.lv_live.proofs.playing.claim.Goals as goal

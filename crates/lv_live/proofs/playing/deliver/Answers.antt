@@ -1,3 +1,4 @@
+-- Proof of `deliver`: delivers what the job of a number gave, however late, and however often.
 use Rattle.std.proofs.Common.{◌∙◌, sym}
 use Rattle.lv_live.proofs.WorldLaws.{remade_job, step_delivery, step_no_job, world_delivery}
 use Rattle.lv_live.proofs.playing.deliver.Goals as goal

@@ -1,3 +1,4 @@
+-- Proof of `play`: plays events in turn, and puts the reply to each after the replies.
 use Rattle.std.proofs.Common.{◌∙◌, refl, arith}
 use Rattle.std.proofs.lemmas.Grind.{take_at_read}
 use Rattle.lv_live.proofs.PlayLaws.{plays_more}

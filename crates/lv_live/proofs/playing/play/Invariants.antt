@@ -1,3 +1,4 @@
+-- What the loop keeps in `play`: plays events in turn, and puts the reply to each after the replies.
 use Rattle.std.proofs.Common.{◌≡◌, ◌+◌, ◌≤◌, ◌-◌, length, take, vec_capacity, vec_len}
 use Rattle.lv_live.specs.State.{SameSetting, with_issued}
 use Rattle.lv_live.proofs.PlayLaws.{Plays}

@@ -1,3 +1,4 @@
+-- Proof of `play_edit`: makes an edit.
 use Rattle.std.proofs.Common.{Ok}
 use Rattle.lv_live.proofs.WorldLaws.{world_edit}
 use Rattle.lv_live.proofs.playing.play_edit.Goals as goal

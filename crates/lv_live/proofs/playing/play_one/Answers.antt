@@ -1,3 +1,4 @@
+-- Proof of `play_one`: plays one event.
 use Rattle.lv_live.proofs.playing.play_one.Goals as goal
 
 pub returns-in-Edit-clause-world : goal.returns-in-Edit-clause-world

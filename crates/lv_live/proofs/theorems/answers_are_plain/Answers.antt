@@ -1,3 +1,4 @@
+-- Proof of `answers_are_plain`: in every run edits and queries are answered by the edits alone.
 use Rattle.lv_live.proofs.RunLaws.{run_is_plain}
 use Rattle.lv_live.proofs.theorems.answers_are_plain.Goals as goal
 

@@ -1,3 +1,4 @@
+-- Proof of `honesty_lasts`: honesty lasts: contents that were taken honestly at a version stay so through every event, whatever is edited, claimed, delivered or forgotten.
 use Rattle.lv_edits.proofs.HistoryLaws.{list_of_legal}
 use Rattle.lv_live.proofs.HonestSteps.{honest_after_step}
 use Rattle.lv_live.proofs.theorems.honesty_lasts.Goals as goal

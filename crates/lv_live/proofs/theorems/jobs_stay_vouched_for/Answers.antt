@@ -1,3 +1,4 @@
+-- Proof of `jobs_stay_vouched_for`: a job stays good.
 use Rattle.lv_edits.proofs.HistoryLaws.{list_of_legal}
 use Rattle.lv_refresh.proofs.HonestyLaws.{vouched_of_honest}
 use Rattle.lv_live.proofs.EveryRunLaws.{run_honest}

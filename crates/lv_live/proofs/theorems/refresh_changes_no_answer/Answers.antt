@@ -1,3 +1,4 @@
+-- Proof of `refresh_changes_no_answer`: refresh changes no answer.
 use Rattle.std.proofs.Common.{◌∙◌, sym, ap}
 use Rattle.lv_live.specs.PlainAnswers.{plain_answers, without_refresh}
 use Rattle.lv_live.proofs.RunLaws.{run_is_plain}

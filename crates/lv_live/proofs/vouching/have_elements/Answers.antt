@@ -1,3 +1,4 @@
+-- Proof of `have_elements`: whether elements are those of a whole block.
 use Rattle.std.proofs.Common.{◌≡◌, subst}
 use Rattle.std.specs.Prelude.{◌↔◌, IsTrue}
 use Rattle.std.specs.Ordering.{int_eq}

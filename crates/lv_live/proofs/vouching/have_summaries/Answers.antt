@@ -1,3 +1,4 @@
+-- Proof of `have_summaries`: whether summaries are those of a whole node's children, which are fresh.
 use Rattle.std.proofs.Common.{subst}
 use Rattle.std.proofs.lemmas.Bool.{false≢true}
 use Rattle.lv_refresh.specs.declared.contents.Contents.TheVariants.{Children}

@@ -1,3 +1,4 @@
+-- Proof of `run`: plays a list of events, and gives the reply to each.
 use Rattle.std.proofs.Common.{ap, ◌∙◌}
 use Rattle.lv_live.proofs.worlds.run.Goals as goal
 

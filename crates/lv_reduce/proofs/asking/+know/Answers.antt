@@ -1,3 +1,4 @@
+-- Proof of `know`: the summary of a whole node: what is known, or else computed from the node's children, which are asked first.
 use Rattle.std.proofs.Common.{◌≡◌, refl, sym, ap, ◌∙◌, arith}
 use Rattle.lv_geometry.proofs.NodeLaws.{level_of_node}
 use Rattle.lv_summary.specs.Table.{whole_in}

@@ -1,3 +1,4 @@
+-- What the loop keeps in `know`, and the measure of its calls of `know`: the summary of a whole node: what is known, or else computed from the node's children, which are asked first.
 use Rattle.lv_edits.specs.History.{list_of}
 use Rattle.lv_bodies.specs.Body.{CanFold}
 use Rattle.lv_reduce.proofs.KnowLaws.{Gathers}

@@ -1,3 +1,4 @@
+-- Proof of `ask`: the fold of the elements from index `lo` up to `hi`, `hi` excluded, as `reduce` answers it; what is computed for it is kept in the table.
 use Rattle.std.proofs.Common.{◌<◌, ◌≤◌, FitsSigned, length, rules, ap, ◌∙◌, arith}
 use Rattle.std.specs.Int.{w64}
 use Rattle.std.proofs.lemmas.Int.{to_z-of_z}

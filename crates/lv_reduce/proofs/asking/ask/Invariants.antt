@@ -1,3 +1,4 @@
+-- What the loop keeps in `ask`: the fold of the elements from index `lo` up to `hi`, `hi` excluded, as `reduce` answers it; what is computed for it is kept in the table.
 use Rattle.std.proofs.Common.{◌-◌}
 use Rattle.lv_reduce.proofs.AskLaws.{Asks}
 use Rattle.lv_reduce.proofs.asking.ask.Given as goal

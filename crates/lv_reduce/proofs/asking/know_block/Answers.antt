@@ -1,3 +1,4 @@
+-- Proof of `know_block`: the summary of a whole block that is not known, computed from its elements.
 use Rattle.std.proofs.Common.{◌∙◌, ap}
 use Rattle.lv_bodies.specs.Body.{fold_of}
 use Rattle.lv_known.proofs.FoldableLaws.{can_fold}

@@ -1,3 +1,4 @@
+-- Proof of `count_reads`: how many cells and summaries are read for a range that is not refused.
 use Rattle.std.proofs.Common.{arith}
 use Rattle.lv_geometry.proofs.NodeLaws.{some_width}
 use Rattle.lv_summary.specs.Table.{fresh_in}

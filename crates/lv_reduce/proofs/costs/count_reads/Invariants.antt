@@ -1,3 +1,4 @@
+-- What the loop keeps in `count_reads`: how many cells and summaries are read for a range that is not refused.
 use Rattle.std.proofs.Common.{◌-◌}
 use Rattle.lv_summary.specs.Table.{fresh_in}
 use Rattle.lv_reduce.proofs.WalkLaws.{IsWalk}

@@ -1,3 +1,4 @@
+-- Proof of `copy_range`: the elements of a range, copied out of the vector, with room made at once.
 use Rattle.std.proofs.Common.{◌++◌, sym, ap, ◌∙◌, arith}
 use Rattle.lv_edits.specs.History.{list_of}
 use Rattle.lv_reduce.proofs.PieceLaws.{slice_range-run}

@@ -1,3 +1,4 @@
+-- Proof of `greatest_fresh`: the greatest fresh node that begins at index `at` and ends at or before `hi`, or none.
 use Rattle.std.proofs.Common.{◌-◌, ap, sym, ◌∙◌, arith}
 use Rattle.lv_geometry.specs.Nodes.{over}
 use Rattle.lv_summary.specs.Table.{entry_in}

@@ -1,3 +1,4 @@
+-- What the loop keeps in `greatest_fresh`: the greatest fresh node that begins at index `at` and ends at or before `hi`, or none.
 use Rattle.std.proofs.Common.{◌≤◌}
 use Rattle.lv_summary.specs.Table.{fresh_in}
 use Rattle.lv_reduce.specs.Pieces.{Fits, NoneFresh}

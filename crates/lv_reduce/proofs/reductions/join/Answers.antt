@@ -1,3 +1,4 @@
+-- Proof of `join`: a fold with the fold of what follows joined at its end.
 use Rattle.std.proofs.Common.{◌+◌, subst, sym}
 use Rattle.lv_reduce.proofs.reductions.join.Goals as goal
 

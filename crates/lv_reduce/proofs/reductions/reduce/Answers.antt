@@ -1,3 +1,4 @@
+-- Proof of `reduce`: the fold of the elements from index `lo` up to `hi`, `hi` excluded.
 use Rattle.std.proofs.Common.{◌≡◌, ◌-◌, ◌+◌, ◌^◌, ◌<◌, ◌≤◌, FitsSigned, length, rules, refl, subst, sym, ◌∙◌, arith}
 use Rattle.std.specs.Int.{w64}
 use Rattle.std.proofs.lemmas.Int.{to_z-of_z}

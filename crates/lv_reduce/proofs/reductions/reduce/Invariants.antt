@@ -1,3 +1,4 @@
+-- What the loop keeps in `reduce`: the fold of the elements from index `lo` up to `hi`, `hi` excluded.
 use Rattle.std.proofs.Common.{◌≡◌, ◌-◌}
 use Rattle.lv_bodies.specs.Body.{fold_of}
 use Rattle.lv_summary.specs.Table.{fresh_in}

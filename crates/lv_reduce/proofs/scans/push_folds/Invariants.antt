@@ -1,3 +1,4 @@
+-- What the loop keeps in `push_folds`: puts the scan of some elements, from what stands before them, behind the values that are there, and gives what they lead to.
 use Rattle.std.proofs.Common.{◌≡◌, ◌+◌, ◌^◌, ◌≤◌, ◌++◌, ℕ, length, take, vec_capacity, vec_len}
 use Rattle.lv_reduce.specs.Running.{reached, scan_from}
 use Rattle.lv_reduce.proofs.scans.push_folds.Given as goal

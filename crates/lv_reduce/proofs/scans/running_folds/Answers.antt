@@ -1,3 +1,4 @@
+-- Proof of `running_folds`: the folds of the beginnings of a range: each with the element at its end, or each without it.
 use Rattle.std.proofs.Common.{◌+◌, length, arith}
 use Rattle.lv_edits.specs.History.{list_of}
 use Rattle.lv_known.proofs.FoldableLaws.{can_fold}

@@ -1,3 +1,4 @@
+-- What the loop keeps in `running_folds`: the folds of the beginnings of a range: each with the element at its end, or each without it.
 use Rattle.std.proofs.Common.{◌≡◌, ◌-◌, ◌≤◌, vec_capacity, vec_len}
 use Rattle.lv_bodies.specs.Body.{fold_of}
 use Rattle.lv_reduce.specs.Answer.{scan_of, slice_of}

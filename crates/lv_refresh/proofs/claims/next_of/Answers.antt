@@ -1,3 +1,4 @@
+-- Proof of `next_of`: the least node of a level that wants a job, and the number of the edit that touched it last, which is claimed with it.
 use Rattle.std.proofs.Common.{◌≡◌, get_or, ◌∙◌}
 use Rattle.lv_refresh.specs.ClaimTable.{version_of}
 use Rattle.lv_refresh.proofs.PickLaws.{Passes-from, Picks-from, hints_after, row_of_wanted}

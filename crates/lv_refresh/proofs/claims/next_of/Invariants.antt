@@ -1,3 +1,4 @@
+-- What the loop keeps in `next_of`: the least node of a level that wants a job, and the number of the edit that touched it last, which is claimed with it.
 use Rattle.std.proofs.Common.{◌≡◌, ℕ, true, length, sum}
 use Rattle.lv_refresh.specs.Inner.{wants_at}
 use Rattle.lv_refresh.specs.Marks.{is_marked}

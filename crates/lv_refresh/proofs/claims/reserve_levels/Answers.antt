@@ -1,3 +1,4 @@
+-- Proof of `reserve_levels`: makes memory for so many rows on each level.
 use Rattle.std.proofs.Common.{◌≡◌, ◌+◌, ◌<◌, ◌≤◌, ap, arith, ◌∙◌}
 use Rattle.lv_geometry.proofs.LevelLaws.{each_thing}
 use Rattle.lv_geometry.specs.Levels.{thing_at}

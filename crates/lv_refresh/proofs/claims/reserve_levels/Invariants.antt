@@ -1,3 +1,4 @@
+-- What the loop keeps in `reserve_levels`: makes memory for so many rows on each level.
 use Rattle.std.proofs.Common.{ℕ, ◌<◌, ◌≤◌}
 use Rattle.lv_geometry.specs.Levels.{thing_at}
 use Rattle.lv_refresh.specs.Inner.{HaveSameRows}

@@ -1,3 +1,4 @@
+-- Proof of `fold_near`: the fold of the elements of a whole block.
 use Rattle.std.proofs.Common.{ap, refl, ◌∙◌}
 use Rattle.lv_bodies.specs.Body.{fold_of}
 use Rattle.lv_refresh.proofs.SweepLaws.{near_elements}

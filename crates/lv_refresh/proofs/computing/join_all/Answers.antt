@@ -1,3 +1,4 @@
+-- Proof of `join_all`: the join of eight summaries, which are those of a node's children.
 use Rattle.std.proofs.Common.{◌≡◌, sym, ◌∙◌, arith}
 use Rattle.std.proofs.lemmas.Option.{slice_get_read}
 use Rattle.lv_known.proofs.FoldableLaws.{can_fold}

@@ -1,3 +1,4 @@
+-- What the loop keeps in `join_all`: the join of eight summaries, which are those of a node's children.
 use Rattle.lv_refresh.proofs.ComputeLaws.{Joins}
 use Rattle.lv_refresh.proofs.computing.join_all.Given as goal
 

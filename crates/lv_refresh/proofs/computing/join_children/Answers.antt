@@ -1,3 +1,4 @@
+-- Proof of `join_children`: the join of the summaries of a whole node's children, from left to right.
 use Rattle.std.proofs.Common.{◌≡◌, sym, ap, ◌∙◌, arith}
 use Rattle.std.proofs.lemmas.Bool.{and_parts}
 use Rattle.lv_summary.specs.Table.{entry_in, fresh_in}

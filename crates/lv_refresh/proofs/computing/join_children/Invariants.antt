@@ -1,3 +1,4 @@
+-- What the loop keeps in `join_children`: the join of the summaries of a whole node's children, from left to right.
 use Rattle.lv_refresh.proofs.ComputeLaws.{Joins}
 use Rattle.lv_refresh.proofs.computing.join_children.Given as goal
 

@@ -1,3 +1,4 @@
+-- Proof of `join_node`.
 use Rattle.lv_refresh.proofs.ComputeLaws.{child_is_fresh}
 use Rattle.lv_refresh.proofs.computing.join_node.Goals as goal
 

@@ -1,3 +1,4 @@
+-- Proof of `join_eight`: eight summaries joined from left to right.
 use Rattle.std.proofs.Common.{arith}
 use Rattle.lv_refresh.proofs.JoinLaws.{can_join_child}
 use Rattle.lv_refresh.proofs.outcomes.join_eight.Goals as goal

@@ -1,3 +1,4 @@
+-- Proof of `accept_vetted`: takes an outcome into a vector of its age.
 use Rattle.lv_series.proofs.RefreshLaws.{part_of_taken}
 use Rattle.lv_series.proofs.ages.accept_vetted.Goals as goal
 

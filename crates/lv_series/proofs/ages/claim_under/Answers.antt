@@ -1,3 +1,4 @@
+-- Proof of `claim_under`: the next job of a vector, with the number of its shard and an age; none exactly where no node of the vector wants one.
 use Rattle.lv_series.proofs.RefreshLaws.{part_of_claim}
 use Rattle.lv_series.proofs.ages.claim_under.Goals as goal
 

@@ -1,3 +1,4 @@
+-- Proof of `swap_one`: exchanges two elements of a full shard, and gives the shard's fold after that.
 use Rattle.std.proofs.Common.{ap, sym, ◌∙◌}
 use Rattle.lv_series.specs.Chain.{sum_of}
 use Rattle.lv_series.proofs.changing.swap_one.Goals as goal

@@ -1,3 +1,4 @@
+-- Proof of `write_one`: overwrites an element of a full shard, and gives the shard's fold after it.
 use Rattle.std.proofs.Common.{ap, sym, ◌∙◌}
 use Rattle.std.specs.Int.{w64}
 use Rattle.std.proofs.lemmas.Int.{to_z-of_z}

@@ -1,3 +1,4 @@
+-- Proof of `drop_front`: drops so many full shards at the front.
 use Rattle.std.proofs.Common.{◌≡◌, drop, arith, ap, refl, sym, ◌∙◌}
 use Rattle.std.proofs.lemmas.List.{drop-drop}
 use Rattle.lv_series.proofs.cutting.drop_front.Goals as goal

@@ -1,3 +1,4 @@
+-- What the loop keeps in `drop_front`: drops so many full shards at the front.
 use Rattle.std.proofs.Common.{◌≡◌, drop}
 use Rattle.lv_series.proofs.cutting.drop_front.Given as goal
 

@@ -1,3 +1,4 @@
+-- What the loop keeps in `keep_sums`: keeps so many folds, the first ones.
 use Rattle.std.proofs.Common.{◌≡◌, length, take}
 use Rattle.lv_series.proofs.cutting.keep_sums.Given as goal
 

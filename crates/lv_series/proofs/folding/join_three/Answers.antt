@@ -1,3 +1,4 @@
+-- Proof of `join_three`: the fold of three ranges side by side, from the fold of each.
 use Rattle.std.proofs.Common.{◌≡◌, ◌++◌, ◌∙◌}
 use Rattle.lv_bodies.specs.Body.{fold_of}
 use Rattle.lv_series.proofs.ChainFolds.{can_front, folds_can_join, folds_joined}

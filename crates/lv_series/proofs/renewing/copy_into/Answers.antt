@@ -1,3 +1,4 @@
+-- Proof of `copy_into`: pushes the elements of a vector to an empty one.
 use Rattle.std.proofs.Common.{length, arith, refl, ap, length-take}
 use Rattle.lv_edits.specs.History.{list_of}
 use Rattle.lv_series.proofs.ShardLaws.{few_in_shard, nothing_held}

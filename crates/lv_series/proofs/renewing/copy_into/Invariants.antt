@@ -1,3 +1,4 @@
+-- What the loop keeps in `copy_into`: pushes the elements of a vector to an empty one.
 use Rattle.std.proofs.Common.{◌≡◌, ◌≤◌, length, take}
 use Rattle.lv_edits.specs.History.{list_of}
 use Rattle.lv_series.specs.Shard.{IsShard}

@@ -1,3 +1,4 @@
+-- Proof of `empty_vector`: a vector that may be a shard, without elements.
 use Rattle.std.proofs.Common.{ap}
 use Rattle.lv_series.proofs.ShardLaws.{nothing_held, same_holding}
 use Rattle.lv_series.proofs.renewing.empty_vector.Goals as goal

@@ -1,3 +1,4 @@
+-- Proof of `make_one`: makes an edit that the elements of a shard allow.
 use Rattle.std.proofs.Common.{ap, sym, ◌∙◌}
 use Rattle.lv_edits.specs.History.{applied}
 use Rattle.lv_series.proofs.ShardLaws.{edit_made}

@@ -1,3 +1,4 @@
+-- Proof of `push_one`: pushes an element, where there are edits and room for one.
 use Rattle.std.proofs.Common.{refl, ◌∷◌, [], ◌++◌}
 use Rattle.std.specs.Int.{w64}
 use Rattle.std.proofs.lemmas.Int.{to_z-of_z}

@@ -1,3 +1,4 @@
+-- What the loop keeps in `claim_first`: the next job of the first shard that has one.
 use Rattle.std.proofs.Common.{◌≡◌}
 use Rattle.lv_series.proofs.rounds.claim_first.Given as goal
 

@@ -1,3 +1,4 @@
+-- What the loop keeps in `forget_each`: forgets the claims of all shards.
 use Rattle.std.proofs.Common.{◌≡◌}
 use Rattle.lv_series.proofs.rounds.forget_each.Given as goal
 

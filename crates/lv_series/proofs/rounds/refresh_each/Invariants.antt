@@ -1,3 +1,4 @@
+-- What the loop keeps in `refresh_each`: does jobs in place, at most so many: those of the first shard that has any, then those of the next.
 use Rattle.std.proofs.Common.{◌≡◌, ◌≤◌}
 use Rattle.lv_series.proofs.rounds.refresh_each.Given as goal
 

@@ -1,3 +1,4 @@
+-- Proof of `jobs_outlast_edits`: a job stays good while the vector of its shard goes on under its age: what was taken honestly from it stays so, whatever is edited.
 use Rattle.lv_series.proofs.RefreshLaws.{honest_later}
 use Rattle.lv_series.proofs.served.jobs_outlast_edits.Goals as goal
 

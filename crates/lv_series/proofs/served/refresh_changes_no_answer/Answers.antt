@@ -1,3 +1,4 @@
+-- Proof of `refresh_changes_no_answer`: refresh changes no answer.
 use Rattle.lv_series.proofs.ServedLaws.{served_alike, served_is_plain}
 use Rattle.lv_series.proofs.served.refresh_changes_no_answer.Goals as goal
 

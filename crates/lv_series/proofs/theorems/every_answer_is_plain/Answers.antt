@@ -1,3 +1,4 @@
+-- Proof of `every_answer_is_plain`.
 use Rattle.lv_series.proofs.PlainLaws.{answers_are_steps, run_is_plain}
 use Rattle.lv_series.proofs.theorems.every_answer_is_plain.Goals as goal
 

@@ -1,3 +1,4 @@
+-- Proof of `shard_at`: the shard of a number, counted from the front; the last one where there is no full shard of that number.
 use Rattle.std.proofs.Common.{arith}
 use Rattle.lv_series.proofs.walking.shard_at.Goals as goal
 

@@ -1,3 +1,4 @@
+-- Proof of `put_edit`: makes an edit: its receipt and its notes, or its refusal.
 use Rattle.std.proofs.Common.{◌≡◌, ◌++◌, append_assoc, arith, ap, flat_map, length, map, refl, ◌∙◌}
 use Rattle.std.proofs.lemmas.List.{length-map, with_items_is}
 use Rattle.lv_series_script.specs.Inside.{brought_up, told_of}

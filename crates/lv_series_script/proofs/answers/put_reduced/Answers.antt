@@ -1,3 +1,4 @@
+-- Proof of `put_reduced`: the value of a kind over a range, or why the range is refused.
 use Rattle.std.proofs.Common.{ap₂, ◌∙◌}
 use Rattle.lv_lines.specs.Texts.{answer_text}
 use Rattle.lv_series.specs.Series.{slice_of}

@@ -1,3 +1,4 @@
+-- Proof of `put_watch`: registers a query.
 use Rattle.lv_series_script.proofs.KnownLaws.{watch_ready}
 use Rattle.lv_series_script.proofs.answers.put_watch.Goals as goal
 

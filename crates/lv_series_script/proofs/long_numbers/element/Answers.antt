@@ -1,3 +1,4 @@
+-- Proof of `element`: the element that a word is.
 use Rattle.std.proofs.Common.{option_map, drop, sym, ap, ◌∙◌, pos, neg_ℤ}
 use Rattle.std.proofs.lemmas.List.{take_rest}
 use Rattle.lv_lines.specs.Numbers.{numeral_in, element_in, allowed, fits_64, is_element}

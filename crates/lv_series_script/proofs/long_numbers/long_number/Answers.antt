@@ -1,3 +1,4 @@
+-- Proof of `long_number`: the number that a word is, at most 2^62.
 use Rattle.std.proofs.Common.{sym, ap, ◌∙◌}
 use Rattle.lv_lines.specs.Numbers.{allowed, numeral_in}
 use Rattle.lv_lines.proofs.ReadDigits.{read_in_64}

@@ -1,3 +1,4 @@
+-- Proof of `numeral`: what one or more digits stand for, where it has 64 bits.
 use Rattle.std.proofs.Common.{arith, ◌∙◌, sym}
 use Rattle.lv_lines.proofs.ReadDigits.{overflow}
 use Rattle.lv_series_script.proofs.long_numbers.numeral.Goals as goal

@@ -1,3 +1,4 @@
+-- What the loop keeps in `find`: the query of a name, if there is one.
 use Rattle.std.proofs.Common.{◌≡◌, drop}
 use Rattle.lv_series_script.specs.Inside.{queries_of}
 use Rattle.lv_series_script.specs.LongQueries.{long_query_of}

@@ -1,3 +1,4 @@
+-- Proof of `forget`: forgets the query of a name; the others keep their order.
 use Rattle.std.proofs.Common.{◌≡◌, ap, sym, subst, ◌∙◌, rules, All, filter, not}
 use Rattle.std.specs.Str.{bytes_eq}
 use Rattle.std.proofs.lemmas.Fn.{filter_same}

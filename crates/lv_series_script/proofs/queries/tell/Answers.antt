@@ -1,3 +1,4 @@
+-- Proof of `tell`: brings each query up to what is kept now, in order of registration, and tells of those whose answer is another than before.
 use Rattle.std.proofs.Common.{◌∙◌, ◌++◌, ap, sym, arith, slice_set}
 use Rattle.std.proofs.lemmas.List.Edits.{map_over_more}
 use Rattle.lv_series_script.specs.Inside.{brought_up, told_of}

@@ -1,3 +1,4 @@
+-- What the loop keeps in `tell`: brings each query up to what is kept now, in order of registration, and tells of those whose answer is another than before.
 use Rattle.std.proofs.Common.{◌≡◌, ◌+◌, ◌-◌, ◌*◌, ◌≤◌, ◌++◌, drop, flat_map, length, map, take, vec_capacity, vec_len}
 use Rattle.lv_series_script.specs.Inside.{brought_up, told_of}
 use Rattle.lv_series_script.proofs.queries.tell.Given as goal

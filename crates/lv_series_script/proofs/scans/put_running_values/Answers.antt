@@ -1,3 +1,4 @@
+-- Proof of `put_running_values`: its values.
 use Rattle.std.proofs.Common.{◌≡◌, ℕ, ◌-◌, ◌≤◌, ◌⊎◌, true, false, FitsSigned, length, take, drop, refl, sym, ap, subst, ◌∙◌, rules, inl, inr, arith}
 use Rattle.std.specs.Int.{w64}
 use Rattle.std.proofs.lemmas.Result.{err_from_is_err_and}

@@ -1,3 +1,4 @@
+-- What the loop keeps in `put_running_values`: its values.
 use Rattle.std.proofs.Common.{◌≡◌, ◌-◌, length}
 use Rattle.lv_bodies.specs.Body.{fold_of}
 use Rattle.lv_bodies.specs.Plain.{plain_value}

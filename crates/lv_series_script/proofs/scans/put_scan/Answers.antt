@@ -1,3 +1,4 @@
+-- Proof of `put_scan`: the scan of a range that nothing refuses.
 use Rattle.std.proofs.Common.{◌++◌, sym, ap₂, ◌∙◌}
 use Rattle.std.proofs.lemmas.Result.{IfErr-weaker, on_ok_weaker}
 use Rattle.lv_lines.specs.Texts.{scan_head}

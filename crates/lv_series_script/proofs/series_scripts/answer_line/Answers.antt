@@ -1,3 +1,4 @@
+-- Proof of `answer_line`: answers a line.
 use Rattle.std.proofs.Common.{[], refl, sym, inl}
 use Rattle.std.proofs.lemmas.List.{append-nil}
 use Rattle.lv_lines.proofs.OutputLemmas.{Writes-put}

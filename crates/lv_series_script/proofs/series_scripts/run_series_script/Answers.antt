@@ -1,3 +1,4 @@
+-- Proof of `run_series_script`: answers a script on a new series: reads its lines, and writes the reply to each, until the reader ends.
 use Rattle.std.proofs.Common.{◌≡◌, [], ap₂, rules}
 use Rattle.lv_series_script.specs.Inside.{known_of}
 use Rattle.lv_series_script.proofs.Simulation.{conversed_plain}

@@ -1,3 +1,4 @@
+-- Proof of `value_between`: the value of a kind over a range that nothing refuses.
 use Rattle.std.proofs.Common.{◌∙◌}
 use Rattle.lv_series.specs.Series.{slice_of}
 use Rattle.lv_series_script.proofs.LongShown.{face_of-any_fold}

@@ -1,3 +1,4 @@
+-- Proof of `numbers`: the numbers that a summary is written by.
 use Rattle.std.proofs.Common.{refl}
 use Rattle.std.specs.Int.{w128}
 use Rattle.std.proofs.lemmas.Int.{to_z-of_z}

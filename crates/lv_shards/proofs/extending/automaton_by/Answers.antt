@@ -1,3 +1,4 @@
+-- Proof of `automaton_by`: the automaton that leads so.
 use Rattle.std.proofs.Common.{◌≡◌, ◌≤◌, true, false, All, sym, ap, ◌∙◌, subst}
 use Rattle.lv_shards.specs.Summaries.{leads_of}
 use Rattle.lv_shards.proofs.Tables.{leads_again, rows_are_states}

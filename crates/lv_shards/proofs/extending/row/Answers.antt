@@ -1,3 +1,4 @@
+-- Proof of `row`: where a state leads by each remainder.
 use Rattle.lv_shards.proofs.Tables.{row_is}
 use Rattle.lv_shards.proofs.extending.row.Goals as goal
 

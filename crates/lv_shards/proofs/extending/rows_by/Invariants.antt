@@ -1,3 +1,4 @@
+-- What the loop keeps in `rows_by`: where each of the eight leads.
 use Rattle.std.proofs.Common.{◌≡◌, ℕ, ◌<◌, [], length, map, slice_index, slice_index_or}
 use Rattle.lv_shards.proofs.extending.rows_by.Given as goal
 

@@ -1,3 +1,4 @@
+-- Proof of `join_all`: the summary of the elements of each part, in the order of the parts.
 use Rattle.std.proofs.Common.{Ok, [], refl, zero-add}
 use Rattle.lv_bodies.specs.Automata.{table_of}
 use Rattle.lv_shards.specs.Summaries.{empty_of, leads_of}

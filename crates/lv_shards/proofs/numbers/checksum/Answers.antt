@@ -1,3 +1,4 @@
+-- Proof of `checksum`: the checksum of some bytes: FNV-1a of 64 bits.
 use Rattle.lv_shards.proofs.Written.{checksum_more, checksum_none}
 use Rattle.lv_shards.proofs.numbers.checksum.Goals as goal
 

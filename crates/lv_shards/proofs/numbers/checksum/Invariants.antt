@@ -1,3 +1,4 @@
+-- What the loop keeps in `checksum`: the checksum of some bytes: FNV-1a of 64 bits.
 use Rattle.std.proofs.Common.{◌≡◌, take}
 use Rattle.lv_shards.specs.Bytes.{checksum_of}
 use Rattle.lv_shards.proofs.numbers.checksum.Given as goal

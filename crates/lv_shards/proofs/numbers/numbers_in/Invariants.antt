@@ -1,3 +1,4 @@
+-- What the loop keeps in `numbers_in`: the numbers whose bytes come first.
 use Rattle.std.proofs.Common.{◌≡◌, ℕ, ◌<◌, length, slice_index}
 use Rattle.lv_shards.specs.Bytes.{number_in}
 use Rattle.lv_shards.proofs.numbers.numbers_in.Given as goal

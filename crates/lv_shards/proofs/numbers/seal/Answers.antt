@@ -1,3 +1,4 @@
+-- Proof of `seal`: bytes, and then those of their checksum.
 use Rattle.std.proofs.Common.{◌++◌, ap, ◌∙◌}
 use Rattle.std.specs.Int.{w64, to_le_bytes}
 use Rattle.lv_shards.specs.Bytes.{sealed_by}

@@ -1,3 +1,4 @@
+-- Proof of `spell`: numbers by their bytes.
 use Rattle.std.proofs.Common.{◌*◌, refl, ◌∙◌, sym, ap, length, arith}
 use Rattle.lv_shards.proofs.Spelled.{spelled_none}
 use Rattle.lv_shards.proofs.Written.{still_many, written_more}

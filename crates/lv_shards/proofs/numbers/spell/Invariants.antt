@@ -1,3 +1,4 @@
+-- What the loop keeps in `spell`: numbers by their bytes.
 use Rattle.std.proofs.Common.{◌≡◌, ◌*◌, length, take}
 use Rattle.lv_shards.specs.Bytes.{spelled}
 use Rattle.lv_shards.proofs.numbers.spell.Given as goal

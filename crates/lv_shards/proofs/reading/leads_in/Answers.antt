@@ -1,3 +1,4 @@
+-- Proof of `leads_in`: what the automaton leads to, if to states.
 use Rattle.std.proofs.Common.{ℕ, [], get_or, ap, ◌∙◌, arith}
 use Rattle.lv_shards.proofs.Back.{four_back, not_refused, row_at, row_back, states_back}
 use Rattle.lv_shards.proofs.reading.leads_in.Goals as goal

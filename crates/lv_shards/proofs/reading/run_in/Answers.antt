@@ -1,3 +1,4 @@
+-- Proof of `run_in`: the best run of some elements.
 use Rattle.std.proofs.Common.{ℕ, ap, get_or}
 use Rattle.lv_shards.specs.Bytes.{run_or_zeros}
 use Rattle.lv_shards.proofs.Back.{run_back}

@@ -1,3 +1,4 @@
+-- Proof of `deliver`: delivers a summary of a version to the table of six levels and a size.
 use Rattle.std.proofs.Common.{sym, ◌∙◌}
 use Rattle.std.proofs.lemmas.Bool.{cond-false, cond-true}
 use Rattle.lv_summary.specs.Inner.{table_of}

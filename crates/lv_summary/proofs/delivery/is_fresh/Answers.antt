@@ -1,3 +1,4 @@
+-- Proof of `is_fresh`: whether a node is whole, and what is kept for it has the number of the last edit that touched it.
 use Rattle.std.proofs.Common.{sym, ◌∙◌}
 use Rattle.lv_summary.proofs.NodeRows.{fresh_in-rows}
 use Rattle.lv_summary.proofs.delivery.is_fresh.Goals as goal

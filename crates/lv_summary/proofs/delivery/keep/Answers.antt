@@ -1,3 +1,4 @@
+-- Proof of `keep`: keeps a summary of a version for a whole node.
 use Rattle.std.proofs.Common.{refl, ap, ◌∙◌}
 use Rattle.lv_summary.specs.Inner.{table_of, with_kept}
 use Rattle.lv_summary.proofs.Changes.{HasRowsChanged-one, IsSound-kept, Keeps-at}

@@ -1,3 +1,4 @@
+-- Proof of `join_all`: a summary joined with each of some others in order.
 use Rattle.std.proofs.Common.{take, sym, ap, ◌∙◌, subst, arith}
 use Rattle.std.proofs.lemmas.List.Sums.{fold_more}
 use Rattle.lv_bodies.specs.Long.{CanJoinLong}

@@ -1,3 +1,4 @@
+-- What the loop keeps in `join_all`: a summary joined with each of some others in order.
 use Rattle.std.proofs.Common.{◌≡◌, ◌+◌, take}
 use Rattle.lv_sums.specs.Levels.{joined_on}
 use Rattle.lv_sums.proofs.joining.join_all.Given as goal

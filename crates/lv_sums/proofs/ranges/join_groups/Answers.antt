@@ -1,3 +1,4 @@
+-- Proof of `join_groups`: a summary joined with those of the groups from `lo` up to `hi`, by whole regions where there are some.
 use Rattle.std.proofs.Common.{◌/◌, refl, arith}
 use Rattle.lv_sums.proofs.Ways.{all_are, all_may, back_may, ceil_bounds, front_may, middle_may, parts_are}
 use Rattle.lv_sums.proofs.ranges.join_groups.Goals as goal

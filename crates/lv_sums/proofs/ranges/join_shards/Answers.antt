@@ -1,3 +1,4 @@
+-- Proof of `join_shards`: a summary joined with those of the shards from place `lo` up to `hi`, by whole groups and regions where there are some.
 use Rattle.std.proofs.Common.{◌-◌, ◌*◌, ◌/◌, refl, arith}
 use Rattle.lv_sums.specs.Levels.{run_of}
 use Rattle.lv_sums.proofs.InOrder.{may_join_all}

@@ -1,3 +1,4 @@
+-- Proof of `refresh`: computes the entries over the shard at a place anew, of its group first: that of its region is the join of groups.
 use Rattle.std.proofs.Common.{◌∙◌, arith}
 use Rattle.lv_sums.proofs.LevelLaws.{group_may, groups_again, region_may, regions_again}
 use Rattle.lv_sums.proofs.refreshing.refresh.Goals as goal

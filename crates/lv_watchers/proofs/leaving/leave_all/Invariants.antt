@@ -1,3 +1,4 @@
+-- What the loop keeps in `leave_all`: takes the parts of subscribers back, and gathers what they leave, where nothing is gathered yet.
 use Rattle.std.proofs.Common.{◌≡◌, length, vec_capacity, vec_len}
 use Rattle.lv_watchers.specs.Watchers.{TakesWatchers}
 use Rattle.lv_watchers.proofs.leaving.leave_all.Given as goal

@@ -1,3 +1,4 @@
+-- Proof of `put_all`: puts the lines of notes at an edit.
 use Rattle.std.proofs.Common.{◌∙◌}
 use Rattle.std.proofs.lemmas.Result.{err_from_is_err_and}
 use Rattle.lv_watchers.proofs.NoticeLaws.{Writes-note, WritesFront-notes}

@@ -1,3 +1,4 @@
+-- Proof of `write_told`: writes the lines of what was told.
 use Rattle.std.proofs.lemmas.Result.{IfErr-weaker, err_from_is_err_and, on_ok_weaker}
 use Rattle.lv_watchers.proofs.NoticeLaws.{sent_all, sent_front}
 use Rattle.lv_watchers.proofs.notices.write_told.Goals as goal

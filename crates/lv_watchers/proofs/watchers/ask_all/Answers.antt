@@ -1,3 +1,4 @@
+-- Proof of `ask_all`: has a subscriber without questions ask these.
 use Rattle.std.proofs.Common.{◌≡◌, ◌∙◌, [], ap, map, sym, take, arith}
 use Rattle.std.proofs.lemmas.List.{take_all}
 use Rattle.std.proofs.lemmas.Result.{err_from_is_err_and}

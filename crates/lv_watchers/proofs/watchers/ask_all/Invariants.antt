@@ -1,3 +1,4 @@
+-- What the loop keeps in `ask_all`: has a subscriber without questions ask these.
 use Rattle.std.proofs.Common.{◌≡◌, [], None, map, take}
 use Rattle.lv_hub.specs.Notes.{answer_to}
 use Rattle.lv_watchers.specs.Asking.{refusal_behind}

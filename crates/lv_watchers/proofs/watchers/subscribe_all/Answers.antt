@@ -1,3 +1,4 @@
+-- Proof of `subscribe_all`: gives each subscriber a part of the hub, of which nobody has seen an edit.
 use Rattle.std.proofs.Common.{◌≡◌, ◌∙◌, is_ok, true, refl, ap, sym, map, rules, arith}
 use Rattle.std.proofs.lemmas.Iterator.Adapters.{YieldsList-from_vec}
 use Rattle.std.proofs.lemmas.Iterator.Consumers.{YieldsList-end, YieldsList-so_far, YieldsList-turn}

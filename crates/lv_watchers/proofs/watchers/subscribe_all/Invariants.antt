@@ -1,3 +1,4 @@
+-- What the loop keeps in `subscribe_all`: gives each subscriber a part of the hub, of which nobody has seen an edit.
 use Rattle.std.proofs.Common.{◌≡◌, ◌+◌, [], None, length, map}
 use Rattle.lv_watchers.specs.Asking.{refusal_of_all}
 use Rattle.lv_watchers.specs.Watchers.{watcher_at}

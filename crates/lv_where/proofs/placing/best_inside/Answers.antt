@@ -1,3 +1,4 @@
+-- Proof of `best_inside`.
 use Rattle.std.proofs.Common.{FitsSigned, None, Some, of_z, refl, rules, slice_range, subst, sym, to_z, ◌∙◌}
 use Rattle.std.specs.Int.{w128}
 use Rattle.std.proofs.lemmas.Int.{to_z-of_z}

@@ -1,3 +1,4 @@
+-- Proof of `end_inside`.
 use Rattle.std.proofs.Common.{◌<ℤ◌, of_z, pos, subst, to_z}
 use Rattle.std.specs.Int.{w128}
 use Rattle.std.proofs.lemmas.Int.{to_z-of_z}

@@ -1,3 +1,4 @@
+-- Proof of `greatest_inside`.
 use Rattle.std.proofs.Common.{FitsSigned, None, Some, ap, of_z, refl, rules, slice_range, subst, sym, to_z, w64, ◌∙◌}
 use Rattle.std.proofs.lemmas.Int.{to_z-of_z}
 use Rattle.lv_bodies.specs.Automata.{table_of}

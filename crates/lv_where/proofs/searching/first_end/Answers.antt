@@ -1,3 +1,4 @@
+-- Proof of `first_end`: the least end of a range from `lo` on that has what is sought, or none.
 use Rattle.std.proofs.Common.{◌+◌, ◌<◌, ◌≤◌, arith, length, slice_range, sym, ◌∙◌}
 use Rattle.lv_geometry.proofs.NodeLaws.{some_width}
 use Rattle.lv_bodies.specs.Automata.{table_of}

@@ -1,3 +1,4 @@
+-- What the loop keeps in `first_end`: the least end of a range from `lo` on that has what is sought, or none.
 use Rattle.std.proofs.Common.{◌-◌}
 use Rattle.lv_bodies.specs.Automata.{table_of}
 use Rattle.lv_edits.specs.History.{list_of}

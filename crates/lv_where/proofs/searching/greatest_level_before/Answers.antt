@@ -1,3 +1,4 @@
+-- Proof of `greatest_level_before`: the greatest level of which a node ends before index `at` and begins at or behind `lo`, at most 6; 0 stands for a cell.
 use Rattle.std.proofs.Common.{◌*◌, ◌/◌, ◌^◌, ◌≤◌, arith}
 use Rattle.std.proofs.Math.Pow.{pow_mono}
 use Rattle.lv_geometry.proofs.NodeLaws.{width_in_twos}

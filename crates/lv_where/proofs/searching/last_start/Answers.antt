@@ -1,3 +1,4 @@
+-- Proof of `last_start`: the greatest start of a range up to `hi` that has what is sought, or none.
 use Rattle.std.proofs.Common.{◌-◌, ◌<◌, ◌≤◌, arith, slice_range, sym, ◌∙◌}
 use Rattle.lv_geometry.proofs.NodeLaws.{some_width}
 use Rattle.lv_bodies.specs.Automata.{table_of}

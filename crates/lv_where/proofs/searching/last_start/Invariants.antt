@@ -1,3 +1,4 @@
+-- What the loop keeps in `last_start`: the greatest start of a range up to `hi` that has what is sought, or none.
 use Rattle.std.proofs.Common.{◌-◌}
 use Rattle.lv_bodies.specs.Automata.{table_of}
 use Rattle.lv_edits.specs.History.{list_of}

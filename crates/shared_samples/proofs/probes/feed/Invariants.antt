@@ -1,3 +1,4 @@
+-- What the loop keeps in `feed`: offers a probe's samples, in order.
 use Rattle.shared_samples.specs.Reports.{IsProbe}
 use Rattle.shared_samples.proofs.probes.feed.Given as goal
 

@@ -1,3 +1,4 @@
+-- Proof of `follow`: asks for the total and reports it, unless another sample came meanwhile or memory is short.
 use Rattle.std.proofs.Common.{refl}
 use Rattle.shared_samples.proofs.Telling.{probe_quiet, probe_told}
 use Rattle.shared_samples.proofs.probes.follow.Goals as goal

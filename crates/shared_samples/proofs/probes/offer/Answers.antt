@@ -1,3 +1,4 @@
+-- Proof of `offer`: offers sample `k` of a probe, and counts it as accepted or as refused.
 use Rattle.std.proofs.Common.{◌+◌, sym, subst, rules, arith}
 use Rattle.std.specs.Int.{w64}
 use Rattle.std.proofs.lemmas.Int.{to_z-of_z}

@@ -1,3 +1,4 @@
+-- Proof of `part`: the seats of probes, and their reports.
 use Rattle.std.proofs.Common.{◌∙◌, length, map, ap, sym, rules, arith}
 use Rattle.std.proofs.lemmas.Iterator.Adapters.{YieldsList-from_vec}
 use Rattle.std.proofs.lemmas.Iterator.Consumers.{YieldsList-end, YieldsList-turn}

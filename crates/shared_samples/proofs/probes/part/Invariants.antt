@@ -1,3 +1,4 @@
+-- What the loop keeps in `part`: the seats of probes, and their reports.
 use Rattle.std.proofs.Common.{◌≡◌, ◌≤◌, map, vec_len}
 use Rattle.std.specs.Vec.{vec_capacity}
 use Rattle.shared_samples.proofs.probes.part.Given as goal

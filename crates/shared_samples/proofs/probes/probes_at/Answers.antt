@@ -1,3 +1,4 @@
+-- Proof of `probes_at`: a probe for each seat of a new board, which has offered no sample yet.
 use Rattle.std.proofs.Common.{◌∙◌, ◌++◌, [], ◌∷◌, length, map, ap, refl, sym, subst, rules, arith}
 use Rattle.std.specs.Prelude.{All}
 use Rattle.std.proofs.lemmas.Iterator.Adapters.{YieldsList-from_vec}

@@ -1,3 +1,4 @@
+-- What the loop keeps in `probes_at`: a probe for each seat of a new board, which has offered no sample yet.
 use Rattle.std.proofs.Common.{◌≡◌, ◌≤◌, map, vec_len}
 use Rattle.std.specs.Prelude.{All}
 use Rattle.std.specs.Vec.{vec_capacity}

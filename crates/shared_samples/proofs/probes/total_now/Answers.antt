@@ -1,3 +1,4 @@
+-- Proof of `total_now`: the total of all samples, or none where another one came while it was summed.
 use Rattle.std.proofs.Common.{rules, arith}
 use Rattle.lv_board.specs.Tells.{actor_of}
 use Rattle.shared_samples.proofs.Telling.{quiet_trans, total_told}

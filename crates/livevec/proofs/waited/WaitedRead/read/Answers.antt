@@ -1,3 +1,4 @@
+-- Proof of `WaitedRead::read`.
 use Rattle.livevec.proofs.WaitedStreams.{keeps_both, keeps_itself}
 use Rattle.livevec.proofs.waited.WaitedRead.read.Goals as goal
 

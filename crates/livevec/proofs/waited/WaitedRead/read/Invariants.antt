@@ -1,3 +1,4 @@
+-- What the loop keeps in `WaitedRead::read`.
 use Rattle.std.specs.Io.KnownBytes.{Keeps}
 use Rattle.livevec.proofs.waited.WaitedRead.read.Given as goal
 

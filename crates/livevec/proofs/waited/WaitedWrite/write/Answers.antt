@@ -1,3 +1,4 @@
+-- Proof of `WaitedWrite::write`.
 use Rattle.livevec.proofs.WaitedStreams.{keeps_both, keeps_itself}
 use Rattle.livevec.proofs.waited.WaitedWrite.write.Goals as goal
 

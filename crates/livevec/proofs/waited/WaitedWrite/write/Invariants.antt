@@ -1,3 +1,4 @@
+-- What the loop keeps in `WaitedWrite::write`.
 use Rattle.std.specs.Io.KnownBytes.{Keeps}
 use Rattle.livevec.proofs.waited.WaitedWrite.write.Given as goal
 

@@ -1,3 +1,4 @@
+-- Proof of `KindVector::ask`: the summary by all six kinds, which are kept beside what is delivered.
 use Rattle.livevec_c.proofs.KindVectorLaws.{still_kind_vector}
 use Rattle.livevec_c.proofs.kind_vectors.KindVector.ask.Goals as goal
 

@@ -1,3 +1,4 @@
+-- Proof of `KindVector::first_greatest`: the first of the greatest elements, the same way.
 use Rattle.livevec_c.proofs.kind_vectors.KindVector.first_greatest.Goals as goal
 
 pub first_greatest-requires-clause-agrees : goal.first_greatest-requires-clause-agrees

@@ -1,3 +1,4 @@
+-- Proof of `KindVector::new`: an empty vector, for which nothing is claimed and nothing kept.
 use Rattle.std.proofs.Common.{ap, subst, sym}
 use Rattle.lv_bodies.specs.Automata.{table_of}
 use Rattle.lv_kinds.specs.Kinds.{AreKept}

@@ -1,3 +1,4 @@
+-- Proof of `KindVector::push_all`: pushes values in order, all of them or none, and tells the number of the last edit.
 use Rattle.std.proofs.Common.{sym, ◌∙◌}
 use Rattle.livevec_c.proofs.PushedLaws.{limits_kept}
 use Rattle.livevec_c.proofs.kind_vectors.KindVector.push_all.Goals as goal

@@ -1,3 +1,4 @@
+-- Proof of `KindVector::reaches`: the least end up to which the elements from index `lo` on add up to `sum`, or none.
 use Rattle.livevec_c.proofs.kind_vectors.KindVector.reaches.Goals as goal
 
 pub reaches-requires-clause-agrees : goal.reaches-requires-clause-agrees

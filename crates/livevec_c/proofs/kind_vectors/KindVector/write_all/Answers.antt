@@ -1,3 +1,4 @@
+-- Proof of `KindVector::write_all`: writes values at indices in order, all of them or none.
 use Rattle.std.proofs.Common.{sym, ◌∙◌}
 use Rattle.lv_edits.specs.Batches.{writes_at}
 use Rattle.livevec_c.proofs.WrittenLaws.{limits_kept_by}

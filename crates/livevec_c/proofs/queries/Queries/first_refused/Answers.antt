@@ -1,3 +1,4 @@
+-- Proof of `Queries::first_refused`.
 use Rattle.std.proofs.Common.{Some, not, rules, tests}
 use Rattle.std.proofs.lemmas.Iterator.{YieldsList-from_slice}
 use Rattle.std.proofs.lemmas.Iterator.Search.{position_from_yields_List}

@@ -1,3 +1,4 @@
+-- Proof of `Queries::place`: where the question of a name stands, if there is one.
 use Rattle.std.proofs.Common.{rules, tests}
 use Rattle.std.specs.Str.{bytes_eq}
 use Rattle.std.proofs.lemmas.Iterator.{YieldsList-from_slice}

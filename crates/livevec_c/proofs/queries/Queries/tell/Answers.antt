@@ -1,3 +1,4 @@
+-- Proof of `Queries::tell`.
 use Rattle.std.proofs.Common.{◌≡◌, ◌∙◌, length, map, refl, ap, arith}
 use Rattle.lv_edits.specs.History.{list_of}
 use Rattle.livevec_c.specs.Queried.{answer_by}

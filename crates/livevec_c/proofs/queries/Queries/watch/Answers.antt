@@ -1,3 +1,4 @@
+-- Proof of `Queries::watch`: registers a question.
 use Rattle.std.proofs.Common.{◌≡◌, Some, None, subst, sym, inl}
 use Rattle.livevec_c.specs.Queries.{question_refusal}
 use Rattle.livevec_c.proofs.queries.Queries.watch.Goals as goal

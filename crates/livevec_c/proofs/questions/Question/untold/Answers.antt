@@ -1,3 +1,4 @@
+-- Proof of `Question::untold`: what it counts as told before its first note.
 use Rattle.std.proofs.Common.{[], arith}
 use Rattle.std.proofs.lemmas.List.Elements.{All-nil}
 use Rattle.lv_geometry.specs.Elements.{IsElement}

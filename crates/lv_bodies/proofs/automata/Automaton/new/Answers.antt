@@ -1,3 +1,4 @@
+-- Proof of `Automaton::new`: the automaton of a table.
 use Rattle.std.proofs.Common.{refl, ◌∙◌, sym}
 use Rattle.lv_bodies.proofs.Entries.{some_above, none_above}
 use Rattle.lv_bodies.proofs.automata.Automaton.new.Goals as goal

@@ -1,3 +1,4 @@
+-- Proof of `AutomatonBody::same`.
 use Rattle.std.proofs.lemmas.Slice.Eq.{slice_eq-Decides}
 use Rattle.lv_bodies.specs.EqualLaws.{exact_numbers}
 use Rattle.lv_bodies.proofs.automata.AutomatonBody.same.Goals as goal

@@ -1,3 +1,4 @@
+-- Proof of `RunTotals::join`: the run of neighbours and of those after them.
 use Rattle.lv_bodies.proofs.RunSums.{SumsFit-can_join, joined_by_code}
 use Rattle.lv_bodies.proofs.best.RunTotals.join.Goals as goal
 

@@ -1,3 +1,4 @@
+-- Proof of `Edits::block`: the elements of a block, all of whose indices are below the size.
 use Rattle.std.proofs.Common.{◌≡◌, ◌*◌, take, drop, ap, ◌∙◌, arith}
 use Rattle.lv_store.specs.State.{elements_of}
 use Rattle.lv_store.proofs.ElementsLaws.{block_of_elements}

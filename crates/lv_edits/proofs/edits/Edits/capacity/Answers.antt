@@ -1,3 +1,4 @@
+-- Proof of `Edits::capacity`: how many elements the open buckets hold.
 use Rattle.lv_edits.proofs.CapacityLaws.{IsCapacityAfter-needed}
 use Rattle.lv_edits.proofs.HoldsLaws.{capacity_held}
 use Rattle.lv_edits.proofs.edits.Edits.capacity.Goals as goal

@@ -1,3 +1,4 @@
+-- Proof of `Edits::empty`: an empty vector over either journal, with no bucket open.
 use Rattle.lv_edits.proofs.HoldsLaws.{HoldsReplay-empty}
 use Rattle.lv_edits.proofs.edits.Edits.empty.Goals as goal
 

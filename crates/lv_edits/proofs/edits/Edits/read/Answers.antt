@@ -1,3 +1,4 @@
+-- Proof of `Edits::read`: the element at an index that is below the size.
 use Rattle.std.proofs.Common.{◌<◌, arith, ◌∙◌}
 use Rattle.std.specs.Int.{w64}
 use Rattle.std.proofs.lemmas.Int.{to_z-of_z}

@@ -1,3 +1,4 @@
+-- Proof of `Edits::settle`: completes the write of the last edit, if it is still pending.
 use Rattle.lv_store.proofs.ElementsLaws.{settled_alike}
 use Rattle.lv_edits.proofs.HoldsLaws.{HoldsReplay-alike}
 use Rattle.lv_edits.proofs.edits.Edits.settle.Goals as goal

@@ -1,3 +1,4 @@
+-- Proof of `Edits::size`: how many elements there are.
 use Rattle.std.proofs.Common.{◌∙◌}
 use Rattle.lv_edits.proofs.HoldsLaws.{size_held}
 use Rattle.lv_edits.proofs.edits.Edits.size.Goals as goal

@@ -1,3 +1,4 @@
+-- Proof of `Edits::verdict_of_pushes`: the refusal of the first push that would be refused, of pushes one after another, want of memory apart, or none.
 use Rattle.std.proofs.Common.{ap, arith, sym}
 use Rattle.lv_geometry.specs.Cells.{capacity_of}
 use Rattle.lv_edits.specs.Kept.{IsLegalInLimits}

@@ -1,3 +1,4 @@
+-- Proof of `Node::is_whole`: whether a node is of a level that summaries are kept for, and all its indices are below a size.
 use Rattle.std.proofs.Common.{◌≤◌, ◌&&◌, ap, arith, sym, ◌∙◌}
 use Rattle.lv_geometry.specs.Nodes.{is_below}
 use Rattle.lv_geometry.proofs.NodeLaws.{below_by_shift, node_of_level}

@@ -1,3 +1,4 @@
+-- Proof of `DeskWithHistory::answer_all`.
 use Rattle.std.proofs.Common.{◌∙◌, ap, map, sym}
 use Rattle.lv_hub.specs.Notes.{answer_to}
 use Rattle.lv_hub.proofs.ToldLaws.{within_said}

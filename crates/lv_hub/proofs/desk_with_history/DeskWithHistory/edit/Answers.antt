@@ -1,3 +1,4 @@
+-- Proof of `DeskWithHistory::edit`: makes an edit as the desk does, and adds it to the history where it is accepted.
 use Rattle.std.proofs.Common.{Some, [], ◌∷◌, ◌++◌, Ok, ap, sym, ◌∙◌}
 use Rattle.lv_hub.proofs.AcceptedLaws.{all_accepted}
 use Rattle.lv_hub.proofs.desk_with_history.DeskWithHistory.edit.Goals as goal

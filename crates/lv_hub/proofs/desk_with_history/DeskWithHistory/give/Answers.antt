@@ -1,3 +1,4 @@
+-- Proof of `DeskWithHistory::give`: delivers an outcome, as the desk does.
 use Rattle.std.proofs.Common.{Some, ap, subst, sym, ◌∙◌}
 use Rattle.lv_transcript.specs.Transcript.{AreAccepted, greatest}
 use Rattle.lv_hub.proofs.ToldLaws.{given_leaves}

@@ -1,3 +1,4 @@
+-- Proof of `Ended::tell`: the last that there is to tell, by the vector of the hub that was closed.
 use Rattle.std.proofs.Common.{◌∙◌, length, ap, map, sym}
 use Rattle.std.proofs.lemmas.List.{length-map}
 use Rattle.lv_hub.specs.Notes.{answer_to}

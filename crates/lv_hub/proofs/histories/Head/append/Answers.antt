@@ -1,3 +1,4 @@
+-- Proof of `Head::append`: adds an edit, and spends its permit by that.
 use Rattle.std.proofs.Common.{[], ◌∷◌, ◌++◌, ap, arith, length, length-append, sym, ◌∙◌}
 use Rattle.lv_hub.specs.Growing.{edits_by}
 use Rattle.lv_hub.proofs.PermitLaws.{HasAdded, adds_one}

@@ -1,3 +1,4 @@
+-- Proof of `Head::grown`.
 use Rattle.std.proofs.Common.{◌≡◌, ap, sym, ◌∙◌, subst, List}
 use mathlib.Core.List.{IsPrefix}
 use Rattle.lv_hub.specs.declared.entries.Entry.{Entry}

@@ -1,3 +1,4 @@
+-- Proof of `HistoryPrefix::longer`: the longer of two prefixes, which the other begins.
 use Rattle.std.proofs.Common.{◌≤◌, ap, subst, arith, length, List}
 use mathlib.Core.List.{IsPrefix}
 use Rattle.lv_hub.specs.declared.entries.Entry.{Entry}

@@ -1,3 +1,4 @@
+-- Proof of `Opened::named`: the history under a name: the right to add to it, and a prefix that has seen nothing.
 use Rattle.std.proofs.Common.{◌≡◌, ℕ, List, [], sym, ap, ◌∙◌, length, subst}
 use Rattle.lv_hub.specs.declared.entries.Entry.{Entry}
 use Rattle.lv_hub.specs.Growing.{IsUnspent, edits_by, head_of, permit_after}

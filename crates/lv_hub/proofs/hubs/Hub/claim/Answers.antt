@@ -1,3 +1,4 @@
+-- Proof of `Hub::claim`: a job for the least node that wants one, or none.
 use Rattle.std.proofs.Common.{◌≡◌, Some, ap, sym, ◌∙◌}
 use Rattle.std.proofs.lemmas.Option.{same_Some}
 use Rattle.lv_hub.proofs.ToldLaws.{claim_told}

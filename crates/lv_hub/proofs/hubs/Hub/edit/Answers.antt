@@ -1,3 +1,4 @@
+-- Proof of `Hub::edit`: makes an edit, and counts it on the share where it is accepted.
 use Rattle.lv_hub.proofs.ToldLaws.{edit_told}
 use Rattle.lv_hub.proofs.hubs.Hub.edit.Goals as goal
 

@@ -1,3 +1,4 @@
+-- Proof of `Hub::give`: delivers an outcome.
 use Rattle.std.proofs.Common.{◌≡◌, Some, ap, sym, ◌∙◌}
 use Rattle.std.proofs.lemmas.Option.{same_Some}
 use Rattle.lv_hub.proofs.ToldLaws.{delivery_told}

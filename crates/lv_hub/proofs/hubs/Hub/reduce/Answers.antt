@@ -1,3 +1,4 @@
+-- Proof of `Hub::reduce`: the fold of the elements from index `lo` up to `hi`, at the last edit, up to which the share sees them all.
 use Rattle.std.proofs.Common.{◌≡◌, Some, ap, rules, subst, sym, ◌∙◌}
 use Rattle.std.proofs.lemmas.Option.{same_Some}
 use mathlib.Core.List.{IsPrefix}

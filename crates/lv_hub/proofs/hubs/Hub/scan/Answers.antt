@@ -1,3 +1,4 @@
+-- Proof of `Hub::scan`: one of the two scans, of a copy that is made under the lock.
 use Rattle.std.proofs.Common.{rules}
 use Rattle.lv_hub.proofs.StretchLaws.{told_refused, told_scanned}
 use Rattle.lv_hub.proofs.hubs.Hub.scan.Goals as goal

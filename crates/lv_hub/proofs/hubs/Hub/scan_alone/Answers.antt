@@ -1,3 +1,4 @@
+-- Proof of `Hub::scan_alone`.
 use Rattle.std.proofs.Common.{rules}
 use Rattle.lv_hub.proofs.StretchLaws.{told_refused, told_scanned}
 use Rattle.lv_hub.proofs.hubs.Hub.scan_alone.Goals as goal

@@ -1,3 +1,4 @@
+-- Proof of `LockedState::edit`: makes an edit as the desk does.
 use Rattle.lv_hub.proofs.WorkLaws.{no_new_wants}
 use Rattle.lv_hub.proofs.locked_state.LockedState.edit.Goals as goal
 

@@ -1,3 +1,4 @@
+-- Proof of `LockedState::has_no_work`: whether who waits for work is to sleep, and then counts as asleep: while the vector has no block, and so no node wants a job, and nobody was dismissed.
 use Rattle.std.proofs.Common.{◌∙◌, ap, arith, length, sym}
 use Rattle.std.proofs.lemmas.Bool.{ltb-true}
 use Rattle.lv_edits.specs.History.{list_of}

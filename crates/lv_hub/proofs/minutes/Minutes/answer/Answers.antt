@@ -1,3 +1,4 @@
+-- Proof of `Minutes::answer`: takes an answer up.
 use Rattle.std.proofs.Common.{sym, subst, arith}
 use Rattle.lv_transcript.specs.Transcript.{IsTrueAnswer}
 use Rattle.lv_hub.specs.Minuting.{MinutesState}

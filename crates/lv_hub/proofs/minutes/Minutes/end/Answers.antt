@@ -1,3 +1,4 @@
+-- Proof of `Minutes::end`: takes the other edits of a journal up, writes the last line, and gives the writer back.
 use Rattle.std.proofs.Common.{List, All, subst, sym}
 use mathlib.Core.List.{IsPrefix}
 use Rattle.lv_edits.specs.declared.edit.Edit.{Edit}

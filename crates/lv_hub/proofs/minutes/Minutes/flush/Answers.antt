@@ -1,3 +1,4 @@
+-- Proof of `Minutes::flush`: writes all that is held.
 use Rattle.lv_hub.specs.Minuting.{MinutesState}
 use Rattle.lv_hub.proofs.MinuteLaws.{minutes_front, minutes_rest}
 use Rattle.lv_hub.proofs.minutes.Minutes.flush.Goals as goal

@@ -1,3 +1,4 @@
+-- Proof of `Minutes::take_batch`: takes the next edits up, at most as many as a batch has room for.
 use Rattle.std.proofs.Common.{◌∙◌, arith}
 use Rattle.lv_hub.specs.Minuting.{MinutesState}
 use Rattle.lv_hub.proofs.MinuteLaws.{minutes_edits}

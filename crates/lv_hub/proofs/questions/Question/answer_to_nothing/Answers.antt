@@ -1,3 +1,4 @@
+-- Proof of `Question::answer_to_nothing`: what it is answered by an empty vector.
 use Rattle.std.proofs.Common.{◌≡◌, ◌∙◌, ◌-◌, ℕ, [], ap, sym, take, take_all, arith}
 use Rattle.std.specs.Prelude.{ℤ}
 use Rattle.std.specs.List.{slice_range}

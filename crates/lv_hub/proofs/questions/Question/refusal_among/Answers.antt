@@ -1,3 +1,4 @@
+-- Proof of `Question::refusal_among`: why a subscriber that has these questions refuses it, want of memory apart: `BadRange`, `NameTaken`, then `TooMany`, if it does.
 use Rattle.std.proofs.Common.{◌≡◌, ◌∙◌, sym, rules, tests, arith}
 use Rattle.std.specs.List.{list_any}
 use Rattle.std.specs.Str.{bytes_eq}

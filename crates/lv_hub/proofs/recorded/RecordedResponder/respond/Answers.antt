@@ -1,3 +1,4 @@
+-- Proof of `RecordedResponder::respond`.
 use Rattle.lv_hub.specs.Replying.{TellsLine}
 use Rattle.lv_script.proofs.EventLaws.{fails_after, replies_after}
 use Rattle.lv_hub.proofs.recorded.RecordedResponder.respond.Goals as goal

@@ -1,3 +1,4 @@
+-- Proof of `SessionResponder::respond`.
 use Rattle.lv_hub.specs.Replying.{TellsLine}
 use Rattle.lv_script.proofs.EventLaws.{fails_after, replies_after}
 use Rattle.lv_hub.proofs.sessions.SessionResponder.respond.Goals as goal

@@ -1,3 +1,4 @@
+-- Proof of `Subscriber::add`: registers a question that may stand behind those that there are.
 use Rattle.std.proofs.Common.{◌∙◌, ◌++◌, ◌∷◌, [], ap, refl, inr}
 use Rattle.lv_hub.proofs.subscribers.Subscriber.add.Goals as goal
 

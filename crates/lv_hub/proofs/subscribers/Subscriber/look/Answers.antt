@@ -1,3 +1,4 @@
+-- Proof of `Subscriber::look`: what there is to tell since the last look, or none where no edit was made.
 use Rattle.std.proofs.Common.{◌∙◌, length, ap, map, sym, arith}
 use Rattle.std.proofs.lemmas.List.{length-map}
 use Rattle.lv_hub.specs.Notes.{SubscriberState, answer_to}

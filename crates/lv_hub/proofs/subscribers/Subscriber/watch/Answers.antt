@@ -1,3 +1,4 @@
+-- Proof of `Subscriber::watch`: registers a question, which is told of with the next look that finds an edit.
 use Rattle.std.proofs.Common.{◌≡◌, Some, None, subst, sym, inl}
 use Rattle.lv_hub.specs.Notes.{question_refusal}
 use Rattle.lv_hub.proofs.subscribers.Subscriber.watch.Goals as goal

@@ -1,3 +1,4 @@
+-- Proof of `KindSummary::with_last`: the summary of the same elements and of one more at their end.
 use Rattle.std.proofs.Common.{◌∙◌, ap, of_z, subst, sym, to_z, w64}
 use Rattle.std.proofs.lemmas.Int.{to_z-of_z}
 use Rattle.lv_bodies.specs.AffineMaps.{IsAffineMap, affine_operations}

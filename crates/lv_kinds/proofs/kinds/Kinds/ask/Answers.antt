@@ -1,3 +1,4 @@
+-- Proof of `Kinds::ask`: the summary by a kind of the elements from index `lo` up to `hi`, with the number of the last edit; what is computed for it is kept by that kind.
 use Rattle.std.proofs.Common.{◌∙◌, ap, subst, sym}
 use Rattle.lv_bodies.specs.Automata.{table_of}
 use Rattle.lv_bodies.specs.Six.{six_operations_by}

@@ -1,3 +1,4 @@
+-- Proof of `Kinds::follow`: hears of an edit that was accepted by a vector of this size: what is kept of the nodes that it touches is kept no longer.
 use Rattle.std.proofs.Common.{◌++◌, ◌∷◌, [], length, subst, sym}
 use Rattle.lv_edits.specs.History.{list_of}
 use Rattle.lv_edits.proofs.HistoryLaws.{accepted_is_possible}

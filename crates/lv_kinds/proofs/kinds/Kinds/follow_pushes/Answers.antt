@@ -1,3 +1,4 @@
+-- Proof of `Kinds::follow_pushes`: hears of so many pushes, from an index on, that were accepted: what is kept of the nodes that they touch is kept no longer.
 use Rattle.std.proofs.Common.{◌≡◌, ◌+◌, arith, length, sym}
 use Rattle.std.specs.List.{range_with_len}
 use Rattle.lv_edits.specs.History.{list_of}

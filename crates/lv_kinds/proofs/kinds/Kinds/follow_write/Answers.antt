@@ -1,3 +1,4 @@
+-- Proof of `Kinds::follow_write`: hears of a write that was accepted.
 use Rattle.std.proofs.Common.{ap, nat_eq, w64}
 use Rattle.std.proofs.lemmas.Int.{to_z-of_z}
 use Rattle.std.specs.Int.{bit_at}

@@ -1,3 +1,4 @@
+-- Proof of `Kinds::follow_writes`: hears of writes at indices that were accepted: what is kept of the nodes that they touch is kept no longer.
 use Rattle.lv_kinds.specs.Kinds.{KindsState}
 use Rattle.lv_kinds.proofs.WrittenLaws.{AreKept-written}
 use Rattle.lv_kinds.proofs.kinds.Kinds.follow_writes.Goals as goal

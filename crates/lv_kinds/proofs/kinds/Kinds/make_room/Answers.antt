@@ -1,3 +1,4 @@
+-- Proof of `Kinds::make_room`: makes memory for all that can be asked of so many elements.
 use Rattle.std.proofs.Common.{◌≡◌, ℕ, ◌≤◌, ◌⊎◌, inl, inr, arith}
 use Rattle.lv_kinds.proofs.kinds.Kinds.make_room.Goals as goal
 

@@ -1,3 +1,4 @@
+-- Proof of `Kinds::new`: nothing is kept, for a vector without elements.
 use Rattle.lv_kinds.proofs.KeptLaws.{AreKept-empty}
 use Rattle.lv_kinds.proofs.kinds.Kinds.new.Goals as goal
 

@@ -1,3 +1,4 @@
+-- Proof of `NodeRows::at`: the value of a node.
 use Rattle.std.proofs.Common.{sym, ap, ◌∙◌}
 use Rattle.std.specs.List.{slice_index_or}
 use Rattle.lv_kinds.proofs.ValueLaws.{value_of_node}

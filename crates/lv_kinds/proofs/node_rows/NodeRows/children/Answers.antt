@@ -1,3 +1,4 @@
+-- Proof of `NodeRows::children`: the values of the eight nodes below a node above level 1, in order.
 use Rattle.std.proofs.Common.{◌+◌, ◌*◌, sym, ap, ◌∙◌}
 use Rattle.std.specs.List.{slice_index_or}
 use Rattle.lv_geometry.specs.Nodes.{child}

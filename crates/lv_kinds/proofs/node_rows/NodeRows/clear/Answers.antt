@@ -1,3 +1,4 @@
+-- Proof of `NodeRows::clear`: puts a blank for each node that has index `i`.
 use Rattle.std.proofs.Common.{◌≡◌, ℕ, ◌/◌, ◌^◌, if◌then◌else◌, nat_eq}
 use Rattle.std.specs.List.{slice_index_or}
 use Rattle.std.specs.Global.{Vec}

@@ -1,3 +1,4 @@
+-- Proof of `NodeRows::grow`: makes memory for the values of so many blocks, and of the nodes above them.
 use Rattle.std.proofs.Common.{arith}
 use Rattle.lv_kinds.proofs.ValueLaws.{HasSameValues-items}
 use Rattle.lv_kinds.proofs.node_rows.NodeRows.grow.Goals as goal

@@ -1,3 +1,4 @@
+-- Proof of `NodeRows::new`: a blank for every node, and memory for no value.
 use Rattle.std.proofs.Common.{◌≡◌, []}
 use Rattle.std.specs.Global.{Vec}
 use Rattle.lv_geometry.proofs.NodeLaws.{at_each_level}

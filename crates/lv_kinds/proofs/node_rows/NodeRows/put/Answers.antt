@@ -1,3 +1,4 @@
+-- Proof of `NodeRows::put`: puts a value for a node.
 use Rattle.std.proofs.Common.{if◌then◌else◌, nat_eq, ap, ◌∙◌}
 use Rattle.std.specs.List.{slice_index_or}
 use Rattle.lv_kinds.proofs.ValueLaws.{PutsValue-level}

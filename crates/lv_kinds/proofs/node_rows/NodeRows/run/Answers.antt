@@ -1,3 +1,4 @@
+-- Proof of `NodeRows::run`: the values of neighbours on a level, from a node on up to a number, if they were all written.
 use Rattle.std.proofs.Common.{◌≡◌, ℕ, ◌+◌, ◌-◌, ◌<◌, IfSome, subst, ap, ◌∙◌}
 use Rattle.std.specs.List.{slice_index_or}
 use Rattle.lv_kinds.proofs.ValueLaws.{run_values}

@@ -1,3 +1,4 @@
+-- Proof of `NodeRows::written_below`: the values of the nodes from the first one below a node on, as far as they were written.
 use Rattle.std.proofs.Common.{◌+◌, ◌*◌, sym, ap, ◌∙◌}
 use Rattle.std.specs.List.{slice_index_or}
 use Rattle.std.proofs.lemmas.List.{get_or-drop}

@@ -1,3 +1,4 @@
+-- Proof of `Live::cost`.
 use Rattle.std.proofs.Common.{◌≡◌, sym, ap, ◌∙◌}
 use Rattle.lv_live.proofs.QueryLaws.{costs_by}
 use Rattle.lv_live.proofs.live.Live+B.cost.Goals as goal

@@ -1,3 +1,4 @@
+-- Proof of `Live::accept`: delivers an outcome: it is stale, or held already, or its summary is installed.
 use Rattle.std.proofs.Common.{◌∙◌, sym, ap}
 use Rattle.lv_refresh.specs.Contents.{fold_of_contents}
 use Rattle.lv_live.proofs.DeliverLaws.{delivered, live_after_accept}

@@ -1,3 +1,4 @@
+-- Proof of `Live::accept_batch`.
 use Rattle.lv_live.proofs.live.Live.accept_batch.Goals as goal
 
 pub returns-clause-delivers : goal.returns-clause-delivers

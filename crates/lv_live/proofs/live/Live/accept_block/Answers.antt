@@ -1,3 +1,4 @@
+-- Proof of `Live::accept_block`.
 use Rattle.std.proofs.Common.{◌≡◌, ◌∙◌, sym, ap}
 use Rattle.lv_bodies.specs.Body.{fold_of}
 use Rattle.lv_live.proofs.BatchLaws.{live_after_block}

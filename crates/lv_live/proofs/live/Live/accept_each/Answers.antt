@@ -1,3 +1,4 @@
+-- Proof of `Live::accept_each`.
 use Rattle.std.proofs.Common.{◌≡◌, ◌∙◌, subst, arith}
 use Rattle.std.proofs.lemmas.List.{take_all}
 use Rattle.lv_live.specs.Batches.{DeliversFrom, DeliversOne, none_told}

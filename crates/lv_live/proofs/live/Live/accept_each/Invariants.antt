@@ -1,3 +1,4 @@
+-- What the loop keeps in `Live::accept_each`.
 use Rattle.std.proofs.Common.{◌≡◌, take}
 use Rattle.lv_live.specs.Batches.{DeliversFrom, all_told, none_told}
 use Rattle.lv_live.proofs.live.Live.accept_each.Given as goal

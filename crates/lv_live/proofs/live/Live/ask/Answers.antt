@@ -1,3 +1,4 @@
+-- Proof of `Live::ask`.
 use Rattle.std.proofs.Common.{refl}
 use Rattle.lv_live.proofs.LiveLaws.{live_learnt}
 use Rattle.lv_live.proofs.live.Live.ask.Goals as goal

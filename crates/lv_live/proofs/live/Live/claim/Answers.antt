@@ -1,3 +1,4 @@
+-- Proof of `Live::claim`: a job for the least node that wants one, or none.
 use Rattle.lv_live.proofs.DeliverLaws.{claimed_by, honest_claim}
 use Rattle.lv_live.proofs.live.Live.claim.Goals as goal
 

@@ -1,3 +1,4 @@
+-- What the loop keeps in `Live::due_blocks`.
 use Rattle.std.proofs.Common.{◌≡◌}
 use Rattle.lv_live.specs.Batches.{due_jobs}
 use Rattle.lv_live.specs.State.{recorded}

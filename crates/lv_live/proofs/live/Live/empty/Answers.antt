@@ -1,3 +1,4 @@
+-- Proof of `Live::empty`: an empty vector over either journal, for which nothing is claimed and nothing kept.
 use Rattle.std.proofs.Common.{ap}
 use Rattle.lv_live.proofs.LiveLaws.{live_empty}
 use Rattle.lv_live.proofs.live.Live.empty.Goals as goal

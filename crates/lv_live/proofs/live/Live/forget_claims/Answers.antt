@@ -1,3 +1,4 @@
+-- Proof of `Live::forget_claims`: forgets all claims.
 use Rattle.lv_live.proofs.LiveLaws.{live_after_forget}
 use Rattle.lv_live.proofs.live.Live.forget_claims.Goals as goal
 

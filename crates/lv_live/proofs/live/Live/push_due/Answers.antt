@@ -1,3 +1,4 @@
+-- Proof of `Live::push_due`.
 use Rattle.std.proofs.Common.{◌∙◌}
 use Rattle.lv_live.proofs.BatchLaws.{none_due, one_due}
 use Rattle.lv_live.proofs.live.Live.push_due.Goals as goal

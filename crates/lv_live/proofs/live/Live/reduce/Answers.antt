@@ -1,3 +1,4 @@
+-- Proof of `Live::reduce`: the fold of the elements from index `lo` up to `hi`, at the last edit.
 use Rattle.std.proofs.Common.{◌≡◌, sym, ap, ◌∙◌}
 use Rattle.lv_live.proofs.QueryLaws.{few_by, reduces_by}
 use Rattle.lv_live.proofs.live.Live.reduce.Goals as goal

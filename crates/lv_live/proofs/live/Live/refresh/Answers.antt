@@ -1,3 +1,4 @@
+-- Proof of `Live::refresh`: does jobs in place, the least first, at most so many: each is claimed, run and delivered.
 use Rattle.lv_live.proofs.live.Live.refresh.Goals as goal
 
 pub returns-clause-turns : goal.returns-clause-turns

@@ -1,3 +1,4 @@
+-- Proof of `Live::take_turns`: takes turns, at most so many, while a node wants a job.
 use Rattle.std.proofs.Common.{◌∙◌, refl}
 use Rattle.lv_live.proofs.RefreshLaws.{turns_next}
 use Rattle.lv_live.proofs.RememberLaws.{remembers_then}

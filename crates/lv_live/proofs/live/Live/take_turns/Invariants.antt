@@ -1,3 +1,4 @@
+-- What the loop keeps in `Live::take_turns`: takes turns, at most so many, while a node wants a job.
 use Rattle.lv_live.specs.State.{Remembers}
 use Rattle.lv_live.specs.Turns.{TakesTurns}
 use Rattle.lv_live.proofs.live.Live.take_turns.Given as goal

@@ -1,3 +1,4 @@
+-- Proof of `World::new`: an empty vector, and no jobs.
 use Rattle.std.proofs.lemmas.List.Elements.{All-nil}
 use Rattle.lv_live.proofs.worlds.World.new.Goals as goal
 

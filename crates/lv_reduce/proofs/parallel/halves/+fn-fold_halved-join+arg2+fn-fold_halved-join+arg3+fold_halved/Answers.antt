@@ -1,3 +1,4 @@
+-- Proof of `fold_halved`, and of the closures that it hands to `join`.
 use Rattle.std.proofs.Common.{rules}
 use Rattle.lv_reduce.specs.Rows.{elements_in}
 use Rattle.lv_reduce.proofs.PieceLaws.{slice-joined, slices_can_join}

@@ -1,3 +1,4 @@
+-- The measures of the calls in `fold_halved`, and of the closures that it hands to `join`.
 use Rattle.std.proofs.Common.{◌+◌, ◌*◌}
 use Rattle.lv_reduce.proofs.parallel.halves.+fn-fold_halved-join+arg2+fn-fold_halved-join+arg3+fold_halved.Given as goal
 

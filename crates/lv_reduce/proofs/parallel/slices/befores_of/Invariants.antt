@@ -1,3 +1,4 @@
+-- What the loop keeps in `befores_of`: for each piece of so many elements the fold of all that stand before it.
 use Rattle.std.proofs.Common.{◌≡◌, ◌*◌, ◌≤◌, length, map, take, vec_capacity, vec_len}
 use Rattle.std.specs.List.{range_with_len}
 use Rattle.lv_bodies.specs.Body.{fold_of}

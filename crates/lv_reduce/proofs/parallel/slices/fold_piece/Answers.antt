@@ -1,3 +1,4 @@
+-- Proof of `fold_piece`: the fold of the piece of so many elements that has a number.
 use Rattle.std.proofs.Common.{◌*◌, ap, ◌∙◌, arith}
 use Rattle.lv_bodies.specs.Body.{fold_of}
 use Rattle.lv_reduce.specs.Rows.{elements_in}

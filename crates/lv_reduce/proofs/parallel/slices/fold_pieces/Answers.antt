@@ -1,3 +1,4 @@
+-- Proof of `fold_pieces`: the folds of the pieces of so many elements, each made by a thread of its own.
 use Rattle.std.proofs.Common.{Err, IfOk, Ok, Result, ◌-◌, ◌*◌, arith, ap}
 use Rattle.rayon.proofs.ListFacts.{IfOk-then}
 use Rattle.lv_edits.proofs.Slices.{length-slice_range}

@@ -1,3 +1,4 @@
+-- Proof of `scan_alone`: one of the two scans of a slice, by the thread that asks.
 use Rattle.std.proofs.Common.{◌++◌, subst, sym, ap, ◌∙◌, arith}
 use Rattle.lv_reduce.specs.Running.{scan_from}
 use Rattle.lv_reduce.proofs.RunLaws.{scan_of_whole}

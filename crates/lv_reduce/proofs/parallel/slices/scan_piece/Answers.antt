@@ -1,3 +1,4 @@
+-- Proof of `scan_piece`: puts the scan of the piece that begins at an index where its values belong.
 use Rattle.std.proofs.Common.{◌≡◌, ℕ, ℤ, ◌/◌, ◌%◌, ◌+◌, ◌-◌, ◌<◌, ◌≤◌, List, length, slice_index_or, slice_range, subst, sym, ap, ◌∙◌, take, arith}
 use Rattle.std.proofs.lemmas.List.{take_all}
 use Rattle.lv_bodies.specs.Body.{Operations, fold_of}

@@ -1,3 +1,4 @@
+-- Proof of `scan_pieces`: puts the scan of each piece of so many elements where its values belong, by a thread that has the piece.
 use Rattle.std.proofs.Common.{◌≡◌, ◌-◌, ◌*◌, min, length, take, drop, sym, ap, ◌∙◌, arith}
 use Rattle.std.proofs.lemmas.List.{length-drop, length-take}
 use Rattle.lv_bodies.specs.Body.{fold_of}

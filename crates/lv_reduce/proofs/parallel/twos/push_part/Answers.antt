@@ -1,3 +1,4 @@
+-- Proof of `push_part`: pushes one of the two scans of a part of a row into an empty vector that has room for it, and gives the fold of the part.
 use Rattle.std.proofs.Common.{◌++◌, sym, ap, ◌∙◌}
 use Rattle.std.specs.List.{slice_range}
 use Rattle.lv_reduce.specs.Answer.{scan_of}

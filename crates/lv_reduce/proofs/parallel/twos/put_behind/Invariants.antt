@@ -1,3 +1,4 @@
+-- What the loop keeps in `put_behind`: pushes some values, each joined with what stands before it.
 use Rattle.std.proofs.Common.{◌≡◌, ◌+◌, ◌++◌, map, take, vec_capacity, vec_len}
 use Rattle.lv_reduce.proofs.parallel.twos.put_behind.Given as goal
 

@@ -1,3 +1,4 @@
+-- Proof of `Claims::blocks`: how many blocks have rows.
 use Rattle.std.proofs.Common.{arith, sym, ◌∙◌}
 use Rattle.lv_refresh.proofs.RowLaws.{claim_blocks-rows, rows_fit}
 use Rattle.lv_refresh.proofs.claims.Claims.blocks.Goals as goal

@@ -1,3 +1,4 @@
+-- Proof of `Claims::claim_block`.
 use Rattle.std.proofs.Common.{◌≡◌, ℕ, ◌<◌, ◌≤◌, true, get_or, nat_le, nat_lt, refl, sym, ◌∙◌}
 use Rattle.std.proofs.lemmas.Bool.{leb-true, ltb-true}
 use Rattle.lv_geometry.proofs.NodeLaws.{at_each_level}

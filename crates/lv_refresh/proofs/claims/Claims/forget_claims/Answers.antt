@@ -1,3 +1,4 @@
+-- Proof of `Claims::forget_claims`: makes every claim void, so that every node may want a job.
 use Rattle.lv_refresh.specs.Inner.{claims_of}
 use Rattle.lv_geometry.proofs.NodeLaws.{at_each_level}
 use Rattle.lv_refresh.proofs.ClaimLaws.{AreClaims-forgot, claim_blocks-forgot, claimed_in-forgot, is_hinted-forgot}

@@ -1,3 +1,4 @@
+-- Proof of `Claims::grow`: makes rows for so many blocks, and for the nodes above them.
 use Rattle.std.proofs.Common.{arith, refl}
 use Rattle.std.proofs.lemmas.Result.{err_from_is_err_and}
 use Rattle.lv_refresh.specs.Inner.{FillsClaims, claims_of}

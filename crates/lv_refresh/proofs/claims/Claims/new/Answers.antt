@@ -1,3 +1,4 @@
+-- Proof of `Claims::new`: no claims, and room for none.
 use Rattle.lv_geometry.proofs.NodeLaws.{at_each_level}
 use Rattle.lv_refresh.proofs.ClaimLaws.{AreClaims-empty, claim_blocks-empty, claimed_in-empty}
 use Rattle.lv_refresh.proofs.claims.Claims.new.Goals as goal

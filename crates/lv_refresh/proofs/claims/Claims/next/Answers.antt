@@ -1,3 +1,4 @@
+-- Proof of `Claims::next`: the least node that wants a job, and the number of the edit that touched it last, which is claimed with it.
 use Rattle.std.proofs.Common.{◌≡◌, ℕ, ◌<◌, ◌≤◌, true, nat_le, nat_lt, arith, refl}
 use Rattle.std.proofs.lemmas.Bool.{leb-true, ltb-true}
 use Rattle.lv_geometry.proofs.NodeLaws.{at_each_level}

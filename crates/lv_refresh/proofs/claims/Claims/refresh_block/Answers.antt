@@ -1,3 +1,4 @@
+-- Proof of `Claims::refresh_block`.
 use Rattle.lv_refresh.proofs.NextLaws.{HintsWants-from}
 use Rattle.lv_refresh.proofs.SweepLaws.{sweeps_one}
 use Rattle.lv_refresh.proofs.claims.Claims.refresh_block.Goals as goal

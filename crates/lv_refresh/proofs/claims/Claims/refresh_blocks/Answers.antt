@@ -1,3 +1,4 @@
+-- Proof of `Claims::refresh_blocks`.
 use Rattle.std.proofs.Common.{◌≡◌, ◌+◌, ◌*◌, arith, sym, subst}
 use Rattle.lv_refresh.specs.Sweep.{Sweeps}
 use Rattle.lv_refresh.proofs.SweepLaws.{sweeps_start, sweeps_then}

@@ -1,3 +1,4 @@
+-- Proof of `Claims::refresh_each`.
 use Rattle.std.proofs.Common.{◌+◌, arith}
 use Rattle.lv_refresh.proofs.SweepLaws.{sweeps_then}
 use Rattle.lv_refresh.proofs.claims.Claims.refresh_each.Goals as goal

@@ -1,3 +1,4 @@
+-- What the loop keeps in `Claims::refresh_each`.
 use Rattle.std.proofs.Common.{◌*◌, ◌+◌, ◌≤◌}
 use Rattle.lv_refresh.specs.Sweep.{Sweeps}
 use Rattle.lv_refresh.proofs.claims.Claims.refresh_each.Given as goal

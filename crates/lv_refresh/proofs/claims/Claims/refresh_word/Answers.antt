@@ -1,3 +1,4 @@
+-- Proof of `Claims::refresh_word`.
 use Rattle.lv_refresh.specs.Inner.{claims_of}
 use Rattle.lv_refresh.proofs.SweepLaws.{AreClaims-unhinted, UnhintsBlocks-by_rows, others_stay, sweeps_unhinted}
 use Rattle.lv_refresh.proofs.claims.Claims.refresh_word.Goals as goal

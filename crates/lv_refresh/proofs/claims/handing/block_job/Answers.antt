@@ -1,3 +1,4 @@
+-- Proof of `block_job`: the job of a block.
 use Rattle.std.proofs.Common.{[], refl}
 use Rattle.lv_refresh.specs.declared.contents.Contents.TheVariants.{Elements}
 use Rattle.lv_refresh.proofs.NextLaws.{can_fold_gathered}

@@ -1,3 +1,4 @@
+-- Proof of `FewMarks::clear`: takes the mark of a number away.
 use Rattle.std.proofs.lemmas.List.{get_or_read}
 use Rattle.lv_refresh.proofs.MarkLaws.{is_marked-clear, word_inside}
 use Rattle.lv_refresh.proofs.OverLaws.{AreFewMarks-clear}

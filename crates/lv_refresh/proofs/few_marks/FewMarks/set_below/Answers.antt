@@ -1,3 +1,4 @@
+-- Proof of `FewMarks::set_below`: marks the numbers below `count`.
 use Rattle.std.proofs.Common.{◌||◌, nat_eq, ap, ◌∙◌}
 use Rattle.lv_refresh.proofs.MarkLaws.{below_next}
 use Rattle.lv_refresh.proofs.few_marks.FewMarks.set_below.Goals as goal

@@ -1,3 +1,4 @@
+-- What the loop keeps in `FewMarks::set_below`: marks the numbers below `count`.
 use Rattle.std.proofs.Common.{◌≡◌, ℕ, ◌||◌, length, nat_lt}
 use Rattle.lv_refresh.specs.Marks.{is_marked}
 use Rattle.lv_refresh.proofs.few_marks.FewMarks.set_below.Given as goal

@@ -1,3 +1,4 @@
+-- Proof of `Level::unhint`: takes the hint at a node away.
 use Rattle.std.proofs.Common.{refl}
 use Rattle.lv_refresh.proofs.level.Level.unhint.Goals as goal
 

@@ -1,3 +1,4 @@
+-- Proof of `Level::unhint_word`: takes the hints at 64 nodes away, those of a word.
 use Rattle.std.proofs.Common.{refl}
 use Rattle.lv_refresh.proofs.level.Level.unhint_word.Goals as goal
 

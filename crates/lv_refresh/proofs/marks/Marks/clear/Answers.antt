@@ -1,3 +1,4 @@
+-- Proof of `Marks::clear`: takes the mark of a number away.
 use Rattle.std.proofs.Common.{◌/◌}
 use Rattle.std.proofs.lemmas.List.{get_or_read}
 use Rattle.lv_refresh.proofs.MarkLaws.{clear_lighter, is_marked-clear, word_inside}

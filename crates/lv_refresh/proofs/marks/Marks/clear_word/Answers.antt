@@ -1,3 +1,4 @@
+-- Proof of `Marks::clear_word`: takes the marks of 64 numbers away, those of a word.
 use Rattle.std.proofs.Common.{refl}
 use Rattle.lv_refresh.proofs.MarkLaws.{is_marked-cleared}
 use Rattle.lv_refresh.proofs.OverLaws.{AreMarks-clear}

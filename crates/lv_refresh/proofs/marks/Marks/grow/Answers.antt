@@ -1,3 +1,4 @@
+-- Proof of `Marks::grow`: makes room for the numbers below `marks`.
 use Rattle.std.proofs.Common.{◌-◌, ◌≤◌, length, ap, ◌∙◌, arith}
 use Rattle.std.specs.Prelude.{vec_len}
 use Rattle.lv_refresh.specs.Marks.{is_marked}

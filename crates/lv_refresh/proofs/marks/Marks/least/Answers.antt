@@ -1,3 +1,4 @@
+-- Proof of `Marks::least`: the least number that is marked.
 use Rattle.std.proofs.Common.{◌<◌, ◌^◌, arith}
 use Rattle.std.proofs.lemmas.List.{get_or_read}
 use Rattle.std.proofs.lemmas.Nat.{trailing_le}

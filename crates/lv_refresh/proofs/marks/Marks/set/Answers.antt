@@ -1,3 +1,4 @@
+-- Proof of `Marks::set`: marks a number.
 use Rattle.std.proofs.lemmas.List.{get_or_read}
 use Rattle.lv_refresh.proofs.MarkLaws.{is_marked-set, word_inside}
 use Rattle.lv_refresh.proofs.OverLaws.{AreMarks-more, AreMarks-set}

@@ -1,3 +1,4 @@
+-- Proof of `Marks::set_all`: marks every number that there is room for.
 use Rattle.std.proofs.Common.{arith}
 use Rattle.lv_refresh.proofs.MarkLaws.{is_marked-ones}
 use Rattle.lv_refresh.proofs.marks.Marks.set_all.Goals as goal

@@ -1,3 +1,4 @@
+-- Proof of `OutcomeOf::version`: the version that the summary is of.
 use Rattle.lv_refresh.proofs.outcomes.OutcomeOf.version.Goals as goal
 
 pub returns : goal.returns

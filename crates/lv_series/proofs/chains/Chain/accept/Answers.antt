@@ -1,3 +1,4 @@
+-- Proof of `Chain::accept`.
 use Rattle.std.proofs.Common.{arith}
 use Rattle.lv_series.proofs.PlacedLaws.{job_at_index, placed_job}
 use Rattle.lv_series.proofs.chains.Chain.accept.Goals as goal

@@ -1,3 +1,4 @@
+-- Proof of `Chain::ask`.
 use Rattle.std.proofs.Common.{◌≡◌, ◌<◌, ◌≤◌, ◌+◌, ◌*◌, length, arith, ◌∙◌}
 use Rattle.std.proofs.lemmas.List.Elements.{All-get_or}
 use Rattle.lv_series.specs.Chain.{IsFull, all_in}

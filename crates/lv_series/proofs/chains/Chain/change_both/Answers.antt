@@ -1,3 +1,4 @@
+-- Proof of `Chain::change_both`: overwrites an element, and then puts a shard in the place of a full one before it.
 use Rattle.std.proofs.Common.{◌≡◌, ◌*◌, length, slice_set, ap, sym, ◌∙◌, arith, length-set}
 use Rattle.std.specs.Int.{w64}
 use Rattle.std.proofs.lemmas.Int.{to_z-of_z}

@@ -1,3 +1,4 @@
+-- Proof of `Chain::claim`.
 use Rattle.std.proofs.Common.{◌+◌, ◌^◌, ◌<◌, length, arith}
 use Rattle.lv_series.specs.Chain.{all_in}
 use Rattle.lv_series.specs.Refresh.{IsPlaced, IsShardJob}

@@ -1,3 +1,4 @@
+-- Proof of `Chain::fill`.
 use Rattle.std.proofs.Common.{◌≡◌, ◌<◌, length, take, All, if◌then◌else◌, rules, refl, sym, ap, ◌∙◌, arith, length-set}
 use Rattle.std.specs.Int.{w64}
 use Rattle.std.proofs.lemmas.Int.{to_z-of_z}

@@ -1,3 +1,4 @@
+-- What the loop keeps in `Chain::fill`.
 use Rattle.std.proofs.Common.{◌≡◌, ◌+◌, length, map, slice_range, take}
 use Rattle.std.specs.List.{range_with_len}
 use Rattle.lv_series.specs.Series.{running_fold}

@@ -1,3 +1,4 @@
+-- Proof of `Chain::get`: the element at a position.
 use Rattle.std.proofs.Common.{◌<◌, ◌≤◌, length, pos, slice_index_or, FitsSigned, rules, arith, ap, sym, ◌∙◌}
 use Rattle.std.specs.Int.{w64}
 use Rattle.std.proofs.lemmas.Int.{to_z-of_z}

@@ -1,3 +1,4 @@
+-- Proof of `Chain::go_back`.
 use Rattle.std.proofs.Common.{◌≡◌, ◌*◌, ◌++◌, ◌≤◌, length, take, ap, sym, ◌∙◌, arith}
 use Rattle.std.proofs.lemmas.List.{take_all}
 use Rattle.lv_series.specs.Chain.{all_in}

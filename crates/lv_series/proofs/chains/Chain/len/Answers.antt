@@ -1,3 +1,4 @@
+-- Proof of `Chain::len`: how many elements there are.
 use Rattle.std.proofs.Common.{arith}
 use Rattle.lv_series.proofs.ChainLaws.{length_all}
 use Rattle.lv_series.proofs.chains.Chain.len.Goals as goal

@@ -1,3 +1,4 @@
+-- Proof of `Chain::new`: no elements.
 use Rattle.std.proofs.Common.{refl}
 use Rattle.lv_series.proofs.ChainSteps.{no_chain}
 use Rattle.lv_series.proofs.chains.Chain.new.Goals as goal

@@ -1,3 +1,4 @@
+-- Proof of `Chain::pop`: drops the last element.
 use Rattle.std.proofs.Common.{◌≡◌, ◌<◌, ◌-◌, [], OnOk, OnErr, length, take, arith, refl, subst, ◌∙◌}
 use Rattle.std.proofs.lemmas.List.{nil_from_length}
 use Rattle.lv_series.specs.Chain.{all_in}

@@ -1,3 +1,4 @@
+-- Proof of `Chain::push_across`.
 use Rattle.std.proofs.Common.{◌≡◌, ◌*◌, ◌++◌, ◌≤◌, length, take, ap, sym, ◌∙◌, arith, length-take}
 use Rattle.std.proofs.lemmas.List.{take-take}
 use Rattle.lv_series.proofs.ShardLaws.{same_holding}

@@ -1,3 +1,4 @@
+-- Proof of `Chain::push_all`.
 use Rattle.std.proofs.Common.{◌≡◌, ◌+◌, ◌*◌, ◌^◌, ◌≤◌, ◌++◌, length, take, refl, ap, sym, ◌∙◌, arith}
 use Rattle.std.proofs.lemmas.List.{take_all}
 use Rattle.lv_series.specs.Chain.{all_in, elements_in}

@@ -1,3 +1,4 @@
+-- What the loop keeps in `Chain::push_each`.
 use Rattle.std.proofs.Common.{◌≡◌, ◌++◌, take}
 use Rattle.lv_series.proofs.chains.Chain.push_each.Given as goal
 

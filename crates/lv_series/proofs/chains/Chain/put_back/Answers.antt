@@ -1,3 +1,4 @@
+-- Proof of `Chain::put_back`: puts a shard in the place of a full one.
 use Rattle.std.proofs.Common.{refl}
 use Rattle.lv_series.proofs.ChainSwaps.{is_full_there, put_back_chain, put_back_held}
 use Rattle.lv_series.proofs.ChainTrees.{as_many, summed}

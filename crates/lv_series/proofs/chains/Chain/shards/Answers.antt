@@ -1,3 +1,4 @@
+-- Proof of `Chain::shards`: how many shards there are.
 use Rattle.std.proofs.Common.{arith}
 use Rattle.lv_series.proofs.ChainLaws.{length_all}
 use Rattle.lv_series.proofs.chains.Chain.shards.Goals as goal

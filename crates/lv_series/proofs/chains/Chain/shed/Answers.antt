@@ -1,3 +1,4 @@
+-- Proof of `Chain::shed`: drops full shards at the front, as many as there are among so many elements.
 use Rattle.std.proofs.Common.{◌≡◌, ◌≤◌, ◌-◌, ◌*◌, length, drop, refl, arith, ap, ◌∙◌}
 use Rattle.lv_series.specs.Chain.{all_in}
 use Rattle.lv_series.proofs.ChainCalls.{held_in}

@@ -1,3 +1,4 @@
+-- Proof of `Chain::swap`: exchanges the elements at two positions.
 use Rattle.std.proofs.Common.{◌≡◌, OnOk, arith, subst}
 use Rattle.lv_series.proofs.SwapLaws.{swap_turned}
 use Rattle.lv_series.proofs.chains.Chain.swap.Goals as goal

@@ -1,3 +1,4 @@
+-- Proof of `Chain::swap_across`: exchanges an element of a full shard and one of a later shard.
 use Rattle.std.proofs.Common.{◌≡◌, ◌<◌, ◌+◌, ◌-◌, ◌*◌, FitsSigned, OnOk, rules, length, pos, drop, slice_index_or, slice_set, All, arith, ap, sym, subst, ◌∙◌, length-set}
 use Rattle.std.specs.Int.{w64}
 use Rattle.std.proofs.lemmas.Int.{to_z-of_z}

@@ -1,3 +1,4 @@
+-- Proof of `Chain::swap_inside`: exchanges two elements of one shard.
 use Rattle.std.proofs.Common.{◌≡◌, ◌<◌, ◌+◌, ◌*◌, length, refl, arith}
 use Rattle.std.specs.List.{swap}
 use Rattle.std.proofs.lemmas.List.Elements.{All-get_or}

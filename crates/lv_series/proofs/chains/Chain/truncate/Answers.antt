@@ -1,3 +1,4 @@
+-- Proof of `Chain::truncate`: keeps so many elements, the first ones.
 use Rattle.std.proofs.Common.{◌<◌, ◌≤◌, length, take, refl, arith}
 use Rattle.std.proofs.lemmas.List.Elements.{All-get_or}
 use Rattle.lv_series.specs.Chain.{IsFull, all_in}

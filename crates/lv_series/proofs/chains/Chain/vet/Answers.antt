@@ -1,3 +1,4 @@
+-- Proof of `Chain::vet`.
 use Rattle.std.proofs.Common.{◌≡◌, arith}
 use Rattle.lv_series.proofs.PlacedLaws.{fair_in_shard}
 use Rattle.lv_series.proofs.chains.Chain.vet.Goals as goal

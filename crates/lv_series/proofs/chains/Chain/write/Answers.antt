@@ -1,3 +1,4 @@
+-- Proof of `Chain::write`: overwrites the element at a position.
 use Rattle.std.proofs.Common.{◌<◌, length, slice_set, refl, arith}
 use Rattle.std.specs.Int.{w64}
 use Rattle.std.proofs.lemmas.Int.{to_z-of_z}

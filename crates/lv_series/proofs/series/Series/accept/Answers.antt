@@ -1,3 +1,4 @@
+-- Proof of `Series::accept`.
 use Rattle.lv_series.proofs.PlacedLaws.{job_in_series}
 use Rattle.lv_series.proofs.series.Series.accept.Goals as goal
 

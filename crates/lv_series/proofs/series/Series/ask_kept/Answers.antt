@@ -1,3 +1,4 @@
+-- Proof of `Series::ask_kept`.
 use Rattle.std.proofs.Common.{◌≡◌, None, refl, ap, arith, ◌∙◌}
 use Rattle.lv_bodies.specs.Body.{fold_of}
 use Rattle.lv_series.specs.Series.{range_refused}

@@ -1,3 +1,4 @@
+-- Proof of `Series::claim`.
 use Rattle.std.proofs.Common.{◌/◌}
 use Rattle.lv_series.specs.Refresh.{IsJobIn, IsPlaced}
 use Rattle.lv_series.proofs.PlacedLaws.{if_some, job_in_series}

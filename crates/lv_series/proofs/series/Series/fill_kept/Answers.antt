@@ -1,3 +1,4 @@
+-- Proof of `Series::fill_kept`.
 use Rattle.std.proofs.Common.{◌≡◌, None, arith}
 use Rattle.lv_series.specs.Series.{range_refused}
 use Rattle.lv_series.proofs.FreeLaws.{free_range}

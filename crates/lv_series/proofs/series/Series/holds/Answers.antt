@@ -1,3 +1,4 @@
+-- Proof of `Series::holds`: what holds of every series, for who goes on with a scan: each element has 64 bits, and no index is above 2^62.
 use Rattle.std.proofs.Common.{arith}
 use Rattle.std.proofs.lemmas.List.Elements.{All-drop}
 use Rattle.lv_geometry.specs.Elements.{IsElement}

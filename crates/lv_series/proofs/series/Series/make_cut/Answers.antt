@@ -1,3 +1,4 @@
+-- Proof of `Series::make_cut`.
 use Rattle.std.proofs.Common.{◌≡◌, ◌+◌, ◌-◌, None, length, take, inr, refl, ap, arith, length-take}
 use Rattle.lv_series.specs.declared.edits.LongEdit.TheVariants.{Truncate}
 use Rattle.lv_series.specs.declared.receipts.LongReceipt.TheVariants.{Truncated}

@@ -1,3 +1,4 @@
+-- Proof of `Series::make_expiry`.
 use Rattle.std.proofs.Common.{◌≡◌, ◌+◌, ◌-◌, None, length, ap, arith, length-drop}
 use Rattle.lv_series.specs.declared.edits.LongEdit.TheVariants.{Expire}
 use Rattle.lv_series.specs.declared.receipts.LongReceipt.TheVariants.{Expired}

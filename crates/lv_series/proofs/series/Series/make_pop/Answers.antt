@@ -1,3 +1,4 @@
+-- Proof of `Series::make_pop`.
 use Rattle.std.proofs.Common.{◌≡◌, ◌+◌, ◌-◌, None, FitsSigned, rules, length, take, slice_index_or, pos, inr, refl, ap, arith, ◌∙◌, length-take, length-drop}
 use Rattle.std.specs.Int.{w64}
 use Rattle.std.proofs.lemmas.Int.{to_z-of_z}

@@ -1,3 +1,4 @@
+-- Proof of `Series::make_push`.
 use Rattle.std.proofs.Common.{◌≡◌, ◌+◌, None, [], ◌∷◌, ◌++◌, length, inr, refl, ap, arith}
 use Rattle.std.specs.Int.{w64}
 use Rattle.std.proofs.lemmas.Int.{to_z-of_z}

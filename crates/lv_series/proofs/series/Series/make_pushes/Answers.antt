@@ -1,3 +1,4 @@
+-- Proof of `Series::make_pushes`.
 use Rattle.std.proofs.Common.{◌≡◌, None, length, inr, refl, ap, arith, length-append}
 use Rattle.lv_series.specs.Pushes.{verdict_of_pushes}
 use Rattle.lv_series.proofs.FreeLaws.{state_of}

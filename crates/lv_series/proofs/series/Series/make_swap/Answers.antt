@@ -1,3 +1,4 @@
+-- Proof of `Series::make_swap`.
 use Rattle.std.proofs.Common.{◌≡◌, ◌+◌, ◌-◌, None, FitsSigned, rules, length, pos, inr, refl, ap, arith, ◌∙◌}
 use Rattle.std.specs.Int.{w64}
 use Rattle.std.specs.List.{swap}

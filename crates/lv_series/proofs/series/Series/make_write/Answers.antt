@@ -1,3 +1,4 @@
+-- Proof of `Series::make_write`.
 use Rattle.std.proofs.Common.{◌≡◌, ◌+◌, ◌-◌, None, FitsSigned, rules, length, slice_set, pos, inr, refl, ap, arith, ◌∙◌, length-set}
 use Rattle.std.specs.Int.{w64}
 use Rattle.std.proofs.lemmas.Int.{to_z-of_z}

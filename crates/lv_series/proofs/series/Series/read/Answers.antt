@@ -1,3 +1,4 @@
+-- Proof of `Series::read`: the element under an index that is kept.
 use Rattle.std.proofs.Common.{◌≡◌, ◌<◌, ◌-◌, true, FitsSigned, pos, length, rules, arith, ◌∙◌}
 use Rattle.std.specs.Int.{w64}
 use Rattle.std.proofs.lemmas.Int.{to_z-of_z}

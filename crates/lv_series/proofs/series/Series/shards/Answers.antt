@@ -1,3 +1,4 @@
+-- Proof of `Series::shards`: how many shards lie in memory: at most two more than its elements fill, so that the memory of expired ones comes back.
 use Rattle.std.proofs.Common.{arith, length-drop}
 use Rattle.lv_series.proofs.series.Series.shards.Goals as goal
 

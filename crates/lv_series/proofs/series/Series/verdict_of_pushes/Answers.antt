@@ -1,3 +1,4 @@
+-- Proof of `Series::verdict_of_pushes`.
 use Rattle.std.proofs.Common.{◌≡◌, ◌^◌, ◌≤◌, arith}
 use Rattle.lv_series.specs.Series.{size_of}
 use Rattle.lv_series.proofs.FreeLaws.{state_of}

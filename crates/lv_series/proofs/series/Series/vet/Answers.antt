@@ -1,3 +1,4 @@
+-- Proof of `Series::vet`.
 use Rattle.std.proofs.Common.{◌≡◌}
 use Rattle.lv_series.proofs.PlacedLaws.{fair_in_chain}
 use Rattle.lv_series.proofs.series.Series.vet.Goals as goal

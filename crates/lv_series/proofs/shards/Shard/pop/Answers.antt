@@ -1,3 +1,4 @@
+-- Proof of `Shard::pop`: drops the last element.
 use Rattle.std.proofs.Common.{◌-◌, length, take}
 use Rattle.lv_edits.specs.History.{list_of}
 use Rattle.lv_edits.specs.declared.edit.Edit.TheVariants.{Pop}

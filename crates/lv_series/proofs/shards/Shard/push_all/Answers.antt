@@ -1,3 +1,4 @@
+-- Proof of `Shard::push_all`: puts elements at the end, all of them or none.
 use Rattle.std.proofs.Common.{◌++◌}
 use Rattle.lv_edits.specs.History.{list_of}
 use Rattle.lv_series.specs.Shard.{holding_of}

@@ -1,3 +1,4 @@
+-- Proof of `Shard::sum`: the fold of all elements, kept like what `ask` computes.
 use Rattle.std.proofs.Common.{ap, ◌∙◌, slice_range}
 use Rattle.lv_bodies.specs.Body.{fold_of}
 use Rattle.lv_reduce.proofs.PieceLaws.{slice_range-whole}

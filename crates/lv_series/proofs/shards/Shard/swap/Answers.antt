@@ -1,3 +1,4 @@
+-- Proof of `Shard::swap`: exchanges the elements at two indices.
 use Rattle.std.specs.List.{swap}
 use Rattle.lv_edits.specs.History.{list_of}
 use Rattle.lv_edits.specs.declared.edit.Edit.TheVariants.{Swap}

@@ -1,3 +1,4 @@
+-- Proof of `Shard::truncate`: keeps so many elements, the first ones.
 use Rattle.std.proofs.Common.{take}
 use Rattle.lv_edits.specs.History.{list_of}
 use Rattle.lv_edits.specs.declared.edit.Edit.TheVariants.{Truncate}

@@ -1,3 +1,4 @@
+-- Proof of `Shard::vet`.
 use Rattle.std.proofs.Common.{◌≡◌}
 use Rattle.lv_series.proofs.RefreshLaws.{vouched_of_fair}
 use Rattle.lv_series.proofs.shards.Shard.vet.Goals as goal

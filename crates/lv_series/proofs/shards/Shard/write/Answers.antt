@@ -1,3 +1,4 @@
+-- Proof of `Shard::write`: overwrites the element at an index.
 use Rattle.std.proofs.Common.{slice_set}
 use Rattle.std.specs.Int.{w64}
 use Rattle.std.proofs.lemmas.Int.{to_z-of_z}

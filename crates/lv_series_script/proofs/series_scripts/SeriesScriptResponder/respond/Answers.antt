@@ -1,3 +1,4 @@
+-- Proof of `SeriesScriptResponder::respond`.
 use Rattle.lv_script.proofs.EventLaws.{fails_after, replies_after}
 use Rattle.lv_series_script.specs.Inside.{KnownStep}
 use Rattle.lv_series_script.proofs.series_scripts.SeriesScriptResponder.respond.Goals as goal

@@ -1,3 +1,4 @@
+-- Proof of `ShardSummary::empty`: the summary of no elements.
 use Rattle.lv_bodies.specs.Automata.{table_of}
 use Rattle.lv_shards.specs.Summaries.{leads_of}
 use Rattle.lv_shards.proofs.Possible.{leads_of_table, possible_empty}

@@ -1,3 +1,4 @@
+-- Proof of `ShardSummary::extend`.
 use Rattle.std.proofs.Common.{length, sym, ◌∙◌}
 use Rattle.lv_bodies.specs.Automata.{table_of}
 use Rattle.lv_shards.proofs.Tables.{by_other_table}

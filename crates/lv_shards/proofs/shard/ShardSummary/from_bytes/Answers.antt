@@ -1,3 +1,4 @@
+-- Proof of `ShardSummary::from_bytes`.
 use Rattle.std.proofs.Common.{Ok, refl, ap, ◌∙◌}
 use Rattle.lv_shards.specs.Bytes.{numbers_of}
 use Rattle.lv_shards.proofs.ReadBack.{not_those, read_is, version_is}

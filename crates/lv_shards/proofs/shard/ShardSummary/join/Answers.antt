@@ -1,3 +1,4 @@
+-- Proof of `ShardSummary::join`: the summary of these elements, and then of those of another.
 use Rattle.std.proofs.Common.{sym}
 use Rattle.lv_shards.specs.Summaries.{Summary}
 use Rattle.lv_shards.specs.declared.shard.ShardSummary.TheInside.{Inside}

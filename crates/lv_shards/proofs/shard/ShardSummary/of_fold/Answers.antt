@@ -1,3 +1,4 @@
+-- Proof of `ShardSummary::of_fold`: the summary of what some elements come to by each, as a vector had them after an edit.
 use Rattle.lv_bodies.specs.Automata.{table_of}
 use Rattle.lv_shards.proofs.Possible.{possible_fold}
 use Rattle.lv_shards.proofs.shard.ShardSummary.of_fold.Goals as goal

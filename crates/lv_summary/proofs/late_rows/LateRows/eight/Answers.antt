@@ -1,3 +1,4 @@
+-- Proof of `LateRows::eight`: eight items, from one on, where they lie; none where one of them was never written.
 use Rattle.std.proofs.Common.{subst}
 use Rattle.lv_summary.specs.Inner.{AreEight, lengthened}
 use Rattle.lv_summary.proofs.LateLaws.{eight_late}

@@ -1,3 +1,4 @@
+-- Proof of `LateRows::fill`: adds blanks, so that there are so many items in all, where there are fewer.
 use Rattle.std.proofs.Common.{◌∙◌, ap, max, sym}
 use Rattle.lv_summary.specs.Inner.{lengthened}
 use Rattle.lv_summary.proofs.LateLaws.{lengthened_twice}

@@ -1,3 +1,4 @@
+-- Proof of `LateRows::set`: puts an item at a number; blanks before it that were never written are written first.
 use Rattle.std.proofs.Common.{◌≡◌, ◌∙◌, ap, arith, length, slice_set}
 use Rattle.lv_summary.specs.Inner.{lengthened}
 use Rattle.lv_summary.proofs.LateLaws.{set_early, set_late}

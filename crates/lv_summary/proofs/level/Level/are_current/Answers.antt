@@ -1,3 +1,4 @@
+-- Proof of `Level::are_current`: whether what was delivered for each of eight neighbours, from one on, has the number of the edit that touched it last.
 use Rattle.std.proofs.Common.{◌≡◌, ◌+◌, ◌&&◌, ◌<◌, ap, arith, length, nat_eq, slice_index, sym, ◌∙◌}
 use Rattle.std.proofs.lemmas.List.{get_or_read}
 use Rattle.lv_summary.proofs.ChildLaws.{one_more_all}

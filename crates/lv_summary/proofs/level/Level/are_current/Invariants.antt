@@ -1,3 +1,4 @@
+-- What the loop keeps in `Level::are_current`: whether what was delivered for each of eight neighbours, from one on, has the number of the edit that touched it last.
 use Rattle.std.proofs.Common.{◌≡◌, ◌+◌, ◌==◌, slice_index}
 use Rattle.std.specs.List.{list_all, range_with_len}
 use Rattle.lv_summary.proofs.level.Level.are_current.Given as goal

@@ -1,3 +1,4 @@
+-- Proof of `Summaries::blocks`: how many blocks have rows.
 use Rattle.std.proofs.Common.{arith, sym, ◌∙◌}
 use Rattle.lv_summary.proofs.NodeRows.{blocks_in-rows, rows_fit}
 use Rattle.lv_summary.proofs.summaries.Summaries.blocks.Goals as goal

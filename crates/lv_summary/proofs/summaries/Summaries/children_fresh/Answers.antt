@@ -1,3 +1,4 @@
+-- Proof of `Summaries::children_fresh`: whether the eight children of a whole node are fresh.
 use Rattle.std.proofs.Common.{◌≡◌, ◌+◌, ◌-◌, ◌*◌, ap, arith, get_or, nat_eq, ◌∙◌}
 use Rattle.std.specs.List.{list_all, range_with_len}
 use Rattle.lv_summary.specs.Inner.{table_of}

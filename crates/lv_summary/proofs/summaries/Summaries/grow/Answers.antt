@@ -1,3 +1,4 @@
+-- Proof of `Summaries::grow`: makes rows for so many blocks, and for the nodes above them.
 use Rattle.std.proofs.Common.{◌≡◌, refl, ap, arith, ◌∙◌}
 use Rattle.std.proofs.lemmas.Result.{err_from_is_err_and}
 use Rattle.lv_summary.specs.Inner.{filled, table_of}

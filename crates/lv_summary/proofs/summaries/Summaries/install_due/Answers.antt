@@ -1,3 +1,4 @@
+-- Proof of `Summaries::install_due`: installs a summary that is known to be due, as `install` would.
 use Rattle.std.proofs.Common.{refl, ap, ◌∙◌}
 use Rattle.lv_summary.specs.Inner.{table_of, with_kept}
 use Rattle.lv_summary.proofs.Changes.{HasRowsChanged-one, IsSound-kept, Keeps-at}

@@ -1,3 +1,4 @@
+-- Proof of `Summaries::known`: the summary of a node, where it is known: it is fresh, or was computed since it was touched last.
 use Rattle.std.proofs.Common.{sym, ◌∙◌}
 use Rattle.lv_summary.specs.Inner.{table_of}
 use Rattle.lv_summary.proofs.NodeRows.{known_entry_in-rows, known_in-rows}

@@ -1,3 +1,4 @@
+-- Proof of `Summaries::learn`: keeps a summary that who asks computed for a whole node, so that the node is known until it is touched again.
 use Rattle.std.proofs.Common.{refl, ap, ◌∙◌}
 use Rattle.lv_summary.specs.Inner.{with_learnt}
 use Rattle.lv_summary.proofs.Changes.{HasRowsChanged-one, IsSound-learnt, Learns-at}

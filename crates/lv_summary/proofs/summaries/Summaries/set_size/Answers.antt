@@ -1,3 +1,4 @@
+-- Proof of `Summaries::set_size`: notes how many elements the vector has, which decides the nodes that are whole.
 use Rattle.lv_summary.proofs.Changes.{HasSize-by_rows, IsSound-size}
 use Rattle.lv_summary.proofs.summaries.Summaries.set_size.Goals as goal
 

@@ -1,3 +1,4 @@
+-- Proof of `Summaries::summary`: the summary of a fresh node.
 use Rattle.std.proofs.Common.{◌≡◌, ap, slice_get, sym, ◌∙◌}
 use Rattle.lv_summary.specs.Inner.{table_of}
 use Rattle.lv_summary.specs.Table.{Rows}

@@ -1,3 +1,4 @@
+-- Proof of `Summaries::touch`: notes that an edit touched index `i`, and so every node that has it.
 use Rattle.std.proofs.Common.{refl}
 use Rattle.lv_geometry.proofs.NodeLaws.{at_each_level}
 use Rattle.lv_summary.proofs.Changes.{IsSound-touched, Touches-by_rows}

@@ -1,3 +1,4 @@
+-- Proof of `Sums::pop`: takes the last shard's summary away, and gives it.
 use Rattle.std.proofs.Common.{◌-◌, ◌/◌, take, arith, ◌≡◌, ◌++◌, ◌∷◌, [], drop, sym, ap, ◌∙◌, ◌+◌, ◌<◌, ◌≤◌}
 use Rattle.lv_sums.proofs.Keeping.{counted, kept_as, kept_shorter, same_body, seen_pop}
 use Rattle.lv_sums.proofs.sums.Sums.pop.Goals as goal

@@ -1,3 +1,4 @@
+-- Proof of `Sums::push`: adds the summary of a shard behind the last one.
 use Rattle.std.proofs.Common.{◌≡◌, ◌+◌, ◌-◌, ◌++◌, ◌∷◌, [], length, refl, sym, ap, ◌∙◌, subst, arith}
 use Rattle.std.proofs.lemmas.List.{length_push, with_items_is}
 use Rattle.lv_sums.specs.Sums.{AreFolds}

@@ -1,3 +1,4 @@
+-- Proof of `Sums::reduce`: the summary of the elements of the shards from number `lo` up to `hi`, and how many joins it took: at most 124, and one for each 1,024 shards.
 use Rattle.std.proofs.Common.{◌≡◌, ◌+◌, ◌-◌, refl, sym, ap, ◌∙◌, subst, arith, length, ◌≤◌}
 use Rattle.lv_sums.specs.Levels.{AreInOrder, AreLevels, joined_on, run_of}
 use Rattle.lv_sums.proofs.Keeping.{counted, reduced_seen, seen_folds}

@@ -1,3 +1,4 @@
+-- Proof of `Sums::replace`: puts another summary in the place of a shard's.
 use Rattle.std.proofs.Common.{◌≡◌, ◌+◌, ◌-◌, length, slice_set, refl, sym, ◌∙◌, subst, arith}
 use Rattle.std.proofs.lemmas.List.{length-set, with_items_is}
 use Rattle.lv_sums.specs.Sums.{AreFolds}

@@ -1,3 +1,4 @@
+-- Proof of `Leaving::tell`: has each tell the last, in order, by the vector of the hub that was closed.
 use Rattle.std.proofs.Common.{◌∙◌, [], ◌∷◌, refl, ap, sym, subst, arith, length, map}
 use Rattle.std.proofs.lemmas.Iterator.Adapters.{YieldsList-from_vec}
 use Rattle.std.proofs.lemmas.Iterator.Consumers.{YieldsList-turn, YieldsList-end}

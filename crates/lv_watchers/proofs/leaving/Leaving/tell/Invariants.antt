@@ -1,3 +1,4 @@
+-- What the loop keeps in `Leaving::tell`: has each tell the last, in order, by the vector of the hub that was closed.
 use Rattle.std.proofs.Common.{◌≡◌, length, map, vec_capacity, vec_len}
 use Rattle.lv_live.specs.State.{SameLive}
 use Rattle.lv_watchers.specs.Watchers.{AllTellLast}

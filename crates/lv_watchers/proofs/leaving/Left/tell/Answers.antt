@@ -1,3 +1,4 @@
+-- Proof of `Left::tell`: tells the last, by the vector of the hub that was closed.
 use Rattle.lv_watchers.proofs.leaving.Left.tell.Goals as goal
 
 pub returns-clause-last : goal.returns-clause-last

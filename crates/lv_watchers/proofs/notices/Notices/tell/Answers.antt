@@ -1,3 +1,4 @@
+-- Proof of `Notices::tell`: writes the lines of what was told, unless a write has failed.
 use Rattle.std.proofs.Common.{ap, sym, ◌∙◌}
 use Rattle.lv_watchers.specs.Noticing.{NoticesState, told_text}
 use Rattle.lv_watchers.proofs.NoticeLaws.{wrote_more, wrote_nothing, wrote_part}

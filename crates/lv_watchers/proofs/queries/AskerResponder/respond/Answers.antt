@@ -1,3 +1,4 @@
+-- Proof of `AskerResponder::respond`.
 use Rattle.std.proofs.Common.{[], refl}
 use Rattle.lv_lines.proofs.OutputLemmas.{Writes-nil}
 use Rattle.lv_watchers.specs.Asking.{AskStep}

@@ -1,3 +1,4 @@
+-- Proof of `Watcher::look`: tells what there is to tell, unless a write has failed.
 use Rattle.lv_watchers.specs.Noticing.{WatcherState}
 use Rattle.lv_watchers.proofs.Noticed.{watches_one}
 use Rattle.lv_watchers.proofs.watchers.Watcher.look.Goals as goal

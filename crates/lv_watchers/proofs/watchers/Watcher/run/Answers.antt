@@ -1,3 +1,4 @@
+-- Proof of `Watcher::run`: has its subscriber told of edits, until the hub's workers are dismissed or a write fails.
 use Rattle.lv_watchers.proofs.Noticed.{watches_both}
 use Rattle.lv_watchers.proofs.watchers.Watcher.run.Goals as goal
 

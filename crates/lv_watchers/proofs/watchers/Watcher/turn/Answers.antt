@@ -1,3 +1,4 @@
+-- Proof of `Watcher::turn`: sleeps until there is an edit to tell of, and tells.
 use Rattle.lv_watchers.specs.Noticing.{WatcherState}
 use Rattle.lv_watchers.proofs.Noticed.{watches_one}
 use Rattle.lv_watchers.proofs.watchers.Watcher.turn.Goals as goal

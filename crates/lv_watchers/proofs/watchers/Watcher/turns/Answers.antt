@@ -1,3 +1,4 @@
+-- Proof of `Watcher::turns`: has its subscriber told so, turn by turn.
 use Rattle.lv_watchers.proofs.Noticed.{watches_both, watches_nothing}
 use Rattle.lv_watchers.proofs.watchers.Watcher.turns.Goals as goal
 

@@ -1,3 +1,4 @@
+-- What the loop keeps in `Watcher::turns`: has its subscriber told so, turn by turn.
 use Rattle.lv_watchers.specs.Noticing.{Watches}
 use Rattle.lv_watchers.proofs.watchers.Watcher.turns.Given as goal
 

@@ -1,3 +1,4 @@
+-- Proof of the closure that `fold_pieces` hands to `fold`, called by `Fn`.
 use Rattle.lv_reduce.proofs.parallel.slices.fn.fold_pieces.fold+Fn.call.Goals as goal
 
 -- what the closure asks is what this call of it asks

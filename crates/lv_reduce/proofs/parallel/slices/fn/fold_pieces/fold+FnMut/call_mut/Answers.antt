@@ -1,3 +1,4 @@
+-- Proof of the closure that `fold_pieces` hands to `fold`, called by `FnMut`.
 use Rattle.lv_reduce.proofs.parallel.slices.fn.fold_pieces.fold+FnMut.call_mut.Goals as goal
 
 -- what the closure asks is what this call of it asks

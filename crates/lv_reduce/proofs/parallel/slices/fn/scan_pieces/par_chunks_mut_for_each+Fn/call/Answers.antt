@@ -1,3 +1,4 @@
+-- Proof of the closure that `scan_pieces` hands to `par_chunks_mut_for_each`, called by `Fn`.
 use Rattle.lv_reduce.proofs.parallel.slices.fn.scan_pieces.par_chunks_mut_for_each+Fn.call.Goals as goal
 
 -- what the closure asks is what this call of it asks
