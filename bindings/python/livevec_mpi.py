@@ -27,6 +27,7 @@ from mpi4py import MPI
 
 import livevec
 from livevec import SUMMARY_BYTES, Summary, Values, Vector
+from livevec._refusals import _refuse
 
 __all__ = ["NoAnswer", "reduce", "allreduce", "exscan", "ranged", "over", "running"]
 
@@ -63,7 +64,7 @@ def _opened(sent: bytes) -> Summary:
     """The summary that came. Its bytes are looked at, for with one rank no join has done so."""
     if _is_sealed(sent):
         _, number, detail, rank = _REFUSED.unpack(sent)
-        raise NoAnswer(livevec._refuse(number, detail), None if rank < 0 else rank)
+        raise NoAnswer(_refuse(number, detail), None if rank < 0 else rank)
     try:
         return Summary.from_bytes(sent)
     except livevec.Refusal as refusal:

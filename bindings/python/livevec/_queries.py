@@ -5,10 +5,15 @@ import ctypes
 import operator
 from typing import Callable, NamedTuple, Optional, Union
 
-from . import (
-    MOST_QUERIES, Busy, Kind, Vector, _call, _Handle, _kind_of, _refuse, _Reduced, _Slot, _slot, _u32, _size, _value_of, _Values, _values_of,
-    _MOST_U32,
-)
+from ._calls import _slot
+from ._handle import _Handle
+from ._kinds import Kind, _kind_of
+from ._library import _call, _size, _u32
+from ._limits import _MOST_U32, MOST_QUERIES
+from ._refusals import Busy, _refuse
+from ._structures import _Reduced, _Slot, _Values
+from ._values import _value_of, _values_of
+from ._vector import Vector
 
 _NAME_BYTES = 16
 
@@ -178,7 +183,3 @@ def _vector(vector: Vector) -> Vector:
 def _note_of(raw: _Note) -> Note:
     kind = Kind(raw.kind)
     return Note(raw.name.decode(), kind, raw.edit, _value_of(kind, _values_of(raw.values)))
-
-
-for _it in (Note, Answered, Queries):
-    _it.__module__ = "livevec"

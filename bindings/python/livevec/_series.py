@@ -1,39 +1,31 @@
-"""The series: a vector that goes on. The package's `Series`, `LongReduced` and `NotKept` stand here."""
+"""The series: a vector that goes on. The package's `Series` and `LongReduced` stand here."""
 from __future__ import annotations
 
 import ctypes
 import operator
 from array import array
-from typing import TYPE_CHECKING, Any, Callable, Iterable, Iterator, NamedTuple, Optional, TypeVar, Union
+from typing import TYPE_CHECKING, Callable, Iterable, Iterator, NamedTuple, Optional, TypeVar, Union
 
-from livevec import (
-    BadRange, Busy, Closed, Refusal, Scan, Values, _address, _as_buffer, _as_i64, _call, _Handle, _i64, _is_masked, _is_plain, _pointer, _refuse,
-    _released, _size, _Slot, _u32, _Values, _values_of,
+from ._buffers import _address, _as_buffer, _as_room
+from ._elements import _AT_ONCE
+from ._handle import _Handle
+from ._numbers import _as_i64
+from ._refusals import BadRange, Busy, Closed, NotKept, _refuse
+from ._scans import Scan
+from ._series_calls import (
+    _ask, _count_size, _counted, _edits, _expire, _first, _free, _get, _kept, _new, _pop, _push, _push_many, _read, _reduce, _scan_exclusive,
+    _scan_inclusive, _SeriesEdited, _SeriesReduced, _SeriesScanned, _SeriesSlot, _swap, _truncate, _write,
 )
+from ._structures import _Values
+from ._values import Values, _values_of
 
 if TYPE_CHECKING:
     from _typeshed import WriteableBuffer
 
-    from livevec import _NumpyArray
+    from ._buffers import _NumpyArray
 
-_u64, _MOST_U64 = ctypes.c_uint64, (1 << 64) - 1
-# so many elements are read at once where they are gone through
-_AT_ONCE = 1024
-
-
-class NotKept(Refusal, IndexError):
-    """An index of a series, or an end of a range, isn't kept: those from `first` up to `size` are. Its number is that of OutOfRange."""
-
-    number, says = 3, "out of range"
-
-    def __init__(self, first: int = 0, size: int = 0) -> None:
-        super().__init__()
-        self.args = (f"out of range: kept are the indices from {first} up to {size}",)
-        self.first = first
-        self.size = size
-
-    def __reduce__(self) -> tuple[Any, ...]:
-        return type(self), (self.first, self.size)
+_MOST_U64 = (1 << 64) - 1
+_SomeSeries = TypeVar("_SomeSeries", bound="Series")
 
 
 class LongReduced(NamedTuple):
@@ -41,98 +33,6 @@ class LongReduced(NamedTuple):
 
     edit: int
     values: Values
-
-
-class _SeriesSlot(_Slot):
-    pass
-
-
-class _SeriesEdited(ctypes.Structure):
-    refusal: int
-    first: int
-    size: int
-    edit: int
-    place: int
-    value: int
-    _fields_ = [("refusal", _u32), ("first", _u64), ("size", _u64), ("edit", _u64), ("place", _u64), ("value", _i64)]
-
-
-class _SeriesPushed(ctypes.Structure):
-    refusal: int
-    edit: int
-    pushed: int
-    _fields_ = [("refusal", _u32), ("edit", _u64), ("pushed", _u64)]
-
-
-class _SeriesElement(ctypes.Structure):
-    refusal: int
-    first: int
-    size: int
-    value: int
-    _fields_ = [("refusal", _u32), ("first", _u64), ("size", _u64), ("value", _i64)]
-
-
-class _SeriesCount(ctypes.Structure):
-    refusal: int
-    value: int
-    _fields_ = [("refusal", _u32), ("value", _u64)]
-
-
-class _SeriesReduced(ctypes.Structure):
-    refusal: int
-    first: int
-    size: int
-    edit: int
-    values: _Values
-    _fields_ = [("refusal", _u32), ("first", _u64), ("size", _u64), ("edit", _u64), ("values", _Values)]
-
-
-class _SeriesScanned(ctypes.Structure):
-    refusal: int
-    first: int
-    size: int
-    edit: int
-    length: int
-    _fields_ = [("refusal", _u32), ("first", _u64), ("size", _u64), ("edit", _u64), ("length", _u64)]
-
-
-_slot = ctypes.POINTER(_SeriesSlot)
-_new = _call("livevec_series_new", _u32, _slot)
-_free = _call("livevec_free_series", _u32, _slot)
-_push = _call("livevec_series_push", _SeriesEdited, _slot, _i64)
-_push_many = _call("livevec_series_push_many", _SeriesPushed, _slot, _pointer, _size)
-_pop = _call("livevec_series_pop", _SeriesEdited, _slot)
-_write = _call("livevec_series_write", _SeriesEdited, _slot, _u64, _i64)
-_swap = _call("livevec_series_swap", _SeriesEdited, _slot, _u64, _u64)
-_truncate = _call("livevec_series_truncate", _SeriesEdited, _slot, _u64)
-_expire = _call("livevec_series_expire", _SeriesEdited, _slot, _u64)
-_get = _call("livevec_series_get", _SeriesElement, _slot, _u64)
-_first = _call("livevec_series_first", _SeriesCount, _slot)
-_count_size = _call("livevec_series_size", _SeriesCount, _slot)
-_edits = _call("livevec_series_edits", _SeriesCount, _slot)
-_reduce = _call("livevec_series_reduce", _SeriesReduced, _slot, _u64, _u64)
-_ask = _call("livevec_series_ask", _SeriesReduced, _slot, _u64, _u64)
-_read = _call("livevec_series_read", _SeriesScanned, _slot, _u64, _u64, _pointer, _size)
-_scan_inclusive = _call("livevec_series_scan_inclusive", _SeriesScanned, _slot, _u64, _u64, _u64, _pointer, _size, by=_released)
-_scan_exclusive = _call("livevec_series_scan_exclusive", _SeriesScanned, _slot, _u64, _u64, _u64, _pointer, _size, by=_released)
-
-_SomeSeries = TypeVar("_SomeSeries", bound="Series")
-_Told = TypeVar("_Told", _SeriesEdited, _SeriesElement, _SeriesReduced, _SeriesScanned)
-
-
-def _kept(told: _Told) -> _Told:
-    """An answer that was not refused."""
-    if told.refusal == NotKept.number:
-        raise NotKept(told.first, told.size)
-    if told.refusal:
-        raise _refuse(told.refusal)
-    return told
-
-
-def _counted(told: _SeriesCount) -> int:
-    if told.refusal:
-        raise _refuse(told.refusal)
-    return told.value
 
 
 class Series(_Handle):
@@ -244,9 +144,7 @@ class Series(_Handle):
     def read_into(self, buffer: Union[WriteableBuffer, _NumpyArray], lo: Optional[int] = None, hi: Optional[int] = None) -> int:
         """Fills a buffer with the elements of a range, from its start on, as many as it takes, and gives how many they are: the next piece starts
         behind them. The buffer is as `Vector.read_into` wants it. Raises BadRange, NotKept."""
-        view = memoryview(buffer)  # type: ignore[arg-type]
-        if _is_masked(buffer) or not _is_plain(view) or view.readonly or not view.c_contiguous:
-            raise TypeError("elements are read into a buffer of 64-bit numbers with a sign, side by side, that may be written to")
+        view = _as_room(buffer)
         lo, hi = self._range(lo, hi)
         return _kept(_read(self._at, lo, hi, ctypes.byref(_address(view)) if len(view) else None, len(view))).length
 

@@ -1,313 +1,34 @@
-"""A vector that threads share, by a lock: with workers, and subscribers who are told of changes. The package brings all of it."""
+"""A vector that threads share, by a lock: with workers, and subscribers who are told of changes."""
 from __future__ import annotations
 
 import contextlib
-import ctypes
 import operator
 import threading
-import time
 import weakref
-from typing import TYPE_CHECKING, Any, Callable, Iterable, Iterator, NamedTuple, Optional, TypeVar, Union
+from typing import Any, Callable, Iterator, Optional, TypeVar, Union
 
-from . import (
-    MOST_QUERIES, Busy, Closed, Kind, NoMemory, Reduced, Refusal, Vector, _Accepted, _as_buffer, _as_i64, _as_places, _as_u32, _address, _call,
-    _Claimed, _Edited, _ends, _free_job, _free_outcome, _JobSlot, _kind_of, _Many, _OutcomeSlot, _place, _Pushed, _Reduced, _refuse, _value_of,
-    _values_of, _Vetted,
-)
-from ._queries import Note, Queries, _Note, _note_of, _Noted, _vector
-
-if TYPE_CHECKING:
-    # older checkers don't see these through the circle of imports
-    from ctypes import c_int64 as _i64, c_size_t as _size, c_uint32 as _u32, c_void_p as _pointer
-
-    _released: ctypes.CDLL
-    _slot: Any
-    _job: Any
-    _outcome: Any
-    _queries: Any
-else:
-    from . import _i64, _job, _outcome, _pointer, _released, _size, _slot, _u32
-    from ._queries import _queries
+from ._calls import _slot
+from ._kinds import Kind, _kind_of
+from ._library import _call, _released, _u32
+from ._queries import Queries, _vector
+from ._ranges import _ends
+from ._refusals import Busy, Closed, NoMemory, _refuse
+from ._shared_edits import _SharedEdits
+from ._shared_state import _Seat, _State
+from ._shared_workers import _work
+from ._structures import _Reduced
+from ._subscribers import Subscriber
+from ._values import Reduced, _value_of, _values_of
+from ._vector import Vector
 
 # Calls that release the interpreter's lock: the lock of the shared vector keeps them apart.
-_push = _call("livevec_push", _Edited, _slot, _i64, by=_released)
-_pop = _call("livevec_pop", _Edited, _slot, by=_released)
-_write = _call("livevec_write", _Edited, _slot, _u32, _i64, by=_released)
-_swap = _call("livevec_swap", _Edited, _slot, _u32, _u32, by=_released)
-_truncate = _call("livevec_truncate", _Edited, _slot, _u32, by=_released)
-_reserve = _call("livevec_reserve", _Edited, _slot, _u32, by=_released)
-_push_many = _call("livevec_push_many", _Pushed, _slot, _pointer, _size, by=_released)
-_write_many = _call("livevec_write_many", _Many, _slot, _pointer, _pointer, _size, by=_released)
 _reduce = _call("livevec_reduce", _Reduced, _slot, _u32, _u32, by=_released)
 _value = _call("livevec_value", _Reduced, _slot, _u32, _u32, _u32, by=_released)
-_claim = _call("livevec_claim", _Claimed, _slot, _job, by=_released)
-_run = _call("livevec_run", _u32, _job, _outcome, by=_released)
-_vet = _call("livevec_vet", _Vetted, _slot, _outcome, by=_released)
-_accept = _call("livevec_accept", _Accepted, _slot, _outcome, by=_released)
-_notes = _call("livevec_notes", _Noted, _queries, _slot, ctypes.POINTER(_Note), _size, by=_released)
-
-# So many jobs are claimed at once, so that the lock is taken seldom.
-_AT_ONCE = 16
-# For so many seconds a worker lets edits go on, where some came while it computed, and waits for memory.
-_REST = 0.001
 
 _Result = TypeVar("_Result")
 
 
-class Receipt(NamedTuple):
-    """What an edit of a shared vector answers: its number, and what the edit of that name of a `Vector` gives."""
-
-    edit: int
-    told: int
-
-
-class _Seat:
-    """What a subscriber has at a shared vector: the changes that there were when it looked last, and notes of the end that it wasn't given yet."""
-
-    __slots__ = ("queries", "seen", "last", "__weakref__")
-
-    def __init__(self, queries: Queries) -> None:
-        self.queries = queries
-        # others than there ever are, before its first look
-        self.seen = -1
-        self.last: Union[list[Note], Exception] = []
-
-
-class _State:
-    """The lock round a vector, what it guards, and who sleeps at it. Nothing is computed under it but in `locked` and in a subscriber's look."""
-
-    def __init__(self, vector: Vector) -> None:
-        self.lock = threading.Lock()
-        # where workers sleep while there is no job, subscribers while nothing has changed, and who pauses, whom no edit wakes
-        self.work, self.change, self.pause = (threading.Condition(self.lock) for _ in range(3))
-        self.vector = vector
-        self.changes = 0
-        self.holder = 0
-        self.is_closed = self.is_left = self.is_unaware = False
-        # how many workers there are, how many of them sleep, and how many of those are called
-        self.working = self.idle = self.calls = 0
-        self.workers: list[tuple[threading.Thread, threading.Event]] = []
-        self.seats: list[weakref.ref[_Seat]] = []
-
-    def check(self) -> None:
-        """Where this thread has the lock, within a `locked`, it would wait for itself."""
-        if self.holder == threading.get_ident():
-            raise _refuse(Busy.number)
-
-    def open(self) -> Vector:
-        if self.is_closed:
-            raise _refuse(Closed.number)
-        return self.vector
-
-    def changed(self) -> None:
-        """Wakes who waits for a change. A worker that is awake sees it by itself, and calls others where there is much to do."""
-        self.changes += 1
-        if self.idle == self.working and self.calls == 0:
-            self.call()
-        if self.is_unaware:
-            self.is_unaware = False
-            self.change.notify_all()
-
-    def call(self) -> None:
-        """Calls a worker that sleeps, if there is one."""
-        if self.idle > self.calls:
-            self.calls += 1
-            self.work.notify()
-
-    def sleep(self, stop: threading.Event) -> None:
-        """A worker sleeps until it is called, or told to stop."""
-        self.idle += 1
-        try:
-            while not self.calls and not self.is_over() and not stop.is_set():
-                self.work.wait()
-        finally:
-            self.idle -= 1
-            self.calls -= self.calls > 0
-
-    def is_over(self) -> bool:
-        """Whether it is closed, or was left without that."""
-        if self.is_left:
-            self.shut()
-        return self.is_closed
-
-    def shut(self) -> None:
-        """Ends edits and sleep, and leaves each subscriber its last notes."""
-        if self.is_closed:
-            return
-        self.is_closed = True
-        for seat in filter(None, (it() for it in self.seats)):
-            try:
-                seat.last = self.notes(seat)
-            except (Refusal, MemoryError) as refusal:
-                seat.last = refusal
-        for sleepers in (self.work, self.change, self.pause):
-            sleepers.notify_all()
-
-    def notes(self, seat: _Seat) -> list[Note]:
-        """The notes that there are for a subscriber by the vector."""
-        if seat.seen == self.changes:
-            return []
-        room = (_Note * MOST_QUERIES)()
-        did = _notes(seat.queries._at, self.vector._at, room, MOST_QUERIES)
-        if did.refusal:
-            raise _refuse(did.refusal, did.detail)
-        seat.seen = self.changes
-        return [_note_of(room[at]) for at in range(did.count)]
-
-    def end(self, workers: list[tuple[threading.Thread, threading.Event]]) -> None:
-        """Ends workers, and waits for them."""
-        for _, stop in workers:
-            stop.set()
-        with self.lock:
-            self.work.notify_all()
-            self.pause.notify_all()
-        for thread, _ in workers:
-            thread.join()
-
-
-class _Hands:
-    """What a worker has in hand: slots of jobs, and of what they came to."""
-
-    def __init__(self) -> None:
-        self.slots = [(_JobSlot(), _OutcomeSlot()) for _ in range(_AT_ONCE)]
-        self.at = [(ctypes.byref(job), ctypes.byref(outcome)) for job, outcome in self.slots]
-        self.count = 0
-        self.is_wanting = False
-
-    def deliver(self, vector: Vector) -> None:
-        """Hands in what was computed. An outcome that the vector doesn't know, since it isn't the one of before, is let go."""
-        for _, outcome in self.at[: self.count]:
-            if _vet(vector._at, outcome).yes:
-                _accept(vector._at, outcome)
-
-    def claim(self, vector: Vector) -> None:
-        """Takes jobs until the hands are full or there is none."""
-        self.empty()
-        self.is_wanting = False
-        for job, _ in self.at:
-            did = _claim(vector._at, job)
-            self.is_wanting = did.refusal == NoMemory.number
-            if not did.found:
-                break
-            self.count += 1
-
-    def run(self) -> None:
-        for job, outcome in self.at[: self.count]:
-            _run(job, outcome)
-
-    def empty(self) -> None:
-        for job, outcome in self.at[: self.count]:
-            _free_job(job)
-            _free_outcome(outcome)
-        self.count = 0
-
-
-def _work(state: _State, stop: threading.Event) -> None:
-    """Claims and delivers under the lock, computes without it, and sleeps while there is no job."""
-    hands = _Hands()
-    with state.lock:
-        state.working += 1
-        seen = state.changes
-    try:
-        while True:
-            with state.lock:
-                if not state.is_over():
-                    hands.deliver(state.vector)
-                    if state.changes != seen:
-                        state.pause.wait(_REST)
-                if state.is_over() or stop.is_set():
-                    return
-                seen = state.changes
-                hands.claim(state.vector)
-                if not hands.count:
-                    if hands.is_wanting:
-                        state.pause.wait(_REST)
-                    else:
-                        state.sleep(stop)
-                    seen = state.changes
-                elif hands.count == _AT_ONCE:
-                    state.call()
-            hands.run()
-    finally:
-        with state.lock:
-            state.working -= 1
-            # a call that came to one that ends is another's
-            state.call()
-        hands.empty()
-
-
-class Subscriber:
-    """One who is told which answers of its queries by a shared vector have changed; made by `SharedVector.subscribe`.
-
-    As an iterator it sleeps until an edit changes an answer, and gives the notes of those that differ from what it was told last, in the order in
-    which the queries were named. All notes of one list are at one edit, and these rise. What comes and goes between two looks is not told. Once
-    the vector is closed it gives the notes at the last edit, if there are any, and then ends.
-
-    It pauses `pause` seconds between two looks, at first a millisecond, and twice as long as the last look took where that is longer, so that
-    edits are not held up. By 0 it doesn't pause: each edit may be looked at then, and waits for the look. It is one thread's at a time, and may
-    be let go at any time. Raises BadKind where the vector is of one kind and another is among the queries: nothing counts as told then.
-    """
-
-    __slots__ = ("pause", "_state", "_seat", "_rested")
-
-    def __init__(self, state: _State, seat: _Seat) -> None:
-        self.pause = 0.001
-        self._state, self._seat = state, seat
-        self._rested = 0.0
-
-    def look(self) -> list[Note]:
-        """The notes that there are now; none where nothing has changed. It neither sleeps nor pauses."""
-        self._state.check()
-        with self._state.lock:
-            return self._looked()
-
-    def __iter__(self) -> Subscriber:
-        return self
-
-    def __next__(self) -> list[Note]:
-        state = self._state
-        while True:
-            state.check()
-            with state.lock:
-                if not self._is_awaited():
-                    raise StopIteration
-                notes = self._looked()
-            if notes:
-                return notes
-
-    def _is_awaited(self) -> bool:
-        """Sleeps until there may be something to look at; tells whether there is."""
-        state, seat = self._state, self._seat
-        while not state.is_over():
-            rest = self._rested - time.monotonic()
-            if rest > 0:
-                state.pause.wait(rest)
-            elif seat.seen != state.changes:
-                return True
-            else:
-                state.is_unaware = True
-                state.change.wait()
-        return bool(seat.last)
-
-    def _looked(self) -> list[Note]:
-        state, seat = self._state, self._seat
-        if state.is_over():
-            last, seat.last = seat.last, []
-            if isinstance(last, Exception):
-                raise last
-            return last
-        start = time.monotonic()
-        try:
-            return state.notes(seat)
-        finally:
-            end = time.monotonic()
-            self._rested = end + max(self.pause, 2 * (end - start)) if self.pause > 0 else end
-
-    def __repr__(self) -> str:
-        return f"<livevec.Subscriber to {', '.join(self._seat.queries.names)}>"
-
-
-class SharedVector:
+class SharedVector(_SharedEdits):
     """A `Vector` that threads share, by a lock.
 
         >>> from livevec import Queries, SharedVector, Vector
@@ -335,72 +56,10 @@ class SharedVector:
     closes it. Where it is let go without that, workers and subscribers end too.
     """
 
-    __slots__ = ("_state", "__weakref__")
+    __slots__ = ()
 
     def __init__(self, vector: Optional[Vector] = None) -> None:
         self._state = _State(Vector() if vector is None else _vector(vector))
-
-    # Edits.
-
-    def push(self, value: int) -> Receipt:
-        """As `Vector.push`; the receipt has the index."""
-        did = self._edited(_push, _as_i64(value))
-        return Receipt(did.edit, did.place)
-
-    def pop(self) -> Receipt:
-        """As `Vector.pop`; the receipt has the element."""
-        did = self._edited(_pop)
-        return Receipt(did.edit, did.value)
-
-    def write(self, index: int, value: int) -> Receipt:
-        """As `Vector.write`; the receipt has the element before."""
-        did = self._edited(_write, _as_i64(value), places=(operator.index(index),))
-        return Receipt(did.edit, did.value)
-
-    def __setitem__(self, index: int, value: int) -> None:
-        self.write(index, value)
-
-    def swap(self, first: int, second: int) -> Receipt:
-        """As `Vector.swap`; the receipt has the element that stands at the first index now."""
-        did = self._edited(_swap, places=(operator.index(first), operator.index(second)))
-        return Receipt(did.edit, did.value)
-
-    def truncate(self, elements: int) -> Receipt:
-        """As `Vector.truncate`; the receipt has how many were dropped."""
-        did = self._edited(_truncate, _as_u32(elements, "elements"))
-        return Receipt(did.edit, did.place)
-
-    def reserve(self, elements: int) -> Receipt:
-        """As `Vector.reserve`; the receipt has the capacity."""
-        did = self._edited(_reserve, _as_u32(elements, "elements"))
-        return Receipt(did.edit, did.place)
-
-    def extend(self, values: Iterable[int]) -> int:
-        """As `Vector.extend`, with no other edit between; gives the number of the last edit."""
-        buffer = _as_buffer(values)
-        length = len(buffer)
-        first = ctypes.byref(_address(buffer)) if length else None
-
-        def call(vector: Vector) -> tuple[Union[_Pushed, _Many], int]:
-            did = _push_many(vector._at, first, length)
-            return did, did.pushed
-
-        return self._many(call)
-
-    def write_many(self, indices: Iterable[int], values: Iterable[int]) -> int:
-        """As `Vector.write_many`, with no other edit between; gives the number of the last edit."""
-        rows, elements = _as_buffer(indices), _as_buffer(values)
-        length = len(rows)
-        if length != len(elements):
-            raise ValueError(f"there are {length} indices and {len(elements)} values")
-
-        def call(vector: Vector) -> tuple[Union[_Pushed, _Many], int]:
-            places = _as_places(rows, vector)
-            first = (ctypes.byref(_address(places)), ctypes.byref(_address(elements))) if length else (None, None)
-            did = _write_many(vector._at, *first, length)
-            return did, did.done
-
-        return self._many(call)
 
     # Questions.
 
@@ -542,35 +201,6 @@ class SharedVector:
 
     # Within.
 
-    def _edited(self, call: Callable[..., _Edited], *arguments: int, places: tuple[int, ...] = ()) -> _Edited:
-        """One edit, whose indices may count from the end."""
-        state = self._state
-        state.check()
-        with state.lock:
-            vector = state.open()
-            did = call(vector._at, *(_place(it, vector) for it in places), *arguments)
-            if not did.refusal:
-                vector._changes += 1
-                state.changed()
-        if did.refusal:
-            raise _refuse(did.refusal, did.detail)
-        return did
-
-    def _many(self, call: Callable[[Vector], tuple[Union[_Pushed, _Many], int]]) -> int:
-        """Many edits by one call, which tells how many were made."""
-        state = self._state
-        state.check()
-        with state.lock:
-            vector = state.open()
-            did, made = call(vector)
-            edits = vector.edits
-            if made:
-                vector._changes += made
-                state.changed()
-        if did.refusal:
-            raise _refuse(did.refusal, did.detail, made, getattr(did, "place", 0))
-        return edits
-
     def _asked(self, call: Callable[..., _Reduced], lo: int, hi: Optional[int], *first: int) -> _Reduced:
         lo, hi = operator.index(lo), None if hi is None else operator.index(hi)
         did = self._read(lambda vector: call(vector._at, *first, *_ends(lo, hi, vector)))
@@ -588,7 +218,3 @@ class SharedVector:
 def _one(value: Union[int, None, tuple[int, ...]]) -> Optional[int]:
     assert not isinstance(value, tuple)
     return value
-
-
-for _it in (Receipt, Subscriber, SharedVector):
-    _it.__module__ = "livevec"

@@ -1,0 +1,83 @@
+"""The calls of include/livevec.h at vectors, jobs, summaries and boards."""
+from __future__ import annotations
+
+import ctypes
+from typing import Any
+
+from ._library import _call, _i64, _pointer, _released, _size, _u32
+from ._structures import (
+    _Accepted, _BoardSlot, _Claimed, _Count, _Edited, _Element, _Found, _JobSlot, _Many, _Opened, _OutcomeSlot, _Pushed, _Reduced, _Renewed,
+    _Scanned, _SeatSlot, _Summarised, _Table, _VectorSlot, _Verdict, _Vetted,
+)
+
+# its type is told, since other modules use it
+_slot: Any
+_slot, _job, _outcome = ctypes.POINTER(_VectorSlot), ctypes.POINTER(_JobSlot), ctypes.POINTER(_OutcomeSlot)
+_new = _call("livevec_new", _u32, _slot, _u32, _u32)
+_new_of = _call("livevec_new_of", _u32, _slot, _u32, _u32, _u32)
+_new_with_table = _call("livevec_new_with_table", _u32, _slot, _u32, _u32, ctypes.POINTER(_Table))
+_free = _call("livevec_free", _u32, _slot)
+_push = _call("livevec_push", _Edited, _slot, _i64)
+_pop = _call("livevec_pop", _Edited, _slot)
+_write = _call("livevec_write", _Edited, _slot, _u32, _i64)
+_reserve = _call("livevec_reserve", _Edited, _slot, _u32)
+_swap = _call("livevec_swap", _Edited, _slot, _u32, _u32)
+_truncate = _call("livevec_truncate", _Edited, _slot, _u32)
+_push_many = _call("livevec_push_many", _Pushed, _slot, _pointer, _size)
+_write_many = _call("livevec_write_many", _Many, _slot, _pointer, _pointer, _size, by=_released)
+_get = _call("livevec_get", _Element, _slot, _u32)
+_read = _call("livevec_read", _Scanned, _slot, _u32, _u32, _pointer, _size)
+_count_size = _call("livevec_size", _Count, _slot)
+_count_capacity = _call("livevec_capacity", _Count, _slot)
+_count_edits = _call("livevec_edits", _Count, _slot)
+_reduce = _call("livevec_reduce", _Reduced, _slot, _u32, _u32)
+_ask = _call("livevec_ask", _Reduced, _slot, _u32, _u32)
+_value = _call("livevec_value", _Reduced, _slot, _u32, _u32, _u32)
+_value_many = _call("livevec_value_many", _Many, _slot, _u32, _pointer, _pointer, _size, by=_released)
+_where_least = _call("livevec_where_least", _Found, _slot, _u32, _u32)
+_where_greatest = _call("livevec_where_greatest", _Found, _slot, _u32, _u32)
+_where_best = _call("livevec_where_best", _Found, _slot, _u32, _u32)
+_where_reaches = _call("livevec_where_reaches", _Found, _slot, _u32, _u32, _i64)
+_scan_inclusive = _call("livevec_scan_inclusive", _Scanned, _slot, _u32, _u32, _pointer, _size)
+_scan_exclusive = _call("livevec_scan_exclusive", _Scanned, _slot, _u32, _u32, _pointer, _size)
+# scans by one kind write columns, and take long enough to release the interpreter's lock
+_columns_inclusive, _columns_exclusive = (
+    {name: _call(f"livevec_scan_{way}_{name}", _Scanned, _slot, _u32, _u32, _pointer, _size, by=_released)
+     for name in ("sum", "least", "greatest", "best", "affine", "automaton")} for way in ("inclusive", "exclusive"))
+# a summary's bytes are read during the call alone
+_sealed = ctypes.c_char_p
+_summary_empty = _call("livevec_summary_empty", _Summarised)
+_summary_empty_with_table = _call("livevec_summary_empty_with_table", _Summarised, ctypes.POINTER(_Table))
+_summary_of = _call("livevec_summary_of", _Summarised, _slot, _u32, _u32)
+_summary_extend = _call("livevec_summary_extend", _Summarised, _sealed, _pointer, _size)
+_summary_join = _call("livevec_summary_join", _Summarised, _sealed, _sealed)
+_summary_values = _call("livevec_summary_values", _Opened, _sealed)
+_refresh = _call("livevec_refresh", _Count, _slot, _u32)
+_claim = _call("livevec_claim", _Claimed, _slot, _job)
+_run = _call("livevec_run", _u32, _job, _outcome)
+_vet = _call("livevec_vet", _Vetted, _slot, _outcome)
+_accept = _call("livevec_accept", _Accepted, _slot, _outcome)
+_forget = _call("livevec_forget", _u32, _slot)
+_free_job = _call("livevec_free_job", _u32, _job)
+_free_outcome = _call("livevec_free_outcome", _u32, _outcome)
+_verdict_push = _call("livevec_verdict_push", _Verdict, _slot, _i64)
+_verdict_pop = _call("livevec_verdict_pop", _Verdict, _slot)
+_verdict_write = _call("livevec_verdict_write", _Verdict, _slot, _u32, _i64)
+_verdict_reserve = _call("livevec_verdict_reserve", _Verdict, _slot, _u32)
+_verdict_swap = _call("livevec_verdict_swap", _Verdict, _slot, _u32, _u32)
+_verdict_truncate = _call("livevec_verdict_truncate", _Verdict, _slot, _u32)
+_board, _seat = ctypes.POINTER(_BoardSlot), ctypes.POINTER(_SeatSlot)
+_board_new = _call("livevec_board_new", _u32, _board, _u32, _u32, _u32, _u32)
+_board_sit = _call("livevec_board_sit", _u32, _board, _seat)
+_board_take_back = _call("livevec_board_take_back", _u32, _board, _seat)
+_board_close = _call("livevec_board_close", _Count, _board)
+_closed_read = _call("livevec_closed_read", _u32, _board, _pointer, _size, ctypes.POINTER(_u32))
+_free_board = _call("livevec_free_board", _u32, _board)
+_free_seat = _call("livevec_free_seat", _u32, _seat)
+_seat_push = _call("livevec_seat_push", _Edited, _seat, _i64, _u32, by=_released)
+_seat_pop = _call("livevec_seat_pop", _Edited, _seat, _u32, by=_released)
+_seat_write = _call("livevec_seat_write", _Edited, _seat, _u32, _i64, _u32, by=_released)
+_seat_get = _call("livevec_seat_get", _Element, _seat, _u32, by=_released)
+_seat_size = _call("livevec_seat_size", _Count, _seat, by=_released)
+_seat_reduce = _call("livevec_seat_reduce", _Reduced, _seat, _u32, _u32, by=_released)
+_seat_refresh = _call("livevec_seat_refresh", _Renewed, _seat, _u32, by=_released)

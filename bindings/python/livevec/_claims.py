@@ -1,0 +1,53 @@
+"""Summaries that a vector computes in place, or whose jobs it hands out."""
+from __future__ import annotations
+
+from typing import Optional
+
+from ._calls import _accept, _claim, _forget, _refresh, _vet
+from ._elements import _Elements
+from ._jobs import Became, Delivered, Job, Node, Outcome, _checked
+from ._limits import _MOST_U32
+from ._numbers import _as_u32
+from ._refusals import _refuse
+
+
+class _Claims(_Elements):
+    """The part of `Vector` that computes summaries, so that reductions read less. No answer changes by it."""
+
+    __slots__ = ()
+
+    def refresh(self, jobs: int = _MOST_U32) -> int:
+        """Computes at most so many summaries in place, and gives how many."""
+        told = _refresh(self._at, _as_u32(jobs, "jobs"))
+        if told.refusal:
+            raise _refuse(told.refusal)
+        return told.value
+
+    def claim(self) -> Optional[Job]:
+        """A job for the least node that wants one, or None. Raises NoMemory."""
+        job = Job()
+        did = _claim(self._at, job._at)
+        if did.refusal:
+            raise _refuse(did.refusal)
+        job.node, job.version = Node(did.level, did.number), did.version
+        return job if did.found else None
+
+    def vouches_for(self, outcome: Outcome) -> bool:
+        """Whether `deliver` would take an outcome: yes for each of a job of this vector, however late."""
+        told = _vet(self._at, _checked(outcome)._at)
+        if told.refusal:
+            raise _refuse(told.refusal)
+        return told.yes
+
+    def deliver(self, outcome: Outcome) -> Delivered:
+        """Delivers an outcome. It may be late or come twice. Raises Stranger where it isn't of a job of this vector."""
+        did = _accept(self._at, _checked(outcome)._at)
+        if did.refusal:
+            raise _refuse(did.refusal)
+        return Delivered(Became(did.became), did.now)
+
+    def forget_claims(self) -> None:
+        """Makes every claim void, so that their nodes are handed out again. Jobs that are out stay good."""
+        refusal = _forget(self._at)
+        if refusal:
+            raise _refuse(refusal)

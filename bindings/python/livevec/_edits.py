@@ -1,0 +1,160 @@
+"""The edits of a vector, and why they would be refused."""
+from __future__ import annotations
+
+import ctypes
+from typing import TYPE_CHECKING, Iterable, Optional, TypeVar
+
+from ._buffers import _address, _as_buffer
+from ._calls import (
+    _pop, _push, _push_many, _reserve, _swap, _truncate, _verdict_pop, _verdict_push, _verdict_reserve, _verdict_swap, _verdict_truncate,
+    _verdict_write, _write, _write_many,
+)
+from ._elements import _Elements
+from ._numbers import _as_i64, _as_u32
+from ._ranges import _as_places
+from ._refusals import Closed, Refusal, _refuse
+from ._structures import _Verdict
+
+if TYPE_CHECKING:
+    from _typeshed import WriteableBuffer
+
+_SomeVector = TypeVar("_SomeVector", bound="_Edits")
+
+
+class _Edits(_Elements):
+    """The part of `Vector` that edits."""
+
+    __slots__ = ()
+
+    def push(self, value: int) -> int:
+        """Puts an element at the end, and gives its index. Raises Worn, Full, NoMemory; OverflowError where it does not fit 64 bits."""
+        did = _push(self._at, _as_i64(value))
+        if did.refusal:
+            raise _refuse(did.refusal, did.detail)
+        self._changes += 1
+        return did.place
+
+    def append(self, value: int) -> None:
+        """Puts an element at the end, as a list does. Raises as `push` does."""
+        self.push(value)
+
+    def pop(self) -> int:
+        """Drops the last element, and gives it. Raises Worn, Empty, NoMemory."""
+        did = _pop(self._at)
+        if did.refusal:
+            raise _refuse(did.refusal, did.detail)
+        self._changes += 1
+        return did.value
+
+    def write(self, index: int, value: int) -> int:
+        """Overwrites an element, and gives the one before. Raises Worn, OutOfRange, NoMemory; OverflowError where it does not fit 64 bits."""
+        did = _write(self._at, self._index(index), _as_i64(value))
+        if did.refusal:
+            raise _refuse(did.refusal, did.detail)
+        self._changes += 1
+        return did.value
+
+    def __setitem__(self, index: int, value: int) -> None:
+        if isinstance(index, slice):
+            raise TypeError("elements are overwritten one by one")
+        self.write(index, value)
+
+    def reserve(self, elements: int) -> int:
+        """Makes room for so many elements in all, and gives the capacity. Raises Worn, TooLarge, NoMemory. It is an edit like any other."""
+        did = _reserve(self._at, _as_u32(elements, "elements"))
+        if did.refusal:
+            raise _refuse(did.refusal, did.detail)
+        self._changes += 1
+        return did.place
+
+    def swap(self, first: int, second: int) -> int:
+        """Exchanges two elements, whose indices may be one, and gives the one that stands at the first now. Raises Worn, OutOfRange, NoMemory."""
+        did = _swap(self._at, self._index(first), self._index(second))
+        if did.refusal:
+            raise _refuse(did.refusal, did.detail)
+        self._changes += 1
+        return did.value
+
+    def truncate(self, elements: int) -> int:
+        """Keeps so many elements, the first ones, and gives how many were dropped. Raises Worn, OutOfRange, NoMemory. It gives no memory back."""
+        did = _truncate(self._at, _as_u32(elements, "elements"))
+        if did.refusal:
+            raise _refuse(did.refusal, did.detail)
+        self._changes += 1
+        return did.place
+
+    # Verdicts: the refusal that an edit would meet, want of memory apart, or None where it would be accepted. Nothing is changed.
+
+    def why_not_push(self, value: int) -> Optional[Refusal]:
+        """Why `push` would be refused, or None. Like the five below it gives the refusal and doesn't raise it; want of memory isn't told."""
+        return self._why(_verdict_push(self._at, _as_i64(value)))
+
+    def why_not_pop(self) -> Optional[Refusal]:
+        """Why `pop` would be refused, or None."""
+        return self._why(_verdict_pop(self._at))
+
+    def why_not_write(self, index: int, value: int) -> Optional[Refusal]:
+        """Why `write` would be refused, or None."""
+        return self._why(_verdict_write(self._at, self._index(index), _as_i64(value)))
+
+    def why_not_reserve(self, elements: int) -> Optional[Refusal]:
+        """Why `reserve` would be refused, or None."""
+        return self._why(_verdict_reserve(self._at, _as_u32(elements, "elements")))
+
+    def why_not_swap(self, first: int, second: int) -> Optional[Refusal]:
+        """Why `swap` would be refused, or None."""
+        return self._why(_verdict_swap(self._at, self._index(first), self._index(second)))
+
+    def why_not_truncate(self, elements: int) -> Optional[Refusal]:
+        """Why `truncate` would be refused, or None."""
+        return self._why(_verdict_truncate(self._at, _as_u32(elements, "elements")))
+
+    @staticmethod
+    def _why(told: _Verdict) -> Optional[Refusal]:
+        if told.refusal >= Closed.number:
+            raise _refuse(told.refusal)
+        return _refuse(told.refusal, told.detail) if told.refusal else None
+
+    def extend(self, values: Iterable[int]) -> None:
+        """Pushes each element in order, by one call of C.
+
+        An `array.array('q')`, a numpy array of int64 or any other buffer of 64-bit numbers with a sign is read where it lies. Where such a buffer
+        has gaps or can't be written to, it is copied once, as one block. A buffer of other whole numbers, and anything else that can be gone
+        through, is put into such an array first.
+
+        All elements are pushed, or none. Raises Worn, Full and NoMemory where one would be refused: nothing has changed then, and its `pushed` is
+        0. Raises TypeError and OverflowError of a buffer of several dimensions, of floats or of what else is no whole number of 64 bits.
+        """
+        buffer = _as_buffer(values)
+        length = len(buffer)
+        did = _push_many(self._at, ctypes.byref(_address(buffer)) if length else None, length)
+        self._changes += did.pushed
+        if did.refusal:
+            raise _refuse(did.refusal, did.detail, did.pushed)
+
+    def __iadd__(self: _SomeVector, values: Iterable[int]) -> _SomeVector:
+        self.extend(values)
+        return self
+
+    def write_many(self, indices: Iterable[int], values: Iterable[int]) -> None:
+        """Writes each value at the index of the same place, in order, by one call of C. Each is an edit of its own.
+
+        Both are taken as `extend` takes elements, so numpy arrays and lists alike. A negative index counts from the end, and an index may come
+        twice: the later value stays. Other threads run meanwhile; beside a call of theirs at this vector, the second of the two raises Busy.
+
+        All writes are made, or none. Raises Worn or OutOfRange where one is refused: its `place` says which. Raises NoMemory too. Raises
+        ValueError unless there are as many values as indices, and what `extend` raises of such as are no numbers.
+        """
+        places, elements = _as_places(indices, self), _as_buffer(values)
+        length = len(places)
+        if length != len(elements):
+            raise ValueError(f"there are {length} indices and {len(elements)} values")
+        rows: tuple[WriteableBuffer, WriteableBuffer] = places, elements
+        did = _write_many(self._at, *(ctypes.byref(_address(row)) if length else None for row in rows), length)
+        self._changes += did.done
+        if did.refusal:
+            raise _refuse(did.refusal, did.detail, did.done, did.place)
+
+    def clear(self) -> None:
+        """Drops all elements, by one edit. Raises Worn, NoMemory. It gives no memory back."""
+        self.truncate(0)

@@ -1,0 +1,27 @@
+"""Numbers as C takes them."""
+from __future__ import annotations
+
+import operator
+
+from ._limits import _LEAST_I64, _MOST_I64, _MOST_U32
+
+
+def _as_u32(number: int, what: str) -> int:
+    """A number that C can be given as a uint32_t: ctypes would cut it in silence."""
+    number = operator.index(number)
+    if not 0 <= number <= _MOST_U32:
+        raise OverflowError(f"{what} {number} is outside 0 to {_MOST_U32}")
+    return number
+
+
+def _as_i64(value: int) -> int:
+    """An element that C can be given as an int64_t."""
+    value = operator.index(value)
+    if not _LEAST_I64 <= value <= _MOST_I64:
+        raise OverflowError(f"the element {value} does not fit 64 bits")
+    return value
+
+
+def _as_short(value: int) -> int:
+    """An element as C wants it. What C can't be given it is given as one that it refuses."""
+    return max(_LEAST_I64, min(operator.index(value), _MOST_I64))

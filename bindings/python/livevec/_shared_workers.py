@@ -1,0 +1,94 @@
+"""Threads that compute the summaries of a shared vector, without its lock."""
+from __future__ import annotations
+
+import ctypes
+import threading
+
+from ._calls import _free_job, _free_outcome, _job, _outcome, _slot
+from ._library import _call, _released, _u32
+from ._refusals import NoMemory
+from ._shared_state import _State
+from ._structures import _Accepted, _Claimed, _JobSlot, _OutcomeSlot, _Vetted
+from ._vector import Vector
+
+# Calls that release the interpreter's lock: the lock of the shared vector keeps them apart.
+_claim = _call("livevec_claim", _Claimed, _slot, _job, by=_released)
+_run = _call("livevec_run", _u32, _job, _outcome, by=_released)
+_vet = _call("livevec_vet", _Vetted, _slot, _outcome, by=_released)
+_accept = _call("livevec_accept", _Accepted, _slot, _outcome, by=_released)
+
+# So many jobs are claimed at once, so that the lock is taken seldom.
+_AT_ONCE = 16
+# For so many seconds a worker lets edits go on, where some came while it computed, and waits for memory.
+_REST = 0.001
+
+
+class _Hands:
+    """What a worker has in hand: slots of jobs, and of what they came to."""
+
+    def __init__(self) -> None:
+        self.slots = [(_JobSlot(), _OutcomeSlot()) for _ in range(_AT_ONCE)]
+        self.at = [(ctypes.byref(job), ctypes.byref(outcome)) for job, outcome in self.slots]
+        self.count = 0
+        self.is_wanting = False
+
+    def deliver(self, vector: Vector) -> None:
+        """Hands in what was computed. An outcome that the vector doesn't know, since it isn't the one of before, is let go."""
+        for _, outcome in self.at[: self.count]:
+            if _vet(vector._at, outcome).yes:
+                _accept(vector._at, outcome)
+
+    def claim(self, vector: Vector) -> None:
+        """Takes jobs until the hands are full or there is none."""
+        self.empty()
+        self.is_wanting = False
+        for job, _ in self.at:
+            did = _claim(vector._at, job)
+            self.is_wanting = did.refusal == NoMemory.number
+            if not did.found:
+                break
+            self.count += 1
+
+    def run(self) -> None:
+        for job, outcome in self.at[: self.count]:
+            _run(job, outcome)
+
+    def empty(self) -> None:
+        for job, outcome in self.at[: self.count]:
+            _free_job(job)
+            _free_outcome(outcome)
+        self.count = 0
+
+
+def _work(state: _State, stop: threading.Event) -> None:
+    """Claims and delivers under the lock, computes without it, and sleeps while there is no job."""
+    hands = _Hands()
+    with state.lock:
+        state.working += 1
+        seen = state.changes
+    try:
+        while True:
+            with state.lock:
+                if not state.is_over():
+                    hands.deliver(state.vector)
+                    if state.changes != seen:
+                        state.pause.wait(_REST)
+                if state.is_over() or stop.is_set():
+                    return
+                seen = state.changes
+                hands.claim(state.vector)
+                if not hands.count:
+                    if hands.is_wanting:
+                        state.pause.wait(_REST)
+                    else:
+                        state.sleep(stop)
+                    seen = state.changes
+                elif hands.count == _AT_ONCE:
+                    state.call()
+            hands.run()
+    finally:
+        with state.lock:
+            state.working -= 1
+            # a call that came to one that ends is another's
+            state.call()
+        hands.empty()
