@@ -10,7 +10,8 @@ import re
 import unittest
 
 import chromium
-from test_dashboard import HERE, best, dashboard
+from plain import best
+from viewers import HERE, dashboard
 
 PICTURES = os.environ.get("LIVEVEC_PICTURES") or os.path.join(HERE, "..", "..", "build", "dashboard")
 LINES = 100_000

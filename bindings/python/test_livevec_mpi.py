@@ -12,7 +12,7 @@ from mpi4py import MPI
 import livevec
 import livevec_mpi
 from livevec import Summary, Vector
-from test_livevec import plain_values
+from plain import plain_values
 
 COMM = MPI.COMM_WORLD
 # rank 1 has no vector, and the others have three of unlike sizes

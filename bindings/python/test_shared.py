@@ -12,23 +12,7 @@ import unittest
 
 import livevec
 from livevec import Kind, Queries, Receipt, SharedVector, Vector
-
-
-def plain(kind, elements):
-    """What a kind says of some elements, by a loop over them."""
-    if kind is Kind.SUM:
-        return sum(elements)
-    if kind is Kind.LEAST:
-        return min(elements, default=None)
-    if kind is Kind.GREATEST:
-        return max(elements, default=None)
-    best, here, a, b, states = None, 0, 1, 0, list(range(8))
-    for x in elements:
-        here = x + max(here, 0)
-        best = here if best is None else max(best, here)
-        a, b = a * (x // 256) % 2**32, (b * (x // 256) + x % 256) % 2**32
-        states = [(2 * state + x % 4) % 8 for state in states]
-    return {Kind.BEST: best, Kind.AFFINE: (a, b), Kind.AUTOMATON: tuple(states)}[kind]
+from plain import value_of
 
 
 def watching(kind="sum"):
@@ -150,7 +134,7 @@ class Threads(unittest.TestCase):
 
     def check_told(self, told, names, did):
         """Each note is the plain value at its edit, edits rise, and the last told are the values at the end."""
-        rows, at, last = [], 0, {name: plain(kind, []) for name, (kind, _, _) in names.items()}
+        rows, at, last = [], 0, {name: value_of(kind, []) for name, (kind, _, _) in names.items()}
         for notes in told:
             self.assertLess(at, notes[0].edit)
             for _, redo in did[at:notes[0].edit]:
@@ -158,13 +142,13 @@ class Threads(unittest.TestCase):
             at = notes[0].edit
             for note in notes:
                 kind, lo, hi = names[note.name]
-                self.assertEqual((note.edit, note.kind, note.value), (at, kind, plain(kind, rows[lo:hi])))
+                self.assertEqual((note.edit, note.kind, note.value), (at, kind, value_of(kind, rows[lo:hi])))
                 self.assertNotEqual(note.value, last[note.name])
                 last[note.name] = note.value
         for _, redo in did[at:]:
             redo(rows)
         self.assertGreater(len(told), 1)
-        self.assertEqual(last, {name: plain(kind, rows[lo:hi]) for name, (kind, lo, hi) in names.items()})
+        self.assertEqual(last, {name: value_of(kind, rows[lo:hi]) for name, (kind, lo, hi) in names.items()})
 
     def test_a_subscriber_looks_sleeps_and_has_the_last_notes(self):
         shared = SharedVector(Vector([4, 5]))

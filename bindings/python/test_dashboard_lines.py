@@ -1,0 +1,172 @@
+"""The lines that the dashboard reads, and the files that it follows.
+
+Expected values are worked out by hand."""
+from __future__ import annotations
+
+import os
+import subprocess
+import sys
+import tempfile
+import threading
+import time
+import unittest
+
+from livevec_dashboard.lines import MOST_LINE, Lines
+from livevec_dashboard.store import Store
+from livevec_dashboard.stream import Feed, followed
+from livevec_dashboard.views import spelt
+from viewers import HERE, SECONDS
+
+
+def told(text, **how):
+    """What lines say, and which of them are bad."""
+    lines = Lines(lambda name: True, **how)
+    first, rest = lines.take(text), lines.end()
+    samples = {name: first.samples.get(name, []) + rest.samples.get(name, []) for name in {**first.samples, **rest.samples}}
+    return samples, {why: first.bad.get(why, 0) + rest.bad.get(why, 0) for why in {**first.bad, **rest.bad}}
+
+
+class Stream(unittest.TestCase):
+    def test_each_form_of_line(self):
+        wanted = {"cpu": [3, -4], "disk used": [9]}
+        for text in (b"cpu 3\ndisk used\t9\r\n\n  cpu  -4  \n",
+                     b'{"name": "cpu", "value": 3}\n{"name": "disk used", "value": 9, "unit": "GB"}\n{"value": -4, "name": "cpu"}',
+                     b'{"cpu": 3, "disk used": 9}\n{"cpu": -4}\n',
+                     b"name,value\ncpu,3\n\"disk used\",9\ncpu,-4\n",
+                     b"cpu,disk used\n3,9\n-4,\n",
+                     b"\xef\xbb\xbfname,value\r\ncpu,3\r\ndisk used,9\r\ncpu,-4\r\n"):
+            self.assertEqual(told(text), (wanted, {}), text)
+
+    def test_bytes_may_be_cut_anywhere(self):
+        text = b"a 1\nb 22\na -333\n" + b"x" * (MOST_LINE + 5) + b" 1\na 4"
+        whole = told(text)
+        self.assertEqual(whole, ({"a": [1, -333, 4], "b": [22]}, {"too long": 1}))
+        for size in (1, 2, 3, 7, 1000):
+            lines, samples, bad, count = Lines(lambda name: True), {}, 0, 0
+            for some in [lines.take(text[at:at + size]) for at in range(0, len(text), size)] + [lines.end()]:
+                for name, values in some.samples.items():
+                    samples.setdefault(name, []).extend(values)
+                bad += sum(some.bad.values())
+                count += some.lines
+            self.assertEqual((samples, bad, count), (whole[0], 1, 5), size)
+
+    def test_bad_lines_are_counted_by_their_reason(self):
+        for line, why in [(b"cpu", "no value"), (b"cpu x", "not a number"), (b"cpu 1_000", "not a number"), (b"cpu 0x10", "not a number"),
+                          ("cpu ١٢".encode(), "not a number"), (b"cpu nan", "not a number"), (b"cpu inf", "not a number"), (b"cpu 1.5", "a decimal, and no --scale"),
+                          (b"cpu 9223372036854775808", "outside 64 bits"), (b"cpu -9223372036854775809", "outside 64 bits"),
+                          (b"cpu " + b"9" * 4000, "outside 64 bits"), (b"c" * 201 + b" 1", "a name that is too long"), (b"\xff 1", "a name that is not UTF-8"),
+                          (b"a\x1bb 1", "a name that cannot be shown"), ("a\u202eb 1".encode(), "a name that cannot be shown"), (b"a" * MOST_LINE + b" 1", "too long")]:
+            self.assertEqual(told(b"good 1\n" + line + b"\ngood 2\n"), ({"good": [1, 2]}, {why: 1}), line[:40])
+        for line, why in [(b"{", "not JSON"), (b"[" * 4000, "not JSON"), (b"[1]", "not a JSON object"), (b'{"name": 5, "value": 1}', "a name that is not text"),
+                          (b'{"name": "x", "value": true}', "not a number"), (b'{"name": "x", "value": "7"}', "not a number"), (b'{"x": NaN}', "not JSON"),
+                          (b'{"x": 1e3}', "a decimal, and no --scale"), (b'{"x": ' + b"8" * 4000 + b"}", "outside 64 bits"),
+                          (b'{"\\ud800": 1}', "a name that is not UTF-8"), (b"\xff", "not JSON"), (b'{"good": 7, "x": null}', "not a number")]:
+            samples, bad = told(b'{"good": 1}\n' + line + b'\n{"good": 2}\n')
+            self.assertEqual((samples["good"][0], samples["good"][-1], list(samples), bad), (1, 2, ["good"], {why: 1}), line[:40])
+        self.assertEqual(told(b"a,b\n1,2,3\n4,x\n\xff,1\n"), ({"a": [4]}, {"another number of fields than the header": 1, "not a number": 1, "not CSV": 1}))
+
+    def test_a_scale_makes_whole_numbers_of_decimals(self):
+        self.assertEqual(told(b"a 1.5\na 2\na -0.0004\na 1.0006\na 1e2\na .5\na 0.0005\na 0.0015\n", scale=1000),
+                         ({"a": [1500, 2000, 0, 1001, 100000, 500, 0, 2]}, {}))
+        self.assertEqual(told(b'{"a": 1.25, "b": -3}', scale=100), ({"a": [125], "b": [-300]}, {}))
+        self.assertEqual(told(b"a 9223372036854775.807\na 9223372036854775.808\na 1e9999\na 1e-9999\n", scale=1000), ({"a": [2**63 - 1, 0]}, {"outside 64 bits": 2}))
+        self.assertEqual([spelt(value, 3) for value in (0, 5, -5, 12345, -12345, 2**63)], ["0.000", "0.005", "-0.005", "12.345", "-12.345", "9223372036854775.808"])
+
+    def test_columns_leave_others_out(self):
+        self.assertEqual(told(b"time,cpu\n12:00,3\n12:01,4\n", columns=["cpu"]), ({"cpu": [3, 4]}, {}))
+        self.assertEqual(told(b'{"time": "12:00", "cpu": 3}', columns=["cpu"]), ({"cpu": [3]}, {}))
+
+    @unittest.skipUnless(os.path.exists("/proc/stat"), "there is no /proc")
+    def test_the_machines_feed_has_good_lines(self):
+        feed = subprocess.Popen([sys.executable, os.path.join(HERE, "..", "..", "examples", "machine_load.py"), "50"], stdout=subprocess.PIPE)
+        with feed.stdout:
+            text = b"".join(feed.stdout.readline() for _ in range(40))
+        self.assertEqual(feed.wait(SECONDS), 0)
+        samples, bad = told(text)
+        self.assertEqual((sum(map(len, samples.values())), bad), (40, {}))
+        self.assertTrue(all(0 <= value <= 100 for value in samples["processors, % busy"]))
+
+    def test_names_end_at_their_bound(self):
+        store = Store(most_names=3)
+        lines = Lines(store.admit)
+        for some in range(0, 1_000_000, 10_000):
+            store.take(lines.take(b"".join(b"name%d 1\n" % number for number in range(some, some + 10_000))))
+        store.take(lines.take(b"name0 2\n"))
+        status = store.status()
+        self.assertEqual((store.names, status.reasons, status.lines, status.samples), (["name0", "name1", "name2"], {"more names than there is room for": 999_997}, 1_000_001, 4))
+        self.assertEqual(store.series["name0"].answer(0, 2).total, 3)
+
+
+class Following(unittest.TestCase):
+    def setUp(self):
+        folder = tempfile.TemporaryDirectory()
+        self.addCleanup(folder.cleanup)
+        self.path = os.path.join(folder.name, "feed")
+        self.got, self.states, self.ended = [], [], threading.Event()
+        self.reader = threading.Thread(target=lambda: [self.got.append(it) for it in followed(self.path, self.ended, self.states.append)])
+        self.addCleanup(self.reader.join)
+        self.addCleanup(self.ended.set)
+
+    def write(self, text, how="ab"):
+        with open(self.path, how) as file:
+            file.write(text)
+
+    def wait_for(self, wanted):
+        end = time.monotonic() + SECONDS
+        while self.seen() != wanted and time.monotonic() < end:
+            time.sleep(0.02)
+        self.assertEqual(self.seen(), wanted)
+
+    def seen(self):
+        """The bytes of each file in order."""
+        files = [b""]
+        for it in list(self.got):
+            if it is None:
+                files.append(b"")
+            else:
+                files[-1] += it
+        return files
+
+    def test_a_file_is_followed_over_its_absence_rotation_and_truncation(self):
+        self.reader.start()
+        time.sleep(0.25)
+        self.assertEqual(self.states[:1], ["waiting: No such file or directory"])
+        self.write(b"a 1\n")
+        self.wait_for([b"a 1\n"])
+        self.write(b"a 2\nhalf of")
+        self.wait_for([b"a 1\na 2\nhalf of"])
+        with open(self.path, "ab") as old:
+            os.rename(self.path, self.path + ".1")
+            old.write(b" a line 3\n")
+            old.flush()
+            self.write(b"b 1\n")
+            self.wait_for([b"a 1\na 2\nhalf of a line 3\n", b"b 1\n"])
+        self.write(b"", "wb")
+        self.wait_for([b"a 1\na 2\nhalf of a line 3\n", b"b 1\n", b""])
+        self.write(b"c 1\n")
+        self.wait_for([b"a 1\na 2\nhalf of a line 3\n", b"b 1\n", b"c 1\n"])
+
+
+    def test_want_of_memory_loses_samples_and_not_the_stream(self):
+        class Short(Store):
+            def take(self, told):
+                if told.samples.get("a") == [2]:
+                    raise MemoryError
+                super().take(told)
+
+        store = Short()
+        feed = Feed(self.path, Lines(store.admit), store)
+        feed.start()
+        self.addCleanup(feed.join)
+        self.addCleanup(feed.stop)
+        self.reader.start()
+        for line, state, samples in ((b"a 1\n", "reading", 1), (b"a 2\n", "short of memory: samples are left out", 1), (b"a 3\n", "reading", 2)):
+            self.write(line)
+            end = time.monotonic() + SECONDS
+            while (store.status().state, store.status().samples) != (state, samples) and time.monotonic() < end:
+                time.sleep(0.02)
+            self.assertEqual((store.status().state, store.status().samples), (state, samples))
+
+
+if __name__ == "__main__":
+    unittest.main()

@@ -1,0 +1,135 @@
+"""The dashboard's vectors, and what viewers of them are told, beside plain Python over the same numbers."""
+from __future__ import annotations
+
+import random
+import unittest
+from array import array
+
+from livevec_dashboard.lines import Lines
+from livevec_dashboard.store import MOST_ELEMENTS, Series, Store
+from livevec_dashboard.views import BadView, Viewer, view_of
+from plain import best
+from viewers import Page
+
+
+class Vectors(unittest.TestCase):
+    def test_answers_are_plain_and_numbers_rise_over_renewals(self):
+        chance, series, plain, edits, firsts = random.Random(5), Series(), [], [], []
+        for _ in range(300):
+            values = [chance.randrange(-1000, 1000) for _ in range(chance.randrange(1, 90))]
+            plain += values
+            series.take(array("q", values), keep=200, room=250)
+            firsts.append(series.first)
+            lo = chance.randrange(series.first, series.end)
+            hi = chance.randrange(lo + 1, series.end + 1)
+            part = plain[lo:hi]
+            answer = series.answer(lo, hi)
+            self.assertEqual(answer[1:], (lo, hi, sum(part), min(part), max(part), best(part)))
+            self.assertEqual((answer.edit, series.end, series.last()), (len(plain), len(plain), plain[-1]))
+            self.assertTrue(min(len(plain), 200) <= series.held <= 250)
+            edits.append(answer.edit)
+        self.assertEqual((edits, firsts), (sorted(set(edits)), sorted(firsts)))
+        self.assertGreater(len(set(firsts)), 30)
+
+    def test_a_vector_is_renewed_before_its_room_ends(self):
+        store = Store()
+        lines = Lines(store.admit)
+        series, block = None, b"".join(b"a %d\n" % number for number in range(10_000))
+        for _ in range(110):
+            store.take(lines.take(block))
+            series = store.series["a"]
+            self.assertLessEqual(series.held, MOST_ELEMENTS)
+        self.assertEqual((series.end, series.answer(series.end - 10_000, series.end).total), (1_100_000, sum(range(10_000))))
+        self.assertGreaterEqual(series.held, 1_000_000)
+        self.assertGreater(series.first, 0)
+
+    def test_names_share_the_room(self):
+        store = Store(keep=1_000, most_samples=5_000)
+        lines = Lines(store.admit)
+        for name in range(50):
+            store.take(lines.take(b"".join(b"n%d %d\n" % (name, value) for value in range(3_000))))
+            self.assertLessEqual(sum(series.held for series in store.series.values()), 5_050)
+        for series in store.series.values():
+            self.assertEqual((series.end, series.answer(2_950, 3_000).total), (3_000, sum(range(2_950, 3_000))))
+
+    def test_sums_beyond_64_bits_are_whole_or_not_told(self):
+        series = Series()
+        series.take(array("q", [2**63 - 1] * 5 + [-(2**63)] * 3), keep=10, room=10)
+        self.assertEqual((series.answer(0, 5).total, series.answer(0, 8).total, series.answer(5, 8).best), (5 * (2**63 - 1), 5 * (2**63 - 1) - 3 * 2**63, -(2**63)))
+        self.assertEqual(series.answer(0, 8).best, 5 * (2**63 - 1))
+        many = Series()
+        many.take(array("q", [2**63 - 1] * 1000), keep=1000, room=1000)
+        self.assertEqual((many.answer(0, 1000).total, many.answer(0, 1000).best), (None, 1000 * (2**63 - 1)))
+
+
+def plain_columns(values, lo, hi, width):
+    """The same from nothing."""
+    made = {}
+    for number in range(lo // width, (hi - 1) // width + 1):
+        part = values[max(number * width, lo):min((number + 1) * width, hi)]
+        made[number] = [min(part), max(part), sum(part) / len(part)]
+    return made
+
+
+class Views(unittest.TestCase):
+    def test_what_is_sent_adds_up_to_what_is_there(self):
+        chance, store, plain = random.Random(9), Store(keep=900), []
+        store.admit("a")
+        viewer, page, lines = Viewer(store, 0), Page(), Lines(store.admit)
+        spans = [{"last": 7}, {"last": 333}, {"last": 1000}, {"lo": 3, "hi": 5000}, {"lo": 100, "hi": 400}, {"lo": 800}]
+        for turn in range(400):
+            if turn % 40 == 0:
+                viewer.look(view_of({"charts": [{"name": "a", "columns": chance.choice([2, 10, 64, 500]), **spans[turn // 40 % len(spans)]}], "watches": []}))
+            values = [chance.randrange(-50, 50) for _ in range(chance.choice([0, 1, 2, 60]))]
+            plain += values
+            store.take(lines.take(b"".join(b"a %d\n" % value for value in values)))
+            page.take(viewer.frame())
+            chart = page.charts.get("a")
+            if chart and chart["lo"] < chart["hi"]:
+                lo, hi = chart["lo"], chart["hi"]
+                self.assertEqual(page.columns["a"], plain_columns(plain, lo, hi, chart["width"]))
+                part = plain[lo:hi]
+                self.assertEqual({kind: chart["numbers"][kind] for kind in ("sum", "least", "greatest", "best")},
+                                 {"sum": str(sum(part)), "least": str(min(part)), "greatest": str(max(part)), "best": str(best(part))})
+                self.assertAlmostEqual(float(chart["numbers"]["mean"]), sum(part) / len(part), places=3)
+        self.assertGreater(store.series["a"].first, 0)
+
+    def test_only_what_changed_is_sent(self):
+        store = Store()
+        lines, viewer, page = Lines(store.admit), Viewer(store, 0), Page()
+        store.take(lines.take(b"a 1\n" * 100_000 + b"b 5\n"))
+        viewer.look(view_of({"charts": [{"name": "a", "columns": 1000, "last": 100_000}, {"name": "b", "columns": 1000, "last": 10}], "watches": []}))
+        page.take(viewer.frame())
+        self.assertTrue(780 <= page.sent <= 1001)
+        self.assertEqual(viewer.frame(), {})
+        store.take(lines.take(b"a 2\n"))
+        frame = viewer.frame()
+        self.assertEqual(([chart["name"] for chart in frame["charts"]], len(frame["charts"][0]["columns"]) <= 3), (["a"], True))
+
+    def test_a_standing_query_tells_when_its_answer_changes(self):
+        store = Store(keep=20)
+        lines, viewer, page = Lines(store.admit), Viewer(store, 1), Page()
+        viewer.look(view_of({"charts": [], "watches": [{"id": 1, "name": "a", "kind": "sum", "lo": 0, "hi": 4}, {"id": 2, "name": "a", "kind": "greatest", "last": 2},
+                                                       {"id": 3, "name": "a", "kind": "mean", "lo": 2}]}))
+        for text in (b"", b"a 5\n", b"a 5\na 0\n", b"a 2\n", b"a 1\n", b"a 7\n" * 30):
+            store.take(lines.take(text))
+            page.take(viewer.frame())
+        self.assertEqual([(it["edit"], it["value"], it["lost"]) for it in page.watches[1]], [(1, "0.5", False), (3, "1.0", False), (4, "1.2", False), (35, None, True)])
+        self.assertEqual([(it["edit"], it["value"]) for it in page.watches[2]], [(1, "0.5"), (4, "0.2"), (35, "0.7")])
+        self.assertEqual([(it["edit"], it["value"]) for it in page.watches[3]], [(1, None), (3, "0.0000"), (4, "0.1000"), (35, None)])
+
+    def test_views_out_of_bounds_are_refused(self):
+        chart, watch = {"name": "a", "last": 10, "columns": 100}, {"id": 1, "name": "a", "kind": "sum", "lo": 0, "hi": 5}
+        view_of({"charts": [chart], "watches": [watch]})
+        for bad in (None, [], {}, {"charts": []}, {"charts": [1], "watches": []}, {"charts": [chart] * 2, "watches": []}, {"charts": [], "watches": [watch] * 2},
+                    {"charts": [{**chart, "name": str(number)} for number in range(25)], "watches": []},
+                    {"charts": [], "watches": [{**watch, "id": number} for number in range(33)]},
+                    *({"charts": [{**chart, **other}], "watches": []} for other in ({"columns": 2001}, {"columns": 1}, {"columns": True}, {"columns": "9"}, {"last": 0}, {"last": 2**20},
+                                                                                     {"last": 1.5}, {"name": 7}, {"name": ["a"]})),
+                    *({"charts": [], "watches": [{**watch, **other}]} for other in ({"kind": "median"}, {"kind": []}, {"lo": -1}, {"lo": 5}, {"hi": 2**60}, {"lo": None}, {"id": -1}))):
+            with self.assertRaises(BadView, msg=bad):
+                view_of(bad)
+
+
+if __name__ == "__main__":
+    unittest.main()
