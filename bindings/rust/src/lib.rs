@@ -28,14 +28,21 @@ mod board;
 mod columns;
 mod elements;
 mod indices;
+mod jobs;
 mod kinds;
 mod like_vec;
+mod limits;
+mod many;
 mod places;
 mod queries;
+mod questions;
 #[allow(unsafe_code)]
 mod raw;
 mod refusal;
+mod scans;
 pub mod series;
+mod series_edits;
+mod series_scans;
 mod shared;
 mod shared_lock;
 mod shared_subscriber;
@@ -47,22 +54,23 @@ mod vector;
 /// The version of the library and of this crate.
 pub const VERSION: &str = env!("CARGO_PKG_VERSION");
 
-pub use board::{Board, Closed, Kind, NotClosed, Refreshed, Seat, Told, Value};
+pub use board::{Board, Closed, NotClosed, Refreshed, Seat, Told};
 pub use columns::{Column, Filled, by};
 pub use elements::{Elements, IntoElements, Through};
 pub use indices::Indices;
-pub use kinds::UnknownKind;
+pub use jobs::{Job, Outcome};
+pub use kinds::{Kind, UnknownKind, Value};
+pub use limits::Limits;
 pub use places::{BestRun, Placed};
 pub use queries::{Answered, Note, Queries};
 pub use refusal::Refusal;
+pub use scans::{Beginnings, Scan};
 pub use series::Series;
 pub use shared::Shared;
 pub use shared_subscriber::Subscriber;
 pub use summary::Summary;
-pub use values::{
-    Accepted, Edit, Limits, Node, Popped, Pushed, Reduced, RefusedAt, Reserved, Stopped, Swapped, Truncated, Values, Written,
-};
-pub use vector::{Beginnings, Job, Outcome, Scan, Vector};
+pub use values::{Accepted, Edit, Node, Popped, Pushed, Reduced, RefusedAt, Reserved, Stopped, Swapped, Truncated, Values, Written};
+pub use vector::Vector;
 
 /// The program on the crate's page runs as one of the tests.
 #[cfg(doctest)]

@@ -1,3 +1,5 @@
+//! Why a call is refused.
+
 use std::fmt;
 
 /// Why a call was refused. A refused call changes no element, no edit number and no later answer.

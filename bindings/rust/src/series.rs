@@ -1,10 +1,10 @@
 //! The series: a vector that goes on. [`Series`] is the type; beside it stand what its edits and questions tell.
 
 use std::fmt;
-use std::iter::FusedIterator;
 use std::ops::{Bound, RangeBounds};
 
-use crate::raw::SixValues;
+pub use crate::series_edits::{Dropped, Popped, Pushed, Stopped, Swapped, Written};
+pub use crate::series_scans::Running;
 use crate::{Refusal, Values, raw};
 
 /// A vector of `i64` that goes on: its elements and edits are bounded by memory alone, and elements at its front may expire.
@@ -38,52 +38,7 @@ use crate::{Refusal, Values, raw};
 /// shared(livevec::Series::new().unwrap());
 /// ```
 pub struct Series {
-    raw: raw::series::Series,
-}
-
-/// An accepted push.
-#[derive(Clone, Copy, Debug, PartialEq, Eq, Hash)]
-pub struct Pushed {
-    /// The number of this edit.
-    pub edit: u64,
-    /// The index under which the element stands.
-    pub index: u64,
-}
-
-/// An accepted pop.
-#[derive(Clone, Copy, Debug, PartialEq, Eq, Hash)]
-pub struct Popped {
-    /// The number of this edit.
-    pub edit: u64,
-    /// The element that stood at the end.
-    pub value: i64,
-}
-
-/// An accepted write.
-#[derive(Clone, Copy, Debug, PartialEq, Eq, Hash)]
-pub struct Written {
-    /// The number of this edit.
-    pub edit: u64,
-    /// The element that stood there.
-    pub before: i64,
-}
-
-/// An accepted swap.
-#[derive(Clone, Copy, Debug, PartialEq, Eq, Hash)]
-pub struct Swapped {
-    /// The number of this edit.
-    pub edit: u64,
-    /// The element that stands under the first index now.
-    pub first: i64,
-}
-
-/// An accepted truncate or expire.
-#[derive(Clone, Copy, Debug, PartialEq, Eq, Hash)]
-pub struct Dropped {
-    /// The number of this edit.
-    pub edit: u64,
-    /// How many elements were dropped.
-    pub dropped: u64,
+    pub(crate) raw: raw::series::Series,
 }
 
 /// The answer of a reduction.
@@ -93,29 +48,6 @@ pub struct Reduced {
     pub edit: u64,
     /// The values of the range.
     pub values: Values,
-}
-
-/// Why many pushes ended. Those before it stay.
-#[derive(Clone, Copy, Debug, PartialEq, Eq, Hash)]
-pub struct Stopped {
-    /// How many elements were pushed.
-    pub pushed: usize,
-    /// Why the next was not.
-    pub refusal: Refusal,
-}
-
-impl fmt::Display for Stopped {
-    fn fmt(&self, f: &mut fmt::Formatter<'_>) -> fmt::Result {
-        write!(f, "after {} elements: {}", self.pushed, self.refusal)
-    }
-}
-
-impl std::error::Error for Stopped {}
-
-impl From<Stopped> for Refusal {
-    fn from(stopped: Stopped) -> Refusal {
-        stopped.refusal
-    }
 }
 
 impl Series {
@@ -283,7 +215,7 @@ impl Series {
     fn running(&self, inclusive: bool, range: impl RangeBounds<u64>) -> Result<Running<'_>, Refusal> {
         let (lo, hi) = self.ends(&range);
         self.raw.scan(inclusive, lo, lo, hi, &mut [])?;
-        Ok(Running { series: self, inclusive, lo, at: lo, hi, room: [NONE; AT_ONCE], given: 0, filled: 0 })
+        Ok(Running::new(self, inclusive, lo, hi))
     }
 
     /// What a range starts and ends with. An index that is past all that there can be is refused as any that isn't kept.
@@ -315,63 +247,5 @@ impl fmt::Debug for Series {
 impl Reduced {
     fn of(raw: raw::series::Reduced) -> Reduced {
         Reduced { edit: raw.edit, values: Values::of_raw(raw.values) }
-    }
-}
-
-// So many running values are computed by one call.
-const AT_ONCE: usize = 256;
-
-const NONE: SixValues =
-    SixValues { sum: 0, least: 0, greatest: 0, best_low: 0, best_high: 0, affine_a: 0, affine_b: 0, automaton: [0; 8], any: false };
-
-/// The running values of a range of a [`Series`], which can't be edited meanwhile.
-pub struct Running<'a> {
-    series: &'a Series,
-    inclusive: bool,
-    lo: u64,
-    // what is still to be given: that of `room` from `given` on up to `filled`, then those that end at `at` and behind it
-    at: u64,
-    hi: u64,
-    room: [SixValues; AT_ONCE],
-    given: usize,
-    filled: usize,
-}
-
-impl Running<'_> {
-    fn fill(&mut self) {
-        let did = self.series.raw.scan(self.inclusive, self.lo, self.at, self.hi, &mut self.room);
-        self.filled = did.expect("the range is kept").length as usize;
-        self.given = 0;
-        self.at += self.filled as u64;
-    }
-}
-
-impl Iterator for Running<'_> {
-    type Item = Values;
-
-    fn next(&mut self) -> Option<Values> {
-        if self.given == self.filled {
-            if self.at == self.hi {
-                return None;
-            }
-            self.fill();
-        }
-        let values = self.room[self.given];
-        self.given += 1;
-        Some(Values::of_raw(values))
-    }
-
-    fn size_hint(&self) -> (usize, Option<usize>) {
-        let left = self.filled - self.given + (self.hi - self.at) as usize;
-        (left, Some(left))
-    }
-}
-
-impl ExactSizeIterator for Running<'_> {}
-impl FusedIterator for Running<'_> {}
-
-impl fmt::Debug for Running<'_> {
-    fn fmt(&self, f: &mut fmt::Formatter<'_>) -> fmt::Result {
-        f.debug_struct("Running").field("len", &self.len()).finish_non_exhaustive()
     }
 }

@@ -1,3 +1,5 @@
+//! Summaries that travel, as bytes.
+
 use std::fmt;
 
 use crate::{Refusal, Values, raw};

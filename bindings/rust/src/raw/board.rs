@@ -1,0 +1,194 @@
+//! The C calls of boards and seats, and handles over them.
+
+use std::cell::UnsafeCell;
+use std::mem::ManuallyDrop;
+use std::sync::{Arc, Mutex, MutexGuard, PoisonError};
+
+use super::{Count, Edited, Element, Reduced, Slot, answered, boxed};
+use crate::Refusal;
+
+#[repr(C)]
+pub(crate) struct Renewed {
+    refusal: u32,
+    detail: u32,
+    pub(crate) edit: u32,
+    pub(crate) version: u32,
+}
+
+unsafe extern "C" {
+    fn livevec_board_new(slot: *mut Slot, kind: u32, buckets: u32, edits: u32, seats: u32) -> u32;
+    fn livevec_board_sit(board: *mut Slot, seat: *mut Slot) -> u32;
+    fn livevec_board_take_back(board: *mut Slot, seat: *mut Slot) -> u32;
+    fn livevec_board_close(board: *mut Slot) -> Count;
+    fn livevec_closed_size(board: *mut Slot) -> Count;
+    fn livevec_closed_get(board: *mut Slot, index: u32) -> Element;
+    fn livevec_closed_read(board: *mut Slot, buffer: *mut i64, room: usize, count: *mut u32) -> u32;
+    fn livevec_seat_push(seat: *mut Slot, value: i64, tries: u32) -> Edited;
+    fn livevec_seat_pop(seat: *mut Slot, tries: u32) -> Edited;
+    fn livevec_seat_write(seat: *mut Slot, index: u32, value: i64, tries: u32) -> Edited;
+    fn livevec_seat_get(seat: *mut Slot, index: u32) -> Element;
+    fn livevec_seat_size(seat: *mut Slot) -> Count;
+    fn livevec_seat_reduce(seat: *mut Slot, lo: u32, hi: u32) -> Reduced;
+    fn livevec_seat_refresh(seat: *mut Slot, block: u32) -> Renewed;
+    fn livevec_free_board(board: *mut Slot) -> u32;
+    fn livevec_free_seat(seat: *mut Slot) -> u32;
+}
+
+/// The slots of the seats of a board that were dropped. Each goes back before the board's next call: a drop may be on any thread, and the
+/// board's slot serves one call at a time.
+type Dropped = Arc<Mutex<Vec<SeatSlot>>>;
+
+/// A board of C, open or closed. Its slot is full from `new` to the drop.
+pub(crate) struct Board {
+    slot: Box<UnsafeCell<Slot>>,
+    dropped: Dropped,
+}
+
+// SAFETY: between calls a slot may go to another thread, says the header. A `Board` that is sent is owned, so no call of it is under way;
+// what goes on at its seats meanwhile is at slots of their own. It is not `Sync`, by its cell.
+unsafe impl Send for Board {}
+
+impl Board {
+    pub(crate) fn new(kind: u32, buckets: u32, edits: u32, seats: u32) -> Result<Board, Refusal> {
+        let slot = boxed(Slot::empty())?;
+        // SAFETY: the slot is empty, and lies in its box until it is dropped.
+        answered(unsafe { livevec_board_new(slot.get(), kind, buckets, edits, seats) }, 0, ())?;
+        let board = Board { slot, dropped: Dropped::default() };
+        // room for all seats, so that the drop of one takes no memory
+        let room = held(&board.dropped).try_reserve_exact(seats as usize);
+        room.map_err(|_| Refusal::NoMemory)?;
+        Ok(board)
+    }
+
+    // For each call below: the slot is full, since `self` was made, and no other call is at it, since `self` is not `Sync` and C never
+    // calls back. Which calls an open or a closed board answers C tells by refusal.
+
+    /// Takes back the seats that were dropped.
+    fn gather(&mut self) {
+        for seat in held(&self.dropped).drain(..) {
+            // SAFETY: see above; the seat's slot is full, and nothing else uses it any more.
+            unsafe { livevec_board_take_back(self.slot.get(), seat.0.get()) };
+        }
+    }
+
+    pub(crate) fn sit(&mut self) -> Result<Seat, Refusal> {
+        self.gather();
+        let slot = boxed(Slot::empty())?;
+        // SAFETY: see above; the seat's slot is empty, and lies in its box until it is dropped.
+        answered(unsafe { livevec_board_sit(self.slot.get(), slot.get()) }, 0, ())?;
+        Ok(Seat { slot: ManuallyDrop::new(SeatSlot(slot)), dropped: self.dropped.clone() })
+    }
+
+    /// Closes the board, and tells how many edits were accepted.
+    pub(crate) fn close(&mut self) -> Result<u32, Refusal> {
+        self.gather();
+        // SAFETY: see above.
+        let told = unsafe { livevec_board_close(self.slot.get()) };
+        answered(told.refusal, 0, told.value)
+    }
+
+    /// How many elements the closed board has.
+    pub(crate) fn closed_size(&self) -> u32 {
+        // SAFETY: see above.
+        unsafe { livevec_closed_size(self.slot.get()) }.value
+    }
+
+    pub(crate) fn closed_get(&self, index: u32) -> Result<i64, Refusal> {
+        // SAFETY: see above.
+        let found = unsafe { livevec_closed_get(self.slot.get(), index) };
+        answered(found.refusal, found.detail, found.value)
+    }
+
+    /// Fills the front of a buffer with the elements of the closed board, and tells how many they are.
+    pub(crate) fn closed_read(&self, buffer: &mut [i64]) -> Result<usize, Refusal> {
+        let mut count = 0;
+        // SAFETY: see above; at most so many elements are written as the buffer has, and the count is written to during the call.
+        let refusal = unsafe { livevec_closed_read(self.slot.get(), buffer.as_mut_ptr(), buffer.len(), &mut count) };
+        answered(refusal, count, count as usize)
+    }
+}
+
+impl Drop for Board {
+    fn drop(&mut self) {
+        // SAFETY: the slot is full, and nothing calls it any more. Seats that are out stay good, says the header.
+        unsafe { livevec_free_board(self.slot.get()) };
+    }
+}
+
+/// What the lock holds, also where a thread panicked that had it: a list of slots is never left half changed.
+fn held(dropped: &Dropped) -> MutexGuard<'_, Vec<SeatSlot>> {
+    dropped.lock().unwrap_or_else(PoisonError::into_inner)
+}
+
+/// The slot of a seat, which is full until the board has the seat back. Else the seat is freed.
+struct SeatSlot(Box<UnsafeCell<Slot>>);
+
+// SAFETY: between calls a slot may go to another thread, says the header. One that is sent is owned, so no call of it is under way.
+unsafe impl Send for SeatSlot {}
+
+impl Drop for SeatSlot {
+    fn drop(&mut self) {
+        // SAFETY: nothing calls the slot any more; where it is empty, C refuses.
+        unsafe { livevec_free_seat(self.0.get()) };
+    }
+}
+
+/// A seat of C. Its slot is full from `sit` to the drop, which hands it to the board.
+pub(crate) struct Seat {
+    slot: ManuallyDrop<SeatSlot>,
+    dropped: Dropped,
+}
+
+impl Seat {
+    // For each call below: the slot is full, since `self` was made, and no other call is at it, since `self` is not `Sync` and C never
+    // calls back.
+
+    pub(crate) fn push(&mut self, value: i64, tries: u32) -> Result<Edited, Refusal> {
+        // SAFETY: see above.
+        let did = unsafe { livevec_seat_push(self.slot.0.get(), value, tries) };
+        answered(did.refusal, did.detail, did)
+    }
+
+    pub(crate) fn pop(&mut self, tries: u32) -> Result<Edited, Refusal> {
+        // SAFETY: see above.
+        let did = unsafe { livevec_seat_pop(self.slot.0.get(), tries) };
+        answered(did.refusal, did.detail, did)
+    }
+
+    pub(crate) fn write(&mut self, index: u32, value: i64, tries: u32) -> Result<Edited, Refusal> {
+        // SAFETY: see above.
+        let did = unsafe { livevec_seat_write(self.slot.0.get(), index, value, tries) };
+        answered(did.refusal, did.detail, did)
+    }
+
+    pub(crate) fn get(&self, index: u32) -> Result<i64, Refusal> {
+        // SAFETY: see above.
+        let found = unsafe { livevec_seat_get(self.slot.0.get(), index) };
+        answered(found.refusal, found.detail, found.value)
+    }
+
+    pub(crate) fn size(&self) -> u32 {
+        // SAFETY: see above.
+        unsafe { livevec_seat_size(self.slot.0.get()) }.value
+    }
+
+    pub(crate) fn reduce(&self, lo: u32, hi: u32) -> Result<Reduced, Refusal> {
+        // SAFETY: see above.
+        let did = unsafe { livevec_seat_reduce(self.slot.0.get(), lo, hi) };
+        answered(did.refusal, did.detail, did)
+    }
+
+    pub(crate) fn refresh(&self, block: u32) -> Result<Renewed, Refusal> {
+        // SAFETY: see above.
+        let did = unsafe { livevec_seat_refresh(self.slot.0.get(), block) };
+        answered(did.refusal, did.detail, did)
+    }
+}
+
+impl Drop for Seat {
+    fn drop(&mut self) {
+        // SAFETY: the slot is taken once, here, and nothing uses the seat any more.
+        let slot = unsafe { ManuallyDrop::take(&mut self.slot) };
+        held(&self.dropped).push(slot);
+    }
+}

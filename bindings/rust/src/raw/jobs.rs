@@ -1,0 +1,116 @@
+//! The C calls that compute summaries of a vector, in place or as jobs, and the handles over jobs and outcomes. Each vector's slot is full,
+//! and no other call is at it, as `vector.rs` says.
+
+use std::cell::UnsafeCell;
+
+use super::{Count, Slot, Vector, answered, boxed};
+use crate::Refusal;
+
+#[repr(C)]
+pub(crate) struct ClaimedJob {
+    refusal: u32,
+    found: bool,
+    pub(crate) level: u32,
+    pub(crate) number: u32,
+    pub(crate) version: u32,
+}
+
+#[repr(C)]
+pub(crate) struct Became {
+    refusal: u32,
+    pub(crate) became: u32,
+    pub(crate) now: u32,
+}
+
+#[repr(C)]
+struct Vetted {
+    refusal: u32,
+    yes: bool,
+}
+
+unsafe extern "C" {
+    fn livevec_refresh(slot: *mut Slot, jobs: u32) -> Count;
+    fn livevec_claim(slot: *mut Slot, job: *mut Slot) -> ClaimedJob;
+    fn livevec_run(job: *mut Slot, outcome: *mut Slot) -> u32;
+    fn livevec_vet(slot: *mut Slot, outcome: *mut Slot) -> Vetted;
+    fn livevec_accept(slot: *mut Slot, outcome: *mut Slot) -> Became;
+    fn livevec_forget(slot: *mut Slot) -> u32;
+    fn livevec_free_job(job: *mut Slot) -> u32;
+    fn livevec_free_outcome(outcome: *mut Slot) -> u32;
+}
+
+impl Vector {
+    pub(crate) fn refresh(&mut self, jobs: u32) -> u32 {
+        // SAFETY: see above.
+        unsafe { livevec_refresh(self.slot.get(), jobs) }.value
+    }
+
+    pub(crate) fn forget(&mut self) {
+        // SAFETY: see above.
+        unsafe { livevec_forget(self.slot.get()) };
+    }
+
+    /// A job, if a node wants one.
+    pub(crate) fn claim(&mut self) -> Result<Option<(ClaimedJob, Job)>, Refusal> {
+        let work = boxed(Work { job: Slot::empty(), outcome: Slot::empty() })?;
+        // SAFETY: see above; the job's slot is empty, and lies in its box until it is dropped.
+        let did = unsafe { livevec_claim(self.slot.get(), work.job.get()) };
+        answered(did.refusal, 0, ())?;
+        Ok(did.found.then_some((did, Job { work })))
+    }
+
+    pub(crate) fn vouches_for(&self, outcome: &Outcome) -> bool {
+        // SAFETY: see above; the outcome's slot is full, and no other call is at it, since an outcome is not `Sync` either.
+        unsafe { livevec_vet(self.slot.get(), outcome.work.outcome.get()) }.yes
+    }
+
+    pub(crate) fn accept(&mut self, outcome: &Outcome) -> Result<Became, Refusal> {
+        // SAFETY: see above; the outcome's slot is full, and no other call is at it, since an outcome is not `Sync` either.
+        let did = unsafe { livevec_accept(self.slot.get(), outcome.work.outcome.get()) };
+        answered(did.refusal, 0, did)
+    }
+}
+
+/// The slots of a job and of its outcome. At most one of them is full, and whichever it is, it is freed with the box.
+struct Work {
+    job: UnsafeCell<Slot>,
+    outcome: UnsafeCell<Slot>,
+}
+
+impl Drop for Work {
+    fn drop(&mut self) {
+        // SAFETY: nothing calls these slots any more. An empty slot is left as it is.
+        unsafe {
+            livevec_free_job(self.job.get());
+            livevec_free_outcome(self.outcome.get());
+        }
+    }
+}
+
+/// A job of C: the job's slot is full.
+pub(crate) struct Job {
+    work: Box<Work>,
+}
+
+// SAFETY: a job holds nothing of its vector, and any thread may run it, says the header.
+unsafe impl Send for Job {}
+// SAFETY: no `&self` call reaches the slots.
+unsafe impl Sync for Job {}
+
+impl Job {
+    pub(crate) fn run(self) -> Outcome {
+        // SAFETY: the job's slot is full and the outcome's is empty; both lie in the box, which the outcome takes over.
+        let refusal = unsafe { livevec_run(self.work.job.get(), self.work.outcome.get()) };
+        assert_eq!(refusal, 0, "a job that is full runs");
+        Outcome { work: self.work }
+    }
+}
+
+/// An outcome of C: the outcome's slot is full.
+pub(crate) struct Outcome {
+    work: Box<Work>,
+}
+
+// SAFETY: an outcome holds nothing of its vector, and between calls its slot may go to another thread. It is not `Sync`, by its cells:
+// two vectors on two threads could be handed the same outcome.
+unsafe impl Send for Outcome {}

@@ -1,0 +1,73 @@
+//! What the edits of a series tell.
+
+use std::fmt;
+
+use crate::Refusal;
+
+/// An accepted push.
+#[derive(Clone, Copy, Debug, PartialEq, Eq, Hash)]
+pub struct Pushed {
+    /// The number of this edit.
+    pub edit: u64,
+    /// The index under which the element stands.
+    pub index: u64,
+}
+
+/// An accepted pop.
+#[derive(Clone, Copy, Debug, PartialEq, Eq, Hash)]
+pub struct Popped {
+    /// The number of this edit.
+    pub edit: u64,
+    /// The element that stood at the end.
+    pub value: i64,
+}
+
+/// An accepted write.
+#[derive(Clone, Copy, Debug, PartialEq, Eq, Hash)]
+pub struct Written {
+    /// The number of this edit.
+    pub edit: u64,
+    /// The element that stood there.
+    pub before: i64,
+}
+
+/// An accepted swap.
+#[derive(Clone, Copy, Debug, PartialEq, Eq, Hash)]
+pub struct Swapped {
+    /// The number of this edit.
+    pub edit: u64,
+    /// The element that stands under the first index now.
+    pub first: i64,
+}
+
+/// An accepted truncate or expire.
+#[derive(Clone, Copy, Debug, PartialEq, Eq, Hash)]
+pub struct Dropped {
+    /// The number of this edit.
+    pub edit: u64,
+    /// How many elements were dropped.
+    pub dropped: u64,
+}
+
+/// Why many pushes ended. Those before it stay.
+#[derive(Clone, Copy, Debug, PartialEq, Eq, Hash)]
+pub struct Stopped {
+    /// How many elements were pushed.
+    pub pushed: usize,
+    /// Why the next was not.
+    pub refusal: Refusal,
+}
+
+impl fmt::Display for Stopped {
+    fn fmt(&self, f: &mut fmt::Formatter<'_>) -> fmt::Result {
+        write!(f, "after {} elements: {}", self.pushed, self.refusal)
+    }
+}
+
+impl std::error::Error for Stopped {}
+
+impl From<Stopped> for Refusal {
+    fn from(stopped: Stopped) -> Refusal {
+        stopped.refusal
+    }
+}
