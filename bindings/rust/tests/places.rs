@@ -1,16 +1,11 @@
 //! Where in a range something stands, beside plain loops.
 
+mod plain;
+
 use std::cmp::Reverse;
 
 use livevec::{BestRun, Placed, Refusal, Vector};
-
-/// Numbers of a fixed sequence, each below what is asked for.
-fn numbers(mut state: u64) -> impl FnMut(usize) -> usize {
-    move |below| {
-        state = state.wrapping_mul(6364136223846793005).wrapping_add(1442695040888963407);
-        (state >> 33) as usize % below
-    }
-}
+use plain::numbers;
 
 fn best_of(list: &[i64], lo: usize, hi: usize) -> Option<BestRun> {
     let sum = |start: usize, end: usize| list[start..end].iter().map(|&x| i128::from(x)).sum::<i128>();

@@ -1,38 +1,9 @@
 //! Standing queries, beside a plain list of what each was told last.
 
+mod plain;
+
 use livevec::{Kind, Limits, Note, Queries, Refusal, Value, Vector};
-
-/// Numbers of a fixed sequence, each below what is asked for.
-fn numbers(mut state: u64) -> impl FnMut(usize) -> usize {
-    move |below| {
-        state = state.wrapping_mul(6364136223846793005).wrapping_add(1442695040888963407);
-        (state >> 33) as usize % below
-    }
-}
-
-/// What a kind says of some elements, by a loop over them.
-fn plain(kind: Kind, list: &[i64]) -> Value {
-    match kind {
-        Kind::Sum => Value::Sum(list.iter().fold(0, |sum: i64, &x| sum.wrapping_add(x))),
-        Kind::Least => Value::Least(list.iter().copied().min()),
-        Kind::Greatest => Value::Greatest(list.iter().copied().max()),
-        Kind::Best => {
-            let runs = (0..list.len()).flat_map(|lo| (lo + 1..=list.len()).map(move |hi| (lo, hi)));
-            Value::Best(runs.map(|(lo, hi)| list[lo..hi].iter().map(|&x| i128::from(x)).sum()).max())
-        }
-        Kind::Affine => {
-            let map = list.iter().fold((1_u32, 0_u32), |(a, b), &x| {
-                let (by, plus) = (x.div_euclid(256) as u32, x.rem_euclid(256) as u32);
-                (by.wrapping_mul(a), by.wrapping_mul(b).wrapping_add(plus))
-            });
-            Value::Affine(map.0, map.1)
-        }
-        Kind::Automaton => {
-            let end = |start: u8| list.iter().fold(start, |q, &x| (2 * q + x.rem_euclid(4) as u8) % 8);
-            Value::Automaton([0, 1, 2, 3, 4, 5, 6, 7].map(end))
-        }
-    }
-}
+use plain::{numbers, plain};
 
 struct Query {
     name: String,

@@ -1,14 +1,11 @@
 //! Summaries from outside. Expected values are worked out by hand from the rules, and bytes from the layout in docs/engines.md.
 
+mod plain;
+
 use std::thread;
 
 use livevec::{Limits, Refusal, Summary, Vector};
-
-fn of(elements: &[i64]) -> Vector {
-    let mut vector = Vector::new().unwrap();
-    vector.extend_from_slice(elements).unwrap();
-    vector
-}
+use plain::of;
 
 fn words(summary: &Summary) -> Vec<u64> {
     summary.to_bytes().chunks_exact(8).map(|word| u64::from_le_bytes(word.try_into().unwrap())).collect()
