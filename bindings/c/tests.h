@@ -12,14 +12,20 @@ extern int until_failure;
 
 #define IS(got, wanted) is(__FILE__, __LINE__, #got, (long long)(got), (long long)(wanted))
 
+/* The tests of slots that hold something else, and of null pointers. */
+void misuse_of_vectors(void);
+
 /* The tests of boards and seats. */
 void boards(void);
 
 /* The tests of calls beside one another at one slot. */
 void beside(void);
 
-/* The tests of questions by one kind, and of many writes and questions at once. */
+/* The tests of questions by one kind, one or many at once. */
 void kinds(void);
+
+/* The tests of many writes and pushes at once. */
+void many_writes(void);
 
 /* The tests of vectors of one kind. */
 void one_kind(void);
@@ -35,6 +41,7 @@ void places(void);
 
 /* The tests of series. */
 void series(void);
+void misuse_of_series(void);
 
 /* The tests of standing queries. */
 void queries(void);

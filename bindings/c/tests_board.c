@@ -1,23 +1,18 @@
 /* Good and bad use of boards and their seats. Each expected value is worked out by hand, or follows from the rules. */
-#include "tests.h"
+#include "tests_board.h"
 
-#include <pthread.h>
 #include <stdlib.h>
 
 static const livevec_board empty_board;
 static const livevec_seat empty_seat;
 
-/* Where one thread alone edits, one try is enough. */
-enum { ONCE = 1 };
-
-/* A board with one seat. */
-static void open_with_seat(livevec_board *board, livevec_seat *seat, livevec_kind kind, uint32_t buckets, uint32_t edits)
+void open_with_seat(livevec_board *board, livevec_seat *seat, livevec_kind kind, uint32_t buckets, uint32_t edits)
 {
     IS(livevec_board_new(board, kind, buckets, edits, 1), LIVEVEC_OK);
     IS(livevec_board_sit(board, seat), LIVEVEC_OK);
 }
 
-static void free_both(livevec_board *board, livevec_seat *seat)
+void free_both(livevec_board *board, livevec_seat *seat)
 {
     IS(livevec_board_take_back(board, seat), LIVEVEC_OK);
     IS(livevec_free_board(board), LIVEVEC_OK);
@@ -264,299 +259,6 @@ static void closes(void)
     IS(livevec_free_board(&b), LIVEVEC_OK);
 }
 
-/* --- Want of memory. The linker has the archive call these three in place of the C library's (--wrap). --- */
-
-void *__real_malloc(size_t size);
-void *__real_calloc(size_t count, size_t size);
-void *__real_realloc(void *old, size_t size);
-void *__wrap_malloc(size_t size);
-void *__wrap_calloc(size_t count, size_t size);
-void *__wrap_realloc(void *old, size_t size);
-
-int until_failure;
-
-static bool fails(void)
-{
-    return until_failure > 0 && --until_failure == 0;
-}
-
-void *__wrap_malloc(size_t size)
-{
-    return fails() ? NULL : __real_malloc(size);
-}
-
-void *__wrap_calloc(size_t count, size_t size)
-{
-    return fails() ? NULL : __real_calloc(count, size);
-}
-
-void *__wrap_realloc(void *old, size_t size)
-{
-    return fails() ? NULL : __real_realloc(old, size);
-}
-
-/* Lets each request for memory of a call fail, one at a time, until the call is through. Tells how many were refused, -1 for any other answer. */
-static int starved(uint32_t (*call)(void))
-{
-    for (int refused = 0;; refused++) {
-        until_failure = refused + 1;
-        uint32_t refusal = call();
-        until_failure = 0;
-        if (refusal != LIVEVEC_NO_MEMORY)
-            return refusal == LIVEVEC_OK ? refused : -1;
-    }
-}
-
-static livevec_board short_board;
-static livevec_seat short_seat;
-
-static uint32_t makes(void)
-{
-    return livevec_board_new(&short_board, LIVEVEC_AFFINE, 9, 100, 8);
-}
-
-static uint32_t sits(void)
-{
-    return livevec_board_sit(&short_board, &short_seat);
-}
-
-static uint32_t ends(void)
-{
-    return livevec_board_close(&short_board).refusal;
-}
-
-/* A call that wants memory is refused where there is none, and goes through unharmed later. */
-static void want_of_memory(void)
-{
-    IS(starved(makes) > 0, true);
-    IS(starved(sits) > 0, true);
-    IS(livevec_seat_push(&short_seat, 42, ONCE).edit, 1);
-    IS(livevec_board_take_back(&short_board, &short_seat), LIVEVEC_OK);
-    IS(starved(ends) > 0, true);
-    IS(livevec_closed_get(&short_board, 0).value, 42);
-    IS(livevec_free_board(&short_board), LIVEVEC_OK);
-    /* no other call wants any */
-    IS(livevec_board_new(&short_board, LIVEVEC_SUM, 9, 100, 1), LIVEVEC_OK);
-    IS(livevec_board_sit(&short_board, &short_seat), LIVEVEC_OK);
-    until_failure = 1;
-    for (int64_t i = 0; i < 9; i++)
-        IS(livevec_seat_push(&short_seat, i, ONCE).refusal, LIVEVEC_OK);
-    IS(livevec_seat_write(&short_seat, 0, 1, ONCE).refusal, LIVEVEC_OK);
-    IS(livevec_seat_refresh(&short_seat, 0).refusal, LIVEVEC_OK);
-    IS(livevec_seat_reduce(&short_seat, 0, 9).values.sum, 37);
-    IS(livevec_seat_pop(&short_seat, ONCE).refusal, LIVEVEC_OK);
-    IS(livevec_board_take_back(&short_board, &short_seat), LIVEVEC_OK);
-    IS(livevec_free_board(&short_board), LIVEVEC_OK);
-    until_failure = 0;
-}
-
-/* Every call at a seat's slot that holds no seat. */
-static void no_seat_is_at(livevec_seat *slot)
-{
-    IS(livevec_seat_push(slot, 1, ONCE).refusal, LIVEVEC_NO_HANDLE);
-    IS(livevec_seat_pop(slot, ONCE).refusal, LIVEVEC_NO_HANDLE);
-    IS(livevec_seat_write(slot, 0, 1, ONCE).refusal, LIVEVEC_NO_HANDLE);
-    IS(livevec_seat_get(slot, 0).refusal, LIVEVEC_NO_HANDLE);
-    IS(livevec_seat_size(slot).refusal, LIVEVEC_NO_HANDLE);
-    IS(livevec_seat_reduce(slot, 0, 0).refusal, LIVEVEC_NO_HANDLE);
-    IS(livevec_seat_refresh(slot, 0).refusal, LIVEVEC_NO_HANDLE);
-}
-
-/* Every call at a board's slot that holds neither an open nor a closed board. */
-static void no_board_is_at(livevec_board *slot)
-{
-    livevec_seat s = empty_seat;
-    int64_t buffer[1];
-    uint32_t count;
-    IS(livevec_board_sit(slot, &s), LIVEVEC_NO_HANDLE);
-    IS(livevec_board_take_back(slot, &s), LIVEVEC_NO_HANDLE);
-    IS(livevec_board_close(slot).refusal, LIVEVEC_NO_HANDLE);
-    IS(livevec_closed_size(slot).refusal, LIVEVEC_NO_HANDLE);
-    IS(livevec_closed_get(slot, 0).refusal, LIVEVEC_NO_HANDLE);
-    IS(livevec_closed_read(slot, buffer, 1, &count), LIVEVEC_NO_HANDLE);
-}
-
-/* Slots that are empty, freed, or hold something else. */
-static void misuse(void)
-{
-    livevec_vector v = {0};
-    livevec_board b = empty_board;
-    livevec_seat s = empty_seat;
-    no_board_is_at(&b);
-    no_seat_is_at(&s);
-    IS(livevec_free_seat(&s), LIVEVEC_NO_HANDLE);
-    IS(livevec_new(&v, 1, 9), LIVEVEC_OK);
-    no_board_is_at((livevec_board *)(void *)&v);
-    no_seat_is_at((livevec_seat *)(void *)&v);
-    IS(livevec_size(&v).value, 0);
-    open_with_seat(&b, &s, LIVEVEC_SUM, 1, 9);
-    no_board_is_at((livevec_board *)(void *)&s);
-    no_seat_is_at((livevec_seat *)(void *)&b);
-    IS(livevec_board_take_back((livevec_board *)(void *)&v, &s), LIVEVEC_NO_HANDLE);
-    IS(livevec_board_take_back(&b, (livevec_seat *)(void *)&v), LIVEVEC_NO_HANDLE);
-    IS(livevec_push((livevec_vector *)(void *)&b, 1).refusal, LIVEVEC_NO_HANDLE);
-    IS(livevec_push((livevec_vector *)(void *)&s, 1).refusal, LIVEVEC_NO_HANDLE);
-    IS(livevec_size((livevec_vector *)(void *)&s).refusal, LIVEVEC_NO_HANDLE);
-    IS(livevec_seat_push(&s, 1, ONCE).edit, 1);
-    IS(livevec_board_take_back(&b, &s), LIVEVEC_OK);
-    no_seat_is_at(&s);
-    IS(livevec_free_seat(&s), LIVEVEC_NO_HANDLE);
-    IS(livevec_board_close(&b).value, 1);
-    no_seat_is_at((livevec_seat *)(void *)&b);
-    IS(livevec_free_board(&b), LIVEVEC_OK);
-    no_board_is_at(&b);
-    IS(livevec_free_board(&b), LIVEVEC_NO_HANDLE);
-    IS(livevec_free(&v), LIVEVEC_OK);
-}
-
-static void null(void)
-{
-    livevec_board b = empty_board;
-    livevec_seat s = empty_seat;
-    int64_t buffer[1];
-    uint32_t count;
-    IS(livevec_board_new(NULL, LIVEVEC_SUM, 1, 1, 1), LIVEVEC_NULL);
-    IS(livevec_board_sit(NULL, &s), LIVEVEC_NULL);
-    IS(livevec_board_sit(&b, NULL), LIVEVEC_NULL);
-    IS(livevec_board_take_back(NULL, &s), LIVEVEC_NULL);
-    IS(livevec_board_take_back(&b, NULL), LIVEVEC_NULL);
-    IS(livevec_board_close(NULL).refusal, LIVEVEC_NULL);
-    IS(livevec_closed_size(NULL).refusal, LIVEVEC_NULL);
-    IS(livevec_closed_get(NULL, 0).refusal, LIVEVEC_NULL);
-    IS(livevec_closed_read(NULL, buffer, 1, &count), LIVEVEC_NULL);
-    IS(livevec_closed_read(&b, NULL, 1, &count), LIVEVEC_NULL);
-    IS(livevec_closed_read(&b, buffer, 1, NULL), LIVEVEC_NULL);
-    IS(livevec_seat_push(NULL, 1, ONCE).refusal, LIVEVEC_NULL);
-    IS(livevec_seat_pop(NULL, ONCE).refusal, LIVEVEC_NULL);
-    IS(livevec_seat_write(NULL, 0, 1, ONCE).refusal, LIVEVEC_NULL);
-    IS(livevec_seat_get(NULL, 0).refusal, LIVEVEC_NULL);
-    IS(livevec_seat_size(NULL).refusal, LIVEVEC_NULL);
-    IS(livevec_seat_reduce(NULL, 0, 0).refusal, LIVEVEC_NULL);
-    IS(livevec_seat_refresh(NULL, 0).refusal, LIVEVEC_NULL);
-    IS(livevec_free_board(NULL), LIVEVEC_NULL);
-    IS(livevec_free_seat(NULL), LIVEVEC_NULL);
-}
-
-/* --- Eight threads at one board --- */
-
-/* Of each pushed element the second half of its rounds writes over it, and adds WRITTEN: so its value tells who has it. */
-enum { THREADS = 8, ROUNDS = 200, TRIES = 3, WRITTEN = 100, EDITS = THREADS * ROUNDS * 2 };
-
-typedef struct worker {
-    livevec_seat seat;
-    int64_t number;            /* 1 to 8, and what it pushes */
-    uint32_t edits[ROUNDS * 2]; /* the numbers of its edits, in its order */
-    uint32_t places[ROUNDS];
-    int wrong;                 /* answers that no order of the edits gives */
-} worker;
-
-static bool again(uint32_t refusal)
-{
-    return refusal == LIVEVEC_CONTENDED || refusal == LIVEVEC_OVERTAKEN;
-}
-
-/* A sum of all that are there: each element is one number from 1 to 8, or that and WRITTEN, and this seat's own are among them. */
-static void sums(worker *w, uint32_t own, uint32_t last)
-{
-    uint32_t size = livevec_seat_size(&w->seat).value;
-    livevec_reduced r = livevec_seat_reduce(&w->seat, 0, size);
-    if (again(r.refusal)) {
-        w->wrong += r.detail <= last; /* what overtook it is no edit that it knew */
-        return;
-    }
-    w->wrong += r.refusal != 0 || size < own || r.edit < last || r.edit > EDITS;
-    w->wrong += r.values.sum < size || r.values.sum > (uint64_t)size * (THREADS + WRITTEN);
-}
-
-static livevec_edited push_until(worker *w)
-{
-    livevec_edited e;
-    do
-        e = livevec_seat_push(&w->seat, w->number, TRIES);
-    while (again(e.refusal));
-    return e;
-}
-
-static livevec_edited write_until(worker *w, uint32_t place)
-{
-    livevec_edited e;
-    do
-        e = livevec_seat_write(&w->seat, place, w->number + WRITTEN, TRIES);
-    while (again(e.refusal));
-    return e;
-}
-
-static void *work(void *given)
-{
-    worker *w = given;
-    uint32_t last = 0;
-    for (uint32_t i = 0; i < ROUNDS; i++) {
-        livevec_edited e = push_until(w);
-        w->wrong += e.refusal != 0 || e.edit <= last;
-        w->edits[i] = last = e.edit;
-        w->places[i] = e.place;
-        sums(w, i + 1, last);
-    }
-    for (uint32_t i = 0; i < ROUNDS; i++) {
-        livevec_edited e = write_until(w, w->places[i]);
-        w->wrong += e.refusal != 0 || e.edit <= last || e.value != w->number;
-        w->edits[ROUNDS + i] = last = e.edit;
-        if (i % 8 == 0)
-            livevec_seat_refresh(&w->seat, i / 8);
-        sums(w, ROUNDS, last);
-    }
-    return NULL;
-}
-
-/* Each edit's number and each place was given once, and each element is as its thread wrote it last. */
-static void agree(const worker *workers, const int64_t *elements)
-{
-    static unsigned char edit_seen[EDITS + 1], place_seen[THREADS * ROUNDS];
-    int twice = 0, other = 0;
-    for (int t = 0; t < THREADS; t++) {
-        for (int i = 0; i < ROUNDS * 2; i++)
-            twice += workers[t].edits[i] > EDITS || edit_seen[workers[t].edits[i]]++;
-        for (int i = 0; i < ROUNDS; i++) {
-            uint32_t place = workers[t].places[i];
-            twice += place >= THREADS * ROUNDS || place_seen[place]++;
-            other += elements[place] != workers[t].number + WRITTEN;
-        }
-        IS(workers[t].wrong, 0);
-    }
-    IS(twice, 0);
-    IS(other, 0);
-}
-
-static void eight_threads(void)
-{
-    static worker workers[THREADS];
-    static int64_t elements[THREADS * ROUNDS];
-    pthread_t threads[THREADS];
-    livevec_board b = empty_board;
-    uint32_t count = 0;
-    IS(livevec_board_new(&b, LIVEVEC_SUM, 9, EDITS, THREADS), LIVEVEC_OK);
-    for (int t = 0; t < THREADS; t++) {
-        workers[t].number = t + 1;
-        IS(livevec_board_sit(&b, &workers[t].seat), LIVEVEC_OK);
-    }
-    for (int t = 0; t < THREADS; t++)
-        IS(pthread_create(&threads[t], NULL, work, &workers[t]), 0);
-    for (int t = 0; t < THREADS; t++)
-        IS(pthread_join(threads[t], NULL), 0);
-    /* 200 elements of each of 101 to 108 */
-    IS(livevec_seat_reduce(&workers[0].seat, 0, THREADS * ROUNDS).values.sum, 200 * (8 * 100 + 36));
-    IS(livevec_seat_push(&workers[7].seat, 0, TRIES).refusal, LIVEVEC_WORN);
-    for (int t = 0; t < THREADS; t++) {
-        IS(livevec_board_close(&b).refusal, LIVEVEC_SEATS_OUT);
-        IS(livevec_board_take_back(&b, &workers[t].seat), LIVEVEC_OK);
-    }
-    IS(livevec_board_close(&b).value, EDITS);
-    IS(livevec_closed_read(&b, elements, THREADS * ROUNDS, &count), LIVEVEC_OK);
-    IS(count, THREADS * ROUNDS);
-    agree(workers, elements);
-    IS(livevec_free_board(&b), LIVEVEC_OK);
-}
-
 void boards(void)
 {
     births();
@@ -566,8 +268,7 @@ void boards(void)
     reductions();
     refreshes();
     closes();
-    misuse();
-    null();
-    want_of_memory();
-    eight_threads();
+    misuse_of_boards();
+    starved_boards();
+    threads_at_boards();
 }

@@ -1,28 +1,17 @@
 /* Scans by one kind into columns, and by all six into values, beside plain loops over the same elements; and that each free is of its own type. */
 #include "tests.h"
+#include "tests_plain.h"
 
 #include <stdlib.h>
 #include <string.h>
 
 enum { MOST = 3000, ROUNDS = 60, BEHIND = 3 };
 
-__extension__ typedef __int128 wide;
-
 static uint64_t state = 11;
 
 static uint32_t below(uint32_t bound)
 {
-    state = state * 6364136223846793005u + 1442695040888963407u;
-    return (uint32_t)(state >> 33) % bound;
-}
-
-static int64_t element(void)
-{
-    switch (below(12)) {
-    case 0: return INT64_MAX - below(3);
-    case 1: return INT64_MIN + below(3);
-    default: return (int64_t)below(2001) - 1000;
-    }
+    return draw(&state, bound);
 }
 
 /* A place of each column, by a loop's variables. */
@@ -43,7 +32,7 @@ static cells none(void)
     return c;
 }
 
-static cells with(cells c, bool first, int64_t x, wide *ending, wide *best)
+static cells with_cell(cells c, bool first, int64_t x, wide *ending, wide *best)
 {
     int64_t low = ((x % 256) + 256) % 256;
     uint32_t a = (uint32_t)(uint64_t)((x - low) / 256);
@@ -67,7 +56,7 @@ static void loop(const int64_t *xs, uint32_t length)
     wide ending = 0, best = 0;
     for (uint32_t i = 0; i < length; i++) {
         exclusive[i] = c;
-        c = with(c, i == 0, xs[i], &ending, &best);
+        c = with_cell(c, i == 0, xs[i], &ending, &best);
         inclusive[i] = c;
     }
 }
@@ -141,13 +130,13 @@ static void beside_loops(void)
     IS(livevec_new(&v, 17, 1000000), 0);
     scan_all(&v, xs, 0, 0, 0);
     for (uint32_t i = 0; i < MOST; i++) {
-        IS(livevec_push(&v, xs[i] = element()).refusal, 0);
+        IS(livevec_push(&v, xs[i] = draw_element(&state)).refusal, 0);
         edits++;
     }
     scan_all(&v, xs, 0, MOST, edits);
     for (int round = 0; round < ROUNDS; round++) {
         uint32_t at = below(MOST), other = below(MOST), a = below(MOST + 1), b = below(MOST + 1);
-        IS(livevec_write(&v, at, xs[at] = element()).edit, ++edits);
+        IS(livevec_write(&v, at, xs[at] = draw_element(&state)).edit, ++edits);
         scan_all(&v, xs, a < b ? a : b, a < b ? b : a, edits);
         IS(livevec_swap(&v, at, other).edit, ++edits);
         int64_t x = xs[at];

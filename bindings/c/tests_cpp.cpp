@@ -1,11 +1,10 @@
-/* livevec.hpp from outside. Expected values are worked out by hand. */
-#include "livevec.hpp"
+/* livevec.hpp from outside: vectors, jobs. Expected values are worked out by hand. */
+#include "tests_cpp.hpp"
 
 #include <algorithm>
 #include <array>
 #include <cstdint>
 #include <cstdio>
-#include <cstdlib>
 #include <iterator>
 #include <list>
 #include <numeric>
@@ -13,30 +12,11 @@
 #include <string>
 #include <thread>
 #include <type_traits>
+#include <utility>
 #include <vector>
 
 using livevec::refused;
 using numbers = std::vector<std::int64_t>;
-
-/* What a call was refused with, 0 where it went through. */
-template <class Call> static std::uint32_t refusal_of(Call call)
-{
-    try {
-        call();
-        return 0;
-    } catch (const livevec::refused &refused) {
-        return refused.number();
-    }
-}
-
-static void is(bool holds, const char *what)
-{
-    if (!holds) {
-        std::printf("%s does not hold\n", what);
-        std::exit(1);
-    }
-}
-#define IS(what) is(what, #what)
 
 /* Each class is moved alone, and gives up nothing by it. */
 template <class Owner> constexpr bool is_moved_alone =
@@ -215,183 +195,6 @@ static void is_scanned_into_columns()
     IS(refusal_of([&] { (void)all.scan_inclusive<LIVEVEC_SUM>(2, 1); }) == LIVEVEC_BAD_RANGE && all.scan_inclusive<LIVEVEC_SUM>(1, 1).empty());
 }
 
-static void sits_at_a_board()
-{
-    livevec::board board(LIVEVEC_LEAST, 2, 1, 100);
-    livevec::seat one = board.sit();
-    std::optional<livevec::seat> two = board.sit();
-    IS(refusal_of([&] { (void)board.sit(); }) == LIVEVEC_NO_SEAT);
-    IS(one.push(-7) == 0 && two->push(12) == 1 && one.write(0, 5) == -7 && two->size() == 2 && (*two)[1] == 12);
-    const livevec_reduced least = one.reduce(0, 2);
-    IS(least.edit == 3 && least.values.any && least.values.least == 5);
-    IS(refusal_of([&] { one.push(40000); }) == LIVEVEC_TOO_WIDE && refusal_of([&] { one.refresh(0); }) == LIVEVEC_OUT_OF_RANGE);
-    IS(refusal_of([&] { (void)board.close(); }) == LIVEVEC_SEATS_OUT);
-    IS(refused(LIVEVEC_CONTENDED).is_outrun() && refused(LIVEVEC_OVERTAKEN).is_outrun() && !refused(LIVEVEC_FULL).is_outrun());
-    // a seat comes back from whatever thread, and may be taken again
-    std::thread([&] { two.reset(); }).join();
-    two = board.sit();
-    IS(two->pop() == 12 && two->push(3) == 1);
-    livevec::seat moved = std::move(one);
-    IS(refusal_of([&] { one.pop(); }) == LIVEVEC_NULL);
-    moved.close();
-    moved.close();
-    two.reset();
-    const livevec::closed closed = board.close();
-    IS(closed.edits() == 5 && closed.size() == 2 && closed[0] == 5 && (closed.elements() == numbers{5, 3}));
-    IS(std::count(closed.begin(), closed.end(), 3) == 1 && refusal_of([&] { (void)closed[2]; }) == LIVEVEC_OUT_OF_RANGE);
-    std::int64_t room[1];
-    IS(refusal_of([&] { closed.read_into(room); }) == LIVEVEC_SHORT_BUFFER);
-    IS(refusal_of([&] { (void)board.sit(); }) == LIVEVEC_NULL);
-    IS(refusal_of([] { livevec::board(LIVEVEC_SUM, 9); }) == LIVEVEC_BAD_LIMITS);
-}
-
-/* Four threads count, and let their seats go as they end; one seat outlives its board. */
-static void threads_share_a_board()
-{
-    std::optional<livevec::board> board(std::in_place, LIVEVEC_SUM, 4u);
-    std::vector<std::thread> threads;
-    for (int number = 0; number < 4; number++)
-        threads.emplace_back([seat = board->sit()]() mutable {
-            for (int event = 1; event <= 100;)
-                event += refusal_of([&] { seat.push(event); }) == 0;
-        });
-    for (std::thread &thread : threads)
-        thread.join();
-    threads.clear();
-    livevec::seat last = board->sit();
-    IS(last.size() == 400 && last.reduce(0, 400).values.sum == 4 * 5050);
-    last.close();
-    const livevec::closed closed = board->close();
-    IS(closed.edits() == 400 && std::accumulate(closed.begin(), closed.end(), std::int64_t{0}) == 4 * 5050);
-    board.emplace(LIVEVEC_SUM, 1u);
-    last = board->sit();
-    board.reset();
-    IS(last.push(1) == 0);
-}
-
-/* What a call at a series told to be kept, where it was refused for that. */
-template <class Call> static std::pair<std::uint64_t, std::uint64_t> kept_by(Call call)
-{
-    try {
-        call();
-    } catch (const livevec::not_kept &refused) {
-        IS(refused.number() == LIVEVEC_OUT_OF_RANGE);
-        return {refused.first(), refused.size()};
-    }
-    return {0, 0};
-}
-
-/* A series beside a plain row, while a window of one shard slides over four. */
-static void goes_on()
-{
-    using window = std::pair<std::uint64_t, std::uint64_t>;
-    const std::uint64_t shard = 32760;
-    livevec::series readings{5, -2};
-    numbers row{5, -2};
-    IS(readings.push(9) == 2 && readings.pop() == 9 && readings.write(1, 4) == -2);
-    row[1] = 4;
-    readings.swap_elements(0, 1);
-    std::swap(row[0], row[1]);
-    std::uint64_t first = 0;
-    for (int hour = 0; hour < 14; hour++) {
-        numbers more(10000);
-        for (std::size_t i = 0; i < more.size(); i++)
-            more[i] = static_cast<std::int64_t>((row.size() + i) * 7919 % 2003) - 1000;
-        readings.push_many(more);
-        row.insert(row.end(), more.begin(), more.end());
-        if (row.size() > shard) {
-            const std::uint64_t to = row.size() - shard;
-            IS(readings.expire(to) == to - first);
-            first = to;
-            IS(kept_by([&] { (void)readings[to - 1]; }) == window(first, row.size()));
-            IS(kept_by([&] { readings.write(row.size(), 1); }) == window(first, row.size()));
-        }
-        const auto from = row.begin() + static_cast<std::ptrdiff_t>(first);
-        IS(readings.first() == first && readings.size() == row.size() && readings.length() == row.size() - first);
-        IS(static_cast<std::int64_t>(readings.sum(first, row.size())) == std::accumulate(from, row.end(), std::int64_t(0)));
-        IS(readings.least(first, row.size()) == *std::min_element(from, row.end()) && readings.greatest(first, row.size()) == *std::max_element(from, row.end()));
-        IS(readings.elements() == numbers(from, row.end()));
-    }
-    IS(readings.reduce(first, first).values.any == false && !readings.least(first, first) && !readings.best(first, first));
-    IS(readings[first] == row[first] && readings.read(first + 1, first + 3) == numbers(row.begin() + static_cast<std::ptrdiff_t>(first) + 1, row.begin() + static_cast<std::ptrdiff_t>(first) + 3));
-
-    const std::uint64_t hi = first + 1000;
-    const std::vector<livevec_values> whole = readings.scan_inclusive(first, hi), before = readings.scan_exclusive(first, hi);
-    std::int64_t sum = 0;
-    for (std::uint64_t i = first; i < hi; i++) {
-        IS(static_cast<std::int64_t>(before[i - first].sum) == sum);
-        sum += row[i];
-        IS(static_cast<std::int64_t>(whole[i - first].sum) == sum);
-    }
-    std::array<livevec_values, 300> room;
-    for (std::uint64_t at = first, took; at < hi; at += took) {
-        took = readings.scan_inclusive_into(first, at, hi, room);
-        IS(took == std::min<std::uint64_t>(300, hi - at) && room[took - 1].sum == whole[at + took - 1 - first].sum);
-        IS(readings.scan_exclusive_into(first, at, hi, room) == took && room[0].sum == before[at - first].sum);
-    }
-    std::array<std::int64_t, 4> some;
-    IS(readings.read_into(hi, readings.size(), some) == 4 && some[3] == row[hi + 3]);
-    IS(refusal_of([&] { (void)readings.reduce(hi, first); }) == LIVEVEC_BAD_RANGE && refusal_of([&] { (void)readings.read(hi, first); }) == LIVEVEC_BAD_RANGE);
-
-    IS(readings.truncate(first + 5) == row.size() - first - 5 && readings.length() == 5);
-    livevec::series moved = std::move(readings);
-    IS(moved.expire(moved.size()) == 5 && moved.empty() && refusal_of([&] { moved.pop(); }) == LIVEVEC_EMPTY);
-    IS(refusal_of([&] { readings.push(1); }) == LIVEVEC_NULL);
-    IS(refusal_of([&] { moved.push_many(livevec::array_view(nullptr, 1)); }) == LIVEVEC_NULL);
-}
-
-/* The notes of a set, in words. */
-static std::string told(livevec::queries &set, const livevec::vector &of)
-{
-    std::string text;
-    const std::uint32_t edit = set.notes(of, [&text](const livevec_note &note) {
-        text += std::string(note.name) + " " + (note.kind == LIVEVEC_SUM ? std::to_string(note.values.sum) : std::to_string(note.values.least)) + " at " + std::to_string(note.edit) + "; ";
-    });
-    return text + std::to_string(edit);
-}
-
-static void tells_notes()
-{
-    livevec::vector feed;
-    livevec::queries set;
-    set.watch("total", LIVEVEC_SUM);
-    set.watch("dip", LIVEVEC_LEAST, 0, 2);
-    set.watch("first", LIVEVEC_SUM, 0, 1);
-    IS(told(set, feed) == "0");
-    feed.push(4);
-    IS(told(set, feed) == "total 4 at 1; dip 4 at 1; first 4 at 1; 1");
-    IS(told(set, feed) == "1");
-    feed.push(-7);
-    IS(told(set, feed) == "total 18446744073709551613 at 2; dip -7 at 2; 2");
-    feed.push(3);
-    feed.push(0);
-    IS(told(set, feed) == "total 0 at 4; 4");
-    feed.swap_elements(0, 1);
-    IS(told(set, feed) == "first 18446744073709551609 at 5; 5");
-    IS(set.answer(feed, "dip").values.least == -7 && set.answer(feed, "dip").edit == 5);
-    set.unwatch("total");
-    feed.write(0, 4);
-    const std::vector<livevec_note> notes = set.notes(feed);
-    IS(notes.size() == 2 && notes[0].name == std::string("dip") && notes[0].values.least == 4 && notes[1].name == std::string("first"));
-    IS(refusal_of([&] { set.watch("dip", LIVEVEC_SUM); }) == LIVEVEC_NAME_TAKEN);
-    IS(refusal_of([&] { set.watch("Dip", LIVEVEC_SUM); }) == LIVEVEC_BAD_NAME);
-    IS(refusal_of([&] { set.watch({}, LIVEVEC_SUM); }) == LIVEVEC_BAD_NAME);
-    IS(refusal_of([&] { set.watch("back", LIVEVEC_SUM, 2, 1); }) == LIVEVEC_BAD_RANGE);
-    IS(refusal_of([&] { set.unwatch("total"); }) == LIVEVEC_NO_SUCH_NAME);
-    IS(refusal_of([&] { (void)set.answer(feed, "total"); }) == LIVEVEC_NO_SUCH_NAME);
-    livevec::vector sums(LIVEVEC_SUM);
-    sums.push(9);
-    try {
-        (void)set.notes(sums);
-        IS(false);
-    } catch (const livevec::refused &refused) {
-        IS(refused.number() == LIVEVEC_BAD_KIND && refused.detail() == 0);
-    }
-    livevec::queries moved = std::move(set);
-    IS(moved.notes(feed).empty());
-    IS(refusal_of([&] { set.unwatch("dip"); }) == LIVEVEC_NULL);
-}
-
 int main()
 {
     goes_in_and_comes_out();
@@ -403,10 +206,9 @@ int main()
     is_of_one_kind();
     finds_where();
     takes_many_writes();
-    tells_notes();
-    goes_on();
-    sits_at_a_board();
-    threads_share_a_board();
+    queries();
+    series();
+    boards();
 
     livevec::vector prices{300, 120, 500, 80};
     IS(prices.write(0, 180) == 300);

@@ -1,5 +1,6 @@
 /* A vector of one kind: what it answers beside one of all six, and what it refuses. */
 #include "tests.h"
+#include "tests_plain.h"
 
 #include <string.h>
 
@@ -9,8 +10,7 @@ static uint64_t state = 5;
 
 static uint32_t below(uint32_t bound)
 {
-    state = state * 6364136223846793005u + 1442695040888963407u;
-    return (uint32_t)(state >> 33) % bound;
+    return draw(&state, bound);
 }
 
 /* One cell of a column of a kind, in bytes. */
@@ -42,7 +42,7 @@ static livevec_found search(livevec_vector *v, int which, uint32_t lo, uint32_t 
 static const uint32_t sought[] = {LIVEVEC_LEAST, LIVEVEC_GREATEST, LIVEVEC_BEST, LIVEVEC_BEST};
 
 /* What is asked of one kind and of all six alike, over a range. */
-static void alike(livevec_vector *one, livevec_vector *six, uint32_t kind, uint32_t lo, uint32_t hi)
+static void answer_alike(livevec_vector *one, livevec_vector *six, uint32_t kind, uint32_t lo, uint32_t hi)
 {
     static unsigned char columns[2][MOST * sizeof(livevec_total)];
     livevec_reduced a = livevec_value(one, kind, lo, hi), b = livevec_value(six, kind, lo, hi);
@@ -126,7 +126,7 @@ static void of_kind(uint32_t kind)
     livevec_vector one = {0}, six = {0};
     IS(livevec_new_of(&one, kind, 17, 100000), 0);
     IS(livevec_new(&six, 17, 100000), 0);
-    alike(&one, &six, kind, 0, 0);
+    answer_alike(&one, &six, kind, 0, 0);
     for (uint32_t i = 0; i < MOST; i++) {
         int64_t x = (int64_t)below(2001) - 1000;
         IS(livevec_push(&one, x).place, livevec_push(&six, x).place);
@@ -134,12 +134,12 @@ static void of_kind(uint32_t kind)
     for (int round = 0; round < 40; round++) {
         uint32_t at = below(MOST), a = below(MOST + 1), b = below(MOST + 1);
         IS(livevec_write(&one, at, (int64_t)b - a).value, livevec_write(&six, at, (int64_t)b - a).value);
-        alike(&one, &six, kind, a < b ? a : b, a < b ? b : a);
+        answer_alike(&one, &six, kind, a < b ? a : b, a < b ? b : a);
         if (round == 20)
             refreshed(&one);
     }
-    alike(&one, &six, kind, 2, 1);
-    alike(&one, &six, kind, 0, MOST + 1);
+    answer_alike(&one, &six, kind, 2, 1);
+    answer_alike(&one, &six, kind, 0, MOST + 1);
     refuses(&one, kind, 0, 2);
     refuses(&one, kind, 2, 1);
     refuses(&one, kind, 0, MOST + 1);
@@ -150,7 +150,7 @@ static void of_kind(uint32_t kind)
     IS(memcmp(&answers[1], &wanted, offsetof(livevec_values, any)), 0);
     IS(livevec_pop(&one).value, livevec_pop(&six).value);
     IS(livevec_truncate(&one, 100).place, livevec_truncate(&six, 100).place);
-    alike(&one, &six, kind, 0, 100);
+    answer_alike(&one, &six, kind, 0, 100);
     IS(livevec_edits(&one).value, livevec_edits(&six).value);
     IS(livevec_free(&one), 0);
     IS(livevec_free(&six), 0);

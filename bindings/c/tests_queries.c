@@ -1,5 +1,6 @@
 /* Standing queries, beside a plain model: a list of queries, and of each what it was told last. */
 #include "tests.h"
+#include "tests_plain.h"
 
 #include <string.h>
 
@@ -9,51 +10,7 @@ static uint64_t state = 11;
 
 static uint32_t below(uint32_t bound)
 {
-    state = state * 6364136223846793005u + 1442695040888963407u;
-    return (uint32_t)(state >> 33) % bound;
-}
-
-__extension__ typedef __int128 wide;
-
-/* What a kind says of some elements, by loops: of its own fields alone. */
-static livevec_values plain(uint32_t kind, const int64_t *xs, uint32_t length, uint8_t next[8][4])
-{
-    livevec_values v;
-    memset(&v, 0, sizeof v);
-    wide best = 0, ending = 0;
-    v.any = length > 0;
-    v.affine_a = kind == LIVEVEC_AFFINE;
-    for (uint8_t q = 0; q < 8; q++)
-        v.automaton[q] = kind == LIVEVEC_AUTOMATON ? q : 0;
-    for (uint32_t i = 0; i < length; i++) {
-        int64_t x = xs[i], low = ((x % 256) + 256) % 256;
-        uint32_t a = (uint32_t)(uint64_t)((x - low) / 256);
-        ending = i && ending > 0 ? ending + x : x;
-        best = i && best > ending ? best : ending;
-        if (kind == LIVEVEC_SUM)
-            v.sum += (uint64_t)x;
-        if (kind == LIVEVEC_LEAST)
-            v.least = i && v.least < x ? v.least : x;
-        if (kind == LIVEVEC_GREATEST)
-            v.greatest = i && v.greatest > x ? v.greatest : x;
-        if (kind == LIVEVEC_AFFINE) {
-            v.affine_a = a * v.affine_a;
-            v.affine_b = a * v.affine_b + (uint32_t)low;
-        }
-        for (uint32_t q = 0; q < 8 && kind == LIVEVEC_AUTOMATON; q++)
-            v.automaton[q] = next[v.automaton[q]][low % 4];
-    }
-    if (kind == LIVEVEC_BEST) {
-        v.best_low = (uint64_t)best;
-        v.best_high = (int64_t)(best >> 64);
-    }
-    return v;
-}
-
-static bool same(livevec_values a, livevec_values b)
-{
-    return a.sum == b.sum && a.least == b.least && a.greatest == b.greatest && a.best_low == b.best_low && a.best_high == b.best_high &&
-           a.affine_a == b.affine_a && a.affine_b == b.affine_b && !memcmp(a.automaton, b.automaton, sizeof a.automaton) && a.any == b.any;
+    return draw(&state, bound);
 }
 
 /* Whether two answers of a kind are one: an empty list has no least, greatest or best, and that is no 0. */
@@ -75,7 +32,7 @@ typedef struct query {
 typedef struct model {
     livevec_vector v;
     livevec_queries set;
-    uint8_t next[8][4];
+    livevec_table table;
     int64_t xs[MOST];
     uint32_t size, edits, count;
     query queries[NAMES];
@@ -84,7 +41,7 @@ typedef struct model {
 static livevec_values answer_now(model *m, const query *q)
 {
     uint32_t hi = q->hi < m->size ? q->hi : m->size, lo = q->lo < hi ? q->lo : hi;
-    return plain(q->kind, m->xs + lo, hi - lo, m->next);
+    return only(plainly(m->xs + lo, hi - lo, &m->table), q->kind);
 }
 
 static query *named(model *m, const char *name)
@@ -109,7 +66,7 @@ static void watch_some(model *m)
     memset(q, 0, sizeof *q);
     strcpy(q->name, name);
     q->kind = kind, q->lo = lo, q->hi = hi;
-    q->told = plain(kind, m->xs, 0, m->next);
+    q->told = only(of_none().values, kind);
 }
 
 static void unwatch_some(model *m)
@@ -202,7 +159,7 @@ static void as_the_model(bool own_table)
     for (uint32_t q = 0; q < 8; q++)
         for (uint32_t r = 0; r < 4; r++)
             table.next[q][r] = (uint8_t)(own_table ? (q + 3 * r) % 8 : (2 * q + r) % 8);
-    memcpy(m.next, table.next, sizeof m.next);
+    m.table = table;
     IS(own_table ? livevec_new_with_table(&m.v, 8, 9999, &table) : livevec_new(&m.v, 8, 9999), 0);
     IS(livevec_queries_new(&m.set), 0);
     for (int round = 0; round < ROUNDS; round++) {

@@ -1,12 +1,11 @@
 /* A series beside a plain array whose start moves: random edits, a window that slides over several shards, refusals, pieces. */
 #include "tests.h"
+#include "tests_plain.h"
 
 #include <stdlib.h>
 #include <string.h>
 
 enum { ROOM = 300000, SHARD = 32760, PIECE = 500 };
-
-__extension__ typedef __int128 wide;
 
 static uint64_t state = 29;
 
@@ -35,54 +34,10 @@ static void start(livevec_series *s)
     IS(livevec_series_new(s), 0);
 }
 
-/* The values of no elements, and those with one more; `ending` is the best total that ends with the last one. */
-static livevec_values none(void)
-{
-    livevec_values v = {.affine_a = 1};
-    for (uint8_t q = 0; q < 8; q++)
-        v.automaton[q] = q;
-    return v;
-}
-
-static livevec_values with(livevec_values v, int64_t x, wide *ending, wide *best)
-{
-    int64_t low = ((x % 256) + 256) % 256;
-    uint32_t a = (uint32_t)(uint64_t)((x - low) / 256);
-    v.sum += (uint64_t)x;
-    v.least = !v.any || x < v.least ? x : v.least;
-    v.greatest = !v.any || x > v.greatest ? x : v.greatest;
-    *ending = !v.any || *ending < 0 ? x : *ending + x;
-    *best = !v.any || *best < *ending ? *ending : *best;
-    v.best_low = (uint64_t)*best;
-    v.best_high = (int64_t)(*best >> 64);
-    v.affine_a = a * v.affine_a;
-    v.affine_b = a * v.affine_b + (uint32_t)low;
-    for (int q = 0; q < 8; q++)
-        v.automaton[q] = (uint8_t)((2 * v.automaton[q] + low % 4) % 8);
-    v.any = true;
-    return v;
-}
-
-static void alike(livevec_values got, livevec_values wanted)
-{
-    IS(got.sum, wanted.sum);
-    IS(got.any, wanted.any);
-    IS(got.least, wanted.least);
-    IS(got.greatest, wanted.greatest);
-    IS(got.best_low, wanted.best_low);
-    IS(got.best_high, wanted.best_high);
-    IS(got.affine_a, wanted.affine_a);
-    IS(got.affine_b, wanted.affine_b);
-    IS(memcmp(got.automaton, wanted.automaton, 8), 0);
-}
-
 static livevec_values plain(uint64_t lo, uint64_t hi)
 {
-    livevec_values v = none();
-    wide ending = 0, best = 0;
-    for (uint64_t i = lo; i < hi; i++)
-        v = with(v, all[i], &ending, &best);
-    return v;
+    livevec_table table = usual_table();
+    return plainly(all + lo, hi - lo, &table);
 }
 
 /* The counts, and some range's values, are those of the twin. */
@@ -250,24 +205,24 @@ static void pieces(void)
         IS(elements[PIECE], -5);
     }
     values[PIECE].sum = 77;
-    livevec_values so_far = none();
-    wide ending = 0, best = 0;
+    livevec_table table = usual_table();
+    running so_far = of_none();
     for (uint64_t at = lo; at < hi; at += took) {
-        livevec_values before = so_far;
+        livevec_values before = so_far.values;
         livevec_series_scanned scanned = livevec_series_scan_inclusive(&s, lo, at, hi, values, PIECE);
         took = scanned.length;
         IS(scanned.refusal, 0);
         IS(took, hi - at < PIECE ? hi - at : PIECE);
         for (uint64_t i = 0; i < took; i++) {
-            so_far = with(so_far, all[at + i], &ending, &best);
-            alike(values[i], so_far);
+            so_far = with(so_far, all[at + i], &table);
+            alike(values[i], so_far.values);
         }
         livevec_values last = values[took - 1], one_before = took > 1 ? values[took - 2] : before;
         scanned = livevec_series_scan_exclusive(&s, lo, at, hi, values, PIECE);
         IS(scanned.length, took);
         alike(values[0], before);
         alike(values[took - 1], one_before);
-        alike(so_far, last);
+        alike(so_far.values, last);
         IS(values[PIECE].sum, 77);
     }
     IS(livevec_series_scan_inclusive(&s, lo, hi, hi, values, PIECE).length, 0);
@@ -282,62 +237,6 @@ static void pieces(void)
     IS(livevec_series_read(&s, lo, hi, NULL, 0).length, 0);
     IS(livevec_series_scan_exclusive(&s, lo, lo, hi, NULL, 0).length, 0);
     IS(livevec_free_series(&s), 0);
-}
-
-/* Null pointers, empty slots, full ones, and those of other types. */
-static void misuse_of_series(void)
-{
-    livevec_series s = {0};
-    int64_t x = 7;
-    livevec_values v;
-    IS(livevec_series_new(NULL), LIVEVEC_NULL);
-    IS(livevec_free_series(NULL), LIVEVEC_NULL);
-    IS(livevec_series_push(NULL, 1).refusal, LIVEVEC_NULL);
-    IS(livevec_series_push_many(&s, NULL, 1).refusal, LIVEVEC_NULL);
-    IS(livevec_series_pop(NULL).refusal, LIVEVEC_NULL);
-    IS(livevec_series_write(NULL, 0, 1).refusal, LIVEVEC_NULL);
-    IS(livevec_series_swap(NULL, 0, 1).refusal, LIVEVEC_NULL);
-    IS(livevec_series_truncate(NULL, 0).refusal, LIVEVEC_NULL);
-    IS(livevec_series_expire(NULL, 0).refusal, LIVEVEC_NULL);
-    IS(livevec_series_get(NULL, 0).refusal, LIVEVEC_NULL);
-    IS(livevec_series_first(NULL).refusal, LIVEVEC_NULL);
-    IS(livevec_series_reduce(NULL, 0, 0).refusal, LIVEVEC_NULL);
-    IS(livevec_series_ask(NULL, 0, 0).refusal, LIVEVEC_NULL);
-    IS(livevec_series_read(&s, 0, 0, NULL, 1).refusal, LIVEVEC_NULL);
-    IS(livevec_series_scan_inclusive(&s, 0, 0, 0, NULL, 1).refusal, LIVEVEC_NULL);
-
-    IS(livevec_free_series(&s), LIVEVEC_NO_HANDLE);
-    IS(livevec_series_push(&s, 1).refusal, LIVEVEC_NO_HANDLE);
-    IS(livevec_series_push_many(&s, NULL, 0).refusal, LIVEVEC_NO_HANDLE);
-    IS(livevec_series_expire(&s, 0).refusal, LIVEVEC_NO_HANDLE);
-    IS(livevec_series_get(&s, 0).refusal, LIVEVEC_NO_HANDLE);
-    IS(livevec_series_edits(&s).refusal, LIVEVEC_NO_HANDLE);
-    IS(livevec_series_reduce(&s, 0, 0).refusal, LIVEVEC_NO_HANDLE);
-    IS(livevec_series_ask(&s, 0, 0).refusal, LIVEVEC_NO_HANDLE);
-    IS(livevec_series_read(&s, 0, 0, &x, 1).refusal, LIVEVEC_NO_HANDLE);
-    IS(livevec_series_scan_exclusive(&s, 0, 0, 0, &v, 1).refusal, LIVEVEC_NO_HANDLE);
-
-    livevec_vector vector = {0};
-    IS(livevec_new(&vector, 1, 9), 0);
-    IS(livevec_series_push((livevec_series *)&vector, 1).refusal, LIVEVEC_NO_HANDLE);
-    IS(livevec_free_series((livevec_series *)&vector), LIVEVEC_NO_HANDLE);
-    IS(livevec_push(&vector, 7).edit, 1);
-    IS(livevec_free(&vector), 0);
-
-    IS(livevec_series_new(&s), 0);
-    IS(livevec_series_new(&s), LIVEVEC_IN_USE);
-    IS(livevec_push((livevec_vector *)&s, 7).refusal, LIVEVEC_NO_HANDLE);
-    IS(livevec_reduce((livevec_vector *)&s, 0, 0).refusal, LIVEVEC_NO_HANDLE);
-    IS(livevec_free((livevec_vector *)&s), LIVEVEC_NO_HANDLE);
-    IS(livevec_series_push_many(&s, NULL, 0).edit, 0);
-    IS(livevec_series_push(&s, 7).edit, 1);
-    s.busy_ = 1;
-    IS(livevec_series_push(&s, 7).refusal, LIVEVEC_BUSY);
-    IS(livevec_series_size(&s).refusal, LIVEVEC_BUSY);
-    s.busy_ = 0;
-    IS(livevec_series_size(&s).value, 1);
-    IS(livevec_free_series(&s), 0);
-    IS(livevec_free_series(&s), LIVEVEC_NO_HANDLE);
 }
 
 /* Each request for memory fails in turn, for as long as one does: nothing has changed then, and the next call goes on. */

@@ -1,56 +1,16 @@
 /* Summaries that travel: their joins beside a plain loop over the same elements, their bytes by the places that docs/formats.md gives
  * them, and what is refused. */
 #include "tests.h"
+#include "tests_plain.h"
 
 #include <string.h>
 
-__extension__ typedef __int128 wide;
-
-/* What some elements come to, by a plain loop. */
-typedef struct plain {
-    uint64_t sum;
-    int64_t least, greatest;
-    wide best;
-    uint32_t a, b;
-    uint8_t states[8];
-    bool any;
-} plain;
-
-static plain plainly(const int64_t *xs, size_t length, const livevec_table *table)
-{
-    plain p = {.a = 1, .states = {0, 1, 2, 3, 4, 5, 6, 7}, .any = length > 0};
-    wide ends_here = 0;
-    for (size_t i = 0; i < length; i++) {
-        int64_t x = xs[i];
-        uint32_t slope = (uint32_t)((uint64_t)x >> 8), start = (uint32_t)((uint64_t)x & 255);
-        p.sum += (uint64_t)x;
-        p.least = !i || x < p.least ? x : p.least;
-        p.greatest = !i || x > p.greatest ? x : p.greatest;
-        ends_here = i && ends_here > 0 ? ends_here + x : x;
-        p.best = !i || ends_here > p.best ? ends_here : p.best;
-        p.a *= slope;
-        p.b = slope * p.b + start;
-        for (int q = 0; q < 8; q++)
-            p.states[q] = table->next[p.states[q]][(uint64_t)x & 3];
-    }
-    return p;
-}
-
 static void says(const livevec_summary *summary, const int64_t *xs, size_t length, const livevec_table *table)
 {
-    plain p = plainly(xs, length, table);
     livevec_opened o = livevec_summary_values(summary);
     IS(o.refusal, LIVEVEC_OK);
     IS(o.count, length);
-    IS(o.values.any, p.any);
-    IS(o.values.sum, p.sum);
-    IS(o.values.least, p.least);
-    IS(o.values.greatest, p.greatest);
-    IS(o.values.best_low, (uint64_t)p.best);
-    IS(o.values.best_high, (int64_t)(p.best >> 64));
-    IS(o.values.affine_a, p.a);
-    IS(o.values.affine_b, p.b);
-    IS(memcmp(o.values.automaton, p.states, 8), 0);
+    alike(o.values, plainly(xs, length, table));
     IS(memcmp(&o.table, table, sizeof *table), 0);
 }
 
@@ -73,15 +33,6 @@ static int64_t element(void)
     }
 }
 
-static livevec_table program_table(void)
-{
-    livevec_table table;
-    for (int q = 0; q < 8; q++)
-        for (int c = 0; c < 4; c++)
-            table.next[q][c] = (uint8_t)((2 * q + c) % 8);
-    return table;
-}
-
 /* A summary that was not refused. */
 static livevec_summary taken(livevec_summarised answer)
 {
@@ -96,7 +47,7 @@ static void cut_lists(void)
     for (int round = 0; round < 300; round++) {
         int64_t xs[40];
         size_t length = drawn() % 41, first = drawn() % (length + 1), second = first + drawn() % (length - first + 1);
-        livevec_table table = program_table();
+        livevec_table table = usual_table();
         for (int i = 0; i < 32 && round % 2; i++)
             table.next[i / 4][i % 4] = (uint8_t)(drawn() % 8);
         for (size_t i = 0; i < length; i++)
@@ -120,7 +71,7 @@ static void cut_lists(void)
 static void ranges(void)
 {
     int64_t xs[100];
-    livevec_table table = program_table();
+    livevec_table table = usual_table();
     livevec_vector v = {0};
     IS(livevec_summary_of(&v, 0, 0).refusal, LIVEVEC_NO_HANDLE);
     IS(livevec_new(&v, 9, 1000), LIVEVEC_OK);
@@ -150,7 +101,7 @@ static void ranges(void)
 static void long_array(void)
 {
     static int64_t xs[5000];
-    livevec_table table = program_table();
+    livevec_table table = usual_table();
     for (int i = 0; i < 5000; i++)
         xs[i] = element();
     for (size_t length = 0; length <= 5000; length += length < 1023 ? 1023 : 1 + length / 3) {
@@ -278,7 +229,7 @@ static void bytes(void)
 /* Tables that differ in one entry, and a table with an entry above 7. */
 static void tables(void)
 {
-    livevec_table table = program_table();
+    livevec_table table = usual_table();
     livevec_summary one = taken(livevec_summary_empty());
     for (int i = 0; i < 32; i++) {
         livevec_table other = table;

@@ -1,17 +1,15 @@
 /* Where in a range something stands, beside plain loops over the same elements. */
 #include "tests.h"
+#include "tests_plain.h"
 
 enum { MOST = 300, ROUNDS = 300, ASKED = 25 };
-
-__extension__ typedef __int128 wide;
 
 /* The numbers of a fixed sequence, from 0 up to `below`. */
 static uint64_t state;
 
 static uint32_t below(uint32_t bound)
 {
-    state = state * 6364136223846793005u + 1442695040888963407u;
-    return (uint32_t)(state >> 33) % bound;
+    return draw(&state, bound);
 }
 
 /* Of few values, so that the least and the greatest come often; now and then one of the greatest there are. */
@@ -63,7 +61,7 @@ static livevec_found reaches(const int64_t *xs, uint32_t lo, uint32_t hi, int64_
     return (livevec_found){0};
 }
 
-static void alike(livevec_found got, livevec_found wanted, uint32_t edit)
+static void found_alike(livevec_found got, livevec_found wanted, uint32_t edit)
 {
     IS(got.refusal, 0);
     IS(got.detail, 0);
@@ -96,10 +94,10 @@ static void beside_plain_loops(void)
         for (int i = 0; i < ASKED; i++) {
             uint32_t a = below(size + 1), b = below(size + 1), lo = a < b ? a : b, hi = a < b ? b : a;
             int64_t sum = (int64_t)below(40) - 5;
-            alike(livevec_where_least(&v, lo, hi), least(xs, lo, hi, 1), edits);
-            alike(livevec_where_greatest(&v, lo, hi), least(xs, lo, hi, -1), edits);
-            alike(livevec_where_best(&v, lo, hi), best(xs, lo, hi), edits);
-            alike(livevec_where_reaches(&v, lo, hi, sum), reaches(xs, lo, hi, sum), edits);
+            found_alike(livevec_where_least(&v, lo, hi), least(xs, lo, hi, 1), edits);
+            found_alike(livevec_where_greatest(&v, lo, hi), least(xs, lo, hi, -1), edits);
+            found_alike(livevec_where_best(&v, lo, hi), best(xs, lo, hi), edits);
+            found_alike(livevec_where_reaches(&v, lo, hi, sum), reaches(xs, lo, hi, sum), edits);
         }
     }
     IS(livevec_edits(&v).value, edits);
@@ -113,10 +111,10 @@ static void sums_that_are_long(void)
     livevec_vector v = {0};
     IS(livevec_new(&v, 1, 100), 0);
     IS(livevec_push_many(&v, xs, 4).refusal, 0);
-    alike(livevec_where_reaches(&v, 0, 4, INT64_MAX), (livevec_found){.hi = 1, .found = true}, 4);
-    alike(livevec_where_reaches(&v, 3, 4, INT64_MIN), (livevec_found){.lo = 3, .hi = 3, .found = true}, 4);
-    alike(livevec_where_reaches(&v, 3, 4, 1), (livevec_found){0}, 4);
-    alike(livevec_where_best(&v, 0, 4), (livevec_found){.hi = 3, .sum_low = (uint64_t)INT64_MAX - 2, .sum_high = 1, .found = true}, 4);
+    found_alike(livevec_where_reaches(&v, 0, 4, INT64_MAX), (livevec_found){.hi = 1, .found = true}, 4);
+    found_alike(livevec_where_reaches(&v, 3, 4, INT64_MIN), (livevec_found){.lo = 3, .hi = 3, .found = true}, 4);
+    found_alike(livevec_where_reaches(&v, 3, 4, 1), (livevec_found){0}, 4);
+    found_alike(livevec_where_best(&v, 0, 4), (livevec_found){.hi = 3, .sum_low = (uint64_t)INT64_MAX - 2, .sum_high = 1, .found = true}, 4);
     IS(livevec_free(&v), 0);
 }
 

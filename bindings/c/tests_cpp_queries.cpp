@@ -1,0 +1,59 @@
+/* livevec.hpp from outside: standing queries. */
+#include "tests_cpp.hpp"
+
+#include <cstdint>
+#include <string>
+#include <utility>
+#include <vector>
+
+/* The notes of a set, in words. */
+static std::string told(livevec::queries &set, const livevec::vector &of)
+{
+    std::string text;
+    const std::uint32_t edit = set.notes(of, [&text](const livevec_note &note) {
+        text += std::string(note.name) + " " + (note.kind == LIVEVEC_SUM ? std::to_string(note.values.sum) : std::to_string(note.values.least)) + " at " + std::to_string(note.edit) + "; ";
+    });
+    return text + std::to_string(edit);
+}
+
+void queries()
+{
+    livevec::vector feed;
+    livevec::queries set;
+    set.watch("total", LIVEVEC_SUM);
+    set.watch("dip", LIVEVEC_LEAST, 0, 2);
+    set.watch("first", LIVEVEC_SUM, 0, 1);
+    IS(told(set, feed) == "0");
+    feed.push(4);
+    IS(told(set, feed) == "total 4 at 1; dip 4 at 1; first 4 at 1; 1");
+    IS(told(set, feed) == "1");
+    feed.push(-7);
+    IS(told(set, feed) == "total 18446744073709551613 at 2; dip -7 at 2; 2");
+    feed.push(3);
+    feed.push(0);
+    IS(told(set, feed) == "total 0 at 4; 4");
+    feed.swap_elements(0, 1);
+    IS(told(set, feed) == "first 18446744073709551609 at 5; 5");
+    IS(set.answer(feed, "dip").values.least == -7 && set.answer(feed, "dip").edit == 5);
+    set.unwatch("total");
+    feed.write(0, 4);
+    const std::vector<livevec_note> notes = set.notes(feed);
+    IS(notes.size() == 2 && notes[0].name == std::string("dip") && notes[0].values.least == 4 && notes[1].name == std::string("first"));
+    IS(refusal_of([&] { set.watch("dip", LIVEVEC_SUM); }) == LIVEVEC_NAME_TAKEN);
+    IS(refusal_of([&] { set.watch("Dip", LIVEVEC_SUM); }) == LIVEVEC_BAD_NAME);
+    IS(refusal_of([&] { set.watch({}, LIVEVEC_SUM); }) == LIVEVEC_BAD_NAME);
+    IS(refusal_of([&] { set.watch("back", LIVEVEC_SUM, 2, 1); }) == LIVEVEC_BAD_RANGE);
+    IS(refusal_of([&] { set.unwatch("total"); }) == LIVEVEC_NO_SUCH_NAME);
+    IS(refusal_of([&] { (void)set.answer(feed, "total"); }) == LIVEVEC_NO_SUCH_NAME);
+    livevec::vector sums(LIVEVEC_SUM);
+    sums.push(9);
+    try {
+        (void)set.notes(sums);
+        IS(false);
+    } catch (const livevec::refused &refused) {
+        IS(refused.number() == LIVEVEC_BAD_KIND && refused.detail() == 0);
+    }
+    livevec::queries moved = std::move(set);
+    IS(moved.notes(feed).empty());
+    IS(refusal_of([&] { set.unwatch("dip"); }) == LIVEVEC_NULL);
+}
