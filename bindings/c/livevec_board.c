@@ -1,0 +1,60 @@
+/* Boards, and their seats. */
+#include "livevec_slots.h"
+
+#include <stdatomic.h>
+
+TOLD_AT_TWO(board_sit, (livevec_board *board, livevec_seat *seat), board, seat, (board, seat))
+TOLD_AT_TWO(board_take_back, (livevec_board *board, livevec_seat *seat), board, seat, (board, seat))
+ANSWERED(livevec_edited, seat_push, (livevec_seat *seat, int64_t value, uint32_t tries), seat, (seat, value, tries))
+ANSWERED(livevec_edited, seat_pop, (livevec_seat *seat, uint32_t tries), seat, (seat, tries))
+ANSWERED(livevec_edited, seat_write, (livevec_seat *seat, uint32_t index, int64_t value, uint32_t tries), seat, (seat, index, value, tries))
+ANSWERED(livevec_element, seat_get, (livevec_seat *seat, uint32_t index), seat, (seat, index))
+ANSWERED(livevec_count, seat_size, (livevec_seat *seat), seat, (seat))
+ANSWERED(livevec_reduced, seat_reduce, (livevec_seat *seat, uint32_t lo, uint32_t hi), seat, (seat, lo, hi))
+ANSWERED(livevec_renewed, seat_refresh, (livevec_seat *seat, uint32_t block), seat, (seat, block))
+ANSWERED(livevec_count, board_close, (livevec_board *board), board, (board))
+ANSWERED(livevec_count, closed_size, (livevec_board *board), board, (board))
+ANSWERED(livevec_element, closed_get, (livevec_board *board, uint32_t index), board, (board, index))
+
+FREED(free_board, livevec_board)
+FREED(free_seat, livevec_seat)
+
+/* Each board has a stamp of its own, which its seats have too: so a seat is told from those of other boards. */
+uint32_t livevec_proved_board_new(livevec_board *slot, uint32_t kind, uint32_t buckets, uint32_t edits, uint32_t seats, uint64_t stamp);
+
+uint32_t livevec_board_new(livevec_board *slot, uint32_t kind, uint32_t buckets, uint32_t edits, uint32_t seats)
+{
+    static _Atomic uint64_t stamps;
+    if (!slot)
+        return LIVEVEC_NULL;
+    if (!enter(&slot->busy_))
+        return LIVEVEC_BUSY;
+    uint32_t told = livevec_proved_board_new(slot, kind, buckets, edits, seats, atomic_fetch_add(&stamps, 1));
+    leave(&slot->busy_);
+    return told;
+}
+
+/* Reads a closed board whose slot is entered. */
+static uint32_t read_closed(livevec_board *board, int64_t *buffer, size_t room, uint32_t *count)
+{
+    livevec_count size = livevec_proved_closed_size(board);
+    if (size.refusal)
+        return size.refusal;
+    *count = size.value;
+    if (room < size.value)
+        return LIVEVEC_SHORT_BUFFER;
+    for (uint32_t i = 0; i < size.value; i++)
+        buffer[i] = livevec_proved_closed_get(board, i).value;
+    return LIVEVEC_OK;
+}
+
+uint32_t livevec_closed_read(livevec_board *board, int64_t *buffer, size_t room, uint32_t *count)
+{
+    if (!board || !count || (!buffer && room))
+        return LIVEVEC_NULL;
+    if (!enter(&board->busy_))
+        return LIVEVEC_BUSY;
+    uint32_t told = read_closed(board, buffer, room, count);
+    leave(&board->busy_);
+    return told;
+}

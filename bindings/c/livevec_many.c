@@ -1,0 +1,77 @@
+/* Many pushes, writes and questions of a vector by one call. */
+#include "livevec_slots.h"
+
+/* Proved exports over which livevec.c stands too. */
+livevec_count livevec_proved_size(livevec_vector *slot);
+livevec_reduced livevec_proved_value(livevec_vector *slot, uint32_t kind, uint32_t lo, uint32_t hi);
+
+/* All pushes at once, or none. */
+livevec_pushed livevec_proved_push_all(livevec_vector *slot, const int64_t *values, size_t length);
+
+livevec_pushed livevec_push_many(livevec_vector *slot, const int64_t *values, size_t length)
+{
+    livevec_pushed answer = {LIVEVEC_NULL, 0, 0, 0};
+    if (!slot || (!values && length))
+        return answer;
+    answer.refusal = LIVEVEC_BUSY;
+    if (!enter(&slot->busy_))
+        return answer;
+    if (length)
+        answer = livevec_proved_push_all(slot, values, length);
+    else
+        answer.refusal = livevec_proved_size(slot).refusal;
+    leave(&slot->busy_);
+    return answer;
+}
+
+/* All writes at once, or none. As many values as indices are handed over. */
+livevec_many livevec_proved_write_all(livevec_vector *slot, const uint32_t *indices, size_t places, const int64_t *values, size_t length);
+
+livevec_many livevec_write_many(livevec_vector *slot, const uint32_t *indices, const int64_t *values, size_t length)
+{
+    static const uint32_t no_index[1];
+    static const int64_t no_value[1];
+    livevec_many answer = {.refusal = LIVEVEC_NULL};
+    if (!slot || ((!indices || !values) && length))
+        return answer;
+    answer.refusal = LIVEVEC_BUSY;
+    if (!enter(&slot->busy_))
+        return answer;
+    answer = livevec_proved_write_all(slot, length ? indices : no_index, length, length ? values : no_value, length);
+    leave(&slot->busy_);
+    return answer;
+}
+
+/* What the first of some ranges that is refused is refused with, at a slot that is entered. An empty range is refused by its kind or
+ * its slot alone. */
+static livevec_many judge_ranges(livevec_vector *slot, uint32_t kind, const livevec_range *ranges, size_t length)
+{
+    livevec_reduced none = livevec_proved_value(slot, kind, 0, 0);
+    livevec_many answer = {.refusal = none.refusal, .edit = none.edit};
+    if (answer.refusal)
+        return answer;
+    uint32_t size = livevec_proved_size(slot).value;
+    for (size_t i = 0; i < length; i++) {
+        if (ranges[i].hi < ranges[i].lo)
+            return (livevec_many){.refusal = LIVEVEC_BAD_RANGE, .place = i};
+        if (ranges[i].hi > size)
+            return (livevec_many){.refusal = LIVEVEC_OUT_OF_RANGE, .detail = size, .place = i};
+    }
+    answer.done = length;
+    return answer;
+}
+
+livevec_many livevec_value_many(livevec_vector *slot, uint32_t kind, const livevec_range *ranges, livevec_values *answers, size_t length)
+{
+    livevec_many answer = {.refusal = LIVEVEC_NULL};
+    if (!slot || ((!ranges || !answers) && length))
+        return answer;
+    answer.refusal = LIVEVEC_BUSY;
+    if (!enter(&slot->busy_))
+        return answer;
+    answer = judge_ranges(slot, kind, ranges, length);
+    for (size_t i = 0; i < answer.done; i++)
+        answers[i] = livevec_proved_value(slot, kind, ranges[i].lo, ranges[i].hi).values;
+    leave(&slot->busy_);
+    return answer;
+}

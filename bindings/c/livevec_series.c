@@ -1,0 +1,105 @@
+/* Series. */
+#include "livevec_slots.h"
+
+TOLD(series_new, (livevec_series *slot), slot, (slot))
+FREED(free_series, livevec_series)
+ANSWERED(livevec_series_edited, series_push, (livevec_series *slot, int64_t value), slot, (slot, value))
+ANSWERED(livevec_series_edited, series_pop, (livevec_series *slot), slot, (slot))
+ANSWERED(livevec_series_edited, series_write, (livevec_series *slot, uint64_t index, int64_t value), slot, (slot, index, value))
+ANSWERED(livevec_series_edited, series_swap, (livevec_series *slot, uint64_t first, uint64_t second), slot, (slot, first, second))
+ANSWERED(livevec_series_edited, series_truncate, (livevec_series *slot, uint64_t size), slot, (slot, size))
+ANSWERED(livevec_series_edited, series_expire, (livevec_series *slot, uint64_t index), slot, (slot, index))
+ANSWERED(livevec_series_element, series_get, (livevec_series *slot, uint64_t index), slot, (slot, index))
+ANSWERED(livevec_series_reduced, series_reduce, (livevec_series *slot, uint64_t lo, uint64_t hi), slot, (slot, lo, hi))
+ANSWERED(livevec_series_reduced, series_ask, (livevec_series *slot, uint64_t lo, uint64_t hi), slot, (slot, lo, hi))
+
+/* All counts at once. */
+typedef struct series_counts {
+    uint32_t refusal;
+    uint64_t first;
+    uint64_t size;
+    uint64_t edits;
+} series_counts;
+series_counts livevec_proved_series_counts(livevec_series *slot);
+
+/* `livevec_series_NAME` tells one of them. */
+#define COUNTED(name)                                                \
+    livevec_series_count livevec_series_##name(livevec_series *slot) \
+    {                                                                \
+        livevec_series_count answer = {.refusal = LIVEVEC_NULL};     \
+        if (!slot)                                                   \
+            return answer;                                           \
+        answer.refusal = LIVEVEC_BUSY;                               \
+        if (!enter(&slot->busy_))                                    \
+            return answer;                                           \
+        series_counts counts = livevec_proved_series_counts(slot);   \
+        leave(&slot->busy_);                                         \
+        answer.refusal = counts.refusal;                             \
+        answer.value = counts.name;                                  \
+        return answer;                                               \
+    }
+
+COUNTED(first)
+COUNTED(size)
+COUNTED(edits)
+
+/* Of arrays a proved call is never given a null pointer: where there are no places, they begin anywhere. */
+livevec_series_pushed livevec_proved_series_push_each(livevec_series *slot, const int64_t *values, size_t length);
+livevec_series_scanned livevec_proved_series_read(livevec_series *slot, uint64_t lo, uint64_t hi, int64_t *buffer, size_t length);
+livevec_series_scanned livevec_proved_series_scan(livevec_series *slot, uint64_t lo, uint64_t at, uint64_t hi, bool inclusive,
+                                                  livevec_values *buffer, size_t length);
+
+livevec_series_pushed livevec_series_push_many(livevec_series *slot, const int64_t *values, size_t length)
+{
+    livevec_series_pushed answer = {.refusal = LIVEVEC_NULL};
+    int64_t nowhere = 0;
+    if (!slot || (!values && length))
+        return answer;
+    answer.refusal = LIVEVEC_BUSY;
+    if (!enter(&slot->busy_))
+        return answer;
+    answer = livevec_proved_series_push_each(slot, values ? values : &nowhere, length);
+    leave(&slot->busy_);
+    return answer;
+}
+
+livevec_series_scanned livevec_series_read(livevec_series *slot, uint64_t lo, uint64_t hi, int64_t *buffer, size_t length)
+{
+    livevec_series_scanned answer = {.refusal = LIVEVEC_NULL};
+    int64_t nowhere;
+    if (!slot || (!buffer && length))
+        return answer;
+    answer.refusal = LIVEVEC_BUSY;
+    if (!enter(&slot->busy_))
+        return answer;
+    answer = livevec_proved_series_read(slot, lo, hi, buffer ? buffer : &nowhere, length);
+    leave(&slot->busy_);
+    return answer;
+}
+
+static livevec_series_scanned scan_series(livevec_series *slot, uint64_t lo, uint64_t at, uint64_t hi, bool inclusive, livevec_values *buffer,
+                                          size_t length)
+{
+    livevec_series_scanned answer = {.refusal = LIVEVEC_NULL};
+    livevec_values nowhere;
+    if (!slot || (!buffer && length))
+        return answer;
+    answer.refusal = LIVEVEC_BUSY;
+    if (!enter(&slot->busy_))
+        return answer;
+    answer = livevec_proved_series_scan(slot, lo, at, hi, inclusive, buffer ? buffer : &nowhere, length);
+    leave(&slot->busy_);
+    return answer;
+}
+
+livevec_series_scanned livevec_series_scan_inclusive(livevec_series *slot, uint64_t lo, uint64_t at, uint64_t hi, livevec_values *buffer,
+                                                     size_t length)
+{
+    return scan_series(slot, lo, at, hi, true, buffer, length);
+}
+
+livevec_series_scanned livevec_series_scan_exclusive(livevec_series *slot, uint64_t lo, uint64_t at, uint64_t hi, livevec_values *buffer,
+                                                     size_t length)
+{
+    return scan_series(slot, lo, at, hi, false, buffer, length);
+}

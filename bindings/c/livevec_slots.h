@@ -1,0 +1,71 @@
+/* How the C functions of the library enter the slots of a call, and stand over the proved exports of their names. Not installed. */
+#ifndef LIVEVEC_SLOTS_H
+#define LIVEVEC_SLOTS_H
+
+#include "livevec.h"
+
+/* A slot serves one call at a time: it is entered for a call, and a call that finds it entered does nothing. */
+static inline bool enter(unsigned char *busy)
+{
+    return !__atomic_exchange_n(busy, 1, __ATOMIC_ACQUIRE);
+}
+
+static inline void leave(unsigned char *busy)
+{
+    __atomic_store_n(busy, 0, __ATOMIC_RELEASE);
+}
+
+/* Enters two slots, or none. */
+static inline bool enter_both(unsigned char *first, unsigned char *second)
+{
+    if (!enter(first))
+        return false;
+    if (enter(second))
+        return true;
+    leave(first);
+    return false;
+}
+
+static inline void leave_both(unsigned char *first, unsigned char *second)
+{
+    leave(second);
+    leave(first);
+}
+
+/* An answer that has a refusal alone, as a number and as a struct. */
+#define AS_NUMBER(answer, number) (number)
+#define AS_STRUCT(answer, number) ((answer){.refusal = (number)})
+
+/* `livevec_NAME` over `livevec_proved_NAME`, an export of crates/livevec_c: what that promises stands in its contract there.
+ * `there` says that no pointer is null; `entered` and `left` enter the slots of the call and leave them. */
+#define OVER_PROVED(answer, as, name, parameters, there, entered, left, arguments) \
+    answer livevec_proved_##name parameters;                                       \
+    answer livevec_##name parameters                                               \
+    {                                                                              \
+        if (!(there))                                                              \
+            return as(answer, LIVEVEC_NULL);                                       \
+        if (!entered)                                                              \
+            return as(answer, LIVEVEC_BUSY);                                       \
+        answer told = livevec_proved_##name arguments;                             \
+        left;                                                                      \
+        return told;                                                               \
+    }
+
+/* The same at one slot, with a further pointer or not, and at two. */
+#define AT_ONE(answer, as, name, parameters, there, slot, arguments) \
+    OVER_PROVED(answer, as, name, parameters, there, enter(&slot->busy_), leave(&slot->busy_), arguments)
+#define AT_TWO(answer, as, name, parameters, first, second, arguments)                                 \
+    OVER_PROVED(answer, as, name, parameters, first && second, enter_both(&first->busy_, &second->busy_), \
+                leave_both(&first->busy_, &second->busy_), arguments)
+
+/* Of what answers by its refusal alone, and of what answers more. */
+#define TOLD(name, parameters, slot, arguments) AT_ONE(uint32_t, AS_NUMBER, name, parameters, slot, slot, arguments)
+#define ANSWERED(answer, name, parameters, slot, arguments) AT_ONE(answer, AS_STRUCT, name, parameters, slot, slot, arguments)
+#define TOLD_AT_TWO(name, parameters, first, second, arguments) AT_TWO(uint32_t, AS_NUMBER, name, parameters, first, second, arguments)
+#define ANSWERED_AT_TWO(answer, name, parameters, first, second, arguments) \
+    AT_TWO(answer, AS_STRUCT, name, parameters, first, second, arguments)
+
+/* `livevec_NAME` frees what a slot of its type holds, and nothing else. */
+#define FREED(name, type) TOLD(name, (type *slot), slot, (slot))
+
+#endif

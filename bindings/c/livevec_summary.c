@@ -1,0 +1,44 @@
+/* Summaries that travel. They are bytes of the caller's and no slots. */
+#include "livevec_slots.h"
+
+#include <string.h>
+
+#define OF_BYTES(answer, name, parameters, there, arguments) \
+    OVER_PROVED(answer, AS_STRUCT, name, parameters, there, true, (void)0, arguments)
+
+OF_BYTES(livevec_summarised, summary_empty, (void), true, ())
+OF_BYTES(livevec_summarised, summary_empty_with_table, (const livevec_table *table), table, (table))
+OF_BYTES(livevec_summarised, summary_join, (const livevec_summary *left, const livevec_summary *right), left && right, (left, right))
+OF_BYTES(livevec_opened, summary_values, (const livevec_summary *summary), summary, (summary))
+
+/* The proved export takes some elements at once. */
+#define CHUNK 1024
+typedef struct chunk {
+    int64_t values[CHUNK];
+} chunk;
+livevec_summarised livevec_proved_summary_extend(const livevec_summary *summary, const chunk *next, uint32_t length);
+
+livevec_summarised livevec_summary_extend(const livevec_summary *summary, const int64_t *values, size_t length)
+{
+    livevec_summarised answer = {.refusal = LIVEVEC_NULL};
+    if (!summary || (!values && length))
+        return answer;
+    chunk next = {{0}};
+    livevec_summary so_far = *summary;
+    size_t done = 0;
+    do {
+        size_t many = length - done < CHUNK ? length - done : CHUNK;
+        if (many)
+            memcpy(next.values, values + done, many * sizeof *values);
+        answer = livevec_proved_summary_extend(&so_far, &next, (uint32_t)many);
+        so_far = answer.summary;
+        done += many;
+    } while (done < length && !answer.refusal);
+    return answer;
+}
+
+livevec_summarised livevec_summary_of_elements(const int64_t *values, size_t length)
+{
+    livevec_summarised empty = livevec_proved_summary_empty();
+    return livevec_summary_extend(&empty.summary, values, length);
+}
