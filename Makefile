@@ -10,7 +10,7 @@ CC = cc
 LIB = build
 SO = $(LIB)
 # what livevec.hpp includes
-CPP_PARTS = $(addprefix include/livevec_,base.hpp board.hpp columns.hpp queries.hpp series.hpp shared.hpp shared_lock.hpp summary.hpp)
+CPP_PARTS = $(addprefix include/livevec_,base.hpp board.hpp columns.hpp jobs.hpp places.hpp queries.hpp series.hpp shared.hpp shared_lock.hpp shared_workers.hpp summary.hpp)
 # what programs that are linked with liblivevec.so ask for: another number where they would no longer run
 SONAME = liblivevec.so.1
 # tells the system's loader what was installed, where that is allowed and nothing is only staged

@@ -1,8 +1,8 @@
-/* livevec for C++17: livevec.h by move-only classes that free what they own. What a call refuses is thrown as livevec::refused, and
- * nothing has changed then. Header only; link what livevec.h links. The board and its seats stand in livevec_board.hpp, summaries
- * that travel in livevec_summary.hpp, cells of columns in livevec_columns.hpp, the series in livevec_series.hpp, standing queries in
- * livevec_queries.hpp, a vector that threads share in livevec_shared.hpp, and what all classes share in livevec_base.hpp; this header
- * brings them all.
+/* livevec for C++17: livevec.h by move-only classes that free what they own. What a call refuses is thrown as livevec::refused, and nothing
+ * has changed then. Header only; link what livevec.h links. The board and its seats stand in livevec_board.hpp, summaries that travel in
+ * livevec_summary.hpp, cells of columns in livevec_columns.hpp, jobs in livevec_jobs.hpp, the series in livevec_series.hpp, standing
+ * queries in livevec_queries.hpp, a vector that threads share in livevec_shared.hpp, and what all classes share in livevec_base.hpp; this
+ * header brings them all.
  *
  * An object serves one call at a time: a call beside another at the same object is refused with LIVEVEC_BUSY. Put a mutex round it where
  * threads share one, or take a shared_vector. A job may be run by any thread, beside any call at its vector. A call at an object that was moved from is
@@ -20,6 +20,8 @@
 #include "livevec_base.hpp"
 #include "livevec_board.hpp"
 #include "livevec_columns.hpp"
+#include "livevec_jobs.hpp"
+#include "livevec_places.hpp"
 #include "livevec_series.hpp"
 #include "livevec_summary.hpp"
 
@@ -32,41 +34,6 @@
 #include <vector>
 
 namespace livevec {
-
-/* What a job came to. It may be delivered any number of times, at any time. */
-class [[nodiscard]] outcome : public inner::owned<livevec_outcome, livevec_free_outcome> {
-  private:
-    friend class job;
-    outcome() = default;
-};
-
-/* A node's summary that is still to be computed. It holds nothing of its vector. */
-class [[nodiscard]] job : public inner::owned<livevec_job, livevec_free_job> {
-  public:
-    /* Computes it, once: then it is empty. */
-    outcome run()
-    {
-        outcome made;
-        inner::check(livevec_run(slot(), made.slot()));
-        return made;
-    }
-
-  private:
-    friend class vector;
-    job() = default;
-};
-
-/* An element, and the index at which it stands. */
-struct placed {
-    std::uint32_t index;
-    std::int64_t value;
-};
-
-/* Neighbours that add up to the most: from index `lo` up to `hi`, and what they add up to, which is exact. */
-struct best_run {
-    std::uint32_t lo, hi;
-    int128 sum;
-};
 
 /* A growable vector of 64-bit numbers that answers reductions of any range. */
 class vector : public inner::owned<livevec_vector, livevec_free> {
@@ -222,11 +189,11 @@ class vector : public inner::owned<livevec_vector, livevec_free> {
     [[nodiscard]] std::uint64_t sum(std::uint32_t lo, std::uint32_t hi) const { return value(LIVEVEC_SUM, lo, hi).values.sum; }
     [[nodiscard]] std::optional<std::int64_t> least(std::uint32_t lo, std::uint32_t hi) const
     {
-        return some(value(LIVEVEC_LEAST, lo, hi).values, &livevec_values::least);
+        return inner::some(value(LIVEVEC_LEAST, lo, hi).values, &livevec_values::least);
     }
     [[nodiscard]] std::optional<std::int64_t> greatest(std::uint32_t lo, std::uint32_t hi) const
     {
-        return some(value(LIVEVEC_GREATEST, lo, hi).values, &livevec_values::greatest);
+        return inner::some(value(LIVEVEC_GREATEST, lo, hi).values, &livevec_values::greatest);
     }
     [[nodiscard]] std::optional<int128> best(std::uint32_t lo, std::uint32_t hi) const
     {
@@ -235,10 +202,10 @@ class vector : public inner::owned<livevec_vector, livevec_free> {
     }
 
     /* Where in a range the first of the least elements stands, and the first of the greatest. */
-    [[nodiscard]] std::optional<placed> where_least(std::uint32_t lo, std::uint32_t hi) const { return element(livevec_where_least(slot(), lo, hi)); }
+    [[nodiscard]] std::optional<placed> where_least(std::uint32_t lo, std::uint32_t hi) const { return inner::element(livevec_where_least(slot(), lo, hi)); }
     [[nodiscard]] std::optional<placed> where_greatest(std::uint32_t lo, std::uint32_t hi) const
     {
-        return element(livevec_where_greatest(slot(), lo, hi));
+        return inner::element(livevec_where_greatest(slot(), lo, hi));
     }
 
     /* Where the best run stands: of several the one that ends first, and of those the shortest. */
@@ -309,17 +276,6 @@ class vector : public inner::owned<livevec_vector, livevec_free> {
     }
 
   private:
-    static std::optional<std::int64_t> some(const livevec_values &values, std::int64_t livevec_values::*which)
-    {
-        return values.any ? std::optional<std::int64_t>(values.*which) : std::nullopt;
-    }
-
-    static std::optional<placed> element(const livevec_found &told)
-    {
-        inner::checked(told);
-        return told.found ? std::optional<placed>(placed{told.lo, told.value}) : std::nullopt;
-    }
-
     /* A column of its own, that a call of C fills. */
     template <class Cell, class Call> std::vector<Cell> column(Call call, std::uint32_t lo, std::uint32_t hi) const
     {

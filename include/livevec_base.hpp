@@ -8,6 +8,7 @@
 #include <cstdint>
 #include <iterator>
 #include <memory>
+#include <optional>
 #include <stdexcept>
 #include <type_traits>
 #include <utility>
@@ -180,6 +181,12 @@ template <class Slot, std::uint32_t (*Free)(Slot *)> class owned {
 template <class Iterator> using number_of = typename std::iterator_traits<Iterator>::value_type;
 template <class Iterator>
 constexpr bool gives_elements = std::is_integral_v<number_of<Iterator>> && (std::is_signed_v<number_of<Iterator>> || sizeof(number_of<Iterator>) < 8);
+
+/* One of the values, where there is one. */
+inline std::optional<std::int64_t> some(const livevec_values &values, std::int64_t livevec_values::*which)
+{
+    return values.any ? std::optional<std::int64_t>(values.*which) : std::nullopt;
+}
 
 } // namespace inner
 

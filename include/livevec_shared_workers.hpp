@@ -1,0 +1,189 @@
+/* What livevec_shared_lock.hpp stands on: the workers of a shared vector, and who sleeps at its lock. */
+#ifndef LIVEVEC_SHARED_WORKERS_HPP
+#define LIVEVEC_SHARED_WORKERS_HPP
+
+#include "livevec.hpp"
+
+#include <atomic>
+#include <chrono>
+#include <condition_variable>
+#include <cstddef>
+#include <cstdint>
+#include <exception>
+#include <memory>
+#include <mutex>
+#include <optional>
+#include <thread>
+#include <utility>
+#include <vector>
+
+namespace livevec {
+
+namespace inner {
+
+/* The vector that a lock guards, the workers that compute its summaries, and what they and others sleep by. */
+class shared_workers {
+  protected:
+    using held = std::unique_lock<std::mutex>;
+
+    explicit shared_workers(vector of) : of_(std::move(of)) {}
+
+    /* A thread that computes summaries until it is told to stop. */
+    struct worker {
+        std::thread thread;
+        std::unique_ptr<std::atomic<bool>> stop;
+    };
+
+    /* What a worker has in hand: so many jobs at once that the lock is taken seldom, and never held for long. */
+    struct hands {
+        static constexpr std::size_t at_once = 16;
+        std::vector<job> jobs;
+        std::vector<outcome> outcomes;
+        bool is_wanting = false;
+
+        /* An outcome that the vector doesn't know, since a `with` put another in its place, is let go. */
+        void deliver(vector &to)
+        {
+            for (const outcome &made : outcomes)
+                if (to.vets(made))
+                    to.deliver(made);
+        }
+        void claim(vector &from)
+        {
+            try {
+                // jobs that want of memory lost are handed out again
+                if (std::exchange(is_wanting, false))
+                    from.forget();
+                jobs.reserve(at_once);
+                outcomes.reserve(at_once);
+                while (jobs.size() < at_once) {
+                    std::optional<job> claimed = from.claim();
+                    if (!claimed)
+                        break;
+                    jobs.push_back(std::move(*claimed));
+                }
+            } catch (const std::exception &) {
+                is_wanting = true;
+            }
+        }
+        void run()
+        {
+            outcomes.clear();
+            try {
+                for (job &it : jobs)
+                    outcomes.push_back(it.run());
+            } catch (const std::exception &) {
+                is_wanting = true;
+            }
+            jobs.clear();
+        }
+    };
+
+    /* How long a worker lets edits go on, where some came while it computed, and how long it waits for memory. */
+    static constexpr std::chrono::milliseconds rest{1};
+
+    /* Claims and delivers under the lock, computes without it, and sleeps while there is no job. */
+    void work(const std::atomic<bool> &stop)
+    {
+        hands mine;
+        held guard(mutex_);
+        working_++;
+        std::uint64_t seen = changes_;
+        while (true) {
+            if (!closed_)
+                mine.deliver(of_);
+            if (changes_ != seen && !closed_)
+                pause_.wait_for(guard, rest);
+            if (closed_ || stop)
+                break;
+            seen = changes_;
+            mine.claim(of_);
+            if (mine.jobs.empty()) {
+                mine.outcomes.clear();
+                if (mine.is_wanting)
+                    pause_.wait_for(guard, rest);
+                else
+                    sleep(guard, stop);
+                seen = changes_;
+                continue;
+            }
+            const bool is_helped = mine.jobs.size() == hands::at_once && call();
+            guard.unlock();
+            if (is_helped)
+                work_.notify_one();
+            mine.run();
+            guard.lock();
+        }
+        working_--;
+        // a call that came to one that ends is another's
+        call();
+        guard.unlock();
+        work_.notify_one();
+    }
+
+    void sleep(held &guard, const std::atomic<bool> &stop)
+    {
+        idle_++;
+        work_.wait(guard, [&] { return calls_ > 0 || closed_ || stop; });
+        idle_--;
+        calls_ -= calls_ > 0;
+    }
+
+    /* Calls a worker that sleeps, if there is one, which is to be woken then. */
+    bool call()
+    {
+        const bool some = idle_ > calls_;
+        calls_ += some;
+        return some;
+    }
+
+    /* Something has changed: lets the lock go, and wakes who waits for that. A worker that is awake sees it by itself, and calls others
+     * where there is much to do. */
+    void changed(held &guard)
+    {
+        changes_++;
+        const bool is_called = idle_ == working_ && calls_ == 0 && call();
+        const bool is_awaited = std::exchange(unaware_, false);
+        guard.unlock();
+        if (is_called)
+            work_.notify_one();
+        if (is_awaited)
+            change_.notify_all();
+    }
+
+    void wake_all()
+    {
+        work_.notify_all();
+        change_.notify_all();
+        pause_.notify_all();
+    }
+
+    void end(std::vector<worker> ended)
+    {
+        if (ended.empty())
+            return;
+        for (worker &it : ended)
+            *it.stop = true;
+        // whoever looked at the word before it was stored sleeps by now
+        held(mutex_).unlock();
+        wake_all();
+        for (worker &it : ended)
+            it.thread.join();
+    }
+
+    std::mutex mutex_;
+    /* Where workers sleep while there is no job, subscribers while nothing has changed, and who pauses, whom no edit wakes. */
+    std::condition_variable work_, change_, pause_;
+    vector of_;
+    bool closed_ = false, unaware_ = false;
+    std::uint64_t changes_ = 0;
+    /* How many workers there are, how many of them sleep, and how many of those are called. */
+    std::size_t working_ = 0, idle_ = 0, calls_ = 0;
+    std::vector<worker> workers_;
+};
+
+} // namespace inner
+
+} // namespace livevec
+
+#endif
