@@ -90,7 +90,7 @@ install-program: whole-paths $(PROGRAM) ## installs the program alone
 
 install-lib: whole-paths $(LIB)/liblivevec.a $(SO)/liblivevec.so ## installs all but the program
 	@install -d "$(DESTDIR)$(PREFIX)/include" "$(DESTDIR)$(LIBDIR)/pkgconfig" "$(DESTDIR)$(LIBDIR)/cmake/livevec"
-	@install -m 644 include/livevec.h include/livevec.hpp include/livevec_mpi.h "$(DESTDIR)$(PREFIX)/include"
+	@install -m 644 include/livevec.h include/livevec.hpp include/livevec_mpi.h include/livevec_mpi_refusals.h "$(DESTDIR)$(PREFIX)/include"
 	@install -m 644 $(LIB)/liblivevec.a "$(DESTDIR)$(LIBDIR)/liblivevec.a"
 	@install -m 644 $(CPP_PARTS) "$(DESTDIR)$(PREFIX)/include"
 	@install -m 755 $(SO)/liblivevec.so "$(DESTDIR)$(LIBDIR)/$(SONAME)"
@@ -102,7 +102,7 @@ install-lib: whole-paths $(LIB)/liblivevec.a $(SO)/liblivevec.so ## installs all
 
 # its folders go too where they have nothing else: the place was livevec's own then
 uninstall: whole-paths ## takes away what was installed below PREFIX
-	@rm -f "$(DESTDIR)$(PREFIX)/bin/livevec" "$(DESTDIR)$(PREFIX)/include/livevec.h" "$(DESTDIR)$(PREFIX)/include/livevec.hpp" "$(DESTDIR)$(PREFIX)/include/livevec_mpi.h" "$(DESTDIR)$(LIBDIR)/liblivevec.a"
+	@rm -f "$(DESTDIR)$(PREFIX)/bin/livevec" "$(DESTDIR)$(PREFIX)/include/livevec.h" "$(DESTDIR)$(PREFIX)/include/livevec.hpp" "$(DESTDIR)$(PREFIX)/include/livevec_mpi.h" "$(DESTDIR)$(PREFIX)/include/livevec_mpi_refusals.h" "$(DESTDIR)$(LIBDIR)/liblivevec.a"
 	@rm -f "$(DESTDIR)$(LIBDIR)/$(SONAME)" "$(DESTDIR)$(LIBDIR)/liblivevec.so" "$(DESTDIR)$(LIBDIR)/pkgconfig/livevec.pc"
 	@rm -f "$(DESTDIR)$(LIBDIR)/cmake/livevec/livevecConfig.cmake"
 	@rm -f $(patsubst include/%,"$(DESTDIR)$(PREFIX)/include/%",$(CPP_PARTS))
