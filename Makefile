@@ -9,6 +9,8 @@ LIBDIR = $(PREFIX)/lib
 CC = cc
 LIB = build
 SO = $(LIB)
+# what livevec.h includes
+C_PARTS = $(addprefix include/livevec_,refusals.h records.h vectors.h reductions.h queries.h summaries.h jobs.h boards.h series.h)
 # what livevec.hpp includes
 CPP_PARTS = $(addprefix include/livevec_,base.hpp board.hpp columns.hpp jobs.hpp places.hpp queries.hpp series.hpp shared.hpp shared_lock.hpp shared_workers.hpp summary.hpp)
 # what programs that are linked with liblivevec.so ask for: another number where they would no longer run
@@ -92,7 +94,7 @@ install-lib: whole-paths $(LIB)/liblivevec.a $(SO)/liblivevec.so ## installs all
 	@install -d "$(DESTDIR)$(PREFIX)/include" "$(DESTDIR)$(LIBDIR)/pkgconfig" "$(DESTDIR)$(LIBDIR)/cmake/livevec"
 	@install -m 644 include/livevec.h include/livevec.hpp include/livevec_mpi.h include/livevec_mpi_refusals.h "$(DESTDIR)$(PREFIX)/include"
 	@install -m 644 $(LIB)/liblivevec.a "$(DESTDIR)$(LIBDIR)/liblivevec.a"
-	@install -m 644 $(CPP_PARTS) "$(DESTDIR)$(PREFIX)/include"
+	@install -m 644 $(C_PARTS) $(CPP_PARTS) "$(DESTDIR)$(PREFIX)/include"
 	@install -m 755 $(SO)/liblivevec.so "$(DESTDIR)$(LIBDIR)/$(SONAME)"
 	@ln -sf $(SONAME) "$(DESTDIR)$(LIBDIR)/liblivevec.so"
 	@sed 's|@VERSION@|$(VERSION)|; s|@PREFIX@|$(PREFIX)|; s|@LIBDIR@|$(LIBDIR)|; s|^libdir=$(PREFIX)/|libdir=$${prefix}/|' bindings/c/livevec.pc.in > "$(DESTDIR)$(LIBDIR)/pkgconfig/livevec.pc"
@@ -105,7 +107,7 @@ uninstall: whole-paths ## takes away what was installed below PREFIX
 	@rm -f "$(DESTDIR)$(PREFIX)/bin/livevec" "$(DESTDIR)$(PREFIX)/include/livevec.h" "$(DESTDIR)$(PREFIX)/include/livevec.hpp" "$(DESTDIR)$(PREFIX)/include/livevec_mpi.h" "$(DESTDIR)$(PREFIX)/include/livevec_mpi_refusals.h" "$(DESTDIR)$(LIBDIR)/liblivevec.a"
 	@rm -f "$(DESTDIR)$(LIBDIR)/$(SONAME)" "$(DESTDIR)$(LIBDIR)/liblivevec.so" "$(DESTDIR)$(LIBDIR)/pkgconfig/livevec.pc"
 	@rm -f "$(DESTDIR)$(LIBDIR)/cmake/livevec/livevecConfig.cmake"
-	@rm -f $(patsubst include/%,"$(DESTDIR)$(PREFIX)/include/%",$(CPP_PARTS))
+	@rm -f $(patsubst include/%,"$(DESTDIR)$(PREFIX)/include/%",$(C_PARTS) $(CPP_PARTS))
 	@rmdir "$(DESTDIR)$(LIBDIR)/cmake/livevec" "$(DESTDIR)$(LIBDIR)/cmake" 2> /dev/null || true
 	@[ -n "$(DESTDIR)" ] || $(LDCONFIG) 2> /dev/null || true
 	@top="$(DESTDIR)$(PREFIX)" lib="$(DESTDIR)$(LIBDIR)"; \

@@ -1,0 +1,134 @@
+/* Of livevec.h, which is what programs include: series. */
+#ifndef LIVEVEC_SERIES_H
+#define LIVEVEC_SERIES_H
+
+/* --- A series: a vector that goes on. Its elements and edits are bounded by memory alone, and elements at its front may expire. ---
+ *
+ * Indices and counts have 64 bits. They count from the first element that was ever pushed: an element keeps its index for as long as it
+ * is kept. Kept are those from `first` up to `size`. Elements lie in shards of 32,760, and the memory of whole shards comes back once
+ * all of their elements have expired. At most 2^62 elements are ever pushed, and 2^64 - 1 edits accepted.
+ *
+ * A series is of all six kinds, and its automaton leads from q by x to (2 * q + x mod 4) mod 8. */
+
+typedef struct livevec_series {
+    bool full_;
+    void *at_;
+    unsigned char busy_;
+} livevec_series;
+
+/* What an edit of a series answers. Where it was refused, all but the first three is 0; `first` and `size` are told with OUT_OF_RANGE
+ * alone, here and below: the indices from `first` up to `size` are kept. */
+typedef struct livevec_series_edited {
+    uint32_t refusal;
+    uint64_t first;
+    uint64_t size;
+    uint64_t edit;  /* the edit's number */
+    uint64_t place; /* of a push the index where the element lies; of an expire or a truncate how many were dropped; else 0 */
+    int64_t value;  /* of a pop the element that was dropped; of a write the one that was overwritten; of a swap the one that stands
+                     * at the first index now; else 0 */
+} livevec_series_edited;
+
+/* What many pushes answer: those before the one that was refused stay. */
+typedef struct livevec_series_pushed {
+    uint32_t refusal; /* of the push that was refused; 0 where none was */
+    uint64_t edit;    /* the number of the last edit, whether there were pushes or not; 0 where there is no series */
+    uint64_t pushed;  /* how many elements were pushed */
+} livevec_series_pushed;
+
+/* An element of a series, 0 where it was refused. */
+typedef struct livevec_series_element {
+    uint32_t refusal;
+    uint64_t first;
+    uint64_t size;
+    int64_t value;
+} livevec_series_element;
+
+/* A count of a series, 0 where it was refused. */
+typedef struct livevec_series_count {
+    uint32_t refusal;
+    uint64_t value;
+} livevec_series_count;
+
+/* What a reduction of a series answers. Where it was refused, all but the first three is 0. */
+typedef struct livevec_series_reduced {
+    uint32_t refusal;
+    uint64_t first;
+    uint64_t size;
+    uint64_t edit; /* after which edit the values are those of the range */
+    livevec_values values;
+} livevec_series_reduced;
+
+/* What a piece of a range answers that was put into a buffer. Where it was refused, all but the first three is 0. */
+typedef struct livevec_series_scanned {
+    uint32_t refusal;
+    uint64_t first;
+    uint64_t size;
+    uint64_t edit;   /* after which edit the values are those of the range */
+    uint64_t length; /* how many values were put: as many as the buffer took, or fewer at the range's end */
+} livevec_series_scanned;
+
+/* Puts a new series without elements into an empty slot. Refusals: NULL, IN_USE, NO_MEMORY. Who calls owes a livevec_free_series. */
+LIVEVEC_MUST_USE uint32_t livevec_series_new(livevec_series *slot);
+
+/* Frees a series and empties its slot. Of a slot that holds something else it frees nothing. Refusals: NULL, NO_HANDLE. */
+uint32_t livevec_free_series(livevec_series *slot);
+
+/* Puts an element at the end. `place` is its index. Refusals: NULL, NO_HANDLE, WORN, FULL, NO_MEMORY. */
+LIVEVEC_MUST_USE livevec_series_edited livevec_series_push(livevec_series *slot, int64_t value);
+
+/* Pushes elements in order, until one is refused. A null pointer with length 0 is an empty array. As limits are out of reach, that is
+ * for want of memory. Refusals: NULL, and those of livevec_series_push. */
+LIVEVEC_MUST_USE livevec_series_pushed livevec_series_push_many(livevec_series *slot, const int64_t *values, size_t length);
+
+/* Drops the last element. `value` is that element. Refusals: NULL, NO_HANDLE, WORN, EMPTY, NO_MEMORY. */
+LIVEVEC_MUST_USE livevec_series_edited livevec_series_pop(livevec_series *slot);
+
+/* Overwrites the element under an index. `value` is the element before. Refusals: NULL, NO_HANDLE, WORN, OUT_OF_RANGE, NO_MEMORY. */
+LIVEVEC_MUST_USE livevec_series_edited livevec_series_write(livevec_series *slot, uint64_t index, int64_t value);
+
+/* Exchanges the elements under two indices, which may be one. `value` is the element at the first index now.
+ * Refusals: NULL, NO_HANDLE, WORN, OUT_OF_RANGE, NO_MEMORY. */
+LIVEVEC_MUST_USE livevec_series_edited livevec_series_swap(livevec_series *slot, uint64_t first, uint64_t second);
+
+/* Drops the elements from an index on, which is `size` then. `place` is how many were dropped.
+ * Refusals: NULL, NO_HANDLE, WORN, OUT_OF_RANGE, NO_MEMORY. */
+LIVEVEC_MUST_USE livevec_series_edited livevec_series_truncate(livevec_series *slot, uint64_t size);
+
+/* Drops the elements before an index, which is `first` then; the others keep their indices. `place` is how many were dropped. Takes no
+ * memory, and gives that of whole shards back. Refusals: NULL, NO_HANDLE, WORN, OUT_OF_RANGE. */
+LIVEVEC_MUST_USE livevec_series_edited livevec_series_expire(livevec_series *slot, uint64_t index);
+
+/* The element under an index. Refusals: NULL, NO_HANDLE, OUT_OF_RANGE. */
+LIVEVEC_MUST_USE livevec_series_element livevec_series_get(livevec_series *slot, uint64_t index);
+
+/* The index of the first element that is kept (where none is, that of the next that is pushed); the index behind the last; how many
+ * edits were accepted. Refusals: NULL, NO_HANDLE. */
+LIVEVEC_MUST_USE livevec_series_count livevec_series_first(livevec_series *slot);
+LIVEVEC_MUST_USE livevec_series_count livevec_series_size(livevec_series *slot);
+LIVEVEC_MUST_USE livevec_series_count livevec_series_edits(livevec_series *slot);
+
+/* The plain values of the elements of a range, by each of the six kinds at once: at most 126 joins beyond those in the two shards at
+ * its ends, and one more for each 33,546,240 elements. Within those two it may go over all elements: where one asks often, ask by
+ * livevec_series_ask. Takes no memory, changes nothing. Refusals: NULL, NO_HANDLE, BAD_RANGE, OUT_OF_RANGE. */
+LIVEVEC_MUST_USE livevec_series_reduced livevec_series_reduce(livevec_series *slot, uint64_t lo, uint64_t hi);
+
+/* The same, and keeps what it computes in those two shards: until an edit touches them, it costs little to ask again. Takes no memory,
+ * changes no answer. Refused as livevec_series_reduce is. */
+LIVEVEC_MUST_USE livevec_series_reduced livevec_series_ask(livevec_series *slot, uint64_t lo, uint64_t hi);
+
+/* The elements of a range from its start on, as many as a buffer of `length` takes; what it has behind them stays. The next piece
+ * starts at `lo` and as many as were put. Where it was refused the buffer is as it was.
+ * Refusals: NULL, NO_HANDLE, BAD_RANGE, OUT_OF_RANGE. */
+LIVEVEC_MUST_USE livevec_series_scanned livevec_series_read(livevec_series *slot, uint64_t lo, uint64_t hi, int64_t *buffer, size_t length);
+
+/* The running values of a range by all six kinds, from the index `at` on, as many as a buffer of `length` takes: buffer[i] has those of
+ * the elements from `lo` up to `at` + i, that one included, or excluded. The first piece has `at` = `lo`, the next one `at` and as many
+ * as were put; an edit between two pieces is told by `edit`. What the buffer has behind the values stays. A piece costs a
+ * livevec_series_ask of what lies before it, and one step for each value. Takes no memory, changes no answer. Where it was refused the buffer is as it was.
+ * Refusals: NULL, NO_HANDLE, BAD_RANGE and OUT_OF_RANGE (of `lo` to `at`, then of `at` to `hi`). */
+LIVEVEC_MUST_USE livevec_series_scanned livevec_series_scan_inclusive(livevec_series *slot, uint64_t lo, uint64_t at, uint64_t hi,
+                                                                      livevec_values *buffer, size_t length);
+LIVEVEC_MUST_USE livevec_series_scanned livevec_series_scan_exclusive(livevec_series *slot, uint64_t lo, uint64_t at, uint64_t hi,
+                                                                      livevec_values *buffer, size_t length);
+
+#endif
