@@ -1,6 +1,6 @@
 -- What a series answers of a range, and one element further in a piece of it.
 use Rattle.std.proofs.Common.{◌≡◌, ℕ, ℤ, pos, ◌+◌, ◌-◌, ◌<◌, ◌≤◌, ◌^◌, ◌++◌, ◌∷◌, [], Bool, true, false, if◌then◌else◌, length, All, refl, sym, ap, subst, ◌∙◌, arith}
-use Rattle.std.specs.Prelude.{None, Result, Ok, Err}
+use Rattle.std.specs.Prelude.{None, Some, Result, Ok, Err, nat_lt}
 use Rattle.std.specs.List.{slice_range}
 use Rattle.std.proofs.lemmas.Bool.{le-leb, lt-ltb}
 use Rattle.std.proofs.lemmas.List.{get_or_default}
@@ -10,19 +10,25 @@ use Rattle.lv_bodies.specs.Automata.{table_of}
 use Rattle.lv_bodies.specs.Body.{Operations, fold_of}
 use Rattle.lv_bodies.specs.Long.{CanFoldLong, CanJoinLong, LongLaws}
 use Rattle.lv_bodies.specs.LongLaws.{fold_of-within_long}
-use Rattle.lv_bodies.specs.Six.{SixSummary, six_operations_by, six_within}
+use Rattle.lv_bodies.specs.Plain.{plain_value_with}
+use Rattle.lv_bodies.specs.Six.{SixSummary, face_of, six_operations_by, six_within}
+use Rattle.lv_bodies.specs.declared.kinds.Kind.{Kind}
+use Rattle.lv_bodies.specs.declared.kinds.Shown.{Shown}
 use Rattle.lv_edits.proofs.Slices.{length-slice_range, slice_range-more}
 use Rattle.lv_reduce.proofs.ScanLaws.{fold_of-slice-more}
-use Rattle.lv_series.specs.Series.{Held, Reduces, element_of, is_kept, range_refused, size_of, slice_of}
+use Rattle.lv_series.specs.Series.{Held, IsLongAnswer, Reduces, element_of, is_kept, range_refused, size_of, slice_of}
 use Rattle.lv_series.specs.declared.answers.LongAnswer.{LongAnswer}
 use Rattle.lv_series.specs.declared.refusals.LongRefusal.{LongRefusal}
 use Rattle.lv_series.proofs.FreeLaws.{free_range}
 use Rattle.livevec_c.specs.Answers.{spread}
 use Rattle.livevec_c.specs.Cells.{values_cell}
-use Rattle.livevec_c.specs.SeriesAnswers.{granted, long_reduced, long_valued}
+use Rattle.livevec_c.specs.Seats.{values_for}
+use Rattle.livevec_c.specs.SeriesAnswers.{granted, long_reduced, long_valued, refused_by, unreduced_by}
 use Rattle.livevec_c.specs.SeriesBehind.{Long, values_of}
-use Rattle.livevec_c.specs.SeriesPieces.{value_up_to}
-use Rattle.livevec_c.proofs.SeriesPlain.{fold-plain}
+use Rattle.livevec_c.specs.SeriesPieces.{cell_up_to}
+use Rattle.livevec_c.specs.SeriesValued.{value_of}
+use Rattle.livevec_c.specs.declared.series_results.SeriesReduced.{SeriesReduced}
+use Rattle.livevec_c.proofs.SeriesPlain.{face-plain, fold-plain}
 
 -- a reduction's answer has the plain values of its range
 pub values_answered : (s : Long) (lo hi : ℕ) (r : Result (LongAnswer SixSummary) LongRefusal) → Reduces (six_operations_by (table_of s.body.automaton)) s lo hi r → long_reduced r ≡ values_of lo hi s
@@ -33,6 +39,22 @@ values_answered s lo hi (Ok answer) reduces =
     ∙ ap (λ v. record { why = granted; edit = s.edits; values = v }) (ap spread reduces.value ∙ fold-plain table xs)
     ∙ ap (λ r. long_valued r s.edits (values_cell table xs)) (sym reduces.granted)
 values_answered s lo hi (Err refusal) reduces = ap (λ r. long_valued r s.edits (values_cell (table_of s.body.automaton) (slice_of s.held lo hi))) (sym reduces)
+
+-- and what is told of it by one kind is the plain value of that kind, with whether there is an element
+pub kind_answered : (kind : Kind) (s : Long) (lo hi : ℕ) (answer : LongAnswer SixSummary) (shown : Shown) (told : SeriesReduced) → IsLongAnswer (six_operations_by (table_of s.body.automaton)) s lo hi answer → shown ≡ face_of kind answer.value
+    → told ≡ record { why = granted; edit = answer.edit; values = values_for (nat_lt lo hi) shown } → told ≡ value_of kind lo hi s
+kind_answered kind s lo hi answer shown told reduces shows tells =
+    let table = table_of s.body.automaton in
+    let xs = slice_of s.held lo hi in
+    let any = nat_lt lo hi in
+    tells
+    ∙ ap (λ n. record { why = granted; edit = n; values = values_for any shown }) reduces.edit
+    ∙ ap (λ v. record { why = granted; edit = s.edits; values = values_for any v }) (shows ∙ ap (face_of kind) reduces.value ∙ face-plain table kind xs)
+    ∙ ap (λ r. long_valued r s.edits (values_for any (plain_value_with table kind xs))) (sym reduces.granted)
+
+pub kind_refused : (kind : Kind) (s : Long) (lo hi : ℕ) (refusal : LongRefusal) (told : SeriesReduced) → range_refused s.held lo hi ≡ Some refusal → told ≡ unreduced_by (refused_by refusal) → told ≡ value_of kind lo hi s
+kind_refused kind s lo hi refusal told why tells =
+    tells ∙ ap (λ r. long_valued r s.edits (values_for (nat_lt lo hi) (plain_value_with (table_of s.body.automaton) kind (slice_of s.held lo hi)))) (sym why)
 
 -- an index of a range that is kept is kept
 module _ (h : Held) (at more k : ℕ) (rest : range_refused h at (at + more) ≡ None) (small : k < more) where
@@ -84,7 +106,7 @@ module _ (h : Held) (at more k : ℕ) (rest : range_refused h at (at + more) ≡
 
 -- the value at its place, the next element included or excluded
 pub value_here : (s : Long) (lo at k : ℕ) (inclusive : Bool) (before after value : SixSummary) → let o = six_operations_by (table_of s.body.automaton) in before ≡ fold_of o (slice_of s.held lo (at + k)) → after ≡ fold_of o (slice_of s.held lo (at + (k + 1)))
-    → value ≡ (if inclusive then after else before) → spread value ≡ value_up_to inclusive lo at s k
+    → value ≡ (if inclusive then after else before) → spread value ≡ cell_up_to values_cell inclusive lo at s k
 value_here s lo at k true before after value so_far next is =
     let table = table_of s.body.automaton in
     let place : at + (k + 1) ≡ at + k + 1 = omega arith in

@@ -6,7 +6,10 @@ use Rattle.std.proofs.lemmas.Int.{ints}
 use Rattle.std.proofs.lemmas.Nat.{mod_below, mul-mod_first, mul-mod_second}
 use Rattle.std.proofs.lemmas.List.Folds.{fold_along}
 use Rattle.lv_bodies.specs.Body.{Operations, fold_of}
-use Rattle.lv_bodies.specs.Plain.{affine_from, over_256, plain_affine, remainder}
+use Rattle.lv_bodies.specs.Plain.{affine_from, over_256, plain_affine, plain_value_with, remainder}
+use Rattle.lv_bodies.specs.declared.kinds.Kind.{Kind}
+use Rattle.lv_bodies.specs.declared.kinds.Kind.TheVariants.{Sum, Least, Greatest, Best, Affine, Automaton}
+use Rattle.lv_bodies.specs.declared.kinds.Shown.TheVariants as shown
 use Rattle.lv_bodies.specs.Pairs.{pair_operations}
 use Rattle.lv_bodies.proofs.PairFolds.{fold_of-pair}
 use Rattle.lv_bodies.specs.Sums.{sum_operations}
@@ -16,10 +19,11 @@ use Rattle.lv_bodies.specs.ExtremeLaws.{fold_of-least, fold_of-greatest}
 use Rattle.lv_bodies.specs.RemainderLaws.{remainder_by}
 use Rattle.lv_bodies.specs.RunTotals.{best_operations}
 use Rattle.lv_bodies.specs.BestLaws.{fold_of-best}
+use Rattle.lv_bodies.specs.AffineLaws.{shown_alike}
 use Rattle.lv_bodies.specs.AffineMaps.{IsAffineMap, affine_operations, join_maps, map_of}
 use Rattle.lv_bodies.specs.Tables.{automaton_operations}
 use Rattle.lv_bodies.specs.TableLaws.{fold_of-automaton}
-use Rattle.lv_bodies.specs.Six.{SixSummary, six_operations_by}
+use Rattle.lv_bodies.specs.Six.{SixSummary, face_of, six_operations_by}
 use Rattle.lv_bodies.specs.declared.affine.AffineMap.{AffineMap}
 use Rattle.livevec_c.specs.Answers.{high_half, low_half, spread}
 use Rattle.livevec_c.specs.CellLaws.{values_alike}
@@ -121,6 +125,19 @@ folds_plain table xs =
       automaton = fold_of-automaton table xs;
     }
 
--- and so is the fold of the six
+-- what is shown of the six folds by a kind is its plain value
+shown_folds : (table : List (List ℕ)) (kind : Kind) (xs : List ℤ) → face_of kind (six_folds table xs) ≡ plain_value_with table kind xs
+shown_folds table Sum xs = ap shown.Sum (fold_of-sum xs)
+shown_folds table Least xs = ap shown.Least (fold_of-least xs)
+shown_folds table Greatest xs = ap shown.Greatest (fold_of-greatest xs)
+shown_folds table Best xs = ap shown.Best (fold_of-best xs)
+shown_folds table Affine xs = let maps = fold_of-maps xs in shown_alike _ _ _ _ maps.0 maps.1
+shown_folds table Automaton xs = ap shown.Automaton (fold_of-automaton table xs)
+
+-- and so it is of the fold of the six
+pub face-plain : (table : List (List ℕ)) (kind : Kind) (xs : List ℤ) → face_of kind (fold_of (six_operations_by table) xs) ≡ plain_value_with table kind xs
+face-plain table kind xs = ap (face_of kind) (fold_of-six table xs) ∙ shown_folds table kind xs
+
+-- the fold of the six, spread out, is the plain values
 pub fold-plain : (table : List (List ℕ)) (xs : List ℤ) → spread (fold_of (six_operations_by table) xs) ≡ values_cell table xs
 fold-plain table xs = ap spread (fold_of-six table xs) ∙ values_alike table xs (spread (six_folds table xs)) (folds_plain table xs)

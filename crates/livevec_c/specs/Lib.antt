@@ -22,5 +22,7 @@ pub mod Written
 pub mod SeriesAnswers
 pub mod SeriesBehind
 pub mod SeriesPieces
+pub mod SeriesPushed
+pub mod SeriesValued
 pub mod Queries
 pub mod Queried

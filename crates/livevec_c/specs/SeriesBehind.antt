@@ -1,12 +1,10 @@
 -- What the calls at a series do and answer, by what lies behind a slot.
-use Rattle.std.specs.Prelude.{◌≡◌, ℕ, ℤ, ◌+◌, ◌<◌, ◌++◌, ◌⊎◌, Option, Some, None, Result, List, [], length, take}
+use Rattle.std.specs.Prelude.{◌≡◌, ℕ, ◌⊎◌, Option, Some, None, Result, List, []}
 use Rattle.lv_bodies.specs.Automata.{table_of}
 use Rattle.lv_bodies.specs.declared.sixes.SixByTable.{SixByTable}
-use Rattle.lv_series.specs.Numbers.{number_of}
-use Rattle.lv_series.specs.Series.{Answers, IsRefusal, SeriesState, element_at, range_refused, refused, size_of, slice_of}
+use Rattle.lv_series.specs.Series.{Answers, SeriesState, element_at, range_refused, size_of, slice_of}
 use Rattle.lv_series.specs.Plain.{plain_series}
 use Rattle.lv_series.specs.declared.edits.LongEdit.{LongEdit}
-use Rattle.lv_series.specs.declared.edits.LongEdit.TheVariants.{Push}
 use Rattle.lv_series.specs.declared.receipts.LongReceipt.{LongReceipt}
 use Rattle.lv_series.specs.declared.refusals.LongRefusal.{LongRefusal}
 use Rattle.livevec_c.specs.declared.objects.Object.{Object}
@@ -14,7 +12,6 @@ use Rattle.livevec_c.specs.declared.objects.Object.TheVariants.{Series}
 use Rattle.livevec_c.specs.declared.series_results.SeriesCounts.{SeriesCounts}
 use Rattle.livevec_c.specs.declared.series_results.SeriesEdited.{SeriesEdited}
 use Rattle.livevec_c.specs.declared.series_results.SeriesElement.{SeriesElement}
-use Rattle.livevec_c.specs.declared.series_results.SeriesPushed.{SeriesPushed}
 use Rattle.livevec_c.specs.declared.series_results.SeriesReduced.{SeriesReduced}
 use Rattle.livevec_c.specs.Cells.{values_cell}
 use Rattle.livevec_c.specs.SeriesAnswers.{long_edited, long_element, long_valued, unedited_by, unelement, unheld, unreduced_by}
@@ -46,29 +43,6 @@ EditsLong edit answer other new = (answer ≡ unedited_by unheld) × (new ≡ ot
 abbrev pub EditsBehind : LongEdit → SeriesEdited → Option Object → Option Object → Type 0
 EditsBehind edit answer None new = (answer ≡ unedited_by unheld) × (new ≡ None)
 EditsBehind edit answer (Some old) new = (object : Object) × (new ≡ Some object) × EditsLong edit answer old object
-
--- a series after some pushes
-abbrev pub with_pushed : Long → List ℤ → Long
-with_pushed s xs = record s { held = record s.held { elements = s.held.elements ++ xs }; edits = s.edits + length xs }
-
--- many pushes: all were made, or those before the first that was refused
-pub record PushesSeries (xs : List ℤ) (answer : SeriesPushed) (old new : Long) : Type 0 where
-  pub after : new ≡ with_pushed old (take answer.pushed xs)
-  pub edit : answer.edit ≡ new.edits
-  pub came : ((answer.refusal ≡ 0) × (answer.pushed ≡ length xs))
-      ⊎ ((answer.pushed < length xs) × (refusal : LongRefusal) × (answer.refusal ≡ number_of refusal) × ((x : ℤ) → IsRefusal (refused new (Push x)) refusal))
-
--- their answer where there is no series
-abbrev pub no_pushes : SeriesPushed
-no_pushes = record { refusal = 101; edit = 0; pushed = 0 }
-
-abbrev pub PushesLong : List ℤ → SeriesPushed → Object → Object → Type 0
-PushesLong xs answer (Series old) new = (state : Long) × (new ≡ Series state) × PushesSeries xs answer old state
-PushesLong xs answer other new = (answer ≡ no_pushes) × (new ≡ other)
-
-abbrev pub PushesBehind : List ℤ → SeriesPushed → Option Object → Option Object → Type 0
-PushesBehind xs answer None new = (answer ≡ no_pushes) × (new ≡ None)
-PushesBehind xs answer (Some old) new = (object : Object) × (new ≡ Some object) × PushesLong xs answer old object
 
 -- the element under an index
 abbrev pub element_in_object : ℕ → Object → SeriesElement

@@ -6,9 +6,7 @@ use Rattle.lv_series.specs.Series.{range_refused, slice_of}
 use Rattle.lv_series.specs.declared.refusals.LongRefusal.{LongRefusal}
 use Rattle.livevec_c.specs.declared.objects.Object.{Object}
 use Rattle.livevec_c.specs.declared.objects.Object.TheVariants.{Series}
-use Rattle.livevec_c.specs.declared.results.PlainValues.{PlainValues}
 use Rattle.livevec_c.specs.declared.series_results.SeriesScanned.{SeriesScanned}
-use Rattle.livevec_c.specs.Cells.{values_cell}
 use Rattle.livevec_c.specs.SeriesAnswers.{long_scanned, unheld, unscanned_by}
 use Rattle.livevec_c.specs.SeriesBehind.{Long}
 
@@ -32,16 +30,16 @@ or_else None other = other
 abbrev pub piece_refused : ℕ → ℕ → ℕ → Long → Option LongRefusal
 piece_refused lo at hi s = or_else (range_refused s.held lo at) (range_refused s.held at hi)
 
--- the plain values of the elements from a range's start on, up to so many behind an index, the one there included, or excluded
-abbrev pub value_up_to : Bool → ℕ → ℕ → Long → ℕ → PlainValues
-value_up_to inclusive lo at s i = values_cell (table_of s.body.automaton) (slice_of s.held lo (if inclusive then at + i + 1 else at + i))
+-- the cell of the elements from a range's start on, up to so many behind an index, the one there included, or excluded
+abbrev pub cell_up_to : {C : Type 0} → (List (List ℕ) → List ℤ → C) → Bool → ℕ → ℕ → Long → ℕ → C
+cell_up_to cell inclusive lo at s i = cell (table_of s.body.automaton) (slice_of s.held lo (if inclusive then at + i + 1 else at + i))
 
--- a scan of a range, from an index on, as many values as a buffer takes
+-- a scan of a range, from an index on, as many cells as a buffer takes
 abbrev pub piece_scanned : ℕ → ℕ → ℕ → ℕ → Long → SeriesScanned
 piece_scanned lo at hi places s = long_scanned (piece_refused lo at hi s) s.edits (min places (hi - at))
 
-abbrev pub piece_put : Bool → ℕ → ℕ → ℕ → List PlainValues → Long → List PlainValues
-piece_put inclusive lo at hi old s = put_there (piece_refused lo at hi s) (min (length old) (hi - at)) (map (value_up_to inclusive lo at s) (range_with_len 0 (min (length old) (hi - at)))) old
+abbrev pub piece_put : {C : Type 0} → (List (List ℕ) → List ℤ → C) → Bool → ℕ → ℕ → ℕ → List C → Long → List C
+piece_put cell inclusive lo at hi old s = put_there (piece_refused lo at hi s) (min (length old) (hi - at)) (map (cell_up_to cell inclusive lo at s) (range_with_len 0 (min (length old) (hi - at)))) old
 
 -- of an object: of a series only
 abbrev pub object_read : ℕ → ℕ → ℕ → Object → SeriesScanned
@@ -56,9 +54,9 @@ abbrev pub object_scanned : ℕ → ℕ → ℕ → ℕ → Object → SeriesSca
 object_scanned lo at hi places (Series state) = piece_scanned lo at hi places state
 object_scanned lo at hi places other = unscanned_by unheld
 
-abbrev pub object_values : Bool → ℕ → ℕ → ℕ → List PlainValues → Object → List PlainValues
-object_values inclusive lo at hi old (Series state) = piece_put inclusive lo at hi old state
-object_values inclusive lo at hi old other = old
+abbrev pub object_column : {C : Type 0} → (List (List ℕ) → List ℤ → C) → Bool → ℕ → ℕ → ℕ → List C → Object → List C
+object_column cell inclusive lo at hi old (Series state) = piece_put cell inclusive lo at hi old state
+object_column cell inclusive lo at hi old other = old
 
 -- of what lies behind a slot
 abbrev pub read_behind : ℕ → ℕ → ℕ → Option Object → SeriesScanned
@@ -73,6 +71,6 @@ abbrev pub scanned_behind : ℕ → ℕ → ℕ → ℕ → Option Object → Se
 scanned_behind lo at hi places None = unscanned_by unheld
 scanned_behind lo at hi places (Some object) = object_scanned lo at hi places object
 
-abbrev pub column_behind : Bool → ℕ → ℕ → ℕ → List PlainValues → Option Object → List PlainValues
-column_behind inclusive lo at hi old None = old
-column_behind inclusive lo at hi old (Some object) = object_values inclusive lo at hi old object
+abbrev pub column_behind : {C : Type 0} → (List (List ℕ) → List ℤ → C) → Bool → ℕ → ℕ → ℕ → List C → Option Object → List C
+column_behind cell inclusive lo at hi old None = old
+column_behind cell inclusive lo at hi old (Some object) = object_column cell inclusive lo at hi old object
