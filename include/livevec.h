@@ -62,6 +62,7 @@ LIVEVEC_MUST_USE const char *livevec_refusal_text(uint32_t refusal);
 #include "livevec_jobs.h"
 #include "livevec_boards.h"
 #include "livevec_series.h"
+#include "livevec_series_kinds.h"
 
 #ifdef __cplusplus
 }

@@ -28,11 +28,11 @@ typedef struct livevec_series_edited {
                      * at the first index now; else 0 */
 } livevec_series_edited;
 
-/* What many pushes answer: those before the one that was refused stay. */
+/* What many pushes answer: all are made, or none. */
 typedef struct livevec_series_pushed {
-    uint32_t refusal; /* of the push that was refused; 0 where none was */
-    uint64_t edit;    /* the number of the last edit, whether there were pushes or not; 0 where there is no series */
-    uint64_t pushed;  /* how many elements were pushed */
+    uint32_t refusal; /* of the first push that would be refused; 0 where none would */
+    uint64_t edit;    /* the number of the last edit, whether there were pushes or not; 0 where they were refused */
+    uint64_t pushed;  /* how many elements were pushed: all or none */
 } livevec_series_pushed;
 
 /* An element of a series, 0 where it was refused. */
@@ -76,8 +76,8 @@ uint32_t livevec_free_series(livevec_series *slot);
 /* Puts an element at the end. `place` is its index. Refusals: NULL, NO_HANDLE, WORN, FULL, NO_MEMORY. */
 LIVEVEC_MUST_USE livevec_series_edited livevec_series_push(livevec_series *slot, int64_t value);
 
-/* Pushes elements in order, until one is refused. A null pointer with length 0 is an empty array. As limits are out of reach, that is
- * for want of memory. Refusals: NULL, and those of livevec_series_push. */
+/* Pushes elements in order, all of them or none. A null pointer with length 0 is an empty array. Refused as the first push that would be
+ * refused, with WORN or FULL, else with NO_MEMORY: nothing has changed then. Refusals: NULL, NO_HANDLE, WORN, FULL, NO_MEMORY. */
 LIVEVEC_MUST_USE livevec_series_pushed livevec_series_push_many(livevec_series *slot, const int64_t *values, size_t length);
 
 /* Drops the last element. `value` is that element. Refusals: NULL, NO_HANDLE, WORN, EMPTY, NO_MEMORY. */

@@ -32,8 +32,7 @@ static livevec_series_edited series_edited;
 static livevec_reduced answered;
 static livevec_noted noted;
 static livevec_note notes[2];
-/* how many elements the series has by calls that told that they pushed them */
-static uint64_t series_pushed;
+static livevec_series_pushed series_pushed;
 
 /* What a vector, a series and a set of queries show, all zeros where there is none, and whether the other slots are full. */
 typedef struct {
@@ -44,17 +43,15 @@ typedef struct {
     bool has_vector, has_board_closed, has_seat, has_series;
 } shown;
 
-/* Of a series what it shows without the pushes that were told. */
 static void see_series(shown *now)
 {
     now->has_series = livevec_series_size(&series).refusal == LIVEVEC_OK;
     if (!now->has_series)
         return;
     now->series_first = livevec_series_first(&series).value;
-    uint64_t size = livevec_series_size(&series).value;
-    now->series_size = size - series_pushed;
-    now->series_edits = livevec_series_edits(&series).value - series_pushed;
-    now->series_sum = livevec_series_reduce(&series, now->series_first, size).values.sum - series_pushed;
+    now->series_size = livevec_series_size(&series).value;
+    now->series_edits = livevec_series_edits(&series).value;
+    now->series_sum = livevec_series_reduce(&series, now->series_first, now->series_size).values.sum;
 }
 
 static void see_queries(shown *now)
@@ -196,13 +193,8 @@ static uint32_t series_exchange(void) { return series_made(livevec_series_swap(&
 static uint32_t series_cut(void) { return series_made(livevec_series_truncate(&series, 3)); }
 static uint32_t series_expire(void) { return series_made(livevec_series_expire(&series, SHARD)); }
 
-/* Pushes what is not pushed yet of a hundred: those before the one that is refused stay. */
-static uint32_t series_push_many(void)
-{
-    livevec_series_pushed told = livevec_series_push_many(&series, ones, 100 - series_pushed);
-    series_pushed += told.pushed;
-    return told.refusal;
-}
+static uint32_t series_push_many(void) { return (series_pushed = livevec_series_push_many(&series, ones, 100)).refusal; }
+static uint32_t series_push_shard(void) { return (series_pushed = livevec_series_push_many(&series, ones, SHARD + 1)).refusal; }
 
 static uint32_t new_by_table(void)
 {
@@ -225,7 +217,17 @@ static bool is_series_first(void) { return series_edited.edit == 1 && series_edi
 static bool is_series_ninth(void) { return series_edited.edit == 9 && livevec_series_edits(&series).value == 9; }
 static bool is_series_exchanged(void) { return series_edited.edit == SHARD + 2 && livevec_series_edits(&series).value == SHARD + 2; }
 static bool is_series_expired(void) { return is_series_exchanged() && livevec_series_first(&series).value == SHARD; }
-static bool is_series_pushed(void) { return series_pushed == 100 && livevec_series_size(&series).value == livevec_series_edits(&series).value; }
+
+/* So many elements 1 were pushed, and the series has so many. */
+static bool has_pushed(uint64_t many, uint64_t all)
+{
+    shown now = seen();
+    return series_pushed.pushed == many && series_pushed.edit == all && now.series_size == all && now.series_edits == all && now.series_sum == all;
+}
+
+static bool is_series_pushed(void) { return has_pushed(100, 100); }
+static bool is_series_pushed_behind(void) { return has_pushed(100, SHARD + 101); }
+static bool is_series_sharded(void) { return has_pushed(SHARD + 1, SHARD + 9); }
 static bool is_queries(void) { return livevec_watch(&queries, names[0], 3, LIVEVEC_SUM, 0, 8) == LIVEVEC_OK; }
 static bool is_watched(void) { return livevec_answer(&queries, &vector, names[1], 3).refusal == LIVEVEC_NO_HANDLE; }
 static bool is_unwatched(void) { return seen().query_refusal[0] == LIVEVEC_NO_SUCH_NAME; }
@@ -259,7 +261,8 @@ static const struct {
     {"livevec_series_new", nothing, new_series, is_series},
     {"livevec_series_push, the first", with_series, series_push, is_series_first},
     {"livevec_series_push_many from nothing", with_series, series_push_many, is_series_pushed},
-    {"livevec_series_push_many", sharded, series_push_many, is_series_pushed},
+    {"livevec_series_push_many", sharded, series_push_many, is_series_pushed_behind},
+    {"livevec_series_push_many over a shard's end", eight_in_series, series_push_shard, is_series_sharded},
     {"livevec_series_pop", eight_in_series, series_pop, is_series_ninth},
     {"livevec_series_write", eight_in_series, series_write, is_series_ninth},
     {"livevec_series_swap", eight_in_series, series_swap, is_series_ninth},

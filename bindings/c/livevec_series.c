@@ -13,15 +13,6 @@ ANSWERED(livevec_series_element, series_get, (livevec_series *slot, uint64_t ind
 ANSWERED(livevec_series_reduced, series_reduce, (livevec_series *slot, uint64_t lo, uint64_t hi), slot, (slot, lo, hi))
 ANSWERED(livevec_series_reduced, series_ask, (livevec_series *slot, uint64_t lo, uint64_t hi), slot, (slot, lo, hi))
 
-/* All counts at once. */
-typedef struct series_counts {
-    uint32_t refusal;
-    uint64_t first;
-    uint64_t size;
-    uint64_t edits;
-} series_counts;
-series_counts livevec_proved_series_counts(livevec_series *slot);
-
 /* `livevec_series_NAME` tells one of them. */
 #define COUNTED(name)                                                \
     livevec_series_count livevec_series_##name(livevec_series *slot) \
@@ -44,10 +35,8 @@ COUNTED(size)
 COUNTED(edits)
 
 /* Of arrays a proved call is never given a null pointer: where there are no places, they begin anywhere. */
-livevec_series_pushed livevec_proved_series_push_each(livevec_series *slot, const int64_t *values, size_t length);
+livevec_series_pushed livevec_proved_series_push_all(livevec_series *slot, const int64_t *values, size_t length);
 livevec_series_scanned livevec_proved_series_read(livevec_series *slot, uint64_t lo, uint64_t hi, int64_t *buffer, size_t length);
-livevec_series_scanned livevec_proved_series_scan(livevec_series *slot, uint64_t lo, uint64_t at, uint64_t hi, bool inclusive,
-                                                  livevec_values *buffer, size_t length);
 
 livevec_series_pushed livevec_series_push_many(livevec_series *slot, const int64_t *values, size_t length)
 {
@@ -58,7 +47,7 @@ livevec_series_pushed livevec_series_push_many(livevec_series *slot, const int64
     answer.refusal = LIVEVEC_BUSY;
     if (!enter(&slot->busy_))
         return answer;
-    answer = livevec_proved_series_push_each(slot, values ? values : &nowhere, length);
+    answer = livevec_proved_series_push_all(slot, values ? values : &nowhere, length);
     leave(&slot->busy_);
     return answer;
 }
@@ -75,31 +64,4 @@ livevec_series_scanned livevec_series_read(livevec_series *slot, uint64_t lo, ui
     answer = livevec_proved_series_read(slot, lo, hi, buffer ? buffer : &nowhere, length);
     leave(&slot->busy_);
     return answer;
-}
-
-static livevec_series_scanned scan_series(livevec_series *slot, uint64_t lo, uint64_t at, uint64_t hi, bool inclusive, livevec_values *buffer,
-                                          size_t length)
-{
-    livevec_series_scanned answer = {.refusal = LIVEVEC_NULL};
-    livevec_values nowhere;
-    if (!slot || (!buffer && length))
-        return answer;
-    answer.refusal = LIVEVEC_BUSY;
-    if (!enter(&slot->busy_))
-        return answer;
-    answer = livevec_proved_series_scan(slot, lo, at, hi, inclusive, buffer ? buffer : &nowhere, length);
-    leave(&slot->busy_);
-    return answer;
-}
-
-livevec_series_scanned livevec_series_scan_inclusive(livevec_series *slot, uint64_t lo, uint64_t at, uint64_t hi, livevec_values *buffer,
-                                                     size_t length)
-{
-    return scan_series(slot, lo, at, hi, true, buffer, length);
-}
-
-livevec_series_scanned livevec_series_scan_exclusive(livevec_series *slot, uint64_t lo, uint64_t at, uint64_t hi, livevec_values *buffer,
-                                                     size_t length)
-{
-    return scan_series(slot, lo, at, hi, false, buffer, length);
 }

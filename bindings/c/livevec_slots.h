@@ -68,4 +68,13 @@ static inline void leave_both(unsigned char *first, unsigned char *second)
 /* `livevec_NAME` frees what a slot of its type holds, and nothing else. */
 #define FREED(name, type) TOLD(name, (type *slot), slot, (slot))
 
+/* All counts of a series at once. */
+typedef struct series_counts {
+    uint32_t refusal;
+    uint64_t first;
+    uint64_t size;
+    uint64_t edits;
+} series_counts;
+series_counts livevec_proved_series_counts(livevec_series *slot);
+
 #endif

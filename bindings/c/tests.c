@@ -292,6 +292,7 @@ int main(void)
     summaries();
     boards();
     series();
+    series_kinds();
     printf("%d checks, %d failed\n", checks, failures);
     return failures ? EXIT_FAILURE : EXIT_SUCCESS;
 }

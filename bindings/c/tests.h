@@ -43,6 +43,9 @@ void places(void);
 void series(void);
 void misuse_of_series(void);
 
+/* The tests of questions at a series by one kind, and of its columns. */
+void series_kinds(void);
+
 /* The tests of standing queries. */
 void queries(void);
 

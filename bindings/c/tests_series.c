@@ -5,7 +5,7 @@
 #include <stdlib.h>
 #include <string.h>
 
-enum { ROOM = 300000, SHARD = 32760, PIECE = 500 };
+enum { ROOM = 300000, SHARD = 32760, PIECE = 500, MANY = 3 * SHARD };
 
 static uint64_t state = 29;
 
@@ -262,18 +262,32 @@ static void want_of_memory(void)
     }
     IS(refused > 0, 1);
     alike(livevec_series_reduce(&s, SHARD, size).values, plain(SHARD, size));
-    for (int nth = 1; nth < 6; nth++) {
+    int starved = 0;
+    for (int nth = 1; nth < 40; nth++) {
+        for (size_t i = 0; i < MANY; i++)
+            all[size + i] = element();
         until_failure = nth;
-        livevec_series_pushed p = livevec_series_push_many(&s, all + size - 900, 900);
+        livevec_series_pushed p = livevec_series_push_many(&s, all + size, MANY);
         until_failure = 0;
-        IS(p.refusal == 0 || p.refusal == LIVEVEC_NO_MEMORY, 1);
-        IS(p.pushed == 900, p.refusal == 0);
-        memmove(all + size, all + size - 900, p.pushed * sizeof *all);
-        size += p.pushed;
-        edits += p.pushed;
-        IS(p.edit, edits);
+        if (p.refusal) {
+            starved++;
+            IS(p.refusal, LIVEVEC_NO_MEMORY);
+            IS(p.pushed, 0);
+            IS(p.edit, 0);
+        } else {
+            size += MANY;
+            edits += MANY;
+            IS(p.pushed, MANY);
+            IS(p.edit, edits);
+            break;
+        }
         look(&s);
+        alike(livevec_series_reduce(&s, first, size).values, plain(first, size));
     }
+    IS(starved > 1, 1);
+    alike(livevec_series_reduce(&s, first, size).values, plain(first, size));
+    push_some(&s, 10);
+    look(&s);
     IS(livevec_free_series(&s), 0);
     until_failure = 1;
     IS(livevec_series_new(&s), LIVEVEC_NO_MEMORY);

@@ -1,0 +1,76 @@
+/* Series by one kind, and their scans. */
+#include "livevec_slots.h"
+
+ANSWERED(livevec_series_reduced, series_value, (livevec_series *slot, uint32_t kind, uint64_t lo, uint64_t hi), slot, (slot, kind, lo, hi))
+
+/* What the first of some ranges that is refused is refused with, at a series whose slot is entered. An empty range is refused by its kind
+ * or its slot alone. */
+static livevec_series_many judge_series_ranges(livevec_series *slot, uint32_t kind, const livevec_series_range *ranges, size_t length)
+{
+    series_counts kept = livevec_proved_series_counts(slot);
+    livevec_series_reduced none = livevec_proved_series_value(slot, kind, kept.first, kept.first);
+    livevec_series_many answer = {.refusal = none.refusal, .edit = none.edit};
+    if (answer.refusal)
+        return answer;
+    for (size_t i = 0; i < length; i++) {
+        if (ranges[i].hi < ranges[i].lo)
+            return (livevec_series_many){.refusal = LIVEVEC_BAD_RANGE, .place = i};
+        if (ranges[i].lo < kept.first || ranges[i].hi > kept.size)
+            return (livevec_series_many){.refusal = LIVEVEC_OUT_OF_RANGE, .first = kept.first, .size = kept.size, .place = i};
+    }
+    answer.done = length;
+    return answer;
+}
+
+livevec_series_many livevec_series_value_many(livevec_series *slot, uint32_t kind, const livevec_series_range *ranges, livevec_values *answers,
+                                              size_t length)
+{
+    livevec_series_many answer = {.refusal = LIVEVEC_NULL};
+    if (!slot || ((!ranges || !answers) && length))
+        return answer;
+    answer.refusal = LIVEVEC_BUSY;
+    if (!enter(&slot->busy_))
+        return answer;
+    answer = judge_series_ranges(slot, kind, ranges, length);
+    for (size_t i = 0; i < answer.done; i++)
+        answers[i] = livevec_proved_series_value(slot, kind, ranges[i].lo, ranges[i].hi).values;
+    leave(&slot->busy_);
+    return answer;
+}
+
+/* Scans: a proved call writes a piece of the column. It is never given a null pointer: where there are no places, they begin anywhere. */
+#define SCANNED_SERIES(name, ending, cell)                                                                                                  \
+    livevec_series_scanned livevec_proved_series_scan_##name(livevec_series *slot, uint64_t lo, uint64_t at, uint64_t hi, bool inclusive,   \
+                                                             cell *column, size_t length);                                                  \
+    static livevec_series_scanned scan_series_##name(livevec_series *slot, uint64_t lo, uint64_t at, uint64_t hi, bool inclusive,           \
+                                                     cell *column, size_t length)                                                           \
+    {                                                                                                                                       \
+        livevec_series_scanned answer = {.refusal = LIVEVEC_NULL};                                                                          \
+        cell nowhere;                                                                                                                       \
+        if (!slot || (!column && length))                                                                                                   \
+            return answer;                                                                                                                  \
+        answer.refusal = LIVEVEC_BUSY;                                                                                                      \
+        if (!enter(&slot->busy_))                                                                                                           \
+            return answer;                                                                                                                  \
+        answer = livevec_proved_series_scan_##name(slot, lo, at, hi, inclusive, column ? column : &nowhere, length);                        \
+        leave(&slot->busy_);                                                                                                                \
+        return answer;                                                                                                                      \
+    }                                                                                                                                       \
+    livevec_series_scanned livevec_series_scan_inclusive##ending(livevec_series *slot, uint64_t lo, uint64_t at, uint64_t hi, cell *column, \
+                                                                 size_t length)                                                             \
+    {                                                                                                                                       \
+        return scan_series_##name(slot, lo, at, hi, true, column, length);                                                                  \
+    }                                                                                                                                       \
+    livevec_series_scanned livevec_series_scan_exclusive##ending(livevec_series *slot, uint64_t lo, uint64_t at, uint64_t hi, cell *column, \
+                                                                 size_t length)                                                             \
+    {                                                                                                                                       \
+        return scan_series_##name(slot, lo, at, hi, false, column, length);                                                                 \
+    }
+
+SCANNED_SERIES(sum, _sum, uint64_t)
+SCANNED_SERIES(least, _least, int64_t)
+SCANNED_SERIES(greatest, _greatest, int64_t)
+SCANNED_SERIES(best, _best, livevec_total)
+SCANNED_SERIES(affine, _affine, livevec_map)
+SCANNED_SERIES(automaton, _automaton, livevec_states)
+SCANNED_SERIES(values, , livevec_values)
