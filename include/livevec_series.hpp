@@ -3,6 +3,7 @@
 #define LIVEVEC_SERIES_HPP
 
 #include "livevec_base.hpp"
+#include "livevec_series_columns.hpp"
 
 #include <cstddef>
 #include <cstdint>
@@ -12,18 +13,7 @@
 
 namespace livevec {
 
-/* An index, or an end of a range, that isn't kept: those from `first` up to `size` are. */
-class not_kept : public refused {
-  public:
-    explicit not_kept(std::uint64_t first, std::uint64_t size) : refused(LIVEVEC_OUT_OF_RANGE), first_(first), size_(size) {}
-    std::uint64_t first() const noexcept { return first_; }
-    std::uint64_t size() const noexcept { return size_; }
-
-  private:
-    std::uint64_t first_, size_;
-};
-
-/* Why the push of many elements ended. So many were pushed before, and they stay. */
+/* Why the push of many elements was refused. None of them was pushed, so that `pushed` is 0. */
 class stopped_long : public refused {
   public:
     explicit stopped_long(const livevec_series_pushed &pushed) : refused(pushed.refusal), pushed_(pushed.pushed) {}
@@ -75,7 +65,7 @@ class series : public inner::owned<livevec_series, livevec_free_series> {
     std::uint64_t truncate(std::uint64_t size) { return inner::kept(livevec_series_truncate(slot(), size)).place; }
     std::uint64_t expire(std::uint64_t index) { return inner::kept(livevec_series_expire(slot(), index)).place; }
 
-    /* Pushes in order until one is refused: then `stopped_long` is thrown, and those before it stay. */
+    /* Pushes in order, all of them or none: where one would be refused, `stopped_long` is thrown. */
     void push_many(array_view values)
     {
         livevec_series_pushed pushed = livevec_series_push_many(slot(), values.data(), values.size());
@@ -110,6 +100,25 @@ class series : public inner::owned<livevec_series, livevec_free_series> {
     [[nodiscard]] livevec_series_reduced reduce(std::uint64_t lo, std::uint64_t hi) const { return inner::kept(livevec_series_reduce(slot(), lo, hi)); }
     livevec_series_reduced ask(std::uint64_t lo, std::uint64_t hi) const { return inner::kept(livevec_series_ask(slot(), lo, hi)); }
 
+    /* The value of a range by one kind. Of the values only those of that kind are told, and `any`. A series computes all six for it, and keeps
+     * them as `ask` does. */
+    [[nodiscard]] livevec_series_reduced value(livevec_kind kind, std::uint64_t lo, std::uint64_t hi) const
+    {
+        return inner::kept(livevec_series_value(slot(), kind, lo, hi));
+    }
+
+    /* The same of many ranges, all after one edit. Where a range is refused, `not_kept_at` is thrown, or `refused_at` where it starts past its end. */
+    [[nodiscard]] std::vector<livevec_values> value_many(livevec_kind kind, series_range_view ranges) const
+    {
+        std::vector<livevec_values> values(ranges.size());
+        inner::each_of_series(livevec_series_value_many(slot(), kind, ranges.data(), values.data(), ranges.size()));
+        return values;
+    }
+    [[nodiscard]] std::vector<livevec_values> value_many(livevec_kind kind, std::initializer_list<livevec_series_range> ranges) const
+    {
+        return value_many(kind, series_range_view(ranges.begin(), ranges.size()));
+    }
+
     /* One value of a range, by `ask`. The sum is modulo 2^64; a best run's total is exact. Of an empty range there is none but a sum. */
     [[nodiscard]] std::uint64_t sum(std::uint64_t lo, std::uint64_t hi) const { return ask(lo, hi).values.sum; }
     [[nodiscard]] std::optional<std::int64_t> least(std::uint64_t lo, std::uint64_t hi) const
@@ -130,8 +139,14 @@ class series : public inner::owned<livevec_series, livevec_free_series> {
 
     /* The values of each beginning of a range, the element itself included, or excluded. With a buffer: those that end at `at` and behind
      * it, as many as it takes, and how many they are. So a scan goes in pieces: `at` starts at `lo`, and goes on by what was told. */
-    [[nodiscard]] std::vector<livevec_values> scan_inclusive(std::uint64_t lo, std::uint64_t hi) const { return scanned(livevec_series_scan_inclusive, lo, hi); }
-    [[nodiscard]] std::vector<livevec_values> scan_exclusive(std::uint64_t lo, std::uint64_t hi) const { return scanned(livevec_series_scan_exclusive, lo, hi); }
+    [[nodiscard]] std::vector<livevec_values> scan_inclusive(std::uint64_t lo, std::uint64_t hi) const
+    {
+        return scanned<livevec_values>(livevec_series_scan_inclusive, lo, hi);
+    }
+    [[nodiscard]] std::vector<livevec_values> scan_exclusive(std::uint64_t lo, std::uint64_t hi) const
+    {
+        return scanned<livevec_values>(livevec_series_scan_exclusive, lo, hi);
+    }
     std::size_t scan_inclusive_into(std::uint64_t lo, std::uint64_t at, std::uint64_t hi, view<livevec_values> buffer) const
     {
         return inner::kept(livevec_series_scan_inclusive(slot(), lo, at, hi, buffer.data(), buffer.size())).length;
@@ -141,13 +156,32 @@ class series : public inner::owned<livevec_series, livevec_free_series> {
         return inner::kept(livevec_series_scan_exclusive(slot(), lo, at, hi, buffer.data(), buffer.size())).length;
     }
 
+    /* The same by one kind, as scan_inclusive<LIVEVEC_SUM>(0, n): in a column of its own; a piece of it into a column of the caller's. Of no
+     * elements the least, the greatest and the best are 0. A series folds all six kinds for it. */
+    template <livevec_kind Kind> [[nodiscard]] std::vector<cell<Kind>> scan_inclusive(std::uint64_t lo, std::uint64_t hi) const
+    {
+        return scanned<cell<Kind>>(inner::series_by<Kind>::inclusive, lo, hi);
+    }
+    template <livevec_kind Kind> [[nodiscard]] std::vector<cell<Kind>> scan_exclusive(std::uint64_t lo, std::uint64_t hi) const
+    {
+        return scanned<cell<Kind>>(inner::series_by<Kind>::exclusive, lo, hi);
+    }
+    template <livevec_kind Kind> std::size_t scan_inclusive_into(std::uint64_t lo, std::uint64_t at, std::uint64_t hi, view<cell<Kind>> column) const
+    {
+        return inner::kept(inner::series_by<Kind>::inclusive(slot(), lo, at, hi, column.data(), column.size())).length;
+    }
+    template <livevec_kind Kind> std::size_t scan_exclusive_into(std::uint64_t lo, std::uint64_t at, std::uint64_t hi, view<cell<Kind>> column) const
+    {
+        return inner::kept(inner::series_by<Kind>::exclusive(slot(), lo, at, hi, column.data(), column.size())).length;
+    }
+
   private:
-    template <class Call> std::vector<livevec_values> scanned(Call call, std::uint64_t lo, std::uint64_t hi) const
+    template <class Cell, class Call> std::vector<Cell> scanned(Call call, std::uint64_t lo, std::uint64_t hi) const
     {
         inner::kept(livevec_series_read(slot(), lo, hi, nullptr, 0));
-        std::vector<livevec_values> values(hi - lo);
-        inner::kept(call(slot(), lo, lo, hi, values.data(), values.size()));
-        return values;
+        std::vector<Cell> cells(hi - lo);
+        inner::kept(call(slot(), lo, lo, hi, cells.data(), cells.size()));
+        return cells;
     }
 };
 

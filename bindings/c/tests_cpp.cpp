@@ -208,6 +208,7 @@ int main()
     takes_many_writes();
     queries();
     series();
+    series_kinds();
     boards();
 
     livevec::vector prices{300, 120, 500, 80};

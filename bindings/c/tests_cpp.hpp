@@ -44,6 +44,7 @@ template <class Call> void until(Call is_so)
 /* The tests that stand in files of their own. */
 void boards();
 void series();
+void series_kinds();
 void queries();
 void nothing_is_lost();
 
