@@ -42,6 +42,7 @@ mod refusal;
 mod scans;
 pub mod series;
 mod series_edits;
+mod series_kinds;
 mod series_scans;
 mod shared;
 mod shared_lock;

@@ -4,6 +4,7 @@ use std::fmt;
 use std::ops::{Bound, RangeBounds};
 
 pub use crate::series_edits::{Dropped, Popped, Pushed, Stopped, Swapped, Written};
+pub use crate::series_kinds::Filled;
 pub use crate::series_scans::Running;
 use crate::{Refusal, Values, raw};
 
@@ -61,12 +62,12 @@ impl Series {
         self.raw.push(value).map(|did| Pushed { edit: did.edit, index: did.place })
     }
 
-    /// Pushes each element in order, by one call. Where one is refused, those before it stay. Tells the number of the last edit.
+    /// Pushes each element in order, by one call: all are pushed, or none. Tells the number of the last edit.
+    ///
+    /// Refused as the first push that is refused would be, with `Worn` or `Full`, then with `NoMemory`. Nothing has changed then, so that
+    /// [`Stopped::pushed`] is 0.
     pub fn extend_from_slice(&mut self, values: &[i64]) -> Result<u64, Stopped> {
-        match self.raw.push_many(values) {
-            (edit, _, None) => Ok(edit),
-            (_, pushed, Some(refusal)) => Err(Stopped { pushed, refusal }),
-        }
+        self.raw.push_many(values).map_err(|(pushed, refusal)| Stopped { pushed, refusal })
     }
 
     /// Drops the last element. Refused with `Worn`, `Empty`, `NoMemory`, in this order.
@@ -219,7 +220,7 @@ impl Series {
     }
 
     /// What a range starts and ends with. An index that is past all that there can be is refused as any that isn't kept.
-    fn ends(&self, range: &impl RangeBounds<u64>) -> (u64, u64) {
+    pub(crate) fn ends(&self, range: &impl RangeBounds<u64>) -> (u64, u64) {
         let lo = match range.start_bound() {
             Bound::Included(lo) => *lo,
             Bound::Excluded(before) => before.saturating_add(1),

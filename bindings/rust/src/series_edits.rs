@@ -49,18 +49,18 @@ pub struct Dropped {
     pub dropped: u64,
 }
 
-/// Why many pushes ended. Those before it stay.
+/// A list of pushes of which one was refused: none of them was made.
 #[derive(Clone, Copy, Debug, PartialEq, Eq, Hash)]
 pub struct Stopped {
-    /// How many elements were pushed.
+    /// How many elements were pushed: none.
     pub pushed: usize,
-    /// Why the next was not.
+    /// Why the first one that was refused was.
     pub refusal: Refusal,
 }
 
 impl fmt::Display for Stopped {
     fn fmt(&self, f: &mut fmt::Formatter<'_>) -> fmt::Result {
-        write!(f, "after {} elements: {}", self.pushed, self.refusal)
+        write!(f, "{} pushed: {}", self.pushed, self.refusal)
     }
 }
 

@@ -1,9 +1,12 @@
 //! The C calls of a series, and a handle over them. What C asks of who calls is kept as `raw.rs` says.
 
+mod kinds;
+
 use std::cell::UnsafeCell;
 
 use super::{SixValues, Slot, boxed};
 use crate::Refusal;
+pub(crate) use kinds::Ends;
 
 #[repr(C)]
 pub(crate) struct Edited {
@@ -137,11 +140,11 @@ impl Series {
         edited(unsafe { livevec_series_expire(self.slot.get(), index) })
     }
 
-    /// The last edit and how many were pushed, with the refusal that stopped it, if there was one.
-    pub(crate) fn push_many(&mut self, values: &[i64]) -> (u64, usize, Option<Refusal>) {
+    /// The number of the last edit; or how many were pushed, which is none, and why they were refused.
+    pub(crate) fn push_many(&mut self, values: &[i64]) -> Result<u64, (usize, Refusal)> {
         // SAFETY: see above; so many elements are read from a slice that has them.
         let did = unsafe { livevec_series_push_many(self.slot.get(), values.as_ptr(), values.len()) };
-        (did.edit, did.pushed as usize, answered(did.refusal, 0, 0, ()).err())
+        answered(did.refusal, 0, 0, did.edit).map_err(|refusal| (did.pushed as usize, refusal))
     }
 
     pub(crate) fn get(&self, index: u64) -> Result<i64, Refusal> {

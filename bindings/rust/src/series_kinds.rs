@@ -1,0 +1,120 @@
+//! Questions at a [`Series`] by one kind, and its running values by one kind, written into a slice of the caller's.
+
+use std::ops::RangeBounds;
+
+use crate::series::Series;
+use crate::{Column, Kind, Refusal, RefusedAt, Value, Values, raw};
+
+/// What a piece of a scan into a column came to: the cells that were written, at the column's front, which are those after this edit.
+#[derive(Debug, PartialEq, Eq)]
+pub struct Filled<'a, Cell> {
+    /// The number of the last edit.
+    pub edit: u64,
+    /// A cell for each element of the piece: as many as the column took, or fewer at the range's end.
+    pub cells: &'a mut [Cell],
+}
+
+impl Series {
+    /// The value of a range by one kind. A series computes all six for it, and keeps them as [`ask`](Series::ask) does. Refused with
+    /// `BadRange`, `NotKept`, in this order.
+    ///
+    /// ```
+    /// use livevec::{Kind, Series, Value};
+    ///
+    /// # fn main() -> Result<(), livevec::Refusal> {
+    /// let mut readings = Series::new()?;
+    /// readings.extend_from_slice(&[20, 22, 19, 25])?;
+    /// assert_eq!(readings.value(Kind::Least, 1..)?, Value::Least(Some(19)));
+    /// assert_eq!(readings.value(Kind::Sum, 2..2)?, Value::Sum(0));
+    /// # Ok(())
+    /// # }
+    /// ```
+    pub fn value(&self, kind: Kind, range: impl RangeBounds<u64>) -> Result<Value, Refusal> {
+        let (lo, hi) = self.ends(&range);
+        Ok(Value::of(kind, Values::of_raw(self.raw.value(kind as u32, lo, hi)?.values)))
+    }
+
+    /// The value of each range by one kind, by one call, all after the last edit. All ranges are looked at first: where one is refused, with
+    /// `BadRange` or `NotKept`, [`RefusedAt::place`] tells the first that is. Refused with `NoMemory` too.
+    ///
+    /// ```
+    /// use livevec::{Kind, Refusal, Series, Value};
+    ///
+    /// # fn main() -> Result<(), Refusal> {
+    /// let mut readings = Series::new()?;
+    /// readings.extend_from_slice(&[20, 22, 19, 25])?;
+    /// readings.expire(1)?;
+    /// let windows = readings.value_many(Kind::Sum, (1..3).map(|start| start..start + 2))?;
+    /// assert_eq!(windows, [Value::Sum(41), Value::Sum(44)]);
+    /// let refused = readings.value_many(Kind::Sum, [1..4, 0..2]).unwrap_err();
+    /// assert_eq!((refused.place, refused.refusal), (1, Refusal::NotKept { first: 1, size: 4 }));
+    /// # Ok(())
+    /// # }
+    /// ```
+    pub fn value_many<R: RangeBounds<u64>>(&self, kind: Kind, ranges: impl IntoIterator<Item = R>) -> Result<Vec<Value>, RefusedAt> {
+        let ranges = ranges.into_iter();
+        let mut asked = raw::roomy(ranges.size_hint().0).map_err(RefusedAt::of_all)?;
+        for range in ranges {
+            let (lo, hi) = self.ends(&range);
+            asked.try_reserve(1).map_err(|_| RefusedAt::of_all(Refusal::NoMemory))?;
+            asked.push(raw::series::Ends { lo, hi });
+        }
+        let told = self.raw.value_many(kind as u32, &asked)?;
+        let mut values = raw::roomy(told.len()).map_err(RefusedAt::of_all)?;
+        values.extend(told.into_iter().map(|value| Value::of(kind, Values::of_raw(value))));
+        Ok(values)
+    }
+
+    /// Writes running values of a range by one kind into the front of a column, from the index `at` on, as many as it takes: each of the
+    /// elements from the range's start up to an element, that one included. What the column has behind stays. So a scan goes in pieces: `at`
+    /// starts where the range does, and goes on by as many as were written. A piece costs an [`ask`](Series::ask) of what lies before it, and
+    /// a step for each value; a series folds all six kinds for it. Refused with `BadRange`, `NotKept`, of what lies before `at`, then of what
+    /// lies behind; the column is then as it was.
+    ///
+    /// ```
+    /// use livevec::{Refusal, Series, by};
+    ///
+    /// # fn main() -> Result<(), Refusal> {
+    /// let mut readings = Series::new()?;
+    /// readings.extend_from_slice(&[3, -5, 4])?;
+    /// let mut sums = [0; 2];
+    /// let filled = readings.scan_inclusive_into::<by::Sum>(.., 0, &mut sums)?;
+    /// assert_eq!((filled.edit, &*filled.cells), (3, &[3, -2][..]));
+    /// assert_eq!(*readings.scan_inclusive_into::<by::Sum>(.., 2, &mut sums)?.cells, [2]);
+    /// let mut least = [7; 3];
+    /// readings.scan_exclusive_into::<by::Least>(.., 0, &mut least)?;
+    /// assert_eq!(least, [0, 3, -5]);
+    /// # Ok(())
+    /// # }
+    /// ```
+    pub fn scan_inclusive_into<'a, K: Column>(
+        &self,
+        range: impl RangeBounds<u64>,
+        at: u64,
+        column: &'a mut [K::Cell],
+    ) -> Result<Filled<'a, K::Cell>, Refusal> {
+        self.fill_column::<K>(true, range, at, column)
+    }
+
+    /// The same, each without the element itself. Refused as [`scan_inclusive_into`](Series::scan_inclusive_into) is.
+    pub fn scan_exclusive_into<'a, K: Column>(
+        &self,
+        range: impl RangeBounds<u64>,
+        at: u64,
+        column: &'a mut [K::Cell],
+    ) -> Result<Filled<'a, K::Cell>, Refusal> {
+        self.fill_column::<K>(false, range, at, column)
+    }
+
+    fn fill_column<'a, K: Column>(
+        &self,
+        inclusive: bool,
+        range: impl RangeBounds<u64>,
+        at: u64,
+        column: &'a mut [K::Cell],
+    ) -> Result<Filled<'a, K::Cell>, Refusal> {
+        let (lo, hi) = self.ends(&range);
+        let did = self.raw.scan_into::<K>(inclusive, lo, at, hi, column)?;
+        Ok(Filled { edit: did.edit, cells: &mut column[..did.length as usize] })
+    }
+}
