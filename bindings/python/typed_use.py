@@ -6,7 +6,7 @@ from __future__ import annotations
 from array import array
 from typing import Optional, Union
 
-from livevec import Answered, Board, Delivered, Finished, Job, Kind, LongReduced, NotKept, Note, Outrun, Queries, Receipt, Reduced
+from livevec import Answered, Board, Column, Delivered, Finished, Job, Kind, LongReduced, NotKept, Note, Outrun, Queries, Receipt, Reduced
 from livevec import Refusal, Scan, Seat, Series, SharedVector, Subscriber, Summary, Values, Vector
 
 
@@ -75,6 +75,23 @@ def series(readings: Series) -> int:
         some[0] = many
     print(answer.values.best, least, piece.sums())
     return len(readings)
+
+
+def series_by_one_kind(readings: Series, room: array[int]) -> int:
+    one: Union[int, None, tuple[int, ...]] = readings.value(Kind.BEST, 5)
+    many: list[Union[int, None, tuple[int, ...]]] = readings.value_many("sum", [(0, 2), (None, 9)])
+    column: Column = readings.scan_inclusive_by("affine", 0, 9, at=3, most=100)
+    cells: memoryview = readings.scan_exclusive_by(Kind.SUM).cells
+    took: int = readings.scan_inclusive_into("least", room, at=7) + readings.scan_exclusive_into("least", room, 1, 2)
+    print(one, many, cells)
+    return column.edit + took
+
+
+def wrong_series_by_one_kind(readings: Series) -> None:
+    readings.value(7)  # type: ignore[arg-type]
+    readings.value_many("sum", [1, 2])  # type: ignore[list-item]
+    readings.scan_inclusive_by("sum", 0, 9, 3)  # type: ignore[misc]
+    readings.scan_inclusive_into("sum", [1])  # type: ignore[arg-type]
 
 
 def wrong_series(readings: Series) -> None:

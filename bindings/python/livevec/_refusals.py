@@ -199,14 +199,14 @@ class NotKept(Refusal, IndexError):
 
     number, says = 3, "out of range"
 
-    def __init__(self, first: int = 0, size: int = 0) -> None:
-        super().__init__()
+    def __init__(self, first: int = 0, size: int = 0, place: int = 0) -> None:
+        super().__init__(place=place)
         self.args = (f"out of range: kept are the indices from {first} up to {size}",)
         self.first = first
         self.size = size
 
     def __reduce__(self) -> tuple[Any, ...]:
-        return type(self), (self.first, self.size)
+        return type(self), (self.first, self.size, self.place)
 
 
 _REFUSALS = {it.number: it for it in (Worn, Empty, OutOfRange, TooLarge, Full, NoMemory, BadRange, BadLimits, BadTable, Stranger, TooWide, Contended,

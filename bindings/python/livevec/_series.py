@@ -2,20 +2,19 @@
 from __future__ import annotations
 
 import ctypes
-import operator
 from array import array
 from typing import TYPE_CHECKING, Callable, Iterable, Iterator, NamedTuple, Optional, TypeVar, Union
 
 from ._buffers import _address, _as_buffer, _as_room
 from ._elements import _AT_ONCE
-from ._handle import _Handle
 from ._numbers import _as_i64
-from ._refusals import BadRange, Busy, Closed, NotKept, _refuse
+from ._refusals import Busy, Closed, _refuse
 from ._scans import Scan
 from ._series_calls import (
-    _ask, _count_size, _counted, _edits, _expire, _first, _free, _get, _kept, _new, _pop, _push, _push_many, _read, _reduce, _scan_exclusive,
-    _scan_inclusive, _SeriesEdited, _SeriesReduced, _SeriesScanned, _SeriesSlot, _swap, _truncate, _write,
+    _ask, _counted, _edits, _expire, _free, _get, _kept, _new, _pop, _push, _push_many, _read, _reduce, _scan_exclusive, _scan_inclusive, _SeriesEdited,
+    _SeriesReduced, _SeriesScanned, _SeriesSlot, _swap, _truncate, _write,
 )
+from ._series_kinds import _SeriesKinds
 from ._structures import _Values
 from ._values import Values, _values_of
 
@@ -24,7 +23,6 @@ if TYPE_CHECKING:
 
     from ._buffers import _NumpyArray
 
-_MOST_U64 = (1 << 64) - 1
 _SomeSeries = TypeVar("_SomeSeries", bound="Series")
 
 
@@ -35,7 +33,7 @@ class LongReduced(NamedTuple):
     values: Values
 
 
-class Series(_Handle):
+class Series(_SeriesKinds):
     """A vector that goes on: its elements and edits are bounded by memory alone, and elements at its front may expire.
 
     Indices count from the first element that was ever pushed, and an element keeps its index for as long as it is kept: kept are those from `first`
@@ -72,9 +70,9 @@ class Series(_Handle):
         self.push(value)
 
     def extend(self, values: Iterable[int]) -> None:
-        """Pushes each element in order, by one call of C. What is given, and how it is read, is as `Vector.extend` says.
+        """Pushes each element in order, all of them or none, by one call of C. What is given, and how it is read, is as `Vector.extend` says.
 
-        Raises NoMemory at the element that is refused: its `pushed` says how many were taken, and these stay.
+        Raises Worn or Full as the first push that would be refused, then NoMemory: nothing has changed then, so that its `pushed` is 0.
         """
         buffer = _as_buffer(values)
         length = len(buffer)
@@ -112,16 +110,6 @@ class Series(_Handle):
         return self._edited(_expire(self._at, self._index(index))).place
 
     # Elements and counts.
-
-    @property
-    def first(self) -> int:
-        """The index of the first element that is kept; where none is, that of the next that is pushed."""
-        return _counted(_first(self._at))
-
-    @property
-    def size(self) -> int:
-        """The index behind the last element."""
-        return _counted(_count_size(self._at))
 
     @property
     def edits(self) -> int:
@@ -229,35 +217,12 @@ class Series(_Handle):
         self._changes += 1
         return told
 
-    def _index(self, index: int) -> int:
-        """An index as C is given it: what no index is, as a negative one, is given as one that is never kept."""
-        index = operator.index(index)
-        return index if 0 <= index <= _MOST_U64 else _MOST_U64
-
-    def _range(self, lo: Optional[int], hi: Optional[int]) -> tuple[int, int]:
-        start, end = self.first if lo is None else operator.index(lo), self.size if hi is None else operator.index(hi)
-        if end < start:
-            raise BadRange()
-        if start < 0 or end > _MOST_U64:
-            raise NotKept(self.first, self.size)
-        return start, end
-
-    def _room(self, lo: int, hi: int) -> int:
-        """How long a buffer C is given: none where the range is refused."""
-        return hi - lo if self.first <= lo and hi <= self.size else 0
-
     def _reduced(self, call: Callable[..., _SeriesReduced], lo: Optional[int], hi: Optional[int]) -> LongReduced:
         did = _kept(call(self._at, *self._range(lo, hi)))
         return LongReduced(did.edit, _values_of(did.values))
 
     def _scan(self, call: Callable[..., _SeriesScanned], lo: Optional[int], hi: Optional[int], at: Optional[int], most: Optional[int]) -> Scan:
-        lo, hi = self._range(lo, hi)
-        at = lo if at is None else operator.index(at)
-        if not lo <= at <= hi:
-            raise BadRange()
-        length = self._room(lo, hi) and hi - at
-        if most is not None:
-            length = min(length, max(operator.index(most), 0))
+        lo, at, hi, length = self._piece(lo, hi, at, most)
         room = bytearray(max(length, 1) * ctypes.sizeof(_Values))
         did = _kept(call(self._at, lo, at, hi, ctypes.byref(_address(room)), length))
         return Scan(did.edit, room, did.length)

@@ -1,0 +1,121 @@
+"""What a series is asked by one kind: the value of a range, or of many, and running values in columns."""
+from __future__ import annotations
+
+import ctypes
+import struct
+from typing import TYPE_CHECKING, Any, Callable, Iterable, Optional, Sequence, Union
+
+from ._buffers import _address, _as_column
+from ._kinds import Kind, _kind_of
+from ._library import _call, _pointer, _released, _size, _u32
+from ._refusals import NotKept, _refuse
+from ._scans import _CELLS, Column
+from ._series_calls import _kept, _SeriesReduced, _SeriesScanned, _slot, _u64
+from ._series_ranges import _SeriesRanges
+from ._structures import _Values
+from ._values import _value_of, _values_in, _values_of
+
+if TYPE_CHECKING:
+    from _typeshed import WriteableBuffer
+
+    from ._buffers import _NumpyArray
+
+
+class _SeriesMany(ctypes.Structure):
+    refusal: int
+    first: int
+    size: int
+    edit: int
+    done: int
+    place: int
+    _fields_ = [("refusal", _u32), ("first", _u64), ("size", _u64), ("edit", _u64), ("done", _size), ("place", _size)]
+
+
+_value = _call("livevec_series_value", _SeriesReduced, _slot, _u32, _u64, _u64)
+_value_many = _call("livevec_series_value_many", _SeriesMany, _slot, _u32, _pointer, _pointer, _size, by=_released)
+_columns_inclusive, _columns_exclusive = (
+    {name: _call(f"livevec_series_scan_{way}_{name}", _SeriesScanned, _slot, _u64, _u64, _u64, _pointer, _size, by=_released)
+     for name in ("sum", "least", "greatest", "best", "affine", "automaton")} for way in ("inclusive", "exclusive"))
+
+
+class _SeriesKinds(_SeriesRanges):
+    """The part of `Series` that answers by one kind. A series is of all six, and computes all six for it."""
+
+    __slots__ = ()
+
+    def value(self, kind: Union[Kind, str], lo: Optional[int] = None, hi: Optional[int] = None) -> Union[int, None, tuple[int, ...]]:
+        """The value of a range by one kind, a `Kind` or its name, as `Values` has it. Keeps what it computes as `ask` does.
+
+        Raises BadRange, then NotKept; ValueError of what is no kind."""
+        of = _kind_of(kind)
+        return _value_of(of, _values_of(_kept(_value(self._at, of.value, *self._range(lo, hi))).values))
+
+    def value_many(self, kind: Union[Kind, str], ranges: Iterable[Sequence[Optional[int]]]) -> list[Union[int, None, tuple[int, ...]]]:
+        """The value of each range by one kind, by one call of C, all after the last edit. Ranges come as `Vector.value_many` takes them; where an
+        end is None it is that of what is kept. Other threads run meanwhile.
+
+        Raises BadRange or NotKept where one is refused: its `place` says which is the first. Raises ValueError of what is no kind or no pair.
+        """
+        of, pairs = _kind_of(kind), self._pairs(ranges)
+        length = len(pairs) // 2
+        room = bytearray(max(length, 1) * ctypes.sizeof(_Values))
+        did = _value_many(self._at, of.value, ctypes.byref(_address(pairs)) if length else None, ctypes.byref(_address(room)), length)
+        if did.refusal == NotKept.number:
+            raise NotKept(did.first, did.size, did.place)
+        if did.refusal:
+            raise _refuse(did.refusal, 0, 0, did.place)
+        return _values_in(room, of)[:length]
+
+    def scan_inclusive_by(
+        self, kind: Union[Kind, str], lo: Optional[int] = None, hi: Optional[int] = None, *, at: Optional[int] = None, most: Optional[int] = None,
+    ) -> Column:
+        """The running values of a range by one kind, the element itself included, as one column, or a piece of it: `at` and `most` are as
+        `scan_inclusive` has them, and so is what a piece costs. Other threads run meanwhile. Raises BadRange, NotKept, MemoryError; ValueError
+        of what is no kind."""
+        return self._column(_columns_inclusive, _kind_of(kind), lo, hi, at, most)
+
+    def scan_exclusive_by(
+        self, kind: Union[Kind, str], lo: Optional[int] = None, hi: Optional[int] = None, *, at: Optional[int] = None, most: Optional[int] = None,
+    ) -> Column:
+        """The same, the element itself excluded. Raises as `scan_inclusive_by` does."""
+        return self._column(_columns_exclusive, _kind_of(kind), lo, hi, at, most)
+
+    def scan_inclusive_into(
+        self, kind: Union[Kind, str], buffer: Union[WriteableBuffer, _NumpyArray], lo: Optional[int] = None, hi: Optional[int] = None, *,
+        at: Optional[int] = None,
+    ) -> int:
+        """Writes such a piece into the front of a buffer, as many cells as that takes, and gives how many they are: the next piece goes on at `at`
+        and as many. The buffer is as `Vector.scan_inclusive_into` wants it, and what it has behind stays. Raises what `scan_inclusive_by`
+        raises but MemoryError; the buffer is then as it was."""
+        return self._fill(_columns_inclusive, _kind_of(kind), buffer, lo, hi, at)
+
+    def scan_exclusive_into(
+        self, kind: Union[Kind, str], buffer: Union[WriteableBuffer, _NumpyArray], lo: Optional[int] = None, hi: Optional[int] = None, *,
+        at: Optional[int] = None,
+    ) -> int:
+        """The same, the element itself excluded. Raises as `scan_inclusive_into` does."""
+        return self._fill(_columns_exclusive, _kind_of(kind), buffer, lo, hi, at)
+
+    # Within.
+
+    def _column(
+        self, calls: dict[str, Callable[..., _SeriesScanned]], kind: Kind, lo: Optional[int], hi: Optional[int], at: Optional[int], most: Optional[int],
+    ) -> Column:
+        lo, at, hi, length = self._piece(lo, hi, at, most)
+        of, count = _CELLS[kind]
+        width = count * struct.calcsize(of)
+        room = bytearray(max(length, 1) * width)
+        did = _kept(calls[kind.name.lower()](self._at, lo, at, hi, ctypes.byref(_address(room)), length))
+        cells = memoryview(room)[: did.length * width]
+        # no view of several dimensions has none of its rows
+        return Column(did.edit, cells.cast(of) if count == 1 or not cells else cells.cast(of, [did.length, count]))
+
+    def _fill(
+        self, calls: dict[str, Callable[..., _SeriesScanned]], kind: Kind, buffer: Any, lo: Optional[int], hi: Optional[int], at: Optional[int],
+    ) -> int:
+        of, count = _CELLS[kind]
+        view = _as_column(buffer, of, count)
+        lo, at, hi, _ = self._piece(lo, hi, at, None)
+        length = view.nbytes // (count * struct.calcsize(of))
+        # an address is needed also where there is nothing to write
+        return _kept(calls[kind.name.lower()](self._at, lo, at, hi, ctypes.byref(_address(view if length else bytearray(16))), length)).length
