@@ -28,6 +28,7 @@ use Rattle.lv_machine.specs.declared.events.Call.TheVariants as call
 use Rattle.lv_machine.specs.declared.outcomes.Read.{Read}
 use Rattle.lv_machine.specs.declared.outcomes.Refreshed.{Refreshed}
 use Rattle.lv_machine.specs.declared.outcomes.Said.{Said}
+use Rattle.lv_machine.specs.declared.outcomes.Said.TheVariants as saying
 use Rattle.lv_machine.specs.History.{edits_of, elements_of, Ends, IsLegalHistory, own}
 use Rattle.lv_machine.specs.Calls.{is_short}
 use Rattle.lv_machine.specs.Shows.{block, mark_of}
@@ -48,7 +49,7 @@ use Rattle.lv_board.specs.declared.seats.Seat.{Seat}
 use Rattle.lv_board.specs.Calls.{GetAnswers, HasLooked, IsTryRefusal, ReduceAnswers, RefreshAnswers, TryAnswers}
 use Rattle.lv_board.specs.Closing.{IsClosed, IsKept, made_by}
 use Rattle.lv_board.specs.PlainBoard.{Adds, AddsOne, IsOneHistory, IsOutrunAt, OnlyReads, PlainBoardLine, PlainBoardStep, PlainCall, Sat, edit_of, missing, refusal_at, reply_at, sat_of, short_refusal}
-use Rattle.lv_board.specs.Session.{BoardAnswer, BoardStep, CallAnswer, CallEnds, Tries, asked_block, said_read, said_reduced, said_refreshed, said_tried}
+use Rattle.lv_board.specs.Session.{BoardAnswer, BoardStep, CallAnswer, CallEnds, Edits, asked_block, said_by}
 use Rattle.lv_board.specs.Tells.{IsOvertaken, actor_of}
 use Rattle.lv_board.proofs.Shorts.{short_is, wide_is}
 use Rattle.lv_board.proofs.Valued.{folds_range}
@@ -97,7 +98,7 @@ module _ {S : Type 0} (t : Terms) (o : Operations S) (kind : Kind) (shown : S �
     pub reply : (h : List Entry) → reply_at kind plain h asked ≡ receipt_text (receipt_of (edits_of h) e)
 
   -- an edit that was tried
-  tried : (a b : Actor) (asked : Call) (e : Edit) (text : List ℕ) (result : Result Receipt Refusal) → IsEdit asked e → TryAnswers t a b e result → text ≡ said_text kind 0 (said_shown shown (said_tried result))
+  tried : (a b : Actor) (asked : Call) (e : Edit) (text : List ℕ) (result : Result Receipt Refusal) → IsEdit asked e → TryAnswers t a b e result → text ≡ said_text kind 0 (said_shown shown (said_by saying.Did result))
       → PlainCall t.limits kind plain (sat_of a) asked text (sat_of b)
   tried a b asked e text (Ok receipt) its answers is =
       let h = answers.0 in
@@ -135,7 +136,7 @@ module _ {S : Type 0} (t : Terms) (o : Operations S) (kind : Kind) (shown : S �
 
   -- an edit of an element
   tries : (a b : Actor) (asked : Call) (x : ℤ) (e : Edit) (end : Said S) (text : List ℕ) → edit_of asked ≡ Some e → ((h : List Entry) → refusal_at t.limits h asked ≡ short_refusal x (verdict_of t.limits (edits_of h) e))
-      → ((h : List Entry) → reply_at kind plain h asked ≡ receipt_text (receipt_of (edits_of h) e)) → Tries t o x e a end b → text ≡ said_text kind 0 (said_shown shown end) → PlainCall t.limits kind plain (sat_of a) asked text (sat_of b)
+      → ((h : List Entry) → reply_at kind plain h asked ≡ receipt_text (receipt_of (edits_of h) e)) → Edits t (TryAnswers t) (fold_of o) x e a end b → text ≡ said_text kind 0 (said_shown shown end) → PlainCall t.limits kind plain (sat_of a) asked text (sat_of b)
   tries a b asked x e end text its refuses replies tried_so is =
       let said = is ∙ ap (λ end. said_text kind 0 (said_shown shown end)) tried_so.end_is in
       elim (cases_Bool (is_short x)) [
@@ -144,12 +145,12 @@ module _ {S : Type 0} (t : Terms) (o : Operations S) (kind : Kind) (shown : S �
             (record { edit = its; refusal = λ h. refuses h ∙ cond-true (is_short x) _ _ short; reply = replies }) (tried_so.short (short_is x short)) said
         | inr wide ↦
             let told = tried_so.wide (wide_is x wide) in
-            at_once a b asked text TooWide told.1 (refuses a.known ∙ cond-false (is_short x) _ _ wide) (said ∙ ap (λ result. said_text kind 0 (said_shown shown (said_tried result))) told.0)
+            at_once a b asked text TooWide told.1 (refuses a.known ∙ cond-false (is_short x) _ _ wide) (said ∙ ap (λ result. said_text kind 0 (said_shown shown (said_by saying.Did result))) told.0)
       ]
 
   -- ---- reads
 
-  got : (a b : Actor) (i : ℕ) (text : List ℕ) (result : Result Read Refusal) → HasLooked t a b → GetAnswers i b result → text ≡ said_text kind 0 (said_shown shown (said_read result)) → PlainCall t.limits kind plain (sat_of a) (call.Get i) text (sat_of b)
+  got : (a b : Actor) (i : ℕ) (text : List ℕ) (result : Result Read Refusal) → HasLooked t a b → GetAnswers i b result → text ≡ said_text kind 0 (said_shown shown (said_by saying.Read result)) → PlainCall t.limits kind plain (sat_of a) (call.Get i) text (sat_of b)
   got a b i text (Ok read) looked answered is =
       granted a b (call.Get i) text refl looked (ap missing answered.1) (is ∙ ap element_text (sym answered.1))
   got a b i text (Err refusal) looked answered is =
@@ -158,18 +159,18 @@ module _ {S : Type 0} (t : Terms) (o : Operations S) (kind : Kind) (shown : S �
         | inr over ↦ outrun a b (call.Get i) text refusal looked (there (edits_of b.seen) i over.0) over.1 is
       ]
 
-  reduced : (a b : Actor) (lo hi : ℕ) (text : List ℕ) (result : Result (Answer S) Refusal) → HasLooked t a b → ReduceAnswers o lo hi b result → text ≡ said_text kind 0 (said_shown shown (said_reduced result)) → PlainCall t.limits kind plain (sat_of a) (call.Reduce lo hi) text (sat_of b)
+  reduced : (a b : Actor) (lo hi : ℕ) (text : List ℕ) (result : Result (Answer S) Refusal) → HasLooked t a b → ReduceAnswers (fold_of o) lo hi b result → text ≡ said_text kind 0 (said_shown shown (said_by saying.Answered result)) → PlainCall t.limits kind plain (sat_of a) (call.Reduce lo hi) text (sat_of b)
   reduced a b lo hi text (Ok answer) looked answered is =
-      granted a b (call.Reduce lo hi) text refl looked answered.fold.granted
-      (is ∙ ap₂ (λ edit value. answer_text edit kind value) (answered.fold.edit ∙ length-edits_of b.seen)
-      (ap shown answered.fold.value ∙ shows (slice_of (edits_of b.seen) lo hi) (folds_range t b.seen lo hi terms looked.legal)))
+      granted a b (call.Reduce lo hi) text refl looked answered.granted
+      (is ∙ ap₂ (λ edit value. answer_text edit kind value) (answered.edit ∙ length-edits_of b.seen)
+      (ap shown answered.value ∙ shows (slice_of (edits_of b.seen) lo hi) (folds_range t b.seen lo hi terms looked.legal)))
   reduced a b lo hi text (Err refusal) looked answered is =
       elim answered [
         | inl why ↦ refused a b (call.Reduce lo hi) text refusal looked why is
         | inr over ↦ outrun a b (call.Reduce lo hi) text refusal looked over.0 over.1 is
       ]
 
-  refreshed : (a b : Actor) (n : ℕ) (text : List ℕ) (result : Result Refreshed Refusal) → HasLooked t a b → RefreshAnswers n b result → text ≡ said_text kind n (said_shown shown (said_refreshed result)) → PlainCall t.limits kind plain (sat_of a) (call.Refresh n) text (sat_of b)
+  refreshed : (a b : Actor) (n : ℕ) (text : List ℕ) (result : Result Refreshed Refusal) → HasLooked t a b → RefreshAnswers n b result → text ≡ said_text kind n (said_shown shown (said_by saying.Refreshed result)) → PlainCall t.limits kind plain (sat_of a) (call.Refresh n) text (sat_of b)
   refreshed a b n text (Ok fresh) looked answered is =
       granted a b (call.Refresh n) text refl looked (cond-true _ _ _ answered.0) (is ∙ ap (fresh_text n) answered.2)
   refreshed a b n text (Err refusal) looked answered is =
@@ -180,7 +181,7 @@ module _ {S : Type 0} (t : Terms) (o : Operations S) (kind : Kind) (shown : S �
 
   -- ---- lines
 
-  call_plain : (a b : Actor) (asked : Call) (text : List ℕ) (end : Said S) → CallEnds t o asked a end b → text ≡ said_text kind (asked_block asked) (said_shown shown end) → PlainCall t.limits kind plain (sat_of a) asked text (sat_of b)
+  call_plain : (a b : Actor) (asked : Call) (text : List ℕ) (end : Said S) → CallEnds t (TryAnswers t) (fold_of o) asked a end b → text ≡ said_text kind (asked_block asked) (said_shown shown end) → PlainCall t.limits kind plain (sat_of a) asked text (sat_of b)
   call_plain a b (call.Push x) text end ends is = tries a b (call.Push x) x (edit.Push x) end text refl (λ h. refl) (λ h. refl) ends is
   call_plain a b call.Pop text end ends is =
       tried a b call.Pop edit.Pop text ends.result (record { edit = refl; refusal = λ h. refl; reply = λ h. refl }) ends.tried (is ∙ ap (λ end. said_text kind 0 (said_shown shown end)) ends.end_is)
@@ -193,7 +194,7 @@ module _ {S : Type 0} (t : Terms) (o : Operations S) (kind : Kind) (shown : S �
       elim (cases_lt hi lo) [
         | inl back ↦
             let told = ends.backwards back in
-            at_once a b (call.Reduce lo hi) text BadRange told.1 (cond-true (nat_lt hi lo) _ _ (lt-ltb hi lo back)) (said ∙ ap (λ result. said_text kind 0 (said_shown shown (said_reduced result))) told.0)
+            at_once a b (call.Reduce lo hi) text BadRange told.1 (cond-true (nat_lt hi lo) _ _ (lt-ltb hi lo back)) (said ∙ ap (λ result. said_text kind 0 (said_shown shown (said_by saying.Answered result))) told.0)
         | inr order ↦ reduced a b lo hi text ends.result (ends.looked order) (ends.answered order) said
       ]
   call_plain a b (call.Refresh n) text end ends is = refreshed a b n text ends.result ends.looked ends.answered (is ∙ ap (λ end. said_text kind n (said_shown shown end)) ends.end_is)

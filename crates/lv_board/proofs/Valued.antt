@@ -11,8 +11,7 @@ use Rattle.lv_machine.specs.Terms.{AreTerms, Terms}
 use Rattle.lv_machine.proofs.HistoryLaws.{legal_within}
 use Rattle.lv_reduce.specs.Answer.{slice_of}
 use Rattle.lv_reduce.specs.declared.reductions.Answer.{Answer}
-use Rattle.lv_board.specs.Calls.{IsSummed}
-use Rattle.lv_board.specs.Sharing.{IsPlainValue}
+use Rattle.lv_board.specs.Calls.{IsRangeAnswer}
 
 -- a range may be folded
 pub folds_range : (t : Terms) (h : List Entry) (lo hi : ℕ) → AreTerms t → IsLegalHistory t h → CanFold (slice_of (edits_of h) lo hi)
@@ -24,8 +23,8 @@ folds_range t h lo hi terms legal =
       elements = All-take IsElement (hi - lo) (drop lo xs) (All-drop IsElement lo xs within.elements);
     }
 
-pub valued : {S : Type 0} (o : Operations S) (shown : S → Shown) (plain : List ℤ → Shown) (t : Terms) (h : List Entry) (lo hi : ℕ) (answer : Answer S) (value : Shown) → ((xs : List ℤ) → CanFold xs → shown (fold_of o xs) ≡ plain xs) → AreTerms t → IsLegalHistory t h → IsSummed o (edits_of h) lo hi answer → value ≡ shown answer.value → IsPlainValue plain (edits_of h) lo hi record { edit = answer.edit; value = value; cells_read = answer.cells_read; summaries_read = answer.summaries_read }
+pub valued : {S : Type 0} (o : Operations S) (shown : S → Shown) (plain : List ℤ → Shown) (t : Terms) (h : List Entry) (lo hi : ℕ) (answer : Answer S) (value : Shown) → ((xs : List ℤ) → CanFold xs → shown (fold_of o xs) ≡ plain xs) → AreTerms t → IsLegalHistory t h → IsRangeAnswer (fold_of o) (edits_of h) lo hi answer → value ≡ shown answer.value → IsRangeAnswer plain (edits_of h) lo hi record { edit = answer.edit; value = value; cells_read = answer.cells_read; summaries_read = answer.summaries_read }
 valued o shown plain t h lo hi answer value shows terms legal summed is =
     let folded = folds_range t h lo hi terms legal in
-    let shown_value = is ∙ ap shown summed.fold.value ∙ shows (slice_of (edits_of h) lo hi) folded in
-    record { granted = summed.fold.granted; edit = summed.fold.edit; value = shown_value; reads = summed.reads }
+    let shown_value = is ∙ ap shown summed.value ∙ shows (slice_of (edits_of h) lo hi) folded in
+    record { granted = summed.granted; edit = summed.edit; value = shown_value; reads = summed.reads }

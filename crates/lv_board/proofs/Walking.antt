@@ -33,7 +33,7 @@ use Rattle.lv_board.specs.declared.actors.Basis.{Basis}
 use Rattle.lv_board.specs.declared.actors.InstalledPart.{InstalledPart}
 use Rattle.lv_board.specs.declared.underway.BoardWalk.{BoardWalk}
 use Rattle.lv_board.specs.declared.seats.Seat.{Seat}
-use Rattle.lv_board.specs.Calls.{AreInstalled, HasLooked, IsSummed}
+use Rattle.lv_board.specs.Calls.{AreInstalled, HasLooked, IsRangeAnswer}
 use Rattle.lv_board.specs.Plays.{IsRead, SeesAll}
 use Rattle.lv_board.specs.Rule.{IsThere, terms_of}
 use Rattle.lv_board.specs.Tells.{actor_of, IsAt}
@@ -228,13 +228,13 @@ part_there t words b p (suc n) h before within all = elim (cases_lt p n) [
       (All-head (IsThere words) record { place = part_place b n; word = part_word (mark_of b h) (t.folding.part n (elements_under (edits_of h) (block b))) } (block_installed t b h n before) all).word
 ]
 
--- the parts of a block that were installed are kept in each state of the board
+-- the parts of a block that were installed are kept in all words where what was installed is there
 pub are_installed : {B : Type 0} (t : Terms) (b : ℕ) (u w : Seat B) → HasInstalled (block_installed t b (actor_of u).seen t.folding.parts (actor_of u).installed) u w → AreInstalled t b (actor_of w)
-are_installed t b u w has = λ state owner id p fits within.
-    let all = subst (λ l. All (IsThere state.words) l) (ap (λ (a : Actor). a.installed) has.actor) fits.installed in
+are_installed t b u w has = λ words p there within.
+    let all = subst (λ l. All (IsThere words) l) (ap (λ (a : Actor). a.installed) has.actor) there in
     let same : (actor_of w).seen ≡ (actor_of u).seen = ap (λ (a : Actor). a.seen) has.actor in
-    subst (λ h. part_word (mark_of b h) (t.folding.part p (elements_under (edits_of h) (block b))) ≤ slice_index state.words (part_place b p)) (sym same)
-    (part_there t state.words b p t.folding.parts (actor_of u).seen (actor_of u).installed within all)
+    subst (λ h. part_word (mark_of b h) (t.folding.part p (elements_under (edits_of h) (block b))) ≤ slice_index words (part_place b p)) (sym same)
+    (part_there t words b p t.folding.parts (actor_of u).seen (actor_of u).installed within all)
 
 -- nothing refuses a range in the list
 range_free : (es : List Edit) (lo hi : ℕ) → lo ≤ hi → hi ≤ length (list_of es) → range_refusal es lo hi ≡ None
@@ -244,14 +244,12 @@ range_free es lo hi order inside =
     cond-false _ _ _ first ∙ cond-false _ _ _ second
 
 -- a walk that has come to the end of its range has the answer
-pub summed : {S : Type 0} (o : Operations S) (k : List Entry) (lo hi edit : ℕ) (walk : BoardWalk S) → lo ≤ hi → edit ≡ length k → HasCome o k lo hi walk → IsSummed o (edits_of k) lo hi record { edit = edit; value = walk.sum; cells_read = walk.cells; summaries_read = walk.summaries }
+pub summed : {S : Type 0} (o : Operations S) (k : List Entry) (lo hi edit : ℕ) (walk : BoardWalk S) → lo ≤ hi → edit ≡ length k → HasCome o k lo hi walk → IsRangeAnswer (fold_of o) (edits_of k) lo hi record { edit = edit; value = walk.sum; cells_read = walk.cells; summaries_read = walk.summaries }
 summed o k lo hi edit walk order is come =
     let sums = come.sums in
     record {
-      fold = record {
-        granted = range_free (edits_of k) lo hi order (omega (arith, come.here, sums.inside));
-        edit = is ∙ sym (length-edits_of k);
-        value = sums.sum ∙ ap (λ n. fold_of o (slice_range (elements_of k) n walk.at)) come.from ∙ ap (λ n. fold_of o (slice_range (elements_of k) lo n)) come.here;
-      };
+      granted = range_free (edits_of k) lo hi order (omega (arith, come.here, sums.inside));
+      edit = is ∙ sym (length-edits_of k);
+      value = sums.sum ∙ ap (λ n. fold_of o (slice_range (elements_of k) n walk.at)) come.from ∙ ap (λ n. fold_of o (slice_range (elements_of k) lo n)) come.here;
       reads = omega (arith, come.from, come.here, sums.counts);
     }

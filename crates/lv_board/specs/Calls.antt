@@ -1,8 +1,7 @@
 -- What the calls of a board answer.
-use Rattle.std.specs.Prelude.{◌≡◌, ◌⊎◌, ℕ, ◌+◌, ◌-◌, ◌*◌, ◌<◌, ◌≤◌, true, false, Some, None, Result, Ok, Err, List, ◌∷◌, length, slice_index}
+use Rattle.std.specs.Prelude.{◌≡◌, ◌⊎◌, ℕ, ℤ, ◌+◌, ◌-◌, ◌*◌, ◌<◌, ◌≤◌, true, false, Some, None, Result, Ok, Err, List, ◌∷◌, length, slice_index, All}
 use Rattle.lv_geometry.specs.declared.refusals.Refusal.{Refusal}
 use Rattle.lv_geometry.specs.declared.refusals.Refusal.TheVariants.{Contended, OutOfRange}
-use Rattle.lv_bodies.specs.Body.{Operations}
 use Rattle.lv_edits.specs.declared.edit.Edit.{Edit}
 use Rattle.lv_edits.specs.declared.edit.Edit.TheVariants.{Pop, Write}
 use Rattle.lv_edits.specs.declared.receipt.Receipt.{Receipt}
@@ -12,16 +11,15 @@ use Rattle.lv_machine.specs.declared.entries.Entry.{Entry}
 use Rattle.lv_machine.specs.declared.outcomes.Read.{Read}
 use Rattle.lv_machine.specs.declared.outcomes.Refreshed.{Refreshed}
 use Rattle.lv_machine.specs.Layout.{part_place}
-use Rattle.lv_machine.specs.Moves.{Config}
 use Rattle.lv_machine.specs.Shows.{block, mark_of}
 use Rattle.lv_machine.specs.Words.{part_word}
-use Rattle.lv_reduce.specs.Answer.{IsAnswer, range_refusal}
+use Rattle.lv_reduce.specs.Answer.{range_refusal, slice_of}
 use Rattle.lv_reduce.specs.declared.reductions.Answer.{Answer}
 use Rattle.lv_machine.specs.History.{edits_of, elements_of, Ends, IsLegalHistory, own}
 use Rattle.lv_machine.specs.Terms.{Terms}
 use Rattle.lv_board.specs.declared.actors.Actor.{Actor}
 use Rattle.lv_board.specs.Tells.{IsQuiet, IsOvertaken}
-use Rattle.lv_board.specs.Rule.{ActorFits}
+use Rattle.lv_board.specs.Rule.{IsThere}
 
 -- an actor looked and made no edit: what it knew before is a beginning of what it sees, a legal history, and that is a beginning of what it
 -- knows now. So what it sees at one call is a beginning of what it sees at the next, and of the history at the close
@@ -84,15 +82,17 @@ GetAnswers i y (Err refusal) =
     (element_at (edits_of y.seen) i ≡ Err refusal)
     ⊎ ((i < length (elements_of y.seen)) × IsOvertaken y refusal)
 
--- the fold of a range after some edits, of which each element was read once: alone, or within the summary of a block
-pub record IsSummed {S : Type 0} (o : Operations S) (edits : List Edit) (lo hi : ℕ) (answer : Answer S) : Type 0 where
-  pub fold : IsAnswer o edits lo hi answer
+-- what f makes of a range after some edits, of which each element was read once: alone, or within the summary of a block
+pub record IsRangeAnswer {V : Type 0} (f : List ℤ → V) (edits : List Edit) (lo hi : ℕ) (answer : Answer V) : Type 0 where
+  pub granted : range_refusal edits lo hi ≡ None
+  pub edit : answer.edit ≡ length edits
+  pub value : answer.value ≡ f (slice_of edits lo hi)
   pub reads : answer.cells_read + 8 * answer.summaries_read ≡ hi - lo
 
--- what a reduction answers
-abbrev pub ReduceAnswers : {S : Type 0} → Operations S → ℕ → ℕ → Actor → Result (Answer S) Refusal → Type 0
-ReduceAnswers o lo hi y (Ok answer) = IsSummed o (edits_of y.seen) lo hi answer
-ReduceAnswers o lo hi y (Err refusal) =
+-- what a reduction answers, by what f makes of a list: its fold, or the plain value
+abbrev pub ReduceAnswers : {V : Type 0} → (List ℤ → V) → ℕ → ℕ → Actor → Result (Answer V) Refusal → Type 0
+ReduceAnswers f lo hi y (Ok answer) = IsRangeAnswer f (edits_of y.seen) lo hi answer
+ReduceAnswers f lo hi y (Err refusal) =
     (range_refusal (edits_of y.seen) lo hi ≡ Some refusal)
     ⊎ ((range_refusal (edits_of y.seen) lo hi ≡ None) × IsOvertaken y refusal)
 
@@ -104,11 +104,11 @@ RefreshAnswers b y (Err refusal) =
     ((is_whole (edits_of y.seen) (block b) ≡ false) × (refusal ≡ OutOfRange (length (elements_of y.seen))))
     ⊎ ((is_whole (edits_of y.seen) (block b) ≡ true) × IsOvertaken y refusal)
 
--- the parts of a block, as the actor sees it, are kept: in whatever state of the board this actor is, the word at each part's place is that
--- part, or a greater one, which displaced it
+-- the parts of a block, as the actor sees it, are kept: in whatever words what the actor installed is there, the word at each part's place
+-- is that part, or a greater one, which displaced it
 abbrev pub AreInstalled : Terms → ℕ → Actor → Type 0
 AreInstalled t b y =
-    (state : Config) (owner : ℕ → ℕ) (id p : ℕ)
-    → ActorFits t.seats state owner id y
+    (words : List ℕ) (p : ℕ)
+    → All (IsThere words) y.installed
     → p < t.folding.parts
-    → part_word (mark_of b y.seen) (t.folding.part p (elements_under (edits_of y.seen) (block b))) ≤ slice_index state.words (part_place b p)
+    → part_word (mark_of b y.seen) (t.folding.part p (elements_under (edits_of y.seen) (block b))) ≤ slice_index words (part_place b p)

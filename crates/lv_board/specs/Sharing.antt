@@ -1,28 +1,16 @@
 -- A board that is shared, its seats, and what their calls end with.
-use Rattle.std.specs.Prelude.{◌≡◌, ◌≢◌, ◌⊎◌, ℕ, ℤ, ◌+◌, ◌-◌, ◌*◌, ◌<◌, ◌≤◌, max, None, Some, Result, Ok, Err, List, [], ◌∷◌, ◌++◌, length, map, All, IfOk}
+use Rattle.std.specs.Prelude.{◌≡◌, ◌≢◌, ℕ, ℤ, ◌+◌, ◌<◌, ◌≤◌, max, List, [], ◌∷◌, ◌++◌, length, map, All}
 use Rattle.std.specs.List.{range_with_len, sum_by}
 use Rattle.std.specs.Arc.{arc_value}
 use Rattle.atomic_table.specs.Seated.{TableId}
 use Rattle.lv_geometry.specs.Bounds.{Bounds}
-use Rattle.lv_geometry.specs.declared.refusals.Refusal.{Refusal}
-use Rattle.lv_geometry.specs.declared.refusals.Refusal.TheVariants.{BadRange, TooWide}
 use Rattle.lv_bodies.specs.declared.kinds.Kind.{Kind}
 use Rattle.lv_bodies.specs.declared.kinds.Shown.{Shown}
 use Rattle.lv_bodies.specs.Body.{Operations}
-use Rattle.lv_bodies.specs.Parts.{IsShort}
-use Rattle.lv_edits.specs.declared.edit.Edit.{Edit}
-use Rattle.lv_edits.specs.declared.edit.Edit.TheVariants as edit
-use Rattle.lv_edits.specs.declared.receipt.Receipt.{Receipt}
-use Rattle.lv_reduce.specs.Answer.{range_refusal, slice_of}
-use Rattle.lv_reduce.specs.declared.reductions.Answer.{Answer}
 use Rattle.lv_machine.specs.declared.events.Call.{Call}
-use Rattle.lv_machine.specs.declared.events.Call.TheVariants as call
-use Rattle.lv_machine.specs.declared.outcomes.Read.{Read}
-use Rattle.lv_machine.specs.declared.outcomes.Refreshed.{Refreshed}
 use Rattle.lv_machine.specs.declared.outcomes.Said.{Said}
-use Rattle.lv_machine.specs.declared.outcomes.Said.TheVariants as said
 use Rattle.lv_machine.specs.declared.entries.Entry.{Entry}
-use Rattle.lv_machine.specs.History.{edits_of, elements_of, IsLegalHistory, own}
+use Rattle.lv_machine.specs.History.{elements_of, IsLegalHistory, own}
 use Rattle.lv_machine.specs.Terms.{Folding, Terms}
 use Rattle.lv_board.specs.declared.actors.Actor.{Actor}
 use Rattle.lv_board.specs.declared.remains.Closed.{Closed}
@@ -32,13 +20,12 @@ use Rattle.lv_board.specs.declared.sharing.Unclosed.TheVariants as unclosed
 use Rattle.lv_board.specs.declared.sharing.Unseated.{Unseated}
 use Rattle.lv_board.specs.declared.sharing.Unseated.TheVariants.{NoMemory, NoSeat}
 use Rattle.lv_board.specs.declared.seats_with_board.SeatWithBoard.{SeatWithBoard}
-use Rattle.lv_board.specs.Calls.{AreInstalled, GetAnswers, HasLooked, RefreshAnswers}
 use Rattle.lv_board.specs.Closing.{IsKept}
 use Rattle.lv_board.specs.Opening.{MayOpen}
 use Rattle.lv_board.specs.Retrying.{AnswersWithin}
 use Rattle.lv_board.specs.Rule.{folds, newcomer, terms_of}
-use Rattle.lv_board.specs.Session.{said_read, said_reduced, said_refreshed, said_tried}
-use Rattle.lv_board.specs.Tells.{actor_of, IsOvertaken}
+use Rattle.lv_board.specs.Session.{CallEnds}
+use Rattle.lv_board.specs.Tells.{actor_of}
 
 -- where a seat is, and what it knows: the board with its stamp and its terms, the kind and what it says of a list, and the seat's actor
 pub record Sat : Type 0 where
@@ -133,71 +120,9 @@ module _ {B S : Type 0} (count : ℕ) (parts_of : S → List ℕ) (operations : 
 
 -- ---- what a seat's calls end with
 
--- the plain value of a range after some edits, of which each element was read once: alone, or within the summary of a block
-pub record IsPlainValue (plain : List ℤ → Shown) (edits : List Edit) (lo hi : ℕ) (answer : Answer Shown) : Type 0 where
-  pub granted : range_refusal edits lo hi ≡ None
-  pub edit : answer.edit ≡ length edits
-  pub value : answer.value ≡ plain (slice_of edits lo hi)
-  pub reads : answer.cells_read + 8 * answer.summaries_read ≡ hi - lo
-
--- what a reduction answers
-abbrev pub PlainAnswers : (List ℤ → Shown) → ℕ → ℕ → Actor → Result (Answer Shown) Refusal → Type 0
-PlainAnswers plain lo hi y (Ok answer) = IsPlainValue plain (edits_of y.seen) lo hi answer
-PlainAnswers plain lo hi y (Err refusal) =
-    (range_refusal (edits_of y.seen) lo hi ≡ Some refusal)
-    ⊎ ((range_refusal (edits_of y.seen) lo hi ≡ None) × IsOvertaken y refusal)
-
-module _ (t : Terms) (plain : List ℤ → Shown) (tries : ℕ) where
-  -- an edit is tried so often at most; where its element has more than 16 bits it is refused, and the actor stays as it was
-  pub record Edits (x : ℤ) (edit : Edit) (a : Actor) (end : Said Shown) (b : Actor) : Type 0 where
-    pub result : Result Receipt Refusal
-    pub short : IsShort x → AnswersWithin t tries a b edit result
-    pub wide : ¬ IsShort x → (result ≡ Err TooWide) × (b ≡ a)
-    pub end_is : end ≡ said_tried result
-
-  -- a pop is tried so often at most
-  pub record Drops (a : Actor) (end : Said Shown) (b : Actor) : Type 0 where
-    pub result : Result Receipt Refusal
-    pub tried : AnswersWithin t tries a b edit.Pop result
-    pub end_is : end ≡ said_tried result
-
-  -- an element is read where the actor looked
-  pub record Gets (i : ℕ) (a : Actor) (end : Said Shown) (b : Actor) : Type 0 where
-    pub result : Result Read Refusal
-    pub looked : HasLooked t a b
-    pub answered : GetAnswers i b result
-    pub end_is : end ≡ said_read result
-
-  -- the size is told where the actor looked
-  pub record Sizes (a : Actor) (end : Said Shown) (b : Actor) : Type 0 where
-    pub looked : HasLooked t a b
-    pub end_is : end ≡ said.Sized record { edit = length b.seen; size = length (elements_of b.seen) }
-
-  -- a range is reduced where the actor looked; a range that runs backwards is refused, and the actor stays as it was
-  pub record Reduces (lo hi : ℕ) (a : Actor) (end : Said Shown) (b : Actor) : Type 0 where
-    pub result : Result (Answer Shown) Refusal
-    pub looked : lo ≤ hi → HasLooked t a b
-    pub answered : lo ≤ hi → PlainAnswers plain lo hi b result
-    pub backwards : hi < lo → (result ≡ Err BadRange) × (b ≡ a)
-    pub end_is : end ≡ said_reduced result
-
-  -- a block is refreshed where the actor looked
-  pub record Refreshes (block : ℕ) (a : Actor) (end : Said Shown) (b : Actor) : Type 0 where
-    pub result : Result Refreshed Refusal
-    pub looked : HasLooked t a b
-    pub answered : RefreshAnswers block b result
-    pub installed : IfOk result (λ refreshed. AreInstalled t block b)
-    pub end_is : end ≡ said_refreshed result
-
-  -- what a call ends with
-  abbrev pub EndsWithin : Call → Actor → Said Shown → Actor → Type 0
-  EndsWithin (call.Push x) a end b = Edits x (edit.Push x) a end b
-  EndsWithin call.Pop a end b = Drops a end b
-  EndsWithin (call.Write i x) a end b = Edits x (edit.Write i x) a end b
-  EndsWithin (call.Get i) a end b = Gets i a end b
-  EndsWithin call.Size a end b = Sizes a end b
-  EndsWithin (call.Reduce lo hi) a end b = Reduces lo hi a end b
-  EndsWithin (call.Refresh block) a end b = Refreshes block a end b
+-- what a call ends with, of which a value is the plain one, and an edit is tried so often at most
+abbrev pub EndsWithin : Terms → (List ℤ → Shown) → ℕ → Call → Actor → Said Shown → Actor → Type 0
+EndsWithin t plain tries = CallEnds t (AnswersWithin t tries) plain
 
 -- a seat made a call: nothing has changed but what it knows, its number stayed, and this is what the call ended with. An edit is tried so
 -- often at most, and once at least

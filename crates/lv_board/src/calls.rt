@@ -1,11 +1,12 @@
 //! Calls of a board as values, as a session asks for them.
 ghost use Rattle.std.specs.Prelude.{◌≡◌, ◌<◌, ◌≤◌, Err};
 ghost use Rattle.lv_geometry.specs.declared.refusals.Refusal.{Refusal};
-ghost use Rattle.lv_board.specs.Calls.{HasLooked};
+ghost use Rattle.lv_bodies.specs.Body.{fold_of};
+ghost use Rattle.lv_board.specs.Calls.{HasLooked, ReduceAnswers, TryAnswers};
 ghost use Rattle.lv_board.specs.Closing.{IsStill};
-ghost use Rattle.lv_board.specs.Sharing.{EndsWithin, PlainAnswers};
+ghost use Rattle.lv_board.specs.Sharing.{EndsWithin};
 ghost use Rattle.lv_board.specs.Rule.{folds, terms_of};
-ghost use Rattle.lv_board.specs.Session.{CallEnds, asked_block, said_read, said_reduced, said_refreshed, said_tried};
+ghost use Rattle.lv_board.specs.Session.{CallEnds, asked_block, said_by};
 ghost use Rattle.lv_board.specs.Tells.{actor_of, IsAt, IsSame, Stays};
 
 use crate::board::Board;
@@ -27,7 +28,7 @@ impl<B: Parted> Board<B> {
         requires { IsAt self.now.table.shared.table_id self.now.terms seat.old }
         ensures stays { Stays seat.old seat.new }
         ensures looked { lo ≤ hi → HasLooked (terms_of (folds B.PARTS B.parts_of (λ b. B.operations (B.meaning b))) self.now.terms) (actor_of seat.old) (actor_of seat.new) }
-        ensures answer { lo ≤ hi → PlainAnswers (B.plain self.now.terms.body) lo hi (actor_of seat.new) result }
+        ensures answer { lo ≤ hi → ReduceAnswers (B.plain self.now.terms.body) lo hi (actor_of seat.new) result }
         ensures backwards { hi < lo → (result ≡ Err Refusal.BadRange) × IsSame seat.old seat.new }
     {
         match self.reduce(seat, lo, hi) {
@@ -63,7 +64,7 @@ impl<B: Parted> Board<B> {
     pub(crate) fn make(&self, seat: &mut Seat<B>, call: Call) -> Said<B::S>
         requires { IsAt self.now.table.shared.table_id self.now.terms seat.old }
         ensures stays { Stays seat.old seat.new }
-        ensures ends { CallEnds (terms_of (folds B.PARTS B.parts_of (λ b. B.operations (B.meaning b))) self.now.terms) (B.operations (B.meaning self.now.terms.body)) call (actor_of seat.old) result (actor_of seat.new) }
+        ensures ends { CallEnds (terms_of (folds B.PARTS B.parts_of (λ b. B.operations (B.meaning b))) self.now.terms) (TryAnswers (terms_of (folds B.PARTS B.parts_of (λ b. B.operations (B.meaning b))) self.now.terms)) (fold_of (B.operations (B.meaning self.now.terms.body))) call (actor_of seat.old) result (actor_of seat.new) }
     {
         match call {
             Call::Push(x) => tried(self.try_push(seat, x)),
@@ -79,7 +80,7 @@ impl<B: Parted> Board<B> {
 
 // What a try ends with.
 fn tried<S: Copy>(answer: Result<Receipt, Refusal>) -> Said<S>
-    ensures { result ≡ said_tried answer }
+    ensures { result ≡ said_by Said.Did answer }
 {
     match answer {
         Ok(receipt) => Said::Did(receipt),
@@ -89,7 +90,7 @@ fn tried<S: Copy>(answer: Result<Receipt, Refusal>) -> Said<S>
 
 // What a read of an element ends with.
 fn read<S: Copy>(answer: Result<Read, Refusal>) -> Said<S>
-    ensures { result ≡ said_read answer }
+    ensures { result ≡ said_by Said.Read answer }
 {
     match answer {
         Ok(read) => Said::Read(read),
@@ -99,7 +100,7 @@ fn read<S: Copy>(answer: Result<Read, Refusal>) -> Said<S>
 
 // What a reduction ends with.
 fn reduced<S: Copy>(answer: Result<Answer<S>, Refusal>) -> Said<S>
-    ensures { result ≡ said_reduced answer }
+    ensures { result ≡ said_by Said.Answered answer }
 {
     match answer {
         Ok(answer) => Said::Answered(answer),
@@ -109,7 +110,7 @@ fn reduced<S: Copy>(answer: Result<Answer<S>, Refusal>) -> Said<S>
 
 // What a refresh ends with.
 fn refreshed<S: Copy>(answer: Result<Refreshed, Refusal>) -> Said<S>
-    ensures { result ≡ said_refreshed answer }
+    ensures { result ≡ said_by Said.Refreshed answer }
 {
     match answer {
         Ok(refreshed) => Said::Refreshed(refreshed),

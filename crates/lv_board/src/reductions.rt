@@ -1,5 +1,6 @@
 //! Reductions: the fold of a range, by the parts of whole blocks where they are fresh, else by cells.
 ghost use Rattle.std.specs.Prelude.{◌≡◌, ◌+◌, ◌*◌, ◌/◌, ◌%◌, ◌<◌, ◌≤◌, length, true, slice_index, Err, IfOk, IfErr, IfSome};
+ghost use Rattle.lv_bodies.specs.Body.{fold_of};
 ghost use Rattle.lv_edits.specs.Touch.{is_whole};
 ghost use Rattle.lv_geometry.specs.Cells.{capacity_of};
 ghost use Rattle.lv_machine.specs.History.{edits_of, elements_of};
@@ -191,7 +192,7 @@ impl<B: Parted> Board<B> {
         requires { IsAt self.now.table.shared.table_id self.now.terms seat.old }
         ensures stays { Stays seat.old seat.new }
         ensures looked { lo ≤ hi → HasLooked (terms_of (folds B.PARTS B.parts_of (λ b. B.operations (B.meaning b))) self.now.terms) (actor_of seat.old) (actor_of seat.new) }
-        ensures answer { lo ≤ hi → ReduceAnswers (B.operations (B.meaning self.now.terms.body)) lo hi (actor_of seat.new) result }
+        ensures answer { lo ≤ hi → ReduceAnswers (fold_of (B.operations (B.meaning self.now.terms.body))) lo hi (actor_of seat.new) result }
         ensures backwards { hi < lo → (result ≡ Err Refusal.BadRange) × IsSame seat.old seat.new }
     {
         if hi < lo {

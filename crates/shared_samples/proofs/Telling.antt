@@ -24,14 +24,13 @@ use Rattle.lv_board.specs.declared.actors.Actor.{Actor}
 use Rattle.lv_board.specs.declared.board.Board.{Board}
 use Rattle.lv_board.specs.declared.remains.Closed.{Closed}
 use Rattle.lv_board.specs.declared.seats.Seat.{Seat}
-use Rattle.lv_board.specs.Calls.{HasLooked}
+use Rattle.lv_board.specs.Calls.{HasLooked, ReduceAnswers}
 use Rattle.lv_board.specs.Closing.{AreAll, AreAt, IsClosed, IsKept, IsStill, made_by}
 use Rattle.lv_board.specs.Opening.{AreDealt}
 use Rattle.lv_board.specs.Ordered.{AreInOrder}
 use Rattle.lv_board.specs.Plays.{IsQuiet}
 use Rattle.lv_board.specs.Retrying.{HasTried, own_after}
 use Rattle.lv_board.specs.Rule.{newcomer}
-use Rattle.lv_board.specs.Sharing.{PlainAnswers}
 use Rattle.lv_board.specs.Tells.{actor_of, IsAt}
 use Rattle.shared_samples.specs.declared.probes.Probe.{Probe}
 use Rattle.shared_samples.specs.declared.reports.Report.{Report}
@@ -87,11 +86,11 @@ sum_in (shown.Sum s) = s
 sum_in other = 0
 
 -- the sum of a whole list, at the edit where its size was told
-pub total_told : (t : Terms) (x m y : Actor) (size at : ℕ) (result : Result (Answer Shown) Refusal) (answer : Answer Shown) (v : ℕ) → HasLooked t x m → HasLooked t m y → size ≡ length (elements_of m.seen) → at ≡ length m.seen → PlainAnswers (λ xs. shown.Sum (plain_sum xs)) 0 size y result → result ≡ Ok answer → answer.value ≡ shown.Sum v → answer.edit ≡ at
+pub total_told : (t : Terms) (x m y : Actor) (size at : ℕ) (result : Result (Answer Shown) Refusal) (answer : Answer Shown) (v : ℕ) → HasLooked t x m → HasLooked t m y → size ≡ length (elements_of m.seen) → at ≡ length m.seen → ReduceAnswers (λ xs. shown.Sum (plain_sum xs)) 0 size y result → result ≡ Ok answer → answer.value ≡ shown.Sum v → answer.edit ≡ at
     → IsTotalOf y.known record { edit = answer.edit; value = v } × (length x.known ≤ answer.edit)
 unfolding sum_in
 total_told t x m y size at result answer v first second sized here answered done value same =
-    let told = subst (PlainAnswers (λ xs. shown.Sum (plain_sum xs)) 0 size y) done answered in
+    let told = subst (ReduceAnswers (λ xs. shown.Sum (plain_sum xs)) 0 size y) done answered in
     let ends = ends_trans m.seen m.known y.seen first.kept second.fresh in
     let is : answer.edit ≡ length y.seen = told.edit ∙ count_edits y.seen in
     let long : length y.seen ≡ length m.seen = omega (arith, is, same, here) in
