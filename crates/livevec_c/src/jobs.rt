@@ -1,18 +1,15 @@
-//! Refresh: jobs, their outcomes, and what becomes of them.
+//! Refresh: jobs, how they are claimed and run, and what their calls answer.
 ghost use Rattle.std.specs.Prelude.{◌≡◌, None};
-ghost use Rattle.livevec_c.specs.Answers.{accepted_by, claimed_by, unaccepted, unclaimed, unvetted};
-ghost use Rattle.livevec_c.specs.Working.{Accepts, AcceptsLive, AcceptsObject, AcceptsVector, AcceptsWith, Claims, ClaimsObject, ClaimsVector, Forgets, ForgetsObject, Refreshes, RefreshesObject, Runs, RunsObject, Vets, VetsObject, VetsVector, VetsWith};
+ghost use Rattle.livevec_c.specs.Answers.{claimed_by, unclaimed};
+ghost use Rattle.livevec_c.specs.Working.{Claims, ClaimsObject, ClaimsVector, Forgets, ForgetsObject, Refreshes, RefreshesObject, Runs, RunsObject};
 
 use crate::kind_vectors::KindVector;
 use crate::lifetimes::new_vector;
 use crate::objects::{Object, refill};
 use crate::results::{Count, IN_USE, NO_HANDLE, NO_MEMORY};
 use crate::slots::{Slot, is_full, put, take};
-use lv_bodies::{Automaton, SixByTable};
+use lv_bodies::Automaton;
 use lv_geometry::{Limits, Node};
-use lv_live::Live;
-use lv_refresh::Outcome;
-use lv_summary::Accepted;
 use std::alloc::Global;
 
 /// What a claim answers.
@@ -227,165 +224,6 @@ pub extern "C" fn livevec_proved_run(alloc: Global, job: &mut Slot, outcome: &mu
                 put(job, held);
                 NO_HANDLE
             }
-        }
-    }
-}
-
-// What vetting answers where a slot does not hold what it should.
-fn not_vetted() -> Vetted
-    ensures { result ≡ unvetted }
-{
-    Vetted {
-        refusal: NO_HANDLE,
-        yes: false,
-    }
-}
-
-// Whether a vector would accept an object.
-fn vet_live(live: &Live<SixByTable>, brought: &Object) -> Vetted
-    ensures { VetsVector result live.now brought.now }
-{
-    match brought {
-        Object::Outcome(outcome) => Vetted {
-            refusal: 0,
-            yes: live.vet(outcome),
-        },
-        _ => not_vetted(),
-    }
-}
-
-// Whether an object would accept another.
-fn vet_of(object: &Object, brought: &Object) -> Vetted
-    ensures { VetsObject result object.now brought.now }
-{
-    match object {
-        Object::Vector(vector, _) => vet_live(vector.live(), brought),
-        _ => not_vetted(),
-    }
-}
-
-// Whether an object would accept what lies behind a slot.
-fn vet_with(alloc: Global, object: &Object, outcome: &mut Slot) -> Vetted
-    ensures answer { VetsWith result object.now outcome.old.raw.inner }
-    ensures same { outcome.new.raw.inner ≡ outcome.old.raw.inner }
-{
-    match take(alloc, outcome) {
-        None => not_vetted(),
-        Some(brought) => {
-            let answer = vet_of(object, &brought);
-            put(outcome, brought);
-            answer
-        }
-    }
-}
-
-/// Whether an outcome would be accepted.
-#[unsafe(no_mangle)]
-pub extern "C" fn livevec_proved_vet(alloc: Global, slot: &mut Slot, outcome: &mut Slot) -> Vetted
-    ensures answer { Vets result slot.old.raw.inner outcome.old.raw.inner }
-    ensures same { slot.new.raw.inner ≡ slot.old.raw.inner }
-    ensures kept { outcome.new.raw.inner ≡ outcome.old.raw.inner }
-{
-    match take(alloc, slot) {
-        None => not_vetted(),
-        Some(held) => {
-            let answer = vet_with(alloc, &held, outcome);
-            put(slot, held);
-            answer
-        }
-    }
-}
-
-// What a delivery answers that was refused.
-fn not_accepted(refusal: u32) -> Delivered
-    ensures { result ≡ unaccepted refusal }
-{
-    Delivered {
-        refusal,
-        became: 0,
-        now: 0,
-    }
-}
-
-// What a delivery answers.
-fn delivery_answer(accepted: Accepted) -> Delivered
-    ensures { result ≡ accepted_by accepted }
-{
-    let (became, now) = match accepted {
-        Accepted::Installed => (1, 0),
-        Accepted::Held => (2, 0),
-        Accepted::Stale { now } => (3, now),
-    };
-    Delivered {
-        refusal: 0,
-        became,
-        now,
-    }
-}
-
-// Delivers an outcome to a vector.
-fn accept_outcome(vector: &mut KindVector, outcome: Outcome<SixByTable>) -> Delivered
-    ensures { AcceptsVector result vector.old vector.new outcome }
-{
-    // 15 is the library's `Stranger`.
-    if vector.vet(&outcome) {
-        delivery_answer(vector.accept(outcome))
-    } else {
-        not_accepted(15)
-    }
-}
-
-// Delivers an object to a vector.
-fn accept_vector(vector: &mut KindVector, brought: &Object) -> Delivered
-    ensures { AcceptsLive result vector.old vector.new brought.now }
-{
-    match brought {
-        Object::Outcome(outcome) => accept_outcome(vector, *outcome),
-        _ => not_accepted(NO_HANDLE),
-    }
-}
-
-// Delivers an object to another.
-fn accept_of(object: &mut Object, brought: &Object) -> Delivered
-    ensures { AcceptsObject result object.old object.new brought.now }
-{
-    match object {
-        Object::Vector(vector, _) => accept_vector(vector, brought),
-        _ => not_accepted(NO_HANDLE),
-    }
-}
-
-// Delivers what lies behind a slot to an object.
-fn accept_with(alloc: Global, object: &mut Object, outcome: &mut Slot) -> Delivered
-    ensures answer { AcceptsWith result object.old object.new outcome.old.raw.inner }
-    ensures same { outcome.new.raw.inner ≡ outcome.old.raw.inner }
-{
-    match take(alloc, outcome) {
-        None => not_accepted(NO_HANDLE),
-        Some(brought) => {
-            let answer = accept_of(object, &brought);
-            put(outcome, brought);
-            answer
-        }
-    }
-}
-
-/// Delivers an outcome, where vetting says yes. The outcome stays as it is.
-#[unsafe(no_mangle)]
-pub extern "C" fn livevec_proved_accept(
-    alloc: Global,
-    slot: &mut Slot,
-    outcome: &mut Slot,
-) -> Delivered
-    ensures answer { Accepts result slot.old.raw.inner slot.new.raw.inner outcome.old.raw.inner }
-    ensures kept { outcome.new.raw.inner ≡ outcome.old.raw.inner }
-{
-    match take(alloc, slot) {
-        None => not_accepted(NO_HANDLE),
-        Some(mut held) => {
-            let answer = accept_with(alloc, &mut held, outcome);
-            put(slot, held);
-            answer
         }
     }
 }

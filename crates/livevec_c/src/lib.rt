@@ -18,6 +18,7 @@ mod laws;
 mod lifetimes;
 mod objects;
 mod only;
+mod outcomes;
 mod picked;
 mod places_found;
 mod pushes;

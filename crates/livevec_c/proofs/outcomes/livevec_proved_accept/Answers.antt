@@ -1,6 +1,6 @@
 -- Proof of `livevec_proved_accept`: delivers an outcome, where vetting says yes.
 use Rattle.std.proofs.Common.{◌∙◌, Some, ap, sym}
-use Rattle.livevec_c.proofs.jobs.livevec_proved_accept.Goals as goal
+use Rattle.livevec_c.proofs.outcomes.livevec_proved_accept.Goals as goal
 
 pub returns-in-Some : goal.returns-in-Some
 returns-in-Some c = record {
