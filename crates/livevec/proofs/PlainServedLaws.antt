@@ -7,11 +7,18 @@ use Rattle.std.proofs.lemmas.List.Sums.{sum-map}
 use Rattle.std.proofs.lemmas.Simd.{map-map}
 use mathlib.Core.List.{IsPrefix}
 use Rattle.lv_geometry.specs.Bounds.{Bounds}
-use Rattle.lv_hub.specs.PlainSession.{Seen}
+use Rattle.lv_lines.specs.Replies.{Conversed}
+use Rattle.lv_hub.specs.PlainSession.{PlainSessionStep, Seen}
 use Rattle.lv_hub.specs.Session.{SessionState, kept_by}
 use Rattle.lv_hub.proofs.PlainSessionLaws.{session_plain}
-use Rattle.livevec.specs.PlainServed.{AreHeldPlainly, ServedPlainly}
+use Rattle.livevec.specs.PlainServed.{AreHeldPlainly, IsHeldPlainly, ServedPlainly}
 use Rattle.livevec.specs.Served.{AreHeld, Served, Sides, counted_by, ended_well, new_session}
+
+-- a conversation to the end of the lines: all were read, and answered in turn
+to_the_end : (limits : Bounds) (old new : Sides) (seen : Seen) → Conversed (PlainSessionStep limits) (kept_by new_session) seen old.lines new.lines old.replies new.replies ended_well → IsHeldPlainly limits old new seen
+to_the_end limits old new seen c =
+    let (at_end, few, all) = c.ends in
+    record { input = c.seen; read = c.read; at_end = at_end; few = few; text = all.text; answered = all.answered; written = all.written }
 
 -- each session that was held was held plainly
 held_plainly : (limits : Bounds) (olds news : List Sides) (states : List SessionState) → AreHeld limits olds news states → AreHeldPlainly limits olds news (map kept_by states)
@@ -21,7 +28,7 @@ held_plainly limits [] (n ∷ news) states held = absurd held
 held_plainly limits (o ∷ olds) [] states held = absurd held
 held_plainly limits (o ∷ olds) (n ∷ news) [] held = absurd held
 held_plainly limits (o ∷ olds) (n ∷ news) (s ∷ states) held =
-    (session_plain limits new_session s o.lines n.lines o.replies n.replies ended_well held.0, held_plainly limits olds news states held.1)
+    (to_the_end limits o n (kept_by s) (session_plain limits new_session s o.lines n.lines o.replies n.replies ended_well held.0), held_plainly limits olds news states held.1)
 
 -- they made as many edits as they count
 made_so : (states : List SessionState) → counted_by states ≡ sum_by (λ (seen : Seen). seen.made) (map kept_by states)
