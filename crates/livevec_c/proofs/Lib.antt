@@ -1,5 +1,6 @@
 -- Names the files of lemmas of `livevec_c`.
 pub mod AsBox
+pub mod BlockLaws
 pub mod ColumnAnswers
 pub mod ColumnFolds
 pub mod Empty

@@ -7,6 +7,7 @@ pub mod CellLaws
 pub mod Columns
 pub mod Frees
 pub mod Behind
+pub mod Blocks
 pub mod KindVectors
 pub mod Lives
 pub mod Working

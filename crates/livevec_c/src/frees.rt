@@ -14,6 +14,7 @@ pub enum Freed {
     Vector,
     Job,
     Outcome,
+    Batch,
     Board,
     Seat,
     Series,
@@ -28,6 +29,7 @@ fn is_of(what: Freed, object: &Object) -> bool
         Freed::Vector => matches!(object, Object::Vector(..)),
         Freed::Job => matches!(object, Object::Job(_)),
         Freed::Outcome => matches!(object, Object::Outcome(_)),
+        Freed::Batch => matches!(object, Object::Batch(_) | Object::BatchOutcome(_)),
         Freed::Board => matches!(object, Object::Board(_) | Object::Closed(_)),
         Freed::Seat => matches!(object, Object::Seat(_)),
         Freed::Series => matches!(object, Object::Series(_)),
@@ -78,6 +80,15 @@ pub extern "C" fn livevec_proved_free_outcome(alloc: Global, slot: &mut Slot) ->
     ensures left { slot.new.raw.inner ≡ left_by_free freed.Outcome slot.old.raw.inner }
 {
     free_held(alloc, slot, Freed::Outcome)
+}
+
+/// Frees a batch of jobs, or what it gave.
+#[unsafe(no_mangle)]
+pub extern "C" fn livevec_proved_free_batch(alloc: Global, slot: &mut Slot) -> u32
+    ensures number { result ≡ free_number freed.Batch slot.old.raw.inner }
+    ensures left { slot.new.raw.inner ≡ left_by_free freed.Batch slot.old.raw.inner }
+{
+    free_held(alloc, slot, Freed::Batch)
 }
 
 /// Frees a board, closed or not.

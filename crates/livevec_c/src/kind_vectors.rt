@@ -12,6 +12,7 @@ ghost use Rattle.lv_refresh.specs.Claim.{IsNextJob};
 ghost use Rattle.lv_refresh.specs.Delivery.{delivery_of};
 ghost use Rattle.lv_refresh.specs.Honesty.{IsHonest, Vouched};
 ghost use Rattle.lv_reduce.specs.Answer.{IsAnswer, range_refusal};
+ghost use Rattle.lv_live.specs.Batches.{DeliversEach};
 ghost use Rattle.lv_live.specs.State.{HasClaim, HasDelivery, HasNoClaims, SameLive, SameRefresh, node_and_version, recorded};
 ghost use Rattle.lv_live.specs.Turns.{TakesTurns};
 ghost use Rattle.lv_kinds.specs.Asked.{IsKindAnswer};
@@ -25,7 +26,7 @@ use lv_bodies::{Automaton, Kind, SixByTable, SixSummary};
 use lv_edits::{Edit, Receipt};
 use lv_geometry::{Limits, Refusal};
 use lv_kinds::{KindAnswer, Kinds};
-use lv_live::Live;
+use lv_live::{BatchOutcome, Batched, Live};
 use lv_reduce::Answer;
 use lv_refresh::{Job, Outcome};
 use lv_summary::Accepted;
@@ -298,5 +299,13 @@ impl KindVector {
         ensures delivered { HasDelivery self.old self.new outcome.node outcome.version result }
     {
         self.live.accept(outcome)
+    }
+    /// Takes each outcome in, in order, as `accept` would where `vet` says yes; one of another vector changes nothing. Takes no memory.
+    pub fn accept_batch(&mut self, outcomes: &BatchOutcome<SixByTable>) -> Batched
+        ensures delivers { DeliversEach (six_operations_by (table_of self.old.body.automaton)) (λ body. table_of self.old.body.automaton ≡ table_of body.automaton) outcomes.now self.old self.new result }
+        ensures body { self.new.body ≡ self.old.body }
+        ensures history { self.new.history ≡ self.old.history }
+    {
+        self.live.accept_batch(outcomes)
     }
 }

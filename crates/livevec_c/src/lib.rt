@@ -1,6 +1,8 @@
 //! The vector for C: each export restates the contract of the library's own call, on what lies behind a slot.
 #![tactic(auto)]
 
+mod blocks;
+mod blocks_back;
 mod boards;
 mod boards_back;
 mod by_kind;

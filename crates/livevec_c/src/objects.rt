@@ -8,6 +8,7 @@ use crate::kind_vectors::KindVector;
 use crate::queries::Queries;
 use lv_board::{Closed, Elements};
 use lv_bodies::{Kind, SixByTable};
+use lv_live::{Batch, BatchOutcome};
 use lv_refresh::{Job, Outcome};
 use lv_series::Series;
 use std::alloc::Global;
@@ -20,6 +21,9 @@ pub enum Object {
     Vector(KindVector, Option<Kind>),
     Job(Job<SixByTable>),
     Outcome(Outcome<SixByTable>),
+    /// Jobs of many blocks, and what they gave.
+    Batch(Batch<SixByTable>),
+    BatchOutcome(BatchOutcome<SixByTable>),
     Board(KindBoard),
     Seat(KindSeat),
     Closed(Ended),

@@ -83,6 +83,17 @@ pub struct Element {
     pub value: i64,
 }
 
+/// What became of the outcomes of a batch.
+#[repr(C)]
+#[derive(Clone, Copy)]
+pub struct Taken {
+    pub refusal: u32,
+    pub installed: u64,
+    pub held: u64,
+    pub stale: u64,
+    pub strangers: u64,
+}
+
 /// The plain values of a list of elements, by each of the six kinds.
 #[repr(C)]
 #[derive(Clone, Copy)]

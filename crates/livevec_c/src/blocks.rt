@@ -1,0 +1,131 @@
+//! Jobs of many blocks at once: they are copied with the vector, and computed without it.
+ghost use Rattle.std.specs.Prelude.{◌≡◌, ◌<◌, ◌^◌, IfOk, None, length};
+ghost use Rattle.livevec_c.specs.declared.objects.Object.TheVariants as behind;
+ghost use Rattle.livevec_c.specs.Blocks.{Copies, CopiesObject, CopiesVector, KeepsCopies, RunsObject, RunsBlocks};
+
+use crate::objects::{Object, refill};
+use crate::results::{Count, IN_USE, NO_HANDLE, NO_MEMORY};
+use crate::slots::{Slot, is_full, put, take};
+use lv_bodies::SixByTable;
+use lv_live::{Batch, Live};
+use std::alloc::{AllocError, Global};
+
+// What a copy answers that was refused.
+fn not_copied(refusal: u32) -> Count
+    ensures { result ≡ record { refusal = refusal; value = 0 } }
+{
+    Count { refusal, value: 0 }
+}
+
+// A batch in a place of its own.
+fn place_of(alloc: Global, batch: Batch<SixByTable>) -> Result<Box<Object>, AllocError>
+    ensures { IfOk result (λ b. b.value ≡ behind.Batch batch) }
+{
+    Ok(Box::new(alloc, Object::Batch(batch))?)
+}
+
+// Puts a batch into an empty slot, where it has jobs.
+fn keep_copies(alloc: Global, batch: Batch<SixByTable>, slot: &mut Slot) -> Count
+    requires empty { slot.old.raw.inner ≡ None }
+    requires few { length batch < 2 ^ 32 }
+    ensures { KeepsCopies batch result slot.new.raw.inner }
+{
+    let jobs = batch.len();
+    if jobs == 0 {
+        return not_copied(0);
+    }
+    match place_of(alloc, batch) {
+        Err(AllocError) => not_copied(NO_MEMORY),
+        Ok(held) => {
+            put(slot, held);
+            Count {
+                refusal: 0,
+                value: jobs as u32,
+            }
+        }
+    }
+}
+
+// Copies blocks of a vector into an empty slot.
+fn copy_vector(
+    alloc: Global,
+    live: &Live<SixByTable>,
+    first: u32,
+    limit: u32,
+    slot: &mut Slot,
+) -> Count
+    requires { slot.old.raw.inner ≡ None }
+    ensures { CopiesVector first limit result live.now slot.new.raw.inner }
+{
+    match live.copy_blocks(alloc, first, limit) {
+        Err(_) => not_copied(NO_MEMORY),
+        Ok(batch) => keep_copies(alloc, batch, slot),
+    }
+}
+
+// Copies blocks of an object into an empty slot.
+fn copy_of(alloc: Global, object: &Object, first: u32, limit: u32, slot: &mut Slot) -> Count
+    requires { slot.old.raw.inner ≡ None }
+    ensures { CopiesObject first limit result object.now slot.new.raw.inner }
+{
+    match object {
+        Object::Vector(vector, _) => copy_vector(alloc, vector.live(), first, limit, slot),
+        _ => not_copied(NO_HANDLE),
+    }
+}
+
+/// Copies each block that is whole and not fresh, of at most so many from one on, into an empty slot. None is claimed by it.
+#[unsafe(no_mangle)]
+pub extern "C" fn livevec_proved_blocks(
+    alloc: Global,
+    slot: &mut Slot,
+    batch: &mut Slot,
+    first: u32,
+    limit: u32,
+) -> Count
+    ensures answer { Copies first limit result slot.old.raw.inner batch.old.raw.inner batch.new.raw.inner }
+    ensures same { slot.new.raw.inner ≡ slot.old.raw.inner }
+{
+    if is_full(batch) {
+        return not_copied(IN_USE);
+    }
+    match take(alloc, slot) {
+        None => not_copied(NO_HANDLE),
+        Some(held) => {
+            let answer = copy_of(alloc, &held, first, limit, batch);
+            put(slot, held);
+            answer
+        }
+    }
+}
+
+// Computes an object that is a batch of jobs.
+fn run_of(alloc: Global, object: &mut Object) -> u32
+    ensures { RunsObject result object.old object.new }
+{
+    match object {
+        Object::Batch(batch) => match batch.run(alloc) {
+            Err(_) => NO_MEMORY,
+            Ok(outcomes) => {
+                refill(object, Object::BatchOutcome(outcomes));
+                0
+            }
+        },
+        _ => NO_HANDLE,
+    }
+}
+
+/// Computes a batch of jobs. Their outcomes lie behind its slot then.
+#[unsafe(no_mangle)]
+pub extern "C" fn livevec_proved_run_blocks(alloc: Global, batch: &mut Slot) -> u32
+    ensures { RunsBlocks result batch.old.raw.inner batch.new.raw.inner }
+{
+    match take(alloc, batch) {
+        None => NO_HANDLE,
+        Some(mut held) => {
+            let answer = run_of(alloc, &mut held);
+            put(batch, held);
+            answer
+        }
+    }
+}
