@@ -32,4 +32,25 @@ uint32_t livevec_forget(livevec_vector *slot);
 uint32_t livevec_free_job(livevec_job *job);
 uint32_t livevec_free_outcome(livevec_outcome *outcome);
 
+/* Jobs of many blocks at once, for threads that help with much work. A block is 8 elements side by side; of `size` elements size / 8 are
+ * whole, and those are blocks 0, 1 and so on. Such a job claims nothing: threads that share the work ask for blocks apart. Summaries above the
+ * blocks are computed by livevec_refresh or by livevec_claim.
+ *
+ * Puts a job for each block that wants one, of the at most `limit` from block `first` on, into an empty slot; `value` tells how many. Where none
+ * wants one, or `first` is past the last, it is 0 and the slot stays empty. The slot holds nothing of the vector: 104 bytes a job, copied from it.
+ * Refusals: NULL, IN_USE (of the batch's slot), NO_HANDLE, NO_MEMORY. Who calls owes a livevec_accept_blocks or a livevec_free_batch. */
+LIVEVEC_MUST_USE livevec_count livevec_blocks(livevec_vector *slot, livevec_batch *batch, uint32_t first, uint32_t limit);
+
+/* Computes the jobs of a batch, on any thread, beside any call on the vector. The slot then has their outcomes, of some 250 bytes each, and no jobs.
+ * Refusals: NULL, NO_HANDLE (also of a batch that was run), NO_MEMORY; the jobs stay then. */
+LIVEVEC_MUST_USE uint32_t livevec_run_blocks(livevec_batch *batch);
+
+/* Takes in the outcomes of a batch that was run, each where livevec_vet would say yes, and tells how many of them became what. The batch's slot is
+ * empty then. Takes no memory. Refusals: NULL, NO_HANDLE (of either slot, and of a batch that was not run); the batch's slot stays as it is then. */
+LIVEVEC_MUST_USE livevec_taken livevec_accept_blocks(livevec_vector *slot, livevec_batch *batch);
+
+/* Frees a batch, run or not. The slot is then empty. Of a slot that holds something else it answers NO_HANDLE and frees nothing.
+ * Refusals: NULL, NO_HANDLE. */
+uint32_t livevec_free_batch(livevec_batch *batch);
+
 #endif

@@ -21,6 +21,13 @@ typedef struct livevec_outcome {
     unsigned char busy_;
 } livevec_outcome;
 
+/* Its slot has jobs of many blocks, and once those are run, what they gave. */
+typedef struct livevec_batch {
+    bool full_;
+    void *at_;
+    unsigned char busy_;
+} livevec_batch;
+
 /* Its slot has the board, and once that is closed, what it came to. */
 typedef struct livevec_board {
     bool full_;
@@ -210,6 +217,15 @@ typedef struct livevec_vetted {
     uint32_t refusal;
     bool yes;
 } livevec_vetted;
+
+/* What became of the outcomes of a batch, all 0 where it was refused. */
+typedef struct livevec_taken {
+    uint32_t refusal;
+    uint64_t installed; /* how many summaries are kept from now on */
+    uint64_t held;      /* how many were kept already */
+    uint64_t stale;     /* how many edits overtook */
+    uint64_t strangers; /* how many this vector can't vouch for: another vector's, as a rule */
+} livevec_taken;
 
 /* Why an edit would be refused, 0 where it would be accepted. */
 typedef struct livevec_verdict {

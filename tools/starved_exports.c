@@ -12,6 +12,7 @@
 static livevec_vector vector;
 static livevec_job job;
 static livevec_outcome outcome;
+static livevec_batch batch;
 static livevec_board board;
 static livevec_seat seat;
 static livevec_series series;
@@ -107,6 +108,12 @@ static void with_job(void)
     livevec_claim(&vector, &job);
 }
 
+static void with_batch(void)
+{
+    stale();
+    livevec_blocks(&vector, &batch, 0, 1);
+}
+
 static void with_board(void) { livevec_board_new(&board, LIVEVEC_SUM, 9, 100, 2); }
 
 /* A board with one edit, whose seat is handed in. */
@@ -160,6 +167,8 @@ static uint32_t swap(void) { return made(livevec_swap(&vector, 0, 7)); }
 static uint32_t cut(void) { return made(livevec_truncate(&vector, 3)); }
 static uint32_t claim(void) { return (claimed = livevec_claim(&vector, &job)).refusal; }
 static uint32_t run(void) { return livevec_run(&job, &outcome); }
+static uint32_t copy_blocks(void) { return livevec_blocks(&vector, &batch, 0, 1).refusal; }
+static uint32_t run_blocks(void) { return livevec_run_blocks(&batch); }
 static uint32_t new_board(void) { return livevec_board_new(&board, LIVEVEC_AFFINE, 9, 100, 8); }
 static uint32_t sit(void) { return livevec_board_sit(&board, &seat); }
 static uint32_t close_board(void) { return (closed = livevec_board_close(&board)).refusal; }
@@ -208,6 +217,8 @@ static bool is_ninth(void) { return edited.edit == 9 && livevec_edits(&vector).v
 static bool is_opened(void) { return is_ninth() && livevec_capacity(&vector).value == 24; }
 static bool is_claimed(void) { return claimed.level == 1 && claimed.number == 0 && claimed.version == 9; }
 static bool is_run(void) { return livevec_vet(&vector, &outcome).refusal == LIVEVEC_OK; }
+static bool is_copied(void) { return livevec_run_blocks(&batch) == LIVEVEC_OK; }
+static bool is_run_blocks(void) { return livevec_accept_blocks(&vector, &batch).installed == 1; }
 static bool is_board(void) { return livevec_board_sit(&board, &seat) == LIVEVEC_OK; }
 static bool is_seat(void) { return livevec_seat_push(&seat, 42, 1).edit == 1; }
 static bool is_pushed_many(void) { return pushed_many.pushed == 100 && pushed_many.edit == 108 && seen().sum == 108; }
@@ -253,6 +264,8 @@ static const struct {
     {"livevec_truncate", eight, cut, is_ninth},
     {"livevec_claim", stale, claim, is_claimed},
     {"livevec_run", with_job, run, is_run},
+    {"livevec_blocks", stale, copy_blocks, is_copied},
+    {"livevec_run_blocks", with_batch, run_blocks, is_run_blocks},
     {"livevec_board_new", nothing, new_board, is_board},
     {"livevec_board_sit", with_board, sit, is_seat},
     {"livevec_board_close", pushed, close_board, is_closed},

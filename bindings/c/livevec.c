@@ -83,7 +83,12 @@ TOLD_AT_TWO(run, (livevec_job *job, livevec_outcome *outcome), job, outcome, (jo
 ANSWERED_AT_TWO(livevec_vetted, vet, (livevec_vector *slot, livevec_outcome *outcome), slot, outcome, (slot, outcome))
 ANSWERED_AT_TWO(livevec_accepted, accept, (livevec_vector *slot, livevec_outcome *outcome), slot, outcome, (slot, outcome))
 TOLD(forget, (livevec_vector *slot), slot, (slot))
+ANSWERED_AT_TWO(livevec_count, blocks, (livevec_vector *slot, livevec_batch *batch, uint32_t first, uint32_t limit), slot, batch,
+                (slot, batch, first, limit))
+TOLD(run_blocks, (livevec_batch *batch), batch, (batch))
+ANSWERED_AT_TWO(livevec_taken, accept_blocks, (livevec_vector *slot, livevec_batch *batch), slot, batch, (slot, batch))
 
 FREED(free, livevec_vector)
 FREED(free_job, livevec_job)
 FREED(free_outcome, livevec_outcome)
+FREED(free_batch, livevec_batch)

@@ -289,6 +289,7 @@ int main(void)
     one_kind();
     places();
     queries();
+    blocks();
     summaries();
     boards();
     series();

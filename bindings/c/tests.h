@@ -49,4 +49,7 @@ void series_kinds(void);
 /* The tests of standing queries. */
 void queries(void);
 
+/* The tests of jobs of many blocks. */
+void blocks(void);
+
 #endif
