@@ -18,6 +18,7 @@ mod kind_seats;
 mod kind_vectors;
 mod laws;
 mod lifetimes;
+mod long_series;
 mod objects;
 mod only;
 mod outcomes;

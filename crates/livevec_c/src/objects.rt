@@ -5,12 +5,12 @@ use crate::ended::Ended;
 use crate::kind_boards::KindBoard;
 use crate::kind_seats::KindSeat;
 use crate::kind_vectors::KindVector;
+use crate::long_series::Series;
 use crate::queries::Queries;
 use lv_board::{Closed, Elements};
 use lv_bodies::{Kind, SixByTable};
 use lv_live::{Batch, BatchOutcome};
 use lv_refresh::{Job, Outcome};
-use lv_series::Series;
 use std::alloc::Global;
 use std::mem;
 

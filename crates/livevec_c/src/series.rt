@@ -6,12 +6,13 @@ ghost use Rattle.lv_series.specs.declared.edits.LongEdit.TheVariants as asked;
 ghost use Rattle.lv_series.specs.Series.{Answers};
 ghost use Rattle.livevec_c.specs.SeriesBehind.{EditsBehind, EditsLong, IsNewSeries, OpensSeries};
 
+use crate::long_series::Series;
 use crate::objects::Object;
 use crate::results::{IN_USE, NO_MEMORY};
 use crate::series_results::{SeriesEdited, edit_answer, not_edited, not_held};
 use crate::slots::{Slot, is_full, put, take};
 use lv_bodies::{Automaton, SixByTable};
-use lv_series::{LongEdit, LongReceipt, LongRefusal, Series};
+use lv_series::{LongEdit, LongReceipt, LongRefusal};
 use std::alloc::{AllocError, Global};
 
 // A new series in a place of its own.

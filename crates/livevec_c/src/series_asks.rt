@@ -2,6 +2,7 @@
 ghost use Rattle.std.specs.Prelude.{◌≡◌};
 ghost use Rattle.livevec_c.specs.SeriesBehind.{counts_behind, counts_in_object, counts_of, element_behind, element_in_object, no_counts, values_behind, values_in_object, values_of};
 
+use crate::long_series::Series;
 use crate::objects::Object;
 use crate::results::NO_HANDLE;
 use crate::series_results::{
@@ -10,7 +11,6 @@ use crate::series_results::{
 };
 use crate::slots::{Slot, put, take};
 use lv_bodies::SixByTable;
-use lv_series::Series;
 use std::alloc::Global;
 
 // An element of an object.

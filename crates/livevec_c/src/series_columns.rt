@@ -9,6 +9,7 @@ ghost use Rattle.lv_bodies.specs.Six.{six_operations_by, six_within};
 ghost use Rattle.lv_series.specs.Series.{range_refused, slice_of};
 ghost use Rattle.livevec_c.specs.SeriesPieces.{cell_up_to, column_behind, object_column, object_scanned, piece_put, piece_refused, piece_scanned, scanned_behind};
 
+use crate::long_series::Series;
 use crate::objects::Object;
 use crate::picked::Picked;
 use crate::results::plain_values;
@@ -16,7 +17,7 @@ use crate::series_pieces::{element_at, piece_answer, range_refusal};
 use crate::series_results::{SeriesScanned, not_held, not_scanned, refusal_answer};
 use crate::slots::{Slot, put, take};
 use lv_bodies::{Body, LongBody, SixByTable, SixSummary};
-use lv_series::{LongRefusal, Series};
+use lv_series::LongRefusal;
 use std::alloc::Global;
 
 // What stands before a piece of a scan: where its range starts, and what the elements from there on come to.

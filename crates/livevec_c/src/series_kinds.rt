@@ -4,6 +4,7 @@ ghost use Rattle.livevec_c.specs.Kinds.{kind_at};
 ghost use Rattle.livevec_c.specs.SeriesValued.{object_value, unkind, value_behind, value_of};
 
 use crate::boards::kind_of;
+use crate::long_series::Series;
 use crate::objects::Object;
 use crate::results::BAD_KIND;
 use crate::said::shown_values;
@@ -12,7 +13,6 @@ use crate::series_results::{
 };
 use crate::slots::{Slot, put, take};
 use lv_bodies::{Kind, SixByTable, face};
-use lv_series::Series;
 use std::alloc::Global;
 
 // That a number is of no kind.

@@ -4,11 +4,12 @@ ghost use Rattle.lv_series.specs.Series.{element_of, is_kept, range_refused, sli
 ghost use Rattle.livevec_c.specs.SeriesAnswers.{granted};
 ghost use Rattle.livevec_c.specs.SeriesPieces.{elements_behind, elements_put, elements_read, object_elements, object_read, read_behind};
 
+use crate::long_series::Series;
 use crate::objects::Object;
 use crate::series_results::{SeriesScanned, not_held, not_refused, not_scanned, refusal_answer};
 use crate::slots::{Slot, put, take};
 use lv_bodies::SixByTable;
-use lv_series::{LongRefusal, Series};
+use lv_series::LongRefusal;
 use std::alloc::Global;
 
 /// Why a range is refused, or none.

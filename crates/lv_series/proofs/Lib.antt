@@ -10,10 +10,12 @@ pub mod ChainSteps
 pub mod ChainSwaps
 pub mod ChainTrees
 pub mod FreeLaws
+pub mod HeldLaws
 pub mod PlacedLaws
 pub mod PlainLaws
 pub mod PushLaws
 pub mod RefreshLaws
+pub mod RoundLaws
 pub mod ScanSteps
 pub mod SeriesLaws
 pub mod ServedLaws

@@ -1,5 +1,5 @@
 -- Jobs of a chain's shards are of the chain's elements, and so of what a series keeps.
-use Rattle.std.proofs.Common.{◌≡◌, ℕ, ℤ, ◌+◌, ◌-◌, ◌*◌, ◌/◌, ◌^◌, ◌≤◌, Option, Some, None, IfSome, List, ◌++◌, length, take, slice_index_or, slice_range, sym, ap, subst, ◌∙◌, arith, length-append}
+use Rattle.std.proofs.Common.{◌≡◌, ℕ, ℤ, ◌+◌, ◌-◌, ◌*◌, ◌/◌, ◌^◌, ◌≤◌, Option, Some, None, IfNone, IfSome, List, ◌++◌, length, take, slice_index_or, slice_range, sym, ap, subst, ◌∙◌, arith, length-append}
 use Rattle.lv_bodies.specs.Body.{Operations, fold_of}
 use Rattle.lv_refresh.specs.Carried.{Carried}
 use Rattle.lv_refresh.specs.declared.contents.Contents.TheVariants.{Elements}
@@ -14,6 +14,15 @@ use Rattle.lv_series.proofs.SeriesLaws.{held_of, range_held, size_held}
 pub if_some : {A : Type 0} (P Q : A → Type 0) (found : Option A) → ((a : A) → P a → Q a) → IfSome found P → IfSome found Q
 if_some P Q (Some a) follows holds = follows a holds
 if_some P Q None follows holds = holds
+
+pub if_both : {A : Type 0} (P Q R : A → Type 0) (found : Option A) → ((a : A) → P a → Q a → R a) → IfSome found P → IfSome found Q → IfSome found R
+if_both P Q R (Some a) follows holds also = follows a holds also
+if_both P Q R None follows holds also = holds
+
+-- what holds where there is none, and what follows from it
+pub if_none : {A : Type 0} (P Q : Type 0) (found : Option A) → (P → Q) → IfNone found P → IfNone found Q
+if_none P Q None follows holds = follows holds
+if_none P Q (Some a) follows holds = holds
 
 module _ {B S : Type 0} (ops : B → Operations S) (full : List (Holding B)) (tail : Holding B) where
   -- a job of the shard at an index, told its number

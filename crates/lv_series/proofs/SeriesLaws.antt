@@ -1,10 +1,11 @@
 -- What a series keeps, as a chain without its first elements: what each edit does to it.
-use Rattle.std.proofs.Common.{◌≡◌, ℕ, ℤ, ◌+◌, ◌-◌, ◌<◌, ◌≤◌, true, List, [], ◌∷◌, ◌++◌, length, take, drop, slice_index_or, slice_range, slice_set, nat_le, nat_lt, sym, ap, ◌∙◌, arith, length-drop}
+use Rattle.std.proofs.Common.{◌≡◌, ℕ, ℤ, ◌+◌, ◌-◌, ◌*◌, ◌/◌, ◌^◌, ◌<◌, ◌≤◌, true, List, [], ◌∷◌, ◌++◌, length, take, drop, slice_index_or, slice_range, slice_set, nat_le, nat_lt, sym, ap, subst, ◌∙◌, arith, length-drop}
 use Rattle.std.specs.List.{swap}
 use Rattle.std.proofs.lemmas.Bool.{and_parts, leb-true, ltb-true}
 use Rattle.std.proofs.lemmas.List.{drop-append-le, drop-drop, drop-set-add, drop-take, get_or-drop}
 use Rattle.lv_series.specs.declared.edits.LongEdit.TheVariants.{Push, Pop, Write, Expire, Swap, Truncate}
 use Rattle.lv_series.specs.Series.{Held, changed, is_border, is_kept, size_of}
+use Rattle.lv_series.specs.Shard.{Holding}
 use Rattle.lv_series.proofs.SwapLaws.{swap_dropped}
 
 -- what is kept where so many elements are gone, and so many more are skipped
@@ -79,3 +80,7 @@ module _ (gone skip : ℕ) (els : List ℤ) (inside : skip ≤ length els) where
       let count : shed + (i - (gone + shed)) ≡ skip + (i - (gone + skip)) = omega arith in
       ap (λ n. record { first = n; elements = drop (i - (gone + shed)) (drop shed els) }) first
       ∙ ap (λ ys. record { first = i; elements = ys }) (drop-drop (i - (gone + shed)) shed els ∙ ap (λ n. drop n els) count ∙ sym (drop-drop (i - (gone + skip)) skip els))
+
+-- what a series keeps to where its chain holds the same
+pub series_stays : {B : Type 0} (old new : Holding B) (gone skip : ℕ) → new ≡ old → (skip ≤ length old.elements) × (gone + length old.elements ≤ 2 ^ 62) × (skip ≤ 32760) × (gone ≡ 32760 * (gone / 32760)) → (skip ≤ length new.elements) × (gone + length new.elements ≤ 2 ^ 62) × (skip ≤ 32760) × (gone ≡ 32760 * (gone / 32760))
+series_stays old new gone skip same kept = subst (λ (h : Holding _). (skip ≤ length h.elements) × (gone + length h.elements ≤ 2 ^ 62) × (skip ≤ 32760) × (gone ≡ 32760 * (gone / 32760))) (sym same) kept

@@ -4,7 +4,7 @@ use Rattle.std.specs.List.{flat_map}
 use Rattle.lv_geometry.specs.Elements.{IsElement}
 use Rattle.lv_bodies.specs.Body.{Operations, fold_of}
 use Rattle.lv_bodies.specs.Long.{CanFoldLong}
-use Rattle.lv_series.specs.Shard.{Holding}
+use Rattle.lv_series.specs.Shard.{AllShards, Holding}
 use Rattle.lv_sums.specs.Sums.{SumsState}
 
 -- the elements of some shards
@@ -36,6 +36,11 @@ pub record IsSummed {B S : Type 0} (ops : B → Operations S) (full : List (Hold
   pub chain : IsChain (ops tail.body) full sums.sums tail
   pub body : sums.body ≡ tail.body
   pub first : sums.first ≡ 0
+
+-- a chain: what it holds, and its shards
+pub record ChainState (B S : Type 0) : Type 0 where
+  pub held : Holding B
+  pub shards : AllShards B S
 
 -- three summaries are the folds of lists that can be folded end to end
 pub record Joinable {S : Type 0} (o : Operations S) (front middle end : S) : Type 0 where

@@ -4,7 +4,9 @@ pub mod Numbers
 pub mod Plain
 pub mod Pushes
 pub mod Refresh
+pub mod Rounds
 pub mod ScanLaws
 pub mod Series
 pub mod Served
 pub mod Shard
+pub mod Sharded

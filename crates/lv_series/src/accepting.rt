@@ -11,7 +11,7 @@ use lv_bodies::LongBody;
 impl<B: LongBody> Series<B> {
     /// Puts an element at the end. Refused with `Worn`, `Full`, then `NoMemory`.
     pub fn push(&mut self, x: i64) -> Result<LongReceipt, LongRefusal>
-        ensures { Answers self.old (LongEdit.Push x) result self.new }
+        ensures { Answers self.old.kept (LongEdit.Push x) result self.new.kept }
     {
         match self.verdict(&LongEdit::Push(x)) {
             Some(refusal) => Err(refusal),
@@ -21,8 +21,8 @@ impl<B: LongBody> Series<B> {
 
     // Puts an element at the end, where nothing refuses it.
     fn make_push(&mut self, x: i64) -> Result<LongReceipt, LongRefusal>
-        requires { refused self.old (LongEdit.Push x) ≡ None }
-        ensures { Answers self.old (LongEdit.Push x) result self.new }
+        requires { refused self.old.kept (LongEdit.Push x) ≡ None }
+        ensures { Answers self.old.kept (LongEdit.Push x) result self.new.kept }
     {
         let index = self.size();
         match self.chain.push(x) {
@@ -39,7 +39,7 @@ impl<B: LongBody> Series<B> {
 
     /// Drops the last element. Refused with `Worn`, `Empty`, then `NoMemory`.
     pub fn pop(&mut self) -> Result<LongReceipt, LongRefusal>
-        ensures { Answers self.old LongEdit.Pop result self.new }
+        ensures { Answers self.old.kept LongEdit.Pop result self.new.kept }
     {
         match self.verdict(&LongEdit::Pop) {
             Some(refusal) => Err(refusal),
@@ -49,8 +49,8 @@ impl<B: LongBody> Series<B> {
 
     // Drops the last element, where nothing refuses that.
     fn make_pop(&mut self) -> Result<LongReceipt, LongRefusal>
-        requires { refused self.old LongEdit.Pop ≡ None }
-        ensures { Answers self.old LongEdit.Pop result self.new }
+        requires { refused self.old.kept LongEdit.Pop ≡ None }
+        ensures { Answers self.old.kept LongEdit.Pop result self.new.kept }
     {
         let value = self.chain.get(self.chain.len() - 1);
         match self.chain.pop() {
@@ -67,7 +67,7 @@ impl<B: LongBody> Series<B> {
 
     /// Overwrites the element under an index. Refused with `Worn`, `OutOfRange`, then `NoMemory`.
     pub fn write(&mut self, index: u64, value: i64) -> Result<LongReceipt, LongRefusal>
-        ensures { Answers self.old (LongEdit.Write index value) result self.new }
+        ensures { Answers self.old.kept (LongEdit.Write index value) result self.new.kept }
     {
         match self.verdict(&LongEdit::Write { index, value }) {
             Some(refusal) => Err(refusal),
@@ -77,8 +77,8 @@ impl<B: LongBody> Series<B> {
 
     // Overwrites an element, where nothing refuses that.
     fn make_write(&mut self, index: u64, value: i64) -> Result<LongReceipt, LongRefusal>
-        requires { refused self.old (LongEdit.Write index value) ≡ None }
-        ensures { Answers self.old (LongEdit.Write index value) result self.new }
+        requires { refused self.old.kept (LongEdit.Write index value) ≡ None }
+        ensures { Answers self.old.kept (LongEdit.Write index value) result self.new.kept }
     {
         let position = index - self.gone;
         let before = self.chain.get(position);
@@ -97,7 +97,7 @@ impl<B: LongBody> Series<B> {
     /// Drops the elements before an index; the others keep their indices, and the memory of whole shards comes back. Refused with
     /// `Worn`, then `OutOfRange`. Takes no memory.
     pub fn expire(&mut self, index: u64) -> Result<LongReceipt, LongRefusal>
-        ensures { Answers self.old (LongEdit.Expire index) result self.new }
+        ensures { Answers self.old.kept (LongEdit.Expire index) result self.new.kept }
     {
         match self.verdict(&LongEdit::Expire(index)) {
             Some(refusal) => Err(refusal),
@@ -107,8 +107,8 @@ impl<B: LongBody> Series<B> {
 
     // Drops the elements before an index, where nothing refuses that.
     fn make_expiry(&mut self, index: u64) -> LongReceipt
-        requires { refused self.old (LongEdit.Expire index) ≡ None }
-        ensures { Accepts self.old (LongEdit.Expire index) result self.new }
+        requires { refused self.old.kept (LongEdit.Expire index) ≡ None }
+        ensures { Accepts self.old.kept (LongEdit.Expire index) result self.new.kept }
     {
         let dropped = index - self.first();
         let shed = self.chain.shed(index - self.gone);
@@ -124,7 +124,7 @@ impl<B: LongBody> Series<B> {
     /// Exchanges the elements under two indices, which may be one. Refused with `Worn`, `OutOfRange`, then `NoMemory`. Where they lie in
     /// two shards, the one in front is made anew.
     pub fn swap(&mut self, first: u64, second: u64) -> Result<LongReceipt, LongRefusal>
-        ensures { Answers self.old (LongEdit.Swap first second) result self.new }
+        ensures { Answers self.old.kept (LongEdit.Swap first second) result self.new.kept }
     {
         match self.verdict(&LongEdit::Swap { first, second }) {
             Some(refusal) => Err(refusal),
@@ -134,8 +134,8 @@ impl<B: LongBody> Series<B> {
 
     // Exchanges two elements, where nothing refuses that.
     fn make_swap(&mut self, first: u64, second: u64) -> Result<LongReceipt, LongRefusal>
-        requires { refused self.old (LongEdit.Swap first second) ≡ None }
-        ensures { Answers self.old (LongEdit.Swap first second) result self.new }
+        requires { refused self.old.kept (LongEdit.Swap first second) ≡ None }
+        ensures { Answers self.old.kept (LongEdit.Swap first second) result self.new.kept }
     {
         let place = first - self.gone;
         let other = second - self.gone;
@@ -156,7 +156,7 @@ impl<B: LongBody> Series<B> {
 
     /// Drops the elements from an index on. Refused with `Worn`, `OutOfRange`, then `NoMemory`.
     pub fn truncate(&mut self, size: u64) -> Result<LongReceipt, LongRefusal>
-        ensures { Answers self.old (LongEdit.Truncate size) result self.new }
+        ensures { Answers self.old.kept (LongEdit.Truncate size) result self.new.kept }
     {
         match self.verdict(&LongEdit::Truncate(size)) {
             Some(refusal) => Err(refusal),
@@ -166,8 +166,8 @@ impl<B: LongBody> Series<B> {
 
     // Drops the elements from an index on, where nothing refuses that.
     fn make_cut(&mut self, size: u64) -> Result<LongReceipt, LongRefusal>
-        requires { refused self.old (LongEdit.Truncate size) ≡ None }
-        ensures { Answers self.old (LongEdit.Truncate size) result self.new }
+        requires { refused self.old.kept (LongEdit.Truncate size) ≡ None }
+        ensures { Answers self.old.kept (LongEdit.Truncate size) result self.new.kept }
     {
         let dropped = self.size() - size;
         match self.chain.truncate(size - self.gone) {

@@ -1,11 +1,9 @@
 //! The age of a shard's vector, and what is claimed and taken in under it.
-ghost use Rattle.std.specs.Prelude.{◌≡◌, ◌↔◌, ◌+◌, ◌<◌, ◌≤◌, ◌⊎◌, IsTrue, IfSome, option_map, true, false};
+ghost use Rattle.std.specs.Prelude.{◌≡◌, ◌↔◌, ◌+◌, ◌<◌, IsTrue, IfNone, IfSome, nat_eq, true, if◌then◌else◌};
 ghost use Rattle.lv_edits.specs.Kept.{IsLegalInLimits};
 ghost use Rattle.lv_edits.specs.History.{list_of};
-ghost use Rattle.lv_live.specs.State.{HasClaim, node_and_version, recorded};
-ghost use Rattle.lv_refresh.specs.Claim.{IsNextJob};
-ghost use Rattle.lv_refresh.specs.Honesty.{IsHonest, Vouched};
-ghost use Rattle.lv_series.specs.Refresh.{IsPartOf, Receives, Delivers, is_taken};
+ghost use Rattle.lv_series.specs.Refresh.{Delivers, IsPartOf, IsVouched, Receives, is_taken};
+ghost use Rattle.lv_series.specs.Sharded.{GivesJob, GivesNone};
 
 use crate::jobs::{LongJob, LongJobOf, LongOutcome};
 use crate::vectors::Live;
@@ -13,43 +11,49 @@ use lv_bodies::Body;
 use lv_refresh::Outcome;
 use lv_summary::Accepted;
 
-/// Lets a vector without an age take the next one, which no vector had. Tells whether it has one; ages could only run out at 2^64.
-pub fn take_age(age: &mut u64, ages: &mut u64) -> bool
-    ensures has { result ≡ true → 0 < age.new }
-    ensures none { result ≡ false → age.new ≡ 0 }
-    ensures kept { 0 < age.old → (age.new ≡ age.old) × (ages.new ≡ ages.old) }
-    ensures taken { age.old ≡ 0 → result ≡ true → (ages.new ≡ ages.old + 1) × (age.new ≡ ages.new) }
-    ensures out { result ≡ false → ages.old ≡ u64.MAX }
-    ensures rise { ages.old ≤ ages.new }
+// Lets a vector without an age take the next one, which no vector had.
+fn take_age(age: &mut u64, ages: &mut u64)
+    requires { age.old ≡ 0 → ages.old < 18446744073709551615 }
+    ensures age { age.new ≡ (if nat_eq age.old 0 then ages.old + 1 else age.old) }
+    ensures ages { ages.new ≡ (if nat_eq age.old 0 then ages.old + 1 else ages.old) }
 {
-    if *age == 0 && *ages < u64::MAX {
+    if *age == 0 {
         *ages += 1;
         *age = *ages;
     }
-    *age > 0
 }
 
-/// The next job of a vector, with the number of its shard and an age; none exactly where no node of the vector wants one.
-pub fn claim_under<B: Body>(live: &mut Live<B>, number: u64, age: u64) -> Option<LongJob<B>>
+/// The next job of a vector, with the number of its shard, under its age, which it takes now where it has none; none exactly where no
+/// node of the vector wants one, or no age is left.
+pub fn claim_under<B: Body>(
+    live: &mut Live<B>,
+    age: &mut u64,
+    ages: &mut u64,
+    number: u64,
+) -> Option<LongJob<B>>
     requires { IsLegalInLimits live.old.history }
-    ensures next { IsNextJob (recorded live.old) (option_map (λ job. node_and_version job.job) result) }
-    ensures claimed { HasClaim live.old live.new (option_map (λ job. node_and_version job.job) result) }
-    ensures honest { IfSome result (λ job. IsHonest (B.operations (B.meaning live.old.body)) (recorded live.new) job.job.node job.job.version job.job.contents) }
+    ensures history { live.new.history ≡ live.old.history }
+    ensures body { live.new.body ≡ live.old.body }
+    ensures none { IfNone result (GivesNone ages.old ages.new (record { live = live.old; age = age.old }) (record { live = live.new; age = age.new })) }
+    ensures some { IfSome result (λ job. GivesJob (B.operations (B.meaning live.old.body)) ages.old ages.new (record { live = live.old; age = age.old }) (record { live = live.new; age = age.new }) job.age job.job) }
     ensures part { IfSome result (λ job. IsPartOf (B.operations (B.meaning live.old.body)) 0 (list_of live.old.history.journal) job.job) }
-    ensures body { IfSome result (λ job. job.job.body ≡ live.old.body) }
     ensures shard { IfSome result (λ job. job.shard ≡ number) }
-    ensures age { IfSome result (λ job. job.age ≡ age) }
 {
+    if *age == 0 && *ages == u64::MAX {
+        return None;
+    }
     match live.claim() {
-        Some(job) => Some(LongJobOf::new(number, age, job)),
+        Some(job) => {
+            take_age(age, ages);
+            Some(LongJobOf::new(number, *age, job))
+        }
         None => None,
     }
 }
 
 /// Whether an outcome may be taken into a vector of an age: it is of another age, so that it is stale, or else it is vouched for.
 pub fn vet_under<B: Body>(live: &Live<B>, age: u64, outcome: &LongOutcome<B>) -> bool
-    ensures { IsTrue result ↔ (outcome.now.age ≡ age → Vouched (B.operations (B.meaning live.now.body)) (recorded live.now)
-        (B.meaning live.now.body ≡ B.meaning outcome.now.job.body) outcome.now.job.node outcome.now.job.version outcome.now.job.contents) }
+    ensures { IsTrue result ↔ (outcome.now.age ≡ age → IsVouched (B.operations (B.meaning live.now.body)) (B.meaning live.now.body ≡ B.meaning outcome.now.job.body) live.now outcome.now.job) }
 {
     if outcome.age() != age {
         return true;

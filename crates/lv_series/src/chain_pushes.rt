@@ -1,5 +1,6 @@
 //! Many pushes at a chain at once: all of them, or none.
 ghost use Rattle.std.specs.Prelude.{◌≡◌, ◌+◌, ◌*◌, ◌^◌, ◌≤◌, ◌++◌, length, take, OnOk, OnErr};
+ghost use Rattle.lv_series.specs.Shard.{held_by};
 
 use crate::chains::Chain;
 use crate::cutting::keep_front;
@@ -12,9 +13,9 @@ impl<B: LongBody> Chain<B> {
     /// Puts elements at the end, all of them or none. Where the last shard has no room for them, a copy of it is made first: it takes its
     /// place again where memory is wanting later.
     pub fn push_all(&mut self, values: &[i64]) -> Result<(), AllocError>
-        requires { length self.old.elements + length values.now ≤ 2 ^ 62 }
-        ensures ok { OnOk result (self.new ≡ record self.old { elements = self.old.elements ++ values.now }) }
-        ensures err { OnErr result (self.new ≡ self.old) }
+        requires { length self.old.held.elements + length values.now ≤ 2 ^ 62 }
+        ensures ok { OnOk result (self.new.held ≡ record self.old.held { elements = self.old.held.elements ++ values.now }) }
+        ensures err { OnErr result (self.new.held ≡ self.old.held) }
     {
         let room = SHARD - self.tail.len();
         if values.len() <= room as usize {
@@ -34,13 +35,13 @@ impl<B: LongBody> Chain<B> {
         number: usize,
         last: &mut Shard<B>,
     ) -> Result<(), AllocError>
-        requires few { length self.old.elements + length values.now ≤ 2 ^ 62 }
-        requires front { 32760 * number ≤ length self.old.elements }
-        requires parts { self.old.elements ≡ take (32760 * number) self.old.elements ++ last.old.elements }
-        requires body { last.old.body ≡ self.old.body }
-        requires short { length last.old.elements ≤ 32760 }
-        ensures ok { OnOk result (self.new ≡ record self.old { elements = self.old.elements ++ values.now }) }
-        ensures err { OnErr result (self.new ≡ self.old) }
+        requires few { length self.old.held.elements + length values.now ≤ 2 ^ 62 }
+        requires front { 32760 * number ≤ length self.old.held.elements }
+        requires parts { self.old.held.elements ≡ take (32760 * number) self.old.held.elements ++ (held_by last.old).elements }
+        requires body { (held_by last.old).body ≡ self.old.held.body }
+        requires short { length (held_by last.old).elements ≤ 32760 }
+        ensures ok { OnOk result (self.new.held ≡ record self.old.held { elements = self.old.held.elements ++ values.now }) }
+        ensures err { OnErr result (self.new.held ≡ self.old.held) }
     {
         let before = self.len();
         match self.push_each(values) {
@@ -54,10 +55,10 @@ impl<B: LongBody> Chain<B> {
 
     // Puts elements at the end, one after another, until memory is wanting.
     fn push_each(&mut self, values: &[i64]) -> Result<(), AllocError>
-        requires { length self.old.elements + length values.now ≤ 2 ^ 62 }
-        ensures body { self.new.body ≡ self.old.body }
-        ensures front { take (length self.old.elements) self.new.elements ≡ self.old.elements }
-        ensures ok { OnOk result (self.new.elements ≡ self.old.elements ++ values.now) }
+        requires { length self.old.held.elements + length values.now ≤ 2 ^ 62 }
+        ensures body { self.new.held.body ≡ self.old.held.body }
+        ensures front { take (length self.old.held.elements) self.new.held.elements ≡ self.old.held.elements }
+        ensures ok { OnOk result (self.new.held.elements ≡ self.old.held.elements ++ values.now) }
     {
         for i in 0..values.len() {
             self.push(values[i])?;
@@ -67,12 +68,12 @@ impl<B: LongBody> Chain<B> {
 
     // Keeps so many elements, the first ones: those of so many full shards, and of another that becomes the last one. Takes no memory.
     fn go_back(&mut self, before: u64, number: usize, last: &mut Shard<B>)
-        requires least { before ≤ length self.old.elements }
-        requires parts { take before self.old.elements ≡ take (32760 * number) self.old.elements ++ last.old.elements }
+        requires least { before ≤ length self.old.held.elements }
+        requires parts { take before self.old.held.elements ≡ take (32760 * number) self.old.held.elements ++ (held_by last.old).elements }
         requires front { 32760 * number ≤ before }
-        requires body { last.old.body ≡ self.old.body }
-        requires short { length last.old.elements ≤ 32760 }
-        ensures { self.new ≡ record self.old { elements = take before self.old.elements } }
+        requires body { (held_by last.old).body ≡ self.old.held.body }
+        requires short { length (held_by last.old).elements ≤ 32760 }
+        ensures { self.new.held ≡ record self.old.held { elements = take before self.old.held.elements } }
     {
         if self.len() <= before {
             return;

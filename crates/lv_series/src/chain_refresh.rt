@@ -1,6 +1,7 @@
 //! Refresh of a chain, shard after shard. Its first shard has a number that it is told.
-ghost use Rattle.std.specs.Prelude.{◌≡◌, ◌+◌, ◌-◌, ◌*◌, ◌^◌, ◌<◌, ◌≤◌, true, length, IfSome, IfNone, ◌⊎◌};
+ghost use Rattle.std.specs.Prelude.{◌≡◌, ◌↔◌, ◌+◌, ◌-◌, ◌*◌, ◌^◌, ◌<◌, ◌≤◌, true, length, IsTrue, IfSome, IfNone, ◌⊎◌};
 ghost use Rattle.lv_series.specs.Refresh.{IsFair, IsPlaced, is_taken};
+ghost use Rattle.lv_series.specs.Sharded.{ClaimsAt, ClaimsNone, ForgetsAll, IsVetted, TakesAll, TakesOutcome};
 
 use crate::chains::Chain;
 use crate::jobs::{LongJob, LongOutcome};
@@ -12,16 +13,19 @@ use lv_summary::Accepted;
 impl<B: LongBody> Chain<B> {
     /// The next job of the first shard that has one. Takes no memory.
     pub fn claim(&mut self, first: u64, ages: &mut u64) -> Option<LongJob<B>>
-        requires { first + length self.old.elements < 2 ^ 64 }
-        ensures same { self.new ≡ self.old }
-        ensures placed { IfSome result (λ job. IsPlaced (B.operations (B.meaning self.old.body)) self.old.elements first job.shard job.job) }
+        requires { first + length self.old.held.elements < 2 ^ 64 }
+        ensures held { self.new.held ≡ self.old.held }
+        ensures none { IfNone result (ClaimsNone self.old.shards self.new.shards ages.old ages.new) }
+        ensures some { IfSome result (λ job. ClaimsAt self.old.shards self.new.shards (λ b. B.operations (B.meaning b)) ages.old ages.new first job.shard job.age job.job) }
+        ensures placed { IfSome result (λ job. IsPlaced (B.operations (B.meaning self.old.held.body)) self.old.held.elements first job.shard job.job) }
     {
         claim_first(&mut self.full, &mut self.tail, first, ages)
     }
 
     /// Whether an outcome may be delivered: it is stale, or its shard vouches for it.
     pub fn vet(&self, first: u64, outcome: &LongOutcome<B>) -> bool
-        ensures { (first ≤ outcome.now.shard → IsFair (B.meaning self.now.body ≡ B.meaning outcome.now.job.body) (32760 * (outcome.now.shard - first)) self.now.elements outcome.now.job) → result ≡ true }
+        ensures exact { IsTrue result ↔ IsVetted (λ b. B.operations (B.meaning b)) (λ b. B.meaning b ≡ B.meaning outcome.now.job.body) first self.now.shards outcome.now.shard outcome.now.age outcome.now.job }
+        ensures fair { (first ≤ outcome.now.shard → IsFair (B.meaning self.now.held.body ≡ B.meaning outcome.now.job.body) (32760 * (outcome.now.shard - first)) self.now.held.elements outcome.now.job) → result ≡ true }
     {
         match index_of(first, outcome.shard(), self.full.len()) {
             Some(index) => shard_at(&self.full, &self.tail, index).vet(outcome),
@@ -31,8 +35,9 @@ impl<B: LongBody> Chain<B> {
 
     /// Delivers an outcome. One of a shard that isn't there is stale. Takes no memory.
     pub fn accept(&mut self, first: u64, outcome: LongOutcome<B>) -> Accepted
-        ensures same { self.new ≡ self.old }
-        ensures placed { is_taken result ≡ true → IsPlaced (B.operations (B.meaning self.old.body)) self.old.elements first outcome.shard outcome.job }
+        ensures held { self.new.held ≡ self.old.held }
+        ensures accepts { TakesOutcome (λ b. B.operations (B.meaning b)) (λ b. B.meaning b ≡ B.meaning outcome.job.body) first self.old.shards outcome.shard outcome.age outcome.job result self.new.shards }
+        ensures placed { is_taken result ≡ true → IsPlaced (B.operations (B.meaning self.old.held.body)) self.old.held.elements first outcome.shard outcome.job }
     {
         match index_of(first, outcome.shard(), self.full.len()) {
             Some(index) => accept_at(&mut self.full, &mut self.tail, index, outcome),
@@ -40,17 +45,19 @@ impl<B: LongBody> Chain<B> {
         }
     }
 
-    /// Does jobs in place, at most so many, those of the first shards first. Tells how many. Takes no memory.
+    /// Does jobs in place, at most so many, those of the first shards first. Tells how many; fewer only where no shard has one any
+    /// longer. Takes no memory.
     pub fn refresh(&mut self, jobs: u32) -> u32
-        ensures same { self.new ≡ self.old }
-        ensures most { result ≤ jobs }
+        ensures held { self.new.held ≡ self.old.held }
+        ensures turns { TakesAll self.old.shards self.new.shards (λ b. B.operations (B.meaning b)) jobs result }
     {
         refresh_each(&mut self.full, &mut self.tail, jobs)
     }
 
     /// Forgets the claims of all shards. Takes no memory.
     pub fn forget_claims(&mut self)
-        ensures { self.new ≡ self.old }
+        ensures held { self.new.held ≡ self.old.held }
+        ensures forgotten { ForgetsAll self.old.shards self.new.shards }
     {
         forget_each(&mut self.full, &mut self.tail);
     }

@@ -2,6 +2,8 @@
 ghost use Rattle.std.specs.Prelude.{◌≡◌, ◌+◌, ◌-◌, ◌*◌, ◌/◌, ◌^◌, ◌<◌, ◌≤◌, pos, [], ◌∷◌, ◌++◌, length, take, drop, slice_set, OnOk, OnErr, All};
 ghost use Rattle.std.specs.List.{slice_index_or, swap};
 ghost use Rattle.lv_geometry.specs.Elements.{IsElement};
+ghost use Rattle.lv_series.specs.Shard.{held_by};
+ghost use Rattle.lv_series.specs.Sharded.{IsNewShard};
 
 use crate::changing::{put_shard, swap_in, write_in, written_copy};
 use crate::cutting::{cut, drop_front, unroll};
@@ -26,20 +28,22 @@ pub struct Chain<B: LongBody> {
 }
 
 impl<B: LongBody> Model for Chain<B> {
-    ghost use Rattle.lv_series.specs.Shard.{Holding};
-    ghost use Rattle.lv_series.specs.Chain.{IsSummed, all_in};
+    ghost use Rattle.lv_series.specs.Shard.{all_of, held_by, held_by_each};
+    ghost use Rattle.lv_series.specs.Chain.{ChainState, IsSummed, all_in};
 
-    ghost Value = { Holding B };
+    ghost Value = { ChainState B B.S };
 
-    ghost view = { λ a. record { body = a.tail.body; elements = all_in a.full.items a.tail } };
+    ghost view = { λ a. record { held = record { body = (held_by a.tail).body; elements = all_in (held_by_each a.full.items) (held_by a.tail) }; shards = all_of a.full.items a.tail } };
 
-    ghost invariant = { λ a. IsSummed (λ b. B.operations (B.meaning b)) a.full.items a.sums a.tail };
+    ghost invariant = { λ a. IsSummed (λ b. B.operations (B.meaning b)) (held_by_each a.full.items) a.sums (held_by a.tail) };
 }
 
 impl<B: LongBody> Chain<B> {
     /// No elements. Takes no memory.
     pub fn new(alloc: Global, body: B) -> Chain<B>
-        ensures { result ≡ record { body = body; elements = [] } }
+        ensures held { result.held ≡ record { body = body; elements = [] } }
+        ensures none { result.shards.full ≡ [] }
+        ensures fresh { IsNewShard result.shards.last }
     {
         Chain {
             alloc,
@@ -52,16 +56,16 @@ impl<B: LongBody> Chain<B> {
     /// How many elements there are.
     #[inline(always)]
     pub fn len(&self) -> u64
-        ensures value { result ≡ length self.now.elements }
+        ensures value { result ≡ length self.now.held.elements }
         ensures few { result ≤ 2 ^ 62 }
-        ensures elements { All IsElement self.now.elements }
+        ensures elements { All IsElement self.now.held.elements }
     {
         self.full.len() as u64 * SHARD as u64 + self.tail.len() as u64
     }
 
     /// How many shards there are.
     pub fn shards(&self) -> usize
-        ensures { 32760 * result ≤ length self.now.elements + 32760 }
+        ensures { 32760 * result ≤ length self.now.held.elements + 32760 }
     {
         self.full.len() + 1
     }
@@ -69,15 +73,15 @@ impl<B: LongBody> Chain<B> {
     /// The body by which it reduces.
     #[inline(always)]
     pub fn body(&self) -> B
-        ensures { result ≡ self.now.body }
+        ensures { result ≡ self.now.held.body }
     {
         self.tail.body()
     }
 
     /// The element at a position.
     pub fn get(&self, position: u64) -> i64
-        requires { position < length self.now.elements }
-        ensures { result ≡ slice_index_or self.now.elements position (pos 0) }
+        requires { position < length self.now.held.elements }
+        ensures { result ≡ slice_index_or self.now.held.elements position (pos 0) }
     {
         let place = place_of(position, self.full.len());
         shard_at(&self.full, &self.tail, place.shard).get(place.index)
@@ -85,9 +89,9 @@ impl<B: LongBody> Chain<B> {
 
     /// Puts an element at the end.
     pub fn push(&mut self, x: i64) -> Result<(), AllocError>
-        requires { length self.old.elements < 2 ^ 62 }
-        ensures ok { OnOk result (self.new ≡ record self.old { elements = self.old.elements ++ x ∷ [] }) }
-        ensures err { OnErr result (self.new ≡ self.old) }
+        requires { length self.old.held.elements < 2 ^ 62 }
+        ensures ok { OnOk result (self.new.held ≡ record self.old.held { elements = self.old.held.elements ++ x ∷ [] }) }
+        ensures err { OnErr result (self.new.held ≡ self.old.held) }
     {
         if self.tail.len() < SHARD {
             return self.tail.push(x);
@@ -103,9 +107,9 @@ impl<B: LongBody> Chain<B> {
 
     /// Drops the last element.
     pub fn pop(&mut self) -> Result<(), AllocError>
-        requires { 0 < length self.old.elements }
-        ensures ok { OnOk result (self.new ≡ record self.old { elements = take (length self.old.elements - 1) self.old.elements }) }
-        ensures err { OnErr result (self.new ≡ self.old) }
+        requires { 0 < length self.old.held.elements }
+        ensures ok { OnOk result (self.new.held ≡ record self.old.held { elements = take (length self.old.held.elements - 1) self.old.held.elements }) }
+        ensures err { OnErr result (self.new.held ≡ self.old.held) }
     {
         if self.tail.len() > 0 {
             return self.tail.pop();
@@ -116,9 +120,9 @@ impl<B: LongBody> Chain<B> {
 
     /// Overwrites the element at a position.
     pub fn write(&mut self, position: u64, value: i64) -> Result<(), AllocError>
-        requires { position < length self.old.elements }
-        ensures ok { OnOk result (self.new ≡ record self.old { elements = slice_set self.old.elements position value }) }
-        ensures err { OnErr result (self.new ≡ self.old) }
+        requires { position < length self.old.held.elements }
+        ensures ok { OnOk result (self.new.held ≡ record self.old.held { elements = slice_set self.old.held.elements position value }) }
+        ensures err { OnErr result (self.new.held ≡ self.old.held) }
     {
         let place = place_of(position, self.full.len());
         if place.shard < self.full.len() {
@@ -135,10 +139,10 @@ impl<B: LongBody> Chain<B> {
 
     /// Exchanges the elements at two positions.
     pub fn swap(&mut self, first: u64, second: u64) -> Result<(), AllocError>
-        requires first { first < length self.old.elements }
-        requires second { second < length self.old.elements }
-        ensures ok { OnOk result (self.new ≡ record self.old { elements = swap self.old.elements first second }) }
-        ensures err { OnErr result (self.new ≡ self.old) }
+        requires first { first < length self.old.held.elements }
+        requires second { second < length self.old.held.elements }
+        ensures ok { OnOk result (self.new.held ≡ record self.old.held { elements = swap self.old.held.elements first second }) }
+        ensures err { OnErr result (self.new.held ≡ self.old.held) }
     {
         let shard = first / SHARD as u64;
         let other = second / SHARD as u64;
@@ -153,11 +157,11 @@ impl<B: LongBody> Chain<B> {
 
     // Exchanges two elements of one shard.
     fn swap_inside(&mut self, first: u64, second: u64) -> Result<(), AllocError>
-        requires first { first < length self.old.elements }
-        requires second { second < length self.old.elements }
+        requires first { first < length self.old.held.elements }
+        requires second { second < length self.old.held.elements }
         requires one { first / 32760 ≡ second / 32760 }
-        ensures ok { OnOk result (self.new ≡ record self.old { elements = swap self.old.elements first second }) }
-        ensures err { OnErr result (self.new ≡ self.old) }
+        ensures ok { OnOk result (self.new.held ≡ record self.old.held { elements = swap self.old.held.elements first second }) }
+        ensures err { OnErr result (self.new.held ≡ self.old.held) }
     {
         let place = place_of(first, self.full.len());
         let other = place_of(second, self.full.len());
@@ -176,10 +180,10 @@ impl<B: LongBody> Chain<B> {
     // Exchanges an element of a full shard and one of a later shard. The first shard is made anew with what it will hold, so that
     // nothing can be wanting once the other has changed.
     fn swap_across(&mut self, low: u64, high: u64) -> Result<(), AllocError>
-        requires inside { high < length self.old.elements }
+        requires inside { high < length self.old.held.elements }
         requires apart { low / 32760 < high / 32760 }
-        ensures ok { OnOk result (self.new ≡ record self.old { elements = swap self.old.elements low high }) }
-        ensures err { OnErr result (self.new ≡ self.old) }
+        ensures ok { OnOk result (self.new.held ≡ record self.old.held { elements = swap self.old.held.elements low high }) }
+        ensures err { OnErr result (self.new.held ≡ self.old.held) }
     {
         let value = self.get(high);
         let before = self.get(low);
@@ -198,16 +202,16 @@ impl<B: LongBody> Chain<B> {
         number: usize,
         shard: &mut Shard<B>,
     ) -> Result<(), AllocError>
-        requires inside { position < length self.old.elements }
+        requires inside { position < length self.old.held.elements }
         requires before { 32760 * number + 32760 ≤ position }
-        requires body { shard.old.body ≡ self.old.body }
-        requires full { length shard.old.elements ≡ 32760 }
-        requires elements { All IsElement shard.old.elements }
-        ensures ok { OnOk result (self.new ≡ record self.old {
-          elements = take (32760 * number) (slice_set self.old.elements position value)
-              ++ (shard.old.elements ++ drop (32760 * number + 32760) (slice_set self.old.elements position value));
+        requires body { (held_by shard.old).body ≡ self.old.held.body }
+        requires full { length (held_by shard.old).elements ≡ 32760 }
+        requires elements { All IsElement (held_by shard.old).elements }
+        ensures ok { OnOk result (self.new.held ≡ record self.old.held {
+          elements = take (32760 * number) (slice_set self.old.held.elements position value)
+              ++ ((held_by shard.old).elements ++ drop (32760 * number + 32760) (slice_set self.old.held.elements position value));
         }) }
-        ensures err { OnErr result (self.new ≡ self.old) }
+        ensures err { OnErr result (self.new.held ≡ self.old.held) }
     {
         self.write(position, value)?;
         self.put_back(number, shard);
@@ -216,20 +220,20 @@ impl<B: LongBody> Chain<B> {
 
     // Puts a shard in the place of a full one.
     fn put_back(&mut self, number: usize, shard: &mut Shard<B>)
-        requires inside { 32760 * number + 32760 < length self.old.elements }
-        requires body { shard.old.body ≡ self.old.body }
-        requires full { length shard.old.elements ≡ 32760 }
-        requires elements { All IsElement shard.old.elements }
-        ensures { self.new ≡ record self.old { elements = take (32760 * number) self.old.elements ++ (shard.old.elements ++ drop (32760 * number + 32760) self.old.elements) } }
+        requires inside { 32760 * number + 32760 < length self.old.held.elements }
+        requires body { (held_by shard.old).body ≡ self.old.held.body }
+        requires full { length (held_by shard.old).elements ≡ 32760 }
+        requires elements { All IsElement (held_by shard.old).elements }
+        ensures { self.new.held ≡ record self.old.held { elements = take (32760 * number) self.old.held.elements ++ ((held_by shard.old).elements ++ drop (32760 * number + 32760) self.old.held.elements) } }
     {
         put_shard(&mut self.full, &mut self.sums, number, shard);
     }
 
     /// Keeps so many elements, the first ones.
     pub fn truncate(&mut self, count: u64) -> Result<(), AllocError>
-        requires { count ≤ length self.old.elements }
-        ensures ok { OnOk result (self.new ≡ record self.old { elements = take count self.old.elements }) }
-        ensures err { OnErr result (self.new ≡ self.old) }
+        requires { count ≤ length self.old.held.elements }
+        ensures ok { OnOk result (self.new.held ≡ record self.old.held { elements = take count self.old.held.elements }) }
+        ensures err { OnErr result (self.new.held ≡ self.old.held) }
     {
         let place = place_of(count, self.full.len());
         if place.shard < self.full.len() {
@@ -247,11 +251,11 @@ impl<B: LongBody> Chain<B> {
     /// Drops full shards at the front, as many as there are among so many elements. Tells how many elements it dropped. Takes no
     /// memory.
     pub fn shed(&mut self, most: u64) -> u64
-        requires { most ≤ length self.old.elements }
+        requires { most ≤ length self.old.held.elements }
         ensures most { result ≤ most }
         ensures least { most ≤ result + 32760 }
         ensures whole { result ≡ 32760 * (result / 32760) }
-        ensures dropped { self.new ≡ record self.old { elements = drop result self.old.elements } }
+        ensures dropped { self.new.held ≡ record self.old.held { elements = drop result self.old.held.elements } }
     {
         let place = place_of(most, self.full.len());
         drop_front(&mut self.full, &mut self.sums, place.shard);

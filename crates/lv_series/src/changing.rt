@@ -2,7 +2,7 @@
 ghost use Rattle.std.specs.Prelude.{◌≡◌, ◌+◌, ◌<◌, ◌≤◌, length, slice_set, IfOk, OnOk, OnErr};
 ghost use Rattle.std.specs.List.{slice_index_or, swap};
 ghost use Rattle.lv_series.specs.Chain.{IsPut, sum_of};
-ghost use Rattle.lv_series.specs.Shard.{Holding};
+ghost use Rattle.lv_series.specs.Shard.{Holding, held_by, held_by_each};
 ghost use Rattle.lv_sums.specs.Sums.{AreFolds};
 
 use crate::shards::Shard;
@@ -23,13 +23,13 @@ pub fn write_in<B: LongBody>(
     requires number { number < length full.old.items }
     requires sums { length sums.old.sums ≡ length full.old.items }
     requires numbered { sums.old.first ≡ 0 }
-    requires index { (d : Holding B) → index < length (slice_index_or full.old.items number d).elements }
-    requires folds { (d : Holding B) → AreFolds (B.operations (B.meaning sums.old.body)) (slice_set sums.old.sums number (sum_of (B.operations (B.meaning (slice_index_or full.old.items number d).body))
-        (record (slice_index_or full.old.items number d) { elements = slice_set (slice_index_or full.old.items number d).elements index value }))) }
-    ensures ok { OnOk result ((d : Holding B) → IsPut full.old.items sums.old.sums full.new.items sums.new.sums number
-        (sum_of (B.operations (B.meaning (slice_index_or full.old.items number d).body)))
-        (record (slice_index_or full.old.items number d) { elements = slice_set (slice_index_or full.old.items number d).elements index value })) }
-    ensures full { OnErr result (full.new.items ≡ full.old.items) }
+    requires index { (d : Holding B) → index < length (slice_index_or (held_by_each full.old.items) number d).elements }
+    requires folds { (d : Holding B) → AreFolds (B.operations (B.meaning sums.old.body)) (slice_set sums.old.sums number (sum_of (B.operations (B.meaning (slice_index_or (held_by_each full.old.items) number d).body))
+        (record (slice_index_or (held_by_each full.old.items) number d) { elements = slice_set (slice_index_or (held_by_each full.old.items) number d).elements index value }))) }
+    ensures ok { OnOk result ((d : Holding B) → IsPut (held_by_each full.old.items) sums.old.sums (held_by_each full.new.items) sums.new.sums number
+        (sum_of (B.operations (B.meaning (slice_index_or (held_by_each full.old.items) number d).body)))
+        (record (slice_index_or (held_by_each full.old.items) number d) { elements = slice_set (slice_index_or (held_by_each full.old.items) number d).elements index value })) }
+    ensures full { OnErr result (held_by_each full.new.items ≡ held_by_each full.old.items) }
     ensures same { OnErr result (sums.new.sums ≡ sums.old.sums) }
     ensures body { sums.new.body ≡ sums.old.body }
     ensures first { sums.new.first ≡ sums.old.first }
@@ -41,10 +41,10 @@ pub fn write_in<B: LongBody>(
 
 // Overwrites an element of a full shard, and gives the shard's fold after it.
 fn write_one<B: Body>(shard: &mut Shard<B>, index: u32, value: i64) -> Result<B::S, AllocError>
-    requires { index < length shard.old.elements }
-    ensures ok { OnOk result (shard.new ≡ record shard.old { elements = slice_set shard.old.elements index value }) }
-    ensures sum { IfOk result (λ sum. sum ≡ sum_of (B.operations (B.meaning shard.old.body)) shard.new) }
-    ensures err { OnErr result (shard.new ≡ shard.old) }
+    requires { index < length (held_by shard.old).elements }
+    ensures ok { OnOk result (held_by shard.new ≡ record (held_by shard.old) { elements = slice_set (held_by shard.old).elements index value }) }
+    ensures sum { IfOk result (λ sum. sum ≡ sum_of (B.operations (B.meaning (held_by shard.old).body)) (held_by shard.new)) }
+    ensures err { OnErr result (held_by shard.new ≡ held_by shard.old) }
 {
     shard.write(index, value)?;
     Ok(shard.sum())
@@ -61,14 +61,14 @@ pub fn swap_in<B: LongBody>(
     requires number { number < length full.old.items }
     requires sums { length sums.old.sums ≡ length full.old.items }
     requires numbered { sums.old.first ≡ 0 }
-    requires first { (d : Holding B) → first < length (slice_index_or full.old.items number d).elements }
-    requires second { (d : Holding B) → second < length (slice_index_or full.old.items number d).elements }
-    requires folds { (d : Holding B) → AreFolds (B.operations (B.meaning sums.old.body)) (slice_set sums.old.sums number (sum_of (B.operations (B.meaning (slice_index_or full.old.items number d).body))
-        (record (slice_index_or full.old.items number d) { elements = swap (slice_index_or full.old.items number d).elements first second }))) }
-    ensures ok { OnOk result ((d : Holding B) → IsPut full.old.items sums.old.sums full.new.items sums.new.sums number
-        (sum_of (B.operations (B.meaning (slice_index_or full.old.items number d).body)))
-        (record (slice_index_or full.old.items number d) { elements = swap (slice_index_or full.old.items number d).elements first second })) }
-    ensures full { OnErr result (full.new.items ≡ full.old.items) }
+    requires first { (d : Holding B) → first < length (slice_index_or (held_by_each full.old.items) number d).elements }
+    requires second { (d : Holding B) → second < length (slice_index_or (held_by_each full.old.items) number d).elements }
+    requires folds { (d : Holding B) → AreFolds (B.operations (B.meaning sums.old.body)) (slice_set sums.old.sums number (sum_of (B.operations (B.meaning (slice_index_or (held_by_each full.old.items) number d).body))
+        (record (slice_index_or (held_by_each full.old.items) number d) { elements = swap (slice_index_or (held_by_each full.old.items) number d).elements first second }))) }
+    ensures ok { OnOk result ((d : Holding B) → IsPut (held_by_each full.old.items) sums.old.sums (held_by_each full.new.items) sums.new.sums number
+        (sum_of (B.operations (B.meaning (slice_index_or (held_by_each full.old.items) number d).body)))
+        (record (slice_index_or (held_by_each full.old.items) number d) { elements = swap (slice_index_or (held_by_each full.old.items) number d).elements first second })) }
+    ensures full { OnErr result (held_by_each full.new.items ≡ held_by_each full.old.items) }
     ensures same { OnErr result (sums.new.sums ≡ sums.old.sums) }
     ensures body { sums.new.body ≡ sums.old.body }
     ensures first { sums.new.first ≡ sums.old.first }
@@ -80,11 +80,11 @@ pub fn swap_in<B: LongBody>(
 
 // Exchanges two elements of a full shard, and gives the shard's fold after that.
 fn swap_one<B: Body>(shard: &mut Shard<B>, first: u32, second: u32) -> Result<B::S, AllocError>
-    requires first { first < length shard.old.elements }
-    requires second { second < length shard.old.elements }
-    ensures ok { OnOk result (shard.new ≡ record shard.old { elements = swap shard.old.elements first second }) }
-    ensures sum { IfOk result (λ sum. sum ≡ sum_of (B.operations (B.meaning shard.old.body)) shard.new) }
-    ensures err { OnErr result (shard.new ≡ shard.old) }
+    requires first { first < length (held_by shard.old).elements }
+    requires second { second < length (held_by shard.old).elements }
+    ensures ok { OnOk result (held_by shard.new ≡ record (held_by shard.old) { elements = swap (held_by shard.old).elements first second }) }
+    ensures sum { IfOk result (λ sum. sum ≡ sum_of (B.operations (B.meaning (held_by shard.old).body)) (held_by shard.new)) }
+    ensures err { OnErr result (held_by shard.new ≡ held_by shard.old) }
 {
     shard.swap(first, second)?;
     Ok(shard.sum())
@@ -96,8 +96,8 @@ pub fn written_copy<B: Body>(
     index: u32,
     value: i64,
 ) -> Result<Shard<B>, AllocError>
-    requires { index < length shard.now.elements }
-    ensures { IfOk result (λ copy. copy ≡ record shard.now { elements = slice_set shard.now.elements index value }) }
+    requires { index < length (held_by shard.now).elements }
+    ensures { IfOk result (λ copy. held_by copy ≡ record (held_by shard.now) { elements = slice_set (held_by shard.now).elements index value }) }
 {
     let mut copy = shard.copy()?;
     match copy.write(index, value) {
@@ -119,8 +119,8 @@ pub fn put_shard<B: LongBody>(
     requires number { number < length full.old.items }
     requires sums { length sums.old.sums ≡ length full.old.items }
     requires numbered { sums.old.first ≡ 0 }
-    requires folds { AreFolds (B.operations (B.meaning sums.old.body)) (slice_set sums.old.sums number (sum_of (B.operations (B.meaning shard.old.body)) shard.old)) }
-    ensures put { IsPut full.old.items sums.old.sums full.new.items sums.new.sums number (sum_of (B.operations (B.meaning shard.old.body))) shard.old }
+    requires folds { AreFolds (B.operations (B.meaning sums.old.body)) (slice_set sums.old.sums number (sum_of (B.operations (B.meaning (held_by shard.old).body)) (held_by shard.old))) }
+    ensures put { IsPut (held_by_each full.old.items) sums.old.sums (held_by_each full.new.items) sums.new.sums number (sum_of (B.operations (B.meaning (held_by shard.old).body))) (held_by shard.old) }
     ensures body { sums.new.body ≡ sums.old.body }
     ensures first { sums.new.first ≡ sums.old.first }
 {

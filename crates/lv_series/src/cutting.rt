@@ -1,7 +1,7 @@
 //! Shards and folds that are dropped, at the front or at the end.
 ghost use Rattle.std.specs.Prelude.{◌≡◌, ◌+◌, ◌<◌, ◌≤◌, [], ◌∷◌, ◌++◌, length, take, drop, OnOk, OnErr};
 ghost use Rattle.std.specs.List.{slice_index_or};
-ghost use Rattle.lv_series.specs.Shard.{Holding};
+ghost use Rattle.lv_series.specs.Shard.{Holding, held_by, held_by_each};
 
 use crate::shards::Shard;
 use lv_bodies::LongBody;
@@ -44,15 +44,15 @@ pub fn cut<B: LongBody>(
     count: u32,
 ) -> Result<(), AllocError>
     requires number { number < length full.old.items }
-    requires count { (d : Holding B) → count ≤ length (slice_index_or full.old.items number d).elements }
+    requires count { (d : Holding B) → count ≤ length (slice_index_or (held_by_each full.old.items) number d).elements }
     ensures full { OnOk result (full.new.items ≡ take number full.old.items) }
     ensures sums { OnOk result (sums.new.sums ≡ take number sums.old.sums) }
-    ensures tail { OnOk result ((d : Holding B) → tail.new ≡ record (slice_index_or full.old.items number d) { elements = take count (slice_index_or full.old.items number d).elements }) }
-    ensures same_full { OnErr result (full.new.items ≡ full.old.items) }
+    ensures tail { OnOk result ((d : Holding B) → held_by tail.new ≡ record (slice_index_or (held_by_each full.old.items) number d) { elements = take count (slice_index_or (held_by_each full.old.items) number d).elements }) }
+    ensures same_full { OnErr result (held_by_each full.new.items ≡ held_by_each full.old.items) }
     ensures same_sums { OnErr result (sums.new.sums ≡ sums.old.sums) }
     ensures body { sums.new.body ≡ sums.old.body }
     ensures first { sums.new.first ≡ sums.old.first }
-    ensures same_tail { OnErr result (tail.new ≡ tail.old) }
+    ensures same_tail { OnErr result (held_by tail.new ≡ held_by tail.old) }
 {
     full[number].truncate(count)?;
     full.truncate(number + 1);

@@ -4,6 +4,7 @@ ghost use Rattle.std.specs.List.{slice_index_or, slice_range};
 ghost use Rattle.lv_bodies.specs.Body.{fold_of};
 ghost use Rattle.lv_bodies.specs.Long.{CanFoldLong};
 ghost use Rattle.lv_series.specs.Chain.{Joinable};
+ghost use Rattle.lv_series.specs.Shard.{held_by, held_by_each};
 
 use crate::shards::Shard;
 use lv_bodies::{Body, LongBody, long_laws};
@@ -27,10 +28,10 @@ pub fn ask_at<B: Body>(
     hi: u32,
 ) -> B::S
     requires order { lo ≤ hi }
-    requires inside { hi ≤ length (slice_index_or full.old.items number tail.old).elements }
-    ensures value { result ≡ fold_of (B.operations (B.meaning (slice_index_or full.old.items number tail.old).body)) (slice_range (slice_index_or full.old.items number tail.old).elements lo hi) }
-    ensures full { full.new.items ≡ full.old.items }
-    ensures tail { tail.new ≡ tail.old }
+    requires inside { hi ≤ length (slice_index_or (held_by_each full.old.items) number (held_by tail.old)).elements }
+    ensures value { result ≡ fold_of (B.operations (B.meaning (slice_index_or (held_by_each full.old.items) number (held_by tail.old)).body)) (slice_range (slice_index_or (held_by_each full.old.items) number (held_by tail.old)).elements lo hi) }
+    ensures full { held_by_each full.new.items ≡ held_by_each full.old.items }
+    ensures tail { held_by tail.new ≡ held_by tail.old }
 {
     if number < full.len() {
         return full[number].ask(lo, hi);

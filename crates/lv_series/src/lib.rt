@@ -2,7 +2,7 @@
 //!
 //! Its elements lie in shards, each a live vector of its own, and the fold of each full shard is kept. Elements at the front may
 //! expire: the others keep their indices, and the memory of whole shards comes back. A shard whose edits run out is made anew. No
-//! answer shows shards or renewals: the model of `Series` is what is kept and how many edits were accepted.
+//! answer shows shards or renewals: answers rest on `kept` in the model of `Series`. Refresh is told by its shards.
 #![tactic(auto)]
 
 mod accepting;

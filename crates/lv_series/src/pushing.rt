@@ -10,7 +10,7 @@ impl<B: LongBody> Series<B> {
     /// Puts elements at the end, in order, all of them or none, and tells the number of the last edit. Refused as the first push that
     /// would be refused, with `Worn` or `Full`, then with `NoMemory`: nothing has changed then.
     pub fn push_all(&mut self, values: &[i64]) -> Result<u64, LongRefusal>
-        ensures { AnswersPushes self.old values.now result self.new }
+        ensures { AnswersPushes self.old.kept values.now result self.new.kept }
     {
         match self.verdict_of_pushes(values) {
             Some(refusal) => Err(refusal),
@@ -20,7 +20,7 @@ impl<B: LongBody> Series<B> {
 
     /// Why pushes, one after another, would be refused, want of memory apart; none where all would be accepted.
     pub fn verdict_of_pushes(&self, values: &[i64]) -> Option<LongRefusal>
-        ensures { result ≡ verdict_of_pushes self.now values.now }
+        ensures { result ≡ verdict_of_pushes self.now.kept values.now }
     {
         let count = values.len() as u64;
         let edits = u64::MAX - self.edits;
@@ -34,8 +34,8 @@ impl<B: LongBody> Series<B> {
 
     // Puts elements at the end, where nothing refuses that.
     fn make_pushes(&mut self, values: &[i64]) -> Result<u64, LongRefusal>
-        requires { verdict_of_pushes self.old values.now ≡ None }
-        ensures { AnswersPushes self.old values.now result self.new }
+        requires { verdict_of_pushes self.old.kept values.now ≡ None }
+        ensures { AnswersPushes self.old.kept values.now result self.new.kept }
     {
         match self.chain.push_all(values) {
             Ok(()) => {

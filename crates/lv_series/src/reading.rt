@@ -16,8 +16,8 @@ impl<B: LongBody> Chain<B> {
     /// Takes no memory.
     pub fn fold(&self, from: u64, to: u64) -> Joined<B::S>
         requires order { from ≤ to }
-        requires inside { to ≤ length self.now.elements }
-        ensures fold { result.summary ≡ fold_of (B.operations (B.meaning self.now.body)) (slice_range self.now.elements from to) }
+        requires inside { to ≤ length self.now.held.elements }
+        ensures fold { result.summary ≡ fold_of (B.operations (B.meaning self.now.held.body)) (slice_range self.now.held.elements from to) }
         ensures joins { result.joins ≤ 126 + (to - from) / 33546240 }
     {
         let lo = place_of(from, self.full.len());
@@ -36,9 +36,9 @@ impl<B: LongBody> Chain<B> {
     /// The same, keeping what is computed for it in the two shards at its ends.
     pub fn ask(&mut self, from: u64, to: u64) -> B::S
         requires order { from ≤ to }
-        requires inside { to ≤ length self.old.elements }
-        ensures fold { result ≡ fold_of (B.operations (B.meaning self.old.body)) (slice_range self.old.elements from to) }
-        ensures same { self.new ≡ self.old }
+        requires inside { to ≤ length self.old.held.elements }
+        ensures fold { result ≡ fold_of (B.operations (B.meaning self.old.held.body)) (slice_range self.old.held.elements from to) }
+        ensures same { self.new.held ≡ self.old.held }
     {
         let lo = place_of(from, self.full.len());
         let hi = place_of(to, self.full.len());
@@ -55,9 +55,9 @@ impl<B: LongBody> Chain<B> {
     /// The running folds of the elements from a position on, each behind `before`, with its own element or without it: one for each
     /// place of a buffer. Takes no memory.
     pub fn fill(&self, from: u64, inclusive: bool, before: B::S, into: &mut [B::S])
-        requires inside { from + length into.old ≤ length self.now.elements }
-        requires before { StandsBefore (B.operations (B.meaning self.now.body)) before (length into.old) }
-        ensures { into.new ≡ running_folds inclusive (B.operations (B.meaning self.now.body)) before (slice_range self.now.elements from (from + length into.old)) }
+        requires inside { from + length into.old ≤ length self.now.held.elements }
+        requires before { StandsBefore (B.operations (B.meaning self.now.held.body)) before (length into.old) }
+        ensures { into.new ≡ running_folds inclusive (B.operations (B.meaning self.now.held.body)) before (slice_range self.now.held.elements from (from + length into.old)) }
     {
         // The elements are few, and each has 64 bits.
         let _len = self.len();

@@ -2,6 +2,8 @@
 ghost use Rattle.std.specs.Prelude.{◌≡◌, ◌+◌, ◌<◌, ◌≤◌, None, Some, [], ◌∷◌, ◌++◌, length, IfOk, OnOk, OnErr};
 ghost use Rattle.lv_edits.specs.History.{applied, list_of};
 ghost use Rattle.lv_edits.specs.Verdict.{refused_on};
+ghost use Rattle.lv_geometry.specs.declared.nodes.Node.{Node};
+ghost use Rattle.lv_live.specs.State.{recorded};
 ghost use Rattle.lv_series.specs.Refresh.{GoesOn, IsSameOrNew};
 ghost use Rattle.lv_series.specs.Shard.{IsShard, holding_of};
 
@@ -20,6 +22,8 @@ pub fn empty_vector<B: Body>(alloc: Global, body: B) -> Live<B>
     ensures shard { IsShard result.history }
     ensures empty { result.history.journal ≡ [] }
     ensures holds { holding_of result ≡ record { body = body; elements = [] } }
+    ensures unclaimed { (n : Node) → (recorded result).claimed n ≡ None }
+    ensures nothing_kept { (n : Node) → (recorded result).kept n ≡ None }
 {
     Live::empty(alloc, shard_limits(), body)
 }

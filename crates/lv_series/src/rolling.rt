@@ -1,6 +1,7 @@
 //! A full last shard goes among the full ones.
 ghost use Rattle.std.specs.Prelude.{◌≡◌, ◌+◌, ◌^◌, ◌<◌, length, [], ◌∷◌, ◌++◌, IfOk, OnOk, OnErr};
 ghost use Rattle.lv_series.specs.Chain.{sum_of};
+ghost use Rattle.lv_series.specs.Shard.{held_by, held_by_each};
 ghost use Rattle.lv_sums.specs.Sums.{AreFolds};
 
 use crate::shards::Shard;
@@ -18,16 +19,16 @@ pub fn roll_over<B: LongBody>(
     tail: &mut Shard<B>,
     x: i64,
 ) -> Result<(), AllocError>
-    requires folds { AreFolds (B.operations (B.meaning sums.old.body)) (sums.old.sums ++ sum_of (B.operations (B.meaning tail.old.body)) tail.old ∷ []) }
+    requires folds { AreFolds (B.operations (B.meaning sums.old.body)) (sums.old.sums ++ sum_of (B.operations (B.meaning (held_by tail.old).body)) (held_by tail.old) ∷ []) }
     requires numbered { sums.old.first + length sums.old.sums + 1 < 2 ^ 64 }
-    ensures full { OnOk result (full.new.items ≡ full.old.items ++ tail.old ∷ []) }
-    ensures sums { OnOk result (sums.new.sums ≡ sums.old.sums ++ sum_of (B.operations (B.meaning tail.old.body)) tail.old ∷ []) }
-    ensures tail { OnOk result (tail.new ≡ record { body = tail.old.body; elements = x ∷ [] }) }
-    ensures same_full { OnErr result (full.new.items ≡ full.old.items) }
+    ensures full { OnOk result (held_by_each full.new.items ≡ held_by_each full.old.items ++ (held_by tail.old) ∷ []) }
+    ensures sums { OnOk result (sums.new.sums ≡ sums.old.sums ++ sum_of (B.operations (B.meaning (held_by tail.old).body)) (held_by tail.old) ∷ []) }
+    ensures tail { OnOk result (held_by tail.new ≡ record { body = (held_by tail.old).body; elements = x ∷ [] }) }
+    ensures same_full { OnErr result (held_by_each full.new.items ≡ held_by_each full.old.items) }
     ensures same_sums { OnErr result (sums.new.sums ≡ sums.old.sums) }
     ensures body { sums.new.body ≡ sums.old.body }
     ensures first { sums.new.first ≡ sums.old.first }
-    ensures same_tail { OnErr result (tail.new ≡ tail.old) }
+    ensures same_tail { OnErr result (held_by tail.new ≡ held_by tail.old) }
 {
     full.reserve(1)?;
     let mut fresh = shard_of_one(alloc, tail.body(), x)?;
@@ -46,7 +47,7 @@ pub fn roll_over<B: LongBody>(
 
 // A shard with one element.
 fn shard_of_one<B: Body>(alloc: Global, body: B, x: i64) -> Result<Shard<B>, AllocError>
-    ensures { IfOk result (λ shard. shard ≡ record { body = body; elements = x ∷ [] }) }
+    ensures { IfOk result (λ shard. held_by shard ≡ record { body = body; elements = x ∷ [] }) }
 {
     let mut fresh = Shard::new(alloc, body);
     match fresh.push(x) {

@@ -1,8 +1,12 @@
 //! Rounds over the shards of a chain, the first shard first.
-ghost use Rattle.std.specs.Prelude.{◌≡◌, ◌+◌, ◌^◌, ◌<◌, ◌≤◌, true, length, IfSome};
+ghost use Rattle.std.specs.Prelude.{◌≡◌, ◌+◌, ◌-◌, ◌^◌, ◌<◌, ◌≤◌, true, length, IfNone, IfSome, None};
 ghost use Rattle.std.specs.List.{slice_index_or};
+ghost use Rattle.lv_live.specs.State.{recorded};
+ghost use Rattle.lv_refresh.specs.Claim.{IsNextJob};
 ghost use Rattle.lv_series.specs.Refresh.{IsPartOf, IsShardJob, is_taken};
-ghost use Rattle.lv_series.specs.Shard.{Holding};
+ghost use Rattle.lv_series.specs.Rounds.{OnlyAt};
+ghost use Rattle.lv_series.specs.Shard.{ShardState, all_of, held_by, held_by_each, shard_in};
+ghost use Rattle.lv_series.specs.Sharded.{AcceptsAt, ClaimsAt, ClaimsNone, ForgetsAll, ForgetsClaims, GivesJob, GivesNone, TakesAll, TakesIn, TurnsShard};
 
 use crate::jobs::{LongJob, LongOutcome};
 use crate::shards::Shard;
@@ -18,19 +22,19 @@ pub fn claim_first<B: Body>(
     ages: &mut u64,
 ) -> Option<LongJob<B>>
     requires { first + length full.old.items < 2 ^ 64 }
-    ensures full { full.new.items ≡ full.old.items }
-    ensures tail { tail.new ≡ tail.old }
-    ensures part { IfSome result (λ job. IsShardJob (λ b. B.operations (B.meaning b)) full.old.items tail.old first job.shard job.job) }
+    ensures full { held_by_each full.new.items ≡ held_by_each full.old.items }
+    ensures tail { held_by tail.new ≡ held_by tail.old }
+    ensures none { IfNone result (ClaimsNone (all_of full.old.items tail.old) (all_of full.new.items tail.new) ages.old ages.new) }
+    ensures some { IfSome result (λ job. ClaimsAt (all_of full.old.items tail.old) (all_of full.new.items tail.new) (λ b. B.operations (B.meaning b)) ages.old ages.new first job.shard job.age job.job) }
+    ensures part { IfSome result (λ job. IsShardJob (λ b. B.operations (B.meaning b)) (held_by_each full.old.items) (held_by tail.old) first job.shard job.job) }
 {
     for index in 0..full.len() {
-        if let Some(found) = claim_in(full, index, first + index as u64, ages) {
-            return Some(found);
+        match claim_in(full, index, first + index as u64, ages) {
+            Some(found) => return Some(found),
+            None => {}
         }
     }
-    match tail.claim(first + full.len() as u64, ages) {
-        Some(job) => Some(job),
-        None => None,
-    }
+    tail.claim(first + full.len() as u64, ages)
 }
 
 // The next job of a full shard, if it has one.
@@ -41,8 +45,9 @@ fn claim_in<B: Body>(
     ages: &mut u64,
 ) -> Option<LongJob<B>>
     requires { index < length full.old.items }
-    ensures full { full.new.items ≡ full.old.items }
-    ensures part { IfSome result (λ job. (d : Holding B) → IsPartOf (B.operations (B.meaning (slice_index_or full.old.items index d).body)) 0 (slice_index_or full.old.items index d).elements job.job) }
+    ensures none { IfNone result (OnlyAt index full.old.items full.new.items (λ old new. GivesNone ages.old ages.new old new)) }
+    ensures some { IfSome result (λ job. OnlyAt index full.old.items full.new.items (λ old new. GivesJob (B.operations (B.meaning old.live.body)) ages.old ages.new old new job.age job.job)) }
+    ensures part { IfSome result (λ job. (d : ShardState B B.S) → IsPartOf (B.operations (B.meaning (slice_index_or full.old.items index d).live.body)) 0 (held_by (slice_index_or full.old.items index d)).elements job.job) }
     ensures shard { IfSome result (λ job. job.shard ≡ number) }
 {
     full[index].claim(number, ages)
@@ -50,9 +55,9 @@ fn claim_in<B: Body>(
 
 /// Does jobs in place, at most so many: those of the first shard that has any, then those of the next. Tells how many.
 pub fn refresh_each<B: Body>(full: &mut VecDeque<Shard<B>>, tail: &mut Shard<B>, jobs: u32) -> u32
-    ensures full { full.new.items ≡ full.old.items }
-    ensures tail { tail.new ≡ tail.old }
-    ensures most { result ≤ jobs }
+    ensures full { held_by_each full.new.items ≡ held_by_each full.old.items }
+    ensures tail { held_by tail.new ≡ held_by tail.old }
+    ensures turns { TakesAll (all_of full.old.items tail.old) (all_of full.new.items tail.new) (λ b. B.operations (B.meaning b)) jobs result }
 {
     let mut done = 0;
     for index in 0..full.len() {
@@ -64,16 +69,18 @@ pub fn refresh_each<B: Body>(full: &mut VecDeque<Shard<B>>, tail: &mut Shard<B>,
 // Does jobs of a full shard, at most so many.
 fn refresh_in<B: Body>(full: &mut VecDeque<Shard<B>>, index: usize, jobs: u32) -> u32
     requires { index < length full.old.items }
-    ensures full { full.new.items ≡ full.old.items }
+    ensures turns { OnlyAt index full.old.items full.new.items (λ old new. TurnsShard (B.operations (B.meaning old.live.body)) result old new) }
     ensures most { result ≤ jobs }
+    ensures idle { result < jobs → (d : ShardState B B.S) → IsNextJob (recorded (slice_index_or full.new.items index d).live) None }
 {
     full[index].refresh(jobs)
 }
 
 /// Forgets the claims of all shards.
 pub fn forget_each<B: Body>(full: &mut VecDeque<Shard<B>>, tail: &mut Shard<B>)
-    ensures full { full.new.items ≡ full.old.items }
-    ensures tail { tail.new ≡ tail.old }
+    ensures full { held_by_each full.new.items ≡ held_by_each full.old.items }
+    ensures tail { held_by tail.new ≡ held_by tail.old }
+    ensures forgotten { ForgetsAll (all_of full.old.items tail.old) (all_of full.new.items tail.new) }
 {
     for index in 0..full.len() {
         forget_in(full, index);
@@ -84,7 +91,7 @@ pub fn forget_each<B: Body>(full: &mut VecDeque<Shard<B>>, tail: &mut Shard<B>)
 // Forgets the claims of a full shard.
 fn forget_in<B: Body>(full: &mut VecDeque<Shard<B>>, index: usize)
     requires { index < length full.old.items }
-    ensures { full.new.items ≡ full.old.items }
+    ensures { OnlyAt index full.old.items full.new.items (λ old new. ForgetsClaims old new) }
 {
     full[index].forget_claims();
 }
@@ -96,12 +103,27 @@ pub fn accept_at<B: Body>(
     index: usize,
     outcome: LongOutcome<B>,
 ) -> Accepted
-    ensures full { full.new.items ≡ full.old.items }
-    ensures tail { tail.new ≡ tail.old }
-    ensures part { is_taken result ≡ true → IsPartOf (B.operations (B.meaning (slice_index_or full.old.items index tail.old).body)) 0 (slice_index_or full.old.items index tail.old).elements outcome.job }
+    requires { index ≤ length full.old.items }
+    ensures full { held_by_each full.new.items ≡ held_by_each full.old.items }
+    ensures tail { held_by tail.new ≡ held_by tail.old }
+    ensures accepts { AcceptsAt (all_of full.old.items tail.old) (all_of full.new.items tail.new) (λ b. B.operations (B.meaning b)) (λ b. B.meaning b ≡ B.meaning outcome.job.body) index outcome.age outcome.job result }
+    ensures part { is_taken result ≡ true → IsPartOf (B.operations (B.meaning (shard_in (all_of full.old.items tail.old) index).live.body)) 0 (held_by (shard_in (all_of full.old.items tail.old) index)).elements outcome.job }
 {
     if index < full.len() {
-        return full[index].accept(outcome);
+        return accept_in(full, index, outcome);
     }
     tail.accept(outcome)
+}
+
+// Takes an outcome into a full shard.
+fn accept_in<B: Body>(
+    full: &mut VecDeque<Shard<B>>,
+    index: usize,
+    outcome: LongOutcome<B>,
+) -> Accepted
+    requires { index < length full.old.items }
+    ensures receives { OnlyAt index full.old.items full.new.items (λ old new. TakesIn (B.operations (B.meaning old.live.body)) (B.meaning old.live.body ≡ B.meaning outcome.job.body) outcome.age outcome.job result old new) }
+    ensures part { is_taken result ≡ true → (d : ShardState B B.S) → IsPartOf (B.operations (B.meaning (slice_index_or full.old.items index d).live.body)) 0 (held_by (slice_index_or full.old.items index d)).elements outcome.job }
+{
+    full[index].accept(outcome)
 }

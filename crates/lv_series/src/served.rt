@@ -41,8 +41,8 @@ pub fn answers_while_served<B: LongBody>(
     Result<LongReceipt, LongRefusal>,
     Result<LongAnswer<B::S>, LongRefusal>,
 )
-    ensures pushed { Answers series.old (LongEdit.Push x) result.0 series.new }
-    ensures answer { Reduces (B.operations (B.meaning series.new.body)) series.new lo hi result.1 }
+    ensures pushed { Answers series.old.kept (LongEdit.Push x) result.0 series.new.kept }
+    ensures answer { Reduces (B.operations (B.meaning series.new.kept.body)) series.new.kept lo hi result.1 }
 {
     let job = series.claim();
     let pushed = series.push(x);
@@ -52,7 +52,7 @@ pub fn answers_while_served<B: LongBody>(
 
 // Runs a job, and delivers its outcome twice.
 fn deliver_twice<B: LongBody>(series: &mut Series<B>, job: Option<LongJob<B>>)
-    ensures { series.new ≡ series.old }
+    ensures { series.new.kept ≡ series.old.kept }
 {
     let Some(job) = job else {
         return;

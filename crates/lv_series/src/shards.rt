@@ -4,6 +4,8 @@ ghost use Rattle.std.specs.List.{slice_index_or, slice_range, swap};
 ghost use Rattle.lv_geometry.specs.Elements.{IsElement};
 ghost use Rattle.lv_bodies.specs.Body.{fold_of};
 ghost use Rattle.lv_series.specs.Chain.{sum_of};
+ghost use Rattle.lv_series.specs.Shard.{held_by};
+ghost use Rattle.lv_series.specs.Sharded.{IsNewShard};
 
 use crate::renewing::{copy_of, empty_vector, make_one, make_pushes};
 use crate::vectors::Live;
@@ -23,11 +25,11 @@ pub struct Shard<B: Body> {
 }
 
 impl<B: Body> Model for Shard<B> {
-    ghost use Rattle.lv_series.specs.Shard.{Holding, IsShard, holding_of};
+    ghost use Rattle.lv_series.specs.Shard.{IsShard, ShardState};
 
-    ghost Value = { Holding B };
+    ghost Value = { ShardState B B.S };
 
-    ghost view = { λ a. holding_of a.live };
+    ghost view = { λ a. record { live = a.live; age = a.age } };
 
     ghost invariant = { λ a. IsShard a.live.history };
 }
@@ -35,7 +37,8 @@ impl<B: Body> Model for Shard<B> {
 impl<B: Body> Shard<B> {
     /// No elements. Takes no memory.
     pub fn new(alloc: Global, body: B) -> Shard<B>
-        ensures { result ≡ record { body = body; elements = [] } }
+        ensures held { held_by result ≡ record { body = body; elements = [] } }
+        ensures fresh { IsNewShard result }
     {
         Shard {
             alloc,
@@ -47,9 +50,9 @@ impl<B: Body> Shard<B> {
     /// How many elements there are, at most 32,760.
     #[inline(always)]
     pub fn len(&self) -> u32
-        ensures value { result ≡ length self.now.elements }
+        ensures value { result ≡ length (held_by self.now).elements }
         ensures few { result ≤ 32760 }
-        ensures elements { All IsElement self.now.elements }
+        ensures elements { All IsElement (held_by self.now).elements }
     {
         self.live.size()
     }
@@ -57,7 +60,7 @@ impl<B: Body> Shard<B> {
     /// The body by which it reduces.
     #[inline(always)]
     pub fn body(&self) -> B
-        ensures { result ≡ self.now.body }
+        ensures { result ≡ (held_by self.now).body }
     {
         self.live.body()
     }
@@ -65,45 +68,45 @@ impl<B: Body> Shard<B> {
     /// The element at an index.
     #[inline(always)]
     pub fn get(&self, i: u32) -> i64
-        requires { i < length self.now.elements }
-        ensures { result ≡ slice_index_or self.now.elements i (pos 0) }
+        requires { i < length (held_by self.now).elements }
+        ensures { result ≡ slice_index_or (held_by self.now).elements i (pos 0) }
     {
         self.live.view().cells.read(i)
     }
 
     /// Puts an element at the end.
     pub fn push(&mut self, x: i64) -> Result<(), AllocError>
-        requires { length self.old.elements < 32760 }
-        ensures ok { OnOk result (self.new ≡ record self.old { elements = self.old.elements ++ x ∷ [] }) }
-        ensures err { OnErr result (self.new ≡ self.old) }
+        requires { length (held_by self.old).elements < 32760 }
+        ensures ok { OnOk result (held_by self.new ≡ record (held_by self.old) { elements = (held_by self.old).elements ++ x ∷ [] }) }
+        ensures err { OnErr result (held_by self.new ≡ held_by self.old) }
     {
         make_one(self.alloc, &mut self.live, &mut self.age, Edit::Push(x))
     }
 
     /// Puts elements at the end, all of them or none.
     pub fn push_all(&mut self, values: &[i64]) -> Result<(), AllocError>
-        requires { length self.old.elements + length values.now ≤ 32760 }
-        ensures ok { OnOk result (self.new ≡ record self.old { elements = self.old.elements ++ values.now }) }
-        ensures err { OnErr result (self.new ≡ self.old) }
-        ensures elements { All IsElement self.new.elements }
+        requires { length (held_by self.old).elements + length values.now ≤ 32760 }
+        ensures ok { OnOk result (held_by self.new ≡ record (held_by self.old) { elements = (held_by self.old).elements ++ values.now }) }
+        ensures err { OnErr result (held_by self.new ≡ held_by self.old) }
+        ensures elements { All IsElement (held_by self.new).elements }
     {
         make_pushes(self.alloc, &mut self.live, &mut self.age, values)
     }
 
     /// Drops the last element.
     pub fn pop(&mut self) -> Result<(), AllocError>
-        requires { 0 < length self.old.elements }
-        ensures ok { OnOk result (self.new ≡ record self.old { elements = take (length self.old.elements - 1) self.old.elements }) }
-        ensures err { OnErr result (self.new ≡ self.old) }
+        requires { 0 < length (held_by self.old).elements }
+        ensures ok { OnOk result (held_by self.new ≡ record (held_by self.old) { elements = take (length (held_by self.old).elements - 1) (held_by self.old).elements }) }
+        ensures err { OnErr result (held_by self.new ≡ held_by self.old) }
     {
         make_one(self.alloc, &mut self.live, &mut self.age, Edit::Pop)
     }
 
     /// Overwrites the element at an index.
     pub fn write(&mut self, index: u32, value: i64) -> Result<(), AllocError>
-        requires { index < length self.old.elements }
-        ensures ok { OnOk result (self.new ≡ record self.old { elements = slice_set self.old.elements index value }) }
-        ensures err { OnErr result (self.new ≡ self.old) }
+        requires { index < length (held_by self.old).elements }
+        ensures ok { OnOk result (held_by self.new ≡ record (held_by self.old) { elements = slice_set (held_by self.old).elements index value }) }
+        ensures err { OnErr result (held_by self.new ≡ held_by self.old) }
     {
         make_one(
             self.alloc,
@@ -115,10 +118,10 @@ impl<B: Body> Shard<B> {
 
     /// Exchanges the elements at two indices.
     pub fn swap(&mut self, first: u32, second: u32) -> Result<(), AllocError>
-        requires first { first < length self.old.elements }
-        requires second { second < length self.old.elements }
-        ensures ok { OnOk result (self.new ≡ record self.old { elements = swap self.old.elements first second }) }
-        ensures err { OnErr result (self.new ≡ self.old) }
+        requires first { first < length (held_by self.old).elements }
+        requires second { second < length (held_by self.old).elements }
+        ensures ok { OnOk result (held_by self.new ≡ record (held_by self.old) { elements = swap (held_by self.old).elements first second }) }
+        ensures err { OnErr result (held_by self.new ≡ held_by self.old) }
     {
         make_one(
             self.alloc,
@@ -130,7 +133,7 @@ impl<B: Body> Shard<B> {
 
     /// A shard of its own with the same elements. An error is want of memory.
     pub fn copy(&self) -> Result<Shard<B>, AllocError>
-        ensures { IfOk result (λ shard. shard ≡ self.now) }
+        ensures { IfOk result (λ shard. held_by shard ≡ held_by self.now) }
     {
         let live = copy_of(self.alloc, &self.live)?;
         Ok(Shard {
@@ -142,9 +145,9 @@ impl<B: Body> Shard<B> {
 
     /// Keeps so many elements, the first ones.
     pub fn truncate(&mut self, count: u32) -> Result<(), AllocError>
-        requires { count ≤ length self.old.elements }
-        ensures ok { OnOk result (self.new ≡ record self.old { elements = take count self.old.elements }) }
-        ensures err { OnErr result (self.new ≡ self.old) }
+        requires { count ≤ length (held_by self.old).elements }
+        ensures ok { OnOk result (held_by self.new ≡ record (held_by self.old) { elements = take count (held_by self.old).elements }) }
+        ensures err { OnErr result (held_by self.new ≡ held_by self.old) }
     {
         make_one(
             self.alloc,
@@ -157,8 +160,8 @@ impl<B: Body> Shard<B> {
     /// The fold of the elements from `lo` up to `hi`.
     pub fn fold(&self, lo: u32, hi: u32) -> B::S
         requires order { lo ≤ hi }
-        requires inside { hi ≤ length self.now.elements }
-        ensures { result ≡ fold_of (B.operations (B.meaning self.now.body)) (slice_range self.now.elements lo hi) }
+        requires inside { hi ≤ length (held_by self.now).elements }
+        ensures { result ≡ fold_of (B.operations (B.meaning (held_by self.now).body)) (slice_range (held_by self.now).elements lo hi) }
     {
         match self.live.reduce(lo, hi) {
             Ok(answer) => answer.value,
@@ -169,9 +172,9 @@ impl<B: Body> Shard<B> {
     /// The same, keeping what is computed for it: until an element of the range changes, it costs little to ask again.
     pub fn ask(&mut self, lo: u32, hi: u32) -> B::S
         requires order { lo ≤ hi }
-        requires inside { hi ≤ length self.old.elements }
-        ensures value { result ≡ fold_of (B.operations (B.meaning self.old.body)) (slice_range self.old.elements lo hi) }
-        ensures same { self.new ≡ self.old }
+        requires inside { hi ≤ length (held_by self.old).elements }
+        ensures value { result ≡ fold_of (B.operations (B.meaning (held_by self.old).body)) (slice_range (held_by self.old).elements lo hi) }
+        ensures same { held_by self.new ≡ held_by self.old }
     {
         match self.live.ask(lo, hi) {
             Ok(answer) => answer.value,
@@ -181,8 +184,8 @@ impl<B: Body> Shard<B> {
 
     /// The fold of all elements, kept like what `ask` computes.
     pub fn sum(&mut self) -> B::S
-        ensures value { result ≡ sum_of (B.operations (B.meaning self.old.body)) self.old }
-        ensures same { self.new ≡ self.old }
+        ensures value { result ≡ sum_of (B.operations (B.meaning (held_by self.old).body)) (held_by self.old) }
+        ensures same { held_by self.new ≡ held_by self.old }
     {
         let len = self.len();
         self.ask(0, len)

@@ -33,15 +33,15 @@ pub fn answer<W: Write>(
     command: LongCommand,
     outbox: &mut Outbox<'_, W>,
 ) -> Result<(), Fault>
-    requires ready { IsReady series.old.held entries.old.items }
+    requires ready { IsReady series.old.kept.held entries.old.items }
     requires room { HasRoom outbox.old.held.now ROOM }
     ensures places { SamePlaces outbox.old outbox.new }
-    ensures ok { OnOk result ((reply : List ℕ) × Told (known_of series.old entries.old.items) command reply (known_of series.new entries.new.items)
+    ensures ok { OnOk result ((reply : List ℕ) × Told (known_of series.old.kept entries.old.items) command reply (known_of series.new.kept entries.new.items)
         × Puts W.contents outbox.old outbox.new reply) }
     ensures fault { IfErr result (λ fault. (fault ≡ Fault.WriteFault) × (reply : List ℕ)
-        × Told (known_of series.old entries.old.items) command reply (known_of series.new entries.new.items)
+        × Told (known_of series.old.kept entries.old.items) command reply (known_of series.new.kept entries.new.items)
         × PutsFront W.contents outbox.old outbox.new reply) }
-    ensures ready { IsReady series.new.held entries.new.items }
+    ensures ready { IsReady series.new.kept.held entries.new.items }
 {
     match command {
         LongCommand::Edit(edit) => put_edit(series, entries, edit, outbox.held),
@@ -87,11 +87,11 @@ fn put_edit(
     edit: LongEdit,
     held: &mut Vec<u8>,
 )
-    requires ready { IsReady series.old.held entries.old.items }
+    requires ready { IsReady series.old.kept.held entries.old.items }
     requires room { HasRoom held.old ROOM }
-    ensures answer { (reply : List ℕ) × Told (known_of series.old entries.old.items) (LongCommand.Edit edit) reply (known_of series.new entries.new.items)
+    ensures answer { (reply : List ℕ) × Told (known_of series.old.kept entries.old.items) (LongCommand.Edit edit) reply (known_of series.new.kept entries.new.items)
         × (held.new.items ≡ held.old.items ++ reply) }
-    ensures ready { IsReady series.new.held entries.new.items }
+    ensures ready { IsReady series.new.kept.held entries.new.items }
     ensures room { KeepsRoom held.old held.new }
 {
     match make(series, edit) {
@@ -105,7 +105,7 @@ fn put_edit(
 
 // Makes an edit.
 fn make(series: &mut Series<Six>, edit: LongEdit) -> Result<LongReceipt, LongRefusal>
-    ensures { Answers series.old edit result series.new }
+    ensures { Answers series.old.kept edit result series.new.kept }
 {
     match edit {
         LongEdit::Push(x) => series.push(x),
@@ -120,7 +120,7 @@ fn make(series: &mut Series<Six>, edit: LongEdit) -> Result<LongReceipt, LongRef
 // The first index that is kept, and the number of the last edit.
 fn put_front(series: &Series<Six>, held: &mut Vec<u8>)
     requires { HasRoom held.old ROOM }
-    ensures text { held.new.items ≡ held.old.items ++ first_text series.now.held.first series.now.edits }
+    ensures text { held.new.items ≡ held.old.items ++ first_text series.now.kept.held.first series.now.kept.edits }
     ensures room { KeepsRoom held.old held.new }
 {
     put_first(held, series.first(), series.edits());
@@ -129,7 +129,7 @@ fn put_front(series: &Series<Six>, held: &mut Vec<u8>)
 // The index behind the last element, and the number of the last edit.
 fn put_extent(series: &Series<Six>, held: &mut Vec<u8>)
     requires { HasRoom held.old ROOM }
-    ensures text { held.new.items ≡ held.old.items ++ size_text (size_of series.now.held) series.now.edits }
+    ensures text { held.new.items ≡ held.old.items ++ size_text (size_of series.now.kept.held) series.now.kept.edits }
     ensures room { KeepsRoom held.old held.new }
 {
     put_size(held, series.size(), series.edits());
@@ -138,7 +138,7 @@ fn put_extent(series: &Series<Six>, held: &mut Vec<u8>)
 // The element under an index, or that there is none.
 fn put_element_at(series: &Series<Six>, i: u64, held: &mut Vec<u8>)
     requires { HasRoom held.old ROOM }
-    ensures text { held.new.items ≡ held.old.items ++ long_element_text (element_at series.now.held i) }
+    ensures text { held.new.items ≡ held.old.items ++ long_element_text (element_at series.now.kept.held i) }
     ensures room { KeepsRoom held.old held.new }
 {
     put_value(held, series.get(i));
@@ -147,8 +147,8 @@ fn put_element_at(series: &Series<Six>, i: u64, held: &mut Vec<u8>)
 // The value of a kind over a range, or why the range is refused.
 fn put_reduced(series: &mut Series<Six>, kind: Kind, lo: u64, hi: u64, held: &mut Vec<u8>)
     requires { HasRoom held.old ROOM }
-    ensures same { series.new ≡ series.old }
-    ensures answer { (reply : List ℕ) × ((entries : List Entry) → Told (known_of series.old entries) (LongCommand.Reduce kind lo hi) reply (known_of series.old entries))
+    ensures same { series.new.kept ≡ series.old.kept }
+    ensures answer { (reply : List ℕ) × ((entries : List Entry) → Told (known_of series.old.kept entries) (LongCommand.Reduce kind lo hi) reply (known_of series.old.kept entries))
         × (held.new.items ≡ held.old.items ++ reply) }
     ensures room { KeepsRoom held.old held.new }
 {
@@ -164,14 +164,14 @@ fn answer_scan<W: Write>(
     outbox: &mut Outbox<'_, W>,
     asked: &LongScanned,
 ) -> Result<(), Fault>
-    requires size { size_of series.now.held ≤ 2 ^ 62 }
+    requires size { size_of series.now.kept.held ≤ 2 ^ 62 }
     requires room { HasRoom outbox.old.held.now ROOM }
     ensures places { SamePlaces outbox.old outbox.new }
     ensures ok { OnOk result ((reply : List ℕ)
-        × ((entries : List Entry) → Told (known_of series.now entries) (LongCommand.Scan asked.now.inclusive asked.now.kind asked.now.lo asked.now.hi) reply (known_of series.now entries))
+        × ((entries : List Entry) → Told (known_of series.now.kept entries) (LongCommand.Scan asked.now.inclusive asked.now.kind asked.now.lo asked.now.hi) reply (known_of series.now.kept entries))
         × Puts W.contents outbox.old outbox.new reply) }
     ensures fault { IfErr result (λ fault. (fault ≡ Fault.WriteFault) × (reply : List ℕ)
-        × ((entries : List Entry) → Told (known_of series.now entries) (LongCommand.Scan asked.now.inclusive asked.now.kind asked.now.lo asked.now.hi) reply (known_of series.now entries))
+        × ((entries : List Entry) → Told (known_of series.now.kept entries) (LongCommand.Scan asked.now.inclusive asked.now.kind asked.now.lo asked.now.hi) reply (known_of series.now.kept entries))
         × PutsFront W.contents outbox.old outbox.new reply) }
 {
     match range_refusal(series, asked.lo, asked.hi) {
@@ -192,12 +192,12 @@ fn put_watch(
     span: Span,
     held: &mut Vec<u8>,
 )
-    requires ready { IsReady series.old.held entries.old.items }
+    requires ready { IsReady series.old.kept.held entries.old.items }
     requires room { HasRoom held.old ROOM }
-    ensures same { series.new ≡ series.old }
-    ensures answer { (reply : List ℕ) × Told (known_of series.old entries.old.items) (LongCommand.Watch name kind span) reply (known_of series.old entries.new.items)
+    ensures same { series.new.kept ≡ series.old.kept }
+    ensures answer { (reply : List ℕ) × Told (known_of series.old.kept entries.old.items) (LongCommand.Watch name kind span) reply (known_of series.old.kept entries.new.items)
         × (held.new.items ≡ held.old.items ++ reply) }
-    ensures ready { IsReady series.old.held entries.new.items }
+    ensures ready { IsReady series.old.kept.held entries.new.items }
     ensures room { KeepsRoom held.old held.new }
 {
     match register(series, entries, name, kind, span) {
@@ -222,9 +222,9 @@ fn put_unwatch(entries: &mut Vec<Watched>, name: Name, held: &mut Vec<u8>)
 
 // What a query answers.
 fn put_named_answer(series: &Series<Six>, entries: &[Watched], name: Name, held: &mut Vec<u8>)
-    requires ready { IsReady series.now.held entries.now }
+    requires ready { IsReady series.now.kept.held entries.now }
     requires room { HasRoom held.old ROOM }
-    ensures answer { (reply : List ℕ) × Told (known_of series.now entries.now) (LongCommand.Answer name) reply (known_of series.now entries.now)
+    ensures answer { (reply : List ℕ) × Told (known_of series.now.kept entries.now) (LongCommand.Answer name) reply (known_of series.now.kept entries.now)
         × (held.new.items ≡ held.old.items ++ reply) }
     ensures room { KeepsRoom held.old held.new }
 {

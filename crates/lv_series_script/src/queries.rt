@@ -40,8 +40,8 @@ pub fn register(
 ) -> Result<(), Refusal>
     ensures free { OnOk result (long_watch_refusal (queries_of entries.old.items) name span ≡ None) }
     ensures added { OnOk result (entries.new.items ≡ entries.old.items
-        ++ record { name = name; kind = kind; span = span; value = long_answer series.old.held record { name = name; kind = kind; span = span } } ∷ []) }
-    ensures same { series.new ≡ series.old }
+        ++ record { name = name; kind = kind; span = span; value = long_answer series.old.kept.held record { name = name; kind = kind; span = span } } ∷ []) }
+    ensures same { series.new.kept ≡ series.old.kept }
     ensures few { OnOk result (length entries.old.items + 1 ≤ 64) }
     ensures err { IfErr result (λ refusal. IsRefusal (long_watch_refusal (queries_of entries.old.items) name span) refusal) }
     ensures unchanged { OnErr result (entries.new.items ≡ entries.old.items) }
@@ -107,9 +107,9 @@ pub fn forget(entries: &mut Vec<Watched>, name: Name) -> Result<(), Refusal>
 pub fn tell(series: &mut Series<Six>, entries: &mut [Watched], held: &mut Vec<u8>)
     requires values { All HasValue entries.old }
     requires room { HasRoom held.old (LINE * length entries.old) }
-    ensures same { series.new ≡ series.old }
-    ensures entries { entries.new ≡ map (brought_up series.old.held) entries.old }
-    ensures text { held.new.items ≡ held.old.items ++ flat_map (told_of series.old.held) entries.old }
+    ensures same { series.new.kept ≡ series.old.kept }
+    ensures entries { entries.new ≡ map (brought_up series.old.kept.held) entries.old }
+    ensures text { held.new.items ≡ held.old.items ++ flat_map (told_of series.old.kept.held) entries.old }
     ensures room { KeepsRoom held.old held.new }
 {
     for entry in entries.iter_mut() {
@@ -121,9 +121,9 @@ pub fn tell(series: &mut Series<Six>, entries: &mut [Watched], held: &mut Vec<u8
 fn tell_one(series: &mut Series<Six>, entry: &mut Watched, held: &mut Vec<u8>)
     requires value { HasValue entry.old }
     requires room { HasRoom held.old LINE }
-    ensures same { series.new ≡ series.old }
-    ensures entry { entry.new ≡ brought_up series.old.held entry.old }
-    ensures text { held.new.items ≡ held.old.items ++ told_of series.old.held entry.old }
+    ensures same { series.new.kept ≡ series.old.kept }
+    ensures entry { entry.new ≡ brought_up series.old.kept.held entry.old }
+    ensures text { held.new.items ≡ held.old.items ++ told_of series.old.kept.held entry.old }
     ensures len { vec_len held.new ≤ vec_len held.old + LINE }
     ensures room { KeepsRoom held.old held.new }
 {

@@ -26,7 +26,7 @@ pub struct LongScanned {
 
 /// Why a range is refused, or none.
 pub fn range_refusal(series: &Series<Six>, lo: u64, hi: u64) -> Option<LongRefusal>
-    ensures { result ≡ range_refused series.now.held lo hi }
+    ensures { result ≡ range_refused series.now.kept.held lo hi }
 {
     let first = series.first();
     let size = series.size();
@@ -44,16 +44,16 @@ pub fn put_scan<W: Write>(
     outbox: &mut Outbox<'_, W>,
     asked: &LongScanned,
 ) -> Result<(), Fault>
-    requires granted { range_refused series.now.held asked.now.lo asked.now.hi ≡ None }
-    requires size { size_of series.now.held ≤ 2 ^ 62 }
+    requires granted { range_refused series.now.kept.held asked.now.lo asked.now.hi ≡ None }
+    requires size { size_of series.now.kept.held ≤ 2 ^ 62 }
     requires room { HasRoom outbox.old.held.now LINE }
     ensures places { SamePlaces outbox.old outbox.new }
     ensures ok { OnOk result (Puts W.contents outbox.old outbox.new
-        (scan_text series.now.edits asked.now.inclusive asked.now.kind
-        (scan_by (plain_value asked.now.kind) asked.now.inclusive (slice_of series.now.held asked.now.lo asked.now.hi)))) }
+        (scan_text series.now.kept.edits asked.now.inclusive asked.now.kind
+        (scan_by (plain_value asked.now.kind) asked.now.inclusive (slice_of series.now.kept.held asked.now.lo asked.now.hi)))) }
     ensures fault { IfErr result (λ fault. (fault ≡ Fault.WriteFault) × PutsFront W.contents outbox.old outbox.new
-        (scan_text series.now.edits asked.now.inclusive asked.now.kind
-        (scan_by (plain_value asked.now.kind) asked.now.inclusive (slice_of series.now.held asked.now.lo asked.now.hi)))) }
+        (scan_text series.now.kept.edits asked.now.inclusive asked.now.kind
+        (scan_by (plain_value asked.now.kind) asked.now.inclusive (slice_of series.now.kept.held asked.now.lo asked.now.hi)))) }
 {
     let count = asked.hi - asked.lo;
     put_head(
@@ -72,13 +72,13 @@ fn put_running_values<W: Write>(
     outbox: &mut Outbox<'_, W>,
     asked: &LongScanned,
 ) -> Result<(), Fault>
-    requires granted { range_refused series.now.held asked.now.lo asked.now.hi ≡ None }
-    requires size { size_of series.now.held ≤ 2 ^ 62 }
+    requires granted { range_refused series.now.kept.held asked.now.lo asked.now.hi ≡ None }
+    requires size { size_of series.now.kept.held ≤ 2 ^ 62 }
     ensures places { SamePlaces outbox.old outbox.new }
     ensures ok { OnOk result (Puts W.contents outbox.old outbox.new
-        (values_text (scan_by (plain_value asked.now.kind) asked.now.inclusive (slice_of series.now.held asked.now.lo asked.now.hi)))) }
+        (values_text (scan_by (plain_value asked.now.kind) asked.now.inclusive (slice_of series.now.kept.held asked.now.lo asked.now.hi)))) }
     ensures fault { IfErr result (λ fault. (fault ≡ Fault.WriteFault) × PutsFront W.contents outbox.old outbox.new
-        (values_text (scan_by (plain_value asked.now.kind) asked.now.inclusive (slice_of series.now.held asked.now.lo asked.now.hi)))) }
+        (values_text (scan_by (plain_value asked.now.kind) asked.now.inclusive (slice_of series.now.kept.held asked.now.lo asked.now.hi)))) }
 {
     let mut sum = Six.identity();
     for i in asked.lo..asked.hi {
@@ -107,8 +107,8 @@ fn shown_fold(kind: Kind, s: SixSummary) -> Shown
 
 // The element under an index that is kept.
 fn element_at(series: &Series<Six>, i: u64) -> i64
-    requires { is_kept series.now.held i ≡ true }
-    ensures { result ≡ element_of series.now.held i }
+    requires { is_kept series.now.kept.held i ≡ true }
+    ensures { result ≡ element_of series.now.kept.held i }
 {
     let Ok(x) = series.get(i) else {
         unreachable!();

@@ -58,9 +58,9 @@ impl Model for SeriesScript {
 
     ghost Value = { Known };
 
-    ghost view = { λ a. known_of a.series a.entries.items };
+    ghost view = { λ a. known_of a.series.kept a.entries.items };
 
-    ghost invariant = { λ a. IsReady a.series.held a.entries.items };
+    ghost invariant = { λ a. IsReady a.series.kept.held a.entries.items };
 }
 
 impl Responder for SeriesScript {
@@ -95,15 +95,15 @@ fn answer_line<W: Write>(
     line: LongLine,
     outbox: &mut Outbox<'_, W>,
 ) -> Result<(), Fault>
-    requires ready { IsReady series.old.held entries.old.items }
+    requires ready { IsReady series.old.kept.held entries.old.items }
     requires room { HasRoom outbox.old.held.now ROOM }
     ensures places { SamePlaces outbox.old outbox.new }
-    ensures ok { OnOk result ((reply : List ℕ) × Tells (known_of series.old entries.old.items) number line reply (known_of series.new entries.new.items)
+    ensures ok { OnOk result ((reply : List ℕ) × Tells (known_of series.old.kept entries.old.items) number line reply (known_of series.new.kept entries.new.items)
         × Puts W.contents outbox.old outbox.new reply) }
     ensures fault { IfErr result (λ fault. (fault ≡ Fault.WriteFault) × (reply : List ℕ)
-        × Tells (known_of series.old entries.old.items) number line reply (known_of series.new entries.new.items)
+        × Tells (known_of series.old.kept entries.old.items) number line reply (known_of series.new.kept entries.new.items)
         × PutsFront W.contents outbox.old outbox.new reply) }
-    ensures ready { IsReady series.new.held entries.new.items }
+    ensures ready { IsReady series.new.kept.held entries.new.items }
 {
     match line {
         LongLine::Nothing => {}

@@ -10,8 +10,8 @@ use lv_series::Series;
 
 /// The value of a kind over what is kept of a span. What is computed for it is kept.
 pub fn value_of(series: &mut Series<Six>, kind: Kind, span: Span) -> Shown
-    ensures value { result ≡ plain_value kind (span_of series.old.held span) }
-    ensures same { series.new ≡ series.old }
+    ensures value { result ≡ plain_value kind (span_of series.old.kept.held span) }
+    ensures same { series.new.kept ≡ series.old.kept }
 {
     let kept = kept_of(series, span);
     value_between(series, kind, kept.lo, kept.hi)
@@ -26,8 +26,8 @@ struct Kept {
 
 // What is kept of a span.
 fn kept_of(series: &Series<Six>, span: Span) -> Kept
-    ensures granted { range_refused series.now.held result.lo result.hi ≡ None }
-    ensures same { slice_of series.now.held result.lo result.hi ≡ span_of series.now.held span }
+    ensures granted { range_refused series.now.kept.held result.lo result.hi ≡ None }
+    ensures same { slice_of series.now.kept.held result.lo result.hi ≡ span_of series.now.kept.held span }
 {
     let first = series.first();
     let size = series.size();
@@ -46,9 +46,9 @@ fn kept_of(series: &Series<Six>, span: Span) -> Kept
 
 // The value of a kind over a range that nothing refuses.
 fn value_between(series: &mut Series<Six>, kind: Kind, lo: u64, hi: u64) -> Shown
-    requires { range_refused series.old.held lo hi ≡ None }
-    ensures value { result ≡ plain_value kind (slice_of series.old.held lo hi) }
-    ensures same { series.new ≡ series.old }
+    requires { range_refused series.old.kept.held lo hi ≡ None }
+    ensures value { result ≡ plain_value kind (slice_of series.old.kept.held lo hi) }
+    ensures same { series.new.kept ≡ series.old.kept }
 {
     match series.ask(lo, hi) {
         Ok(answer) => face(kind, answer.value),

@@ -23,3 +23,5 @@ pub use Rattle.lv_series.specs.Plain as PlainSeries
 pub use Rattle.lv_series.specs.Series
 pub use Rattle.lv_series.specs.Refresh as SeriesRefresh
 pub use Rattle.lv_series.specs.Served as SeriesServed
+pub use Rattle.lv_series.specs.Shard as SeriesShard
+pub use Rattle.lv_series.specs.Sharded as SeriesShards

@@ -1,10 +1,7 @@
 -- What the loop keeps in `refresh_each`: does jobs in place, at most so many: those of the first shard that has any, then those of the next.
-use Rattle.std.proofs.Common.{◌≡◌, ◌≤◌}
+use Rattle.lv_series.proofs.RoundLaws.{Turned}
 use Rattle.lv_series.proofs.rounds.refresh_each.Given as goal
 
--- the shards are as they were, and no more was done than may be
+-- the first so many shards took their turns
 abbrev pub invariant-loop-index : goal.invariant-loop-index
-invariant-loop-index g l = record {
-  full : l.full.items ≡ l.initial.full.items;
-  done : l.done ≤ l.jobs;
-}
+invariant-loop-index g l = Turned (λ b. g.B.Body.operations (g.B.Body.meaning b)) l.jobs l.done l.index l.initial.full.items l.full.items

@@ -8,7 +8,7 @@ use Rattle.lv_series_script.proofs.answers.put_edit.Goals as goal
 
 pub returns-in-Ok-clause-answer : goal.returns-in-Ok-clause-answer
 returns-in-Ok-clause-answer c =
-    let new = c.make.new.series in
+    let new = c.make.new.series.kept in
     rw c.tell.ensures.same (
     let ws = c.args.entries.now.items in
     let held = c.args.held.now.items in
@@ -19,17 +19,17 @@ returns-in-Ok-clause-answer c =
     let receipt = long_receipt_text c.in-Ok.receipt new.held.first in
     let notes = flat_map (told_of new.held) ws in (
       receipt ++ notes,
-      edit_granted c.args.series.now new ws c.args.edit _ c.in-Ok.receipt (receipt ++ notes) c.in-Ok.ensures c.requires.ready.current refl then,
+      edit_granted c.args.series.now.kept new ws c.args.edit _ c.in-Ok.receipt (receipt ++ notes) c.in-Ok.ensures c.requires.ready.current refl then,
       c.tell.ensures.text ∙ ap (λ ws. c.put_receipt.new.held.items ++ flat_map (told_of new.held) ws) c.deref_mut.ensures.value
           ∙ ap (λ text. text ++ notes) (c.put_receipt.ensures.text ∙ ap (λ first. held ++ long_receipt_text c.in-Ok.receipt first) c.first.ensures) ∙ append_assoc held receipt notes,
     ))
 
 pub returns-in-Ok-clause-ready : goal.returns-in-Ok-clause-ready
 returns-in-Ok-clause-ready c =
-    let new = c.make.new.series in
+    let new = c.make.new.series.kept in
     rw c.tell.ensures.same (
     let ws = c.args.entries.now.items in
     let after = c.tell.new.entries in
     let told = c.tell.ensures.entries ∙ ap (map (brought_up new.held)) c.deref_mut.ensures.value in
     let long : length after ≡ c.args.entries.now.len = omega (arith, c.deref_mut.ensures.len, ap length c.deref_mut.ensures.value, ap length told, length-map ws (brought_up new.held)) in
-    edit_ready c.args.series.now new ws c.args.edit _ c.in-Ok.receipt c.in-Ok.ensures c.requires.ready (with_items_is c.args.entries.now after long ∙ told))
+    edit_ready c.args.series.now.kept new ws c.args.edit _ c.in-Ok.receipt c.in-Ok.ensures c.requires.ready (with_items_is c.args.entries.now after long ∙ told))

@@ -8,7 +8,7 @@ use Rattle.lv_series_script.proofs.answers.put_reduced.Goals as goal
 
 pub returns-in-Ok-clause-answer : goal.returns-in-Ok-clause-answer
 returns-in-Ok-clause-answer c =
-    let s = c.args.series.now in
+    let s = c.args.series.now.kept in
     let kind = c.args.kind in
     let value = c.face.ensures.shown ∙ face_of-any_fold kind _ (slice_of s.held c.args.lo c.args.hi) c.in-Ok.ensures.answer.value in (
       answer_text c.in-Ok.answer.edit kind c.face.result,

@@ -6,9 +6,9 @@ use Rattle.lv_series_script.proofs.queries.tell.Given as goal
 -- the entries so far were brought up and told of, the others are as they were
 abbrev pub invariant-loop-entry : goal.invariant-loop-entry
 invariant-loop-entry l = record {
-  same : l.series ≡ l.initial.series;
-  entries : l.entries ≡ map (brought_up l.initial.series.held) (take l.entry-index l.initial.entries) ++ drop l.entry-index l.initial.entries;
-  text : l.held.items ≡ l.initial.held.items ++ flat_map (told_of l.initial.series.held) (take l.entry-index l.initial.entries);
+  same : l.series.kept ≡ l.initial.series.kept;
+  entries : l.entries ≡ map (brought_up l.initial.series.kept.held) (take l.entry-index l.initial.entries) ++ drop l.entry-index l.initial.entries;
+  text : l.held.items ≡ l.initial.held.items ++ flat_map (told_of l.initial.series.kept.held) (take l.entry-index l.initial.entries);
   left : vec_len l.held + 256 * (length l.initial.entries - l.entry-index) ≤ vec_capacity l.held;
   room : vec_capacity l.initial.held ≤ vec_capacity l.held;
 }

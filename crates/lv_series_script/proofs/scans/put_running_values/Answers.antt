@@ -20,9 +20,9 @@ nothing n = omega arith
 pub loop-i-init : goal.loop-i-init
 loop-i-init g c =
     let none : c.args.asked.now.lo - c.args.asked.now.lo ≡ 0 = omega arith in
-    let start = c.args.asked.now.lo - c.args.series.now.held.first in
+    let start = c.args.asked.now.lo - c.args.series.now.kept.held.first in
     record {
-      fold = c.identity-sum.ensures ∙ ap (λ n. fold_of six_operations (take n (drop start c.args.series.now.held.elements))) (sym (nothing start));
+      fold = c.identity-sum.ensures ∙ ap (λ n. fold_of six_operations (take n (drop start c.args.series.now.kept.held.elements))) (sym (nothing start));
       within = within_none _ _ c.identity-sum.ensures none;
       written = rw none (Writes-nil _ _);
       places = (refl, refl);
@@ -30,7 +30,7 @@ loop-i-init g c =
 
 pub one_more-sum-requires : goal.one_more-sum-requires
 one_more-sum-requires g c =
-    let h = c.args.series.now.held in
+    let h = c.args.series.now.kept.held in
     let asked = c.args.asked.now in
     let x = c.element_at.result in
     let low : asked.lo ≤ c.loop-i.i = c.loop-i.auto.i in
@@ -42,7 +42,7 @@ pub returns-in_err-put_scanned-clause-fault : goal.returns-in_err-put_scanned-cl
 returns-in_err-put_scanned-clause-fault g c =
     let p = err_from_is_err_and c.from_residual.result c.from_residual.ensures.1 in
     let fails = c.in_err-put_scanned.ensures.fault in
-    let h = c.args.series.now.held in
+    let h = c.args.series.now.kept.held in
     let asked = c.args.asked.now in
     let xs = slice_of h asked.lo asked.hi in
     rw (p.1, p.2) (fails.0, WritesFront-so_far (value_at (plain_value asked.kind) asked.inclusive xs) asked.lo asked.hi (length xs) (length-kept h asked.lo asked.hi c.requires.granted) c.loop-i.i c.loop-i.invariant.written fails.1)
@@ -50,7 +50,7 @@ returns-in_err-put_scanned-clause-fault g c =
 pub loop-i-preserved : goal.loop-i-preserved
 loop-i-preserved g c =
     let places = c.put_scanned.ensures.places in
-    let h = c.args.series.now.held in
+    let h = c.args.series.now.kept.held in
     let asked = c.args.asked.now in
     let lo = asked.lo in
     let hi = asked.hi in
@@ -77,7 +77,7 @@ loop-i-preserved g c =
 
 pub returns-clause-ok : goal.returns-clause-ok
 returns-clause-ok g c =
-    let h = c.args.series.now.held in
+    let h = c.args.series.now.kept.held in
     let asked = c.args.asked.now in
     let xs = slice_of h asked.lo asked.hi in
     Writes-whole (value_at (plain_value asked.kind) asked.inclusive xs) asked.lo asked.hi (length xs) (length-kept h asked.lo asked.hi c.requires.granted) c.loop-i.i c.loop-i.auto.i (omega (arith, c.loop-i-test.false)) c.loop-i.invariant.written

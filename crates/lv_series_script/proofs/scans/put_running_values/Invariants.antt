@@ -11,9 +11,9 @@ use Rattle.lv_series_script.proofs.scans.put_running_values.Given as goal
 -- the fold of what was read so far, whose values are written
 abbrev pub invariant-loop-i : goal.invariant-loop-i
 invariant-loop-i g l =
-    let xs = slice_of l.series.held l.asked.lo l.asked.hi in
+    let xs = slice_of l.series.kept.held l.asked.lo l.asked.hi in
     record {
-      fold : l.sum ≡ fold_of six_operations (slice_of l.series.held l.asked.lo l.i);
+      fold : l.sum ≡ fold_of six_operations (slice_of l.series.kept.held l.asked.lo l.i);
       within : six_within l.sum (l.i - l.asked.lo);
       written : Puts g.W.Write.contents l.initial.outbox l.outbox
           (values_up_to (value_at (plain_value l.asked.kind) l.asked.inclusive xs) (length xs) (l.i - l.asked.lo));

@@ -9,13 +9,13 @@ use Rattle.lv_series_script.proofs.scans.put_scan.Goals as goal
 pub returns-clause-ok : goal.returns-clause-ok
 returns-clause-ok g c =
     let asked = c.args.asked.now in
-    let count = length-scan c.args.series.now.held asked.lo asked.hi c.requires.granted asked.kind asked.inclusive in
+    let count = length-scan c.args.series.now.kept.held asked.lo asked.hi c.requires.granted asked.kind asked.inclusive in
     let text = c.put_head.ensures.text ∙ ap₂ (λ edit n. c.args.outbox.now.held.now.items ++ scan_head edit asked.inclusive asked.kind n) c.edits.ensures (sym count) in
     on_ok_weaker c.put_running_values.result (Writes-trans (Writes-put _ _ _ _ text)) c.put_running_values.ensures.ok
 
 pub returns-clause-fault : goal.returns-clause-fault
 returns-clause-fault g c =
     let asked = c.args.asked.now in
-    let count = length-scan c.args.series.now.held asked.lo asked.hi c.requires.granted asked.kind asked.inclusive in
+    let count = length-scan c.args.series.now.kept.held asked.lo asked.hi c.requires.granted asked.kind asked.inclusive in
     let text = c.put_head.ensures.text ∙ ap₂ (λ edit n. c.args.outbox.now.held.now.items ++ scan_head edit asked.inclusive asked.kind n) c.edits.ensures (sym count) in
     IfErr-weaker c.put_running_values.result _ _ (λ fault fails. (fails.0, WritesFront-after (Writes-put _ _ _ _ text) fails.1)) c.put_running_values.ensures.fault

@@ -8,7 +8,7 @@ use Rattle.lv_series_script.proofs.series_scripts.run_series_script.Goals as goa
 pub returns-clause-plain : goal.returns-clause-plain
 returns-clause-plain g c =
     let none : c.new-2.result.items ≡ [] = search rules in
-    conversed_plain _ _ _ _ _ _ _ (ap₂ known_of c.new.ensures none) c.converse-ended.ensures
+    conversed_plain _ _ _ _ _ _ _ (ap₂ known_of c.new.ensures.kept none) c.converse-ended.ensures
 
 pub returns-clause-text : goal.returns-clause-text
 returns-clause-text g c =

@@ -7,4 +7,4 @@ use Rattle.lv_series_script.proofs.values.value_between.Goals as goal
 pub returns-clause-value : goal.returns-clause-value
 returns-clause-value c =
     c.face.ensures.shown
-    ∙ face_of-any_fold c.args.kind _ (slice_of c.args.series.now.held c.args.lo c.args.hi) c.in-Ok.ensures.answer.value
+    ∙ face_of-any_fold c.args.kind _ (slice_of c.args.series.now.kept.held c.args.lo c.args.hi) c.in-Ok.ensures.answer.value

@@ -20,9 +20,9 @@ overflow_add-from g c = omega (arith, c.requires.inside, c.len-len.ensures.value
 
 pub combine_long-sum-requires : goal.combine_long-sum-requires
 combine_long-sum-requires g c =
-    let m = g.B.Body.meaning c.args.self.now.body in
+    let m = g.B.Body.meaning c.args.self.now.held.body in
     let o = g.B.Body.operations m in
-    let els = c.args.self.now.elements in
+    let els = c.args.self.now.held.elements in
     let more = length c.args.into.now in
     let k = c.loop-k.k in
     let fits : IsElement c.get-element.result = search rules in
@@ -32,9 +32,9 @@ combine_long-sum-requires g c =
 
 pub loop-k-preserved : goal.loop-k-preserved
 loop-k-preserved g c =
-    let m = g.B.Body.meaning c.args.self.now.body in
+    let m = g.B.Body.meaning c.args.self.now.held.body in
     let o = g.B.Body.operations m in
-    let els = c.args.self.now.elements in
+    let els = c.args.self.now.held.elements in
     let more = length c.args.into.now in
     let k = c.loop-k.k in
     let x = c.get-element.result in
@@ -60,5 +60,5 @@ loop-k-preserved g c =
 
 pub returns : goal.returns
 returns g c =
-    let o = g.B.Body.operations (g.B.Body.meaning c.args.self.now.body) in
-    values_all o c.args.before c.args.self.now.elements c.args.from (length c.args.into.now) c.requires.inside c.args.inclusive c.loop-k.k c.loop-k.into c.loop-k.invariant.len (omega arith) c.loop-k.invariant.values
+    let o = g.B.Body.operations (g.B.Body.meaning c.args.self.now.held.body) in
+    values_all o c.args.before c.args.self.now.held.elements c.args.from (length c.args.into.now) c.requires.inside c.args.inclusive c.loop-k.k c.loop-k.into c.loop-k.invariant.len (omega arith) c.loop-k.invariant.values

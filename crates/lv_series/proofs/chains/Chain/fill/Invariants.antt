@@ -6,10 +6,11 @@ use Rattle.lv_series.proofs.ScanSteps.{fold_on}
 use Rattle.lv_series.proofs.chains.Chain.fill.Given as goal
 
 -- the folds of the elements so far, and what they lead to
+
 abbrev pub invariant-loop-k : goal.invariant-loop-k
 invariant-loop-k g l =
-    let o = g.B.Body.operations (g.B.Body.meaning l.self.body) in
-    let run = slice_range l.self.elements l.from (l.from + length l.initial.into) in
+    let o = g.B.Body.operations (g.B.Body.meaning l.self.held.body) in
+    let run = slice_range l.self.held.elements l.from (l.from + length l.initial.into) in
     record {
       sum : l.sum ≡ fold_on o l.fn.before (take l.k run);
       values : take l.k l.into ≡ map (running_fold l.inclusive o l.fn.before run) (range_with_len 0 l.k);

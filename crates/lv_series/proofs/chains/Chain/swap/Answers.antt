@@ -8,5 +8,5 @@ swap_across-requires-else-shard-other-2-clause-apart g c = λ _ _. omega (arith,
 
 pub returns-else-shard-other-2-clause-ok : goal.returns-else-shard-other-2-clause-ok
 returns-else-shard-other-2-clause-ok g c =
-    let els = c.args.self.now.elements in
-    subst (λ ys. OnOk c.swap_across-else-shard-other-2.result (c.swap_across-else-shard-other-2.new.self ≡ record c.args.self.now { elements = ys })) (swap_turned els c.args.second c.args.first c.requires.second c.requires.first (omega (arith, c.if-shard-other.false))) c.swap_across-else-shard-other-2.ensures.ok
+    let els = c.args.self.now.held.elements in
+    subst (λ ys. OnOk c.swap_across-else-shard-other-2.result (c.swap_across-else-shard-other-2.new.self.held ≡ record c.args.self.now.held { elements = ys })) (swap_turned els c.args.second c.args.first c.requires.second c.requires.first (omega (arith, c.if-shard-other.false))) c.swap_across-else-shard-other-2.ensures.ok

@@ -9,42 +9,42 @@ use Rattle.lv_series.proofs.series.Series.fold_kept.Goals as goal
 pub overflow_sub-lo : goal.overflow_sub-lo
 overflow_sub-lo g c =
     let s = c.self.inside in
-    let free : range_refused (held_of s.gone s.skip s.chain.elements) c.args.lo c.args.hi ≡ None = rw (← c.self.view_is) at c.requires in
-    omega (arith, (free_range (held_of s.gone s.skip s.chain.elements) c.args.lo c.args.hi free).1)
+    let free : range_refused (held_of s.gone s.skip s.chain.held.elements) c.args.lo c.args.hi ≡ None = rw (← c.self.view_is) at c.requires in
+    omega (arith, (free_range (held_of s.gone s.skip s.chain.held.elements) c.args.lo c.args.hi free).1)
 
 pub overflow_sub-hi : goal.overflow_sub-hi
 overflow_sub-hi g c =
     let s = c.self.inside in
-    let free : range_refused (held_of s.gone s.skip s.chain.elements) c.args.lo c.args.hi ≡ None = rw (← c.self.view_is) at c.requires in
-    omega (arith, (free_range (held_of s.gone s.skip s.chain.elements) c.args.lo c.args.hi free).1, (free_range (held_of s.gone s.skip s.chain.elements) c.args.lo c.args.hi free).0)
+    let free : range_refused (held_of s.gone s.skip s.chain.held.elements) c.args.lo c.args.hi ≡ None = rw (← c.self.view_is) at c.requires in
+    omega (arith, (free_range (held_of s.gone s.skip s.chain.held.elements) c.args.lo c.args.hi free).1, (free_range (held_of s.gone s.skip s.chain.held.elements) c.args.lo c.args.hi free).0)
 
 pub fold-folded-requires-clause-order : goal.fold-folded-requires-clause-order
 fold-folded-requires-clause-order g c = λ _ _.
     let s = c.self.inside in
-    let free : range_refused (held_of s.gone s.skip s.chain.elements) c.args.lo c.args.hi ≡ None = rw (← c.self.view_is) at c.requires in
-    omega (arith, (free_range (held_of s.gone s.skip s.chain.elements) c.args.lo c.args.hi free).0)
+    let free : range_refused (held_of s.gone s.skip s.chain.held.elements) c.args.lo c.args.hi ≡ None = rw (← c.self.view_is) at c.requires in
+    omega (arith, (free_range (held_of s.gone s.skip s.chain.held.elements) c.args.lo c.args.hi free).0)
 
 pub fold-folded-requires-clause-inside : goal.fold-folded-requires-clause-inside
 fold-folded-requires-clause-inside g c = λ _ _.
     let s = c.self.inside in
-    let free : range_refused (held_of s.gone s.skip s.chain.elements) c.args.lo c.args.hi ≡ None = rw (← c.self.view_is) at c.requires in
-    omega (arith, (free_range (held_of s.gone s.skip s.chain.elements) c.args.lo c.args.hi free).2, size_held s.gone s.skip s.chain.elements c.self.invariant.0)
+    let free : range_refused (held_of s.gone s.skip s.chain.held.elements) c.args.lo c.args.hi ≡ None = rw (← c.self.view_is) at c.requires in
+    omega (arith, (free_range (held_of s.gone s.skip s.chain.held.elements) c.args.lo c.args.hi free).2, size_held s.gone s.skip s.chain.held.elements c.self.invariant.0)
 
 pub returns-clause-answer : goal.returns-clause-answer
 returns-clause-answer g c =
     let s = c.self.inside in
-    let free : range_refused (held_of s.gone s.skip s.chain.elements) c.args.lo c.args.hi ≡ None = rw (← c.self.view_is) at c.requires in
-    let kept = free_range (held_of s.gone s.skip s.chain.elements) c.args.lo c.args.hi free in
+    let free : range_refused (held_of s.gone s.skip s.chain.held.elements) c.args.lo c.args.hi ≡ None = rw (← c.self.view_is) at c.requires in
+    let kept = free_range (held_of s.gone s.skip s.chain.held.elements) c.args.lo c.args.hi free in
     rw (← c.self.view_is) record {
       granted = free;
       edit = refl;
-      value = c.fold-folded.ensures.fold ∙ ap (fold_of (g.B.Body.operations (g.B.Body.meaning s.chain.body))) (range_held s.gone s.skip s.chain.elements c.self.invariant.0 c.args.lo c.args.hi kept.1 kept.0);
+      value = c.fold-folded.ensures.fold ∙ ap (fold_of (g.B.Body.operations (g.B.Body.meaning s.chain.held.body))) (range_held s.gone s.skip s.chain.held.elements c.self.invariant.0 c.args.lo c.args.hi kept.1 kept.0);
     }
 
 pub returns-clause-joins : goal.returns-clause-joins
 returns-clause-joins g c =
     let s = c.self.inside in
-    let free : range_refused (held_of s.gone s.skip s.chain.elements) c.args.lo c.args.hi ≡ None = rw (← c.self.view_is) at c.requires in
-    let kept = free_range (held_of s.gone s.skip s.chain.elements) c.args.lo c.args.hi free in
+    let free : range_refused (held_of s.gone s.skip s.chain.held.elements) c.args.lo c.args.hi ≡ None = rw (← c.self.view_is) at c.requires in
+    let kept = free_range (held_of s.gone s.skip s.chain.held.elements) c.args.lo c.args.hi free in
     let same : c.args.hi - s.gone - (c.args.lo - s.gone) ≡ c.args.hi - c.args.lo = omega (arith, kept.0, kept.1) in
     subst (λ n. c.fold-folded.result.joins ≤ 126 + n / 33546240) same c.fold-folded.ensures.joins

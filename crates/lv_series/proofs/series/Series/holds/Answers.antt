@@ -8,9 +8,9 @@ use Rattle.lv_series.proofs.series.Series.holds.Goals as goal
 pub returns-clause-elements : goal.returns-clause-elements
 returns-clause-elements g c =
     let s = c.self.inside in
-    rw (← c.self.view_is) (All-drop IsElement s.skip s.chain.elements c.len-len.ensures.elements)
+    rw (← c.self.view_is) (All-drop IsElement s.skip s.chain.held.elements c.len-len.ensures.elements)
 
 pub returns-clause-few : goal.returns-clause-few
 returns-clause-few g c =
     let s = c.self.inside in
-    rw (← c.self.view_is) (omega (arith, size_held s.gone s.skip s.chain.elements c.self.invariant.0, c.self.invariant.1))
+    rw (← c.self.view_is) (omega (arith, size_held s.gone s.skip s.chain.held.elements c.self.invariant.0, c.self.invariant.1))

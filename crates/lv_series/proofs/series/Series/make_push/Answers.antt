@@ -13,30 +13,30 @@ use Rattle.lv_series.proofs.series.Series.make_push.Goals as goal
 pub push-requires-after_bounds : goal.push-requires-after_bounds
 push-requires-after_bounds g c = λ _ _.
     let s = c.self.inside in
-    let free : refused (state_of s.chain s.gone s.skip s.edits) (Push c.args.x) ≡ None = rw (← c.self.view_is) at c.requires in
-    let room = free_push (held_of s.gone s.skip s.chain.elements) c.args.x (free_edit (state_of s.chain s.gone s.skip s.edits) (Push c.args.x) free).1 in
-    omega (arith, room, size_held s.gone s.skip s.chain.elements c.self.invariant.0)
+    let free : refused (state_of s.chain.held s.gone s.skip s.edits) (Push c.args.x) ≡ None = rw (← c.self.view_is) at c.requires in
+    let room = free_push (held_of s.gone s.skip s.chain.held.elements) c.args.x (free_edit (state_of s.chain.held s.gone s.skip s.edits) (Push c.args.x) free).1 in
+    omega (arith, room, size_held s.gone s.skip s.chain.held.elements c.self.invariant.0)
 
 pub overflow_add-self : goal.overflow_add-self
 overflow_add-self g c =
     let s = c.self.inside in
-    let free : refused (state_of s.chain s.gone s.skip s.edits) (Push c.args.x) ≡ None = rw (← c.self.view_is) at c.requires in
-    omega (arith, (free_edit (state_of s.chain s.gone s.skip s.edits) (Push c.args.x) free).0)
+    let free : refused (state_of s.chain.held s.gone s.skip s.edits) (Push c.args.x) ≡ None = rw (← c.self.view_is) at c.requires in
+    omega (arith, (free_edit (state_of s.chain.held s.gone s.skip s.edits) (Push c.args.x) free).0)
 
 pub invariant_of-self : goal.invariant_of-self
 invariant_of-self g c =
     let s = c.self.inside in
-    let free : refused (state_of s.chain s.gone s.skip s.edits) (Push c.args.x) ≡ None = rw (← c.self.view_is) at c.requires in
-    let room = free_push (held_of s.gone s.skip s.chain.elements) c.args.x (free_edit (state_of s.chain s.gone s.skip s.edits) (Push c.args.x) free).1 in
+    let free : refused (state_of s.chain.held s.gone s.skip s.edits) (Push c.args.x) ≡ None = rw (← c.self.view_is) at c.requires in
+    let room = free_push (held_of s.gone s.skip s.chain.held.elements) c.args.x (free_edit (state_of s.chain.held s.gone s.skip s.edits) (Push c.args.x) free).1 in
     let long = ap (λ t. length t.elements) (rw (to_z-of_z w64 c.args.x c.ranges.x) at c.in-Ok.ensures.ok) in
-    let more = length_push s.chain.elements c.args.x in
-    (omega (arith, long, more, c.self.invariant.0), omega (arith, long, more, room, size_held s.gone s.skip s.chain.elements c.self.invariant.0), c.self.invariant.2, c.self.invariant.3)
+    let more = length_push s.chain.held.elements c.args.x in
+    (omega (arith, long, more, c.self.invariant.0), omega (arith, long, more, room, size_held s.gone s.skip s.chain.held.elements c.self.invariant.0), c.self.invariant.2, c.self.invariant.3)
 
 pub returns-in-Ok : goal.returns-in-Ok
 returns-in-Ok g c =
     let s = c.self.inside in
-    let free : refused (state_of s.chain s.gone s.skip s.edits) (Push c.args.x) ≡ None = rw (← c.self.view_is) at c.requires in
-    rw (← c.self.view_is) (accepted s.chain c.push.new.self s.gone s.skip s.edits (Push c.args.x) (Pushed (s.edits + 1) c.size-index.result) (s.chain.elements ++ c.args.x ∷ []) free (rw (to_z-of_z w64 c.args.x c.ranges.x) at c.in-Ok.ensures.ok) (push_held s.gone s.skip s.chain.elements c.self.invariant.0 c.args.x)
+    let free : refused (state_of s.chain.held s.gone s.skip s.edits) (Push c.args.x) ≡ None = rw (← c.self.view_is) at c.requires in
+    rw (← c.self.view_is) (accepted s.chain.held c.push.new.self.held s.gone s.skip s.edits (Push c.args.x) (Pushed (s.edits + 1) c.size-index.result) (s.chain.held.elements ++ c.args.x ∷ []) free (rw (to_z-of_z w64 c.args.x c.ranges.x) at c.in-Ok.ensures.ok) (push_held s.gone s.skip s.chain.held.elements c.self.invariant.0 c.args.x)
     (ap (Pushed (s.edits + 1)) (rw (← c.self.view_is) at c.size-index.ensures)))
 
 pub returns-in-Err : goal.returns-in-Err

@@ -5,4 +5,4 @@ use Rattle.lv_series.proofs.series.Series.shards.Goals as goal
 pub returns : goal.returns
 returns g c =
     let s = c.self.inside in
-    rw (← c.self.view_is) (omega (arith, c.shards.ensures, length-drop s.skip s.chain.elements, c.self.invariant.0, c.self.invariant.2))
+    rw (← c.self.view_is) (omega (arith, c.shards.ensures, length-drop s.skip s.chain.held.elements, c.self.invariant.0, c.self.invariant.2))
