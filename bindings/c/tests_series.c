@@ -262,32 +262,23 @@ static void want_of_memory(void)
     }
     IS(refused > 0, 1);
     alike(livevec_series_reduce(&s, SHARD, size).values, plain(SHARD, size));
-    int starved = 0;
-    for (int nth = 1; nth < 40; nth++) {
-        for (size_t i = 0; i < MANY; i++)
-            all[size + i] = element();
-        until_failure = nth;
-        livevec_series_pushed p = livevec_series_push_many(&s, all + size, MANY);
+    int nth = 0;
+    livevec_series_pushed p = {0};
+    for (size_t i = 0; i < MANY; i++)
+        all[size + i] = element();
+    do {
+        until_failure = nth += 1 + nth / 8;
+        p = livevec_series_push_many(&s, all + size, MANY);
         until_failure = 0;
-        if (p.refusal) {
-            starved++;
-            IS(p.refusal, LIVEVEC_NO_MEMORY);
-            IS(p.pushed, 0);
-            IS(p.edit, 0);
-        } else {
-            size += MANY;
-            edits += MANY;
-            IS(p.pushed, MANY);
-            IS(p.edit, edits);
-            break;
-        }
+        IS(p.refusal == 0 || p.refusal == LIVEVEC_NO_MEMORY, 1);
+        IS(p.pushed, p.refusal ? 0 : MANY);
+        IS(p.edit, p.refusal ? 0 : edits + MANY);
+        size += p.pushed;
+        edits += p.pushed;
         look(&s);
-        alike(livevec_series_reduce(&s, first, size).values, plain(first, size));
-    }
-    IS(starved > 1, 1);
+    } while (p.refusal && nth < 10000);
+    IS(nth > 100 && p.refusal == 0, 1);
     alike(livevec_series_reduce(&s, first, size).values, plain(first, size));
-    push_some(&s, 10);
-    look(&s);
     IS(livevec_free_series(&s), 0);
     until_failure = 1;
     IS(livevec_series_new(&s), LIVEVEC_NO_MEMORY);

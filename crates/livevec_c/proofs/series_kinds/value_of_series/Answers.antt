@@ -2,7 +2,7 @@
 use Rattle.std.proofs.Common.{ap, ◌∙◌}
 use Rattle.std.specs.Prelude.{nat_lt}
 use Rattle.livevec_c.specs.Seats.{values_for}
-use Rattle.livevec_c.specs.SeriesAnswers.{granted, unreduced_by}
+use Rattle.livevec_c.specs.SeriesAnswers.{unreduced_by}
 use Rattle.livevec_c.proofs.SeriesLaws.{kind_answered, kind_refused}
 use Rattle.livevec_c.proofs.series_kinds.value_of_series.Goals as goal
 
