@@ -1,0 +1,2 @@
+-- Names the files of lemmas of `lv_buffers`.
+pub mod SeenTexts

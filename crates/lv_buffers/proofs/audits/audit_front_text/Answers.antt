@@ -1,0 +1,11 @@
+-- Proof of `audit_front_text`.
+use Rattle.std.proofs.Common.{subst, sym}
+use Rattle.lv_buffers.specs.ReadTexts.{IsUnread}
+use Rattle.lv_buffers.proofs.SeenTexts.{front_audited, front_unaudited}
+use Rattle.lv_buffers.proofs.audits.audit_front_text.Goals as goal
+
+pub returns-in-Ok : goal.returns-in-Ok
+returns-in-Ok c = front_audited _ _ _ _ c.in-Ok.ensures
+
+pub returns-in-Err : goal.returns-in-Err
+returns-in-Err c = subst (IsUnread c.args.text.now) (sym c.why_unread.ensures) (front_unaudited _ _ _ _ c.in-Err.ensures)

@@ -1,0 +1,14 @@
+-- Edits as plain numbers.
+use Rattle.std.specs.Prelude.{pos}
+use Rattle.lv_edits.specs.declared.edit.Edit.{Edit}
+use Rattle.lv_edits.specs.declared.edit.Edit.TheVariants.{Push, Pop, Write, Reserve, Swap, Truncate}
+use Rattle.lv_buffers.specs.declared.flat_edits.FlatEdit.{FlatEdit}
+
+-- what an edit is, by a number, and its own numbers; 0 stands for those that it hasn't
+abbrev pub flat_edit : Edit → FlatEdit
+flat_edit (Push x) = record { what = 1; index = 0; second = 0; value = x }
+flat_edit Pop = record { what = 2; index = 0; second = 0; value = pos 0 }
+flat_edit (Write i x) = record { what = 3; index = i; second = 0; value = x }
+flat_edit (Reserve n) = record { what = 4; index = n; second = 0; value = pos 0 }
+flat_edit (Swap i j) = record { what = 5; index = i; second = j; value = pos 0 }
+flat_edit (Truncate n) = record { what = 6; index = n; second = 0; value = pos 0 }

@@ -1,0 +1,58 @@
+//! What an audit says of bytes that lie in memory.
+ghost use Rattle.std.specs.Prelude.{◌≡◌};
+ghost use Rattle.lv_buffers.specs.ReadTexts.{AuditsFront, AuditsText, FindsFront, unread_by};
+
+use lv_lines::Fault;
+use lv_transcript::{FoundFront, FrontVerdict, Verdict, audit, audit_front, read_front};
+use std::alloc::Global;
+use std::io;
+
+/// Why bytes got no verdict.
+#[derive(Clone, Copy, Debug, PartialEq, Eq)]
+pub enum Unread {
+    /// There was no memory for the edits.
+    NoMemory,
+    /// There are more than 2^30 bytes.
+    TooLong,
+}
+
+// Why bytes that lie in memory got no verdict, by what an audit of an input answers. No read and no write can fail there.
+fn why_unread(fault: Fault) -> Unread
+    ensures { result ≡ unread_by fault }
+{
+    match fault {
+        Fault::TooLong => Unread::TooLong,
+        _ => Unread::NoMemory,
+    }
+}
+
+/// Audits bytes as a transcript, as `audit` does it. Memory grows with the journal.
+pub fn audit_text(alloc: Global, text: &[u8]) -> Result<Verdict, Unread>
+    ensures { AuditsText text.now result }
+{
+    let mut reader = text;
+    match audit(alloc, &mut reader, &mut io::sink()) {
+        Ok(verdict) => Ok(verdict),
+        Err(fault) => Err(why_unread(fault)),
+    }
+}
+
+/// Audits bytes as a front of a transcript, as `audit_front` does it. Memory grows with the journal.
+pub fn audit_front_text(alloc: Global, text: &[u8]) -> Result<FrontVerdict, Unread>
+    ensures { AuditsFront text.now result }
+{
+    match audit_front(alloc, text, &mut io::sink()) {
+        Ok(verdict) => Ok(verdict),
+        Err(fault) => Err(why_unread(fault)),
+    }
+}
+
+/// The same, and the edits that were read.
+pub fn front_in(alloc: Global, text: &[u8]) -> Result<FoundFront, Unread>
+    ensures { FindsFront text.now result }
+{
+    match read_front(alloc, text) {
+        Ok(found) => Ok(found),
+        Err(fault) => Err(why_unread(fault)),
+    }
+}
