@@ -19,3 +19,4 @@ pub mod Summing
 mod WrittenLaws
 pub mod SeriesPlain
 pub mod SeriesLaws
+pub mod RemadeLaws

@@ -27,3 +27,7 @@ pub mod SeriesPushed
 pub mod SeriesValued
 pub mod Queries
 pub mod Queried
+pub mod Claims
+pub mod Transcribed
+pub mod Audits
+pub mod Restores

@@ -1,0 +1,99 @@
+//! Answers as a caller in C recorded them, read as claims of a transcript.
+ghost use Rattle.std.specs.Prelude.{◌≡◌, ◌+ℤ◌, ◌*ℤ◌, ◌^◌, pos};
+ghost use Rattle.livevec_c.specs.Claims.{ClaimsAre, ClaimsInOrder, claimed_of, made_list, shown_in, whole_of};
+
+use crate::boards::kind_of;
+use crate::results::{BAD_KIND, NO_MEMORY, PlainValues};
+use lv_bodies::{Kind, Shown};
+use lv_buffers::are_in_order;
+use lv_transcript::Claimed;
+use std::alloc::Global;
+
+/// The number for recorded answers that don't rise by their edits.
+pub const NOT_IN_ORDER: u32 = 115;
+
+/// A reduction as it was answered: by which kind, over which range, at which edit, and the values, of which those of the kind count.
+#[repr(C)]
+#[derive(Clone, Copy)]
+pub struct Recorded {
+    pub edit: u32,
+    pub kind: u32,
+    pub lo: u32,
+    pub hi: u32,
+    pub values: PlainValues,
+}
+
+// The number of 128 bits whose low and high half these are.
+fn whole(low: u64, high: i64) -> i128
+    ensures { result ≡ whole_of low high }
+{
+    i128::from(high) * (1 << 64) + i128::from(low)
+}
+
+// The value of a kind among plain values.
+fn shown_in(kind: Kind, values: &PlainValues) -> Shown
+    ensures { result ≡ shown_in kind values.now }
+{
+    match kind {
+        Kind::Sum => Shown::Sum(values.sum),
+        Kind::Least => Shown::Least(values.any.then_some(values.least)),
+        Kind::Greatest => Shown::Greatest(values.any.then_some(values.greatest)),
+        Kind::Best => {
+            let best = whole(values.best_low, values.best_high);
+            Shown::Best(values.any.then_some(best))
+        }
+        Kind::Affine => Shown::Affine {
+            a: values.affine_a,
+            b: values.affine_b,
+        },
+        Kind::Automaton => Shown::Automaton(values.automaton),
+    }
+}
+
+// The claim that a recorded answer is, where its kind is one.
+fn claimed_of(answer: &Recorded) -> Option<Claimed>
+    ensures { result ≡ claimed_of answer.now }
+{
+    match kind_of(answer.kind) {
+        None => None,
+        Some(kind) => Some(Claimed {
+            edit: answer.edit,
+            kind,
+            lo: answer.lo,
+            hi: answer.hi,
+            value: shown_in(kind, &answer.values),
+        }),
+    }
+}
+
+// The claims that recorded answers are, or the number for why there are none.
+fn claims_of(alloc: Global, answers: &[Recorded]) -> Result<Vec<Claimed>, u32>
+    ensures { ClaimsAre answers.now (made_list result) }
+{
+    let Ok(mut claims) = Vec::with_capacity(alloc, answers.len()) else {
+        return Err(NO_MEMORY);
+    };
+    for answer in answers {
+        let Some(claim) = claimed_of(answer) else {
+            return Err(BAD_KIND);
+        };
+        claims.push_reserved(claim);
+    }
+    Ok(claims)
+}
+
+/// The same, where they rise by their edits.
+pub fn claims_in_order(alloc: Global, answers: &[Recorded]) -> Result<Vec<Claimed>, u32>
+    ensures { ClaimsInOrder answers.now (made_list result) }
+{
+    match claims_of(alloc, answers) {
+        Err(refusal) => Err(refusal),
+        Ok(claims) => {
+            if are_in_order(claims.as_slice()) {
+                Ok(claims)
+            } else {
+                Err(NOT_IN_ORDER)
+            }
+        }
+    }
+}

@@ -1,0 +1,118 @@
+//! Audits of a transcript's text, or of a front's, that lies in memory of the caller's.
+ghost use Rattle.std.specs.Prelude.{◌≡◌};
+ghost use Rattle.livevec_c.specs.Audits.{AuditsFrontFor, AuditsFor, fronted_by, no_front, unaudited, unread_number, verdict_for};
+
+use crate::results::NO_MEMORY;
+use lv_buffers::{Unread, audit_front_text, audit_text};
+use lv_transcript::{FrontVerdict, Verdict};
+use std::alloc::Global;
+
+/// The number for a text of more than 2^30 bytes.
+pub const TOO_LONG: u32 = 112;
+
+/// The number for a text that is no front of a transcript.
+pub const NO_FRONT: u32 = 116;
+
+/// What an audit answers, and a restoration.
+#[repr(C)]
+#[derive(Clone, Copy)]
+pub struct Audited {
+    pub refusal: u32,
+    pub detail: u32,
+    pub verdict: u32,
+    pub line: u32,
+    pub edits: u32,
+    pub answers: u32,
+}
+
+/// The answer where there is no verdict.
+pub fn not_audited(refusal: u32) -> Audited
+    ensures { result ≡ unaudited refusal }
+{
+    Audited {
+        refusal,
+        detail: 0,
+        verdict: 0,
+        line: 0,
+        edits: 0,
+        answers: 0,
+    }
+}
+
+// The answer that names a line, or none: 1 yes, 2 no, 3 bad.
+fn verdict_at(verdict: u32, line: u32) -> Audited
+    ensures { result ≡ record (unaudited 0) { verdict = verdict; line = line } }
+{
+    let mut answer = not_audited(0);
+    answer.verdict = verdict;
+    answer.line = line;
+    answer
+}
+
+// A verdict on a transcript.
+fn verdict_answer(verdict: Verdict) -> Audited
+    ensures { result ≡ verdict_for verdict }
+{
+    match verdict {
+        Verdict::Yes => verdict_at(1, 0),
+        Verdict::No(line) => verdict_at(2, line),
+        Verdict::Bad(line) => verdict_at(3, line),
+    }
+}
+
+/// A verdict on a front.
+pub fn front_answer(verdict: FrontVerdict) -> Audited
+    ensures { result ≡ fronted_by verdict }
+{
+    match verdict {
+        FrontVerdict::Front { edits, answers } => {
+            let mut answer = verdict_at(1, 0);
+            answer.edits = edits;
+            answer.answers = answers;
+            answer
+        }
+        FrontVerdict::No(line) => verdict_at(2, line),
+        FrontVerdict::Bad(line) => verdict_at(3, line),
+    }
+}
+
+/// The same, as the refusal of a text that is no front.
+pub fn front_refused(verdict: FrontVerdict) -> Audited
+    ensures { result ≡ no_front verdict }
+{
+    let mut answer = front_answer(verdict);
+    answer.refusal = NO_FRONT;
+    answer
+}
+
+/// The number for why bytes got no verdict.
+pub fn unread_number(why: Unread) -> u32
+    ensures { result ≡ unread_number why }
+{
+    match why {
+        Unread::NoMemory => NO_MEMORY,
+        Unread::TooLong => TOO_LONG,
+    }
+}
+
+/// Audits bytes as a transcript.
+#[unsafe(no_mangle)]
+pub extern "C" fn livevec_proved_audit(alloc: Global, text: &[u8]) -> Audited
+    ensures { AuditsFor text.now result }
+{
+    match audit_text(alloc, text) {
+        Ok(verdict) => verdict_answer(verdict),
+        Err(why) => not_audited(unread_number(why)),
+    }
+}
+
+/// Audits bytes as a front of a transcript.
+#[unsafe(no_mangle)]
+pub extern "C" fn livevec_proved_audit_front(alloc: Global, text: &[u8]) -> Audited
+    ensures { AuditsFrontFor text.now result }
+{
+    match audit_front_text(alloc, text) {
+        Ok(verdict) => front_answer(verdict),
+        Err(why) => not_audited(unread_number(why)),
+    }
+}

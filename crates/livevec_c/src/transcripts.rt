@@ -1,0 +1,166 @@
+//! A vector's journal, read in pieces, and its transcript with answers that were recorded, put into memory of the caller's.
+ghost use Rattle.std.specs.Prelude.{◌≡◌, length};
+ghost use Rattle.lv_transcript.specs.Transcript.{AreInOrder};
+ghost use Rattle.livevec_c.specs.Transcribed.{Transcribes, TranscribesBehind, TranscribesLive, TranscribesObject, edits_behind, edits_put, journal_behind, journal_read, object_edits, object_journal, unread_journal, unwritten_text, written_text};
+
+use crate::claims::{Recorded, claims_in_order};
+use crate::objects::Object;
+use crate::results::{NO_HANDLE, NO_MEMORY, SHORT_BUFFER};
+use crate::slots::{Slot, put, take};
+use lv_bodies::SixByTable;
+use lv_buffers::{FlatEdit, Unput, copy_edits, put_transcript};
+use lv_live::Live;
+use lv_transcript::Claimed;
+use std::alloc::Global;
+
+/// What a read of a journal answers.
+#[repr(C)]
+#[derive(Clone, Copy)]
+pub struct JournalRead {
+    pub refusal: u32,
+    pub edit: u32,
+    pub length: usize,
+}
+
+/// What a text that goes into bytes of the caller's answers: how many bytes it takes.
+#[repr(C)]
+#[derive(Clone, Copy)]
+pub struct TextPut {
+    pub refusal: u32,
+    pub length: usize,
+}
+
+// What a read answers where a slot holds no vector.
+fn not_read() -> JournalRead
+    ensures { result ≡ unread_journal }
+{
+    JournalRead {
+        refusal: NO_HANDLE,
+        edit: 0,
+        length: 0,
+    }
+}
+
+// Edits of a vector behind the first `from`, as many as stand there and fit.
+fn read_live(live: &Live<SixByTable>, from: u32, edits: &mut [FlatEdit]) -> JournalRead
+    ensures answer { result ≡ journal_read from (length edits.old) live.now }
+    ensures edits { edits.new ≡ edits_put from edits.old live.now }
+{
+    let length = copy_edits(live.journal(), from as usize, edits);
+    JournalRead {
+        refusal: 0,
+        edit: live.edit(),
+        length,
+    }
+}
+
+// The same of an object.
+fn read_of(object: &Object, from: u32, edits: &mut [FlatEdit]) -> JournalRead
+    ensures answer { result ≡ object_journal from (length edits.old) object.now }
+    ensures edits { edits.new ≡ object_edits from edits.old object.now }
+{
+    match object {
+        Object::Vector(vector, _) => read_live(vector.live(), from, edits),
+        _ => not_read(),
+    }
+}
+
+/// Puts the accepted edits behind the first `from` into the caller's places, as many as stand there and fit.
+#[unsafe(no_mangle)]
+pub extern "C" fn livevec_proved_journal(
+    alloc: Global,
+    slot: &mut Slot,
+    from: u32,
+    edits: &mut [FlatEdit],
+) -> JournalRead
+    ensures answer { result ≡ journal_behind from (length edits.old) slot.old.raw.inner }
+    ensures edits { edits.new ≡ edits_behind from edits.old slot.old.raw.inner }
+    ensures same { slot.new.raw.inner ≡ slot.old.raw.inner }
+{
+    match take(alloc, slot) {
+        None => not_read(),
+        Some(held) => {
+            let answer = read_of(&held, from, edits);
+            put(slot, held);
+            answer
+        }
+    }
+}
+
+// What a text that was not put there answers.
+fn not_put(refusal: u32) -> TextPut
+    ensures { result ≡ unwritten_text refusal }
+{
+    TextPut { refusal, length: 0 }
+}
+
+// What a text answers, by what became of it.
+fn put_answer(became: Result<usize, Unput>) -> TextPut
+    ensures { result ≡ written_text became }
+{
+    match became {
+        Ok(length) => TextPut { refusal: 0, length },
+        Err(Unput::NoMemory) => not_put(NO_MEMORY),
+        Err(Unput::Short { wanted }) => TextPut {
+            refusal: SHORT_BUFFER,
+            length: wanted,
+        },
+    }
+}
+
+// The transcript of a vector and of claims, which rise by their edits.
+fn transcribe_live(
+    alloc: Global,
+    live: &Live<SixByTable>,
+    claims: &[Claimed],
+    text: &mut [u8],
+) -> TextPut
+    requires { AreInOrder claims.now }
+    ensures { TranscribesLive claims.now result text.old text.new live.now }
+{
+    put_answer(put_transcript(alloc, live.journal(), claims, text))
+}
+
+// The same of an object.
+fn transcribe_of(alloc: Global, object: &Object, claims: &[Claimed], text: &mut [u8]) -> TextPut
+    requires { AreInOrder claims.now }
+    ensures { TranscribesObject claims.now result text.old text.new object.now }
+{
+    match object {
+        Object::Vector(vector, _) => transcribe_live(alloc, vector.live(), claims, text),
+        _ => not_put(NO_HANDLE),
+    }
+}
+
+// The same of what lies behind a slot.
+fn transcribe_held(alloc: Global, slot: &mut Slot, claims: &[Claimed], text: &mut [u8]) -> TextPut
+    requires { AreInOrder claims.now }
+    ensures answer { TranscribesBehind claims.now result text.old text.new slot.old.raw.inner }
+    ensures same { slot.new.raw.inner ≡ slot.old.raw.inner }
+{
+    match take(alloc, slot) {
+        None => not_put(NO_HANDLE),
+        Some(held) => {
+            let answer = transcribe_of(alloc, &held, claims, text);
+            put(slot, held);
+            answer
+        }
+    }
+}
+
+/// Puts the transcript of a vector's journal and of answers, which rise by their edits, into the front of the caller's bytes.
+#[unsafe(no_mangle)]
+pub extern "C" fn livevec_proved_transcript(
+    alloc: Global,
+    slot: &mut Slot,
+    answers: &[Recorded],
+    text: &mut [u8],
+) -> TextPut
+    ensures answer { Transcribes answers.now result text.old text.new slot.old.raw.inner }
+    ensures same { slot.new.raw.inner ≡ slot.old.raw.inner }
+{
+    match claims_in_order(alloc, answers) {
+        Err(refusal) => not_put(refusal),
+        Ok(claims) => transcribe_held(alloc, slot, claims.as_slice(), text),
+    }
+}
