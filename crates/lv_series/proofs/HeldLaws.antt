@@ -1,8 +1,17 @@
 -- What shards hold, in a list of them: of each what it holds.
-use Rattle.std.proofs.Common.{◌≡◌, ℕ, ℤ, zero, suc, ◌+◌, ◌<◌, Result, Ok, Err, OnOk, List, [], ◌∷◌, ◌++◌, length, take, drop, slice_index_or, slice_set, refl, sym, ap, subst, ◌∙◌, arith, length-set}
+use Rattle.std.proofs.Common.{◌≡◌, ℕ, ℤ, zero, suc, ◌+◌, ◌*◌, ◌<◌, Result, Ok, Err, OnOk, OnErr, List, [], ◌∷◌, ◌++◌, length, take, drop, slice_index_or, slice_set, refl, sym, ap, subst, ◌∙◌, arith, length-set}
 use Rattle.std.proofs.lemmas.List.{drop-map, get_or-append-add, get_or-map, get_or-set_same, get_or-take, length-map, length-take-le, length_push, map-append, map-set, set-get_or, take-map}
 use Rattle.lv_series.specs.Chain.{IsPut}
 use Rattle.lv_series.specs.Shard.{Holding, ShardState, held_by, held_by_each}
+
+-- what holds anyhow holds where memory was wanting
+pub on_err : {X E : Type 0} (P : Type 0) (result : Result X E) → P → OnErr result P
+on_err P (Ok x) holds = tt
+on_err P (Err x) holds = holds
+
+-- there is a full shard, where there are elements and the last shard has none
+pub some_full : (all held full last : ℕ) → 0 < all → all ≡ 32760 * held + last → last ≡ 0 → held ≡ full → 0 < full
+some_full all held full last some long none many = omega arith
 
 -- what is held with other elements, of two that hold the same
 pub changed_alike : {B : Type 0} (change : List ℤ → List ℤ) (a b : Holding B) → a ≡ b → record a { elements = change a.elements } ≡ record b { elements = change b.elements }

@@ -4,7 +4,7 @@ use Rattle.std.specs.Int.{w64}
 use Rattle.std.proofs.lemmas.Int.{to_z-of_z}
 use Rattle.lv_series.specs.Chain.{sum_of}
 use Rattle.lv_series.specs.Shard.{held_by}
-use Rattle.lv_series.proofs.HeldLaws.{held_read, held_same, is_put, sum_put}
+use Rattle.lv_series.proofs.HeldLaws.{held_read, held_same, is_put, on_err, sum_put}
 use Rattle.lv_sums.specs.Sums.{AreFolds}
 use Rattle.lv_series.proofs.changing.write_in.Goals as goal
 
@@ -28,4 +28,4 @@ write_one-requires-after_bounds g c = λ _ _.
     subst (λ h. c.args.index < length h.elements) (sym (held_read c.args.full.now.items c.args.number s (held_by s) c.requires.number c.index_mut.ensures.value)) (c.requires.index (held_by s))
 
 pub returns-in_err-sum-clause-full : goal.returns-in_err-sum-clause-full
-returns-in_err-sum-clause-full g c = held_same c.args.full.now.items c.args.number c.index_mut.result.now c.write_one.new.shard c.index_mut.ensures.value c.in_err-sum.ensures.err
+returns-in_err-sum-clause-full g c = on_err _ c.from_residual.result (held_same c.args.full.now.items c.args.number c.index_mut.result.now c.write_one.new.shard c.index_mut.ensures.value c.in_err-sum.ensures.err)

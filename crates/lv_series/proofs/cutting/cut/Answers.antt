@@ -1,7 +1,7 @@
 -- Proof of `cut`: keeps the first elements of a full shard, and makes it the last one.
 use Rattle.std.proofs.Common.{◌+◌, ◌≤◌, length, slice_index_or, take, arith, ap, sym, subst, ◌∙◌}
 use Rattle.lv_series.specs.Shard.{held_by, held_by_each}
-use Rattle.lv_series.proofs.HeldLaws.{changed_alike, held_read, held_same, last_of_cut}
+use Rattle.lv_series.proofs.HeldLaws.{changed_alike, held_read, held_same, last_of_cut, on_err}
 use Rattle.lv_series.proofs.cutting.cut.Goals as goal
 
 pub truncate-requires-after_bounds : goal.truncate-requires-after_bounds
@@ -17,4 +17,4 @@ returns-clause-tail g c = λ d.
     ∙ c.in_ok-truncate.ensures.ok ∙ changed_alike (take c.args.count) (held_by c.index_mut.result.now) (slice_index_or (held_by_each xs) c.args.number d) (held_read xs c.args.number c.index_mut.result.now d c.requires.number c.index_mut.ensures.value)
 
 pub returns-in_err-truncate-clause-same_full : goal.returns-in_err-truncate-clause-same_full
-returns-in_err-truncate-clause-same_full g c = held_same c.args.full.now.items c.args.number c.index_mut.result.now c.truncate.new.self c.index_mut.ensures.value c.in_err-truncate.ensures.err
+returns-in_err-truncate-clause-same_full g c = on_err _ c.from_residual.result (held_same c.args.full.now.items c.args.number c.index_mut.result.now c.truncate.new.self c.index_mut.ensures.value c.in_err-truncate.ensures.err)

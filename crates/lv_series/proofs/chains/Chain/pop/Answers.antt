@@ -7,7 +7,7 @@ use Rattle.lv_series.proofs.ChainCuts.{last_is, unrolled, unrolled_body, unrolle
 use Rattle.lv_series.proofs.ChainLaws.{length_all}
 use Rattle.lv_series.proofs.ChainTrees.{kept_body, summed}
 use Rattle.lv_series.specs.Shard.{held_by, held_by_each}
-use Rattle.lv_series.proofs.HeldLaws.{held_snoc, length_held}
+use Rattle.lv_series.proofs.HeldLaws.{held_snoc, length_held, some_full}
 use Rattle.lv_series.proofs.chains.Chain.pop.Goals as goal
 
 pub pop-requires-after_bounds : goal.pop-requires-after_bounds
@@ -35,7 +35,9 @@ pub unroll-requires-after_bounds : goal.unroll-requires-after_bounds
 unroll-requires-after_bounds g c = λ _ _.
     let s = c.self.inside in
     let some : 0 < length (all_in (held_by_each s.full.items) (held_by s.tail)) = rw (← c.self.view_is) at c.requires in
-    omega (arith, some, length_all (held_by s.tail).body (held_by_each s.full.items) (held_by s.tail) c.self.invariant.chain.each, c.if-len-gt0.false, c.len.ensures.value)
+    let none : length (held_by s.tail).elements ≡ 0 = omega (arith, c.if-len-gt0.false, c.len.ensures.value) in
+    some_full (length (all_in (held_by_each s.full.items) (held_by s.tail))) (length (held_by_each s.full.items)) (length s.full.items) (length (held_by s.tail).elements) some
+    (length_all (held_by s.tail).body (held_by_each s.full.items) (held_by s.tail) c.self.invariant.chain.each) none (length_held s.full.items)
 
 pub pop-requires-2-after_bounds : goal.pop-requires-2-after_bounds
 pop-requires-2-after_bounds g c = λ _ _.

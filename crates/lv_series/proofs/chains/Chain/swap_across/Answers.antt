@@ -122,5 +122,5 @@ returns-clause-ok g c =
     ∙ ap (λ ys. slice_set ys p.result.index value) (sym (shard_is (λ b. g.B.Body.operations (g.B.Body.meaning b)) (held_by_each s.full.items) s.sums.sums (held_by s.tail) c.self.invariant.chain p.result.shard low.0)) in
     let before_is : before ≡ slice_index_or els c.args.low (pos 0) = rw (← c.self.view_is) at c.get-before.ensures in
     let value_is : value ≡ slice_index_or els c.args.high (pos 0) = rw (← c.self.view_is) at c.get-value.ensures in
-    let swapped = swapped_by els n 32760 p.result.index c.args.low c.args.high before value c.in_ok-shard.shard.elements p.ensures.place low.1 low.2 inside before_is value_is part in
+    let swapped = swapped_by els n 32760 p.result.index c.args.low c.args.high before value (held_by c.in_ok-shard.shard).elements p.ensures.place low.1 low.2 inside before_is value_is part in
     rw (← c.self.view_is) (subst (λ ys. OnOk c.change_both-done.result (c.change_both-done.new.self.held ≡ record { body = (held_by s.tail).body; elements = ys })) swapped (rw (to_z-of_z w64 before fits, ← c.self.view_is) at c.change_both-done.ensures.ok))
