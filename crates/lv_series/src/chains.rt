@@ -88,6 +88,7 @@ impl<B: LongBody> Chain<B> {
     }
 
     /// Puts an element at the end.
+    #[inline(always)]
     pub fn push(&mut self, x: i64) -> Result<(), AllocError>
         requires { length self.old.held.elements < 2 ^ 62 }
         ensures ok { OnOk result (self.new.held ≡ record self.old.held { elements = self.old.held.elements ++ x ∷ [] }) }

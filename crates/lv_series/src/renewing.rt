@@ -40,6 +40,7 @@ fn shard_limits() -> Limits
 
 /// Makes an edit that the elements of a shard allow. Its vector is made anew before, where it takes no more edits, and has no age then.
 /// An error is want of memory, and the elements are the same then.
+#[inline(always)]
 pub fn make_one<B: Body>(
     alloc: Global,
     live: &mut Live<B>,
@@ -85,6 +86,7 @@ pub fn make_pushes<B: Body>(
 }
 
 // Lets the vector of a shard take so many edits more. An error is want of memory.
+#[inline(always)]
 fn make_ready<B: Body>(
     alloc: Global,
     live: &mut Live<B>,

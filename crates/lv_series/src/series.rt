@@ -69,6 +69,7 @@ impl<B: LongBody> Series<B> {
     }
 
     /// The index behind the last element.
+    #[inline(always)]
     pub fn size(&self) -> u64
         ensures { result ≡ size_of self.now.kept.held }
     {
@@ -148,6 +149,7 @@ impl<B: LongBody> Series<B> {
     }
 
     /// Why an edit would be refused, for want of memory apart; none where it would be accepted.
+    #[inline(always)]
     pub fn verdict(&self, edit: &LongEdit) -> Option<LongRefusal>
         ensures { result ≡ refused self.now.kept edit.now }
     {
@@ -158,6 +160,7 @@ impl<B: LongBody> Series<B> {
     }
 
     // The same, while edits are left.
+    #[inline(always)]
     fn verdict_on(&self, edit: &LongEdit) -> Option<LongRefusal>
         ensures { result ≡ refused_on self.now.kept.held edit.now }
     {

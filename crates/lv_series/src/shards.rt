@@ -75,6 +75,7 @@ impl<B: Body> Shard<B> {
     }
 
     /// Puts an element at the end.
+    #[inline(always)]
     pub fn push(&mut self, x: i64) -> Result<(), AllocError>
         requires { length (held_by self.old).elements < 32760 }
         ensures ok { OnOk result (held_by self.new ≡ record (held_by self.old) { elements = (held_by self.old).elements ++ x ∷ [] }) }
