@@ -16,6 +16,7 @@ pub mod PlainLaws
 pub mod PushLaws
 pub mod RefreshLaws
 pub mod RoundLaws
+pub mod RowLaws
 pub mod ScanSteps
 pub mod SeriesLaws
 pub mod ServedLaws

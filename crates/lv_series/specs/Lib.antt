@@ -5,6 +5,7 @@ pub mod Plain
 pub mod Pushes
 pub mod Refresh
 pub mod Rounds
+pub mod Rows
 pub mod ScanLaws
 pub mod Series
 pub mod Served

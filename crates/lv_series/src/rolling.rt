@@ -32,6 +32,7 @@ pub fn roll_over<B: LongBody>(
 {
     full.reserve(1)?;
     let mut fresh = shard_of_one(alloc, tail.body(), x)?;
+    tail.keep_pieces();
     match sums.push(tail.sum()) {
         Ok(()) => {
             mem::swap(tail, &mut fresh);

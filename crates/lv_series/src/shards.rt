@@ -7,7 +7,8 @@ ghost use Rattle.lv_series.specs.Chain.{sum_of};
 ghost use Rattle.lv_series.specs.Shard.{held_by};
 ghost use Rattle.lv_series.specs.Sharded.{IsNewShard};
 
-use crate::renewing::{copy_of, empty_vector, make_one, make_pushes};
+use crate::keeping::{Rows, fold_kept, keep_rows, make_kept, push_kept};
+use crate::renewing::{copy_of, empty_vector};
 use crate::vectors::Live;
 use lv_bodies::Body;
 use lv_edits::Edit;
@@ -22,16 +23,19 @@ pub struct Shard<B: Body> {
     pub(crate) live: Live<B>,
     // 0 while it has none: a vector takes one at its first claim.
     pub(crate) age: u64,
+    // Folds of its pieces, made while it is full: so that questions of a full shard and writes there cost little.
+    rows: Rows<B::S>,
 }
 
 impl<B: Body> Model for Shard<B> {
-    ghost use Rattle.lv_series.specs.Shard.{IsShard, ShardState};
+    ghost use Rattle.lv_series.specs.Rows.{IsKept};
+    ghost use Rattle.lv_series.specs.Shard.{ShardState};
 
     ghost Value = { ShardState B B.S };
 
     ghost view = { λ a. record { live = a.live; age = a.age } };
 
-    ghost invariant = { λ a. IsShard a.live.history };
+    ghost invariant = { λ a. IsKept (B.operations (B.meaning a.live.body)) a.live.history a.rows.parts.items a.rows.groups.items };
 }
 
 impl<B: Body> Shard<B> {
@@ -44,6 +48,7 @@ impl<B: Body> Shard<B> {
             alloc,
             live: empty_vector(alloc, body),
             age: 0,
+            rows: Rows::new(alloc),
         }
     }
 
@@ -81,7 +86,13 @@ impl<B: Body> Shard<B> {
         ensures ok { OnOk result (held_by self.new ≡ record (held_by self.old) { elements = (held_by self.old).elements ++ x ∷ [] }) }
         ensures err { OnErr result (held_by self.new ≡ held_by self.old) }
     {
-        make_one(self.alloc, &mut self.live, &mut self.age, Edit::Push(x))
+        make_kept(
+            self.alloc,
+            &mut self.live,
+            &mut self.age,
+            &mut self.rows,
+            Edit::Push(x),
+        )
     }
 
     /// Puts elements at the end, all of them or none.
@@ -91,7 +102,13 @@ impl<B: Body> Shard<B> {
         ensures err { OnErr result (held_by self.new ≡ held_by self.old) }
         ensures elements { All IsElement (held_by self.new).elements }
     {
-        make_pushes(self.alloc, &mut self.live, &mut self.age, values)
+        push_kept(
+            self.alloc,
+            &mut self.live,
+            &mut self.age,
+            &self.rows,
+            values,
+        )
     }
 
     /// Drops the last element.
@@ -100,7 +117,13 @@ impl<B: Body> Shard<B> {
         ensures ok { OnOk result (held_by self.new ≡ record (held_by self.old) { elements = take (length (held_by self.old).elements - 1) (held_by self.old).elements }) }
         ensures err { OnErr result (held_by self.new ≡ held_by self.old) }
     {
-        make_one(self.alloc, &mut self.live, &mut self.age, Edit::Pop)
+        make_kept(
+            self.alloc,
+            &mut self.live,
+            &mut self.age,
+            &mut self.rows,
+            Edit::Pop,
+        )
     }
 
     /// Overwrites the element at an index.
@@ -109,10 +132,11 @@ impl<B: Body> Shard<B> {
         ensures ok { OnOk result (held_by self.new ≡ record (held_by self.old) { elements = slice_set (held_by self.old).elements index value }) }
         ensures err { OnErr result (held_by self.new ≡ held_by self.old) }
     {
-        make_one(
+        make_kept(
             self.alloc,
             &mut self.live,
             &mut self.age,
+            &mut self.rows,
             Edit::Write { index, value },
         )
     }
@@ -124,10 +148,11 @@ impl<B: Body> Shard<B> {
         ensures ok { OnOk result (held_by self.new ≡ record (held_by self.old) { elements = swap (held_by self.old).elements first second }) }
         ensures err { OnErr result (held_by self.new ≡ held_by self.old) }
     {
-        make_one(
+        make_kept(
             self.alloc,
             &mut self.live,
             &mut self.age,
+            &mut self.rows,
             Edit::Swap { first, second },
         )
     }
@@ -137,10 +162,13 @@ impl<B: Body> Shard<B> {
         ensures { IfOk result (λ shard. held_by shard ≡ held_by self.now) }
     {
         let live = copy_of(self.alloc, &self.live)?;
+        let mut rows = Rows::new(self.alloc);
+        keep_rows(&live, &mut rows);
         Ok(Shard {
             alloc: self.alloc,
             live,
             age: 0,
+            rows,
         })
     }
 
@@ -150,12 +178,20 @@ impl<B: Body> Shard<B> {
         ensures ok { OnOk result (held_by self.new ≡ record (held_by self.old) { elements = take count (held_by self.old).elements }) }
         ensures err { OnErr result (held_by self.new ≡ held_by self.old) }
     {
-        make_one(
+        make_kept(
             self.alloc,
             &mut self.live,
             &mut self.age,
+            &mut self.rows,
             Edit::Truncate(count),
         )
+    }
+
+    /// Keeps the folds of its pieces, as far as there is memory for them.
+    pub fn keep_pieces(&mut self)
+        ensures { self.new ≡ self.old }
+    {
+        keep_rows(&self.live, &mut self.rows);
     }
 
     /// The fold of the elements from `lo` up to `hi`.
@@ -164,6 +200,10 @@ impl<B: Body> Shard<B> {
         requires inside { hi ≤ length (held_by self.now).elements }
         ensures { result ≡ fold_of (B.operations (B.meaning (held_by self.now).body)) (slice_range (held_by self.now).elements lo hi) }
     {
+        let len = self.len();
+        if self.rows.are_all(len) {
+            return fold_kept(&self.live, &self.rows, lo, hi);
+        }
         match self.live.reduce(lo, hi) {
             Ok(answer) => answer.value,
             Err(_) => self.live.body().identity(),
@@ -177,6 +217,10 @@ impl<B: Body> Shard<B> {
         ensures value { result ≡ fold_of (B.operations (B.meaning (held_by self.old).body)) (slice_range (held_by self.old).elements lo hi) }
         ensures same { held_by self.new ≡ held_by self.old }
     {
+        let len = self.len();
+        if self.rows.are_all(len) {
+            return fold_kept(&self.live, &self.rows, lo, hi);
+        }
         match self.live.ask(lo, hi) {
             Ok(answer) => answer.value,
             Err(_) => self.live.body().identity(),

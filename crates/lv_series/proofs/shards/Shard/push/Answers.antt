@@ -8,13 +8,13 @@ use Rattle.lv_series.specs.Shard.{holding_of}
 use Rattle.lv_series.proofs.ShardLaws.{ok_changed, push_allowed}
 use Rattle.lv_series.proofs.shards.Shard.push.Goals as goal
 
-pub make_one-requires-clause-free : goal.make_one-requires-clause-free
-make_one-requires-clause-free g c = λ _ _.
+pub make_kept-requires-clause-free : goal.make_kept-requires-clause-free
+make_kept-requires-clause-free g c = λ _ _.
     let h = c.self.inside.live.history in
-    push_allowed h.limits (list_of h.journal) c.args.x c.self.invariant.limits (rw (← c.self.view_is) at c.requires)
+    push_allowed h.limits (list_of h.journal) c.args.x c.self.invariant.shard.limits (rw (← c.self.view_is) at c.requires)
 
 pub returns-clause-ok : goal.returns-clause-ok
 returns-clause-ok g c =
     let live = c.self.inside.live in
     let xs = list_of live.history.journal in
-    rw (← c.self.view_is) (ok_changed c.make_one.result (holding_of live) (holding_of c.make_one.new.live) (Push c.args.x) (xs ++ c.args.x ∷ []) c.make_one.ensures.body (rw (to_z-of_z w64 c.args.x c.ranges.x) at c.make_one.ensures.ok) refl)
+    rw (← c.self.view_is) (ok_changed c.make_kept.result (holding_of live) (holding_of c.make_kept.new.live) (Push c.args.x) (xs ++ c.args.x ∷ []) c.make_kept.ensures.body (rw (to_z-of_z w64 c.args.x c.ranges.x) at c.make_kept.ensures.ok) refl)

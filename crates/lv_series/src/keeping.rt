@@ -1,0 +1,173 @@
+//! The folds of pieces that a shard keeps, over its edits.
+ghost use Rattle.std.specs.Prelude.{◌≡◌, ◌+◌, ◌≤◌, None, Some, [], ◌++◌, OnOk, OnErr, length, true};
+ghost use Rattle.std.specs.List.{slice_range};
+ghost use Rattle.lv_bodies.specs.Body.{fold_of};
+ghost use Rattle.lv_edits.specs.History.{applied, list_of};
+ghost use Rattle.lv_edits.specs.Kept.{IsLegalInLimits};
+ghost use Rattle.lv_edits.specs.Verdict.{refused_on};
+ghost use Rattle.lv_series.specs.Refresh.{GoesOn};
+ghost use Rattle.lv_series.specs.Rows.{ArePiecesBut, AreRows, AreRowsBut, ChangesAt};
+ghost use Rattle.lv_series.specs.Shard.{IsShard, holding_of};
+
+use crate::renewing::{make_one, make_pushes};
+use crate::rows::{GROUP, PART, extend, fold_by_rows, follow};
+use crate::vectors::Live;
+use lv_bodies::Body;
+use lv_edits::Edit;
+use std::alloc::{AllocError, Global};
+
+/// Folds of a list's pieces side by side, from the first on: of 64 elements each, and of 2,048.
+#[derive(Drop)]
+pub struct Rows<S> {
+    pub parts: Vec<S>,
+    pub groups: Vec<S>,
+}
+
+impl<S> Rows<S> {
+    /// None of them. Takes no memory.
+    pub fn new(alloc: Global) -> Rows<S>
+        ensures parts { result.parts.items ≡ [] }
+        ensures groups { result.groups.items ≡ [] }
+    {
+        Rows {
+            parts: Vec::new(alloc),
+            groups: Vec::new(alloc),
+        }
+    }
+
+    /// Whether there are none.
+    #[inline(always)]
+    pub fn are_none(&self) -> bool
+        ensures parts { result ≡ true → self.now.parts.items ≡ [] }
+        ensures groups { result ≡ true → self.now.groups.items ≡ [] }
+    {
+        self.parts.is_empty() && self.groups.is_empty()
+    }
+
+    /// Whether all pieces of so many elements are kept, and there is one.
+    #[inline(always)]
+    pub fn are_all(&self, len: u32) -> bool {
+        let count = self.parts.len();
+        count > 0 && count == (len / PART) as usize
+    }
+}
+
+/// Keeps folds of pieces that aren't kept yet, as far as there is memory for them.
+pub fn keep_rows<B: Body>(live: &Live<B>, rows: &mut Rows<B::S>)
+    requires legal { IsLegalInLimits live.now.history }
+    requires rows { AreRows (B.operations (B.meaning live.now.body)) (list_of live.now.history.journal) rows.old.parts.items rows.old.groups.items }
+    ensures { AreRows (B.operations (B.meaning live.now.body)) (list_of live.now.history.journal) rows.new.parts.items rows.new.groups.items }
+{
+    let body = live.body();
+    let history = live.view().cells;
+    extend(history, &body, &[], &mut rows.parts, PART);
+    extend(history, &body, &rows.parts, &mut rows.groups, GROUP);
+}
+
+/// Makes an edit as `make_one` does, and keeps the folds of pieces.
+pub fn make_kept<B: Body>(
+    alloc: Global,
+    live: &mut Live<B>,
+    age: &mut u64,
+    rows: &mut Rows<B::S>,
+    edit: Edit,
+) -> Result<(), AllocError>
+    requires shard { IsShard live.old.history }
+    requires free { refused_on live.old.history.limits (list_of live.old.history.journal) edit ≡ None }
+    requires rows { AreRows (B.operations (B.meaning live.old.body)) (list_of live.old.history.journal) rows.old.parts.items rows.old.groups.items }
+    ensures shard { IsShard live.new.history }
+    ensures body { live.new.body ≡ live.old.body }
+    ensures ok { OnOk result (applied (list_of live.old.history.journal) edit ≡ Some (list_of live.new.history.journal)) }
+    ensures err { OnErr result (holding_of live.new ≡ holding_of live.old) }
+    ensures age { GoesOn live.old live.new age.old age.new }
+    ensures rows { AreRows (B.operations (B.meaning live.new.body)) (list_of live.new.history.journal) rows.new.parts.items rows.new.groups.items }
+{
+    match make_one(alloc, live, age, edit) {
+        Ok(()) => {
+            keep_up(live, rows, &edit);
+            Ok(())
+        }
+        Err(error) => Err(error),
+    }
+}
+
+/// Pushes values as `make_pushes` does, and keeps the folds of pieces.
+pub fn push_kept<B: Body>(
+    alloc: Global,
+    live: &mut Live<B>,
+    age: &mut u64,
+    rows: &Rows<B::S>,
+    values: &[i64],
+) -> Result<(), AllocError>
+    requires shard { IsShard live.old.history }
+    requires room { length (list_of live.old.history.journal) + length values.now ≤ 32760 }
+    requires rows { AreRows (B.operations (B.meaning live.old.body)) (list_of live.old.history.journal) rows.now.parts.items rows.now.groups.items }
+    ensures shard { IsShard live.new.history }
+    ensures body { live.new.body ≡ live.old.body }
+    ensures ok { OnOk result (list_of live.new.history.journal ≡ list_of live.old.history.journal ++ values.now) }
+    ensures err { OnErr result (holding_of live.new ≡ holding_of live.old) }
+    ensures age { GoesOn live.old live.new age.old age.new }
+    ensures rows { AreRows (B.operations (B.meaning live.new.body)) (list_of live.new.history.journal) rows.now.parts.items rows.now.groups.items }
+{
+    let _ = rows;
+    make_pushes(alloc, live, age, values)
+}
+
+// Follows an edit: keeps what pieces there are still, and folds those anew in which an element is another.
+#[inline(always)]
+fn keep_up<B: Body>(live: &Live<B>, rows: &mut Rows<B::S>, edit: &Edit)
+    requires legal { IsLegalInLimits live.now.history }
+    requires rows { AreRowsBut (B.operations (B.meaning live.now.body)) (list_of live.now.history.journal) rows.old.parts.items rows.old.groups.items edit.now }
+    ensures { AreRows (B.operations (B.meaning live.now.body)) (list_of live.now.history.journal) rows.new.parts.items rows.new.groups.items }
+{
+    if rows.are_none() {
+        return;
+    }
+    let (first, second) = changed_indices(edit, live.size());
+    follow_rows(live, rows, first, second);
+}
+
+// Two indices at which alone an edit leaves other elements, of those that stay; where there are none, indices behind all.
+#[inline(always)]
+fn changed_indices(edit: &Edit, size: u32) -> (u32, u32)
+    ensures { ChangesAt edit.now result.0 result.1 }
+{
+    match edit {
+        Edit::Write { index, .. } => (*index, *index),
+        Edit::Swap { first, second } => (*first, *second),
+        Edit::Push(_) | Edit::Pop | Edit::Reserve(_) | Edit::Truncate(_) => (size, size),
+    }
+}
+
+/// The fold of the elements from `lo` up to `hi`, by the folds of pieces.
+pub fn fold_kept<B: Body>(live: &Live<B>, rows: &Rows<B::S>, lo: u32, hi: u32) -> B::S
+    requires legal { IsLegalInLimits live.now.history }
+    requires order { lo ≤ hi }
+    requires inside { hi ≤ length (list_of live.now.history.journal) }
+    requires rows { AreRows (B.operations (B.meaning live.now.body)) (list_of live.now.history.journal) rows.now.parts.items rows.now.groups.items }
+    ensures { result ≡ fold_of (B.operations (B.meaning live.now.body)) (slice_range (list_of live.now.history.journal) lo hi) }
+{
+    let body = live.body();
+    fold_by_rows(live.view().cells, &body, &rows.parts, &rows.groups, lo, hi)
+}
+
+// Follows an edit that leaves other elements at two indices alone.
+fn follow_rows<B: Body>(live: &Live<B>, rows: &mut Rows<B::S>, first: u32, second: u32)
+    requires legal { IsLegalInLimits live.now.history }
+    requires parts { ArePiecesBut (B.operations (B.meaning live.now.body)) 64 (list_of live.now.history.journal) rows.old.parts.items first second }
+    requires groups { ArePiecesBut (B.operations (B.meaning live.now.body)) 2048 (list_of live.now.history.journal) rows.old.groups.items first second }
+    ensures { AreRows (B.operations (B.meaning live.now.body)) (list_of live.now.history.journal) rows.new.parts.items rows.new.groups.items }
+{
+    let body = live.body();
+    let history = live.view().cells;
+    follow(history, &body, &[], &mut rows.parts, PART, first, second);
+    follow(
+        history,
+        &body,
+        &rows.parts,
+        &mut rows.groups,
+        GROUP,
+        first,
+        second,
+    );
+}
