@@ -65,6 +65,7 @@ pub fn keep_rows<B: Body>(live: &Live<B>, rows: &mut Rows<B::S>)
 }
 
 /// Makes an edit as `make_one` does, and keeps the folds of pieces.
+#[inline(always)]
 pub fn make_kept<B: Body>(
     alloc: Global,
     live: &mut Live<B>,
