@@ -1,5 +1,6 @@
 -- The text of a command is read as that command.
 use Rattle.std.proofs.Common.{◌≡◌, ℕ, ◌<◌, ◌≤◌, true, false, List, [], ◌∷◌, length, take, All, codes, lit≤, Some, None, option_map, refl, sym, ap, ◌∙◌, arith, inl, inr}
+use Rattle.std.specs.Option.{option_map_or}
 use Rattle.std.specs.Prelude.{decimal}
 use Rattle.std.proofs.lemmas.Bool.{cond-true, cond-false, le-ltb, lt-ltb, cases_lt}
 use Rattle.std.proofs.lemmas.List.{take_all, length-take-le}
@@ -11,7 +12,7 @@ use Rattle.lv_lines.specs.declared.command.Command.{Command}
 use Rattle.lv_lines.specs.declared.command.Command.TheVariants.{Edit, Settle, Get, Size, Capacity, Reduce, Cost, Scan, Claim, Deliver, Forget, Watch, Unwatch, Answer}
 use Rattle.lv_lines.specs.declared.command.Line.TheVariants.{Do, Bad}
 use Rattle.lv_lines.specs.Words.{words_of, spaced}
-use Rattle.lv_lines.specs.Grammar.{kind_name, kind_in, name_in, bounds_in, range_in, write_in, watch_in, command_in, line_in, line_of, command_or_bad, is_comment}
+use Rattle.lv_lines.specs.Grammar.{kind_name, kind_in, name_in, bounds_in, range_in, command_in, line_in, line_of, is_comment}
 use Rattle.lv_lines.specs.Printed.{verb_of, arguments_of, range_words, printed, AreBounds, IsCommand}
 use Rattle.lv_lines.proofs.PrintedNumbers.{number_in-decimal, element_in-signed_decimal}
 use Rattle.lv_lines.proofs.PrintedWords.{IsPlainWord, IsPrintable, ArePlainWords, words_of-spaced, length-spaced, spaced_printable, without_cr-none, plain_number, plain_element, plain_name, is_plain, plain_text}
@@ -42,7 +43,7 @@ range_in-range_words kind lo hi small = rw (kind_in-kind_name kind, bounds_in-de
 
 -- the words of a command are read as that command
 pub command_in-words : (command : Command) → IsCommand command → command_in (verb_of command ∷ arguments_of command) ≡ Some command
-unfolding command_in write_in watch_in
+unfolding command_in
 command_in-words (Edit (edit.Push value)) fits = ap (option_map (λ value. Edit (edit.Push value))) (element_in-signed_decimal value fits)
 command_in-words (Edit edit.Pop) fits = refl
 command_in-words (Edit (edit.Write index value)) fits = rw (number_in-decimal index fits.0, element_in-signed_decimal value fits.1) refl
@@ -114,7 +115,7 @@ plain_arguments (Answer name) fits = (plain_name name fits, tt)
 
 -- words that are a command, of which the first begins no comment, say that command
 pub line_in-command : (verb : List ℕ) (words : List (List ℕ)) (command : Command) → is_comment verb ≡ false → command_in (verb ∷ words) ≡ Some command → line_in (verb ∷ words) ≡ Do command
-line_in-command verb words command no_comment read = cond-false _ _ _ no_comment ∙ ap command_or_bad read
+line_in-command verb words command no_comment read = cond-false _ _ _ no_comment ∙ ap (λ found. option_map_or Do found Bad) read
 
 -- all its words are plain
 pub plain_words : (command : Command) → IsCommand command → ArePlainWords (verb_of command ∷ arguments_of command)

@@ -1,6 +1,7 @@
 -- What a line of a script says.
-use Rattle.std.specs.Prelude.{ℕ, ◌-◌, Bool, true, false, if◌then◌else◌, List, [], ◌∷◌, ◌++◌, length, take, nat_eq, nat_lt, find, codes, Option, Some, None, option_map, option_and_then, ℤ}
+use Rattle.std.specs.Prelude.{ℕ, ◌-◌, Bool, true, false, if◌then◌else◌, List, [], ◌∷◌, length, take, nat_eq, nat_lt, find, codes, Option, Some, None, option_map, option_and_then}
 use Rattle.std.specs.List.{starts_with, ends_with}
+use Rattle.std.specs.Option.{option_map_or}
 use Rattle.std.specs.Str.{bytes_eq}
 use Rattle.lv_bodies.specs.declared.kinds.Kind.{Kind}
 use Rattle.lv_bodies.specs.declared.kinds.Kind.TheVariants.{Sum, Least, Greatest, Best, Affine, Automaton}
@@ -35,122 +36,70 @@ kind_in word = find (λ kind. bytes_eq word (kind_name kind)) (Sum ∷ Least ∷
 abbrev pub name_in : List ℕ → Option (List ℕ)
 name_in word = if is_name word then Some word else None
 
+-- one word, and no other, by how it is read
+abbrev pub lone : {X : Type 0} → (List ℕ → Option X) → List (List ℕ) → Option X
+lone read words = only_word words >>= read
+
 -- one number, and no other word
 abbrev pub lone_number : List (List ℕ) → Option ℕ
-lone_number words = only_word words >>= number_in
+lone_number words = lone number_in words
 
--- one element, and no other word
-abbrev pub lone_element : List (List ℕ) → Option ℤ
-lone_element words = only_word words >>= element_in
-
--- one name, and no other word
-abbrev pub lone_name : List (List ℕ) → Option (List ℕ)
-lone_name words = only_word words >>= name_in
+-- a first word and the words after it, by how each are read
+abbrev pub first_and : {X Y : Type 0} → (List ℕ → Option X) → (List (List ℕ) → Option Y) → List (List ℕ) → Option (X × Y)
+first_and read others [] = None
+first_and read others (word ∷ words) = do
+  first ← read word
+  rest ← others words
+  Some (first, rest)
 
 -- the words `lo hi`
 unfoldable pub bounds_in : List (List ℕ) → Option (ℕ × ℕ)
-bounds_in [] = None
-bounds_in (word ∷ words) = do
-  lo ← number_in word
-  hi ← lone_number words
-  Some (lo, hi)
+bounds_in words = first_and number_in lone_number words
 
 -- the words `kind lo hi`
 unfoldable pub range_in : List (List ℕ) → Option (Kind × ℕ × ℕ)
-range_in [] = None
-range_in (word ∷ words) = do
-  kind ← kind_in word
-  bounds ← bounds_in words
-  Some (kind, bounds.0, bounds.1)
+range_in words = option_map (λ w. (w.0, w.1.0, w.1.1)) (first_and kind_in bounds_in words)
 
 -- a command without arguments
-abbrev pub alone : Command → List (List ℕ) → Option Command
+abbrev pub alone : {C : Type 0} → C → List (List ℕ) → Option C
 alone command [] = Some command
 alone command (word ∷ words) = None
 
--- a command of one number
-abbrev pub with_number : (ℕ → Command) → List (List ℕ) → Option Command
-with_number make words = option_map make (lone_number words)
-
--- a command of one element
-abbrev pub with_element : (ℤ → Command) → List (List ℕ) → Option Command
-with_element make words = option_map make (lone_element words)
-
--- a command of one name
-abbrev pub with_name : (List ℕ → Command) → List (List ℕ) → Option Command
-with_name make words = option_map make (lone_name words)
-
--- a command of `lo hi`
-abbrev pub with_bounds : (ℕ → ℕ → Command) → List (List ℕ) → Option Command
-with_bounds make words = option_map (λ bounds. make bounds.0 bounds.1) (bounds_in words)
-
--- a command of `kind lo hi`
-abbrev pub with_range : (Kind → ℕ → ℕ → Command) → List (List ℕ) → Option Command
-with_range make words = option_map (λ range. make range.0 range.1 range.2) (range_in words)
-
--- the command `write`: the words `number element`
-unfoldable pub write_in : List (List ℕ) → Option Command
-write_in [] = None
-write_in (word ∷ words) = do
-  index ← number_in word
-  with_element (λ value. Edit (edit.Write index value)) words
-
--- the command `swap`: two numbers
-abbrev pub swap_in : List (List ℕ) → Option Command
-swap_in words = with_bounds (λ first second. Edit (edit.Swap first second)) words
-
--- the command `watch`: the words `name kind lo hi`
-unfoldable pub watch_in : List (List ℕ) → Option Command
-watch_in [] = None
-watch_in (word ∷ words) = do
-  name ← name_in word
-  with_range (Watch name) words
+-- a command of what its words are read as
+abbrev pub made_of : {X C : Type 0} → (List (List ℕ) → Option X) → (X → C) → List (List ℕ) → Option C
+made_of read make words = option_map make (read words)
 
 -- lines that are commands: their first words, each with how the words after it are read
-abbrev pub Forms : Type 0
-Forms = List (List ℕ × (List (List ℕ) → Option Command))
+abbrev pub Forms : Type 0 → Type 0
+Forms C = List (List ℕ × (List (List ℕ) → Option C))
 
--- the lines about elements and room
-abbrev pub element_forms : Forms
-element_forms =
-    (codes "push", with_element (λ value. Edit (edit.Push value)))
+-- every line that is a command: about elements and room, about ranges, about jobs and names
+abbrev pub forms : Forms Command
+forms =
+    (codes "push", made_of (lone element_in) (λ value. Edit (edit.Push value)))
     ∷ (codes "pop", alone (Edit edit.Pop))
-    ∷ (codes "write", write_in)
-    ∷ (codes "reserve", with_number (λ cells. Edit (edit.Reserve cells)))
-    ∷ (codes "swap", swap_in)
-    ∷ (codes "truncate", with_number (λ kept. Edit (edit.Truncate kept)))
+    ∷ (codes "write", made_of (first_and number_in (lone element_in)) (λ w. Edit (edit.Write w.0 w.1)))
+    ∷ (codes "reserve", made_of lone_number (λ cells. Edit (edit.Reserve cells)))
+    ∷ (codes "swap", made_of bounds_in (λ w. Edit (edit.Swap w.0 w.1)))
+    ∷ (codes "truncate", made_of lone_number (λ kept. Edit (edit.Truncate kept)))
     ∷ (codes "settle", alone Settle)
-    ∷ (codes "get", with_number Get)
+    ∷ (codes "get", made_of lone_number Get)
     ∷ (codes "size", alone Size)
     ∷ (codes "capacity", alone Capacity)
-    ∷ []
-
--- the lines about ranges
-abbrev pub range_forms : Forms
-range_forms =
-    (codes "reduce", with_range Reduce)
-    ∷ (codes "cost", with_bounds Cost)
-    ∷ (codes "inc", with_range (Scan true))
-    ∷ (codes "exc", with_range (Scan false))
-    ∷ []
-
--- the lines about jobs and names
-abbrev pub other_forms : Forms
-other_forms =
-    (codes "claim", alone Claim)
-    ∷ (codes "deliver", with_number Deliver)
+    ∷ (codes "reduce", made_of range_in (λ w. Reduce w.0 w.1 w.2))
+    ∷ (codes "cost", made_of bounds_in (λ w. Cost w.0 w.1))
+    ∷ (codes "inc", made_of range_in (λ w. Scan true w.0 w.1 w.2))
+    ∷ (codes "exc", made_of range_in (λ w. Scan false w.0 w.1 w.2))
+    ∷ (codes "claim", alone Claim)
+    ∷ (codes "deliver", made_of lone_number Deliver)
     ∷ (codes "forget", alone Forget)
-    ∷ (codes "watch", watch_in)
-    ∷ (codes "unwatch", with_name Unwatch)
-    ∷ (codes "answer", with_name Answer)
+    ∷ (codes "watch", made_of (first_and name_in range_in) (λ w. Watch w.0 w.1.0 w.1.1 w.1.2))
+    ∷ (codes "unwatch", made_of (lone name_in) Unwatch)
+    ∷ (codes "answer", made_of (lone name_in) Answer)
     ∷ []
-
--- every line that is a command
-abbrev pub forms : Forms
-forms = element_forms ++ (range_forms ++ other_forms)
 
 -- the command that a line is, by its first word and the words after it
-abbrev pub read_by : Forms → List ℕ → List (List ℕ) → Option Command
+abbrev pub read_by : {C : Type 0} → Forms C → List ℕ → List (List ℕ) → Option C
 read_by [] verb words = None
 read_by (form ∷ rest) verb words = if bytes_eq verb form.0 then form.1 words else read_by rest verb words
 
@@ -167,15 +116,10 @@ without_cr bytes = if ends_with nat_eq bytes (13 ∷ []) then take (length bytes
 abbrev pub is_comment : List ℕ → Bool
 is_comment word = starts_with nat_eq word (codes "#")
 
--- what is not read as a command is bad
-abbrev pub command_or_bad : Option Command → Line
-command_or_bad None = Bad
-command_or_bad (Some command) = Do command
-
--- what the words of a line say: nothing where there are none, or behind `#`
+-- what the words of a line say: nothing where there are none, or behind `#`; what is not read as a command is bad
 abbrev pub line_in : List (List ℕ) → Line
 line_in [] = Nothing
-line_in (word ∷ words) = if is_comment word then Nothing else command_or_bad (command_in (word ∷ words))
+line_in (word ∷ words) = if is_comment word then Nothing else option_map_or Do (command_in (word ∷ words)) Bad
 
 -- what a line says, given without its LF: a line of more than 120 bytes is bad, whatever they are
 unfoldable pub line_of : List ℕ → Line

@@ -1,8 +1,9 @@
 //! The grammar of lines: what words are.
-ghost use Rattle.std.specs.Prelude.{◌≡◌, ◌∷◌, ◌++◌};
+ghost use Rattle.std.specs.Prelude.{◌≡◌, ◌∷◌, drop};
 ghost use Rattle.std.specs.Str.{bytes_eq};
 ghost use Rattle.lv_lines.specs.Words.{words_of};
-ghost use Rattle.lv_lines.specs.Grammar.{kind_in, lone_number, lone_element, lone_name, bounds_in, range_in, swap_in, write_in, watch_in, alone, read_by, command_in, range_forms, other_forms, with_range};
+ghost use Rattle.lv_lines.specs.Grammar.{kind_in, name_in, lone, lone_number, first_and, bounds_in, range_in, alone, made_of, read_by, command_in, forms};
+ghost use Rattle.lv_lines.specs.Numbers.{element_in, number_in};
 
 use crate::command::Command;
 use crate::numbers::{first_element, first_number};
@@ -56,7 +57,7 @@ pub fn lone_number(words: &[u8]) -> Option<u32>
 }
 
 fn lone_element(words: &[u8]) -> Option<i64>
-    ensures { result ≡ lone_element (words_of words.now) }
+    ensures { result ≡ lone element_in (words_of words.now) }
 {
     let (value, rest) = first_element(words)?;
     match next_word(rest) {
@@ -66,7 +67,7 @@ fn lone_element(words: &[u8]) -> Option<i64>
 }
 
 fn lone_name(words: &[u8]) -> Option<Name>
-    ensures { result ≡ lone_name (words_of words.now) }
+    ensures { result ≡ lone name_in (words_of words.now) }
 {
     Name::new(only_word(words)?)
 }
@@ -100,9 +101,8 @@ fn alone(command: Command, words: &[u8]) -> Option<Command>
     Some(command)
 }
 
-#[tactic(auto, unfolding(crate::specs::Grammar::write_in))]
 fn write(words: &[u8]) -> Option<Command>
-    ensures { result ≡ write_in (words_of words.now) }
+    ensures { result ≡ made_of (first_and number_in (lone element_in)) (λ w. Command.Edit (Edit.Write w.0 w.1)) (words_of words.now) }
 {
     let (index, rest) = first_number(words)?;
     let value = lone_element(rest)?;
@@ -110,14 +110,13 @@ fn write(words: &[u8]) -> Option<Command>
 }
 
 fn swap(words: &[u8]) -> Option<Command>
-    ensures { result ≡ swap_in (words_of words.now) }
+    ensures { result ≡ made_of bounds_in (λ w. Command.Edit (Edit.Swap w.0 w.1)) (words_of words.now) }
 {
     bounds(words).map(|(first, second)| Command::Edit(Edit::Swap { first, second }))
 }
 
-#[tactic(auto, unfolding(crate::specs::Grammar::watch_in))]
 fn watch(words: &[u8]) -> Option<Command>
-    ensures { result ≡ watch_in (words_of words.now) }
+    ensures { result ≡ made_of (first_and name_in range_in) (λ w. Command.Watch w.0 w.1.0 w.1.1 w.1.2) (words_of words.now) }
 {
     let (word, rest) = next_word(words)?;
     let name = Name::new(word)?;
@@ -126,7 +125,7 @@ fn watch(words: &[u8]) -> Option<Command>
 }
 
 fn scan(inclusive: bool, words: &[u8]) -> Option<Command>
-    ensures { result ≡ with_range (Command.Scan inclusive) (words_of words.now) }
+    ensures { result ≡ made_of range_in (λ w. Command.Scan inclusive w.0 w.1 w.2) (words_of words.now) }
 {
     range(words).map(|(kind, lo, hi)| Command::Scan {
         inclusive,
@@ -137,7 +136,7 @@ fn scan(inclusive: bool, words: &[u8]) -> Option<Command>
 }
 
 fn other_command(verb: &[u8], words: &[u8]) -> Option<Command>
-    ensures { result ≡ read_by other_forms verb.now (words_of words.now) }
+    ensures { result ≡ read_by (drop 14 forms) verb.now (words_of words.now) }
 {
     if spells(verb, "claim") {
         return alone(Command::Claim, words);
@@ -161,7 +160,7 @@ fn other_command(verb: &[u8], words: &[u8]) -> Option<Command>
 }
 
 fn range_command(verb: &[u8], words: &[u8]) -> Option<Command>
-    ensures { result ≡ read_by (range_forms ++ other_forms) verb.now (words_of words.now) }
+    ensures { result ≡ read_by (drop 10 forms) verb.now (words_of words.now) }
 {
     if spells(verb, "reduce") {
         return range(words).map(|(kind, lo, hi)| Command::Reduce { kind, lo, hi });

@@ -106,9 +106,8 @@ plain_reply told s n (Do c) = option_map_or refused_text (refusal_of s c) (reply
 
 -- what is kept after a line. Whatever is refused changes nothing
 abbrev pub plain_after : Plain → Line → Plain
-plain_after s Nothing = s
-plain_after s Bad = s
 plain_after s (Do c) = option_map_or (λ refusal. s) (refusal_of s c) (after s c)
+plain_after s _ = s
 
 -- the text that answers some lines, numbered from n, where each line n is told `told n`
 abbrev pub plain_text : (ℕ → List ℕ) → Plain → ℕ → List (List ℕ) → List ℕ

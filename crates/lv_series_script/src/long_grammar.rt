@@ -1,8 +1,9 @@
 //! The grammar of a series' script: what the words of a line say.
-ghost use Rattle.std.specs.Prelude.{◌≡◌, ◌∷◌, ◌++◌, option_copied};
-ghost use Rattle.lv_lines.specs.Grammar.{lone_element, lone_name};
+ghost use Rattle.std.specs.Prelude.{◌≡◌, ◌∷◌, drop, option_copied};
+ghost use Rattle.lv_lines.specs.Grammar.{alone, first_and, lone, made_of, name_in, read_by};
+ghost use Rattle.lv_lines.specs.Numbers.{element_in};
 ghost use Rattle.lv_lines.specs.Words.{only_word, words_of};
-ghost use Rattle.lv_series_script.specs.LongGrammar.{alone, element_forms, lone_long, long_bounds_in, long_command_in, long_line_of, long_range_in, other_forms, read_by, span_in, watch_in, with_range, write_in};
+ghost use Rattle.lv_series_script.specs.LongGrammar.{long_bounds_in, long_command_in, long_forms, long_line_of, long_number_in, long_range_in, span_in, watch_in};
 
 use crate::long_commands::{LongCommand, LongLine, Span};
 use crate::long_numbers::{element, long_number};
@@ -24,19 +25,19 @@ fn lone_word(words: &[u8]) -> Option<&[u8]>
 }
 
 fn lone_long(words: &[u8]) -> Option<u64>
-    ensures { result ≡ lone_long (words_of words.now) }
+    ensures { result ≡ lone long_number_in (words_of words.now) }
 {
     long_number(lone_word(words)?)
 }
 
 fn lone_element(words: &[u8]) -> Option<i64>
-    ensures { result ≡ lone_element (words_of words.now) }
+    ensures { result ≡ lone element_in (words_of words.now) }
 {
     element(lone_word(words)?)
 }
 
 fn lone_name(words: &[u8]) -> Option<Name>
-    ensures { result ≡ lone_name (words_of words.now) }
+    ensures { result ≡ lone name_in (words_of words.now) }
 {
     Name::new(lone_word(words)?)
 }
@@ -81,9 +82,8 @@ fn alone(command: LongCommand, words: &[u8]) -> Option<LongCommand>
     Some(command)
 }
 
-#[tactic(auto, unfolding(crate::specs::LongGrammar::write_in))]
 fn write(words: &[u8]) -> Option<LongCommand>
-    ensures { result ≡ write_in (words_of words.now) }
+    ensures { result ≡ made_of (first_and long_number_in (lone element_in)) (λ w. LongCommand.Edit (LongEdit.Write w.0 w.1)) (words_of words.now) }
 {
     let (word, rest) = next_word(words)?;
     let index = long_number(word)?;
@@ -104,7 +104,7 @@ fn watch(words: &[u8]) -> Option<LongCommand>
 }
 
 fn scan(inclusive: bool, words: &[u8]) -> Option<LongCommand>
-    ensures { result ≡ with_range (LongCommand.Scan inclusive) (words_of words.now) }
+    ensures { result ≡ made_of long_range_in (λ w. LongCommand.Scan inclusive w.0 w.1 w.2) (words_of words.now) }
 {
     range(words).map(|(kind, lo, hi)| LongCommand::Scan {
         inclusive,
@@ -115,7 +115,7 @@ fn scan(inclusive: bool, words: &[u8]) -> Option<LongCommand>
 }
 
 fn other_command(verb: &[u8], words: &[u8]) -> Option<LongCommand>
-    ensures { result ≡ read_by other_forms verb.now (words_of words.now) }
+    ensures { result ≡ read_by (drop 9 long_forms) verb.now (words_of words.now) }
 {
     if spells(verb, "reduce") {
         return range(words).map(|(kind, lo, hi)| LongCommand::Reduce { kind, lo, hi });

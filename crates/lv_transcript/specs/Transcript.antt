@@ -15,7 +15,7 @@ use Rattle.lv_lines.specs.declared.fault.Fault.TheVariants.{NoMemory, ReadFault,
 use Rattle.lv_lines.specs.declared.command.Command.TheVariants as command
 use Rattle.lv_lines.specs.Grammar.{kind_name}
 use Rattle.lv_lines.specs.Input.{lines_of}
-use Rattle.lv_lines.specs.Printed.{printed, IsCommand}
+use Rattle.lv_lines.specs.Printed.{printed_edit, IsCommand}
 use Rattle.lv_lines.specs.Texts.{bad_text, reply_line, shown_text}
 use Rattle.lv_lines.specs.Output.{WritesFront}
 use Rattle.lv_lines.specs.Replies.{IsNotTooLong, IsTooLong}
@@ -35,7 +35,7 @@ end_line = codes "end"
 
 -- the line of an edit: `j`, and the edit as a command
 abbrev pub edit_line : Edit → List ℕ
-edit_line e = codes "j " ++ printed (command.Edit e)
+edit_line e = codes "j " ++ printed_edit e
 
 -- what the line of an answer begins with: all but its value
 abbrev pub question_text : ℕ → Kind → ℕ → ℕ → List ℕ
