@@ -4,7 +4,7 @@ use Rattle.std.specs.Prelude.{Option, Some}
 use Rattle.livevec_c.specs.declared.kind_boards.KindBoard.{KindBoard}
 use Rattle.livevec_c.specs.declared.kind_seats.KindSeat.{KindSeat}
 use Rattle.livevec_c.specs.declared.objects.Object.{Object}
-use Rattle.livevec_c.specs.declared.objects.Object.TheVariants.{Vector, Job, Outcome, Board, Seat, Closed, Series, Queries}
+use Rattle.livevec_c.specs.declared.objects.Object.TheVariants.{Vector, Job, Outcome, Batch, BatchOutcome, Board, Seat, Closed, Series, Queries}
 use Rattle.livevec_c.specs.Behind.{no_count}
 use Rattle.livevec_c.specs.Lives.{ClosesObject, TakesBackObject}
 
@@ -12,6 +12,8 @@ pub other_closes : (old : Object) → ((b : KindBoard) → old ≡ Board b → �
 other_closes (Vector state only) other = (refl, refl)
 other_closes (Job job) other = (refl, refl)
 other_closes (Outcome outcome) other = (refl, refl)
+other_closes (Batch jobs) other = (refl, refl)
+other_closes (BatchOutcome jobs) other = (refl, refl)
 other_closes (Board board) other = elim (other board refl) [ ]
 other_closes (Seat seat) other = (refl, refl)
 other_closes (Closed ended) other = (refl, refl)
@@ -23,6 +25,8 @@ pub other_stays : (board : KindBoard) (held : Object) (slot : Option Object) →
 other_stays board (Vector state only) slot other is = (refl, refl, is)
 other_stays board (Job job) slot other is = (refl, refl, is)
 other_stays board (Outcome outcome) slot other is = (refl, refl, is)
+other_stays board (Batch jobs) slot other is = (refl, refl, is)
+other_stays board (BatchOutcome jobs) slot other is = (refl, refl, is)
 other_stays board (Board closed) slot other is = (refl, refl, is)
 other_stays board (Seat seat) slot other is = elim (other seat refl) [ ]
 other_stays board (Closed ended) slot other is = (refl, refl, is)

@@ -13,7 +13,7 @@ use Rattle.lv_reduce.specs.declared.reductions.Answer.{Answer}
 use Rattle.lv_reduce.specs.Answer.{IsAnswer, slice_of}
 use Rattle.lv_known.proofs.FoldableLaws.{can_fold, part_can_fold}
 use Rattle.livevec_c.specs.declared.objects.Object.{Object}
-use Rattle.livevec_c.specs.declared.objects.Object.TheVariants.{Vector, Job, Outcome, Board, Seat, Closed, Series, Queries}
+use Rattle.livevec_c.specs.declared.objects.Object.TheVariants.{Vector, Job, Outcome, Batch, BatchOutcome, Board, Seat, Closed, Series, Queries}
 use Rattle.livevec_c.specs.declared.results.Reduced.{Reduced}
 use Rattle.livevec_c.specs.Answers.{reduced_by, spread, unreduced}
 use Rattle.livevec_c.specs.Behind.{AsksObject, ReducesObject, State}
@@ -70,6 +70,8 @@ reduces_plain lo hi answer (Vector state None) (Err refusal, is, within, why) = 
 reduces_plain lo hi answer (Vector state (Some only)) is = refused_kind state lo hi answer is
 reduces_plain lo hi answer (Job other) reduces = tt
 reduces_plain lo hi answer (Outcome other) reduces = tt
+reduces_plain lo hi answer (Batch jobs) reduces = tt
+reduces_plain lo hi answer (BatchOutcome jobs) reduces = tt
 reduces_plain lo hi answer (Board other) reduces = tt
 reduces_plain lo hi answer (Seat other) reduces = tt
 reduces_plain lo hi answer (Closed other) reduces = tt
@@ -81,6 +83,8 @@ asks_plain lo hi answer (Vector state None) new (after, same, asks) = plain_ok s
 asks_plain lo hi answer (Vector state (Some only)) new (after, same, asks) = refused_kind state lo hi answer asks.0
 asks_plain lo hi answer (Job other) new asks = tt
 asks_plain lo hi answer (Outcome other) new asks = tt
+asks_plain lo hi answer (Batch jobs) new asks = tt
+asks_plain lo hi answer (BatchOutcome jobs) new asks = tt
 asks_plain lo hi answer (Board other) new asks = tt
 asks_plain lo hi answer (Seat other) new asks = tt
 asks_plain lo hi answer (Closed other) new asks = tt
