@@ -1,5 +1,5 @@
 -- Folds that a shard keeps of its pieces.
-use Rattle.std.specs.Prelude.{◌≡◌, ◌≢◌, ℕ, ℤ, ◌+◌, ◌*◌, ◌/◌, ◌<◌, ◌≤◌, List, length, take, drop, slice_set}
+use Rattle.std.specs.Prelude.{◌≡◌, ◌≢◌, ℕ, ℤ, ◌+◌, ◌*◌, ◌/◌, ◌<◌, ◌≤◌, List, length, take, drop}
 use Rattle.std.specs.List.{slice_index_or, slice_range}
 use Rattle.lv_bodies.specs.Body.{Operations, fold_of}
 use Rattle.lv_edits.specs.History.{History, list_of}

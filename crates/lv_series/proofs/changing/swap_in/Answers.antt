@@ -1,5 +1,5 @@
 -- Proof of `swap_in`: exchanges two elements of a full shard, and renews its fold.
-use Rattle.std.proofs.Common.{◌<◌, length, slice_set, arith, ap, sym, subst, ◌∙◌}
+use Rattle.std.proofs.Common.{◌<◌, length, slice_set, arith, sym, subst}
 use Rattle.std.specs.List.{swap}
 use Rattle.lv_series.specs.Chain.{sum_of}
 use Rattle.lv_series.specs.Shard.{held_by}

@@ -1,5 +1,5 @@
 -- Proof of `write_in`: overwrites an element of a full shard, and renews its fold.
-use Rattle.std.proofs.Common.{◌<◌, length, slice_set, arith, ap, sym, subst, ◌∙◌}
+use Rattle.std.proofs.Common.{◌<◌, length, slice_set, arith, sym, subst}
 use Rattle.std.specs.Int.{w64}
 use Rattle.std.proofs.lemmas.Int.{to_z-of_z}
 use Rattle.lv_series.specs.Chain.{sum_of}

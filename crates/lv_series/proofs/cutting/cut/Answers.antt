@@ -1,5 +1,5 @@
 -- Proof of `cut`: keeps the first elements of a full shard, and makes it the last one.
-use Rattle.std.proofs.Common.{◌+◌, ◌≤◌, length, slice_index_or, take, arith, ap, sym, subst, ◌∙◌}
+use Rattle.std.proofs.Common.{◌≤◌, length, slice_index_or, take, ap, sym, subst, ◌∙◌}
 use Rattle.lv_series.specs.Shard.{held_by, held_by_each}
 use Rattle.lv_series.proofs.HeldLaws.{changed_alike, held_read, held_same, last_of_cut, on_err}
 use Rattle.lv_series.proofs.cutting.cut.Goals as goal

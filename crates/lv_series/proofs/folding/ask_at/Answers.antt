@@ -1,5 +1,5 @@
 -- Proof of `ask_at`: what a shard answers that was told its number; the last one where no full shard has that number.
-use Rattle.std.proofs.Common.{◌<◌, ◌≤◌, ◌≡◌, length, slice_range, arith, ap, sym, subst, ◌∙◌}
+use Rattle.std.proofs.Common.{◌<◌, ◌≤◌, length, slice_range, arith, ap, sym, subst, ◌∙◌}
 use Rattle.std.proofs.lemmas.List.{get_or_past}
 use Rattle.lv_bodies.specs.Body.{fold_of}
 use Rattle.lv_series.specs.Shard.{held_by, held_by_each}

@@ -1,5 +1,5 @@
 -- Proof of `make_pushes`: pushes values to the vector of a shard, all of them or none.
-use Rattle.std.proofs.Common.{[], map, sym, ap, ◌++◌, ◌∙◌, arith, append-nil}
+use Rattle.std.proofs.Common.{[], map, sym, ap, ◌++◌, ◌∙◌, append-nil}
 use Rattle.lv_edits.specs.declared.edit.Edit.TheVariants.{Push}
 use Rattle.lv_series.proofs.RefreshLaws.{goes_on}
 use Rattle.lv_series.proofs.ShardLaws.{pushes_made}

@@ -1,5 +1,5 @@
 -- Proof of `accept_at`: takes an outcome into the shard of an index; the last one where no full shard has it.
-use Rattle.std.proofs.Common.{◌≡◌, ◌<◌, length, refl, sym, subst, arith}
+use Rattle.std.proofs.Common.{◌≡◌, length, sym, subst, arith}
 use Rattle.std.proofs.lemmas.List.{get_or_past}
 use Rattle.lv_series.specs.Refresh.{IsPartOf}
 use Rattle.lv_series.specs.Shard.{held_by}

@@ -6,7 +6,7 @@ use Rattle.lv_series.proofs.ChainFronts.{front_chain, front_held}
 use Rattle.lv_series.proofs.ChainLaws.{length_all}
 use Rattle.lv_series.proofs.ChainTrees.{summed}
 use Rattle.lv_series.specs.Shard.{held_by, held_by_each}
-use Rattle.lv_series.proofs.HeldLaws.{held_take, length_held}
+use Rattle.lv_series.proofs.HeldLaws.{held_take}
 use Rattle.lv_series.proofs.chains.Chain.go_back.Goals as goal
 
 pub returns-then-len-before : goal.returns-then-len-before

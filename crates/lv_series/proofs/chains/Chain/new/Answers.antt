@@ -1,5 +1,5 @@
 -- Proof of `Chain::new`: no elements.
-use Rattle.std.proofs.Common.{◌≡◌, [], refl, sym, ap, subst, ◌∙◌}
+use Rattle.std.proofs.Common.{[], refl, sym, ap, subst, ◌∙◌}
 use Rattle.lv_series.specs.Chain.{IsSummed}
 use Rattle.lv_series.specs.Shard.{held_by, held_by_each}
 use Rattle.lv_series.proofs.ChainCalls.{held_in}

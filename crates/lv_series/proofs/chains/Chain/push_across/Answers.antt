@@ -1,5 +1,5 @@
 -- Proof of `Chain::push_across`.
-use Rattle.std.proofs.Common.{◌≡◌, ◌*◌, ◌++◌, ◌≤◌, length, take, ap, sym, ◌∙◌, arith, length-take}
+use Rattle.std.proofs.Common.{◌≡◌, ◌*◌, ◌++◌, length, take, ap, sym, ◌∙◌, arith, length-take}
 use Rattle.std.proofs.lemmas.List.{take-take}
 use Rattle.lv_series.proofs.ShardLaws.{same_holding}
 use Rattle.lv_series.specs.Shard.{held_by}

@@ -2,7 +2,7 @@
 use Rattle.std.proofs.Common.{◌≡◌, ◌+◌, ◌≤◌, length, sym, subst, arith}
 use Rattle.lv_series.specs.Refresh.{IsFair}
 use Rattle.lv_series.specs.Shard.{all_of, held_by, held_by_each}
-use Rattle.lv_series.proofs.HeldLaws.{held_or_last, length_held}
+use Rattle.lv_series.proofs.HeldLaws.{length_held}
 use Rattle.lv_series.proofs.PlacedLaws.{fair_in_shard}
 use Rattle.lv_series.proofs.RoundLaws.{vetted_absent, vetted_there}
 use Rattle.lv_series.proofs.chains.Chain.vet.Goals as goal
