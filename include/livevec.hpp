@@ -1,6 +1,6 @@
 /* livevec for C++17: livevec.h by move-only classes that free what they own. What a call refuses is thrown as livevec::refused, and nothing
  * has changed then. Header only; link what livevec.h links. The board and its seats stand in livevec_board.hpp, summaries that travel in
- * livevec_summary.hpp, cells of columns in livevec_columns.hpp, jobs in livevec_jobs.hpp, the series in livevec_series.hpp, standing
+ * livevec_summary.hpp, cells of columns in livevec_columns.hpp, refresh and jobs in livevec_jobs.hpp, the series in livevec_series.hpp, standing
  * queries in livevec_queries.hpp, a vector that threads share in livevec_shared.hpp, and what all classes share in livevec_base.hpp; this
  * header brings them all.
  *
@@ -36,7 +36,7 @@
 namespace livevec {
 
 /* A growable vector of 64-bit numbers that answers reductions of any range. */
-class vector : public inner::owned<livevec_vector, livevec_free> {
+class vector : public inner::with_jobs {
   public:
     using value_type = std::int64_t;
     using size_type = std::uint32_t;
@@ -247,32 +247,6 @@ class vector : public inner::owned<livevec_vector, livevec_free> {
     template <livevec_kind Kind> std::uint32_t scan_exclusive_into(std::uint32_t lo, std::uint32_t hi, view<cell<Kind>> column) const
     {
         return inner::checked(inner::by<Kind>::exclusive(slot(), lo, hi, column.data(), column.size())).length;
-    }
-
-    /* Refresh. No answer changes by it. */
-    std::uint32_t refresh(std::uint32_t jobs) { return inner::counted(livevec_refresh(slot(), jobs)); }
-    void forget() { inner::check(livevec_forget(slot())); }
-    [[nodiscard]] bool vets(const outcome &made) const
-    {
-        livevec_vetted vetted = livevec_vet(slot(), made.slot());
-        inner::check(vetted.refusal);
-        return vetted.yes;
-    }
-    livevec_became deliver(const outcome &made)
-    {
-        livevec_accepted accepted = livevec_accept(slot(), made.slot());
-        inner::check(accepted.refusal);
-        return static_cast<livevec_became>(accepted.became);
-    }
-    /* A job for the least node that wants one, if there is one. */
-    [[nodiscard]] std::optional<job> claim()
-    {
-        job made;
-        livevec_claimed claimed = livevec_claim(slot(), made.slot());
-        inner::check(claimed.refusal);
-        if (!claimed.found)
-            return std::nullopt;
-        return std::optional<job>(std::move(made));
     }
 
   private:

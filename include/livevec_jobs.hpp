@@ -1,8 +1,13 @@
-/* Jobs and outcomes, for livevec.hpp: summaries of a vector that any thread may compute. */
+/* Jobs and outcomes, for livevec.hpp: summaries of a vector that any thread may compute. Those of many blocks stand in livevec_blocks.hpp. */
 #ifndef LIVEVEC_JOBS_HPP
 #define LIVEVEC_JOBS_HPP
 
 #include "livevec_base.hpp"
+#include "livevec_blocks.hpp"
+
+#include <cstdint>
+#include <optional>
+#include <utility>
 
 namespace livevec {
 
@@ -16,6 +21,8 @@ class [[nodiscard]] outcome : public inner::owned<livevec_outcome, livevec_free_
 /* A node's summary that is still to be computed. It holds nothing of its vector. */
 class [[nodiscard]] job : public inner::owned<livevec_job, livevec_free_job> {
   public:
+    /* Its node, and the edit that touched that last. */
+    [[nodiscard]] const livevec_claimed &claimed() const noexcept { return claimed_; }
     /* Computes it, once: then it is empty. */
     outcome run()
     {
@@ -25,9 +32,60 @@ class [[nodiscard]] job : public inner::owned<livevec_job, livevec_free_job> {
     }
 
   private:
-    friend class vector;
+    friend class inner::with_jobs;
     job() = default;
+
+    livevec_claimed claimed_{};
 };
+
+namespace inner {
+
+/* A vector's refresh: its summaries are computed in place, or by jobs. No answer changes by it. */
+class with_jobs : public owned<livevec_vector, livevec_free> {
+  public:
+    std::uint32_t refresh(std::uint32_t jobs) { return counted(livevec_refresh(slot(), jobs)); }
+    void forget() { check(livevec_forget(slot())); }
+    [[nodiscard]] bool vets(const outcome &made) const
+    {
+        livevec_vetted vetted = livevec_vet(slot(), made.slot());
+        check(vetted.refusal);
+        return vetted.yes;
+    }
+    livevec_became deliver(const outcome &made)
+    {
+        livevec_accepted accepted = livevec_accept(slot(), made.slot());
+        check(accepted.refusal);
+        return static_cast<livevec_became>(accepted.became);
+    }
+    /* A job for the least node that wants one, if there is one. */
+    [[nodiscard]] std::optional<job> claim()
+    {
+        job made;
+        made.claimed_ = livevec_claim(slot(), made.slot());
+        check(made.claimed_.refusal);
+        return made.claimed_.found ? std::optional<job>(std::move(made)) : std::nullopt;
+    }
+    /* Jobs of the blocks that want one, of at most `limit` from block `first` on, where there are any. None is claimed: threads that share the work
+     * ask for blocks apart. */
+    [[nodiscard]] std::optional<batch> copy_blocks(std::uint32_t first, std::uint32_t limit) const
+    {
+        batch made;
+        made.size_ = counted(livevec_blocks(slot(), made.slot(), first, limit));
+        return made.size_ ? std::optional<batch>(std::move(made)) : std::nullopt;
+    }
+    /* Takes in what a batch that was run gave, each where it is vouched for, and tells how many of them became what. */
+    livevec_taken take_in(batch made)
+    {
+        const livevec_taken taken = livevec_accept_blocks(slot(), made.slot());
+        check(taken.refusal);
+        return taken;
+    }
+
+  protected:
+    with_jobs() = default;
+};
+
+} // namespace inner
 
 } // namespace livevec
 

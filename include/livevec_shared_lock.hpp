@@ -35,7 +35,8 @@ struct shared_seat {
     std::optional<refused> why = {};
 };
 
-/* The lock, what it guards, and who sleeps at it. Nothing is computed under it but in `with` and in a subscriber's look. */
+/* The lock, what it guards, and who sleeps at it. Nothing is computed under it but in `with`, in a subscriber's look, and by the 64 the
+ * summaries above blocks that workers went over. */
 class shared_lock : private shared_workers {
   public:
     using shared_workers::held;

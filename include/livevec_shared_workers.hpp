@@ -3,7 +3,9 @@
 #define LIVEVEC_SHARED_WORKERS_HPP
 
 #include "livevec.hpp"
+#include "livevec_blocks.hpp"
 
+#include <algorithm>
 #include <atomic>
 #include <chrono>
 #include <condition_variable>
@@ -34,44 +36,72 @@ class shared_workers {
         std::unique_ptr<std::atomic<bool>> stop;
     };
 
-    /* What a worker has in hand: so many jobs at once that the lock is taken seldom, and never held for long. */
+    /* What a worker has in hand: so many jobs at once, or one batch of blocks, that the lock is taken seldom, and never held for long. */
     struct hands {
         static constexpr std::size_t at_once = 16;
         std::vector<job> jobs;
         std::vector<outcome> outcomes;
-        bool is_wanting = false;
+        std::optional<batch> blocks;
+        bool is_wanting = false, is_run = false;
+
+        bool are_empty() const { return jobs.empty() && !blocks; }
 
         /* An outcome that the vector doesn't know, since a `with` put another in its place, is let go. */
-        void deliver(vector &to)
+        void deliver(vector &to, sweep &over)
         {
             for (const outcome &made : outcomes)
                 if (to.vets(made))
                     to.deliver(made);
+            outcomes.clear();
+            if (blocks)
+                over.back(is_run ? to.take_in(std::move(*blocks)).installed : 0);
+            blocks.reset();
         }
-        void claim(vector &from)
+        /* Takes blocks where many that lie near together want a job, else jobs. */
+        void take(vector &from, sweep &over)
         {
             try {
-                // jobs that want of memory lost are handed out again
-                if (std::exchange(is_wanting, false))
-                    from.forget();
-                jobs.reserve(at_once);
-                outcomes.reserve(at_once);
-                while (jobs.size() < at_once) {
-                    std::optional<job> claimed = from.claim();
-                    if (!claimed)
-                        break;
-                    jobs.push_back(std::move(*claimed));
-                }
+                if (over.is_under_way)
+                    take_blocks(from, over);
+                if (are_empty() && !over.out && !over.above)
+                    claim(from, over);
             } catch (const std::exception &) {
                 is_wanting = true;
             }
         }
+        void take_blocks(vector &from, sweep &over)
+        {
+            const std::uint32_t all = from.size() / 8, end = over.next < all ? over.next + std::min(all - over.next, sweep::at_once) : over.next;
+            blocks = from.copy_blocks(over.next, end - over.next);
+            over.takes(blocks ? blocks->size() : 0, end);
+        }
+        void claim(vector &from, sweep &over)
+        {
+            // jobs that want of memory lost are handed out again
+            if (std::exchange(is_wanting, false))
+                from.forget();
+            jobs.reserve(at_once);
+            outcomes.reserve(at_once);
+            while (jobs.size() < at_once) {
+                std::optional<job> claimed = from.claim();
+                if (!claimed)
+                    return;
+                jobs.push_back(std::move(*claimed));
+            }
+            if (!over.begins(jobs.front().claimed(), jobs.back().claimed()))
+                return;
+            jobs.clear();
+            take_blocks(from, over);
+        }
         void run()
         {
-            outcomes.clear();
+            is_run = false;
             try {
                 for (job &it : jobs)
                     outcomes.push_back(it.run());
+                if (blocks)
+                    blocks->run();
+                is_run = true;
             } catch (const std::exception &) {
                 is_wanting = true;
             }
@@ -82,7 +112,7 @@ class shared_workers {
     /* How long a worker lets edits go on, where some came while it computed, and how long it waits for memory. */
     static constexpr std::chrono::milliseconds rest{1};
 
-    /* Claims and delivers under the lock, computes without it, and sleeps while there is no job. */
+    /* Takes and delivers under the lock, computes without it, and sleeps while there is nothing to take. */
     void work(const std::atomic<bool> &stop)
     {
         hands mine;
@@ -91,34 +121,44 @@ class shared_workers {
         std::uint64_t seen = changes_;
         while (true) {
             if (!closed_)
-                mine.deliver(of_);
+                mine.deliver(of_, over_);
             if (changes_ != seen && !closed_)
                 pause_.wait_for(guard, rest);
             if (closed_ || stop)
                 break;
             seen = changes_;
-            mine.claim(of_);
-            if (mine.jobs.empty()) {
-                mine.outcomes.clear();
-                if (mine.is_wanting)
-                    pause_.wait_for(guard, rest);
-                else
-                    sleep(guard, stop);
+            mine.take(of_, over_);
+            if (!mine.are_empty()) {
+                run(mine, guard);
+            } else if (mine.is_wanting) {
+                pause_.wait_for(guard, rest);
                 seen = changes_;
-                continue;
+            } else if (!over_.out && over_.above) {
+                over_.risen(of_.refresh(over_.rises()));
+                guard.unlock();
+                std::this_thread::yield();
+                guard.lock();
+            } else {
+                sleep(guard, stop);
+                seen = changes_;
             }
-            const bool is_helped = mine.jobs.size() == hands::at_once && call();
-            guard.unlock();
-            if (is_helped)
-                work_.notify_one();
-            mine.run();
-            guard.lock();
         }
         working_--;
         // a call that came to one that ends is another's
         call();
         guard.unlock();
         work_.notify_one();
+    }
+
+    /* Computes what a worker has in hand without the lock, and has another help where there is more. */
+    void run(hands &mine, held &guard)
+    {
+        const bool is_helped = (mine.jobs.size() == hands::at_once || over_.is_under_way) && call();
+        guard.unlock();
+        if (is_helped)
+            work_.notify_one();
+        mine.run();
+        guard.lock();
     }
 
     void sleep(held &guard, const std::atomic<bool> &stop)
@@ -179,6 +219,7 @@ class shared_workers {
     std::uint64_t changes_ = 0;
     /* How many workers there are, how many of them sleep, and how many of those are called. */
     std::size_t working_ = 0, idle_ = 0, calls_ = 0;
+    sweep over_;
     std::vector<worker> workers_;
 };
 

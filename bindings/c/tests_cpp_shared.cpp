@@ -165,6 +165,56 @@ static void workers_compute_stop_and_start_again()
     IS(shared.close().sum(0, 64) == 320);
 }
 
+static void batches_come_late()
+{
+    list many(100004);
+    std::iota(many.begin(), many.end(), 0);
+    livevec::vector of(many), other(list(100, 5));
+    const std::uint64_t blocks = many.size() / 8;
+    std::optional<livevec::batch> first = of.copy_blocks(0, UINT32_MAX), again = of.copy_blocks(0, UINT32_MAX), strange = of.copy_blocks(0, 12);
+    IS(first && first->size() == blocks && !of.copy_blocks(12501, 1) && !of.copy_blocks(0, 0));
+    of.write(17, 0);
+    of.truncate(99999);
+    IS(refusal_of([&] { (void)of.take_in(std::move(*of.copy_blocks(0, 1))); }) == LIVEVEC_NO_HANDLE);
+    first->run();
+    IS(refusal_of([&] { first->run(); }) == LIVEVEC_NO_HANDLE);
+    livevec_taken taken = of.take_in(std::move(*first));
+    IS(taken.installed == blocks - 2 && taken.held == 0 && taken.stale == 2 && taken.strangers == 0);
+    again->run();
+    taken = of.take_in(std::move(*again));
+    IS(taken.installed == 0 && taken.held == blocks - 2 && taken.stale == 2 && taken.strangers == 0);
+    strange->run();
+    taken = other.take_in(std::move(*strange));
+    IS(taken.installed == 0 && taken.strangers == 12 && other.sum(0, 100) == 500);
+    IS(of.reduce(0, 99999).values.sum == std::uint64_t{99998} * 99999 / 2 - 17);
+}
+
+/* Four workers share all blocks, again and again, while edits go on. */
+static void workers_share_many_blocks()
+{
+    list many(200004);
+    std::iota(many.begin(), many.end(), 0);
+    livevec::shared_vector shared{livevec::vector(many)};
+    std::vector<std::uint32_t> indices(many.size());
+    std::iota(indices.begin(), indices.end(), 0u);
+    shared.start_workers(4);
+    for (int round = 1; round < 6; round++) {
+        // one summary has 32,768 elements once all below it are there, and nothing keeps them but the workers
+        until([&] { return shared.reduce(0, 6 * 32768).summaries <= 6; });
+        IS(shared.reduce(0, shared.size()).values.sum == static_cast<std::uint64_t>(std::accumulate(many.begin(), many.end(), std::int64_t{0})));
+        for (std::int64_t &it : many)
+            it += round;
+        shared.write_many(indices, many);
+        for (std::uint32_t i = 0; i < 50; i++)
+            shared.write(i * 4001, many[i * 4001] = round);
+        if (round % 2) {
+            shared.stop_workers();
+            shared.start_workers(4);
+        }
+    }
+    IS(shared.close().sum(0, 200004) == static_cast<std::uint64_t>(std::accumulate(many.begin(), many.end(), std::int64_t{0})));
+}
+
 static void subscribers_come_and_go_while_edits_go_on()
 {
     livevec::shared_vector shared;
@@ -230,7 +280,9 @@ int main()
     want_of_memory_loses_nothing();
 #endif
     what_is_thrown_within_stops_nobody();
+    batches_come_late();
     workers_compute_stop_and_start_again();
+    workers_share_many_blocks();
     subscribers_come_and_go_while_edits_go_on();
     std::puts("livevec_shared.hpp: all hold");
 }

@@ -1,0 +1,75 @@
+/* Jobs of many blocks at once, for livevec.hpp, and how the workers of a shared vector go over them. A block is 8 elements side by side. */
+#ifndef LIVEVEC_BLOCKS_HPP
+#define LIVEVEC_BLOCKS_HPP
+
+#include "livevec_base.hpp"
+
+#include <cstddef>
+#include <cstdint>
+
+namespace livevec {
+
+namespace inner {
+class with_jobs;
+}
+
+/* Jobs of blocks, and what they gave once they are run. It holds nothing of its vector, so any thread may run it. */
+class [[nodiscard]] batch : public inner::owned<livevec_batch, livevec_free_batch> {
+  public:
+    /* How many jobs there are. */
+    [[nodiscard]] std::uint32_t size() const noexcept { return size_; }
+    /* Computes all, once. LIVEVEC_NO_MEMORY is thrown where it is wanting: the jobs stay then. */
+    void run() { inner::check(livevec_run_blocks(slot())); }
+
+  private:
+    friend class inner::with_jobs;
+    batch() = default;
+
+    std::uint32_t size_ = 0;
+};
+
+namespace inner {
+
+/* Where the workers are that share many blocks: from which block on nobody has any yet, how many batches are in hand, and how many summaries
+ * above may be computed in place once all are back. */
+struct sweep {
+    /* How many blocks a batch is of, and how many summaries are computed in place at once, so that the lock is held for tens of microseconds. Where fewer
+     * blocks of a range want a job, claims find them sooner. */
+    static constexpr std::uint32_t at_once = 256, above_at_once = 64, few = 16;
+
+    std::uint32_t next = 0, above = 0;
+    std::size_t out = 0;
+    bool is_under_way = false;
+
+    /* Whether jobs, of which the first and the last are told, lie so near together that blocks are taken from there on. */
+    bool begins(const livevec_claimed &first, const livevec_claimed &last)
+    {
+        if (last.level != 1 || last.number - first.number >= at_once)
+            return false;
+        next = first.number;
+        return is_under_way = true;
+    }
+    /* A batch of so many jobs was taken of blocks up to `end`, and is in hand. */
+    void takes(std::uint32_t jobs, std::uint32_t end)
+    {
+        next = end;
+        is_under_way = jobs >= few;
+        out += jobs > 0;
+    }
+    /* One is back, and so many summaries are new. Each block has a seventh of a node above it. */
+    void back(std::uint64_t installed)
+    {
+        out--;
+        above += static_cast<std::uint32_t>(installed / 7 + 1);
+    }
+    /* How many summaries above are to be computed in place now. */
+    std::uint32_t rises() const { return above < above_at_once ? above : above_at_once; }
+    /* So many were, of as many as were to be. */
+    void risen(std::uint32_t done) { above = done < rises() ? 0 : above - done; }
+};
+
+} // namespace inner
+
+} // namespace livevec
+
+#endif
