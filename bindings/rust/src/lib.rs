@@ -24,6 +24,7 @@
 #![warn(missing_docs, missing_debug_implementations)]
 #![deny(unsafe_code)]
 
+mod blocks;
 mod board;
 mod columns;
 mod elements;
@@ -47,6 +48,7 @@ mod series_scans;
 mod shared;
 mod shared_lock;
 mod shared_subscriber;
+mod shared_sweep;
 mod shared_workers;
 mod summary;
 mod values;
@@ -55,6 +57,7 @@ mod vector;
 /// The version of the library and of this crate.
 pub const VERSION: &str = env!("CARGO_PKG_VERSION");
 
+pub use blocks::{Batch, BatchOutcome, Taken};
 pub use board::{Board, Closed, NotClosed, Refreshed, Seat, Told};
 pub use columns::{Column, Filled, by};
 pub use elements::{Elements, IntoElements, Through};

@@ -7,6 +7,7 @@
 //! - A slot serves one call at a time: a handle of a vector, a set of queries, an outcome, a board or a seat is not `Sync`, so that its `&self` calls stay
 //!   on one thread, and none of the C calls calls back. A job's slot is used by calls that own or borrow the job alone.
 
+pub(crate) mod blocks;
 mod board;
 mod jobs;
 mod queries;

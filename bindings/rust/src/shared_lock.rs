@@ -5,9 +5,11 @@ use std::sync::{Arc, Condvar, Mutex, MutexGuard, PoisonError, Weak};
 use std::thread::JoinHandle;
 use std::time::Duration;
 
+use crate::shared_sweep::Sweep;
 use crate::{Note, Queries, Refusal, Shared, Vector};
 
-/// What each call at a shared vector goes through. Nothing is computed while it is held, but in `with` and in a subscriber's look.
+/// What each call at a shared vector goes through. Nothing is computed while it is held, but in `with`, in a subscriber's look, and by the 64
+/// the summaries above blocks that workers went over.
 pub(crate) struct Lock {
     guarded: Mutex<Guarded>,
     /// Workers sleep here while there is no job.
@@ -33,6 +35,8 @@ pub(crate) struct Guarded {
     pub(crate) working: usize,
     pub(crate) idle: usize,
     pub(crate) calls: usize,
+    /// Where the workers are that share many blocks.
+    pub(crate) sweep: Sweep,
     /// Whether a subscriber may sleep.
     pub(crate) unaware: bool,
     pub(crate) workers: Vec<Worker>,
@@ -114,6 +118,7 @@ impl Lock {
             working: 0,
             idle: 0,
             calls: 0,
+            sweep: Sweep::default(),
             unaware: false,
             workers: Vec::new(),
             seats: Vec::new(),

@@ -6,7 +6,7 @@ use std::thread;
 use std::time::Duration;
 
 use crate::shared_lock::{Guarded, Lock, Worker};
-use crate::{Job, Outcome, Refusal, raw};
+use crate::{Batch, BatchOutcome, Job, Outcome, Refusal, Vector, raw};
 
 /// So many jobs are claimed at once, so that the lock is taken seldom, and never held for long.
 const AT_ONCE: usize = 16;
@@ -14,45 +14,75 @@ const AT_ONCE: usize = 16;
 /// How long a worker lets edits go on, where some came while it computed, and how long it waits for memory.
 const PAUSE: Duration = Duration::from_millis(1);
 
-/// What a worker has in hand. It has room for all that it claims at once.
+/// What a worker has in hand: jobs, for as many of which it has room, or a batch of blocks.
 struct Hands {
     jobs: Vec<Job>,
     outcomes: Vec<Outcome>,
+    batch: Option<Batch>,
+    /// What a batch that was run gave; none inside where memory was wanting.
+    back: Option<Option<BatchOutcome>>,
 }
 
 impl Hands {
     fn new() -> Result<Hands, Refusal> {
-        Ok(Hands { jobs: raw::roomy(AT_ONCE)?, outcomes: raw::roomy(AT_ONCE)? })
+        Ok(Hands { jobs: raw::roomy(AT_ONCE)?, outcomes: raw::roomy(AT_ONCE)?, batch: None, back: None })
+    }
+
+    fn are_empty(&self) -> bool {
+        self.jobs.is_empty() && self.batch.is_none()
     }
 
     /// Hands in what was computed. An outcome that the vector doesn't know, since a `with` put another in its place, is let go.
     fn deliver(&mut self, guarded: &mut Guarded) {
-        let Some(vector) = &mut guarded.vector else { return };
-        for outcome in &self.outcomes {
-            if vector.vouches_for(outcome) {
-                // it is never refused what it vouches for
-                let _ = vector.deliver(outcome);
+        if let Some(outcomes) = self.back.take() {
+            guarded.sweep.back(guarded.vector.as_mut(), outcomes);
+        }
+        if let Some(vector) = &mut guarded.vector {
+            for outcome in &self.outcomes {
+                if vector.vouches_for(outcome) {
+                    // it is never refused what it vouches for
+                    let _ = vector.deliver(outcome);
+                }
             }
         }
-    }
-
-    /// Takes jobs until the hands are full or there is none; tells whether memory was wanted.
-    fn claim(&mut self, guarded: &mut Guarded) -> bool {
-        let Some(vector) = &mut guarded.vector else { return false };
-        while self.jobs.len() < AT_ONCE {
-            match vector.claim() {
-                Ok(Some(job)) => self.jobs.push(job),
-                Ok(None) => return false,
-                Err(_) => return true,
-            }
-        }
-        false
-    }
-
-    /// Computes all jobs, without the lock.
-    fn run(&mut self) {
         self.outcomes.clear();
+    }
+
+    /// Takes blocks where many that lie near together want a job, else jobs. Refused with `NoMemory` alone.
+    fn take(&mut self, guarded: &mut Guarded) -> Result<(), Refusal> {
+        let Guarded { vector: Some(vector), sweep, .. } = guarded else { return Ok(()) };
+        if sweep.is_under_way() {
+            self.batch = sweep.take(vector)?;
+        }
+        if !self.are_empty() || !sweep.is_done() {
+            return Ok(());
+        }
+        self.claim(vector)?;
+        if let [first, .., last] = &self.jobs[..]
+            && self.jobs.len() == AT_ONCE
+        {
+            sweep.begin(first.node(), last.node());
+        }
+        if sweep.is_under_way() {
+            self.jobs.clear();
+            self.batch = sweep.take(vector)?;
+        }
+        Ok(())
+    }
+
+    /// Takes jobs until the hands are full or there is none.
+    fn claim(&mut self, vector: &mut Vector) -> Result<(), Refusal> {
+        while self.jobs.len() < AT_ONCE {
+            let Some(job) = vector.claim()? else { break };
+            self.jobs.push(job);
+        }
+        Ok(())
+    }
+
+    /// Computes all, without the lock.
+    fn run(&mut self) {
         self.outcomes.extend(self.jobs.drain(..).map(Job::run));
+        self.back = self.batch.take().map(|batch| batch.run().ok());
     }
 }
 
@@ -83,7 +113,7 @@ fn spawned(lock: &Arc<Lock>, stop: &Arc<AtomicBool>) -> Result<Worker, Refusal> 
     Ok(Worker { thread, stop: stop.clone() })
 }
 
-/// Claims and delivers under the lock, computes without it, and sleeps while there is no job.
+/// Takes and delivers under the lock, computes without it, and sleeps while there is nothing to take.
 fn work(lock: &Lock, stop: &AtomicBool, hands: &mut Hands) {
     let Ok(mut guarded) = lock.enter() else { return };
     guarded.working += 1;
@@ -97,27 +127,40 @@ fn work(lock: &Lock, stop: &AtomicBool, hands: &mut Hands) {
             break;
         }
         seen = guarded.changes;
-        let is_wanting = hands.claim(&mut guarded);
-        if !hands.jobs.is_empty() {
-            let is_helped = hands.jobs.len() == AT_ONCE && guarded.call();
+        let is_wanting = hands.take(&mut guarded).is_err();
+        if !hands.are_empty() {
+            let is_helped = (hands.jobs.len() == AT_ONCE || guarded.sweep.is_under_way()) && guarded.call();
             drop(guarded);
             if is_helped {
                 lock.work.notify_one();
             }
             hands.run();
-            let Ok(again) = lock.enter() else { return };
-            guarded = again;
+        } else if is_wanting {
+            guarded = lock.paused(guarded, PAUSE);
+            seen = guarded.changes;
+            continue;
+        } else if risen(&mut guarded) {
+            drop(guarded);
+            thread::yield_now();
+        } else {
+            guarded = asleep(lock, stop, guarded);
+            seen = guarded.changes;
             continue;
         }
-        hands.outcomes.clear();
-        guarded = if is_wanting { lock.paused(guarded, PAUSE) } else { asleep(lock, stop, guarded) };
-        seen = guarded.changes;
+        let Ok(again) = lock.enter() else { return };
+        guarded = again;
     }
     guarded.working -= 1;
     // a call that came to one that ends is another's
     guarded.call();
     drop(guarded);
     lock.work.notify_one();
+}
+
+/// Computes some summaries above blocks that workers went over; tells whether it did.
+fn risen(guarded: &mut Guarded) -> bool {
+    let Guarded { vector: Some(vector), sweep, .. } = guarded else { return false };
+    sweep.rise(vector)
 }
 
 /// Sleeps until it is called, or told to stop.

@@ -1,0 +1,65 @@
+//! The C calls of jobs of many blocks, and a handle over them. What C asks of who calls is kept as `raw.rs` says.
+
+use std::cell::UnsafeCell;
+
+use super::{Count, Slot, Vector, answered, boxed};
+use crate::Refusal;
+
+#[repr(C)]
+pub(crate) struct Taken {
+    refusal: u32,
+    pub(crate) installed: u64,
+    pub(crate) held: u64,
+    pub(crate) stale: u64,
+    pub(crate) strangers: u64,
+}
+
+unsafe extern "C" {
+    fn livevec_blocks(slot: *mut Slot, batch: *mut Slot, first: u32, limit: u32) -> Count;
+    fn livevec_run_blocks(batch: *mut Slot) -> u32;
+    fn livevec_accept_blocks(slot: *mut Slot, batch: *mut Slot) -> Taken;
+    fn livevec_free_batch(batch: *mut Slot) -> u32;
+}
+
+impl Vector {
+    /// Jobs of blocks, and how many they are, where any of them wants one.
+    pub(crate) fn copy_blocks(&self, first: u32, limit: u32) -> Result<Option<(u32, Batch)>, Refusal> {
+        let slot = boxed(Slot::empty())?;
+        // SAFETY: the vector's slot is full, and no other call is at it, since `self` is not `Sync`; the batch's is empty, and lies in its box
+        // until it is dropped.
+        let did = unsafe { livevec_blocks(self.slot.get(), slot.get(), first, limit) };
+        let jobs = answered(did.refusal, 0, did.value)?;
+        Ok((jobs > 0).then_some((jobs, Batch { slot })))
+    }
+
+    /// Takes in what a batch that was run gave.
+    pub(crate) fn accept_blocks(&mut self, batch: Batch) -> Result<Taken, Refusal> {
+        // SAFETY: as above; the batch is owned, so that no other call is at its slot.
+        let did = unsafe { livevec_accept_blocks(self.slot.get(), batch.slot.get()) };
+        answered(did.refusal, 0, did)
+    }
+}
+
+/// A batch of C: its slot is full until it is handed in.
+pub(crate) struct Batch {
+    slot: Box<UnsafeCell<Slot>>,
+}
+
+// SAFETY: a batch holds nothing of its vector, and any thread may run it, says the header.
+unsafe impl Send for Batch {}
+// SAFETY: no `&self` call reaches the slot.
+unsafe impl Sync for Batch {}
+
+impl Batch {
+    pub(crate) fn run(&mut self) -> Result<(), Refusal> {
+        // SAFETY: the slot is full and lies in its box; `self` is borrowed alone.
+        answered(unsafe { livevec_run_blocks(self.slot.get()) }, 0, ())
+    }
+}
+
+impl Drop for Batch {
+    fn drop(&mut self) {
+        // SAFETY: nothing calls the slot any more. An empty one is left as it is.
+        unsafe { livevec_free_batch(self.slot.get()) };
+    }
+}
