@@ -3,6 +3,7 @@ from __future__ import annotations
 
 from typing import Optional
 
+from ._blocks import Batch, Taken, _accept_blocks, _blocks
 from ._calls import _accept, _claim, _forget, _refresh, _vet
 from ._elements import _Elements
 from ._jobs import Became, Delivered, Job, Node, Outcome, _checked
@@ -45,6 +46,26 @@ class _Claims(_Elements):
         if did.refusal:
             raise _refuse(did.refusal)
         return Delivered(Became(did.became), did.now)
+
+    def copy_blocks(self, first: int = 0, limit: int = _MOST_U32) -> Optional[Batch]:
+        """A job for each block that wants one, of at most `limit` from block `first` on; None where none wants one. Block n is of the elements from
+        index 8 * n on. Nothing is claimed: threads that share the work ask for blocks apart. Raises NoMemory, and Busy beside another call."""
+        batch = Batch()
+        did = _blocks(self._at, batch._at, _as_u32(first, "the block"), _as_u32(limit, "the count"))
+        if did.refusal:
+            raise _refuse(did.refusal)
+        batch._jobs = did.value
+        return batch if did.value else None
+
+    def take_in(self, batch: Batch) -> Taken:
+        """Takes in what a batch that was run gave, each where `vouches_for` would say yes, once. No answer changes by it. Raises Closed where the batch
+        was not run, and Busy beside another call."""
+        if not isinstance(batch, Batch):
+            raise TypeError(f"a Batch is wanted, not a {type(batch).__name__}")
+        did = _accept_blocks(self._at, batch._at)
+        if did.refusal:
+            raise _refuse(did.refusal)
+        return Taken(did.installed, did.held, did.stale, did.strangers)
 
     def forget_claims(self) -> None:
         """Makes every claim void, so that their nodes are handed out again. Jobs that are out stay good."""

@@ -11,6 +11,7 @@ from ._library import _call, _released, _size
 from ._limits import MOST_QUERIES
 from ._queries import Note, Queries, _Note, _note_of, _Noted, _queries
 from ._refusals import Busy, Closed, Refusal, _refuse
+from ._shared_sweep import _Sweep
 from ._vector import Vector
 
 # A call that releases the interpreter's lock: the lock of the shared vector keeps it apart.
@@ -30,7 +31,8 @@ class _Seat:
 
 
 class _State:
-    """The lock round a vector, what it guards, and who sleeps at it. Nothing is computed under it but in `locked` and in a subscriber's look."""
+    """The lock round a vector, what it guards, and who sleeps at it. Nothing is computed under it but in `locked`, in a subscriber's look,
+    and by the 64 the summaries above blocks that workers went over."""
 
     def __init__(self, vector: Vector) -> None:
         self.lock = threading.Lock()
@@ -42,6 +44,7 @@ class _State:
         self.is_closed = self.is_left = self.is_unaware = False
         # how many workers there are, how many of them sleep, and how many of those are called
         self.working = self.idle = self.calls = 0
+        self.sweep = _Sweep()
         self.workers: list[tuple[threading.Thread, threading.Event]] = []
         self.seats: list[weakref.ref[_Seat]] = []
 

@@ -1,0 +1,80 @@
+"""Jobs of many blocks at once: computed outside a vector, and what becomes of them there."""
+from __future__ import annotations
+
+import ctypes
+from typing import Callable, NamedTuple
+
+from ._calls import _slot
+from ._handle import _Handle
+from ._library import _call, _released, _u32
+from ._refusals import _refuse
+from ._structures import _Count, _Slot
+
+
+class _BatchSlot(_Slot):
+    pass
+
+
+class _Taken(ctypes.Structure):
+    refusal: int
+    installed: int
+    held: int
+    stale: int
+    strangers: int
+    _fields_ = [("refusal", ctypes.c_uint32), *((name, ctypes.c_uint64) for name in ("installed", "held", "stale", "strangers"))]
+
+
+# They take long enough to release the interpreter's lock.
+_batch = ctypes.POINTER(_BatchSlot)
+_blocks = _call("livevec_blocks", _Count, _slot, _batch, _u32, _u32, by=_released)
+_run_blocks = _call("livevec_run_blocks", _u32, _batch, by=_released)
+_accept_blocks = _call("livevec_accept_blocks", _Taken, _slot, _batch, by=_released)
+_free_batch = _call("livevec_free_batch", _u32, _batch)
+
+
+class Taken(NamedTuple):
+    """What became of the outcomes of a batch: how many of them each."""
+
+    installed: int
+    """Their summaries are kept from now on."""
+    held: int
+    """They were kept already."""
+    stale: int
+    """Edits overtook them."""
+    strangers: int
+    """The vector can't vouch for them: they are another vector's, as a rule."""
+
+
+class Batch(_Handle):
+    """Jobs of blocks, of 8 elements side by side each, and what they gave once they are run. It holds nothing of its vector, so any thread may run it.
+
+        >>> from livevec import Vector
+        >>> vector = Vector(range(100))
+        >>> batch = vector.copy_blocks()
+        >>> len(batch)
+        12
+        >>> batch.run()
+        >>> vector.take_in(batch)
+        Taken(installed=12, held=0, stale=0, strangers=0)
+    """
+
+    __slots__ = ("_jobs",)
+    _made_of = _BatchSlot
+    _jobs: int
+
+    def __len__(self) -> int:
+        """How many jobs there are."""
+        return getattr(self, "_jobs", 0)
+
+    def run(self) -> None:
+        """Computes all, once; the interpreter's lock is released. Raises NoMemory, where the jobs stay, Closed where it was run before or has no
+        jobs, and Busy beside another thread's call at it."""
+        refusal = _run_blocks(self._at)
+        if refusal:
+            raise _refuse(refusal)
+
+    def __del__(self, _free: Callable[..., int] = _free_batch) -> None:
+        _free(self._at)
+
+    def __repr__(self) -> str:
+        return f"<livevec.Batch of {len(self)} blocks>"
