@@ -47,7 +47,7 @@ LIVEVEC_MUST_USE uint32_t livevec_run_blocks(livevec_batch *batch);
 
 /* Takes in the outcomes of a batch that was run, each where livevec_vet would say yes, and tells how many of them became what. The batch's slot is
  * empty then. Takes no memory. Refusals: NULL, NO_HANDLE (of either slot, and of a batch that was not run); the batch's slot stays as it is then. */
-LIVEVEC_MUST_USE livevec_taken livevec_accept_blocks(livevec_vector *slot, livevec_batch *batch);
+livevec_taken livevec_accept_blocks(livevec_vector *slot, livevec_batch *batch);
 
 /* Frees a batch, run or not. The slot is then empty. Of a slot that holds something else it answers NO_HANDLE and frees nothing.
  * Refusals: NULL, NO_HANDLE. */

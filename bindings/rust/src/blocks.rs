@@ -36,8 +36,8 @@ pub struct Batch {
 impl Batch {
     /// How many jobs there are: one at least.
     #[allow(clippy::len_without_is_empty)]
-    pub fn len(&self) -> usize {
-        self.jobs as usize
+    pub fn len(&self) -> u32 {
+        self.jobs
     }
 
     /// Computes all. Refused with `NoMemory`; the jobs are let go then, and since none is claimed, the vector has them still.

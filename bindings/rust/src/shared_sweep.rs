@@ -6,7 +6,7 @@ use crate::{Batch, BatchOutcome, Node, Refusal, Vector};
 const AT_ONCE: u32 = 256;
 
 /// Where fewer blocks of a range want a job, claims find them sooner.
-const FEW: usize = 16;
+const FEW: u32 = 16;
 
 /// How many summaries above blocks are computed in place at once.
 const ABOVE_AT_ONCE: u32 = 64;
@@ -44,7 +44,7 @@ impl Sweep {
 
     /// A batch of the next blocks, if any of them wants a job.
     pub(crate) fn take(&mut self, vector: &Vector) -> Result<Option<Batch>, Refusal> {
-        let all = vector.len() as u32 / 8;
+        let all = vector.len() / 8;
         let end = all.min(self.next + AT_ONCE);
         let batch = vector.copy_blocks(self.next, end.saturating_sub(self.next))?;
         self.next = end;
