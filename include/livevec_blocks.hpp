@@ -33,9 +33,9 @@ namespace inner {
 /* Where the workers are that share many blocks: from which block on nobody has any yet, how many batches are in hand, and how many summaries
  * above may be computed in place once all are back. */
 struct sweep {
-    /* How many blocks a batch is of, and how many summaries are computed in place at once, so that the lock is held for tens of microseconds. Where fewer
+    /* How many blocks a batch is of, and how many summaries are computed in place at once, so that the lock is held for a fifth of a millisecond at most. Where fewer
      * blocks of a range want a job, claims find them sooner. */
-    static constexpr std::uint32_t at_once = 256, above_at_once = 64, few = 16;
+    static constexpr std::uint32_t at_once = 1024, above_at_once = 256, few = 64;
 
     std::uint32_t next = 0, above = 0;
     std::size_t out = 0;
@@ -44,7 +44,7 @@ struct sweep {
     /* Whether jobs, of which the first and the last are told, lie so near together that blocks are taken from there on. */
     bool begins(const livevec_claimed &first, const livevec_claimed &last)
     {
-        if (last.level != 1 || last.number - first.number >= at_once)
+        if (last.level != 1 || last.number - first.number >= 4 * few)
             return false;
         next = first.number;
         return is_under_way = true;

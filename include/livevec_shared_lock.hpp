@@ -35,7 +35,7 @@ struct shared_seat {
     std::optional<refused> why = {};
 };
 
-/* The lock, what it guards, and who sleeps at it. Nothing is computed under it but in `with`, in a subscriber's look, and by the 64 the
+/* The lock, what it guards, and who sleeps at it. Nothing is computed under it but in `with`, in a subscriber's look, and by the 256 the
  * summaries above blocks that workers went over. */
 class shared_lock : private shared_workers {
   public:

@@ -158,7 +158,16 @@ class shared_workers {
         if (is_helped)
             work_.notify_one();
         mine.run();
-        guard.lock();
+        lock_again(guard);
+    }
+
+    /* To be woken takes longer than the lock is held as a rule: so a worker tries some times before it sleeps for it. */
+    static void lock_again(held &guard)
+    {
+        for (int tries = 0; tries < 1000 && !guard.try_lock(); tries++)
+            std::this_thread::yield();
+        if (!guard.owns_lock())
+            guard.lock();
     }
 
     void sleep(held &guard, const std::atomic<bool> &stop)

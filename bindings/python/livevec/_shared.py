@@ -124,8 +124,8 @@ class SharedVector(_SharedEdits):
     def start_workers(self, count: int = 1) -> None:
         """Starts so many more threads that compute summaries, or none. Each sleeps while there is nothing to compute; edits wake it.
 
-        It takes jobs under the lock, or 256 blocks where many near together want one, and computes them without it. Summaries above such blocks
-        it computes under the lock, by the 64. No answer changes by it. Raises Closed, and NoMemory where no thread is to be had."""
+        It takes jobs under the lock, or 1,024 blocks where many near together want one, and computes them without it. Summaries above such blocks
+        it computes under the lock, by the 256. No answer changes by it. Raises Closed, and NoMemory where no thread is to be had."""
         state, stop = self._state, threading.Event()
         self._read(len)
         made: list[tuple[threading.Thread, threading.Event]] = []

@@ -17,9 +17,9 @@ _refresh = _call("livevec_refresh", _Count, _slot, _u32, by=_released)
 class _Sweep:
     """Where the workers of a shared vector are that share many blocks."""
 
-    # So many blocks a batch is of, and so many summaries above are computed in place at once, so that the lock is held for tens of microseconds.
-    # Where fewer blocks of a range want a job, claims find them sooner.
-    AT_ONCE, ABOVE_AT_ONCE, FEW = 256, 64, 16
+    # So many blocks a batch is of, and so many summaries above are computed in place at once, so that the lock is held for a fifth of a
+    # millisecond at most. Where fewer blocks of a range want a job, claims find them sooner.
+    AT_ONCE, ABOVE_AT_ONCE, FEW = 1024, 256, 64
 
     def __init__(self) -> None:
         # from which block on nobody has any yet, how many batches are in hand, and how many summaries above may be computed once all are back
@@ -28,7 +28,7 @@ class _Sweep:
 
     def begin(self, first: Node, last: Node) -> None:
         """Begins where jobs, of which the first and the last are told, lie near together."""
-        if last.level == 1 and last.number - first.number < self.AT_ONCE:
+        if last.level == 1 and last.number - first.number < 4 * self.FEW:
             self.next, self.is_under_way = first.number, True
 
     def take(self, vector: Vector, batch: Any) -> int:

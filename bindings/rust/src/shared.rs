@@ -186,8 +186,8 @@ impl Shared {
     }
 
     /// Starts so many more workers, or none. Each sleeps while there is nothing to compute; edits wake it. It takes jobs under the lock, or
-    /// 256 blocks where many near together want one, computes them without it, and hands in what the vector vouches for. Summaries above such blocks
-    /// it computes under the lock, by the 64. No answer changes by it. Refused with `CLOSED`, then with `NoMemory`.
+    /// 1,024 blocks where many near together want one, computes them without it, and hands in what the vector vouches for. Summaries above such blocks
+    /// it computes under the lock, by the 256. No answer changes by it. Refused with `CLOSED`, then with `NoMemory`.
     pub fn start_workers(&self, count: usize) -> Result<(), Refusal> {
         shared_workers::start(&self.lock, count)
     }

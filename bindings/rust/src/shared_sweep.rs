@@ -2,14 +2,14 @@
 
 use crate::{Batch, BatchOutcome, Node, Refusal, Vector};
 
-/// How many blocks a batch is of, so that the lock is held for tens of microseconds.
-const AT_ONCE: u32 = 256;
+/// How many blocks a batch is of, so that the lock is held for a fifth of a millisecond at most.
+const AT_ONCE: u32 = 1024;
 
 /// Where fewer blocks of a range want a job, claims find them sooner.
-const FEW: u32 = 16;
+const FEW: u32 = 64;
 
 /// How many summaries above blocks are computed in place at once.
-const ABOVE_AT_ONCE: u32 = 64;
+const ABOVE_AT_ONCE: u32 = 256;
 
 /// Where the workers are that share many blocks.
 #[derive(Default)]
@@ -36,7 +36,7 @@ impl Sweep {
 
     /// Begins where jobs, of which the first and the last are told, lie near together.
     pub(crate) fn begin(&mut self, first: Node, last: Node) {
-        if last.level == 1 && last.number - first.number < AT_ONCE {
+        if last.level == 1 && last.number - first.number < 4 * FEW {
             self.next = first.number;
             self.is_under_way = true;
         }
