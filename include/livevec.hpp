@@ -1,8 +1,8 @@
 /* livevec for C++17: livevec.h by move-only classes that free what they own. What a call refuses is thrown as livevec::refused, and nothing
  * has changed then. Header only; link what livevec.h links. The board and its seats stand in livevec_board.hpp, summaries that travel in
  * livevec_summary.hpp, cells of columns in livevec_columns.hpp, refresh and jobs in livevec_jobs.hpp, the series in livevec_series.hpp, standing
- * queries in livevec_queries.hpp, a vector that threads share in livevec_shared.hpp, and what all classes share in livevec_base.hpp; this
- * header brings them all.
+ * queries in livevec_queries.hpp, a vector that threads share in livevec_shared.hpp, transcripts in livevec_transcripts.hpp, and what all
+ * classes share in livevec_base.hpp; this header brings them all.
  *
  * An object serves one call at a time: a call beside another at the same object is refused with LIVEVEC_BUSY. Put a mutex round it where
  * threads share one, or take a shared_vector. A job may be run by any thread, beside any call at its vector. A call at an object that was moved from is
@@ -250,6 +250,11 @@ class vector : public inner::with_jobs {
     }
 
   private:
+    /* One whose slot is still empty, for `transcript` to fill. */
+    friend class transcript;
+    struct unmade {};
+    vector(unmade, std::uint32_t buckets, std::uint32_t edits, std::optional<livevec_kind> only) : limits_{buckets, edits}, only_(only) {}
+
     /* A column of its own, that a call of C fills. */
     template <class Cell, class Call> std::vector<Cell> column(Call call, std::uint32_t lo, std::uint32_t hi) const
     {
@@ -270,5 +275,6 @@ class vector : public inner::with_jobs {
 
 #include "livevec_queries.hpp"
 #include "livevec_shared.hpp"
+#include "livevec_transcripts.hpp"
 
 #endif

@@ -36,9 +36,11 @@ typedef enum livevec_refusal {
     LIVEVEC_OTHER_VERSION = 109, /* a summary whose bytes are of another version of the layout, or no summary at all */
     LIVEVEC_DAMAGED = 110,     /* a summary whose bytes were changed, or that no elements have */
     LIVEVEC_OTHER_TABLE = 111, /* two summaries by automata of two tables */
-    LIVEVEC_TOO_LONG = 112,    /* summaries of more than 2^62 elements together */
+    LIVEVEC_TOO_LONG = 112,    /* summaries of more than 2^62 elements together, or a text of more than 2^30 bytes */
     LIVEVEC_BAD_KIND = 113,    /* a number that is no livevec_kind; or, at a vector of one kind, a question by another or by all six */
-    LIVEVEC_BAD_NAME = 114     /* bytes that are no name of a query: 1 to 16 of a-z, 0-9 and _ */
+    LIVEVEC_BAD_NAME = 114,    /* bytes that are no name of a query: 1 to 16 of a-z, 0-9 and _ */
+    LIVEVEC_NOT_IN_ORDER = 115, /* recorded answers that don't rise by their edits */
+    LIVEVEC_NO_FRONT = 116     /* bytes that are no front of a transcript */
 } livevec_refusal;
 
 #endif

@@ -1,5 +1,5 @@
 /* The functions of livevec.h: each answers LIVEVEC_NULL where a pointer is null, and else calls the proved export of its name. Here stand
- * those of vectors, jobs and outcomes; the others in livevec_many.c, livevec_scans.c and the files of summaries, queries, boards and series.
+ * those of vectors, jobs and outcomes; the others in livevec_many.c, livevec_scans.c and the files of summaries, queries, boards, series and transcripts.
  * Those of many elements at once are one proved call, but for questions, which walk over their ranges; and two of summaries make a
  * proved call for up to 1,024. These files are C, so no proof covers them. */
 #include "livevec_slots.h"
@@ -40,9 +40,11 @@ const char *livevec_refusal_text(uint32_t refusal)
     case LIVEVEC_OTHER_VERSION: return "a summary of another version, or none";
     case LIVEVEC_DAMAGED: return "a damaged summary";
     case LIVEVEC_OTHER_TABLE: return "summaries by two tables";
-    case LIVEVEC_TOO_LONG: return "more elements than summaries may have";
+    case LIVEVEC_TOO_LONG: return "more elements than summaries may have, or more bytes than a text may have";
     case LIVEVEC_BAD_KIND: return "a number that is no kind, or a kind that the vector is not of";
     case LIVEVEC_BAD_NAME: return "bytes that are no name of a query";
+    case LIVEVEC_NOT_IN_ORDER: return "recorded answers that don't rise by their edits";
+    case LIVEVEC_NO_FRONT: return "bytes that are no front of a transcript";
     default: return "unknown";
     }
 }

@@ -65,6 +65,10 @@ static inline void leave_both(unsigned char *first, unsigned char *second)
 #define ANSWERED_AT_TWO(answer, name, parameters, first, second, arguments) \
     AT_TWO(answer, AS_STRUCT, name, parameters, first, second, arguments)
 
+/* Of what takes bytes of the caller's and no slot. */
+#define OF_BYTES(answer, name, parameters, there, arguments) \
+    OVER_PROVED(answer, AS_STRUCT, name, parameters, there, true, (void)0, arguments)
+
 /* `livevec_NAME` frees what a slot of its type holds, and nothing else. */
 #define FREED(name, type) TOLD(name, (type *slot), slot, (slot))
 

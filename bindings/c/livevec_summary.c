@@ -3,9 +3,6 @@
 
 #include <string.h>
 
-#define OF_BYTES(answer, name, parameters, there, arguments) \
-    OVER_PROVED(answer, AS_STRUCT, name, parameters, there, true, (void)0, arguments)
-
 OF_BYTES(livevec_summarised, summary_empty, (void), true, ())
 OF_BYTES(livevec_summarised, summary_empty_with_table, (const livevec_table *table), table, (table))
 OF_BYTES(livevec_summarised, summary_join, (const livevec_summary *left, const livevec_summary *right), left && right, (left, right))

@@ -25,9 +25,8 @@ static void edits(void)
 {
     livevec_vector v = empty_vector;
     IS(livevec_new(&v, 1, 6), LIVEVEC_OK);
-    livevec_edited e = livevec_pop(&v);
-    IS(e.refusal, LIVEVEC_EMPTY);
-    e = livevec_push(&v, -7);
+    IS(livevec_pop(&v).refusal, LIVEVEC_EMPTY);
+    livevec_edited e = livevec_push(&v, -7);
     IS(e.refusal, 0);
     IS(e.edit, 1);
     IS(e.place, 0);
@@ -294,6 +293,7 @@ int main(void)
     boards();
     series();
     series_kinds();
+    transcripts();
     printf("%d checks, %d failed\n", checks, failures);
     return failures ? EXIT_FAILURE : EXIT_SUCCESS;
 }

@@ -52,4 +52,7 @@ void queries(void);
 /* The tests of jobs of many blocks. */
 void blocks(void);
 
+/* The tests of the journal and of transcripts. */
+void transcripts(void);
+
 #endif

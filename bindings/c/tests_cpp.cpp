@@ -209,6 +209,7 @@ int main()
     queries();
     series();
     series_kinds();
+    transcripts();
     boards();
 
     livevec::vector prices{300, 120, 500, 80};

@@ -31,8 +31,9 @@ from ._kinds import Kind
 from ._limits import MOST_BOARD_BUCKETS, MOST_BUCKETS, MOST_EDITS, MOST_QUERIES, MOST_SEATS, SUMMARY_BYTES
 from ._queries import Answered, Note, Queries
 from ._refusals import (
-    BadKind, BadLimits, BadName, BadRange, BadTable, Busy, Closed, Contended, Damaged, Empty, Full, NameTaken, NoMemory, NoSeat, NoSuchName, NotKept,
-    OtherTable, OtherVersion, OutOfRange, Outrun, Overtaken, Refusal, SeatsOut, ShortBuffer, Stranger, TooLarge, TooLong, TooMany, TooWide, Worn,
+    BadKind, BadLimits, BadName, BadRange, BadTable, Busy, Closed, Contended, Damaged, Empty, Full, NameTaken, NoFront, NoMemory, NoSeat, NoSuchName,
+    NotInOrder, NotKept, OtherTable, OtherVersion, OutOfRange, Outrun, Overtaken, Refusal, SeatsOut, ShortBuffer, Stranger, TooLarge, TooLong,
+    TooMany, TooWide, Worn,
 )
 from ._scans import Column, Scan
 from ._series import LongReduced, Series
@@ -40,6 +41,7 @@ from ._shared import SharedVector
 from ._shared_edits import Receipt
 from ._subscribers import Subscriber
 from ._summary import Summary
+from ._transcripts import JournalEdit, Recorded, Verdict, audit, audit_front, journal, restore, transcript
 from ._values import BestRun, Placed, Reduced, Values
 from ._vector import Vector, _remade
 
@@ -52,6 +54,7 @@ __all__ = [
     "ShortBuffer", "TooWide", "Outrun", "Contended", "Overtaken", "NoSeat", "SeatsOut", "Busy", "OtherVersion", "Damaged", "OtherTable", "TooLong",
     "Series", "LongReduced", "NotKept",
     "BadKind", "NameTaken", "NoSuchName", "TooMany", "BadName",
+    "journal", "transcript", "audit", "audit_front", "restore", "JournalEdit", "Recorded", "Verdict", "NotInOrder", "NoFront",
     "MOST_BUCKETS", "MOST_EDITS", "MOST_BOARD_BUCKETS", "MOST_SEATS", "SUMMARY_BYTES", "MOST_QUERIES",
 ]
 

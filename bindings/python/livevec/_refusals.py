@@ -1,7 +1,10 @@
 """Why the library refuses calls: an exception for each of its numbers."""
 from __future__ import annotations
 
-from typing import Any
+from typing import TYPE_CHECKING, Any
+
+if TYPE_CHECKING:
+    from ._transcripts import Verdict
 
 
 class Refusal(Exception):
@@ -157,9 +160,9 @@ class OtherTable(Refusal, ValueError):
 
 
 class TooLong(Refusal, OverflowError):
-    """Summaries of more than 2**62 elements together."""
+    """Summaries of more than 2**62 elements together, or a text of more than 2**30 bytes."""
 
-    number, says = 112, "more elements than summaries may have"
+    number, says = 112, "more elements than summaries may have, or more bytes than a text may have"
 
 
 class BadKind(Refusal, ValueError):
@@ -194,6 +197,19 @@ class BadName(Refusal, ValueError):
     number, says = 114, "a name is 1 to 16 letters of a-z, 0-9 and _"
 
 
+class NotInOrder(Refusal, ValueError):
+    """Recorded answers that don't rise by their edits."""
+
+    number, says = 115, "recorded answers that don't rise by their edits"
+
+
+class NoFront(Refusal, ValueError):
+    """A text that is no front of a transcript. `verdict` names the line of the first fault."""
+
+    number, says = 116, "a text that is no front of a transcript"
+    verdict: Verdict
+
+
 class NotKept(Refusal, IndexError):
     """An index of a series, or an end of a range, isn't kept: those from `first` up to `size` are. Its number is that of OutOfRange."""
 
@@ -211,7 +227,7 @@ class NotKept(Refusal, IndexError):
 
 _REFUSALS = {it.number: it for it in (Worn, Empty, OutOfRange, TooLarge, Full, NoMemory, BadRange, BadLimits, BadTable, Stranger, TooWide, Contended,
                                       Overtaken, Closed, ShortBuffer, NoSeat, SeatsOut, Busy, OtherVersion, Damaged, OtherTable, TooLong, BadKind,
-                                      NameTaken, NoSuchName, TooMany, BadName)}
+                                      NameTaken, NoSuchName, TooMany, BadName, NotInOrder, NoFront)}
 
 
 def _refuse(number: int, detail: int = 0, pushed: int = 0, place: int = 0) -> Refusal:

@@ -51,6 +51,7 @@ mod shared_subscriber;
 mod shared_sweep;
 mod shared_workers;
 mod summary;
+mod transcripts;
 mod values;
 mod vector;
 
@@ -73,6 +74,7 @@ pub use series::Series;
 pub use shared::Shared;
 pub use shared_subscriber::Subscriber;
 pub use summary::Summary;
+pub use transcripts::{FrontVerdict, NotRestored, Recorded, Verdict};
 pub use values::{Accepted, Edit, Node, Popped, Pushed, Reduced, RefusedAt, Reserved, Stopped, Swapped, Truncated, Values, Written};
 pub use vector::Vector;
 

@@ -15,6 +15,7 @@ mod questions;
 mod scans;
 pub(crate) mod series;
 mod summary;
+pub(crate) mod transcripts;
 mod vector;
 
 use std::alloc::{Layout, alloc};

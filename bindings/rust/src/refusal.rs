@@ -89,12 +89,16 @@ pub enum Refusal {
     Damaged,
     /// 111: two summaries by automata of two tables.
     OtherTable,
-    /// 112: summaries of more than 2^62 elements together.
+    /// 112: summaries of more than 2^62 elements together, or a text of more than 2^30 bytes.
     TooLong,
     /// 113: a vector of one kind was asked by another, or by all six.
     BadKind,
     /// 114: what is no name of a query: 1 to 16 bytes of `a-z`, `0-9` and `_`.
     BadName,
+    /// 115: recorded answers that don't rise by their edits.
+    NotInOrder,
+    /// 116: bytes that are no front of a transcript.
+    NoFront,
     /// Any other number: 101 of a shared vector that was closed, and no other today.
     Other {
         /// The number.
@@ -132,6 +136,8 @@ impl Refusal {
             112 => Refusal::TooLong,
             113 => Refusal::BadKind,
             114 => Refusal::BadName,
+            115 => Refusal::NotInOrder,
+            116 => Refusal::NoFront,
             number => Refusal::Other { number },
         }
     }
@@ -165,6 +171,8 @@ impl Refusal {
             Refusal::TooLong => 112,
             Refusal::BadKind => 113,
             Refusal::BadName => 114,
+            Refusal::NotInOrder => 115,
+            Refusal::NoFront => 116,
             Refusal::Other { number } => number,
         }
     }
@@ -215,9 +223,11 @@ impl fmt::Display for Refusal {
             Refusal::OtherVersion => f.write_str("a summary of another version, or none"),
             Refusal::Damaged => f.write_str("a damaged summary"),
             Refusal::OtherTable => f.write_str("summaries by two tables"),
-            Refusal::TooLong => f.write_str("more elements than summaries may have"),
+            Refusal::TooLong => f.write_str("more elements than summaries may have, or more bytes than a text may have"),
             Refusal::BadKind => f.write_str("a kind that the vector is not of"),
             Refusal::BadName => f.write_str("what is no name of a query"),
+            Refusal::NotInOrder => f.write_str("recorded answers that don't rise by their edits"),
+            Refusal::NoFront => f.write_str("bytes that are no front of a transcript"),
             Refusal::ShortBuffer { wanted } => write!(f, "a buffer shorter than the {wanted} values"),
             Refusal::Other { number } => write!(f, "refused {number}"),
         }
