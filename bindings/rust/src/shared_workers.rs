@@ -129,12 +129,7 @@ fn work(lock: &Lock, stop: &AtomicBool, hands: &mut Hands) {
         seen = guarded.changes;
         let is_wanting = hands.take(&mut guarded).is_err();
         if !hands.are_empty() {
-            let is_helped = (hands.jobs.len() == AT_ONCE || guarded.sweep.is_under_way()) && guarded.call();
-            drop(guarded);
-            if is_helped {
-                lock.work.notify_one();
-            }
-            hands.run();
+            run(lock, hands, guarded);
         } else if is_wanting {
             guarded = lock.paused(guarded, PAUSE);
             seen = guarded.changes;
@@ -155,6 +150,16 @@ fn work(lock: &Lock, stop: &AtomicBool, hands: &mut Hands) {
     guarded.call();
     drop(guarded);
     lock.work.notify_one();
+}
+
+/// Computes what a worker has in hand without the lock, and has another help where there is more.
+fn run(lock: &Lock, hands: &mut Hands, mut guarded: MutexGuard<Guarded>) {
+    let is_helped = (hands.jobs.len() == AT_ONCE || guarded.sweep.is_under_way()) && guarded.call();
+    drop(guarded);
+    if is_helped {
+        lock.work.notify_one();
+    }
+    hands.run();
 }
 
 /// Computes some summaries above blocks that workers went over; tells whether it did.
