@@ -25,3 +25,9 @@ pub use Rattle.lv_series.specs.Refresh as SeriesRefresh
 pub use Rattle.lv_series.specs.Served as SeriesServed
 pub use Rattle.lv_series.specs.Shard as SeriesShard
 pub use Rattle.lv_series.specs.Sharded as SeriesShards
+pub use Rattle.lv_transcript.specs.Transcript
+pub use Rattle.lv_transcript.specs.Fronts
+pub use Rattle.lv_transcript.specs.Scribing
+pub use Rattle.lv_buffers.specs.ReadTexts
+pub use Rattle.lv_buffers.specs.PutTexts
+pub use Rattle.lv_buffers.specs.FlatEdits

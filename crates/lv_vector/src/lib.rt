@@ -5,6 +5,7 @@
 pub mod board;
 pub mod hub;
 pub mod series;
+pub mod transcript;
 
 pub use lv_bodies::{
     Affine, Automaton, Best, Body, Greatest, Kind, Least, LongBody, Pair, Shown, Six, SixSummary,
@@ -13,7 +14,10 @@ pub use lv_bodies::{
 pub use lv_edits::{Edit, Receipt};
 pub use lv_geometry::{Limits, Node, Refusal};
 pub use lv_kinds::{KindAnswer, Kinds};
-pub use lv_live::{Live, answers_are_plain, refresh_changes_no_answer, refusals_change_nothing};
+pub use lv_live::{
+    Batch, BatchOutcome, Batched, Live, answers_are_plain, refresh_changes_no_answer,
+    refusals_change_nothing,
+};
 pub use lv_reduce::{Answer, Reads, Scan};
 pub use lv_refresh::{Job, Outcome};
 pub use lv_standing::{Answered, Name, Note, Standing};
