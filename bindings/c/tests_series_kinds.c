@@ -1,5 +1,6 @@
 /* Questions at a series by one kind, of one range and of many, and columns in pieces: beside plain loops over the same elements. */
 #include "tests.h"
+#include "tests_plain.h"
 
 #include <stdlib.h>
 #include <string.h>
@@ -51,7 +52,7 @@ static cells none(void)
     return c;
 }
 
-static cells with(cells c, int64_t x)
+static cells after(cells c, int64_t x)
 {
     int64_t low = ((x % 256) + 256) % 256;
     uint32_t a = (uint32_t)(uint64_t)((x - low) / 256);
@@ -72,12 +73,12 @@ static cells plain(uint64_t lo, uint64_t hi)
 {
     cells c = none();
     for (uint64_t i = lo; i < hi; i++)
-        c = with(c, all[i]);
+        c = after(c, all[i]);
     return c;
 }
 
 /* The values of one kind alone: of the others 0. */
-static livevec_values only(cells c, uint32_t kind)
+static livevec_values of_kind(cells c, uint32_t kind)
 {
     livevec_values v;
     memset(&v, 0, sizeof v);
@@ -91,19 +92,6 @@ static livevec_values only(cells c, uint32_t kind)
     }
     v.any = c.any;
     return v;
-}
-
-static void alike(livevec_values got, livevec_values wanted)
-{
-    IS(got.sum, wanted.sum);
-    IS(got.least, wanted.least);
-    IS(got.greatest, wanted.greatest);
-    IS(got.best_low, wanted.best_low);
-    IS(got.best_high, wanted.best_high);
-    IS(got.affine_a, wanted.affine_a);
-    IS(got.affine_b, wanted.affine_b);
-    IS(memcmp(got.automaton, wanted.automaton, 8), 0);
-    IS(got.any, wanted.any);
 }
 
 static livevec_series_range some_range(uint64_t most)
@@ -125,7 +113,7 @@ static void by_each_kind(livevec_series *s)
             IS(told.first, 0);
             IS(told.size, 0);
             IS(told.edit, edits);
-            alike(told.values, only(plain(r.lo, r.hi), kind));
+            alike(told.values, of_kind(plain(r.lo, r.hi), kind));
         }
 }
 
@@ -143,7 +131,7 @@ static void of_many_ranges(livevec_series *s)
         IS(told.done, MANY);
         IS(told.place, 0);
         for (int i = 0; i < MANY; i++)
-            alike(answers[i], only(plain(ranges[i].lo, ranges[i].hi), kind));
+            alike(answers[i], of_kind(plain(ranges[i].lo, ranges[i].hi), kind));
         IS(answers[MANY].sum, 0x5555555555555555);
     }
     memset(answers, 85, sizeof answers);
@@ -205,7 +193,7 @@ static void in_pieces(livevec_series *s, uint64_t lo, uint64_t hi)
     cells so_far = none();
     for (uint64_t i = lo; i < hi; i++) {
         exclusive[i - lo] = so_far;
-        so_far = with(so_far, all[i]);
+        so_far = after(so_far, all[i]);
         inclusive[i - lo] = so_far;
     }
     COLUMNS(inclusive);
