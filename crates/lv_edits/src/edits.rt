@@ -134,6 +134,7 @@ impl<J: Journal> Edits<J> {
 
     /// Makes an edit that the verdict allows, so that it is refused with `NoMemory` alone. The room in the journal, then the
     /// bucket, is made before anything changes.
+    #[inline(always)]
     pub fn make(&mut self, edit: Edit) -> Result<Receipt, Refusal>
         requires { verdict_of self.old.limits self.old.journal edit ≡ None }
         ensures answer { Answers self.old edit result self.new }

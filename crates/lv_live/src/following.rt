@@ -20,6 +20,7 @@ pub enum Touched {
 }
 
 /// The indices at which an edit of a vector of this size writes.
+#[inline(always)]
 pub fn touched_indices(edit: &Edit, size: u32) -> Touched
     ensures { (xs : List ℤ) → length xs ≡ size → indices_in result ≡ indices_written xs edit.now }
 {
@@ -33,7 +34,7 @@ pub fn touched_indices(edit: &Edit, size: u32) -> Touched
 
 // Makes rows for the block of an index, and for all blocks before it: in the table, and then for claims. They are made for 64 blocks
 // at once, so that most pushes make none.
-#[inline]
+#[inline(always)]
 fn make_row<S: Copy>(
     table: &mut Summaries<S>,
     claims: &mut Claims,
@@ -58,7 +59,7 @@ fn make_row<S: Copy>(
 }
 
 /// Makes rows for the blocks of the indices that are to be touched: in the table, and then for claims.
-#[inline]
+#[inline(always)]
 pub fn make_room<S: Copy>(
     table: &mut Summaries<S>,
     claims: &mut Claims,
@@ -80,7 +81,7 @@ pub fn make_room<S: Copy>(
 }
 
 // Touches each of these indices.
-#[inline]
+#[inline(always)]
 fn touch_each<S: Copy>(table: &mut Summaries<S>, claims: &mut Claims, touched: Touched, edit: u32)
     requires rows { HaveRows (blocks_in table.old) (indices_in touched) }
     requires claim_rows { HaveRows (claim_blocks claims.old) (indices_in touched) }
@@ -104,7 +105,7 @@ fn touch_each<S: Copy>(table: &mut Summaries<S>, claims: &mut Claims, touched: T
 }
 
 /// Hears of an edit: which indices it touched, its number, and the size after it.
-#[inline]
+#[inline(always)]
 pub fn follow<S: Copy>(
     table: &mut Summaries<S>,
     claims: &mut Claims,

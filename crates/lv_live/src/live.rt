@@ -156,6 +156,8 @@ impl<B: Body, J: Journal> Live<B, J> {
 
     /// Makes an edit that the verdict allows, so that it is refused with `NoMemory` alone. Room for summaries, claims, element and
     /// journal is made before anything changes.
+    // Inlined with all that it calls: who knows the edit's kind is left with what that kind needs.
+    #[inline(always)]
     pub fn make(&mut self, edit: Edit) -> Result<Receipt, Refusal>
         requires { verdict_of self.old.history.limits self.old.history.journal edit ≡ None }
         ensures answer { Answers self.old.history edit result self.new.history }
