@@ -1,19 +1,17 @@
 //! A vector with the journal of its edits: verdicts, receipts, and what is read of it.
-ghost use Rattle.std.specs.Prelude.{◌≡◌, ℤ, ◌+◌, ◌*◌, ◌<◌, ◌≤◌, None, List, [], length, take, drop};
+ghost use Rattle.std.specs.Prelude.{◌≡◌, ◌+◌, ◌*◌, ◌<◌, ◌≤◌, None, [], length, take, drop};
 ghost use Rattle.std.specs.List.{slice_index_or, slice_range};
-ghost use Rattle.lv_edits.specs.Batches.{AnswersEdits, verdict_of_edits, writes_at};
 ghost use Rattle.lv_edits.specs.Capacity.{capacity_after, IsCapacityAfter};
 ghost use Rattle.lv_edits.specs.History.{History, list_of};
 ghost use Rattle.lv_edits.specs.Kept.{IsLegalInLimits};
-ghost use Rattle.lv_edits.specs.Pushes.{AnswersAll, verdict_of_pushes};
 ghost use Rattle.lv_edits.specs.Verdict.{Answers, element_at, verdict_of};
+
+mod batches;
 
 use crate::edit::Edit;
 use crate::journals::{Journal, Kept};
 use crate::making::make_edit;
-use crate::pushing::make_pushes;
 use crate::receipt::Receipt;
-use crate::writing::make_writes;
 use lv_geometry::{Limits, Refusal, capacity};
 use lv_store::Store;
 use std::alloc::Global;
@@ -141,67 +139,6 @@ impl<J: Journal> Edits<J> {
         ensures limits { IsLegalInLimits self.new }
     {
         make_edit(&mut self.store, &mut self.journal, edit)
-    }
-
-    /// Pushes values in order, all of them or none, and tells the number of the last edit. Refused as the first push that would be
-    /// refused, with `Worn` or `Full`, then with `NoMemory`: nothing has changed then.
-    pub fn push_all(&mut self, values: &[i64]) -> Result<u32, Refusal>
-        ensures answer { AnswersAll self.old values.now result self.new }
-        ensures limits { IsLegalInLimits self.new }
-    {
-        let _ = &self.store;
-        match self.verdict_of_pushes(values) {
-            Some(refusal) => Err(refusal),
-            None => make_pushes(&mut self.store, &mut self.journal, values),
-        }
-    }
-
-    /// The refusal of the first push that would be refused, of pushes one after another, want of memory apart, or none.
-    pub fn verdict_of_pushes(&self, values: &[i64]) -> Option<Refusal>
-        ensures { result ≡ verdict_of_pushes self.now values.now }
-    {
-        let limits = self.store.limits();
-        let edits = limits.edits() - self.edit();
-        let cells = limits.capacity() - self.size();
-        if values.len() <= edits.min(cells) as usize {
-            None
-        } else if edits <= cells {
-            Some(Refusal::Worn)
-        } else {
-            Some(Refusal::Full)
-        }
-    }
-
-    /// Writes values at indices in order, all of them or none, and tells the number of the last edit. An index may come twice: the later
-    /// value stays. Refused as the first write that would be refused, with `Worn` or `OutOfRange`, then with `NoMemory`: nothing has
-    /// changed then.
-    pub fn write_all(&mut self, indices: &[u32], values: &[i64]) -> Result<u32, Refusal>
-        requires paired { length indices.now ≡ length values.now }
-        ensures answer { AnswersEdits self.old (writes_at indices.now values.now) result self.new }
-        ensures limits { IsLegalInLimits self.new }
-    {
-        let _ = &self.store;
-        match self.verdict_of_writes(indices) {
-            Some(refusal) => Err(refusal),
-            None => make_writes(&mut self.store, &mut self.journal, indices, values),
-        }
-    }
-
-    /// The refusal of the first write that would be refused, of writes at indices one after another, want of memory apart, or none.
-    pub fn verdict_of_writes(&self, indices: &[u32]) -> Option<Refusal>
-        ensures { (xs : List ℤ) → length indices.now ≡ length xs → result ≡ verdict_of_edits self.now (writes_at indices.now xs) }
-    {
-        let left = (self.store.limits().edits() - self.edit()) as usize;
-        let size = self.size();
-        for place in 0..indices.len() {
-            if place == left {
-                return Some(Refusal::Worn);
-            }
-            if indices[place] >= size {
-                return Some(Refusal::OutOfRange { size });
-            }
-        }
-        None
     }
 
     /// The first refusal that applies to an edit, want of memory apart, or none.
