@@ -16,7 +16,8 @@ use Rattle.lv_edits.proofs.TouchLaws.{touched_by-le, touched_by-none, touched_by
 use Rattle.lv_known.specs.Agrees.{Agrees}
 use Rattle.lv_summary.specs.Changes.{AnswersAlike, HasSize, Keeps, Learns, OnlyLearns, Touches, TouchesEach}
 use Rattle.lv_summary.specs.Table.{Table, computed_in, entry_in, kept_in, known_entry_in, touched_in, whole_in}
-use Rattle.lv_summary.proofs.TableLaws.{entry_in-kept, entry_of_fresh, fresh_of_entry, known_entry_in-fresh, known_entry_in-learnt, known_entry_in-learnt_other, known_entry_in-same, known_parts, learns_only, node_of_whole, same_node-eq, version_before, whole_in-size}
+use Rattle.lv_summary.proofs.LearntLaws.{known_entry_in-learnt, known_entry_in-learnt_other, learns_only, version_before}
+use Rattle.lv_summary.proofs.TableLaws.{entry_in-kept, entry_of_fresh, fresh_of_entry, known_entry_in-fresh, known_entry_in-same, known_parts, node_of_whole, same_node-eq, whole_in-size}
 
 -- what an edit makes of a table: it has the size of the list, and the nodes that the edit touches have its number; what is
 -- kept stays

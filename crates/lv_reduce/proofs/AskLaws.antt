@@ -11,7 +11,7 @@ use Rattle.lv_edits.specs.Touch.{elements_under}
 use Rattle.lv_known.specs.Agrees.{Agrees}
 use Rattle.lv_summary.specs.Changes.{OnlyLearns}
 use Rattle.lv_summary.specs.Table.{Table, known_in, whole_in}
-use Rattle.lv_summary.proofs.TableLaws.{OnlyLearns-along, OnlyLearns-self}
+use Rattle.lv_summary.proofs.LearntLaws.{OnlyLearns-along, OnlyLearns-self}
 use Rattle.lv_reduce.specs.declared.reductions.Known.{Known}
 use Rattle.lv_reduce.specs.Asked.{AreTopsKnown, IsFewAsked, Knows, is_learnt, is_learnt_inside, learnt_from}
 use Rattle.lv_reduce.specs.Cost.{AllFresh, is_top}

@@ -16,7 +16,8 @@ use Rattle.lv_known.specs.Agrees.{Agrees}
 use Rattle.lv_summary.specs.Changes.{Learns, OnlyLearns}
 use Rattle.lv_summary.specs.Table.{Table, known_entry_in, known_in, whole_in}
 use Rattle.lv_known.proofs.AgreesLaws.{agreeing_learns_only, agrees_learnt}
-use Rattle.lv_summary.proofs.TableLaws.{OnlyLearns-along, OnlyLearns-self, known_entry_in-learnt, known_of_entry, node_of_whole, whole_in-size}
+use Rattle.lv_summary.proofs.LearntLaws.{OnlyLearns-along, OnlyLearns-self, known_entry_in-learnt}
+use Rattle.lv_summary.proofs.TableLaws.{known_of_entry, node_of_whole, whole_in-size}
 use Rattle.lv_reduce.specs.declared.reductions.Known.{Known}
 use Rattle.lv_reduce.specs.Asked.{Knows, is_learnt, learnt_from}
 use Rattle.lv_reduce.proofs.PieceLaws.{slice-joined, slice-nothing, slices_can_join}

@@ -1,5 +1,5 @@
--- What a change of the rows of every level makes of a table.
-use Rattle.std.proofs.Common.{◌≡◌, ℕ, ◌+◌, ◌-◌, ◌*◌, ◌/◌, ◌^◌, ◌<◌, ◌≤◌, true, false, ◌&&◌, cond, if◌then◌else◌, Option, None, Some, length, get_or, nat_eq, nat_le, refl, sym, ap, ◌∙◌, inl, inr, arith}
+-- What an edit, or a summary that is kept or learnt, makes of a table.
+use Rattle.std.proofs.Common.{◌≡◌, ℕ, ◌*◌, ◌/◌, ◌^◌, ◌<◌, ◌≤◌, true, false, ◌&&◌, cond, if◌then◌else◌, Option, Some, length, get_or, nat_eq, nat_le, refl, sym, ap, ◌∙◌, inl, inr, arith}
 use Rattle.std.proofs.lemmas.Bool.{cases_Bool, cond_both, eqb-true, ne_eqb, true≢false}
 use Rattle.std.proofs.lemmas.List.{length-set}
 use Rattle.lv_geometry.specs.declared.levels.Levels.{Levels}
@@ -7,10 +7,10 @@ use Rattle.lv_geometry.specs.declared.nodes.Node.{Node}
 use Rattle.lv_geometry.specs.Levels.{thing_at, with_thing}
 use Rattle.lv_geometry.specs.Nodes.{covers, is_node, same_node}
 use Rattle.lv_geometry.proofs.NodeLaws.{at_each_level, level_of_node}
-use Rattle.lv_summary.specs.Inner.{AreFilled, HaveSameRows, IsLevel, IsSound, LevelState, filled, table_of, with_kept, with_learnt, with_touch}
-use Rattle.lv_summary.specs.Changes.{AnswersAlike, HasSize, Keeps, Learns, Touches, beside}
-use Rattle.lv_summary.specs.Table.{Rows, Table, blocks_in, computed_in, kept_in, no_rows, rows_for, touched_in, whole_in}
-use Rattle.lv_summary.proofs.LevelLaws.{IsLevel-empty, IsLevel-filled, IsLevel-with_kept, IsLevel-with_learnt, IsLevel-with_touch, computed_at, computed_at-filled, computed_at-with_kept, computed_at-with_learnt, kept_at, kept_at-filled, kept_at-with_kept, kept_at-with_learnt, length-lengthened, touched_at, touched_at-filled, touched_at-with_touch}
+use Rattle.lv_summary.specs.Inner.{IsLevel, IsSound, LevelState, table_of, with_kept, with_learnt, with_touch}
+use Rattle.lv_summary.specs.Changes.{Keeps, Learns, Touches, beside}
+use Rattle.lv_summary.specs.Table.{Rows, Table, blocks_in, computed_in, kept_in, rows_for, touched_in, whole_in}
+use Rattle.lv_summary.proofs.LevelLaws.{IsLevel-with_kept, IsLevel-with_learnt, IsLevel-with_touch, computed_at, computed_at-with_kept, computed_at-with_learnt, kept_at, kept_at-with_kept, kept_at-with_learnt, touched_at, touched_at-with_touch}
 use Rattle.lv_summary.proofs.TableLaws.{node_of_whole}
 use Rattle.lv_summary.proofs.NodeRows.{IsRowOf-whole, blocks_in-rows, computed_in-inside, computed_in-outside, cond-and_false, cond-and_true, kept_in-inside, kept_in-outside, row_of_index, rows_at, touched_in-inside, touched_in-outside}
 
@@ -196,21 +196,7 @@ pub IsSound-learnt : {S : Type 0} {old new : Table S} → IsSound old → new.si
 IsSound-learnt {S} {old} {new} sound size n k s rows =
     IsSound-changed (λ rows. with_learnt rows n.number s) (λ rows. refl) (λ blocks level rows is. IsLevel-with_learnt blocks level rows n.number s is) old new sound size k rows
 
--- putting a summary into the row of a whole node, on the level that its number says, keeps it for that node alone
-pub Keeps-at : {S : Type 0} {old new : Table S} → IsSound old → new.size ≡ old.size → (n : Node) (k version : ℕ) (s : S) → whole_in old n ≡ true → n.level ≡ k → HasRowsKept old new n k version s → Keeps old new n version s
-Keeps-at {S} {old} {new} sound size n k version s whole at changed =
-    let row = IsRowOf-whole old n sound whole in
-    let node = node_of_whole old n whole in
-    let rows : HasRowsKept old new n n.level version s = λ level low high. rw (← at) at (changed level low high) in
-    record {
-      size = size;
-      blocks = blocks_in-changed (λ rows. with_kept rows n.number version s) (λ rows. refl) old new n.level rows;
-      touched = touched_in-changed (λ rows. with_kept rows n.number version s) (λ rows. refl) old new n rows;
-      kept = kept_in-changed old new n (λ rows. with_kept rows n.number version s) (λ kept. Some (version, s)) node rows (λ k. kept_at-with_kept (rows_for old n) n.number version s k row.stamps row.kept);
-      computed = computed_in-changed old new n (λ rows. with_kept rows n.number version s) (beside s) node rows (λ k. computed_at-with_kept (rows_for old n) n.number version s k row.kept);
-    }
-
--- and so does learning it
+-- learning a summary of a whole node, on the level that its number says, learns it for that node alone
 pub Learns-at : {S : Type 0} {old new : Table S} → IsSound old → new.size ≡ old.size → (n : Node) (k : ℕ) (s : S) → whole_in old n ≡ true → n.level ≡ k → HasRowsLearnt old new n k s → Learns old new n s
 Learns-at {S} {old} {new} sound size n k s whole at changed =
     let row = IsRowOf-whole old n sound whole in
@@ -225,146 +211,16 @@ Learns-at {S} {old} {new} sound size n k s whole at changed =
           (λ k. computed_at-with_learnt (rows_for old n) n.number s k row.computed row.kept ∙ ap (λ edit. cond (nat_eq k n.number) (Some (edit, s)) (computed_at (rows_for old n) k)) (sym (touched_in-inside old n node)));
     }
 
--- every level was filled up, so that there are rows for all indices of so many blocks
-abbrev pub HasRowsFilled : {S : Type 0} → Table S → Table S → ℕ → Type 0
-HasRowsFilled {S} old new more =
-    (level : ℕ) → 1 ≤ level → level ≤ 6 → (n : ℕ) × (blank : S) × (rows_at new level ≡ filled (rows_at old level) n blank) × (8 * more ≤ n * 8 ^ level)
-
--- the rows of a level of six
-rows_at-thing : {S : Type 0} (size : ℕ) (of : Levels (LevelState S)) (level : ℕ) → 1 ≤ level → level ≤ 6 → rows_at (table_of size of) level ≡ (thing_at of level).rows
-rows_at-thing size of level low high = at_each_level (λ level. rows_at (table_of size of) level ≡ (thing_at of level).rows) refl refl refl refl refl refl level low high
-
--- levels with the same rows make the same table
-pub table_of-same : {S : Type 0} (size : ℕ) (old new : Levels (LevelState S)) → HaveSameRows old new → table_of size new ≡ table_of size old
-table_of-same size old new same =
-    let e1 : new.level_1.rows ≡ old.level_1.rows = same 1 (omega arith) (omega arith) in
-    let e2 : new.level_2.rows ≡ old.level_2.rows = same 2 (omega arith) (omega arith) in
-    let e3 : new.level_3.rows ≡ old.level_3.rows = same 3 (omega arith) (omega arith) in
-    let e4 : new.level_4.rows ≡ old.level_4.rows = same 4 (omega arith) (omega arith) in
-    let e5 : new.level_5.rows ≡ old.level_5.rows = same 5 (omega arith) (omega arith) in
-    let e6 : new.level_6.rows ≡ old.level_6.rows = same 6 (omega arith) (omega arith) in
-    cc
-
--- levels that are filled up to the rows that so many blocks need
-pub HasRowsFilled-levels : {S : Type 0} (size : ℕ) (old more new : Levels (LevelState S)) (rows : Levels ℕ) (blocks : ℕ)
-    → HaveSameRows old more → AreFilled more new rows → ((level : ℕ) → 1 ≤ level → level ≤ 6 → 8 * blocks ≤ thing_at rows level * 8 ^ level)
-    → HasRowsFilled (table_of size old) (table_of size new) blocks
-HasRowsFilled-levels size old more new rows blocks same fills covers =
-    λ level low high. (
-      thing_at rows level,
-      (thing_at more level).blank,
-      rows_at-thing size new level low high
-          ∙ fills level low high
-          ∙ ap (λ r. filled r (thing_at rows level) (thing_at more level).blank) (same level low high ∙ sym (rows_at-thing size old level low high)),
-      covers level low high,
-    )
-
--- the more of two numbers of blocks have rows
-blocks_in-filled : {S : Type 0} (old new : Table S) (more : ℕ) (blank : S) → rows_at new 1 ≡ filled (rows_at old 1) more blank → blocks_in new ≡ blocks_in old + (more - blocks_in old)
-blocks_in-filled old new more blank first =
-    blocks_in-rows new ∙ ap (λ r. length r.touched) first ∙ length-lengthened (rows_at old 1).touched more 0 ∙ ap (λ b. b + (more - b)) (sym (blocks_in-rows old))
-
--- no block loses its rows when rows are added
-pub blocks_in_more : {S : Type 0} (old new : Table S) (more : ℕ) (blank : S) → rows_at new 1 ≡ filled (rows_at old 1) more blank → blocks_in old ≤ blocks_in new
-blocks_in_more old new more blank first = omega (arith, blocks_in-filled old new more blank first)
-
--- all blocks that were wanted have rows when rows were added
-pub blocks_in_enough : {S : Type 0} (old new : Table S) (more : ℕ) (blank : S) → rows_at new 1 ≡ filled (rows_at old 1) more blank → more ≤ blocks_in new
-blocks_in_enough old new more blank first = omega (arith, blocks_in-filled old new more blank first)
-
--- a sound table stays so when rows are added
-pub IsSound-filled : {S : Type 0} {old new : Table S} → IsSound old → new.size ≡ old.size → (more : ℕ) (blank : S) → more ≤ 131071 → rows_at new 1 ≡ filled (rows_at old 1) more blank → HasRowsFilled old new more → IsSound new
-IsSound-filled {S} {old} {new} sound size more blank few first rows =
-    IsSound-by_rows new (blocks_in old + (more - blocks_in old)) (blocks_in-filled old new more blank first) (omega (arith, sound.few)) (omega (arith, sound.size))
-    (λ level low high.
-    let added = rows level low high in
-    rw added.2 (IsLevel-filled (blocks_in old) more level (rows_at old level) added.0 added.1 added.3 (sound.levels level low high)))
-
--- adding rows changes no answer
-pub AnswersAlike-by_rows : {S : Type 0} {old new : Table S} → IsSound old → new.size ≡ old.size → (more : ℕ) → HasRowsFilled old new more → AnswersAlike old new
-AnswersAlike-by_rows {S} {old} {new} sound size more rows =
+-- and putting one into its row keeps it for that node alone
+pub Keeps-at : {S : Type 0} {old new : Table S} → IsSound old → new.size ≡ old.size → (n : Node) (k version : ℕ) (s : S) → whole_in old n ≡ true → n.level ≡ k → HasRowsKept old new n k version s → Keeps old new n version s
+Keeps-at {S} {old} {new} sound size n k version s whole at changed =
+    let row = IsRowOf-whole old n sound whole in
+    let node = node_of_whole old n whole in
+    let rows : HasRowsKept old new n n.level version s = λ level low high. rw (← at) at (changed level low high) in
     record {
       size = size;
-      touched = λ m. elim (cases_Bool (is_node m)) [
-        | inl member ↦
-            let level = level_of_node m member in
-            let added = rows m.level level.0 level.1 in
-            touched_in-inside new m member ∙ ap (λ r. touched_at r m.number) added.2 ∙ touched_at-filled (rows_for old m) added.0 added.1 m.number ∙ sym (touched_in-inside old m member)
-        | inr stranger ↦ touched_in-outside new m stranger ∙ sym (touched_in-outside old m stranger)
-      ];
-      kept = λ m. elim (cases_Bool (is_node m)) [
-        | inl member ↦
-            let level = level_of_node m member in
-            let added = rows m.level level.0 level.1 in
-            let even = sound.levels m.level level.0 level.1 in
-            kept_in-inside new m member ∙ ap (λ r. kept_at r m.number) added.2 ∙ kept_at-filled (rows_for old m) added.0 added.1 m.number (even.kept ∙ sym even.stamps) ∙ sym (kept_in-inside old m member)
-        | inr stranger ↦ kept_in-outside new m stranger ∙ sym (kept_in-outside old m stranger)
-      ];
-      computed = λ m. elim (cases_Bool (is_node m)) [
-        | inl member ↦
-            let level = level_of_node m member in
-            let added = rows m.level level.0 level.1 in
-            let even = sound.levels m.level level.0 level.1 in
-            computed_in-inside new m member ∙ ap (λ r. computed_at r m.number) added.2 ∙ computed_at-filled (rows_for old m) added.0 added.1 m.number (even.kept ∙ sym even.computed) ∙ sym (computed_in-inside old m member)
-        | inr stranger ↦ computed_in-outside new m stranger ∙ sym (computed_in-outside old m stranger)
-      ];
+      blocks = blocks_in-changed (λ rows. with_kept rows n.number version s) (λ rows. refl) old new n.level rows;
+      touched = touched_in-changed (λ rows. with_kept rows n.number version s) (λ rows. refl) old new n rows;
+      kept = kept_in-changed old new n (λ rows. with_kept rows n.number version s) (λ kept. Some (version, s)) node rows (λ k. kept_at-with_kept (rows_for old n) n.number version s k row.stamps row.kept);
+      computed = computed_in-changed old new n (λ rows. with_kept rows n.number version s) (beside s) node rows (λ k. computed_at-with_kept (rows_for old n) n.number version s k row.kept);
     }
-
--- a sound table stays so at another size that its rows have room for
-pub IsSound-size : {S : Type 0} {t : Table S} → IsSound t → (size : ℕ) → size ≤ 8 * blocks_in t → IsSound (record t { size = size })
-IsSound-size {S} {t} sound size room =
-    IsSound-by_rows (record t { size = size }) (blocks_in t) (blocks_in-rows (record t { size = size }) ∙ sym (blocks_in-rows t)) sound.few room sound.levels
-
--- another size changes no row
-pub HasSize-by_rows : {S : Type 0} (t : Table S) (size : ℕ) → HasSize t (record t { size = size }) size
-HasSize-by_rows t size =
-    let sized = record t { size = size } in
-    record {
-      size_is = refl;
-      blocks = blocks_in-rows sized ∙ sym (blocks_in-rows t);
-      touched = λ m. elim (cases_Bool (is_node m)) [
-        | inl member ↦ touched_in-inside sized m member ∙ sym (touched_in-inside t m member)
-        | inr stranger ↦ touched_in-outside sized m stranger ∙ sym (touched_in-outside t m stranger)
-      ];
-      kept = λ m. elim (cases_Bool (is_node m)) [
-        | inl member ↦ kept_in-inside sized m member ∙ sym (kept_in-inside t m member)
-        | inr stranger ↦ kept_in-outside sized m stranger ∙ sym (kept_in-outside t m stranger)
-      ];
-      computed = λ m. elim (cases_Bool (is_node m)) [
-        | inl member ↦ computed_in-inside sized m member ∙ sym (computed_in-inside t m member)
-        | inr stranger ↦ computed_in-outside sized m stranger ∙ sym (computed_in-outside t m stranger)
-      ];
-    }
-
--- a table with no rows has no blocks
-pub blocks_in-empty : {S : Type 0} (t : Table S) → ((level : ℕ) → 1 ≤ level → level ≤ 6 → rows_at t level ≡ no_rows) → blocks_in t ≡ 0
-blocks_in-empty t rows = blocks_in-rows t ∙ ap (λ r. length r.touched) (rows 1 (omega arith) (omega arith))
-
--- a table with no rows is sound
-pub IsSound-empty : {S : Type 0} {t : Table S} → t.size ≡ 0 → ((level : ℕ) → 1 ≤ level → level ≤ 6 → rows_at t level ≡ no_rows) → IsSound t
-IsSound-empty {S} {t} size rows =
-    IsSound-by_rows t 0 (blocks_in-empty t rows) (omega arith) (omega arith) (λ level low high. rw (rows level low high) (IsLevel-empty level))
-
--- no edit touched a node of a table with no rows
-pub touched_in-empty : {S : Type 0} (t : Table S) → ((level : ℕ) → 1 ≤ level → level ≤ 6 → rows_at t level ≡ no_rows) → (n : Node) → touched_in t n ≡ 0
-touched_in-empty t rows n =
-    elim (cases_Bool (is_node n)) [
-      | inl member ↦ let level = level_of_node n member in touched_in-inside t n member ∙ ap (λ r. touched_at r n.number) (rows n.level level.0 level.1)
-      | inr stranger ↦ touched_in-outside t n stranger
-    ]
-
--- nothing is kept in a table with no rows
-pub kept_in-empty : {S : Type 0} (t : Table S) → ((level : ℕ) → 1 ≤ level → level ≤ 6 → rows_at t level ≡ no_rows) → (n : Node) → kept_in t n ≡ None
-kept_in-empty t rows n =
-    elim (cases_Bool (is_node n)) [
-      | inl member ↦ let level = level_of_node n member in kept_in-inside t n member ∙ ap (λ r. kept_at r n.number) (rows n.level level.0 level.1)
-      | inr stranger ↦ kept_in-outside t n stranger
-    ]
-
--- and nothing was computed
-pub computed_in-empty : {S : Type 0} (t : Table S) → ((level : ℕ) → 1 ≤ level → level ≤ 6 → rows_at t level ≡ no_rows) → (n : Node) → computed_in t n ≡ None
-computed_in-empty t rows n =
-    elim (cases_Bool (is_node n)) [
-      | inl member ↦ let level = level_of_node n member in computed_in-inside t n member ∙ ap (λ r. computed_at r n.number) (rows n.level level.0 level.1)
-      | inr stranger ↦ computed_in-outside t n stranger
-    ]

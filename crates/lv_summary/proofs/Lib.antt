@@ -1,7 +1,9 @@
 -- Names the files of lemmas of `lv_summary`.
 mod Changes
 mod ChildLaws
+mod Growth
 mod LateLaws
+pub mod LearntLaws
 mod LevelLaws
 mod NodeRows
 pub mod TableLaws

@@ -2,7 +2,7 @@
 use Rattle.std.proofs.Common.{◌≡◌, refl, ap, arith, ◌∙◌}
 use Rattle.std.proofs.lemmas.Result.{err_from_is_err_and}
 use Rattle.lv_summary.specs.Inner.{filled, table_of}
-use Rattle.lv_summary.proofs.Changes.{AnswersAlike-by_rows, HasRowsFilled, HasRowsFilled-levels, IsSound-filled, blocks_in_enough, blocks_in_more, table_of-same}
+use Rattle.lv_summary.proofs.Growth.{AnswersAlike-by_rows, HasRowsFilled, HasRowsFilled-levels, IsSound-filled, blocks_in_enough, blocks_in_more, table_of-same}
 use Rattle.lv_summary.proofs.summaries.Summaries.grow.Given.{Over}
 use Rattle.lv_summary.proofs.summaries.Summaries.grow.Goals as goal
 

@@ -1,7 +1,7 @@
 -- Proof of `Summaries::new`: a table with no rows, for a vector with no element.
 use Rattle.std.proofs.Common.{refl}
 use Rattle.lv_geometry.proofs.NodeLaws.{at_each_level}
-use Rattle.lv_summary.proofs.Changes.{IsSound-empty, blocks_in-empty, computed_in-empty, kept_in-empty, touched_in-empty}
+use Rattle.lv_summary.proofs.Growth.{IsSound-empty, blocks_in-empty, computed_in-empty, kept_in-empty, touched_in-empty}
 use Rattle.lv_summary.proofs.summaries.Summaries.new.Goals as goal
 
 pub invariant_of-result : goal.invariant_of-result

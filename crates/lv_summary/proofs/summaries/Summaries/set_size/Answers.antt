@@ -1,5 +1,5 @@
 -- Proof of `Summaries::set_size`: notes how many elements the vector has, which decides the nodes that are whole.
-use Rattle.lv_summary.proofs.Changes.{HasSize-by_rows, IsSound-size}
+use Rattle.lv_summary.proofs.Growth.{HasSize-by_rows, IsSound-size}
 use Rattle.lv_summary.proofs.summaries.Summaries.set_size.Goals as goal
 
 pub invariant_of-self : goal.invariant_of-self
