@@ -1,0 +1,106 @@
+//! Questions to a live vector: folds and running folds of a range, and what they cost.
+ghost use Rattle.std.specs.Prelude.{◌≡◌, Some, IfOk, OnErr, IfErr, true, false};
+ghost use Rattle.lv_refresh.specs.Record.{is_fresh};
+ghost use Rattle.lv_known.specs.Agrees.{Agrees};
+ghost use Rattle.lv_summary.specs.Changes.{OnlyLearns};
+ghost use Rattle.lv_summary.specs.Table.{known_in};
+ghost use Rattle.lv_reduce.specs.Answer.{IsAnswer, IsScanRefusal, IsAnswerPair, range_refusal};
+ghost use Rattle.lv_reduce.specs.Asked.{AreTopsKnown, IsFewAsked};
+ghost use Rattle.lv_reduce.specs.Cost.{IsFew};
+ghost use Rattle.lv_reduce.specs.Stretch.{IsStretch};
+ghost use Rattle.lv_live.specs.State.{Remembers, SameLive, recorded};
+ghost use Rattle.lv_live.specs.Step.{Costs, Reduces, Scans};
+
+use crate::live::Live;
+use lv_bodies::Body;
+use lv_edits::Journal;
+use lv_geometry::Refusal;
+use lv_reduce::{Answer, Reads, Scan, Stretch, View};
+use std::alloc::Global;
+
+impl<B: Body> Live<B> {
+    /// How many cells and summaries `reduce` reads for the elements from index `lo` up to `hi`, which is counted without reading them.
+    /// Refused with `BadRange`, then `OutOfRange`. Takes no memory.
+    pub fn cost(&self, lo: u32, hi: u32) -> Result<Reads, Refusal>
+        ensures { Costs (recorded self.now) lo hi result }
+    {
+        // The summaries agree with the journal.
+        let _ = &self.table;
+        lv_reduce::cost(self.view(), lo, hi)
+    }
+
+    /// The fold of the elements from index `lo` up to `hi` by any body, with the number of the last edit. It folds the elements where
+    /// they lie and reads no summary, so it is meant for ranges that are so short that their summaries would cost more. Refused with
+    /// `BadRange`, then `OutOfRange`. Takes no memory.
+    pub fn fold_by<K: Body>(&self, body: &K, lo: u32, hi: u32) -> Result<(u32, K::S), Refusal>
+        ensures ok { IfOk result (λ answer. IsAnswerPair (K.operations (K.meaning body.now)) self.now.history.journal lo hi answer) }
+        ensures err { IfErr result (λ refusal. range_refusal self.now.history.journal lo hi ≡ Some refusal) }
+    {
+        lv_reduce::fold_elements(&self.history, body, lo, hi)
+    }
+
+    /// The running folds of the elements from index `lo` up to `hi`, each with its own. Refused with `BadRange`, `OutOfRange`,
+    /// then `NoMemory`.
+    pub fn scan_inclusive(&self, alloc: Global, lo: u32, hi: u32) -> Result<Scan<B::S>, Refusal>
+        ensures { Scans (B.operations (B.meaning self.now.body)) (recorded self.now) lo hi true result }
+    {
+        lv_reduce::scan_inclusive(alloc, self.view(), &self.body, lo, hi)
+    }
+
+    /// The running folds of the elements from index `lo` up to `hi`, each without its own. Refused as the inclusive scan is.
+    pub fn scan_exclusive(&self, alloc: Global, lo: u32, hi: u32) -> Result<Scan<B::S>, Refusal>
+        ensures { Scans (B.operations (B.meaning self.now.body)) (recorded self.now) lo hi false result }
+    {
+        lv_reduce::scan_exclusive(alloc, self.view(), &self.body, lo, hi)
+    }
+
+    /// The elements from index `lo` up to `hi`, copied, to be scanned while the vector is edited. Refused as a scan is.
+    pub fn copy_range(&self, alloc: Global, lo: u32, hi: u32) -> Result<Stretch<B>, Refusal>
+        ensures ok { IfOk result (λ stretch. IsStretch self.now.history.journal lo hi stretch) }
+        ensures body { IfOk result (λ stretch. stretch.body ≡ self.now.body) }
+        ensures err { IfErr result (λ refusal. IsScanRefusal self.now.history.journal lo hi refusal) }
+    {
+        Stretch::copy(alloc, &self.history, self.body, lo, hi)
+    }
+}
+
+impl<B: Body, J: Journal> Live<B, J> {
+    /// The fold of the elements from index `lo` up to `hi`, at the last edit. Refused with `BadRange`, then `OutOfRange`.
+    /// Takes no memory.
+    pub fn reduce(&self, lo: u32, hi: u32) -> Result<Answer<B::S>, Refusal>
+        ensures answer { Reduces (B.operations (B.meaning self.now.body)) (recorded self.now) lo hi result }
+        ensures few { IfOk result (λ answer. IsFew (is_fresh (recorded self.now)) lo hi answer.cells_read answer.summaries_read) }
+    {
+        lv_reduce::reduce(self.view(), &self.body, lo, hi)
+    }
+
+    /// What `reduce` answers, keeping what is computed for it: so a range that was asked for costs at most 14 cells and 84 summaries
+    /// until an edit touches it. Edits, claims and delivered versions stay as they are, and so does what `reduce` counts. Refused
+    /// with `BadRange`, then `OutOfRange`. Takes no memory.
+    pub fn ask(&mut self, lo: u32, hi: u32) -> Result<Answer<B::S>, Refusal>
+        ensures ok { IfOk result (λ answer. IsAnswer (B.operations (B.meaning self.old.body)) self.old.history.journal lo hi answer) }
+        ensures err { IfErr result (λ refusal. range_refusal self.old.history.journal lo hi ≡ Some refusal) }
+        ensures same { SameLive self.old self.new }
+        ensures unchanged { OnErr result (self.new.table ≡ self.old.table) }
+        ensures agrees { Agrees (B.operations (B.meaning self.new.body)) self.new.history.journal self.new.table }
+        ensures learns { OnlyLearns self.old.table self.new.table }
+        ensures remembers { Remembers self.old self.new }
+        ensures known { IfOk result (λ _. AreTopsKnown (known_in self.new.table) lo hi) }
+        ensures quiet { AreTopsKnown (known_in self.old.table) lo hi → self.new.table ≡ self.old.table }
+        ensures few { IfOk result (λ answer. IsFewAsked (known_in self.old.table) (known_in self.new.table) lo hi answer.cells_read answer.summaries_read) }
+    {
+        lv_reduce::ask(&self.history, &mut self.table, &self.body, lo, hi)
+    }
+
+    /// What a query reads: the elements, and the summaries that are kept for them.
+    #[inline(always)]
+    pub fn view(&self) -> View<'_, B::S, J>
+        ensures cells { result.cells.now ≡ self.now.history }
+        ensures table { result.table.now ≡ self.now.table }
+    {
+        View {
+            cells: &self.history,
+            table: &self.table,
+        }
+    }
+}
