@@ -17,7 +17,7 @@ use Rattle.lv_refresh.specs.Delivery.{delivery_of}
 use Rattle.lv_refresh.specs.Record.{Record, is_fresh, is_version}
 use Rattle.lv_live.specs.declared.events.Event.TheVariants as event
 use Rattle.lv_live.specs.declared.replies.Reply.TheVariants as reply
-use Rattle.lv_live.specs.State.{HasClaim, LiveState, job_at, node_and_version, recorded, with_issued}
+use Rattle.lv_live.specs.State.{HasClaim, HasDelivery, LiveState, job_at, node_and_version, recorded, with_issued}
 use Rattle.lv_live.specs.Step.{Run, Step}
 use Rattle.lv_live.specs.Turns.{TakesTurn, TakesTurns, turn_replies, turns}
 use Rattle.lv_live.proofs.WorldLaws.{run_goes_on, step_claim, step_delivery}
@@ -126,7 +126,7 @@ module _ {B S : Type 0} (o : Operations S) where
       let claims : Step o first.history.limits (with_issued old jobs) event.Claim (reply.Claimed (length jobs + 1) job.node job.version) (with_issued mid more) =
       step_claim o old mid (Some job) jobs next claim in
       let delivers : Step o first.history.limits (with_issued mid more) (event.Deliver (length jobs + 1)) (reply.Gave Installed) (with_issued new more) =
-      rw installed at (step_delivery o mid new (length jobs + 1) (node_and_version job) more (ap (option_map node_and_version) (job_at_end jobs job)) (rw (sym installed) at delivered)) in
+      rw installed at (step_delivery o mid new (length jobs + 1) (node_and_version job) more (ap (option_map node_and_version) (job_at_end jobs job)) (subst (HasDelivery mid new job.node job.version) (sym installed) delivered)) in
       let once = run_goes_on o first.history.limits (recorded first) (with_issued old jobs) (with_issued mid more) (turns 1 n) (turn_replies 1 (map node_and_version jobs)) event.Claim (reply.Claimed (length jobs + 1) job.node job.version) turned.run claims in
       let twice = run_goes_on o first.history.limits (recorded first) (with_issued mid more) (with_issued new more) (turns 1 n ++ event.Claim ∷ []) (turn_replies 1 (map node_and_version jobs) ++ reply.Claimed (length jobs + 1) job.node job.version ∷ []) (event.Deliver (length jobs + 1)) (reply.Gave Installed) once delivers in
       let events : turns 1 n ++ event.Claim ∷ [] ++ event.Deliver (length jobs + 1) ∷ [] ≡ turns 1 (n + 1) =

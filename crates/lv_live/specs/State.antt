@@ -23,12 +23,16 @@ pub record LiveState (B S : Type 0) : Type 0 where
 abbrev pub recorded : {B S : Type 0} → LiveState B S → Record
 recorded s = record_of s.history.journal s.table s.claims
 
--- two states have the same body, limits, edits, claims and kept versions
-pub record SameLive {B S : Type 0} (old new : LiveState B S) : Type 0 where
+-- two states have the same body, limits and edits; the second has these claims and these kept versions
+pub record IsRefreshed {B S : Type 0} (old new : LiveState B S) (claims versions : Node → Option ℕ) : Type 0 where
   pub body : new.body ≡ old.body
   pub history : new.history ≡ old.history
-  pub claimed : (n : Node) → (recorded new).claimed n ≡ (recorded old).claimed n
-  pub kept : (n : Node) → (recorded new).kept n ≡ (recorded old).kept n
+  pub claimed : (n : Node) → (recorded new).claimed n ≡ claims n
+  pub kept : (n : Node) → (recorded new).kept n ≡ versions n
+
+-- two states have the same body, limits, edits, claims and kept versions
+abbrev pub SameLive : {B S : Type 0} → LiveState B S → LiveState B S → Type 0
+SameLive old new = IsRefreshed old new (recorded old).claimed (recorded old).kept
 
 -- two states have the same body, claims and kept versions; edits may differ
 pub record SameRefresh {B S : Type 0} (old new : LiveState B S) : Type 0 where
@@ -42,25 +46,16 @@ claimed_with claimed None = claimed
 claimed_with claimed (Some job) = with_version claimed job.0 job.1
 
 -- a claim of a node at a version, if there is one, and nothing else, was added
-pub record HasClaim {B S : Type 0} (old new : LiveState B S) (job : Option (Node × ℕ)) : Type 0 where
-  pub body : new.body ≡ old.body
-  pub history : new.history ≡ old.history
-  pub claimed : (n : Node) → (recorded new).claimed n ≡ claimed_with (recorded old).claimed job n
-  pub kept : (n : Node) → (recorded new).kept n ≡ (recorded old).kept n
+abbrev pub HasClaim : {B S : Type 0} → LiveState B S → LiveState B S → Option (Node × ℕ) → Type 0
+HasClaim old new job = IsRefreshed old new (claimed_with (recorded old).claimed job) (recorded old).kept
 
 -- no claim is left, and nothing else has changed
-pub record HasNoClaims {B S : Type 0} (old new : LiveState B S) : Type 0 where
-  pub body : new.body ≡ old.body
-  pub history : new.history ≡ old.history
-  pub claimed : (n : Node) → (recorded new).claimed n ≡ None
-  pub kept : (n : Node) → (recorded new).kept n ≡ (recorded old).kept n
+abbrev pub HasNoClaims : {B S : Type 0} → LiveState B S → LiveState B S → Type 0
+HasNoClaims old new = IsRefreshed old new (λ n. None) (recorded old).kept
 
 -- what was delivered is kept where it was installed, and nothing else has changed
-pub record HasDelivery {B S : Type 0} (old new : LiveState B S) (node : Node) (version : ℕ) (accepted : Accepted) : Type 0 where
-  pub body : new.body ≡ old.body
-  pub history : new.history ≡ old.history
-  pub claimed : (n : Node) → (recorded new).claimed n ≡ (recorded old).claimed n
-  pub kept : (n : Node) → (recorded new).kept n ≡ (after_accepted (recorded old) node version accepted).kept n
+abbrev pub HasDelivery : {B S : Type 0} → LiveState B S → LiveState B S → Node → ℕ → Accepted → Type 0
+HasDelivery old new node version accepted = IsRefreshed old new (recorded old).claimed (after_accepted (recorded old) node version accepted).kept
 
 -- what a job of a node carried at a version can be made anew: where the node is whole, and the edit of that number touched it last, it
 -- stands here still, so that above level 1 the eight children are fresh
