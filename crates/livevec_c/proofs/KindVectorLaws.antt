@@ -25,6 +25,7 @@ use Rattle.lv_edits.proofs.HistoryLaws.{accepted_is_possible, list_of-snoc, not_
 use Rattle.lv_live.specs.State.{LiveState}
 use Rattle.lv_kinds.specs.Kinds.{AreFolds, AreKept, HaveRoomFor, KeepsAlike, KindsState}
 use Rattle.lv_kinds.specs.NodeRows.{HasSameValues, NodeRowsState}
+use Rattle.lv_kinds.proofs.LastLaws.{IsSumOfRange-alike}
 use Rattle.livevec_c.specs.KindVectors.{IsKindVector, IsSizeAfter, before_last}
 
 -- rows that have the same values are folds alike
@@ -53,6 +54,7 @@ kept_alike table es old new alike kept = record {
     maps = omega (arith, kept.room.maps, alike.maps.more);
     states = omega (arith, kept.room.states, alike.states.more);
   };
+  last = IsSumOfRange-alike es old new alike kept.last;
 }
 
 -- room for some elements is room for fewer

@@ -18,9 +18,12 @@ use Rattle.lv_edits.specs.Touch.{elements_under}
 use Rattle.lv_summary.specs.Table.{Table, computed_entry_in, entry_in, fresh_in}
 use Rattle.lv_known.specs.Agrees.{Agrees}
 use Rattle.lv_kinds.specs.declared.kinds.KindAnswer.{KindAnswer}
+use Rattle.lv_kinds.specs.declared.last_sum.LastSum.{LastSum}
 use Rattle.lv_kinds.specs.Asked.{IsKindAnswer, LearnsBy}
-use Rattle.lv_kinds.specs.Kinds.{AreFolds, AreKept, KindsState}
+use Rattle.lv_kinds.specs.Kinds.{AreFolds, AreKept, KindsState, is_flagged}
+use Rattle.lv_kinds.specs.LastSum.{IsSumOfRange}
 use Rattle.lv_kinds.specs.NodeRows.{NodeRowsState}
+use Rattle.lv_kinds.proofs.LastLaws.{IsSumOfRange-still}
 
 -- nothing is no summary
 nothing_is : {X : Type 0} (x : X) → None ≡ Some x → ⊥
@@ -40,14 +43,23 @@ pub answer_by_table : (result : Result KindAnswer Refusal) (table : List (List �
 answer_by_table (Ok answer) table es asked kind lo hi fits is fit ok = subst (λ k. IsKindAnswer table es k lo hi answer) (sym is) (ok table fit)
 answer_by_table (Err refusal) table es asked kind lo hi fits is fit ok = tt
 
+-- so is one for each table
+pub answer_of_table : (result : Result KindAnswer Refusal) (table : List (List ℕ)) (es : List Edit) (asked kind : Kind) (lo hi : ℕ) → asked ≡ kind → IfOk result (λ answer. (table : List (List ℕ)) → IsKindAnswer table es kind lo hi answer) → IfOk result (λ answer. IsKindAnswer table es asked lo hi answer)
+answer_of_table (Ok answer) table es asked kind lo hi is ok = subst (λ k. IsKindAnswer table es k lo hi answer) (sym is) (ok table)
+answer_of_table (Err refusal) table es asked kind lo hi is ok = tt
+
 -- the rows of the other kinds are true still
 still : {S T : Type 0} (o : Operations T) (es : List Edit) (bit other : ℕ) (old new : NodeRowsState ℕ) (old_rows new_rows : NodeRowsState S) (rows : NodeRowsState T) → other ≢ bit → LearnsBy bit old new old_rows new_rows → AreFolds o es old other rows → AreFolds o es new other rows
 still o es bit other old new old_rows new_rows rows apart learns folds n whole flagged = folds n whole (sym (learns.others other n apart) ∙ flagged)
 
 module _ (table : List (List ℕ)) (es : List Edit) (s : KindsState) (kept : AreKept table es s) (flags : NodeRowsState ℕ) where
+  -- the sum that was answered last is still one once further rows of another kind are kept
+  still_remembered : {S : Type 0} (bit : ℕ) (old_rows rows : NodeRowsState S) → 0 ≢ bit → LearnsBy bit s.flags flags old_rows rows → IsSumOfRange es (is_flagged flags 0) s.last
+  still_remembered bit old_rows rows apart learns = IsSumOfRange-still es (is_flagged s.flags 0) (is_flagged flags 0) s.last (λ n is. learns.others 0 n apart ∙ is) kept.last
+
   -- all is true once further sums are kept
-  pub kept_sums : (rows : NodeRowsState ℕ) → LearnsBy 0 s.flags flags s.sums rows → AreFolds sum_operations es flags 0 rows → AreKept table es (record s { flags = flags; sums = rows })
-  kept_sums rows learns folds =
+  pub kept_sums : (rows : NodeRowsState ℕ) (last : LastSum) → LearnsBy 0 s.flags flags s.sums rows → AreFolds sum_operations es flags 0 rows → IsSumOfRange es (is_flagged flags 0) last → AreKept table es (record s { flags = flags; sums = rows; last = last })
+  kept_sums rows last learns folds remembered =
       record {
         blank = learns.blank ∙ kept.blank;
         folds = record {
@@ -59,6 +71,7 @@ module _ (table : List (List ℕ)) (es : List Edit) (s : KindsState) (kept : Are
           states = still (automaton_operations table) es 0 5 s.flags flags s.sums rows s.states (omega arith) learns kept.folds.states;
         };
         room = record { flags = omega (arith, kept.room.flags, learns.flags_room); sums = omega (arith, kept.room.sums, learns.rows_room); least = kept.room.least; greatest = kept.room.greatest; best = kept.room.best; maps = kept.room.maps; states = kept.room.states };
+        last = remembered;
       }
 
   -- all is true once further least elements are kept
@@ -75,6 +88,7 @@ module _ (table : List (List ℕ)) (es : List Edit) (s : KindsState) (kept : Are
           states = still (automaton_operations table) es 1 5 s.flags flags s.least rows s.states (omega arith) learns kept.folds.states;
         };
         room = record { flags = omega (arith, kept.room.flags, learns.flags_room); sums = kept.room.sums; least = omega (arith, kept.room.least, learns.rows_room); greatest = kept.room.greatest; best = kept.room.best; maps = kept.room.maps; states = kept.room.states };
+        last = still_remembered 1 s.least rows (omega arith) learns;
       }
 
   -- all is true once further greatest elements are kept
@@ -91,6 +105,7 @@ module _ (table : List (List ℕ)) (es : List Edit) (s : KindsState) (kept : Are
           states = still (automaton_operations table) es 2 5 s.flags flags s.greatest rows s.states (omega arith) learns kept.folds.states;
         };
         room = record { flags = omega (arith, kept.room.flags, learns.flags_room); sums = kept.room.sums; least = kept.room.least; greatest = omega (arith, kept.room.greatest, learns.rows_room); best = kept.room.best; maps = kept.room.maps; states = kept.room.states };
+        last = still_remembered 2 s.greatest rows (omega arith) learns;
       }
 
   -- all is true once further best runs are kept
@@ -107,6 +122,7 @@ module _ (table : List (List ℕ)) (es : List Edit) (s : KindsState) (kept : Are
           states = still (automaton_operations table) es 3 5 s.flags flags s.best rows s.states (omega arith) learns kept.folds.states;
         };
         room = record { flags = omega (arith, kept.room.flags, learns.flags_room); sums = kept.room.sums; least = kept.room.least; greatest = kept.room.greatest; best = omega (arith, kept.room.best, learns.rows_room); maps = kept.room.maps; states = kept.room.states };
+        last = still_remembered 3 s.best rows (omega arith) learns;
       }
 
   -- all is true once further maps are kept
@@ -123,6 +139,7 @@ module _ (table : List (List ℕ)) (es : List Edit) (s : KindsState) (kept : Are
           states = still (automaton_operations table) es 4 5 s.flags flags s.maps rows s.states (omega arith) learns kept.folds.states;
         };
         room = record { flags = omega (arith, kept.room.flags, learns.flags_room); sums = kept.room.sums; least = kept.room.least; greatest = kept.room.greatest; best = kept.room.best; maps = omega (arith, kept.room.maps, learns.rows_room); states = kept.room.states };
+        last = still_remembered 4 s.maps rows (omega arith) learns;
       }
 
   -- all is true once further states are kept
@@ -139,4 +156,5 @@ module _ (table : List (List ℕ)) (es : List Edit) (s : KindsState) (kept : Are
           states = folds;
         };
         room = record { flags = omega (arith, kept.room.flags, learns.flags_room); sums = kept.room.sums; least = kept.room.least; greatest = kept.room.greatest; best = kept.room.best; maps = kept.room.maps; states = omega (arith, kept.room.states, learns.rows_room) };
+        last = still_remembered 5 s.states rows (omega arith) learns;
       }

@@ -13,22 +13,26 @@ use Rattle.lv_bodies.specs.Extremes.{greatest_operations, least_operations}
 use Rattle.lv_bodies.specs.RunTotals.{best_operations}
 use Rattle.lv_bodies.specs.Sums.{sum_operations}
 use Rattle.lv_bodies.specs.Tables.{automaton_operations}
+use Rattle.lv_bodies.specs.declared.kinds.Kind.TheVariants as kind
 use Rattle.lv_edits.specs.declared.edit.Edit.{Edit}
 use Rattle.lv_edits.specs.History.{applied, list_of, replayed}
 use Rattle.lv_edits.specs.Touch.{indices_written, touches}
 use Rattle.lv_edits.proofs.HistoryLaws.{list_of_replayed, replayed-nil}
 use Rattle.lv_edits.proofs.TouchLaws.{none_whole, untouched_keeps}
 use Rattle.lv_kinds.specs.Inner.{ClearsEach}
-use Rattle.lv_kinds.specs.Kinds.{AreFolds, AreKept, HaveRoomFor, KindsState, is_flagged}
+use Rattle.lv_kinds.specs.declared.last_sum.LastSum.{LastSum}
+use Rattle.lv_kinds.specs.Kinds.{AreFolds, AreKept, HaveRoomFor, KindsState, is_flagged, is_kept_by}
+use Rattle.lv_kinds.specs.LastSum.{no_sum}
 use Rattle.lv_kinds.specs.NodeRows.{ClearsNodes, NodeRowsState, value_at}
+use Rattle.lv_kinds.proofs.LastLaws.{IsSumOfRange-none}
 
 -- a byte that is 0 has no bit
 pub unflagged : (flags : NodeRowsState ℕ) (bit : ℕ) (n : Node) → value_at flags n ≡ 0 → is_flagged flags bit n ≡ false
 unflagged flags bit n blank = ap (λ byte. nat_eq (bit_at byte bit) 1) blank ∙ ap (λ b. nat_eq b 1) (bit_at-zero bit)
 
 -- a vector without elements has no whole node, so that all that is kept of its nodes is true
-pub AreKept-empty : (table : List (List ℕ)) (s : KindsState) → s.flags.blank ≡ 0 → AreKept table [] s
-AreKept-empty table s blank =
+pub AreKept-empty : (table : List (List ℕ)) (s : KindsState) → s.flags.blank ≡ 0 → s.last ≡ no_sum → AreKept table [] s
+AreKept-empty table s blank none_last =
     let none : length (list_of []) ≡ 0 = ap length (list_of_replayed [] [] replayed-nil) in
     record {
       blank = blank;
@@ -41,6 +45,7 @@ AreKept-empty table s blank =
         states = λ n whole _. absurd (none_whole n whole);
       };
       room = record { flags = omega (arith, none); sums = omega (arith, none); least = omega (arith, none); greatest = omega (arith, none); best = omega (arith, none); maps = omega (arith, none); states = omega (arith, none) };
+      last = IsSumOfRange-none [] (is_kept_by s kind.Sum) s.last none_last;
     }
 
 -- clearing two indices, one after the other, clears each
@@ -72,9 +77,9 @@ module _ (es : List Edit) (e : Edit) (ys : List ℤ) (legal : replayed es ≡ So
       ]
 
 -- so it is with all that is kept
-pub AreKept-follow : (table : List (List ℕ)) (es : List Edit) (e : Edit) (ys : List ℤ) (s : KindsState) (new : NodeRowsState ℕ) → replayed es ≡ Some (list_of es) → applied (list_of es) e ≡ Some ys → ClearsEach s.flags new (indices_written (list_of es) e)
-    → HaveRoomFor s (length (list_of (es ++ e ∷ []))) → AreKept table es s → AreKept table (es ++ e ∷ []) (record s { flags = new })
-AreKept-follow table es e ys s new legal possible cleared room kept =
+pub AreKept-follow : (table : List (List ℕ)) (es : List Edit) (e : Edit) (ys : List ℤ) (s : KindsState) (new : NodeRowsState ℕ) (last : LastSum) → last ≡ no_sum → replayed es ≡ Some (list_of es) → applied (list_of es) e ≡ Some ys → ClearsEach s.flags new (indices_written (list_of es) e)
+    → HaveRoomFor s (length (list_of (es ++ e ∷ []))) → AreKept table es s → AreKept table (es ++ e ∷ []) (record s { flags = new; last = last })
+AreKept-follow table es e ys s new last forgotten legal possible cleared room kept =
     record {
       blank = cleared.blank ∙ kept.blank;
       folds = record {
@@ -86,4 +91,5 @@ AreKept-follow table es e ys s new legal possible cleared room kept =
         states = AreFolds-follow es e ys legal possible s.flags new kept.blank cleared (automaton_operations table) 5 s.states kept.folds.states;
       };
       room = record { flags = omega (arith, room.flags, cleared.blocks); sums = room.sums; least = room.least; greatest = room.greatest; best = room.best; maps = room.maps; states = room.states };
+      last = IsSumOfRange-none (es ++ e ∷ []) (is_flagged new 0) last forgotten;
     }

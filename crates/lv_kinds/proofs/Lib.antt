@@ -5,9 +5,11 @@ mod BitLaws
 pub mod KeptLaws
 pub mod KindLaws
 mod KnowByLaws
+pub mod LastLaws
 mod MadeLaws
 pub mod PushedLaws
 pub mod RenewLaws
 mod RunLaws
+mod SumLaws
 pub mod ValueLaws
 pub mod WrittenLaws

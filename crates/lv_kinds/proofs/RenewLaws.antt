@@ -1,13 +1,10 @@
 -- What is kept after a write that sums have taken the difference of.
-use Rattle.std.proofs.Common.{◌≡◌, ℕ, ℤ, pos, suc, zero, ◌+◌, ◌-◌, ◌*◌, ◌/◌, ◌%◌, ◌^◌, ◌+ℤ◌, ◌<◌, ◌≤◌, true, false, List, [], ◌∷◌, ◌++◌, length, take, drop, fold, slice_set, nat_eq, vec_capacity, refl, sym, ap, subst, ◌∙◌, inl, inr, arith}
+use Rattle.std.proofs.Common.{◌≡◌, ℕ, ℤ, ◌+◌, ◌-◌, ◌*◌, ◌/◌, ◌%◌, ◌^◌, ◌<◌, ◌≤◌, Bool, true, false, List, [], ◌∷◌, ◌++◌, length, nat_eq, vec_capacity, if◌then◌else◌, refl, sym, ap, subst, ◌∙◌, inl, inr, arith}
 use Rattle.std.specs.Global.{Vec}
 use Rattle.std.specs.Int.{bit_at}
 use Rattle.std.specs.List.{slice_index_or}
 use Rattle.std.proofs.Math.Nat.{div-mul-le_self, lt-div-mul-add, mul-le-mul_right}
-use Rattle.std.proofs.Math.Seq.{take-set-lt}
-use Rattle.std.proofs.lemmas.Bool.{and_parts, cases_Bool, eqb-true, true≢false}
-use Rattle.std.proofs.lemmas.Int.{ints}
-use Rattle.std.proofs.lemmas.List.{drop-set-add, get_or-drop, get_or-take, length-drop, length-take}
+use Rattle.std.proofs.lemmas.Bool.{and_parts, cases_Bool, cases_eq, cond-false, cond-true, eq-eqb, eqb-true, ne_eqb, true≢false}
 use Rattle.std.proofs.lemmas.Nat.Bits.{bit_at_above, bit_at_lowest}
 use Rattle.lv_geometry.specs.declared.levels.Levels.{Levels}
 use Rattle.lv_geometry.specs.declared.nodes.Node.{Node}
@@ -17,56 +14,25 @@ use Rattle.lv_geometry.proofs.NodeLaws.{level_of_node, some_width}
 use Rattle.lv_bodies.specs.AffineMaps.{affine_operations}
 use Rattle.lv_bodies.specs.Body.{Operations, fold_of}
 use Rattle.lv_bodies.specs.Extremes.{greatest_operations, least_operations}
-use Rattle.lv_bodies.specs.Plain.{remainder, total}
-use Rattle.lv_bodies.specs.RemainderLaws.{remainder-add, remainder_below}
 use Rattle.lv_bodies.specs.RunTotals.{best_operations}
-use Rattle.lv_bodies.specs.SumLaws.{fold_of-sum}
 use Rattle.lv_bodies.specs.Sums.{sum_operations}
 use Rattle.lv_bodies.specs.Tables.{automaton_operations}
 use Rattle.lv_edits.specs.declared.edit.Edit.TheVariants.{Write}
 use Rattle.lv_edits.specs.History.{History, list_of}
 use Rattle.lv_edits.specs.Touch.{elements_under, is_whole, touches}
-use Rattle.lv_edits.proofs.HistoryLaws.{applied_write, list_of-snoc}
+use Rattle.lv_edits.proofs.HistoryLaws.{applied_write}
 use Rattle.lv_edits.proofs.TouchLaws.{touches_there, untouched_keeps, whole_below, whole_from}
 use Rattle.lv_live.proofs.WrittenLaws.{size_written}
 use Rattle.lv_kinds.specs.Inner.{HasMemory, rows_view}
+use Rattle.lv_kinds.specs.declared.last_sum.LastSum.{LastSum}
 use Rattle.lv_kinds.specs.Kinds.{AreFolds, AreKept, HaveRoomFor, KindsState, is_flagged}
+use Rattle.lv_kinds.specs.LastSum.{IsSumOfRange, sum_after}
 use Rattle.lv_kinds.specs.NodeRows.{NodeRowsState, value_at}
-use Rattle.lv_kinds.specs.Renewals.{IsDifference, IsWriteOver, RenewsLevel, RenewsLevels, RenewsNodes}
+use Rattle.lv_kinds.specs.Renewals.{IsDifference, IsWriteOver, LowestStay, RenewsLevel, RenewsLevels, RenewsNodes, SumsStay}
 use Rattle.lv_kinds.proofs.KeptLaws.{unflagged}
+use Rattle.lv_kinds.proofs.LastLaws.{sum_after_is}
+use Rattle.lv_kinds.proofs.SumLaws.{part_over}
 use Rattle.lv_kinds.proofs.ValueLaws.{eq-sym, value_of_node, value_of_none}
-
--- a sum that begins with more ends with more
-begun_with : (xs : List ℤ) (a b d : ℤ) → a +ℤ d ≡ b → fold ◌+ℤ◌ a xs +ℤ d ≡ fold ◌+ℤ◌ b xs
-begun_with [] a b d e = e
-begun_with (x ∷ xs) a b d e = begun_with xs (a +ℤ x) (b +ℤ x) d (omega (arith, ints, e))
-
--- where an element is replaced, a sum takes the new one for the one before
-total_set : (xs : List ℤ) (i : ℕ) (x a : ℤ) → i < length xs → fold ◌+ℤ◌ a (slice_set xs i x) +ℤ slice_index_or xs i (pos 0) ≡ fold ◌+ℤ◌ a xs +ℤ x
-total_set [] i x a inside = absurd (omega (arith, inside))
-total_set (y ∷ ys) zero x a inside = omega (arith, ints, begun_with ys a (a +ℤ x) x refl, begun_with ys a (a +ℤ y) y refl)
-total_set (y ∷ ys) (suc i) x a inside = total_set ys i x (a +ℤ y) (omega (arith, inside))
-
--- a part of a list that has the place of an element which is replaced has the new one at that place
-part_set : (xs : List ℤ) (from size j : ℕ) (x : ℤ) → j < size → take size (drop from (slice_set xs (from + j) x)) ≡ slice_set (take size (drop from xs)) j x
-part_set xs from size j x small = ap (take size) (drop-set-add from xs j x) ∙ take-set-lt size (drop from xs) j x small
-
--- modulo 2 ^ 64
-moved : (p q b v more : ℕ) → q < 2 ^ 64 → (q + b) % 2 ^ 64 ≡ (p + v) % 2 ^ 64 → (more + b) % 2 ^ 64 ≡ v → (p + more) % 2 ^ 64 ≡ q
-moved p q b v more below same difference = omega (arith, below, same, difference)
-
--- the sum of the part takes the difference
-sum_set : (part : List ℤ) (j : ℕ) (x : ℤ) (more : ℕ) → j < length part → IsDifference (slice_index_or part j (pos 0)) x more → (fold_of sum_operations part + more) % 2 ^ 64 ≡ fold_of sum_operations (slice_set part j x)
-sum_set part j x more inside difference =
-    let m = 2 ^ 64 in
-    let before = slice_index_or part j (pos 0) in
-    let next = slice_set part j x in
-    let some : 0 < m = omega arith in
-    let same : (remainder (total next) m + remainder before m) % m ≡ (remainder (total part) m + remainder x m) % m =
-    sym (remainder-add (total next) before m some) ∙ ap (λ z. remainder z m) (total_set part j x (pos 0) inside) ∙ remainder-add (total part) x m some in
-    ap (λ s. (s + more) % m) (fold_of-sum part)
-    ∙ moved (remainder (total part) m) (remainder (total next) m) (remainder before m) (remainder x m) more (remainder_below (total next) m some) same difference
-    ∙ sym (fold_of-sum next)
 
 -- where the index that a node has lies among its elements
 place_in : (n : Node) (i : ℕ) → covers n i ≡ true → (j : ℕ) × (n.number * 8 ^ n.level + j ≡ i) × (j < 8 ^ n.level)
@@ -130,6 +96,32 @@ RenewsNodes-levels blank blocks sum_blank sum_blocks bytes new sums renewed i mo
     subst (λ b. RenewsNodes (rows_view b blocks bytes) (rows_view b blocks new) (rows_view sum_blank sum_blocks sums) (rows_view sum_blank sum_blocks renewed) i more) (sym is)
     (nodes_renewed blocks sum_blank sum_blocks bytes new sums renewed i more levels)
 
+-- lowest bits stay where one byte is put of which it stays
+pub LowestStay-put : (bytes new : List ℕ) (number byte : ℕ) → ((k : ℕ) → slice_index_or new k 0 ≡ (if nat_eq k number then byte else slice_index_or bytes k 0)) → (slice_index_or bytes number 0 % 2 ≡ 1 → byte % 2 ≡ 1) → LowestStay bytes new
+LowestStay-put bytes new number byte values stays k odd =
+    elim (cases_eq k number) [
+      | inl here ↦ ap (λ b. b % 2) (values k ∙ cond-true (nat_eq k number) byte (slice_index_or bytes k 0) (eq-eqb k number here)) ∙ stays (subst (λ j. slice_index_or bytes j 0 % 2 ≡ 1) here odd)
+      | inr apart ↦ ap (λ b. b % 2) (values k ∙ cond-false (nat_eq k number) byte (slice_index_or bytes k 0) (ne_eqb k number apart)) ∙ odd
+    ]
+
+-- bits of sums stay where each lowest bit of a level does
+bits_stay : (blocks : ℕ) (bytes new : Levels (Vec ℕ)) → ((level : ℕ) → 1 ≤ level → level ≤ 6 → LowestStay (thing_at bytes level).items (thing_at new level).items) → SumsStay (rows_view 0 blocks bytes) (rows_view 0 blocks new)
+bits_stay blocks bytes new levels n flagged =
+    let old_rows = rows_view 0 blocks bytes in
+    let new_rows = rows_view 0 blocks new in
+    elim (cases_Bool (is_node n)) [
+      | inl member ↦
+          let level = level_of_node n member in
+          let set : value_at old_rows n % 2 ≡ 1 = sym (bit_at_lowest (value_at old_rows n)) ∙ eqb-true (bit_at (value_at old_rows n) 0) 1 flagged in
+          let still = levels n.level level.0 level.1 n.number (ap (λ byte. byte % 2) (sym (value_of_node 0 blocks bytes n member)) ∙ set) in
+          eq-eqb (bit_at (value_at new_rows n) 0) 1 (bit_at_lowest (value_at new_rows n) ∙ ap (λ byte. byte % 2) (value_of_node 0 blocks new n member) ∙ still)
+      | inr none ↦ absurd (true≢false (sym flagged ∙ unflagged old_rows 0 n (value_of_none old_rows n none)))
+    ]
+
+-- the same where the bytes' blank is 0
+pub SumsStay-levels : (blank blocks : ℕ) (bytes new : Levels (Vec ℕ)) → blank ≡ 0 → ((level : ℕ) → 1 ≤ level → level ≤ 6 → LowestStay (thing_at bytes level).items (thing_at new level).items) → SumsStay (rows_view blank blocks bytes) (rows_view blank blocks new)
+SumsStay-levels blank blocks bytes new is levels = subst (λ b. SumsStay (rows_view b blocks bytes) (rows_view b blocks new)) (sym is) (bits_stay blocks bytes new levels)
+
 module _ (h : History) (i : ℕ) (before x : ℤ) (more : ℕ) (over : IsWriteOver h i before) (difference : IsDifference before x more) (bytes new sums renewed : NodeRowsState ℕ) (renews : RenewsNodes bytes new sums renewed i more) where
   -- a node that doesn't have the index keeps what it had, by each kind
   apart_keeps : {S : Type 0} (o : Operations S) (bit : ℕ) (rows : NodeRowsState S) → AreFolds o h.journal bytes bit rows → (n : Node) → is_whole (h.journal ++ Write i x ∷ []) n ≡ true → covers n i ≡ false → is_flagged new bit n ≡ true → value_at rows n ≡ fold_of o (elements_under (h.journal ++ Write i x ∷ []) n)
@@ -155,17 +147,8 @@ module _ (h : History) (i : ℕ) (before x : ℤ) (more : ℕ) (over : IsWriteOv
   -- the elements of a node that has the index, with the new one in its place
   sum_over : (n : Node) → is_whole h.journal n ≡ true → covers n i ≡ true → (fold_of sum_operations (elements_under h.journal n) + more) % 2 ^ 64 ≡ fold_of sum_operations (elements_under (h.journal ++ Write i x ∷ []) n)
   sum_over n whole covered =
-      let list = list_of h.journal in
-      let from = n.number * 8 ^ n.level in
-      let size = 8 ^ n.level in
       let at = place_in n i covered in
-      let part = take size (drop from list) in
-      let long : at.0 < length part = omega (arith, whole_below h.journal n whole, length-take size (drop from list), length-drop from list, at.2) in
-      let element : slice_index_or part at.0 (pos 0) ≡ before =
-      get_or-take size (drop from list) at.0 (pos 0) at.2 ∙ get_or-drop from list at.0 (pos 0) ∙ ap (λ k. slice_index_or list k (pos 0)) at.1 ∙ sym over.before_is in
-      let next : list_of (h.journal ++ Write i x ∷ []) ≡ slice_set list i x = (list_of-snoc h.journal (Write i x) _ over.legal (applied_write list i x over.inside)).1 in
-      sum_set part at.0 x more long (subst (λ b. IsDifference b x more) (sym element) difference)
-      ∙ ap (fold_of sum_operations) (sym (part_set list from size at.0 x at.2) ∙ ap (λ k. take size (drop from (slice_set list k x))) at.1 ∙ ap (λ xs. take size (drop from xs)) (sym next))
+      part_over h i before x more over difference (n.number * 8 ^ n.level) (8 ^ n.level) at.0 at.1 at.2 (omega (arith, whole_below h.journal n whole))
 
   -- the bit of sums is still that of a sum of the node's elements
   AreFolds-sums : AreFolds sum_operations h.journal bytes 0 sums → AreFolds sum_operations (h.journal ++ Write i x ∷ []) new 0 renewed
@@ -191,9 +174,9 @@ byte_apart bytes new sums renewed i more n blank renews away =
     ]
 
 -- so it is with all that is kept
-pub AreKept-renewed : (table : List (List ℕ)) (h : History) (i : ℕ) (before x : ℤ) (more : ℕ) (s : KindsState) (new renewed : NodeRowsState ℕ) → IsWriteOver h i before → IsDifference before x more → RenewsNodes s.flags new s.sums renewed i more → new.blank ≡ s.flags.blank → new.blocks ≡ s.flags.blocks → renewed.blocks ≡ s.sums.blocks
-    → AreKept table h.journal s → AreKept table (h.journal ++ Write i x ∷ []) (record s { flags = new; sums = renewed })
-AreKept-renewed table h i before x more s new renewed over difference renews blank blocks sum_blocks kept =
+pub AreKept-renewed : (table : List (List ℕ)) (h : History) (i : ℕ) (before x : ℤ) (more : ℕ) (s : KindsState) (new renewed : NodeRowsState ℕ) (stay : Bool) (last : LastSum) → IsWriteOver h i before → IsDifference before x more → RenewsNodes s.flags new s.sums renewed i more → new.blank ≡ s.flags.blank → new.blocks ≡ s.flags.blocks → renewed.blocks ≡ s.sums.blocks
+    → (stay ≡ true → SumsStay s.flags new) → last ≡ sum_after stay i more s.last → AreKept table h.journal s → AreKept table (h.journal ++ Write i x ∷ []) (record s { flags = new; sums = renewed; last = last })
+AreKept-renewed table h i before x more s new renewed stay last over difference renews blank blocks sum_blocks sums_stay last_is kept =
     let size = size_written h i x over.legal over.inside in
     let room : HaveRoomFor s (length (list_of (h.journal ++ Write i x ∷ []))) = subst (HaveRoomFor s) (sym size) kept.room in
     record {
@@ -207,4 +190,5 @@ AreKept-renewed table h i before x more s new renewed over difference renews bla
         states = AreFolds-other h i before x more over difference s.flags new s.sums renewed renews (automaton_operations table) 5 s.states (omega arith) kept.folds.states;
       };
       room = record { flags = omega (arith, room.flags, blocks); sums = omega (arith, room.sums, sum_blocks); least = room.least; greatest = room.greatest; best = room.best; maps = room.maps; states = room.states };
+      last = subst (IsSumOfRange (h.journal ++ Write i x ∷ []) (is_flagged new 0)) (sym last_is) (sum_after_is h i before x more over difference (is_flagged s.flags 0) (is_flagged new 0) s.last kept.last stay sums_stay);
     }

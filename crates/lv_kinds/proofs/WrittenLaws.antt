@@ -23,9 +23,12 @@ use Rattle.lv_edits.proofs.TouchLaws.{touches_there, untouched_keeps}
 use Rattle.lv_live.specs.Written.{AreWritesAt}
 use Rattle.lv_live.proofs.WrittenLaws.{overwritten, size_written}
 use Rattle.lv_kinds.specs.Inner.{ClearsEach}
-use Rattle.lv_kinds.specs.Kinds.{AreFolds, AreKept, HaveRoomFor, KindsState}
+use Rattle.lv_kinds.specs.declared.last_sum.LastSum.{LastSum}
+use Rattle.lv_kinds.specs.Kinds.{AreFolds, AreKept, HaveRoomFor, KindsState, is_flagged}
+use Rattle.lv_kinds.specs.LastSum.{no_sum}
 use Rattle.lv_kinds.specs.NodeRows.{ClearsNodes, NodeRowsState, value_at}
 use Rattle.lv_kinds.proofs.KeptLaws.{unflagged}
+use Rattle.lv_kinds.proofs.LastLaws.{IsSumOfRange-none}
 
 -- a node that has none of the indices of writes, and is whole after them, was whole before, with the same elements
 kept_apart : (h : History) (indices : List ℕ) (xs : List ℤ) (n : Node) → replayed h.journal ≡ Some (list_of h.journal) → All (λ i. i < length (list_of h.journal)) indices → length indices ≡ length xs → list_any (covers n) indices ≡ false → is_whole (with_edits h (writes_at indices xs)).journal n ≡ true
@@ -60,8 +63,8 @@ module _ (h : History) (indices : List ℕ) (xs : List ℤ) (are : AreWritesAt h
       ]
 
 -- so it is with all that is kept
-pub AreKept-written : (table : List (List ℕ)) (h : History) (indices : List ℕ) (xs : List ℤ) (s : KindsState) (new : NodeRowsState ℕ) → AreWritesAt h indices xs (length h.journal) → ClearsEach s.flags new indices → AreKept table h.journal s → AreKept table (with_edits h (writes_at indices xs)).journal (record s { flags = new })
-AreKept-written table h indices xs s new are cleared kept =
+pub AreKept-written : (table : List (List ℕ)) (h : History) (indices : List ℕ) (xs : List ℤ) (s : KindsState) (new : NodeRowsState ℕ) (last : LastSum) → last ≡ no_sum → AreWritesAt h indices xs (length h.journal) → ClearsEach s.flags new indices → AreKept table h.journal s → AreKept table (with_edits h (writes_at indices xs)).journal (record s { flags = new; last = last })
+AreKept-written table h indices xs s new last forgotten are cleared kept =
     let size = (overwritten h indices xs are.legal are.inside are.paired).size in
     let room : HaveRoomFor s (length (list_of (with_edits h (writes_at indices xs)).journal)) = subst (HaveRoomFor s) (sym size) kept.room in
     record {
@@ -75,6 +78,7 @@ AreKept-written table h indices xs s new are cleared kept =
         states = AreFolds-written h indices xs are s.flags new kept.blank cleared (automaton_operations table) 5 s.states kept.folds.states;
       };
       room = record { flags = omega (arith, room.flags, cleared.blocks); sums = room.sums; least = room.least; greatest = room.greatest; best = room.best; maps = room.maps; states = room.states };
+      last = IsSumOfRange-none (with_edits h (writes_at indices xs)).journal (is_flagged new 0) last forgotten;
     }
 
 module _ {T : Type 0} where

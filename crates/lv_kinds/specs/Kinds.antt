@@ -15,9 +15,11 @@ use Rattle.lv_bodies.specs.declared.kinds.Kind.TheVariants as kind
 use Rattle.lv_edits.specs.declared.edit.Edit.{Edit}
 use Rattle.lv_edits.specs.History.{History, list_of, replayed}
 use Rattle.lv_edits.specs.Touch.{elements_under, is_whole}
+use Rattle.lv_kinds.specs.declared.last_sum.LastSum.{LastSum}
+use Rattle.lv_kinds.specs.LastSum.{IsSumOfRange}
 use Rattle.lv_kinds.specs.NodeRows.{HasSameValues, NodeRowsState, value_at}
 
--- the byte of each node, and the summaries of each kind
+-- the byte of each node, the summaries of each kind, and the sum that was answered last
 pub record KindsState : Type 0 where
   pub flags : NodeRowsState ℕ
   pub sums : NodeRowsState ℕ
@@ -26,6 +28,7 @@ pub record KindsState : Type 0 where
   pub best : NodeRowsState (Option RunTotals)
   pub maps : NodeRowsState AffineMap
   pub states : NodeRowsState (List ℕ)
+  pub last : LastSum
 
 -- the bit of a kind
 abbrev pub bit_of : Kind → ℕ
@@ -72,6 +75,7 @@ pub record AreKept (table : List (List ℕ)) (edits : List Edit) (s : KindsState
   pub blank : s.flags.blank ≡ 0
   pub folds : AreAllFolds table edits s
   pub room : HaveRoomFor s (length (list_of edits))
+  pub last : IsSumOfRange edits (is_kept_by s kind.Sum) s.last
 
 -- the same is kept, and there is room for no less
 pub record KeepsAlike (old new : KindsState) : Type 0 where
@@ -82,6 +86,7 @@ pub record KeepsAlike (old new : KindsState) : Type 0 where
   pub best : HasSameValues old.best new.best
   pub maps : HasSameValues old.maps new.maps
   pub states : HasSameValues old.states new.states
+  pub last : new.last ≡ old.last
 
 -- so many values are pushed to a history that is legal, the first at this index
 pub record ArePushesOf (h : History) (xs : List ℤ) (first count : ℕ) : Type 0 where

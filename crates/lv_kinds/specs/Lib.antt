@@ -3,6 +3,7 @@ pub mod Asked
 pub mod Inner
 pub mod KindSummaries
 pub mod Kinds
+pub mod LastSum
 pub mod NodeRows
 pub mod OfSixLaws
 pub mod Renewals

@@ -1,23 +1,29 @@
 //! A reduction by one kind that keeps what it computes.
-ghost use Rattle.std.specs.Prelude.{◌≡◌, ℕ, ◌*◌, ◌^◌, ◌<◌, ◌≤◌, true, Some, nat_eq, OnErr, IfOk, IfErr, IfSome, IfNone};
+ghost use Rattle.std.specs.Prelude.{◌≡◌, ℕ, ◌*◌, ◌^◌, ◌<◌, ◌≤◌, true, Some, List, nat_eq, OnErr, IfOk, IfErr, IfSome, IfNone};
 ghost use Rattle.std.specs.Int.{bit_at};
 ghost use Rattle.std.specs.Int.Bits.{bit_or};
 ghost use Rattle.lv_geometry.specs.Nodes.{child, is_below, is_node};
 ghost use Rattle.lv_bodies.specs.Body.{fold_of};
+ghost use Rattle.lv_bodies.specs.Sums.{sum_operations};
+ghost use Rattle.lv_bodies.specs.declared.kinds.Kind.TheVariants as kind;
 ghost use Rattle.lv_edits.specs.Touch.{elements_under, is_whole};
 ghost use Rattle.lv_summary.specs.Table.{fresh_in};
 ghost use Rattle.lv_reduce.specs.Answer.{IsAnswerPair, range_refusal};
 ghost use Rattle.lv_reduce.specs.Asked.{AreTopsKnown};
-ghost use Rattle.lv_kinds.specs.Asked.{ArePartsFolds, CanAskBy, KnowsBy, LearnsBy};
+ghost use Rattle.lv_kinds.specs.Asked.{ArePartsFolds, CanAskBy, IsKindAnswer, KnowsBy, LearnsBy};
 ghost use Rattle.lv_kinds.specs.Kinds.{AreFolds, is_flagged};
+ghost use Rattle.lv_kinds.specs.LastSum.{IsSumOfRange};
 ghost use Rattle.lv_kinds.specs.NodeRows.{PutsValue, value_at};
 ghost use Rattle.lv_kinds.specs.Runs.{EndsBy, StandsBy};
 
+use crate::kind_summaries::KindSummary;
+use crate::kinds::KindAnswer;
+use crate::last_sum::LastSum;
 use crate::node_rows::{NodeRows, value_of};
 use crate::of_six::OfSix;
 use crate::runs::take_runs;
 use crate::walks::KindWalk;
-use lv_bodies::{SixSummary, fold_more, fold_slice};
+use lv_bodies::{SixSummary, Sum, fold_more, fold_slice};
 use lv_geometry::{Node, Refusal, width};
 use lv_reduce::{View, greatest_level, join, refusal_of};
 
@@ -55,6 +61,48 @@ pub fn ask_by<K: OfSix>(
     let walk = take_runs(view, body, flags, rows, begun);
     let fold = finish(view, body, flags, rows, walk);
     Ok((view.cells.edit(), fold))
+}
+
+/// The answer by sums: the one that was given last where it is of this range, else one that is computed, and remembered. Refused with
+/// `BadRange`, then `OutOfRange`: nothing has changed then. Takes no memory.
+#[inline(always)]
+pub fn ask_sum(
+    view: View<'_, SixSummary>,
+    flags: &mut NodeRows<u8>,
+    sums: &mut NodeRows<u64>,
+    last: &mut LastSum,
+    lo: u32,
+    hi: u32,
+) -> Result<KindAnswer, Refusal>
+    requires parts { ArePartsFolds sum_operations (λ six. six.0) view.cells.now.journal view.table.now }
+    requires can { CanAskBy sum_operations view.cells.now.journal 0 flags.old sums.old }
+    requires remembered { IsSumOfRange view.cells.now.journal (is_flagged flags.old 0) last.old }
+    ensures ok { IfOk result (λ answer. (table : List (List ℕ)) → IsKindAnswer table view.entry.cells.now.journal kind.Sum lo hi answer) }
+    ensures err { IfErr result (λ refusal. range_refusal view.entry.cells.now.journal lo hi ≡ Some refusal) }
+    ensures flags_unchanged { OnErr result (flags.new ≡ flags.old) }
+    ensures sums_unchanged { OnErr result (sums.new ≡ sums.old) }
+    ensures last_unchanged { OnErr result (last.new ≡ last.old) }
+    ensures folds { AreFolds sum_operations view.entry.cells.now.journal flags.new 0 sums.new }
+    ensures learns { LearnsBy 0 flags.old flags.new sums.old sums.new }
+    ensures remembered { IsSumOfRange view.entry.cells.now.journal (is_flagged flags.new 0) last.new }
+    ensures kept { IfOk result (λ _. AreTopsKnown (is_flagged flags.new 0) lo hi) }
+{
+    if let Some(value) = last.of(lo, hi) {
+        return Ok(KindAnswer {
+            edit: view.cells.edit(),
+            summary: KindSummary::Sum(value),
+        });
+    }
+    match ask_by(view, &Sum, flags, sums, lo, hi) {
+        Err(refusal) => Err(refusal),
+        Ok((edit, value)) => {
+            last.put(lo, hi, value);
+            Ok(KindAnswer {
+                edit,
+                summary: KindSummary::Sum(value),
+            })
+        }
+    }
 }
 
 // The fold of the whole range. Where a walk hasn't come to the end of it, the rest is taken node by node.

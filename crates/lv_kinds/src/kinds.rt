@@ -24,8 +24,9 @@ ghost use Rattle.lv_kinds.specs.Inner.{ClearsEach};
 ghost use Rattle.lv_kinds.specs.Kinds.{AreFolds, AreKept, ArePushesOf, HaveRoomFor, KeepsAlike, is_flagged, is_kept_by};
 ghost use Rattle.lv_kinds.specs.Renewals.{IsWriteOver};
 
-use crate::asking::ask_by;
+use crate::asking::{ask_by, ask_sum};
 use crate::kind_summaries::KindSummary;
+use crate::last_sum::LastSum;
 use crate::node_rows::{NodeRows, renew};
 use crate::of_six::OfSix;
 use crate::renewals::difference;
@@ -49,6 +50,7 @@ pub struct Kinds {
     best: NodeRows<Option<RunTotals>>,
     maps: NodeRows<AffineMap>,
     states: NodeRows<[u8; 8]>,
+    last: LastSum,
 }
 
 impl Model for Kinds {
@@ -57,9 +59,9 @@ impl Model for Kinds {
 
     ghost Value = { KindsState };
 
-    ghost view = { λ a. record { flags = a.flags; sums = a.sums; least = a.least; greatest = a.greatest; best = a.best; maps = a.maps; states = a.states } };
+    ghost view = { λ a. record { flags = a.flags; sums = a.sums; least = a.least; greatest = a.greatest; best = a.best; maps = a.maps; states = a.states; last = a.last } };
 
-    ghost invariant = { λ a. GrowsStatesLast record { flags = a.flags; sums = a.sums; least = a.least; greatest = a.greatest; best = a.best; maps = a.maps; states = a.states } };
+    ghost invariant = { λ a. GrowsStatesLast record { flags = a.flags; sums = a.sums; least = a.least; greatest = a.greatest; best = a.best; maps = a.maps; states = a.states; last = a.last } };
 }
 
 /// The number of the last edit, and the summary of a range by a kind.
@@ -83,6 +85,7 @@ impl Kinds {
             best: NodeRows::new(alloc, Best.identity()),
             maps: NodeRows::new(alloc, Affine.identity()),
             states: NodeRows::new(alloc, Automaton::program().identity()),
+            last: LastSum::none(),
         }
     }
 
@@ -121,6 +124,7 @@ impl Kinds {
         ensures remembers { (k : OneKind) (n : Node) → touches (list_of before.journal) edit.now n ≡ false → is_kept_by self.new k n ≡ is_kept_by self.old k n }
     {
         clear_each(&mut self.flags, touched_indices(edit, size));
+        self.last = LastSum::none();
     }
 
     /// Hears of a write that was accepted: sums take the difference to the element before, and stay kept; of the other kinds, what is
@@ -130,12 +134,9 @@ impl Kinds {
         ensures kept { (table : List (List ℕ)) (h : History) → IsWriteOver h index before → AreKept table h.journal self.old → AreKept table (with_edit h (Write index x)).journal self.new }
         ensures remembers { (table : List (List ℕ)) (edits : List Edit) → AreKept table edits self.old → (k : OneKind) (n : Node) → covers n index ≡ false → is_kept_by self.new k n ≡ is_kept_by self.old k n }
     {
-        renew(
-            &mut self.flags,
-            &mut self.sums,
-            index,
-            difference(before, x),
-        );
+        let more = difference(before, x);
+        let stay = renew(&mut self.flags, &mut self.sums, index, more);
+        self.last.follow_write(index, more, stay);
     }
 
     /// Hears of an edit that was accepted by a vector of this size, and answered so: after a write sums stay kept; else what is kept of
@@ -168,6 +169,7 @@ impl Kinds {
         ensures remembers { (k : OneKind) (n : Node) → list_any (covers n) (range_with_len first count) ≡ false → is_kept_by self.new k n ≡ is_kept_by self.old k n }
     {
         clear_run(&mut self.flags, first, count);
+        self.last = LastSum::none();
     }
 
     /// Hears of writes at indices that were accepted: what is kept of the nodes that they touch is kept no longer.
@@ -176,6 +178,7 @@ impl Kinds {
         ensures remembers { (k : OneKind) (n : Node) → list_any (covers n) indices.now ≡ false → is_kept_by self.new k n ≡ is_kept_by self.old k n }
     {
         clear_all(&mut self.flags, indices);
+        self.last = LastSum::none();
     }
 
     /// The summary by a kind of the elements from index `lo` up to `hi`, with the number of the last edit; what is computed for it is kept
@@ -199,7 +202,14 @@ impl Kinds {
         ensures known { IfOk result (λ _. AreTopsKnown (is_kept_by self.new kind) lo hi) }
     {
         match kind {
-            Kind::Sum => answer_by(view, &Sum, &mut self.flags, &mut self.sums, lo, hi),
+            Kind::Sum => ask_sum(
+                view,
+                &mut self.flags,
+                &mut self.sums,
+                &mut self.last,
+                lo,
+                hi,
+            ),
             Kind::Least => answer_by(view, &Least, &mut self.flags, &mut self.least, lo, hi),
             Kind::Greatest => answer_by(
                 view,

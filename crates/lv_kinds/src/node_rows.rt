@@ -4,7 +4,7 @@ ghost use Rattle.std.specs.List.{slice_index_or};
 ghost use Rattle.lv_geometry.specs.Nodes.{child, is_below, is_node};
 ghost use Rattle.lv_kinds.specs.Inner.{HaveMemory, HaveSameItems};
 ghost use Rattle.lv_kinds.specs.NodeRows.{ClearsNodes, HasSameValues, PutsValue, value_at};
-ghost use Rattle.lv_kinds.specs.Renewals.{RenewsNodes};
+ghost use Rattle.lv_kinds.specs.Renewals.{RenewsNodes, SumsStay};
 
 use crate::renewals::renew_levels;
 use lv_geometry::{Levels, Node, Refusal, rows_of};
@@ -154,14 +154,16 @@ impl<T: Copy> NodeRows<T> {
 }
 
 /// Adds to the sum of each node that has index `i`, and leaves the bit of sums alone there; where none was written it clears the byte.
+/// Tells whether each bit of sums that was set still is.
 #[inline(always)]
-pub fn renew(bytes: &mut NodeRows<u8>, sums: &mut NodeRows<u64>, i: u32, more: u64)
+pub fn renew(bytes: &mut NodeRows<u8>, sums: &mut NodeRows<u64>, i: u32, more: u64) -> bool
     ensures renews { bytes.old.blank ≡ 0 → RenewsNodes bytes.old bytes.new sums.old sums.new i more }
     ensures blank { bytes.new.blank ≡ bytes.old.blank }
     ensures bytes_blocks { bytes.new.blocks ≡ bytes.old.blocks }
     ensures sums_blocks { sums.new.blocks ≡ sums.old.blocks }
+    ensures stay { bytes.old.blank ≡ 0 → result ≡ true → SumsStay bytes.old bytes.new }
 {
-    renew_levels(&mut bytes.levels, &mut sums.levels, i, more);
+    renew_levels(&mut bytes.levels, &mut sums.levels, i, more)
 }
 
 // Makes memory for so many values on each level. No value changes.

@@ -22,6 +22,7 @@ use Rattle.lv_edits.specs.Verdict.{refused_on, verdict_of}
 use Rattle.lv_edits.proofs.HistoryLaws.{accepted_is_possible, applied_pop, applied_write, length_after, list_of-snoc, not_refused, unrefused_pop, unrefused_truncate, unrefused_write}
 use Rattle.lv_kinds.specs.Kinds.{AreFolds, AreKept, HaveRoomFor, KeepsAlike, KindsState, bit_of, is_flagged, is_kept_by}
 use Rattle.lv_kinds.specs.NodeRows.{HasSameValues, NodeRowsState}
+use Rattle.lv_kinds.proofs.LastLaws.{IsSumOfRange-alike}
 use Rattle.lv_standing.specs.Inner.{size_after}
 
 -- how long a list is after an edit that nothing refuses
@@ -79,6 +80,7 @@ AreKept-alike table edits old new alike kept =
         maps = omega (arith, kept.room.maps, alike.maps.more);
         states = omega (arith, kept.room.states, alike.states.more);
       };
+      last = IsSumOfRange-alike edits old new alike kept.last;
     }
 
 -- values are as they are
@@ -95,6 +97,7 @@ KeepsAlike-same s = record {
   best = same_values s.best;
   maps = same_values s.maps;
   states = same_values s.states;
+  last = refl;
 }
 
 -- room for some elements is room for fewer

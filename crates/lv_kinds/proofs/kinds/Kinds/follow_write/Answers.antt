@@ -10,14 +10,14 @@ use Rattle.lv_kinds.proofs.kinds.Kinds.follow_write.Goals as goal
 pub returns-clause-kept : goal.returns-clause-kept
 returns-clause-kept c table h over kept =
     let i = c.self.inside in
-    let s : KindsState = record { flags = i.flags; sums = i.sums; least = i.least; greatest = i.greatest; best = i.best; maps = i.maps; states = i.states } in
+    let s : KindsState = record { flags = i.flags; sums = i.sums; least = i.least; greatest = i.greatest; best = i.best; maps = i.maps; states = i.states; last = i.last } in
     let before = rw (← c.self.view_is) at kept in
-    let difference : IsDifference c.args.before c.args.x c.difference.result =
-    rw (to_z-of_z w64 c.args.before c.ranges.before, to_z-of_z w64 c.args.x c.ranges.x) at c.difference.ensures in
-    AreKept-renewed table h c.args.index c.args.before c.args.x c.difference.result s c.renew.new.bytes c.renew.new.sums over difference (c.renew.ensures.renews before.blank) c.renew.ensures.blank c.renew.ensures.bytes_blocks c.renew.ensures.sums_blocks before
+    let difference : IsDifference c.args.before c.args.x c.difference-more.result =
+    rw (to_z-of_z w64 c.args.before c.ranges.before, to_z-of_z w64 c.args.x c.ranges.x) at c.difference-more.ensures in
+    AreKept-renewed table h c.args.index c.args.before c.args.x c.difference-more.result s c.renew-stay.new.bytes c.renew-stay.new.sums c.renew-stay.result c.follow_write.new.self over difference (c.renew-stay.ensures.renews before.blank) c.renew-stay.ensures.blank c.renew-stay.ensures.bytes_blocks c.renew-stay.ensures.sums_blocks (c.renew-stay.ensures.stay before.blank) c.follow_write.ensures before
 
 pub returns-clause-remembers : goal.returns-clause-remembers
 returns-clause-remembers c table edits kept k n away =
     let before = rw (← c.self.view_is) at kept in
     let i = c.self.inside in
-    rw (← c.self.view_is) (ap (λ byte. nat_eq (bit_at byte (bit_of k)) 1) (byte_apart i.flags c.renew.new.bytes i.sums c.renew.new.sums c.args.index c.difference.result n c.renew.ensures.blank (c.renew.ensures.renews before.blank) away))
+    rw (← c.self.view_is) (ap (λ byte. nat_eq (bit_at byte (bit_of k)) 1) (byte_apart i.flags c.renew-stay.new.bytes i.sums c.renew-stay.new.sums c.args.index c.difference-more.result n c.renew-stay.ensures.blank (c.renew-stay.ensures.renews before.blank) away))
