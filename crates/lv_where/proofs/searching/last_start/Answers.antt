@@ -4,7 +4,7 @@ use Rattle.lv_geometry.proofs.NodeLaws.{some_width}
 use Rattle.lv_bodies.specs.Automata.{table_of}
 use Rattle.lv_edits.specs.History.{list_of}
 use Rattle.lv_known.proofs.FoldableLaws.{can_fold}
-use Rattle.lv_where.proofs.SearchLaws.{by_kind, finds_no_start, goes_left, turns_left}
+use Rattle.lv_where.proofs.SearchLaws.{by_kind, finds_no_start, finds_start, goes_left, turns_left}
 use Rattle.lv_where.proofs.SoughtLaws.{joined_is, summaries_can_join}
 use Rattle.lv_where.proofs.searching.last_start.Goals as goal
 
@@ -55,3 +55,7 @@ loop-start-preserved c =
 pub returns-else-lo-at-clause-finds : goal.returns-else-lo-at-clause-finds
 returns-else-lo-at-clause-finds c =
     finds_no_start (table_of c.args.automaton.now) c.args.sought (list_of c.args.view.cells.now.journal) c.args.lo c.args.hi c.loop-start.at c.loop-start.start c.loop-start.after c.loop-start.invariant.searches c.loop-start-test.false c.if-lo-at.false
+
+pub returns-then-lo-at-clause-finds : goal.returns-then-lo-at-clause-finds
+returns-then-lo-at-clause-finds c =
+    finds_start (table_of c.args.automaton.now) c.args.sought (list_of c.args.view.cells.now.journal) c.args.lo c.args.hi c.loop-start.at c.loop-start.start c.loop-start.after c.loop-start.invariant.searches c.loop-start-test.false c.if-lo-at.true
