@@ -4,10 +4,10 @@ ghost use Rattle.lv_geometry.specs.declared.nodes.Node.{Node};
 ghost use Rattle.lv_bodies.specs.Automata.{table_of};
 ghost use Rattle.lv_bodies.specs.Six.{six_operations_by};
 ghost use Rattle.lv_edits.specs.Batches.{AnswersEdits, writes_at};
-ghost use Rattle.lv_edits.specs.History.{History, list_of, with_edit};
+ghost use Rattle.lv_edits.specs.History.{list_of};
 ghost use Rattle.lv_edits.specs.Kept.{IsLegalInLimits};
 ghost use Rattle.lv_edits.specs.Pushes.{AnswersAll};
-ghost use Rattle.lv_edits.specs.Verdict.{Answers, receipt_of, verdict_of};
+ghost use Rattle.lv_edits.specs.Verdict.{Answers};
 ghost use Rattle.lv_refresh.specs.Claim.{IsNextJob};
 ghost use Rattle.lv_refresh.specs.Delivery.{delivery_of};
 ghost use Rattle.lv_refresh.specs.Honesty.{IsHonest, Vouched};
@@ -16,10 +16,9 @@ ghost use Rattle.lv_live.specs.Batches.{DeliversEach};
 ghost use Rattle.lv_live.specs.State.{HasClaim, HasDelivery, HasNoClaims, SameLive, SameRefresh, node_and_version, recorded};
 ghost use Rattle.lv_live.specs.Turns.{TakesTurns};
 ghost use Rattle.lv_kinds.specs.Asked.{IsKindAnswer};
-ghost use Rattle.lv_kinds.specs.Kinds.{AreKept, HaveRoomFor};
 ghost use Rattle.lv_where.specs.Where.{IsEndReached, IsPlaceOfBest, IsPlaceOfGreatest, IsPlaceOfLeast};
-ghost use Rattle.livevec_c.specs.KindVectors.{IsSizeAfter};
 
+use crate::edits_beside::make_beside;
 use crate::pushes::push_beside;
 use crate::writes::write_beside;
 use lv_bodies::{Automaton, Kind, SixByTable, SixSummary};
@@ -54,67 +53,6 @@ impl Model for KindVector {
     ghost view = { λ a. a.live };
 
     ghost invariant = { λ a. IsKindVector a.limits a.live a.kinds };
-}
-
-// How many elements there must be room for after an edit of a vector of this size.
-fn size_after(edit: &Edit, size: u32) -> u32
-    requires { size ≤ 1048568 }
-    ensures { IsSizeAfter size edit.now result }
-{
-    match edit {
-        Edit::Push(_) => size + 1,
-        _ => size,
-    }
-}
-
-// Has what is kept by kind follow the edit that a vector, which was of this size, has just made, and which was answered so.
-fn follow_edit(
-    live: &Live<SixByTable>,
-    kinds: &mut Kinds,
-    edit: &Edit,
-    receipt: &Receipt,
-    size: u32,
-)
-    ghost before: { History }
-    requires legal { IsLegalInLimits before }
-    requires accepted { verdict_of before.limits before.journal edit.now ≡ None }
-    requires size { size ≡ length (list_of before.journal) }
-    requires made { live.now.history ≡ with_edit before edit.now }
-    requires answered { receipt.now ≡ receipt_of before.journal edit.now }
-    requires room { HaveRoomFor kinds.old (length (list_of live.now.history.journal)) }
-    requires kept { AreKept (table_of live.now.body.automaton) before.journal kinds.old }
-    ensures { AreKept (table_of live.now.body.automaton) live.now.history.journal kinds.new }
-{
-    kinds.follow_made(edit, receipt, size);
-}
-
-// Makes an edit that the verdict allows, and has what is kept by kind follow it. Room for what may be asked after it is made before
-// anything changes.
-fn make_beside(
-    live: &mut Live<SixByTable>,
-    kinds: &mut Kinds,
-    edit: Edit,
-) -> Result<Receipt, Refusal>
-    requires free { verdict_of live.old.history.limits live.old.history.journal edit ≡ None }
-    requires kept { AreKept (table_of live.old.body.automaton) live.old.history.journal kinds.old }
-    ensures answer { Answers live.old.history edit result live.new.history }
-    ensures limits { IsLegalInLimits live.new.history }
-    ensures refresh { SameRefresh live.old live.new }
-    ensures kept { AreKept (table_of live.new.body.automaton) live.new.history.journal kinds.new }
-{
-    live.keeps();
-    let size = live.size();
-    let room = size_after(&edit, size);
-    match kinds.make_room(room) {
-        Err(refusal) => Err(refusal),
-        Ok(()) => match live.make(edit) {
-            Err(refusal) => Err(refusal),
-            Ok(receipt) => {
-                follow_edit(live, kinds, &edit, &receipt, size);
-                Ok(receipt)
-            }
-        },
-    }
 }
 
 impl KindVector {
@@ -300,6 +238,7 @@ impl KindVector {
     {
         self.live.accept(outcome)
     }
+
     /// Takes each outcome in, in order, as `accept` would where `vet` says yes; one of another vector changes nothing. Takes no memory.
     pub fn accept_batch(&mut self, outcomes: &BatchOutcome<SixByTable>) -> Batched
         ensures delivers { DeliversEach (six_operations_by (table_of self.old.body.automaton)) (λ body. table_of self.old.body.automaton ≡ table_of body.automaton) outcomes.now self.old self.new result }

@@ -11,6 +11,7 @@ mod claims;
 mod closed;
 mod column_exports;
 mod columns;
+mod edits_beside;
 mod ended;
 mod frees;
 mod jobs;

@@ -2,7 +2,7 @@
 use Rattle.std.proofs.Common.{subst, sym}
 use Rattle.lv_bodies.specs.Automata.{table_of}
 use Rattle.lv_kinds.specs.Kinds.{AreKept}
-use Rattle.livevec_c.proofs.kind_vectors.follow_edit.Goals as goal
+use Rattle.livevec_c.proofs.edits_beside.follow_edit.Goals as goal
 
 pub returns : goal.returns
 returns g c =

@@ -6,7 +6,7 @@ use Rattle.lv_edits.specs.Kept.{IsLegalInLimits}
 use Rattle.lv_edits.specs.Verdict.{receipt_of, verdict_of}
 use Rattle.lv_kinds.specs.Kinds.{AreKept}
 use Rattle.livevec_c.proofs.KindVectorLaws.{before_edit, kept_alike, kept_of_same, room_for_fewer, room_is_allowed, size_fits}
-use Rattle.livevec_c.proofs.kind_vectors.make_beside.Goals as goal
+use Rattle.livevec_c.proofs.edits_beside.make_beside.Goals as goal
 
 pub make_room-requires : goal.make_room-requires
 make_room-requires c = room_is_allowed c.args.live.now.history c.args.edit c.size-size.result c.size_after-room.result c.keeps.ensures.limits c.requires.free c.size-size.ensures c.size_after-room.ensures

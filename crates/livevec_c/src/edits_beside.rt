@@ -1,0 +1,76 @@
+//! An edit of a live vector, and of what is kept beside it by one kind.
+ghost use Rattle.std.specs.Prelude.{◌≡◌, ◌≤◌, None, length};
+ghost use Rattle.lv_bodies.specs.Automata.{table_of};
+ghost use Rattle.lv_edits.specs.History.{History, list_of, with_edit};
+ghost use Rattle.lv_edits.specs.Kept.{IsLegalInLimits};
+ghost use Rattle.lv_edits.specs.Verdict.{Answers, receipt_of, verdict_of};
+ghost use Rattle.lv_live.specs.State.{SameRefresh};
+ghost use Rattle.lv_kinds.specs.Kinds.{AreKept, HaveRoomFor};
+ghost use Rattle.livevec_c.specs.KindVectors.{IsSizeAfter};
+
+use lv_bodies::SixByTable;
+use lv_edits::{Edit, Receipt};
+use lv_geometry::Refusal;
+use lv_kinds::Kinds;
+use lv_live::Live;
+
+// How many elements there must be room for after an edit of a vector of this size.
+fn size_after(edit: &Edit, size: u32) -> u32
+    requires { size ≤ 1048568 }
+    ensures { IsSizeAfter size edit.now result }
+{
+    match edit {
+        Edit::Push(_) => size + 1,
+        _ => size,
+    }
+}
+
+// Has what is kept by kind follow the edit that a vector, which was of this size, has just made, and which was answered so.
+fn follow_edit(
+    live: &Live<SixByTable>,
+    kinds: &mut Kinds,
+    edit: &Edit,
+    receipt: &Receipt,
+    size: u32,
+)
+    ghost before: { History }
+    requires legal { IsLegalInLimits before }
+    requires accepted { verdict_of before.limits before.journal edit.now ≡ None }
+    requires size { size ≡ length (list_of before.journal) }
+    requires made { live.now.history ≡ with_edit before edit.now }
+    requires answered { receipt.now ≡ receipt_of before.journal edit.now }
+    requires room { HaveRoomFor kinds.old (length (list_of live.now.history.journal)) }
+    requires kept { AreKept (table_of live.now.body.automaton) before.journal kinds.old }
+    ensures { AreKept (table_of live.now.body.automaton) live.now.history.journal kinds.new }
+{
+    kinds.follow_made(edit, receipt, size);
+}
+
+/// Makes an edit that the verdict allows, and has what is kept by kind follow it. Room for what may be asked after it is made before
+/// anything changes.
+pub fn make_beside(
+    live: &mut Live<SixByTable>,
+    kinds: &mut Kinds,
+    edit: Edit,
+) -> Result<Receipt, Refusal>
+    requires free { verdict_of live.old.history.limits live.old.history.journal edit ≡ None }
+    requires kept { AreKept (table_of live.old.body.automaton) live.old.history.journal kinds.old }
+    ensures answer { Answers live.old.history edit result live.new.history }
+    ensures limits { IsLegalInLimits live.new.history }
+    ensures refresh { SameRefresh live.old live.new }
+    ensures kept { AreKept (table_of live.new.body.automaton) live.new.history.journal kinds.new }
+{
+    live.keeps();
+    let size = live.size();
+    let room = size_after(&edit, size);
+    match kinds.make_room(room) {
+        Err(refusal) => Err(refusal),
+        Ok(()) => match live.make(edit) {
+            Err(refusal) => Err(refusal),
+            Ok(receipt) => {
+                follow_edit(live, kinds, &edit, &receipt, size);
+                Ok(receipt)
+            }
+        },
+    }
+}
