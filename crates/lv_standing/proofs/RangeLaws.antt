@@ -1,9 +1,10 @@
 -- Ranges of a list that reach past its end, and what an edit elsewhere leaves of a range.
-use Rattle.std.proofs.Common.{◌≡◌, Option, ℕ, ℤ, pos, ◌+◌, ◌-◌, ◌⊎◌, max, min, eqb, cond, ◌<◌, ◌≤◌, false, true, refl, IfSome, List, [], ◌∷◌, ◌++◌, length, take, drop, slice_range, slice_set, Some, None, ltb, ◌&&◌, sym, ap, ◌∙◌, inl, inr, arith, length-drop, length-append, subst, get_or}
+use Rattle.std.proofs.Common.{◌≡◌, Option, ℕ, ℤ, pos, ◌+◌, ◌-◌, ◌⊎◌, max, min, eqb, ◌<◌, ◌≤◌, false, true, refl, IfSome, List, [], ◌∷◌, ◌++◌, length, take, drop, slice_range, slice_set, Some, None, ltb, not, ◌&&◌, ◌||◌, sym, ap, ◌∙◌, inl, inr, arith, length-drop, length-append, subst, get_or}
 use Rattle.std.proofs.lemmas.Bool.{cases_Bool, cases_lt, eqb-true, false≢true, leb-true, lt-leb, lt-ltb, ltb-false, le-ltb, le-leb, or_parts}
+use Rattle.std.proofs.Math.Bool.{or-false}
 use Rattle.std.proofs.lemmas.Option.{cond_some}
 use Rattle.std.proofs.Math.Seq.{take-nil}
-use Rattle.std.proofs.lemmas.List.{drop-append-le, drop_all, length-take-le, set-get_or, take_all, take_more}
+use Rattle.std.proofs.lemmas.List.{drop-append-le, drop_all, length-take-le, set-get_or, take_all}
 use Rattle.lv_bodies.specs.Body.{CanFold}
 use Rattle.lv_edits.specs.declared.edit.Edit.{Edit}
 use Rattle.lv_edits.specs.declared.edit.Edit.TheVariants.{Push, Pop, Write, Reserve, Swap, Truncate}
@@ -13,9 +14,11 @@ use Rattle.lv_edits.specs.Verdict.{verdict_of}
 use Rattle.lv_edits.proofs.HistoryLaws.{accepted_is_possible, list_of-snoc, swapped}
 use Rattle.lv_edits.proofs.Slices.{part_of_push, part_of_set, part_of_take}
 use Rattle.lv_known.proofs.FoldableLaws.{can_fold, part_can_fold}
+use Rattle.lv_live.specs.declared.following.Touched.{Touched}
+use Rattle.lv_live.specs.declared.following.Touched.TheVariants.{Nothing, One, Two}
+use Rattle.lv_live.specs.Follows.{indices_in}
 use Rattle.lv_standing.specs.declared.changes.Changed.{Changed}
-use Rattle.lv_standing.specs.declared.changes.Changed.TheVariants.{Nothing, Two}
-use Rattle.lv_standing.specs.Inner.{IsPushed, changed_by, has_changed, has_index, pushed_by}
+use Rattle.lv_standing.specs.Inner.{IsChangedBy, IsPushed, has_changed, has_index, has_written, pushed_by}
 
 -- a range that starts past the end is empty
 empty_past : {A : Type 0} (xs : List A) (lo hi : ℕ) → length xs ≤ lo → slice_range xs lo hi ≡ []
@@ -93,17 +96,8 @@ set_elsewhere xs i x lo hi (inl past) =
       | inr backwards ↦ empty_backwards (slice_set xs i x) lo hi backwards ∙ sym (empty_backwards xs lo hi backwards)
     ]
 
--- without its last element, a list has a range without that element's index
-fewer_elsewhere : {A : Type 0} (xs : List A) (d : A) (lo hi : ℕ) → 0 < length xs → (hi ≤ length xs - 1) ⊎ (length xs - 1 < lo) → slice_range (take (length xs - 1) xs) lo hi ≡ slice_range xs lo hi
-fewer_elsewhere xs d lo hi some apart =
-    let n = length xs - 1 in
-    let next : length xs ≡ n + 1 = omega arith in
-    let long : length (take n xs) ≡ n = length-take-le n xs (omega arith) in
-    let whole : xs ≡ take n xs ++ get_or xs n d ∷ [] = sym (take_all (length xs) xs (omega arith)) ∙ ap (λ k. take k xs) next ∙ take_more xs n d (omega arith) in
-    sym (more_elsewhere (take n xs) (get_or xs n d) lo hi (subst (λ k. (hi ≤ k) ⊎ (k < lo)) (sym long) apart)) ∙ ap (λ ys. slice_range ys lo hi) (sym whole)
-
 -- two elements that were exchanged leave a range without both indices
-swap_elsewhere : (xs ys : List ℤ) (i j lo hi : ℕ) → applied xs (Swap i j) ≡ Some ys → has_changed lo hi (Two i j) ≡ false → slice_range ys lo hi ≡ slice_range xs lo hi
+swap_elsewhere : (xs ys : List ℤ) (i j lo hi : ℕ) → applied xs (Swap i j) ≡ Some ys → (has_index lo hi i || has_index lo hi j) ≡ false → slice_range ys lo hi ≡ slice_range xs lo hi
 swap_elsewhere xs ys i j lo hi made apart =
     let done = swapped xs ys i j made in
     let both = or_parts _ _ apart in
@@ -131,41 +125,61 @@ cut_elsewhere xs n lo hi within apart =
       ]
     ]
 
+-- what was touched is known by its indices
+same_touched : (t u : Touched) → indices_in t ≡ indices_in u → t ≡ u
+same_touched Nothing Nothing same = refl
+same_touched Nothing (One i) same = absurd (omega (arith, ap length same))
+same_touched Nothing (Two i j) same = absurd (omega (arith, ap length same))
+same_touched (One i) Nothing same = absurd (omega (arith, ap length same))
+same_touched (One i) (One j) same = (cc)
+same_touched (One i) (Two j k) same = absurd (omega (arith, ap length same))
+same_touched (Two i j) Nothing same = absurd (omega (arith, ap length same))
+same_touched (Two i j) (One k) same = absurd (omega (arith, ap length same))
+same_touched (Two i j) (Two k l) same = (cc)
+
+-- an edit writes at no index of a range in which nothing changed
+unwritten : (changed : Changed) (t : Touched) (lo hi : ℕ) → indices_in changed.written ≡ indices_in t → has_changed lo hi changed ≡ false → has_written lo hi t ≡ false
+unwritten changed t lo hi same apart = ap (has_written lo hi) (sym (same_touched changed.written t same)) ∙ (or_parts _ _ apart).0
+
+-- and it drops none of its indices
+undropped : (changed : Changed) (lo hi from to : ℕ) → changed.from ≡ from → changed.to ≡ to → has_changed lo hi changed ≡ false → min hi to ≤ max lo from
+undropped changed lo hi from to begins ends apart =
+    omega (arith, begins, ends, ltb-false (max lo changed.from) (min hi changed.to) (or_parts _ _ apart).1)
+
 -- an edit leaves a range without an index that it changes
-applied_elsewhere : (xs ys : List ℤ) (e : Edit) (lo hi : ℕ) → applied xs e ≡ Some ys → has_changed lo hi (changed_by (length xs) e) ≡ false → slice_range ys lo hi ≡ slice_range xs lo hi
-applied_elsewhere xs ys (Push x) lo hi made apart =
+applied_elsewhere : (xs ys : List ℤ) (e : Edit) (changed : Changed) (lo hi : ℕ) → applied xs e ≡ Some ys → IsChangedBy xs e changed → has_changed lo hi changed ≡ false → slice_range ys lo hi ≡ slice_range xs lo hi
+applied_elsewhere xs ys (Push x) changed lo hi made is apart =
     let same : xs ++ x ∷ [] ≡ ys = (cc) in
-    ap (λ zs. slice_range zs lo hi) (sym same) ∙ more_elsewhere xs x lo hi (without_index lo hi (length xs) apart)
-applied_elsewhere xs ys Pop lo hi made apart =
-    let parts = cond_some _ _ _ made in
-    elim (cases_lt 0 (length xs)) [
-      | inl some ↦ ap (λ zs. slice_range zs lo hi) (sym parts.1) ∙ fewer_elsewhere xs (pos 0) lo hi some (without_index lo hi (length xs - 1) apart)
-      | inr none ↦ absurd (false≢true (sym (le-ltb 0 (length xs) none) ∙ parts.0))
-    ]
-applied_elsewhere xs ys (Write i x) lo hi made apart =
+    ap (λ zs. slice_range zs lo hi) (sym same) ∙ more_elsewhere xs x lo hi (without_index lo hi (length xs) (unwritten changed (One (length xs)) lo hi is.written apart))
+applied_elsewhere xs ys Pop changed lo hi made is apart =
+    ap (λ zs. slice_range zs lo hi) (sym (cond_some _ _ _ made).1)
+    ∙ cut_elsewhere xs (length xs - 1) lo hi (omega arith) (undropped changed lo hi (length xs - 1) (length xs) is.from is.to apart)
+applied_elsewhere xs ys (Write i x) changed lo hi made is apart =
     let same = (cond_some _ _ _ made).1 in
-    ap (λ zs. slice_range zs lo hi) (sym same) ∙ set_elsewhere xs i x lo hi (without_index lo hi i apart)
-applied_elsewhere xs ys (Reserve n) lo hi made apart =
+    ap (λ zs. slice_range zs lo hi) (sym same) ∙ set_elsewhere xs i x lo hi (without_index lo hi i (unwritten changed (One i) lo hi is.written apart))
+applied_elsewhere xs ys (Reserve n) changed lo hi made is apart =
     let same : xs ≡ ys = (cc) in
     ap (λ zs. slice_range zs lo hi) (sym same)
-applied_elsewhere xs ys (Swap i j) lo hi made apart =
+applied_elsewhere xs ys (Swap i j) changed lo hi made is apart =
     elim (cases_Bool (eqb i j)) [
       | inl one ↦
           let same : j ≡ i = sym (eqb-true i j one) in
           ap (λ zs. slice_range zs lo hi) (swap_same xs ys i (subst (λ k. applied xs (Swap i k) ≡ Some ys) same made))
-      | inr two ↦ swap_elsewhere xs ys i j lo hi made (ap (λ b. has_changed lo hi (cond b Nothing (Two i j))) (sym two) ∙ apart)
+      | inr two ↦
+          swap_elsewhere xs ys i j lo hi made (ap (λ b. not b && (has_index lo hi i || has_index lo hi j)) (sym two) ∙ unwritten changed (Two i j) lo hi is.written apart)
     ]
-applied_elsewhere xs ys (Truncate n) lo hi made apart =
+applied_elsewhere xs ys (Truncate n) changed lo hi made is apart =
     let parts = cond_some _ _ _ made in
-    ap (λ zs. slice_range zs lo hi) (sym parts.1) ∙ cut_elsewhere xs n lo hi (leb-true n (length xs) parts.0) (ltb-false (max lo n) (min hi (length xs)) apart)
+    ap (λ zs. slice_range zs lo hi) (sym parts.1)
+    ∙ cut_elsewhere xs n lo hi (leb-true n (length xs) parts.0) (undropped changed lo hi n (length xs) is.from is.to apart)
 
 -- an accepted edit leaves a range without an index that it changes
-pub edit_elsewhere : (h : History) (e : Edit) (lo hi : ℕ) → replayed h.journal ≡ Some (list_of h.journal) → verdict_of h.limits h.journal e ≡ None
-    → has_changed lo hi (changed_by (length (list_of h.journal)) e) ≡ false → slice_range (list_of (h.journal ++ e ∷ [])) lo hi ≡ slice_range (list_of h.journal) lo hi
-edit_elsewhere h e lo hi legal accepted apart =
+pub edit_elsewhere : (h : History) (e : Edit) (changed : Changed) (lo hi : ℕ) → replayed h.journal ≡ Some (list_of h.journal) → verdict_of h.limits h.journal e ≡ None → IsChangedBy (list_of h.journal) e changed
+    → has_changed lo hi changed ≡ false → slice_range (list_of (h.journal ++ e ∷ [])) lo hi ≡ slice_range (list_of h.journal) lo hi
+edit_elsewhere h e changed lo hi legal accepted is apart =
     let possible = accepted_is_possible h.limits h.journal e accepted in
     let next = list_of-snoc h.journal e possible.0 legal possible.1 in
-    ap (λ zs. slice_range zs lo hi) next.1 ∙ applied_elsewhere (list_of h.journal) possible.0 e lo hi possible.1 apart
+    ap (λ zs. slice_range zs lo hi) next.1 ∙ applied_elsewhere (list_of h.journal) possible.0 e changed lo hi possible.1 is apart
 
 -- one more element at the end is the last of a range that has its index
 pub more_inside : {A : Type 0} (xs : List A) (x : A) (lo hi : ℕ) → has_index lo hi (length xs) ≡ true → slice_range (xs ++ x ∷ []) lo hi ≡ slice_range xs lo hi ++ x ∷ []
@@ -180,18 +194,26 @@ pub pushed_inside : (old new : List Edit) (changed : Changed) (pushed : Option �
     → IfSome pushed (λ x. slice_range (list_of new) lo hi ≡ slice_range (list_of old) lo hi ++ x ∷ [])
 pushed_inside old new changed None lo hi inside is = tt
 pushed_inside old new changed (Some x) lo hi inside is =
-    ap (λ ys. slice_range ys lo hi) is.1 ∙ more_inside (list_of old) x lo hi (subst (λ c. has_changed lo hi c ≡ true) is.0 inside)
+    ap (λ ys. slice_range ys lo hi) is.1 ∙ more_inside (list_of old) x lo hi (is.0 lo hi inside)
+
+-- where an edit writes at one index alone, and drops none, a range with an index that changed has that index
+has_only : (changed : Changed) (n lo hi : ℕ) → indices_in changed.written ≡ n ∷ [] → changed.to ≤ changed.from → has_changed lo hi changed ≡ true → has_index lo hi n ≡ true
+has_only changed n lo hi one none inside =
+    sym (ap (has_written lo hi) (same_touched changed.written (One n) one))
+    ∙ sym (or-false (has_written lo hi changed.written))
+    ∙ ap (λ b. has_written lo hi changed.written || b) (sym (le-ltb (max lo changed.from) (min hi changed.to) (omega (arith, none))))
+    ∙ inside
 
 -- a push brings the last element of the list
-pub push_is_last : (h : History) (e : Edit) → replayed h.journal ≡ Some (list_of h.journal) → verdict_of h.limits h.journal e ≡ None
-    → IfSome (pushed_by e) (IsPushed (changed_by (length (list_of h.journal)) e) h.journal (h.journal ++ e ∷ []))
-push_is_last h (Push x) legal accepted =
+pub push_is_last : (h : History) (e : Edit) (changed : Changed) → replayed h.journal ≡ Some (list_of h.journal) → verdict_of h.limits h.journal e ≡ None → IsChangedBy (list_of h.journal) e changed
+    → IfSome (pushed_by e) (IsPushed changed h.journal (h.journal ++ e ∷ []))
+push_is_last h (Push x) changed legal accepted is =
     let possible = accepted_is_possible h.limits h.journal (Push x) accepted in
     let next = list_of-snoc h.journal (Push x) possible.0 legal possible.1 in
     let same : list_of h.journal ++ x ∷ [] ≡ possible.0 = (let made = possible.1 in cc) in
-    (refl, next.1 ∙ sym same)
-push_is_last h Pop legal accepted = tt
-push_is_last h (Write i x) legal accepted = tt
-push_is_last h (Reserve n) legal accepted = tt
-push_is_last h (Swap i j) legal accepted = tt
-push_is_last h (Truncate n) legal accepted = tt
+    (λ lo hi. has_only changed (length (list_of h.journal)) lo hi is.written (omega (arith, is.from, is.to)), next.1 ∙ sym same)
+push_is_last h Pop changed legal accepted is = tt
+push_is_last h (Write i x) changed legal accepted is = tt
+push_is_last h (Reserve n) changed legal accepted is = tt
+push_is_last h (Swap i j) changed legal accepted is = tt
+push_is_last h (Truncate n) changed legal accepted is = tt

@@ -1,14 +1,17 @@
 -- What the code of standing queries passes on from one to the next: which indices an edit changed, and what that makes of the entries.
-use Rattle.std.specs.Prelude.{◌≡◌, ◌≢◌, ◌⊎◌, ◌<◌, ◌≤◌, ℕ, ℤ, Bool, ◌&&◌, ◌||◌, max, min, Option, Some, None, false, List, [], ◌∷◌, ◌+◌, ◌-◌, length, filter, nat_eq, nat_le, nat_lt, if◌then◌else◌, ◌++◌, slice_get}
+use Rattle.std.specs.Prelude.{◌≡◌, ◌≢◌, ◌⊎◌, ◌<◌, ◌≤◌, ℕ, ℤ, Bool, ◌&&◌, ◌||◌, max, min, Option, Some, None, true, false, List, [], ◌∷◌, ◌+◌, ◌-◌, length, filter, nat_eq, nat_le, nat_lt, not, ◌++◌, slice_get}
 use Rattle.std.specs.List.{slice_range}
 use Rattle.indexmap.specs.IndexMap.{set_value_at}
 use Rattle.lv_bodies.specs.declared.kinds.Shown.{Shown}
 use Rattle.lv_edits.specs.declared.edit.Edit.{Edit}
 use Rattle.lv_edits.specs.declared.edit.Edit.TheVariants.{Push, Pop, Write, Reserve, Swap, Truncate}
 use Rattle.lv_edits.specs.History.{list_of}
+use Rattle.lv_edits.specs.Touch.{indices_written}
+use Rattle.lv_live.specs.declared.following.Touched.{Touched}
+use Rattle.lv_live.specs.declared.following.Touched.TheVariants.{Nothing, One, Two}
+use Rattle.lv_live.specs.Follows.{indices_in}
 use Rattle.lv_kinds.specs.KindSummaries.{kind_of}
 use Rattle.lv_standing.specs.declared.changes.Changed.{Changed}
-use Rattle.lv_standing.specs.declared.changes.Changed.TheVariants.{Nothing, One, Two, Between}
 use Rattle.lv_standing.specs.declared.watches.Watch.{Watch}
 use Rattle.lv_standing.specs.declared.notes.Note.{Note}
 use Rattle.lv_standing.specs.Queries.{AreNotes}
@@ -17,15 +20,6 @@ use Rattle.lv_standing.specs.Standings.{IsCurrent, query_at, summary_at}
 -- the entry with the summary after these edits
 abbrev pub refreshed : List Edit → List ℕ × Watch → List ℕ × Watch
 refreshed edits entry = (entry.0, record entry.1 { summary = summary_at edits entry.1 })
-
--- the indices whose elements an edit of a vector of this size changes, brings or drops
-abbrev pub changed_by : ℕ → Edit → Changed
-changed_by size (Push x) = One size
-changed_by size Pop = One (size - 1)
-changed_by size (Write i x) = One i
-changed_by size (Reserve n) = Nothing
-changed_by size (Swap i j) = if nat_eq i j then Nothing else Two i j
-changed_by size (Truncate n) = Between n size
 
 -- how many elements a vector of this size has after an edit that it accepts
 abbrev pub size_after : ℕ → Edit → ℕ
@@ -45,20 +39,30 @@ pushed_by (Reserve n) = None
 pushed_by (Swap i j) = None
 pushed_by (Truncate n) = None
 
--- an element was pushed: it stands behind all others, at the index that changed
-abbrev pub IsPushed : Changed → List Edit → List Edit → ℤ → Type 0
-IsPushed changed old new x = (changed ≡ One (length (list_of old))) × (list_of new ≡ list_of old ++ x ∷ [])
+-- what an edit of a list changes: the indices at which it writes, and those that it drops, from the size after it up to the size before it
+pub record IsChangedBy (xs : List ℤ) (edit : Edit) (changed : Changed) : Type 0 where
+  pub written : indices_in changed.written ≡ indices_written xs edit
+  pub from : changed.from ≡ size_after (length xs) edit
+  pub to : changed.to ≡ length xs
 
 -- whether a range has an index
 abbrev pub has_index : ℕ → ℕ → ℕ → Bool
 has_index lo hi i = nat_le lo i && nat_lt i hi
 
+-- whether a range has one of the indices at which an edit wrote; an element that is swapped with itself stays
+abbrev pub has_written : ℕ → ℕ → Touched → Bool
+has_written lo hi Nothing = false
+has_written lo hi (One i) = has_index lo hi i
+has_written lo hi (Two i j) = not (nat_eq i j) && (has_index lo hi i || has_index lo hi j)
+
 -- whether a range has one of the indices that changed
 abbrev pub has_changed : ℕ → ℕ → Changed → Bool
-has_changed lo hi Nothing = false
-has_changed lo hi (One i) = has_index lo hi i
-has_changed lo hi (Two i j) = has_index lo hi i || has_index lo hi j
-has_changed lo hi (Between from to) = nat_lt (max lo from) (min hi to)
+has_changed lo hi changed = has_written lo hi changed.written || nat_lt (max lo changed.from) (min hi changed.to)
+
+-- an element was pushed: it stands behind all others, and each range that has an index that changed has its index
+abbrev pub IsPushed : Changed → List Edit → List Edit → ℤ → Type 0
+IsPushed changed old new x =
+    ((lo hi : ℕ) → has_changed lo hi changed ≡ true → has_index lo hi (length (list_of old)) ≡ true) × (list_of new ≡ list_of old ++ x ∷ [])
 
 -- the entries whose range has one of them
 abbrev pub asked : Changed → List (List ℕ × Watch) → List (List ℕ × Watch)

@@ -1,36 +1,32 @@
 //! Which elements an edit changes, and how many there are after it.
-ghost use Rattle.std.specs.Prelude.{◌≡◌, ◌≤◌};
-ghost use Rattle.lv_standing.specs.Inner.{changed_by, pushed_by, size_after};
+ghost use Rattle.std.specs.Prelude.{◌≡◌, ◌≤◌, ℤ, List, length};
+ghost use Rattle.lv_edits.specs.Touch.{indices_written};
+ghost use Rattle.lv_live.specs.Follows.{indices_in};
+ghost use Rattle.lv_standing.specs.Inner.{pushed_by, size_after};
 
 use lv_edits::Edit;
+use lv_live::{Touched, touched_indices};
 
-/// The indices whose elements an edit changes, brings or drops.
+/// The indices whose elements an edit changes, brings or drops: those at which it writes, and those that it drops, from the first up to
+/// the second, which is excluded. Most edits drop none.
 #[derive(Clone, Copy)]
-pub enum Changed {
-    Nothing,
-    One(u32),
-    Two(u32, u32),
-    /// From the first index up to the second, which is excluded.
-    Between(u32, u32),
+pub struct Changed {
+    pub written: Touched,
+    pub from: u32,
+    pub to: u32,
 }
 
-/// What an edit of a vector of this size changes. An element that is swapped with itself stays.
+/// What an edit of a vector of this size changes: what it drops lies from the size after it up to the size before it.
 pub fn changed_by(edit: &Edit, size: u32) -> Changed
-    ensures { result ≡ changed_by size edit.now }
+    requires { size ≤ 1048568 }
+    ensures written { (xs : List ℤ) → length xs ≡ size → indices_in result.written ≡ indices_written xs edit.now }
+    ensures from { result.from ≡ size_after size edit.now }
+    ensures to { result.to ≡ size }
 {
-    match edit {
-        Edit::Push(_) => Changed::One(size),
-        Edit::Pop => Changed::One(size.saturating_sub(1)),
-        Edit::Write { index, .. } => Changed::One(*index),
-        Edit::Reserve(_) => Changed::Nothing,
-        Edit::Swap { first, second } => {
-            if first == second {
-                Changed::Nothing
-            } else {
-                Changed::Two(*first, *second)
-            }
-        }
-        Edit::Truncate(count) => Changed::Between(*count, size),
+    Changed {
+        written: touched_indices(edit, size),
+        from: size_after(edit, size),
+        to: size,
     }
 }
 

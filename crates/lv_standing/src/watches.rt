@@ -10,7 +10,7 @@ ghost use Rattle.lv_edits.specs.Kept.{IsLegalInLimits};
 ghost use Rattle.lv_kinds.specs.Kinds.{AreKept};
 ghost use Rattle.lv_kinds.specs.KindSummaries.{kind_of, summary_of};
 ghost use Rattle.lv_standing.specs.Queries.{AreNotes};
-ghost use Rattle.lv_standing.specs.Inner.{AreTold, AtIndex, IsAlike, IsNoted, IsPushed, IsToldAt, SameElsewhere, asked, has_changed, has_index, refreshed};
+ghost use Rattle.lv_standing.specs.Inner.{AreTold, AtIndex, IsAlike, IsNoted, IsPushed, IsToldAt, SameElsewhere, asked, has_changed, has_index, has_written, refreshed};
 ghost use Rattle.lv_standing.specs.Standings.{IsCurrent, StillKept, queries_of, summary_at};
 
 use crate::asking::ask_inside;
@@ -20,7 +20,7 @@ use crate::notes::Note;
 use indexmap::IndexMap;
 use lv_bodies::{Shown, Six};
 use lv_kinds::{KindSummary, Kinds};
-use lv_live::Live;
+use lv_live::{Live, Touched};
 
 /// The range of a standing query, and the summary by its kind of the elements that the range has at the last edit.
 #[derive(Clone, Copy)]
@@ -35,11 +35,18 @@ impl Watch {
     pub fn has_changed(&self, changed: Changed) -> bool
         ensures { result ≡ has_changed self.now.lo self.now.hi changed }
     {
-        match changed {
-            Changed::Nothing => false,
-            Changed::One(i) => self.has_index(i),
-            Changed::Two(i, j) => self.has_index(i) || self.has_index(j),
-            Changed::Between(from, to) => self.lo.max(from) < self.hi.min(to),
+        let Changed { written, from, to } = changed;
+        self.has_written(written) || self.lo.max(from) < self.hi.min(to)
+    }
+
+    // Whether its range has one of the indices at which an edit wrote. An element that is swapped with itself stays.
+    fn has_written(&self, written: Touched) -> bool
+        ensures { result ≡ has_written self.now.lo self.now.hi written }
+    {
+        match written {
+            Touched::Nothing => false,
+            Touched::One(i) => self.has_index(i),
+            Touched::Two(i, j) => i != j && (self.has_index(i) || self.has_index(j)),
         }
     }
 

@@ -7,7 +7,7 @@ use Rattle.lv_edits.specs.declared.edit.Edit.{Edit}
 use Rattle.lv_edits.specs.History.{History, list_of}
 use Rattle.lv_known.proofs.FoldableLaws.{can_fold}
 use Rattle.lv_standing.specs.declared.changes.Changed.{Changed}
-use Rattle.lv_standing.specs.Inner.{IsPushed, changed_by, has_changed, pushed_by, refreshed}
+use Rattle.lv_standing.specs.Inner.{IsChangedBy, IsPushed, pushed_by, refreshed, size_after}
 use Rattle.lv_standing.specs.Standings.{IsCurrent, queries_of, query_at}
 use Rattle.lv_standing.proofs.EntryLaws.{all_refreshed, queries_refreshed}
 use Rattle.lv_standing.proofs.NoteLaws.{before_last, few_notes}
@@ -20,13 +20,15 @@ was old new edit grown =
     ap (λ (h : History). take (length h.journal - 1) h.journal) grown ∙ before_last old.journal edit
 
 -- an element that was pushed, by what the code has of it
-pushed_after : (old new : History) (edit : Edit) (changed : Changed) (x : Option ℤ) → new ≡ record old { journal = old.journal ++ edit ∷ [] } → changed ≡ changed_by (length (list_of old.journal)) edit → x ≡ pushed_by edit
-    → IfSome (pushed_by edit) (IsPushed (changed_by (length (list_of old.journal)) edit) old.journal (old.journal ++ edit ∷ [])) → IfSome x (IsPushed changed (take (length new.journal - 1) new.journal) new.journal)
-pushed_after old new edit changed x grown is by pushed =
+pushed_after : (old new : History) (edit : Edit) (changed : Changed) (x : Option ℤ) → new ≡ record old { journal = old.journal ++ edit ∷ [] } → x ≡ pushed_by edit
+    → IfSome (pushed_by edit) (IsPushed changed old.journal (old.journal ++ edit ∷ [])) → IfSome x (IsPushed changed (take (length new.journal - 1) new.journal) new.journal)
+pushed_after old new edit changed x grown by pushed =
     subst (λ js. IfSome x (IsPushed changed js new.journal)) (sym (was old new edit grown))
     (subst (λ (h : History). IfSome x (IsPushed changed old.journal h.journal)) (sym grown)
-    (subst (λ i. IfSome x (IsPushed i old.journal (old.journal ++ edit ∷ []))) (sym is)
-    (subst (λ y. IfSome y (IsPushed (changed_by (length (list_of old.journal)) edit) old.journal (old.journal ++ edit ∷ []))) (sym by) pushed)))
+    (subst (λ y. IfSome y (IsPushed changed old.journal (old.journal ++ edit ∷ []))) (sym by) pushed))
+
+pub changed_by-changed-requires : goal.changed_by-changed-requires
+changed_by-changed-requires c = omega (arith, c.size.ensures, c.self.invariant.limits.few)
 
 pub tell-requires : goal.tell-requires
 tell-requires c =
@@ -34,8 +36,13 @@ tell-requires c =
     let after = c.make.new.live.history in
     let grown = c.in_ok-receipt.ensures.answer.journal in
     let back = was before after c.args.edit grown in
-    let changed : c.changed_by-changed.result ≡ changed_by (length (list_of before.journal)) c.args.edit = c.changed_by-changed.ensures ∙ ap (λ n. changed_by n c.args.edit) c.size.ensures in
-    let pushed = push_is_last before c.args.edit c.self.invariant.limits.legal c.in_ok-receipt.ensures.answer.verdict in (
+    let size = c.size.ensures in
+    let changed : IsChangedBy (list_of before.journal) c.args.edit c.changed_by-changed.result = record {
+      written = c.changed_by-changed.ensures.written (list_of before.journal) (sym size);
+      from = c.changed_by-changed.ensures.from ∙ ap (λ n. size_after n c.args.edit) size;
+      to = c.changed_by-changed.ensures.to ∙ size;
+    } in
+    let pushed = push_is_last before c.args.edit c.changed_by-changed.result c.self.invariant.limits.legal c.in_ok-receipt.ensures.answer.verdict changed in (
       c.make.ensures.limits,
       (
         c.make.ensures.kept,
@@ -44,10 +51,10 @@ tell-requires c =
           (
             (λ lo hi apart.
                 ap (λ (h : History). slice_range (list_of h.journal) lo hi) grown
-                ∙ edit_elsewhere before c.args.edit lo hi c.self.invariant.limits.legal c.in_ok-receipt.ensures.answer.verdict (sym (ap (has_changed lo hi) changed) ∙ apart)
+                ∙ edit_elsewhere before c.args.edit c.changed_by-changed.result lo hi c.self.invariant.limits.legal c.in_ok-receipt.ensures.answer.verdict changed apart
                 ∙ ap (λ js. slice_range (list_of js) lo hi) (sym back)),
             (
-              pushed_after before after c.args.edit c.changed_by-changed.result c.pushed_by.result grown changed c.pushed_by.ensures pushed,
+              pushed_after before after c.args.edit c.changed_by-changed.result c.pushed_by.result grown c.pushed_by.ensures pushed,
               (
                 subst (λ js. AllByRecursion (IsCurrent js) c.self.inside.watches.entries) (sym back) c.self.invariant.current,
                 (c.in-Ok.ensures.items, omega (arith, c.count_asked.ensures, c.in-Ok.ensures.capacity)),
