@@ -8,6 +8,7 @@ use Rattle.lv_bodies.specs.Body.{Operations, fold_of}
 use Rattle.lv_edits.specs.declared.edit.Edit.{Edit}
 use Rattle.lv_edits.specs.declared.edit.Edit.TheVariants.{Push, Pop, Write, Reserve, Swap, Truncate}
 use Rattle.lv_edits.specs.History.{applied}
+use Rattle.lv_edits.specs.Touch.{indices_written}
 use Rattle.lv_edits.proofs.HistoryLaws.{swapped}
 use Rattle.lv_edits.proofs.Slices.{part_of_set, part_of_take}
 use Rattle.lv_series.specs.Rows.{ArePieces, ArePiecesBut, AreRows, AreRowsBut, ChangesAt}
@@ -28,6 +29,36 @@ apart n i size other = elim (cases_lt i (n * size)) [
     | inr behind ↦ inr behind
   ]
 ]
+
+-- the indices at which an edit writes are those at which alone it leaves other elements, of those that stay: it writes nowhere
+pub changes_nowhere : (xs : List ℤ) (e : Edit) (first second : ℕ) → [] ≡ indices_written xs e → ChangesAt e first second
+changes_nowhere xs (Push x) first second same = tt
+changes_nowhere xs Pop first second same = tt
+changes_nowhere xs (Write i x) first second same = absurd (omega (arith, ap length same))
+changes_nowhere xs (Reserve n) first second same = tt
+changes_nowhere xs (Swap i j) first second same = absurd (omega (arith, ap length same))
+changes_nowhere xs (Truncate n) first second same = tt
+
+-- it writes at one index
+pub changes_there : (xs : List ℤ) (e : Edit) (i : ℕ) → i ∷ [] ≡ indices_written xs e → ChangesAt e i i
+changes_there xs (Push x) i same = tt
+changes_there xs Pop i same = tt
+changes_there xs (Write j x) i same = let at : i ≡ j = (cc) in (at, at)
+changes_there xs (Reserve n) i same = tt
+changes_there xs (Swap j k) i same = absurd (omega (arith, ap length same))
+changes_there xs (Truncate n) i same = tt
+
+-- or at two
+pub changes_both : (xs : List ℤ) (e : Edit) (i j : ℕ) → i ∷ j ∷ [] ≡ indices_written xs e → ChangesAt e i j
+changes_both xs (Push x) i j same = tt
+changes_both xs Pop i j same = tt
+changes_both xs (Write k x) i j same = absurd (omega (arith, ap length same))
+changes_both xs (Reserve n) i j same = tt
+changes_both xs (Swap k l) i j same =
+    let first : i ≡ k = (cc) in
+    let second : j ≡ l = (cc) in
+    (first, second)
+changes_both xs (Truncate n) i j same = tt
 
 -- a part of a list stays where others come behind the list
 part_of_more : (xs ys : List ℤ) (from size : ℕ) → from + size ≤ length xs → take size (drop from (xs ++ ys)) ≡ take size (drop from xs)

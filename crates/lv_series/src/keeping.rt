@@ -14,6 +14,7 @@ use crate::rows::{GROUP, PART, extend, fold_by_rows, follow};
 use crate::vectors::Live;
 use lv_bodies::Body;
 use lv_edits::Edit;
+use lv_live::{Touched, touched_indices};
 use std::alloc::{AllocError, Global};
 
 /// Folds of a list's pieces side by side, from the first on: of 64 elements each, and of 2,048.
@@ -133,10 +134,10 @@ fn keep_up<B: Body>(live: &Live<B>, rows: &mut Rows<B::S>, edit: &Edit)
 fn changed_indices(edit: &Edit, size: u32) -> (u32, u32)
     ensures { ChangesAt edit.now result.0 result.1 }
 {
-    match edit {
-        Edit::Write { index, .. } => (*index, *index),
-        Edit::Swap { first, second } => (*first, *second),
-        Edit::Push(_) | Edit::Pop | Edit::Reserve(_) | Edit::Truncate(_) => (size, size),
+    match touched_indices(edit, size) {
+        Touched::Nothing => (size, size),
+        Touched::One(index) => (index, index),
+        Touched::Two(first, second) => (first, second),
     }
 }
 
