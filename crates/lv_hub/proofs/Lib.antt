@@ -1,5 +1,6 @@
 -- Names the files of lemmas of `lv_hub`.
 mod AcceptedLaws
+mod AsScriptsLaws
 mod MinuteLaws
 mod NoteLaws
 mod OrderLaws

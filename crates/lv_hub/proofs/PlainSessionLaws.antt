@@ -1,8 +1,8 @@
 -- Each line of a session is answered as the plain interpreter answers it, at some edits of the hub's.
-use Rattle.std.proofs.Common.{◌≡◌, ◌⊎◌, ℕ, ℤ, ◌+◌, ◌-◌, Bool, true, false, Option, Some, None, Result, Ok, Err, List, [], ◌∷◌, ◌++◌, length, take, map, slice_range, refl, sym, ap, ap₂, ◌∙◌, subst, inl, inr, append-nil, arith}
+use Rattle.std.proofs.Common.{◌≡◌, ◌⊎◌, ℕ, ℤ, ◌+◌, Bool, true, false, Option, Some, None, Result, Ok, Err, List, [], ◌∷◌, ◌++◌, length, take, map, refl, sym, ap, ap₂, ◌∙◌, subst, inl, inr, arith}
 use Rattle.std.specs.List.{range_with_len}
 use Rattle.std.specs.Option.{option_map_or}
-use Rattle.std.proofs.lemmas.List.{length-append, length-take, take_all, take-append-le}
+use Rattle.std.proofs.lemmas.List.{length-take, take_all, take-append-le}
 use Rattle.std.proofs.lemmas.List.Elements.{All-take}
 use Rattle.std.proofs.lemmas.Simd.{map-map}
 use mathlib.Core.List.{IsPrefix}
@@ -11,15 +11,13 @@ use Rattle.lv_geometry.specs.Elements.{IsElement}
 use Rattle.lv_geometry.specs.declared.refusals.Refusal.{Refusal}
 use Rattle.lv_geometry.specs.declared.refusals.Refusal.TheVariants.{NoMemory}
 use Rattle.lv_bodies.specs.declared.kinds.Kind.{Kind}
-use Rattle.lv_bodies.specs.declared.kinds.Shown.{Shown}
 use Rattle.lv_bodies.specs.Body.{CanFold, fold_of}
 use Rattle.lv_bodies.specs.Plain.{plain_value, program_table}
 use Rattle.lv_bodies.specs.Six.{SixSummary, face_of, six_operations}
 use Rattle.lv_bodies.proofs.SixFolds.{face_of-fold}
 use Rattle.lv_edits.specs.declared.edit.Edit.{Edit}
 use Rattle.lv_edits.specs.declared.receipt.Receipt.{Receipt}
-use Rattle.lv_edits.specs.History.{list_of}
-use Rattle.lv_edits.specs.Kept.{IsLegalInLimits}
+use Rattle.lv_edits.specs.Verdict.{verdict_of}
 use Rattle.lv_reduce.specs.declared.reductions.Answer.{Answer}
 use Rattle.lv_reduce.specs.declared.scans.Scan.{Scan}
 use Rattle.lv_reduce.specs.Answer.{IsAnswer, scan_of, slice_of}
@@ -32,12 +30,12 @@ use Rattle.lv_lines.specs.Grammar.{line_of}
 use Rattle.lv_lines.specs.Replies.{Answered, Conversed}
 use Rattle.lv_lines.specs.Texts.{answer_text, bad_text, receipt_text, refused_text, scan_text}
 use Rattle.lv_lines.proofs.Conversing.{conversed_as}
-use Rattle.lv_script.specs.PlainScript.{Plain, after, plain_after, plain_reply, refusal_of, reply_of, scan_by}
+use Rattle.lv_script.specs.PlainScript.{scan_by}
 use Rattle.lv_script.specs.Script.{edit_text}
 use Rattle.lv_hub.specs.Replying.{ListsAnswer, SessionCommandAnswer, SessionLineAnswer, TellsLine, having_counted, scan_reply_text, up_to}
 use Rattle.lv_hub.specs.Session.{IsWithin, Lists, SessionState, SessionStep, kept_by}
-use Rattle.lv_hub.specs.PlainSession.{FindsNoMemory, IsTrueReply, PlainSessionStep, Seen, TrueReply, known_of, plain_at, seen_after, session_line_of}
-use Rattle.lv_hub.specs.Told.{EditTold, ReductionTold, ScanTold, history_of}
+use Rattle.lv_hub.specs.PlainSession.{FindsNoMemory, IsTrueReply, PlainSessionStep, Seen, TrueReply, known_of, refusal_after, reply_after, seen_after, session_line_of, session_reply}
+use Rattle.lv_hub.specs.Told.{EditTold, ReductionTold, ScanTold}
 use Rattle.lv_hub.proofs.PrefixLaws.{prefix_length, prefix_self, prefix_trans}
 use Rattle.lv_hub.proofs.TruthLaws.{edit_lists_nothing, slice_folds}
 
@@ -60,20 +58,12 @@ scan_values kind false xs can =
 prefix_take : (xs ys : List Edit) → IsPrefix xs ys → take (length xs) ys ≡ xs
 prefix_take xs ys more = ap (take (length xs)) (sym more.1) ∙ take-append-le (length xs) xs more.0 (omega arith) ∙ take_all (length xs) xs (omega arith)
 
--- nothing was made where what is kept was there
-none_made : (old : Seen) (edits : List Edit) → seen_after old edits edits ≡ record { edits = edits; made = old.made }
-none_made old edits = ap (λ made. record { edits = edits; made = made }) (omega arith)
-
--- an edit more was
-one_made : (old : Seen) (edits : List Edit) (e : Edit) → seen_after old edits (edits ++ e ∷ []) ≡ record { edits = edits ++ e ∷ []; made = old.made + 1 }
-one_made old edits e = ap (λ made. record { edits = edits ++ e ∷ []; made = made }) (omega (arith, length-append edits (e ∷ [])))
-
 module _ (limits : Bounds) where
   -- one line, by what it says, where the hub had come to some edits
   abbrev PlainAt : List Edit → Seen → ℕ → Line → List ℕ → Seen → Type 0
   PlainAt before old n line text new =
-      ((text ≡ plain_reply [] (plain_at limits before) n line) × (new ≡ seen_after old before (plain_after (plain_at limits before) line).edits))
-      ⊎ (FindsNoMemory (plain_at limits before) line text × (new ≡ seen_after old before before))
+      ((text ≡ session_reply limits before n line) × (new ≡ seen_after limits before old line))
+      ⊎ (FindsNoMemory limits before line text × (new ≡ record old { edits = before }))
 
   -- so it was answered, and listed
   record SaidLine (old : SessionState) (n : ℕ) (line : Line) (text : List ℕ) (new : SessionState) : Type 0 where
@@ -83,43 +73,36 @@ module _ (limits : Bounds) where
     within : IsWithin limits old before line new
     lists : Lists before line text old.answers new.answers
 
-  -- a command that nothing refuses
-  granted : (old new : Seen) (before : List Edit) (n : ℕ) (c : Command) (text : List ℕ) → refusal_of (plain_at limits before) c ≡ None → text ≡ reply_of [] (plain_at limits before) c
-      → new ≡ seen_after old before (after (plain_at limits before) c).edits → PlainAt before old n (Do c) text new
-  granted old new before n c text free is then =
-      let s = plain_at limits before in
-      inl (is ∙ ap (λ o. option_map_or refused_text o (reply_of [] s c)) (sym free), then ∙ ap (λ o. seen_after old before (option_map_or (λ refusal. s) o (after s c)).edits) (sym free))
+  -- the reply to a command that nothing refuses, and to one that is refused
+  granted : (before : List Edit) (n : ℕ) (c : Command) (text : List ℕ) → refusal_after limits before c ≡ None → text ≡ reply_after before c → text ≡ session_reply limits before n (Do c)
+  granted before n c text free is = is ∙ ap (λ o. option_map_or refused_text o (reply_after before c)) (sym free)
 
-  -- one that is refused
-  refused : (old new : Seen) (before : List Edit) (n : ℕ) (c : Command) (text : List ℕ) (refusal : Refusal) → refusal_of (plain_at limits before) c ≡ Some refusal → text ≡ refused_text refusal
-      → new ≡ seen_after old before before → PlainAt before old n (Do c) text new
-  refused old new before n c text refusal why is same =
-      let s = plain_at limits before in
-      inl (is ∙ ap (λ o. option_map_or refused_text o (reply_of [] s c)) (sym why), same ∙ ap (λ o. seen_after old before (option_map_or (λ refusal. s) o (after s c)).edits) (sym why))
-
-  -- one that was refused for want of memory
-  wanting : (old new : Seen) (before : List Edit) (n : ℕ) (c : Command) (text : List ℕ) → refusal_of (plain_at limits before) c ≡ None → text ≡ refused_text NoMemory → new ≡ seen_after old before before
-      → PlainAt before old n (Do c) text new
-  wanting old new before n c text free is same = inr ((free, is), same)
+  refused : (before : List Edit) (n : ℕ) (c : Command) (text : List ℕ) (refusal : Refusal) → refusal_after limits before c ≡ Some refusal → text ≡ refused_text refusal → text ≡ session_reply limits before n (Do c)
+  refused before n c text refusal why is = is ∙ ap (λ o. option_map_or refused_text o (reply_after before c)) (sym why)
 
   -- a state that only has seen more, or counts one edit more
-  seen_more : (old new : SessionState) (edits : List Edit) → new.seen ≡ edits → new.count ≡ old.count → kept_by new ≡ seen_after (kept_by old) edits edits
-  seen_more old new edits seen count = (λ i. record { edits = seen i; made = count i }) ∙ sym (none_made (kept_by old) edits)
+  seen_more : (old new : SessionState) (edits : List Edit) → new.seen ≡ edits → new.count ≡ old.count → kept_by new ≡ record { edits = edits; made = old.count }
+  seen_more old new edits seen count = λ i. record { edits = seen i; made = count i }
 
-  counted_more : (old new : SessionState) (edits : List Edit) (e : Edit) → new.seen ≡ edits ++ e ∷ [] → new.count ≡ old.count + 1 → kept_by new ≡ seen_after (kept_by old) edits (edits ++ e ∷ [])
-  counted_more old new edits e seen count = (λ i. record { edits = seen i; made = count i }) ∙ sym (one_made (kept_by old) edits e)
+  counted_more : (old new : SessionState) (edits : List Edit) (e : Edit) → new.seen ≡ edits ++ e ∷ [] → new.count ≡ old.count + 1 → kept_by new ≡ record { edits = edits ++ e ∷ []; made = old.count + 1 }
+  counted_more old new edits e seen count = λ i. record { edits = seen i; made = count i }
+
+  -- what is kept after an edit, by what refuses it
+  abbrev kept_after : Seen → List Edit → Edit → Option Refusal → Seen
+  kept_after old before e o = option_map_or (λ refusal. record old { edits = before }) o record { edits = before ++ e ∷ []; made = old.made + 1 }
 
   -- an edit
   edit_plain : (old new : SessionState) (n : ℕ) (e : Edit) (text : List ℕ) (result : Result Receipt Refusal) → (told : EditTold limits old.seen new.seen e result) → text ≡ edit_text result
       → new ≡ having_counted (up_to old new.seen) result → PlainAt told.before (kept_by old) n (Do (command.Edit e)) text (kept_by new)
-  edit_plain old new n e text (Ok receipt) told is state =
-      granted (kept_by old) (kept_by new) told.before n (command.Edit e) text told.answers.verdict
-      (is ∙ ap receipt_text told.answers.receipt_is ∙ sym (append-nil _)) (counted_more old new told.before e (ap (λ h. h.journal) told.answers.journal) (ap (λ s. s.count) state))
+  edit_plain old new n e text (Ok receipt) told is state = inl (
+    granted told.before n (command.Edit e) text told.answers.verdict (is ∙ ap receipt_text told.answers.receipt_is),
+    counted_more old new told.before e (ap (λ h. h.journal) told.answers.journal) (ap (λ s. s.count) state) ∙ ap (kept_after (kept_by old) told.before e) (sym told.answers.verdict),
+  )
   edit_plain old new n e text (Err refusal) told is state =
       let same = seen_more old new told.before (ap (λ h. h.journal) told.answers.same) (ap (λ s. s.count) state) in
       elim told.answers.verdict [
-        | inl why ↦ refused (kept_by old) (kept_by new) told.before n (command.Edit e) text refusal why is same
-        | inr want ↦ wanting (kept_by old) (kept_by new) told.before n (command.Edit e) text want.0 (is ∙ ap refused_text want.1) same
+        | inl why ↦ inl (refused told.before n (command.Edit e) text refusal why is, same ∙ ap (kept_after (kept_by old) told.before e) (sym why))
+        | inr want ↦ inr ((want.0, is ∙ ap refused_text want.1), same)
       ]
 
   edit_said : (old new : SessionState) (n : ℕ) (e : Edit) (text : List ℕ) (result : Result Receipt Refusal) → EditTold limits old.seen new.seen e result → text ≡ edit_text result
@@ -143,14 +126,14 @@ module _ (limits : Bounds) where
             let text_is = listed.0 ∙ ap₂ (λ edit shown. answer_text edit kind shown) is.edit value in record {
               before = new.seen;
               grown = told.seen;
-              answer = granted (kept_by old) (kept_by new) new.seen n (command.Reduce kind lo hi) text is.granted text_is (seen_more old new new.seen refl (ap (λ s. s.count) listed.1));
+              answer = inl (granted new.seen n (command.Reduce kind lo hi) text is.granted text_is, seen_more old new new.seen refl (ap (λ s. s.count) listed.1));
               within = told.within;
               lists = inl (text_is, ap (λ s. s.answers) listed.1 ∙ ap₂ (λ edit shown. old.answers ++ record { edit = edit; kind = kind; lo = lo; hi = hi; value = shown } ∷ []) is.edit value);
             }
         | inr full ↦ record {
           before = new.seen;
           grown = told.seen;
-          answer = wanting (kept_by old) (kept_by new) new.seen n (command.Reduce kind lo hi) text is.granted full.0 (seen_more old new new.seen refl (ap (λ s. s.count) full.1));
+          answer = inr ((is.granted, full.0), seen_more old new new.seen refl (ap (λ s. s.count) full.1));
           within = told.within;
           lists = inr (NoMemory, full.0, ap (λ s. s.answers) full.1);
         }
@@ -158,7 +141,7 @@ module _ (limits : Bounds) where
   reduction_said old new n kind lo hi text (Err refusal) told lists = record {
     before = new.seen;
     grown = told.seen;
-    answer = refused (kept_by old) (kept_by new) new.seen n (command.Reduce kind lo hi) text refusal told.refused lists.0 (seen_more old new new.seen refl (ap (λ s. s.count) lists.1));
+    answer = inl (refused new.seen n (command.Reduce kind lo hi) text refusal told.refused lists.0, seen_more old new new.seen refl (ap (λ s. s.count) lists.1));
     within = told.within;
     lists = inr (refusal, lists.0, ap (λ s. s.answers) lists.1);
   }
@@ -168,28 +151,25 @@ module _ (limits : Bounds) where
       → text ≡ scan_reply_text inclusive kind result → new ≡ up_to old new.seen → PlainAt new.seen (kept_by old) n (Do (command.Scan inclusive kind lo hi)) text (kept_by new)
   scan_plain old new n inclusive kind lo hi text (Ok scan) told is state =
       let values = ap (map (face_of kind)) told.scanned.values_are ∙ scan_values kind inclusive (slice_of new.seen lo hi) (slice_folds limits new.seen lo hi told.within) in
-      granted (kept_by old) (kept_by new) new.seen n (command.Scan inclusive kind lo hi) text told.scanned.granted
-      (is ∙ ap₂ (λ edit shown. scan_text edit inclusive kind shown) told.scanned.edit values) (seen_more old new new.seen refl (ap (λ s. s.count) state))
+      inl (granted new.seen n (command.Scan inclusive kind lo hi) text told.scanned.granted (is ∙ ap₂ (λ edit shown. scan_text edit inclusive kind shown) told.scanned.edit values), seen_more old new new.seen refl (ap (λ s. s.count) state))
   scan_plain old new n inclusive kind lo hi text (Err refusal) told is state =
       let same = seen_more old new new.seen refl (ap (λ s. s.count) state) in
       elim told.refused [
-        | inl why ↦ refused (kept_by old) (kept_by new) new.seen n (command.Scan inclusive kind lo hi) text refusal why is same
-        | inr want ↦ wanting (kept_by old) (kept_by new) new.seen n (command.Scan inclusive kind lo hi) text want.0 (is ∙ ap refused_text want.1) same
+        | inl why ↦ inl (refused new.seen n (command.Scan inclusive kind lo hi) text refusal why is, same)
+        | inr want ↦ inr ((want.0, is ∙ ap refused_text want.1), same)
       ]
 
   -- what is bad, or says nothing
-  unmoved : (old new : SessionState) (n : ℕ) (line : Line) (text : List ℕ) → text ≡ plain_reply [] (plain_at limits old.seen) n line → (plain_after (plain_at limits old.seen) line).edits ≡ old.seen → new ≡ old
-      → PlainAt old.seen (kept_by old) n line text (kept_by new)
-  unmoved old new n line text is same stays =
-      inl (is, seen_more old new old.seen (ap (λ s. s.seen) stays) (ap (λ s. s.count) stays) ∙ ap (seen_after (kept_by old) old.seen) (sym same))
+  unmoved : (old new : SessionState) → new ≡ old → kept_by new ≡ record { edits = old.seen; made = old.count }
+  unmoved old new stays = seen_more old new old.seen (ap (λ s. s.seen) stays) (ap (λ s. s.count) stays)
 
   nothing_said : (old new : SessionState) (n : ℕ) (text : List ℕ) → text ≡ [] → new ≡ old → SaidLine old n Nothing text new
   nothing_said old new n text is stays =
-      record { before = old.seen; grown = prefix_self old.seen; answer = unmoved old new n Nothing text is refl stays; within = stays; lists = ap (λ s. s.answers) stays }
+      record { before = old.seen; grown = prefix_self old.seen; answer = inl (is, unmoved old new stays); within = stays; lists = ap (λ s. s.answers) stays }
 
   bad_said : (old new : SessionState) (n : ℕ) (text : List ℕ) → text ≡ bad_text n → new ≡ old → SaidLine old n Bad text new
   bad_said old new n text is stays =
-      record { before = old.seen; grown = prefix_self old.seen; answer = unmoved old new n Bad text is refl stays; within = stays; lists = ap (λ s. s.answers) stays }
+      record { before = old.seen; grown = prefix_self old.seen; answer = inl (is, unmoved old new stays); within = stays; lists = ap (λ s. s.answers) stays }
 
   -- a command, as a session knows it
   command_said : (old new : SessionState) (n : ℕ) (c : Command) (text : List ℕ) → SessionCommandAnswer limits old n c text new → SaidLine old n (known_of (Do c)) text new
@@ -236,31 +216,31 @@ module _ (limits : Bounds) where
   -- ---- what is true of the whole list
 
   -- an edit or nothing more is kept
-  command_grows : (before : List Edit) (c : Command) → IsPrefix before (after (plain_at limits before) c).edits
-  command_grows before (command.Edit e) = (e ∷ [], refl)
-  command_grows before _ = prefix_self before
+  edit_grows : (old : Seen) (before : List Edit) (e : Edit) (o : Option Refusal) → IsPrefix before (kept_after old before e o).edits
+  edit_grows old before e (Some refusal) = prefix_self before
+  edit_grows old before e None = (e ∷ [], refl)
 
-  decided_grows : (before : List Edit) (c : Command) (o : Option Refusal) → IsPrefix before (option_map_or (λ refusal. plain_at limits before) o (after (plain_at limits before) c)).edits
-  decided_grows before c (Some refusal) = prefix_self before
-  decided_grows before c None = command_grows before c
+  command_grows : (old : Seen) (before : List Edit) (c : Command) → IsPrefix before (seen_after limits before old (Do c)).edits
+  command_grows old before (command.Edit e) = edit_grows old before e (verdict_of limits before e)
+  command_grows old before _ = prefix_self before
 
-  line_grows : (before : List Edit) (line : Line) → IsPrefix before (plain_after (plain_at limits before) line).edits
-  line_grows before Nothing = prefix_self before
-  line_grows before Bad = prefix_self before
-  line_grows before (Do c) = decided_grows before c (refusal_of (plain_at limits before) c)
+  line_grows : (old : Seen) (before : List Edit) (line : Line) → IsPrefix before (seen_after limits before old line).edits
+  line_grows old before Nothing = prefix_self before
+  line_grows old before Bad = prefix_self before
+  line_grows old before (Do c) = command_grows old before c
 
   -- the edits at which a line was answered begin those that are seen then
   step_goes_on : (old : Seen) (n : ℕ) (line text : List ℕ) (new : Seen) → (step : PlainSessionStep limits old n line text new) → IsPrefix step.before new.edits
   step_goes_on old n line text new step =
       elim step.answer [
-        | inl told ↦ subst (λ s. IsPrefix step.before s.edits) (sym told.1) (line_grows step.before (session_line_of line))
+        | inl told ↦ subst (λ s. IsPrefix step.before s.edits) (sym told.1) (line_grows old step.before (session_line_of line))
         | inr want ↦ subst (λ s. IsPrefix step.before s.edits) (sym want.1) (prefix_self step.before)
       ]
 
-  said_no_memory : (s : Plain) (line : Line) (text : List ℕ) → FindsNoMemory s line text → text ≡ refused_text NoMemory
-  said_no_memory s Nothing text f = absurd f
-  said_no_memory s Bad text f = absurd f
-  said_no_memory s (Do c) text f = f.1
+  said_no_memory : (edits : List Edit) (line : Line) (text : List ℕ) → FindsNoMemory limits edits line text → text ≡ refused_text NoMemory
+  said_no_memory edits Nothing text f = absurd f
+  said_no_memory edits Bad text f = absurd f
+  said_no_memory edits (Do c) text f = f.1
 
   -- what a step answers is true of each list that goes on from what it leaves
   step_true : (edits : List Edit) (old : Seen) (n : ℕ) (line text : List ℕ) (new : Seen) → PlainSessionStep limits old n line text new → IsPrefix new.edits edits → IsTrueReply limits edits n line text
@@ -270,8 +250,8 @@ module _ (limits : Bounds) where
         many = length step.before;
         within = prefix_length step.before edits more;
         answer = elim step.answer [
-          | inl told ↦ inl (subst (λ es. text ≡ plain_reply [] (plain_at limits es) n (session_line_of line)) (sym (prefix_take step.before edits more)) told.0)
-          | inr want ↦ inr (said_no_memory (plain_at limits step.before) (session_line_of line) text want.0)
+          | inl told ↦ inl (subst (λ es. text ≡ session_reply limits es n (session_line_of line)) (sym (prefix_take step.before edits more)) told.0)
+          | inr want ↦ inr (said_no_memory step.before (session_line_of line) text want.0)
         ];
       }
 

@@ -1,4 +1,5 @@
 -- Names the files of definitions of `lv_hub`.
+pub mod AsScripts
 pub mod Counting
 pub mod Growing
 pub mod Minuting

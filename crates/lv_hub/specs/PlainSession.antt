@@ -1,18 +1,24 @@
--- Sessions as the plain interpreter answers them: each line at some edits of the hub's one list, to which other sessions add between.
+-- Sessions by lists alone: each line is answered at some edits of the hub's one list, to which other sessions add between.
 -- Kept is which edits a session has seen, and how many of them it made.
-use Rattle.std.specs.Prelude.{◌≡◌, ◌⊎◌, ℕ, ◌+◌, ◌-◌, ◌≤◌, None, List, [], length, take}
+use Rattle.std.specs.Prelude.{◌≡◌, ◌⊎◌, ℕ, ◌+◌, ◌≤◌, Option, None, List, [], ◌∷◌, ◌++◌, length, take}
+use Rattle.std.specs.Option.{option_map_or}
 use mathlib.Core.List.{IsPrefix}
 use Rattle.lv_geometry.specs.Bounds.{Bounds}
+use Rattle.lv_geometry.specs.declared.refusals.Refusal.{Refusal}
 use Rattle.lv_geometry.specs.declared.refusals.Refusal.TheVariants.{NoMemory}
+use Rattle.lv_bodies.specs.Plain.{plain_value}
 use Rattle.lv_edits.specs.declared.edit.Edit.{Edit}
+use Rattle.lv_edits.specs.Verdict.{receipt_of, verdict_of}
+use Rattle.lv_reduce.specs.Answer.{range_refusal, slice_of}
+use Rattle.lv_lines.specs.declared.command.Command.{Command}
 use Rattle.lv_lines.specs.declared.command.Command.TheVariants as command
 use Rattle.lv_lines.specs.declared.command.Command.TheVariants.{Reduce, Scan}
 use Rattle.lv_lines.specs.declared.command.Line.{Line}
 use Rattle.lv_lines.specs.declared.command.Line.TheVariants.{Nothing, Bad, Do}
 use Rattle.lv_lines.specs.Grammar.{line_of}
-use Rattle.lv_lines.specs.Texts.{refused_text}
+use Rattle.lv_lines.specs.Texts.{answer_text, bad_text, receipt_text, refused_text, scan_text}
 use Rattle.lv_hub.specs.Counting.{ShareState}
-use Rattle.lv_script.specs.PlainScript.{Plain, plain_after, plain_reply, refusal_of}
+use Rattle.lv_script.specs.PlainScript.{scan_by}
 
 -- a line as a session reads it, by its bytes: it knows edits, reductions and scans, and any other command is bad
 abbrev pub known_of : Line → Line
@@ -25,10 +31,6 @@ known_of _ = Bad
 abbrev pub session_line_of : List ℕ → Line
 session_line_of bytes = known_of (line_of bytes)
 
--- the plain interpreter after some edits, where no query stands
-abbrev pub plain_at : Bounds → List Edit → Plain
-plain_at limits edits = record { limits = limits; edits = edits; queries = [] }
-
 -- what is kept of a session: the edits that it has seen, a beginning of the hub's, and how many of them it made
 pub record Seen : Type 0 where
   pub edits : List Edit
@@ -38,29 +40,51 @@ pub record Seen : Type 0 where
 abbrev pub seen_by : ShareState → Seen
 seen_by share = record { edits = share.seen; made = share.count }
 
--- once the hub had come to some edits, and the interpreter keeps these then: an edit more was made by the session itself
-abbrev pub seen_after : Seen → List Edit → List Edit → Seen
-seen_after old before kept = record { edits = kept; made = old.made + (length kept - length before) }
-
--- a command that nothing else refuses was refused for want of memory
-abbrev pub FindsNoMemory : Plain → Line → List ℕ → Type 0
-FindsNoMemory s (Do c) text = (refusal_of s c ≡ None) × (text ≡ refused_text NoMemory)
-FindsNoMemory s _ text = ⊥
+-- what an edit, a reduction or a scan is answered after some edits, where nothing refuses it
+abbrev pub reply_after : List Edit → Command → List ℕ
+reply_after edits (command.Edit e) = receipt_text (receipt_of edits e)
+reply_after edits (Reduce kind lo hi) = answer_text (length edits) kind (plain_value kind (slice_of edits lo hi))
+reply_after edits (Scan inclusive kind lo hi) = scan_text (length edits) inclusive kind (scan_by (plain_value kind) inclusive (slice_of edits lo hi))
+reply_after edits _ = []
 
 module _ (limits : Bounds) where
-  -- line n of a session. The hub came to a list that begins with what the session has seen, and there the line has the interpreter's
-  -- reply; the session has then seen what the interpreter keeps. Or memory was wanting, and nothing was made
+  -- why it is refused there, want of memory apart, or nothing
+  abbrev pub refusal_after : List Edit → Command → Option Refusal
+  refusal_after edits (command.Edit e) = verdict_of limits edits e
+  refusal_after edits (Reduce kind lo hi) = range_refusal edits lo hi
+  refusal_after edits (Scan inclusive kind lo hi) = range_refusal edits lo hi
+  refusal_after edits _ = None
+
+  -- what line n is answered there: nothing where it says nothing, its number where it says nothing known; a command by its refusal, or its reply
+  abbrev pub session_reply : List Edit → ℕ → Line → List ℕ
+  session_reply edits n Nothing = []
+  session_reply edits n Bad = bad_text n
+  session_reply edits n (Do c) = option_map_or refused_text (refusal_after edits c) (reply_after edits c)
+
+  -- what a session has seen and made then: an edit that nothing refuses is one more, and its own
+  abbrev pub seen_after : List Edit → Seen → Line → Seen
+  seen_after edits old (Do (command.Edit e)) =
+      option_map_or (λ refusal. record old { edits = edits }) (verdict_of limits edits e) record { edits = edits ++ e ∷ []; made = old.made + 1 }
+  seen_after edits old _ = record old { edits = edits }
+
+  -- a command that nothing else refuses was refused for want of memory
+  abbrev pub FindsNoMemory : List Edit → Line → List ℕ → Type 0
+  FindsNoMemory edits (Do c) text = (refusal_after edits c ≡ None) × (text ≡ refused_text NoMemory)
+  FindsNoMemory edits _ text = ⊥
+
+  -- line n of a session. The hub came to a list that begins with what the session has seen, and there the line has its reply; the session
+  -- has then seen that list, with its own edit. Or memory was wanting, and nothing was made
   pub record PlainSessionStep (old : Seen) (n : ℕ) (line text : List ℕ) (new : Seen) : Type 0 where
     pub before : List Edit
     pub grown : IsPrefix old.edits before
-    pub answer : ((text ≡ plain_reply [] (plain_at limits before) n (session_line_of line)) × (new ≡ seen_after old before (plain_after (plain_at limits before) (session_line_of line)).edits))
-        ⊎ (FindsNoMemory (plain_at limits before) (session_line_of line) text × (new ≡ seen_after old before before))
+    pub answer : ((text ≡ session_reply before n (session_line_of line)) × (new ≡ seen_after before old (session_line_of line)))
+        ⊎ (FindsNoMemory before (session_line_of line) text × (new ≡ record old { edits = before }))
 
-  -- what line n was answered is true of a list of edits: it is the interpreter's reply after the first so many of them, or `refused 6`
+  -- what line n was answered is true of a list of edits: it is the reply after the first so many of them, or `refused 6`
   pub record IsTrueReply (edits : List Edit) (n : ℕ) (line text : List ℕ) : Type 0 where
     pub many : ℕ
     pub within : many ≤ length edits
-    pub answer : (text ≡ plain_reply [] (plain_at limits (take many edits)) n (session_line_of line)) ⊎ (text ≡ refused_text NoMemory)
+    pub answer : (text ≡ session_reply (take many edits) n (session_line_of line)) ⊎ (text ≡ refused_text NoMemory)
 
   -- so of a line, in a run that keeps nothing
   abbrev pub TrueReply : List Edit → Unit {0} → ℕ → List ℕ → List ℕ → Unit {0} → Type 0

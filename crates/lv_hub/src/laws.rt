@@ -1,17 +1,22 @@
 // What holds of all sessions together.
-ghost use Rattle.std.specs.Prelude.{ℕ, List};
+ghost use Rattle.std.specs.Prelude.{◌↔◌, ℕ, List};
 ghost use mathlib.Core.List.{IsPrefix};
 ghost use Rattle.lv_edits.specs.declared.edit.Edit.{Edit};
 ghost use Rattle.lv_geometry.specs.Bounds.{Bounds};
 ghost use Rattle.lv_lines.specs.Replies.{Answered};
+ghost use Rattle.lv_hub.specs.AsScripts.{ScriptedStep};
 ghost use Rattle.lv_hub.specs.PlainSession.{PlainSessionStep, Seen, TrueReply};
 
 /// Sessions have one list of edits: what a session is answered is true of each list that goes on from what it has seen, so of
 /// all that the hub accepts. Each reply is the plain interpreter's after the first so many of them, `refused 6` apart.
+/// That interpreter is the one of scripts, where no query stands.
 pub fn replies_are_true_of_one_list()
     ensures replies { (limits : Bounds) (edits : List Edit) (old new : Seen) (lines : List (List ℕ)) (text : List ℕ) →
         Answered (PlainSessionStep limits) old 1 lines text new → IsPrefix new.edits edits → Answered (TrueReply limits edits) tt 1 lines text tt }
     // A session never goes back.
     ensures forward { (limits : Bounds) (old new : Seen) (lines : List (List ℕ)) (text : List ℕ) →
         Answered (PlainSessionStep limits) old 1 lines text new → IsPrefix old.edits new.edits }
+    // A line is answered so exactly where the interpreter of scripts answers it so.
+    ensures scripted { (limits : Bounds) (old : Seen) (n : ℕ) (line text : List ℕ) (new : Seen) →
+        PlainSessionStep limits old n line text new ↔ ScriptedStep limits old n line text new }
 {}

@@ -1,4 +1,5 @@
 -- Proof of `replies_are_true_of_one_list`: sessions have one list of edits: what a session is answered is true of each list that goes on from what it has seen, so of all that the hub accepts.
+use Rattle.lv_hub.proofs.AsScriptsLaws.{as_scripts}
 use Rattle.lv_hub.proofs.PlainSessionLaws.{lines_go_on, lines_true}
 use Rattle.lv_hub.proofs.laws.replies_are_true_of_one_list.Goals as goal
 
@@ -7,3 +8,6 @@ returns-clause-replies c = λ limits edits old new lines text. lines_true limits
 
 pub returns-clause-forward : goal.returns-clause-forward
 returns-clause-forward c = λ limits old new lines text. lines_go_on limits old new 1 lines text
+
+pub returns-clause-scripted : goal.returns-clause-scripted
+returns-clause-scripted c = as_scripts
