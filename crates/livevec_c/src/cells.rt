@@ -55,7 +55,7 @@ pub trait Celled: Body {
 
     /// The cell of a fold is the plain one.
     ghost cells_plain: { (b : Self) (table : List (List ℕ)) (xs : List ℤ) → fits b table → CanFold xs →
-        cell_of (fold_of (Self.operations (Self.meaning b)) xs) ≡ plain_cell table xs };
+        cell_of (fold_of (Self.operations b) xs) ≡ plain_cell table xs };
 }
 
 impl Celled for Sum {

@@ -67,11 +67,11 @@ fn lay_run<B: Celled>(
     from: usize,
     column: &mut [B::Cell],
 ) -> B::S
-    requires can { CanGoOn (B.is_within (B.meaning body.now)) before (length xs.now) }
+    requires can { CanGoOn (B.is_within body.now) before (length xs.now) }
     requires room { from + length xs.now ≤ length column.old }
-    ensures cells { take (from + length xs.now) column.new ≡ take from column.old ++ map B.cell_of (scan_from inclusive (B.operations (B.meaning body.now)) before xs.now) }
+    ensures cells { take (from + length xs.now) column.new ≡ take from column.old ++ map B.cell_of (scan_from inclusive (B.operations body.now) before xs.now) }
     ensures len { length column.new ≡ length column.old }
-    ensures sum { result ≡ reached (B.operations (B.meaning body.now)) before xs.now }
+    ensures sum { result ≡ reached (B.operations body.now) before xs.now }
 {
     let mut sum = before;
     for k in 0..xs.len() {
@@ -85,7 +85,7 @@ fn lay_run<B: Celled>(
 // Puts the cells of one of the two scans of a range into a column of as many places, by runs of elements that lie side by side.
 fn lay_range<B: Celled>(body: &B, inclusive: bool, history: &Edits, lo: u32, column: &mut [B::Cell])
     requires { lo + length column.old ≤ length (list_of history.now.journal) }
-    ensures { column.new ≡ map B.cell_of (scan_of inclusive (B.operations (B.meaning body.now)) (slice_of history.now.journal lo (lo + length column.old))) }
+    ensures { column.new ≡ map B.cell_of (scan_of inclusive (B.operations body.now) (slice_of history.now.journal lo (lo + length column.old))) }
 {
     // The elements are few enough for a fold.
     let _size = history.size();
@@ -112,7 +112,7 @@ fn lay_front<B: Celled>(
     requires order { lo ≤ hi }
     requires inside { hi ≤ length (list_of history.now.journal) }
     requires room { hi - lo ≤ length column.old }
-    ensures { column.new ≡ map B.cell_of (scan_of inclusive (B.operations (B.meaning body.now)) (slice_of history.now.journal lo hi)) ++ drop (hi - lo) column.old }
+    ensures { column.new ≡ map B.cell_of (scan_of inclusive (B.operations body.now) (slice_of history.now.journal lo hi)) ++ drop (hi - lo) column.old }
 {
     let many = (hi - lo) as usize;
     lay_range(body, inclusive, history, lo, &mut column[..many]);

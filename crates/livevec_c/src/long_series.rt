@@ -130,14 +130,14 @@ impl<B: LongBody> Series<B> {
 
     /// The fold of a range's elements.
     pub fn reduce(&self, lo: u64, hi: u64) -> Result<LongAnswer<B::S>, LongRefusal>
-        ensures { Reduces (B.operations (B.meaning self.now.body)) self.now lo hi result }
+        ensures { Reduces (B.operations self.now.body) self.now lo hi result }
     {
         self.inner.reduce(lo, hi)
     }
 
     /// The same, keeping what is computed for it.
     pub fn ask(&mut self, lo: u64, hi: u64) -> Result<LongAnswer<B::S>, LongRefusal>
-        ensures answer { Reduces (B.operations (B.meaning self.old.body)) self.old lo hi result }
+        ensures answer { Reduces (B.operations self.old.body) self.old lo hi result }
         ensures same { self.new ≡ self.old }
     {
         self.inner.ask(lo, hi)

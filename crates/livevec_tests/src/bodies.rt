@@ -23,7 +23,7 @@ fn show<B: Single>(body: &B, xs: &[i64]) -> Shown
 // The summary of eight short elements, read back from its parts.
 fn through_parts<B: Parted>(body: &B, xs: [i64; 8]) -> B::S
     requires { All IsShort xs }
-    ensures { result ≡ fold_of (B.operations (B.meaning body.now)) xs }
+    ensures { result ≡ fold_of (B.operations body.now) xs }
 {
     B::of_parts(B::to_parts(fold_slice(body, &xs)))
 }

@@ -43,7 +43,7 @@ pub(crate) struct Met<'a> {
 
 impl<'a> Body for Met<'a> {
     ghost use Rattle.lv_bodies.specs.Sums.{sum_operations, IsSum};
-    ghost use Rattle.std.proofs.Common.{rules};
+    ghost use Rattle.std.proofs.Common.{rules, refl};
     ghost use Rattle.lv_bodies.specs.SumLaws.{sum_laws};
 
     type S = u64;
@@ -53,6 +53,8 @@ impl<'a> Body for Met<'a> {
     ghost meaning = { λ _. tt };
 
     ghost operations = { λ _. sum_operations };
+
+    ghost decided = { λ _ _ _. refl };
 
     ghost is_within = { λ _. IsSum };
 

@@ -29,7 +29,7 @@ struct Counted<'a> {
 
 impl<'a> Body for Counted<'a> {
     ghost use Rattle.lv_bodies.specs.Sums.{sum_operations, IsSum};
-    ghost use Rattle.std.proofs.Common.{rules};
+    ghost use Rattle.std.proofs.Common.{rules, refl};
     ghost use Rattle.lv_bodies.specs.SumLaws.{sum_laws};
 
     type S = u64;
@@ -39,6 +39,8 @@ impl<'a> Body for Counted<'a> {
     ghost meaning = { λ _. tt };
 
     ghost operations = { λ _. sum_operations };
+
+    ghost decided = { λ _ _ _. refl };
 
     ghost is_within = { λ _. IsSum };
 

@@ -29,7 +29,7 @@ pub trait Answering<T, S>: Parted {
         requires room { HasRoom held.old LINE }
         ensures stays { Stays (seat_of seat.old) (seat_of seat.new) }
         ensures answer { (text : List ℕ)
-            × BoardAnswer (terms_of (folds Self.PARTS Self.parts_of (λ b. Self.operations (Self.meaning b))) (board_of board.now).terms) (Self.operations (Self.meaning (board_of board.now).terms.body)) Self.the_kind (Self.shown_as (board_of board.now).terms.body) (actor_of (seat_of seat.old)) number line text (actor_of (seat_of seat.new))
+            × BoardAnswer (terms_of (folds Self.PARTS Self.parts_of (λ b. Self.operations b)) (board_of board.now).terms) (Self.operations (board_of board.now).terms.body) Self.the_kind (Self.shown_as (board_of board.now).terms.body) (actor_of (seat_of seat.old)) number line text (actor_of (seat_of seat.new))
             × (held.new.items ≡ held.old.items ++ text) }
         ensures room { KeepsRoom held.old held.new };
 }
@@ -142,7 +142,7 @@ fn answer_line<B: Parted>(
     requires room { HasRoom held.old LINE }
     ensures stays { Stays seat.old seat.new }
     ensures answer { (text : List ℕ)
-        × BoardAnswer (terms_of (folds B.PARTS B.parts_of (λ b. B.operations (B.meaning b))) board.now.terms) (B.operations (B.meaning board.now.terms.body)) B.the_kind (B.shown_as board.now.terms.body) (actor_of seat.old) number line text (actor_of seat.new)
+        × BoardAnswer (terms_of (folds B.PARTS B.parts_of B.operations) board.now.terms) (B.operations board.now.terms.body) B.the_kind (B.shown_as board.now.terms.body) (actor_of seat.old) number line text (actor_of seat.new)
         × (held.new.items ≡ held.old.items ++ text) }
     ensures room { KeepsRoom held.old held.new }
 {

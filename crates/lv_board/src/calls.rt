@@ -27,7 +27,7 @@ impl<B: Parted> Board<B> {
     ) -> Result<Answer<Shown>, Refusal>
         requires { IsAt self.now.table.shared.table_id self.now.terms seat.old }
         ensures stays { Stays seat.old seat.new }
-        ensures looked { lo ≤ hi → HasLooked (terms_of (folds B.PARTS B.parts_of (λ b. B.operations (B.meaning b))) self.now.terms) (actor_of seat.old) (actor_of seat.new) }
+        ensures looked { lo ≤ hi → HasLooked (terms_of (folds B.PARTS B.parts_of B.operations) self.now.terms) (actor_of seat.old) (actor_of seat.new) }
         ensures answer { lo ≤ hi → ReduceAnswers (B.plain self.now.terms.body) lo hi (actor_of seat.new) result }
         ensures backwards { hi < lo → (result ≡ Err Refusal.BadRange) × IsSame seat.old seat.new }
     {
@@ -47,7 +47,7 @@ impl<B: Parted> Board<B> {
         requires here { IsAt self.now.table.shared.table_id self.now.terms seat.old }
         requires some { 1 ≤ tries }
         ensures still { IsStill seat.old seat.new }
-        ensures ends { EndsWithin (terms_of (folds B.PARTS B.parts_of (λ b. B.operations (B.meaning b))) self.now.terms) (B.plain self.now.terms.body) tries call (actor_of seat.old) result (actor_of seat.new) }
+        ensures ends { EndsWithin (terms_of (folds B.PARTS B.parts_of B.operations) self.now.terms) (B.plain self.now.terms.body) tries call (actor_of seat.old) result (actor_of seat.new) }
     {
         match call {
             Call::Push(x) => tried(self.push_within(seat, x, tries)),
@@ -64,7 +64,7 @@ impl<B: Parted> Board<B> {
     pub(crate) fn make(&self, seat: &mut Seat<B>, call: Call) -> Said<B::S>
         requires { IsAt self.now.table.shared.table_id self.now.terms seat.old }
         ensures stays { Stays seat.old seat.new }
-        ensures ends { CallEnds (terms_of (folds B.PARTS B.parts_of (λ b. B.operations (B.meaning b))) self.now.terms) (TryAnswers (terms_of (folds B.PARTS B.parts_of (λ b. B.operations (B.meaning b))) self.now.terms)) (fold_of (B.operations (B.meaning self.now.terms.body))) call (actor_of seat.old) result (actor_of seat.new) }
+        ensures ends { CallEnds (terms_of (folds B.PARTS B.parts_of B.operations) self.now.terms) (TryAnswers (terms_of (folds B.PARTS B.parts_of B.operations) self.now.terms)) (fold_of (B.operations self.now.terms.body)) call (actor_of seat.old) result (actor_of seat.new) }
     {
         match call {
             Call::Push(x) => tried(self.try_push(seat, x)),

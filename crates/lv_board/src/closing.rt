@@ -92,7 +92,7 @@ impl<B: Parted> Board<B> {
         ensures words { slots_len result.words ≡ count_of (limits_of self.terms) }
         ensures slots { slots_len result.slots ≡ 0 }
         ensures full { IsFull result.words }
-        ensures settled { IsSettled (terms_of (folds B.PARTS B.parts_of (λ b. B.operations (B.meaning b))) self.terms) (map actor_of seats.items) (slots_items result.words) }
+        ensures settled { IsSettled (terms_of (folds B.PARTS B.parts_of B.operations) self.terms) (map actor_of seats.items) (slots_items result.words) }
     {
         let Some(last) = seats.pop() else {
             let Board { terms: _, table } = self;
@@ -122,7 +122,7 @@ impl<B: Parted> Board<B> {
         requires at { AreAt self.table.shared.table_id self.terms seats.items }
         requires none { elements.items ≡ [] }
         requires room { capacity_of self.terms.buckets ≤ vec_capacity elements }
-        ensures { IsEnded (terms_of (folds B.PARTS B.parts_of (λ b. B.operations (B.meaning b))) self.terms) seats.items result }
+        ensures { IsEnded (terms_of (folds B.PARTS B.parts_of B.operations) self.terms) seats.items result }
     {
         let words = self.settle(seats);
         let look = words.word(0);
@@ -137,7 +137,7 @@ impl<B: Parted> Board<B> {
         requires all { AreAll self.terms.seats seats.items }
         requires none { elements.items ≡ [] }
         requires room { capacity_of self.terms.buckets ≤ vec_capacity elements }
-        ensures { IsClosed (terms_of (folds B.PARTS B.parts_of (λ b. B.operations (B.meaning b))) self.terms) seats.items result }
+        ensures { IsClosed (terms_of (folds B.PARTS B.parts_of B.operations) self.terms) seats.items result }
     {
         self.close_by(seats, elements)
     }
@@ -151,7 +151,7 @@ impl<B: Parted> Board<B> {
     ) -> Result<Closed, (Board<B>, Vec<Seat<B>>)>
         requires at { AreAt self.table.shared.table_id self.terms seats.items }
         requires all { AreAll self.terms.seats seats.items }
-        ensures ok { IfOk result (λ closed. IsClosed (terms_of (folds B.PARTS B.parts_of (λ b. B.operations (B.meaning b))) self.terms) seats.items closed) }
+        ensures ok { IfOk result (λ closed. IsClosed (terms_of (folds B.PARTS B.parts_of B.operations) self.terms) seats.items closed) }
         ensures err { IfErr result (λ r. (r.0 ≡ self) × (r.1.items ≡ seats.items)) }
     {
         let Ok(elements) = Vec::with_capacity(alloc, self.capacity() as usize) else {

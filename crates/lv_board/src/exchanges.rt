@@ -33,7 +33,7 @@ pub(crate) fn exchange<B: Parted>(
     requires short { IsShortEdit edit }
     requires free { verdict_at (limits_of seat.old.terms) seat.old.look edit ≡ None }
     requires after { new ≡ descriptor_after seat.old.look edit }
-    ensures { IsExchanged (folds B.PARTS B.parts_of (λ b. B.operations (B.meaning b))) edit result seat.old seat.new }
+    ensures { IsExchanged (folds B.PARTS B.parts_of B.operations) edit result seat.old seat.new }
 {
     let old = seat.look;
     let found = table

@@ -23,7 +23,7 @@ impl<B: Parted> Board<B> {
         requires here { IsAt self.now.table.shared.table_id self.now.terms seat.old }
         requires ready { IsReady (actor_of seat.old) seat.old.look }
         requires within { i < capacity_of self.now.terms.buckets }
-        ensures { IsCellTaken (terms_of (folds B.PARTS B.parts_of (λ b. B.operations (B.meaning b))) self.now.terms) i result seat.old seat.new }
+        ensures { IsCellTaken (terms_of (folds B.PARTS B.parts_of B.operations) self.now.terms) i result seat.old seat.new }
     {
         load_cell(&self.table, seat, i)
     }
@@ -33,7 +33,7 @@ impl<B: Parted> Board<B> {
     pub fn get(&self, seat: &mut Seat<B>, i: u32) -> Result<Read, Refusal>
         requires { IsAt self.now.table.shared.table_id self.now.terms seat.old }
         ensures stays { Stays seat.old seat.new }
-        ensures looked { HasLooked (terms_of (folds B.PARTS B.parts_of (λ b. B.operations (B.meaning b))) self.now.terms) (actor_of seat.old) (actor_of seat.new) }
+        ensures looked { HasLooked (terms_of (folds B.PARTS B.parts_of B.operations) self.now.terms) (actor_of seat.old) (actor_of seat.new) }
         ensures answer { GetAnswers i (actor_of seat.new) result }
     {
         self.load_descriptor(seat);

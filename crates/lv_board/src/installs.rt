@@ -33,7 +33,7 @@ pub(crate) fn install<B: Parted>(
     requires within { 8 * b < capacity_of seat.old.terms.buckets }
     requires part { part < B.PARTS }
     requires whole { is_whole (edits_of (actor_of seat.old).seen) (block b) ≡ true }
-    requires word { word ≡ part_word (mark_of b (actor_of seat.old).seen) ((terms_of (folds B.PARTS B.parts_of (λ b. B.operations (B.meaning b))) seat.old.terms).folding.part part (elements_under (edits_of (actor_of seat.old).seen) (block b))) }
+    requires word { word ≡ part_word (mark_of b (actor_of seat.old).seen) ((terms_of (folds B.PARTS B.parts_of B.operations) seat.old.terms).folding.part part (elements_under (edits_of (actor_of seat.old).seen) (block b))) }
     ensures installed { IsInstalled (part_place b part) word seat.old seat.new }
     ensures moves { HasMovedPart b part word seat.old seat.new }
 {

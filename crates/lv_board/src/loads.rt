@@ -25,7 +25,7 @@ pub(crate) fn load_descriptor<B: Parted>(
     requires here { seat.old.token.table_id ≡ table.now.shared.table_id }
     requires key { table.now.shared.key ≡ seat.old.terms }
     requires count { table.now.shared.table_id.words ≡ count_of (limits_of seat.old.terms) }
-    ensures { IsLoaded (folds B.PARTS B.parts_of (λ b. B.operations (B.meaning b))) seat.old seat.new }
+    ensures { IsLoaded (folds B.PARTS B.parts_of B.operations) seat.old seat.new }
 {
     seat.look = table.shared.load::<LoadDescriptor<B>>(&mut seat.token, 0);
 }
@@ -40,7 +40,7 @@ pub(crate) fn load_word<B: Parted>(
     requires key { table.now.shared.key ≡ seat.old.terms }
     requires count { table.now.shared.table_id.words ≡ count_of (limits_of seat.old.terms) }
     requires within { at < count_of (limits_of seat.old.terms) }
-    ensures { IsWordLoaded (folds B.PARTS B.parts_of (λ b. B.operations (B.meaning b))) at result seat.old seat.new }
+    ensures { IsWordLoaded (folds B.PARTS B.parts_of B.operations) at result seat.old seat.new }
 {
     table.shared.load::<LoadWord<B>>(&mut seat.token, at)
 }
@@ -56,7 +56,7 @@ pub(crate) fn load_cell<B: Parted>(
     requires count { table.now.shared.table_id.words ≡ count_of (limits_of seat.old.terms) }
     requires ready { IsReady (actor_of seat.old) seat.old.look }
     requires within { i < capacity_of seat.old.terms.buckets }
-    ensures { IsCellTaken (terms_of (folds B.PARTS B.parts_of (λ b. B.operations (B.meaning b))) seat.old.terms) i result seat.old seat.new }
+    ensures { IsCellTaken (terms_of (folds B.PARTS B.parts_of B.operations) seat.old.terms) i result seat.old seat.new }
 {
     let cell = load_word(table, seat, cell_place_of(i));
     let version = version_in(cell);

@@ -24,7 +24,7 @@ impl<B: Parted> Board<B> {
     pub fn look(&self, seat: &mut Seat<B>) -> Look
         requires { IsAt self.now.table.shared.table_id self.now.terms seat.old }
         ensures stays { Stays seat.old seat.new }
-        ensures looked { HasLooked (terms_of (folds B.PARTS B.parts_of (λ b. B.operations (B.meaning b))) self.now.terms) (actor_of seat.old) (actor_of seat.new) }
+        ensures looked { HasLooked (terms_of (folds B.PARTS B.parts_of B.operations) self.now.terms) (actor_of seat.old) (actor_of seat.new) }
         ensures edit { result.edit ≡ length (actor_of seat.new).seen }
         ensures size { result.size ≡ length (elements_of (actor_of seat.new).seen) }
         ensures moves { HasMoved Move.Look seat.old seat.new }
@@ -40,7 +40,7 @@ impl<B: Parted> Board<B> {
     pub fn size(&self, seat: &mut Seat<B>) -> Sized
         requires { IsAt self.now.table.shared.table_id self.now.terms seat.old }
         ensures stays { Stays seat.old seat.new }
-        ensures looked { HasLooked (terms_of (folds B.PARTS B.parts_of (λ b. B.operations (B.meaning b))) self.now.terms) (actor_of seat.old) (actor_of seat.new) }
+        ensures looked { HasLooked (terms_of (folds B.PARTS B.parts_of B.operations) self.now.terms) (actor_of seat.old) (actor_of seat.new) }
         ensures edit { result.edit ≡ length (actor_of seat.new).seen }
         ensures size { result.size ≡ length (elements_of (actor_of seat.new).seen) }
         ensures moves { HasMoved Move.Look seat.old seat.new }

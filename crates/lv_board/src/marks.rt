@@ -24,7 +24,7 @@ impl<B: Parted> Board<B> {
         requires here { IsAt self.now.table.shared.table_id self.now.terms seat.old }
         requires ready { IsReady (actor_of seat.old) seat.old.look }
         requires within { 8 * b < capacity_of self.now.terms.buckets }
-        ensures { IsMarkTaken (terms_of (folds B.PARTS B.parts_of (λ b. B.operations (B.meaning b))) self.now.terms) b result seat.old seat.new }
+        ensures { IsMarkTaken (terms_of (folds B.PARTS B.parts_of B.operations) self.now.terms) b result seat.old seat.new }
     {
         let mark = self.load_word(seat, mark_place_of(b));
         if mark > u64::from(edit_in(seat.look)) {
@@ -39,7 +39,7 @@ impl<B: Parted> Board<B> {
         requires within { 8 * b < capacity_of self.now.terms.buckets }
         requires part { part < B.PARTS }
         requires whole { is_whole (edits_of (actor_of seat.old).seen) (block b) ≡ true }
-        requires word { word ≡ part_word (mark_of b (actor_of seat.old).seen) ((terms_of (folds B.PARTS B.parts_of (λ b. B.operations (B.meaning b))) self.now.terms).folding.part part (elements_under (edits_of (actor_of seat.old).seen) (block b))) }
+        requires word { word ≡ part_word (mark_of b (actor_of seat.old).seen) ((terms_of (folds B.PARTS B.parts_of B.operations) self.now.terms).folding.part part (elements_under (edits_of (actor_of seat.old).seen) (block b))) }
         ensures installed { IsInstalled (part_place b part) word seat.old seat.new }
         ensures moves { HasMovedPart b part word seat.old seat.new }
     {

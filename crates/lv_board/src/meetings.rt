@@ -40,7 +40,7 @@ impl<B: Parted> Board<B> {
         requires table { note.table_id ≡ self.now.table.shared.table_id }
         requires slots { note.me.1 ≡ [] }
         ensures stays { Stays seat.old seat.new }
-        ensures looked { HasLooked (terms_of (folds B.PARTS B.parts_of (λ b. B.operations (B.meaning b))) self.now.terms) (actor_of seat.old) (actor_of seat.new) }
+        ensures looked { HasLooked (terms_of (folds B.PARTS B.parts_of B.operations) self.now.terms) (actor_of seat.old) (actor_of seat.new) }
         ensures told { Ends note.me.0.actor.known (actor_of seat.new).seen }
         ensures moves { HasMoved Look seat.old seat.new }
     {
@@ -58,8 +58,8 @@ impl<B: Parted> Board<B> {
         requires second { IsAt self.now.table.shared.table_id self.now.terms second.old }
         ensures first_stays { Stays first.old first.new }
         ensures second_stays { Stays second.old second.new }
-        ensures first_looked { HasLooked (terms_of (folds B.PARTS B.parts_of (λ b. B.operations (B.meaning b))) self.now.terms) (actor_of first.old) (actor_of first.new) }
-        ensures second_looked { HasLooked (terms_of (folds B.PARTS B.parts_of (λ b. B.operations (B.meaning b))) self.now.terms) (actor_of second.old) (actor_of second.new) }
+        ensures first_looked { HasLooked (terms_of (folds B.PARTS B.parts_of B.operations) self.now.terms) (actor_of first.old) (actor_of first.new) }
+        ensures second_looked { HasLooked (terms_of (folds B.PARTS B.parts_of B.operations) self.now.terms) (actor_of second.old) (actor_of second.new) }
         ensures told { Ends (actor_of first.new).seen (actor_of second.new).seen }
         ensures first_edit { result.first ≡ length (actor_of first.new).seen }
         ensures second_edit { result.second ≡ length (actor_of second.new).seen }

@@ -13,7 +13,7 @@ pub(crate) struct LoadDescriptor<B> {
 }
 
 impl<B: Parted> Play<(), View<B>> for LoadDescriptor<B> {
-    ghost then = { Looks (folds B.PARTS B.parts_of (λ b. B.operations (B.meaning b))) };
+    ghost then = { Looks (folds B.PARTS B.parts_of B.operations) };
 }
 
 pub(crate) struct LoadWord<B> {
@@ -21,7 +21,7 @@ pub(crate) struct LoadWord<B> {
 }
 
 impl<B: Parted> Play<(), View<B>> for LoadWord<B> {
-    ghost then = { Reads (folds B.PARTS B.parts_of (λ b. B.operations (B.meaning b))) };
+    ghost then = { Reads (folds B.PARTS B.parts_of B.operations) };
 }
 
 pub(crate) struct HelpCell;
@@ -47,7 +47,7 @@ pub(crate) struct Exchange<B> {
 }
 
 impl<B: Parted> Play<(), View<B>> for Exchange<B> {
-    ghost then = { Exchanges (folds B.PARTS B.parts_of (λ b. B.operations (B.meaning b))) };
+    ghost then = { Exchanges (folds B.PARTS B.parts_of B.operations) };
 }
 
 /// A seat is dealt.

@@ -22,13 +22,13 @@ impl<B: Parted> Board<B> {
     // A part of a whole block's summary, where its version is that of the block's mark.
     fn load_part(&self, seat: &mut Seat<B>, b: u32, part: u32, mark: u32) -> Option<u32>
         requires here { IsAt self.now.table.shared.table_id self.now.terms seat.old }
-        requires may { MayRead (terms_of (folds B.PARTS B.parts_of (λ b. B.operations (B.meaning b))) self.now.terms) seat.old }
+        requires may { MayRead (terms_of (folds B.PARTS B.parts_of B.operations) self.now.terms) seat.old }
         requires within { 8 * b < capacity_of self.now.terms.buckets }
         requires part { part < B.PARTS }
         requires whole { is_whole (edits_of (actor_of seat.old).seen) (block b) ≡ true }
         requires mark { mark ≡ mark_of b (actor_of seat.old).seen }
         ensures read { HasRead seat.old seat.new }
-        ensures value { IfSome result (λ v. v ≡ slice_index (B.parts_of (block_fold (B.operations (B.meaning self.now.terms.body)) b (actor_of seat.old).seen)) part) }
+        ensures value { IfSome result (λ v. v ≡ slice_index (B.parts_of (block_fold (B.operations self.now.terms.body) b (actor_of seat.old).seen)) part) }
     {
         let word = self.load_word(seat, part_place_of(b, part));
         if part_version_in(word) == u64::from(mark) {
@@ -41,12 +41,12 @@ impl<B: Parted> Board<B> {
     // The parts of a whole block's summary, where each has the version of the block's mark.
     fn load_parts(&self, seat: &mut Seat<B>, b: u32, mark: u32) -> Option<[u32; 4]>
         requires here { IsAt self.now.table.shared.table_id self.now.terms seat.old }
-        requires may { MayRead (terms_of (folds B.PARTS B.parts_of (λ b. B.operations (B.meaning b))) self.now.terms) seat.old }
+        requires may { MayRead (terms_of (folds B.PARTS B.parts_of B.operations) self.now.terms) seat.old }
         requires within { 8 * b < capacity_of self.now.terms.buckets }
         requires whole { is_whole (edits_of (actor_of seat.old).seen) (block b) ≡ true }
         requires mark { mark ≡ mark_of b (actor_of seat.old).seen }
         ensures read { HasRead seat.old seat.new }
-        ensures parts { IfSome result (λ parts. parts ≡ B.parts_of (block_fold (B.operations (B.meaning self.now.terms.body)) b (actor_of seat.old).seen)) }
+        ensures parts { IfSome result (λ parts. parts ≡ B.parts_of (block_fold (B.operations self.now.terms.body) b (actor_of seat.old).seen)) }
     {
         let mut values = [0; 4];
         for part in 0..B::PARTS {
@@ -61,7 +61,7 @@ impl<B: Parted> Board<B> {
     // A walk that begins at an index.
     pub(crate) fn start_walk(&self, lo: u32) -> BoardWalk<B::S>
         ensures range { (result.lo ≡ lo) × (result.at ≡ lo) }
-        ensures sum { result.sum ≡ (B.operations (B.meaning self.now.terms.body)).identity }
+        ensures sum { result.sum ≡ (B.operations self.now.terms.body).identity }
         ensures reads { (result.cells ≡ 0) × (result.summaries ≡ 0) }
     {
         BoardWalk {
@@ -81,11 +81,11 @@ impl<B: Parted> Board<B> {
         end: u32,
     ) -> Result<BoardWalk<B::S>, Refusal>
         requires here { IsAt self.now.table.shared.table_id self.now.terms seat.old }
-        requires may { MayRead (terms_of (folds B.PARTS B.parts_of (λ b. B.operations (B.meaning b))) self.now.terms) seat.old }
-        requires sums { Sums (B.operations (B.meaning self.now.terms.body)) (actor_of seat.old).seen walk }
+        requires may { MayRead (terms_of (folds B.PARTS B.parts_of B.operations) self.now.terms) seat.old }
+        requires sums { Sums (B.operations self.now.terms.body) (actor_of seat.old).seen walk }
         requires order { walk.at ≤ end }
         requires inside { end ≤ length (elements_of (actor_of seat.old).seen) }
-        ensures { Comes (B.operations (B.meaning self.now.terms.body)) walk.lo end result seat.old seat.new }
+        ensures { Comes (B.operations self.now.terms.body) walk.lo end result seat.old seat.new }
     {
         let mut walk = walk;
         while walk.at < end {
@@ -106,12 +106,12 @@ impl<B: Parted> Board<B> {
 
     // A walk with the block where it stands, of which these are the parts.
     fn with_block(&self, seat: &Seat<B>, walk: BoardWalk<B::S>, parts: [u32; 4]) -> BoardWalk<B::S>
-        requires may { MayRead (terms_of (folds B.PARTS B.parts_of (λ b. B.operations (B.meaning b))) self.now.terms) seat.now }
-        requires sums { Sums (B.operations (B.meaning self.now.terms.body)) (actor_of seat.now).seen walk }
+        requires may { MayRead (terms_of (folds B.PARTS B.parts_of B.operations) self.now.terms) seat.now }
+        requires sums { Sums (B.operations self.now.terms.body) (actor_of seat.now).seen walk }
         requires begins { walk.at % 8 ≡ 0 }
         requires inside { walk.at + 8 ≤ length (elements_of (actor_of seat.now).seen) }
-        requires parts { parts ≡ B.parts_of (block_fold (B.operations (B.meaning self.now.terms.body)) (walk.at / 8) (actor_of seat.now).seen) }
-        ensures { HasCome (B.operations (B.meaning self.now.terms.body)) (actor_of seat.now).seen walk.lo (walk.at + 8) result }
+        requires parts { parts ≡ B.parts_of (block_fold (B.operations self.now.terms.body) (walk.at / 8) (actor_of seat.now).seen) }
+        ensures { HasCome (B.operations self.now.terms.body) (actor_of seat.now).seen walk.lo (walk.at + 8) result }
     {
         BoardWalk {
             lo: walk.lo,
@@ -129,11 +129,11 @@ impl<B: Parted> Board<B> {
         walk: BoardWalk<B::S>,
     ) -> Result<BoardWalk<B::S>, Refusal>
         requires here { IsAt self.now.table.shared.table_id self.now.terms seat.old }
-        requires may { MayRead (terms_of (folds B.PARTS B.parts_of (λ b. B.operations (B.meaning b))) self.now.terms) seat.old }
-        requires sums { Sums (B.operations (B.meaning self.now.terms.body)) (actor_of seat.old).seen walk }
+        requires may { MayRead (terms_of (folds B.PARTS B.parts_of B.operations) self.now.terms) seat.old }
+        requires sums { Sums (B.operations self.now.terms.body) (actor_of seat.old).seen walk }
         requires begins { walk.at % 8 ≡ 0 }
         requires inside { walk.at + 8 ≤ length (elements_of (actor_of seat.old).seen) }
-        ensures { Comes (B.operations (B.meaning self.now.terms.body)) walk.lo (walk.at + 8) result seat.old seat.new }
+        ensures { Comes (B.operations self.now.terms.body) walk.lo (walk.at + 8) result seat.old seat.new }
     {
         let b = walk.at / 8;
         let mark = match self.load_mark(seat, b) {
@@ -154,11 +154,11 @@ impl<B: Parted> Board<B> {
         hi: u32,
     ) -> Result<BoardWalk<B::S>, Refusal>
         requires here { IsAt self.now.table.shared.table_id self.now.terms seat.old }
-        requires may { MayRead (terms_of (folds B.PARTS B.parts_of (λ b. B.operations (B.meaning b))) self.now.terms) seat.old }
-        requires sums { Sums (B.operations (B.meaning self.now.terms.body)) (actor_of seat.old).seen walk }
+        requires may { MayRead (terms_of (folds B.PARTS B.parts_of B.operations) self.now.terms) seat.old }
+        requires sums { Sums (B.operations self.now.terms.body) (actor_of seat.old).seen walk }
         requires order { walk.at < hi }
         requires inside { hi ≤ length (elements_of (actor_of seat.old).seen) }
-        ensures { GoesOn (B.operations (B.meaning self.now.terms.body)) hi walk result seat.old seat.new }
+        ensures { GoesOn (B.operations self.now.terms.body) hi walk result seat.old seat.new }
     {
         if walk.at % 8 == 0 && hi - walk.at >= 8 {
             self.walk_block(seat, walk)
@@ -170,10 +170,10 @@ impl<B: Parted> Board<B> {
     // Goes through a range of the elements.
     fn walk_range(&self, seat: &mut Seat<B>, lo: u32, hi: u32) -> Result<BoardWalk<B::S>, Refusal>
         requires here { IsAt self.now.table.shared.table_id self.now.terms seat.old }
-        requires may { MayRead (terms_of (folds B.PARTS B.parts_of (λ b. B.operations (B.meaning b))) self.now.terms) seat.old }
+        requires may { MayRead (terms_of (folds B.PARTS B.parts_of B.operations) self.now.terms) seat.old }
         requires order { lo ≤ hi }
         requires inside { hi ≤ length (elements_of (actor_of seat.old).seen) }
-        ensures { Comes (B.operations (B.meaning self.now.terms.body)) lo hi result seat.old seat.new }
+        ensures { Comes (B.operations self.now.terms.body) lo hi result seat.old seat.new }
     {
         let mut walk = self.start_walk(lo);
         while walk.at < hi {
@@ -191,8 +191,8 @@ impl<B: Parted> Board<B> {
     pub fn reduce(&self, seat: &mut Seat<B>, lo: u32, hi: u32) -> Result<Answer<B::S>, Refusal>
         requires { IsAt self.now.table.shared.table_id self.now.terms seat.old }
         ensures stays { Stays seat.old seat.new }
-        ensures looked { lo ≤ hi → HasLooked (terms_of (folds B.PARTS B.parts_of (λ b. B.operations (B.meaning b))) self.now.terms) (actor_of seat.old) (actor_of seat.new) }
-        ensures answer { lo ≤ hi → ReduceAnswers (fold_of (B.operations (B.meaning self.now.terms.body))) lo hi (actor_of seat.new) result }
+        ensures looked { lo ≤ hi → HasLooked (terms_of (folds B.PARTS B.parts_of B.operations) self.now.terms) (actor_of seat.old) (actor_of seat.new) }
+        ensures answer { lo ≤ hi → ReduceAnswers (fold_of (B.operations self.now.terms.body)) lo hi (actor_of seat.new) result }
         ensures backwards { hi < lo → (result ≡ Err Refusal.BadRange) × IsSame seat.old seat.new }
     {
         if hi < lo {

@@ -13,7 +13,7 @@ pub struct Reached<B> {
 }
 
 impl<B: Parted> TableRule<(), View<B>, Basis<B>> for Reached<B> {
-    ghost holds = { TableHolds (folds B.PARTS B.parts_of (λ b. B.operations (B.meaning b))) };
+    ghost holds = { TableHolds (folds B.PARTS B.parts_of B.operations) };
 
     ghost first = { dealer };
 }

@@ -17,7 +17,7 @@ impl<B: Parted> Board<B> {
     // The descriptor: the seat's look becomes what is loaded.
     pub(crate) fn load_descriptor(&self, seat: &mut Seat<B>)
         requires { IsAt self.now.table.shared.table_id self.now.terms seat.old }
-        ensures { IsLoaded (folds B.PARTS B.parts_of (λ b. B.operations (B.meaning b))) seat.old seat.new }
+        ensures { IsLoaded (folds B.PARTS B.parts_of B.operations) seat.old seat.new }
     {
         load_descriptor(&self.table, seat);
     }
@@ -26,7 +26,7 @@ impl<B: Parted> Board<B> {
     pub(crate) fn load_word(&self, seat: &mut Seat<B>, at: usize) -> u64
         requires here { IsAt self.now.table.shared.table_id self.now.terms seat.old }
         requires within { at < count_of (limits_of self.now.terms) }
-        ensures { IsWordLoaded (folds B.PARTS B.parts_of (λ b. B.operations (B.meaning b))) at result seat.old seat.new }
+        ensures { IsWordLoaded (folds B.PARTS B.parts_of B.operations) at result seat.old seat.new }
     {
         load_word(&self.table, seat, at)
     }

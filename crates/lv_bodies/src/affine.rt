@@ -46,6 +46,7 @@ impl AffineMap {
 pub struct Affine;
 
 impl Body for Affine {
+    ghost use Rattle.std.proofs.Common.{refl};
     ghost use Rattle.lv_bodies.specs.AffineMaps.{affine_operations, IsAffineMap};
     ghost use Rattle.lv_bodies.specs.AffineLaws.{affine_laws, exact_maps};
 
@@ -56,6 +57,8 @@ impl Body for Affine {
     ghost meaning = { λ _. tt };
 
     ghost operations = { λ _. affine_operations };
+
+    ghost decided = { λ _ _ _. refl };
 
     ghost is_within = { λ _. IsAffineMap };
 

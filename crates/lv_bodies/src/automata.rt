@@ -107,6 +107,7 @@ fn follow(first: [u8; 8], second: [u8; 8]) -> [u8; 8]
 }
 
 impl Body for Automaton {
+    ghost use Rattle.std.proofs.Common.{ap};
     ghost use Rattle.lv_bodies.specs.Automata.{table_of};
     ghost use Rattle.lv_bodies.specs.Tables.{automaton_operations, IsStateMap};
     ghost use Rattle.lv_bodies.specs.TableLaws.{automaton_laws};
@@ -118,7 +119,9 @@ impl Body for Automaton {
 
     ghost meaning = { table_of };
 
-    ghost operations = { automaton_operations };
+    ghost operations = { λ a. automaton_operations (table_of a) };
+
+    ghost decided = { λ _ _. ap automaton_operations };
 
     ghost is_within = { λ _. IsStateMap };
 

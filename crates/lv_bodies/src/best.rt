@@ -57,6 +57,7 @@ impl RunTotals {
 pub struct Best;
 
 impl Body for Best {
+    ghost use Rattle.std.proofs.Common.{refl};
     ghost use Rattle.lv_bodies.specs.RunTotals.{best_operations, IsBest};
     ghost use Rattle.lv_bodies.specs.TotalsLaws.{best_laws, exact_totals};
     ghost use Rattle.lv_bodies.specs.EqualLaws.{exact_option};
@@ -68,6 +69,8 @@ impl Body for Best {
     ghost meaning = { λ _. tt };
 
     ghost operations = { λ _. best_operations };
+
+    ghost decided = { λ _ _ _. refl };
 
     ghost is_within = { λ _. IsBest };
 

@@ -10,38 +10,40 @@ pub trait Body: Copy + Send + Sync {
     /// A summary of some elements: plain data, equal where its meaning is.
     type S: Copy + Eq + Send + Sync;
 
+    ghost operations: { Self → Operations Self.S };
+
+    // Whether a summary can be that of so many elements.
+    ghost is_within: { Self → Self.S → ℕ → Type 0 };
+
     // What decides the operations: plain data, as a table, or nothing.
     ghost Meaning: { Type 0 };
 
     ghost meaning: { Self → Meaning };
 
-    ghost operations: { Meaning → Operations Self.S };
+    ghost decided: { (a b : Self) → meaning a ≡ meaning b → operations a ≡ operations b };
 
-    // Whether a summary can be that of so many elements.
-    ghost is_within: { Meaning → Self.S → ℕ → Type 0 };
-
-    ghost laws: { (b : Self) → BodyLaws (operations (meaning b)) (is_within (meaning b)) };
+    ghost laws: { (b : Self) → BodyLaws (operations b) (is_within b) };
 
     /// The summary of nothing.
     fn identity(&self) -> Self::S
-        ensures { result ≡ (operations (meaning self.now)).identity };
+        ensures { result ≡ (operations self.now).identity };
 
     /// The summary of one element.
     fn lift(&self, x: i64) -> Self::S
-        ensures { result ≡ (operations (meaning self.now)).lift x };
+        ensures { result ≡ (operations self.now).lift x };
 
     /// The summary of the elements of `a`, then those of `b`: at most 2^20 together.
     fn combine(&self, a: Self::S, b: Self::S) -> Self::S
-        requires { CanJoin (is_within (meaning self.now)) a b }
-        ensures { result ≡ (operations (meaning self.now)).join a b };
+        requires { CanJoin (is_within self.now) a b }
+        ensures { result ≡ (operations self.now).join a b };
 
     /// Whether two bodies mean the same, and so compute the same.
     fn same(&self, other: &Self) -> bool
         ensures { IsTrue result ↔ (meaning self.now ≡ meaning other.now) };
 
-    ghost lawful: { (b : Self) → BodyLaws (operations (meaning b)) (is_within (meaning b)) } = { laws };
+    ghost lawful: { (b : Self) → BodyLaws (operations b) (is_within b) } = { laws };
 
     ghost equal: { (s t : Self.S) → IsTrue (Self.S.eq s t) ↔ (s ≡ t) };
 
-    ghost joins: { (b : Self) → JoinsEndToEnd (operations (meaning b)) } = { λ b. fold_of-append (operations (meaning b)) (is_within (meaning b)) (laws b) };
+    ghost joins: { (b : Self) → JoinsEndToEnd (operations b) } = { λ b. fold_of-append (operations b) (is_within b) (laws b) };
 }

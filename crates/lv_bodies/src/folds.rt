@@ -8,10 +8,10 @@ use crate::bodies::Body;
 /// A fold with one more element at its end.
 #[inline(always)]
 pub fn fold_more<B: Body>(body: &B, sum: B::S, x: i64) -> B::S
-    requires { CanGrow (B.is_within (B.meaning body.now)) sum }
-    ensures value { let o = B.operations (B.meaning body.now) in result ≡ o.join sum (o.lift x) }
-    ensures within { (n : ℕ) → B.is_within (B.meaning body.now) sum n → n + 1 ≤ 2 ^ 20
-        → B.is_within (B.meaning body.now) result (n + 1) }
+    requires { CanGrow (B.is_within body.now) sum }
+    ensures value { let o = B.operations body.now in result ≡ o.join sum (o.lift x) }
+    ensures within { (n : ℕ) → B.is_within body.now sum n → n + 1 ≤ 2 ^ 20
+        → B.is_within body.now result (n + 1) }
     ensures element { IsElement x }
 {
     body.combine(sum, body.lift(x))
@@ -20,8 +20,8 @@ pub fn fold_more<B: Body>(body: &B, sum: B::S, x: i64) -> B::S
 /// The left fold of a slice, where it lies.
 pub fn fold_slice<B: Body>(body: &B, xs: &[i64]) -> B::S
     requires { length xs.now ≤ 2 ^ 20 }
-    ensures fold { result ≡ fold_of (B.operations (B.meaning body.now)) xs.now }
-    ensures within { B.is_within (B.meaning body.now) result (length xs.now) }
+    ensures fold { result ≡ fold_of (B.operations body.now) xs.now }
+    ensures within { B.is_within body.now result (length xs.now) }
     ensures elements { All IsElement xs.now }
 {
     let mut sum = body.identity();

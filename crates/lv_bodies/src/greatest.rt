@@ -9,7 +9,7 @@ use crate::singles::Single;
 pub struct Greatest;
 
 impl Body for Greatest {
-    ghost use Rattle.std.proofs.Common.{rules};
+    ghost use Rattle.std.proofs.Common.{rules, refl};
     ghost use Rattle.lv_bodies.specs.Extremes.{greatest_operations, IsExtreme};
     ghost use Rattle.lv_bodies.specs.ExtremeLaws.{greatest_laws};
 
@@ -20,6 +20,8 @@ impl Body for Greatest {
     ghost meaning = { λ _. tt };
 
     ghost operations = { λ _. greatest_operations };
+
+    ghost decided = { λ _ _ _. refl };
 
     ghost is_within = { λ _. IsExtreme };
 

@@ -23,11 +23,11 @@ pub fn best_is_the_best_run()
 
 /// The fold of a pair is the pair of the folds.
 pub fn pair_folds_apart<A: Body, B: Body>()
-    ensures { (m : A.Meaning) (n : B.Meaning) (xs : List ℤ) →
-        fold_of (⟦<Pair<A, B> as Body>⟧.operations (m, n)) xs ≡ (fold_of (A.operations m) xs, fold_of (B.operations n) xs) }
+    ensures { (p : Pair A B) (xs : List ℤ) →
+        fold_of (⟦<Pair<A, B> as Body>⟧.operations p) xs ≡ (fold_of (A.operations p.first) xs, fold_of (B.operations p.second) xs) }
 {}
 
 /// The fold of eight elements of 16 bits is the whole of its parts.
 pub fn eight_come_back_from_parts<B: Parted>()
-    ensures { (b : B) → HasParts B.parts_of B.whole_of (B.operations (B.meaning b)) }
+    ensures { (b : B) → HasParts B.parts_of B.whole_of (B.operations b) }
 {}

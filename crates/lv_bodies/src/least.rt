@@ -9,7 +9,7 @@ use crate::singles::Single;
 pub struct Least;
 
 impl Body for Least {
-    ghost use Rattle.std.proofs.Common.{rules};
+    ghost use Rattle.std.proofs.Common.{rules, refl};
     ghost use Rattle.lv_bodies.specs.Extremes.{least_operations, IsExtreme};
     ghost use Rattle.lv_bodies.specs.ExtremeLaws.{least_laws};
 
@@ -20,6 +20,8 @@ impl Body for Least {
     ghost meaning = { λ _. tt };
 
     ghost operations = { λ _. least_operations };
+
+    ghost decided = { λ _ _ _. refl };
 
     ghost is_within = { λ _. IsExtreme };
 

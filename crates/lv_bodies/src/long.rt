@@ -16,16 +16,16 @@ use crate::sums::Sum;
 pub trait LongBody: Body {
     /// The summary of the elements of `a`, then those of `b`: at most 2^62 together.
     fn combine_long(&self, a: Self::S, b: Self::S) -> Self::S
-        requires { CanJoinLong (Self.is_within (Self.meaning self.now)) a b }
-        ensures { result ≡ (Self.operations (Self.meaning self.now)).join a b };
+        requires { CanJoinLong (Self.is_within self.now) a b }
+        ensures { result ≡ (Self.operations self.now).join a b };
 
-    ghost long: { (b : Self) → LongLaws (Self.operations (Self.meaning b)) (Self.is_within (Self.meaning b)) };
+    ghost long: { (b : Self) → LongLaws (Self.operations b) (Self.is_within b) };
 }
 
 /// The laws of a body, up to 2^62 elements. Computes nothing.
 #[inline(always)]
 pub fn long_laws<B: LongBody>(body: &B)
-    ensures { LongLaws (B.operations (B.meaning body.now)) (B.is_within (B.meaning body.now)) }
+    ensures { LongLaws (B.operations body.now) (B.is_within body.now) }
 {}
 
 impl LongBody for Sum {

@@ -24,6 +24,7 @@ impl<A: Copy, B: Copy> Clone for Pair<A, B> {
 impl<A: Copy, B: Copy> Copy for Pair<A, B> {}
 
 impl<A: Body, B: Body> Body for Pair<A, B> {
+    ghost use Rattle.std.proofs.Common.{ap, ap₂};
     ghost use Rattle.lv_bodies.specs.Pairs.{pair_operations, IsPairWithin};
     ghost use Rattle.lv_bodies.specs.PairLaws.{pair_laws, exact_pair};
 
@@ -33,9 +34,11 @@ impl<A: Body, B: Body> Body for Pair<A, B> {
 
     ghost meaning = { λ p. (A.meaning p.first, B.meaning p.second) };
 
-    ghost operations = { λ m. pair_operations (A.operations m.0) (B.operations m.1) };
+    ghost operations = { λ p. pair_operations (A.operations p.first) (B.operations p.second) };
 
-    ghost is_within = { λ m. IsPairWithin (A.is_within m.0) (B.is_within m.1) };
+    ghost decided = { λ p q same. ap₂ pair_operations (A.decided p.first q.first (ap (λ m. m.0) same)) (B.decided p.second q.second (ap (λ m. m.1) same)) };
+
+    ghost is_within = { λ p. IsPairWithin (A.is_within p.first) (B.is_within p.second) };
 
     ghost laws = { λ p. pair_laws _ _ _ _ (A.laws p.first) (B.laws p.second) };
 

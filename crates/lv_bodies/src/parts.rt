@@ -30,7 +30,7 @@ pub trait Parted: Single {
         ensures { result ≡ whole_of parts };
 
     /// The summary of eight elements of 16 bits is that of its parts.
-    ghost has_parts: { (b : Self) → HasParts parts_of whole_of (Self.operations (Self.meaning b)) };
+    ghost has_parts: { (b : Self) → HasParts parts_of whole_of (Self.operations b) };
 }
 
 /// The low 32 bits of a number, as those of two's complement.

@@ -28,5 +28,5 @@ pub trait Single: Body {
 
     /// What is shown of a fold is the plain value.
     ghost shows_plain: { (b : Self) (xs : List ℤ) → CanFold xs →
-        shown_as b (fold_of (Self.operations (Self.meaning b)) xs) ≡ plain b xs };
+        shown_as b (fold_of (Self.operations b) xs) ≡ plain b xs };
 }

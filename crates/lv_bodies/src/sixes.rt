@@ -72,6 +72,7 @@ pub struct SixByTable {
 }
 
 impl Body for Six {
+    ghost use Rattle.std.proofs.Common.{refl};
     ghost use Rattle.lv_bodies.specs.Six.{six_operations, six_within};
     ghost use Rattle.lv_bodies.specs.SixLaws.{exact_six, six_laws};
 
@@ -82,6 +83,8 @@ impl Body for Six {
     ghost meaning = { λ _. tt };
 
     ghost operations = { λ _. six_operations };
+
+    ghost decided = { λ _ _ _. refl };
 
     ghost is_within = { λ _. six_within };
 
@@ -110,6 +113,7 @@ impl Body for Six {
 }
 
 impl Body for SixByTable {
+    ghost use Rattle.std.proofs.Common.{ap};
     ghost use Rattle.lv_bodies.specs.Automata.{table_of};
     ghost use Rattle.lv_bodies.specs.Six.{six_operations_by, six_within};
     ghost use Rattle.lv_bodies.specs.SixLaws.{exact_six, six_laws_by};
@@ -120,7 +124,9 @@ impl Body for SixByTable {
 
     ghost meaning = { λ b. table_of b.automaton };
 
-    ghost operations = { six_operations_by };
+    ghost operations = { λ b. six_operations_by (table_of b.automaton) };
+
+    ghost decided = { λ _ _. ap six_operations_by };
 
     ghost is_within = { λ _. six_within };
 

@@ -12,7 +12,7 @@ pub struct Sum;
 
 impl Body for Sum {
     ghost use Rattle.lv_bodies.specs.Sums.{sum_operations, IsSum};
-    ghost use Rattle.std.proofs.Common.{rules};
+    ghost use Rattle.std.proofs.Common.{rules, refl};
     ghost use Rattle.lv_bodies.specs.SumLaws.{sum_laws};
 
     type S = u64;
@@ -22,6 +22,8 @@ impl Body for Sum {
     ghost meaning = { λ _. tt };
 
     ghost operations = { λ _. sum_operations };
+
+    ghost decided = { λ _ _ _. refl };
 
     ghost is_within = { λ _. IsSum };
 

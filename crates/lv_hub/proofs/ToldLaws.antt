@@ -110,9 +110,9 @@ claim_told o limits body s t result vector of live stays next claimed job_body h
 }
 
 -- an outcome
-pub delivery_told : {B S M : Type 0} (meaning : B → M) (operations : M → Operations S) (limits : Bounds) (body : B) (s : LiveState B S) (outcome : Carried B S) (result : Result Accepted Refusal) → IsVector limits s.history → s.body ≡ body → IsLive (operations (meaning s.body)) s → Delivers (recorded s) (VouchedBy meaning operations s outcome) outcome result → DeliveryTold meaning operations body limits outcome result
+pub delivery_told : {B S M : Type 0} (meaning : B → M) (operations : B → Operations S) (limits : Bounds) (body : B) (s : LiveState B S) (outcome : Carried B S) (result : Result Accepted Refusal) → IsVector limits s.history → s.body ≡ body → IsLive (operations s.body) s → Delivers (recorded s) (VouchedBy meaning operations s outcome) outcome result → DeliveryTold meaning operations body limits outcome result
 delivery_told meaning operations limits body s outcome result vector of live gives =
-    record { state = s; vector = vector; of = of; live = subst (λ b. IsLive (operations (meaning b)) s) of live; gives = gives }
+    record { state = s; vector = vector; of = of; live = subst (λ b. IsLive (operations b) s) of live; gives = gives }
 
 -- an outcome that is given leaves body and history
 pub given_leaves : {B S : Type 0} (old new : LiveState B S) (n : Node) (v : ℕ) (result : Result Accepted Refusal) → IfOk result (λ accepted. HasDelivery old new n v accepted) → OnErr result (new ≡ old) → (new.body ≡ old.body) × (new.history ≡ old.history)

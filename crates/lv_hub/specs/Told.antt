@@ -95,14 +95,14 @@ Delivers r vouched outcome (Err refusal) = (¬ vouched) × (refusal ≡ Stranger
 
 -- a vector vouches for an outcome: its node isn't whole, or was touched by another edit last; or else its body means the same, and
 -- what it carries stands here
-abbrev pub VouchedBy : {B S M : Type 0} → (B → M) → (M → Operations S) → LiveState B S → Carried B S → Type 0
+abbrev pub VouchedBy : {B S M : Type 0} → (B → M) → (B → Operations S) → LiveState B S → Carried B S → Type 0
 VouchedBy meaning operations state outcome =
-    Vouched (operations (meaning state.body)) (recorded state) (meaning state.body ≡ meaning outcome.body) outcome.node outcome.version outcome.contents
+    Vouched (operations state.body) (recorded state) (meaning state.body ≡ meaning outcome.body) outcome.node outcome.version outcome.contents
 
 -- an outcome was delivered or refused as after some legal edits of the hub's vector, which has this body and is a live one
-pub record DeliveryTold {B S M : Type 0} (meaning : B → M) (operations : M → Operations S) (body : B) (limits : Bounds) (outcome : Carried B S) (result : Result Accepted Refusal) : Type 0 where
+pub record DeliveryTold {B S M : Type 0} (meaning : B → M) (operations : B → Operations S) (body : B) (limits : Bounds) (outcome : Carried B S) (result : Result Accepted Refusal) : Type 0 where
   pub state : LiveState B S
   pub vector : IsVector limits state.history
   pub of : state.body ≡ body
-  pub live : IsLive (operations (meaning body)) state
+  pub live : IsLive (operations body) state
   pub gives : Delivers (recorded state) (VouchedBy meaning operations state outcome) outcome result

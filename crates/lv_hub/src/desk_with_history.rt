@@ -111,12 +111,12 @@ impl<B: Body, N: WithBody<B>> DeskWithHistory<B, N> {
 
     /// The fold of a range, as the desk gives it.
     pub fn ask(&mut self, lo: u32, hi: u32) -> Result<Answer<B::S>, Refusal>
-        ensures ok { IfOk result (λ answer. IsAnswer (B.operations (B.meaning self.old.body)) self.old.history.journal lo hi answer) }
+        ensures ok { IfOk result (λ answer. IsAnswer (B.operations self.old.body) self.old.history.journal lo hi answer) }
         ensures err { IfErr result (λ refusal. range_refusal self.old.history.journal lo hi ≡ Some refusal) }
         ensures same { SameLive self.old self.new }
         ensures vector { IsVector N.limits self.old.history }
         ensures body { N.body ≡ Some self.old.body }
-        ensures live { IsLive (B.operations (B.meaning self.old.body)) self.old }
+        ensures live { IsLive (B.operations self.old.body) self.old }
     {
         self.desk.ask(lo, hi)
     }
@@ -126,11 +126,11 @@ impl<B: Body, N: WithBody<B>> DeskWithHistory<B, N> {
         ensures next { IsNextJob (recorded self.old) (option_map node_and_version result) }
         ensures claimed { HasClaim self.old self.new (option_map node_and_version result) }
         ensures job_body { IfSome result (λ job. job.body ≡ self.old.body) }
-        ensures honest { IfSome result (λ job. IsHonest (B.operations (B.meaning self.old.body)) (recorded self.new) job.node job.version job.contents) }
+        ensures honest { IfSome result (λ job. IsHonest (B.operations self.old.body) (recorded self.new) job.node job.version job.contents) }
         ensures vector { IsVector N.limits self.old.history }
         ensures body { N.body ≡ Some self.old.body }
-        ensures live { IsLive (B.operations (B.meaning self.old.body)) self.old }
-        ensures stays_live { IsLive (B.operations (B.meaning self.new.body)) self.new }
+        ensures live { IsLive (B.operations self.old.body) self.old }
+        ensures stays_live { IsLive (B.operations self.new.body) self.new }
     {
         self.desk.claim()
     }
@@ -142,7 +142,7 @@ impl<B: Body, N: WithBody<B>> DeskWithHistory<B, N> {
         ensures unchanged { OnErr result (self.new ≡ self.old) }
         ensures vector { IsVector N.limits self.old.history }
         ensures body { N.body ≡ Some self.old.body }
-        ensures live { IsLive (B.operations (B.meaning self.old.body)) self.old }
+        ensures live { IsLive (B.operations self.old.body) self.old }
     {
         self.desk.give(outcome)
     }
@@ -152,7 +152,7 @@ impl<B: Body, N: WithBody<B>> DeskWithHistory<B, N> {
         ensures same { result.now ≡ self.now }
         ensures vector { IsVector N.limits self.now.history }
         ensures body { N.body ≡ Some self.now.body }
-        ensures live { IsLive (B.operations (B.meaning self.now.body)) self.now }
+        ensures live { IsLive (B.operations self.now.body) self.now }
     {
         self.desk.live()
     }

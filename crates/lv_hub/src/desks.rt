@@ -85,11 +85,11 @@ impl<B: Body, N: Naming> Desk<B, N> {
     /// The fold of the elements from index `lo` up to `hi`, keeping what is computed for it. Refused as `Live::ask` is. Takes no
     /// memory.
     pub fn ask(&mut self, lo: u32, hi: u32) -> Result<Answer<B::S>, Refusal>
-        ensures ok { IfOk result (λ answer. IsAnswer (B.operations (B.meaning self.old.body)) self.old.history.journal lo hi answer) }
+        ensures ok { IfOk result (λ answer. IsAnswer (B.operations self.old.body) self.old.history.journal lo hi answer) }
         ensures err { IfErr result (λ refusal. range_refusal self.old.history.journal lo hi ≡ Some refusal) }
         ensures same { SameLive self.old self.new }
         ensures vector { IsVector N.limits self.old.history }
-        ensures live { IsLive (B.operations (B.meaning self.old.body)) self.old }
+        ensures live { IsLive (B.operations self.old.body) self.old }
     {
         self.live.keeps();
         self.live.ask(lo, hi)
@@ -100,10 +100,10 @@ impl<B: Body, N: Naming> Desk<B, N> {
         ensures next { IsNextJob (recorded self.old) (option_map node_and_version result) }
         ensures claimed { HasClaim self.old self.new (option_map node_and_version result) }
         ensures body { IfSome result (λ job. job.body ≡ self.old.body) }
-        ensures honest { IfSome result (λ job. IsHonest (B.operations (B.meaning self.old.body)) (recorded self.new) job.node job.version job.contents) }
+        ensures honest { IfSome result (λ job. IsHonest (B.operations self.old.body) (recorded self.new) job.node job.version job.contents) }
         ensures vector { IsVector N.limits self.old.history }
-        ensures live { IsLive (B.operations (B.meaning self.old.body)) self.old }
-        ensures stays_live { IsLive (B.operations (B.meaning self.new.body)) self.new }
+        ensures live { IsLive (B.operations self.old.body) self.old }
+        ensures stays_live { IsLive (B.operations self.new.body) self.new }
     {
         self.live.keeps();
         let job = self.live.claim();
@@ -117,7 +117,7 @@ impl<B: Body, N: Naming> Desk<B, N> {
         ensures delivered { IfOk result (λ accepted. HasDelivery self.old self.new outcome.node outcome.version accepted) }
         ensures unchanged { OnErr result (self.new ≡ self.old) }
         ensures vector { IsVector N.limits self.old.history }
-        ensures live { IsLive (B.operations (B.meaning self.old.body)) self.old }
+        ensures live { IsLive (B.operations self.old.body) self.old }
     {
         self.live.keeps();
         if !self.live.vet(&outcome) {
@@ -130,7 +130,7 @@ impl<B: Body, N: Naming> Desk<B, N> {
     pub fn live(&self) -> &Live<B>
         ensures same { result.now ≡ self.now }
         ensures vector { IsVector N.limits self.now.history }
-        ensures live { IsLive (B.operations (B.meaning self.now.body)) self.now }
+        ensures live { IsLive (B.operations self.now.body) self.now }
     {
         self.live.keeps();
         &self.live

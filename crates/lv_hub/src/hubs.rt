@@ -103,8 +103,8 @@ impl<B: Body, N: WithBody<B>> Hub<B, N> {
         lo: u32,
         hi: u32,
     ) -> Result<Answer<B::S>, Refusal>
-        ensures told { ReductionTold (B.operations (B.meaning self.now)) N.limits share.old.seen share.new.seen lo hi result }
-        ensures reads { ReadsTold B (B.operations (B.meaning self.now)) N.limits share.new.seen lo hi result }
+        ensures told { ReductionTold (B.operations self.now) N.limits share.old.seen share.new.seen lo hi result }
+        ensures reads { ReadsTold B (B.operations self.now) N.limits share.new.seen lo hi result }
         ensures share { share.new ≡ having_seen share.old share.new.seen }
         ensures bad_range { (result ≡ Err Refusal.BadRange) ↔ (hi < lo) }
     {
@@ -122,8 +122,8 @@ impl<B: Body, N: WithBody<B>> Hub<B, N> {
         lo: u32,
         hi: u32,
     ) -> Result<Answer<B::S>, Refusal>
-        ensures told { ReductionTold (B.operations (B.meaning self.now)) N.limits share.old.seen share.new.seen lo hi result }
-        ensures live { (standing : LiveState B B.S) × IsStanding (B.operations (B.meaning self.now)) N.limits share.new.seen standing }
+        ensures told { ReductionTold (B.operations self.now) N.limits share.old.seen share.new.seen lo hi result }
+        ensures live { (standing : LiveState B B.S) × IsStanding (B.operations self.now) N.limits share.new.seen standing }
         ensures share { share.new ≡ having_seen share.old share.new.seen }
         ensures bad_range { (result ≡ Err Refusal.BadRange) ↔ (hi < lo) }
     {
@@ -142,7 +142,7 @@ impl<B: Body, N: WithBody<B>> Hub<B, N> {
         lo: u32,
         hi: u32,
     ) -> Result<Scan<B::S>, Refusal>
-        ensures told { ScanTold (B.operations (B.meaning self.now)) N.limits share.old.seen share.new.seen lo hi true result }
+        ensures told { ScanTold (B.operations self.now) N.limits share.old.seen share.new.seen lo hi true result }
         ensures share { share.new ≡ having_seen share.old share.new.seen }
         ensures bad_range { (result ≡ Err Refusal.BadRange) ↔ (hi < lo) }
     {
@@ -159,7 +159,7 @@ impl<B: Body, N: WithBody<B>> Hub<B, N> {
         lo: u32,
         hi: u32,
     ) -> Result<Scan<B::S>, Refusal>
-        ensures told { ScanTold (B.operations (B.meaning self.now)) N.limits share.old.seen share.new.seen lo hi false result }
+        ensures told { ScanTold (B.operations self.now) N.limits share.old.seen share.new.seen lo hi false result }
         ensures share { share.new ≡ having_seen share.old share.new.seen }
         ensures bad_range { (result ≡ Err Refusal.BadRange) ↔ (hi < lo) }
     {
@@ -176,7 +176,7 @@ impl<B: Body, N: WithBody<B>> Hub<B, N> {
         hi: u32,
         inclusive: bool,
     ) -> Result<Scan<B::S>, Refusal>
-        ensures told { ScanTold (B.operations (B.meaning self.now)) N.limits share.old.seen share.new.seen lo hi inclusive result }
+        ensures told { ScanTold (B.operations self.now) N.limits share.old.seen share.new.seen lo hi inclusive result }
         ensures share { share.new ≡ having_seen share.old share.new.seen }
         ensures bad_range { (result ≡ Err Refusal.BadRange) ↔ (hi < lo) }
     {
@@ -194,7 +194,7 @@ impl<B: Body, N: WithBody<B>> Hub<B, N> {
         hi: u32,
         inclusive: bool,
     ) -> Result<Scan<B::S>, Refusal>
-        ensures told { ScanTold (B.operations (B.meaning self.now)) N.limits share.old.seen share.new.seen lo hi inclusive result }
+        ensures told { ScanTold (B.operations self.now) N.limits share.old.seen share.new.seen lo hi inclusive result }
         ensures share { share.new ≡ having_seen share.old share.new.seen }
         ensures bad_range { (result ≡ Err Refusal.BadRange) ↔ (hi < lo) }
     {
@@ -238,7 +238,7 @@ impl<B: Body, N: WithBody<B>> Hub<B, N> {
 
     /// A job for the least node that wants one, or none. Takes no memory.
     pub fn claim<R: Wait>(&self, rt: &R) -> Option<Job<B>>
-        ensures { ClaimTold (B.operations (B.meaning self.now)) self.now N.limits result }
+        ensures { ClaimTold (B.operations self.now) self.now N.limits result }
     {
         self.locked.lock(rt).desk.claim()
     }

@@ -38,13 +38,13 @@ pub fn ask_by<K: OfSix>(
     lo: u32,
     hi: u32,
 ) -> Result<(u32, K::S), Refusal>
-    requires parts { ArePartsFolds (K.operations (K.meaning body.now)) K.part_in view.cells.now.journal view.table.now }
-    requires can { CanAskBy (K.operations (K.meaning body.now)) view.cells.now.journal K.bit flags.old rows.old }
-    ensures ok { IfOk result (λ answer. IsAnswerPair (K.operations (K.meaning body.now)) view.entry.cells.now.journal lo hi answer) }
+    requires parts { ArePartsFolds (K.operations body.now) K.part_in view.cells.now.journal view.table.now }
+    requires can { CanAskBy (K.operations body.now) view.cells.now.journal K.bit flags.old rows.old }
+    ensures ok { IfOk result (λ answer. IsAnswerPair (K.operations body.now) view.entry.cells.now.journal lo hi answer) }
     ensures err { IfErr result (λ refusal. range_refusal view.entry.cells.now.journal lo hi ≡ Some refusal) }
     ensures flags_unchanged { OnErr result (flags.new ≡ flags.old) }
     ensures rows_unchanged { OnErr result (rows.new ≡ rows.old) }
-    ensures folds { AreFolds (K.operations (K.meaning body.now)) view.entry.cells.now.journal flags.new K.bit rows.new }
+    ensures folds { AreFolds (K.operations body.now) view.entry.cells.now.journal flags.new K.bit rows.new }
     ensures learns { LearnsBy K.bit flags.old flags.new rows.old rows.new }
     ensures kept { IfOk result (λ _. AreTopsKnown (is_flagged flags.new K.bit) lo hi) }
 {
@@ -114,9 +114,9 @@ fn finish<K: OfSix>(
     rows: &mut NodeRows<K::S>,
     walk: KindWalk<K::S>,
 ) -> K::S
-    requires parts { ArePartsFolds (K.operations (K.meaning body.now)) K.part_in view.cells.now.journal view.table.now }
-    requires stands { StandsBy (K.operations (K.meaning body.now)) view.cells.now.journal K.bit walk flags.old rows.old }
-    ensures { EndsBy (K.operations (K.meaning body.now)) view.entry.cells.now.journal K.bit walk result flags.old flags.new rows.old rows.new }
+    requires parts { ArePartsFolds (K.operations body.now) K.part_in view.cells.now.journal view.table.now }
+    requires stands { StandsBy (K.operations body.now) view.cells.now.journal K.bit walk flags.old rows.old }
+    ensures { EndsBy (K.operations body.now) view.entry.cells.now.journal K.bit walk result flags.old flags.new rows.old rows.new }
 {
     if walk.hi <= walk.at {
         return walk.value;
@@ -133,9 +133,9 @@ fn take_rest<K: OfSix>(
     rows: &mut NodeRows<K::S>,
     walk: KindWalk<K::S>,
 ) -> K::S
-    requires parts { ArePartsFolds (K.operations (K.meaning body.now)) K.part_in view.cells.now.journal view.table.now }
-    requires stands { StandsBy (K.operations (K.meaning body.now)) view.cells.now.journal K.bit walk flags.old rows.old }
-    ensures { EndsBy (K.operations (K.meaning body.now)) view.entry.cells.now.journal K.bit walk result flags.old flags.new rows.old rows.new }
+    requires parts { ArePartsFolds (K.operations body.now) K.part_in view.cells.now.journal view.table.now }
+    requires stands { StandsBy (K.operations body.now) view.cells.now.journal K.bit walk flags.old rows.old }
+    ensures { EndsBy (K.operations body.now) view.entry.cells.now.journal K.bit walk result flags.old flags.new rows.old rows.new }
 {
     // The elements are few enough for a fold.
     let _size = view.cells.size();
@@ -164,10 +164,10 @@ pub fn know<K: OfSix>(
     rows: &mut NodeRows<K::S>,
     node: Node,
 ) -> K::S
-    requires parts { ArePartsFolds (K.operations (K.meaning body.now)) K.part_in view.cells.now.journal view.table.now }
-    requires can { CanAskBy (K.operations (K.meaning body.now)) view.cells.now.journal K.bit flags.old rows.old }
+    requires parts { ArePartsFolds (K.operations body.now) K.part_in view.cells.now.journal view.table.now }
+    requires can { CanAskBy (K.operations body.now) view.cells.now.journal K.bit flags.old rows.old }
     requires whole { is_whole view.cells.now.journal node ≡ true }
-    ensures { KnowsBy (K.operations (K.meaning body.now)) view.entry.cells.now.journal K.bit node result flags.old flags.new rows.old rows.new }
+    ensures { KnowsBy (K.operations body.now) view.entry.cells.now.journal K.bit node result flags.old flags.new rows.old rows.new }
 {
     if has_bit::<K>(flags.at(node)) {
         return rows.at(node);
@@ -185,10 +185,10 @@ fn learn<K: OfSix>(
     rows: &mut NodeRows<K::S>,
     node: Node,
 ) -> K::S
-    requires parts { ArePartsFolds (K.operations (K.meaning body.now)) K.part_in view.cells.now.journal view.table.now }
-    requires can { CanAskBy (K.operations (K.meaning body.now)) view.cells.now.journal K.bit flags.old rows.old }
+    requires parts { ArePartsFolds (K.operations body.now) K.part_in view.cells.now.journal view.table.now }
+    requires can { CanAskBy (K.operations body.now) view.cells.now.journal K.bit flags.old rows.old }
     requires whole { is_whole view.cells.now.journal node ≡ true }
-    ensures { KnowsBy (K.operations (K.meaning body.now)) view.entry.cells.now.journal K.bit node result flags.old flags.new rows.old rows.new }
+    ensures { KnowsBy (K.operations body.now) view.entry.cells.now.journal K.bit node result flags.old flags.new rows.old rows.new }
 {
     if let Some(summary) = found(view, body, node) {
         keep::<K>(flags, rows, node, summary);
@@ -210,9 +210,9 @@ fn learn<K: OfSix>(
 // The summary of a whole node without its children: of a fresh one its part of what was delivered, of another block the fold of its
 // elements.
 fn found<K: OfSix>(view: View<'_, SixSummary>, body: &K, node: Node) -> Option<K::S>
-    requires parts { ArePartsFolds (K.operations (K.meaning body.now)) K.part_in view.cells.now.journal view.table.now }
+    requires parts { ArePartsFolds (K.operations body.now) K.part_in view.cells.now.journal view.table.now }
     requires whole { is_whole view.cells.now.journal node ≡ true }
-    ensures some { IfSome result (λ s. s ≡ fold_of (K.operations (K.meaning body.now)) (elements_under view.entry.cells.now.journal node)) }
+    ensures some { IfSome result (λ s. s ≡ fold_of (K.operations body.now) (elements_under view.entry.cells.now.journal node)) }
     ensures none { IfNone result (1 < node.level) }
 {
     if view.table.fresh(node) {
@@ -228,9 +228,9 @@ fn found<K: OfSix>(view: View<'_, SixSummary>, body: &K, node: Node) -> Option<K
 // The kind's part of what was delivered for a fresh node. It has a function of its own, since summaries of all six are wide.
 #[inline(never)]
 fn part_of_entry<K: OfSix>(view: View<'_, SixSummary>, body: &K, node: Node) -> K::S
-    requires parts { ArePartsFolds (K.operations (K.meaning body.now)) K.part_in view.cells.now.journal view.table.now }
+    requires parts { ArePartsFolds (K.operations body.now) K.part_in view.cells.now.journal view.table.now }
     requires fresh { fresh_in view.table.now node ≡ true }
-    ensures { result ≡ fold_of (K.operations (K.meaning body.now)) (elements_under view.entry.cells.now.journal node) }
+    ensures { result ≡ fold_of (K.operations body.now) (elements_under view.entry.cells.now.journal node) }
 {
     let Some(six) = view.table.entry(node) else {
         unreachable!()
@@ -248,8 +248,8 @@ fn join_children<K: OfSix>(
 ) -> K::S
     requires whole { is_whole view.cells.now.journal node ≡ true }
     requires above { 1 < node.level }
-    requires folds { (k : ℕ) → k < 8 → value_at rows.now (child node k) ≡ fold_of (K.operations (K.meaning body.now)) (elements_under view.cells.now.journal (child node k)) }
-    ensures { result ≡ fold_of (K.operations (K.meaning body.now)) (elements_under view.entry.cells.now.journal node) }
+    requires folds { (k : ℕ) → k < 8 → value_at rows.now (child node k) ≡ fold_of (K.operations body.now) (elements_under view.cells.now.journal (child node k)) }
+    ensures { result ≡ fold_of (K.operations body.now) (elements_under view.entry.cells.now.journal node) }
 {
     // The elements are few enough for a fold.
     let _size = view.cells.size();

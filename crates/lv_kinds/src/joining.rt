@@ -23,11 +23,11 @@ pub fn join_run<K: OfSix>(
     first: Node,
     end: u32,
 ) -> K::S
-    requires parts { ArePartsFolds (K.operations (K.meaning body.now)) K.part_in view.cells.now.journal view.table.now }
-    requires can { CanAskBy (K.operations (K.meaning body.now)) view.cells.now.journal K.bit flags.old rows.old }
+    requires parts { ArePartsFolds (K.operations body.now) K.part_in view.cells.now.journal view.table.now }
+    requires can { CanAskBy (K.operations body.now) view.cells.now.journal K.bit flags.old rows.old }
     requires inside { IsInside view.cells.now.journal first end }
-    requires so_far { IsSomeFold (K.operations (K.meaning body.now)) view.cells.now.journal value (first_index first) }
-    ensures { KnowsRun (K.operations (K.meaning body.now)) view.entry.cells.now.journal K.bit first end value result flags.old flags.new rows.old rows.new }
+    requires so_far { IsSomeFold (K.operations body.now) view.cells.now.journal value (first_index first) }
+    ensures { KnowsRun (K.operations body.now) view.entry.cells.now.journal K.bit first end value result flags.old flags.new rows.old rows.new }
 {
     let joined = join_kept(view, body, flags, rows, value, first, end);
     if joined.end == end {
@@ -51,12 +51,12 @@ fn join_kept<K: OfSix>(
     first: Node,
     end: u32,
 ) -> Joined<K::S>
-    requires can { CanAskBy (K.operations (K.meaning body.now)) view.cells.now.journal K.bit flags.now rows.now }
+    requires can { CanAskBy (K.operations body.now) view.cells.now.journal K.bit flags.now rows.now }
     requires inside { IsInside view.cells.now.journal first end }
-    requires so_far { IsSomeFold (K.operations (K.meaning body.now)) view.cells.now.journal value (first_index first) }
+    requires so_far { IsSomeFold (K.operations body.now) view.cells.now.journal value (first_index first) }
     ensures low { first.number ≤ result.end }
     ensures high { result.end ≤ end }
-    ensures kept { KnowsRun (K.operations (K.meaning body.now)) view.entry.cells.now.journal K.bit first result.end value result.value flags.now flags.now rows.now rows.now }
+    ensures kept { KnowsRun (K.operations body.now) view.entry.cells.now.journal K.bit first result.end value result.value flags.now flags.now rows.now rows.now }
 {
     // The elements are few enough for a fold.
     let _size = view.cells.size();
@@ -99,11 +99,11 @@ fn learn_run<K: OfSix>(
     first: Node,
     end: u32,
 ) -> K::S
-    requires parts { ArePartsFolds (K.operations (K.meaning body.now)) K.part_in view.cells.now.journal view.table.now }
-    requires can { CanAskBy (K.operations (K.meaning body.now)) view.cells.now.journal K.bit flags.old rows.old }
+    requires parts { ArePartsFolds (K.operations body.now) K.part_in view.cells.now.journal view.table.now }
+    requires can { CanAskBy (K.operations body.now) view.cells.now.journal K.bit flags.old rows.old }
     requires inside { IsInside view.cells.now.journal first end }
-    requires so_far { IsSomeFold (K.operations (K.meaning body.now)) view.cells.now.journal value (first_index first) }
-    ensures { KnowsRun (K.operations (K.meaning body.now)) view.entry.cells.now.journal K.bit first end value result flags.old flags.new rows.old rows.new }
+    requires so_far { IsSomeFold (K.operations body.now) view.cells.now.journal value (first_index first) }
+    ensures { KnowsRun (K.operations body.now) view.entry.cells.now.journal K.bit first end value result flags.old flags.new rows.old rows.new }
 {
     let mut sum = value;
     let mut number = first.number;
@@ -131,11 +131,11 @@ fn learn_one<K: OfSix>(
     node: Node,
     end: u32,
 ) -> K::S
-    requires parts { ArePartsFolds (K.operations (K.meaning body.now)) K.part_in view.cells.now.journal view.table.now }
-    requires can { CanAskBy (K.operations (K.meaning body.now)) view.cells.now.journal K.bit flags.old rows.old }
+    requires parts { ArePartsFolds (K.operations body.now) K.part_in view.cells.now.journal view.table.now }
+    requires can { CanAskBy (K.operations body.now) view.cells.now.journal K.bit flags.old rows.old }
     requires inside { IsInside view.cells.now.journal node end }
-    requires so_far { IsSomeFold (K.operations (K.meaning body.now)) view.cells.now.journal value (first_index node) }
-    ensures { KnowsRun (K.operations (K.meaning body.now)) view.entry.cells.now.journal K.bit node (node.number + 1) value result flags.old flags.new rows.old rows.new }
+    requires so_far { IsSomeFold (K.operations body.now) view.cells.now.journal value (first_index node) }
+    ensures { KnowsRun (K.operations body.now) view.entry.cells.now.journal K.bit node (node.number + 1) value result flags.old flags.new rows.old rows.new }
 {
     // The elements are few enough for a fold.
     let _size = view.cells.size();
@@ -154,12 +154,12 @@ fn join_behind<K: OfSix>(
     node: Node,
     end: u32,
 ) -> Joined<K::S>
-    requires can { CanAskBy (K.operations (K.meaning body.now)) view.cells.now.journal K.bit flags.now rows.now }
+    requires can { CanAskBy (K.operations body.now) view.cells.now.journal K.bit flags.now rows.now }
     requires inside { IsInside view.cells.now.journal node end }
-    requires so_far { IsSomeFold (K.operations (K.meaning body.now)) view.cells.now.journal value (first_index (record { level = node.level; number = node.number + 1 })) }
+    requires so_far { IsSomeFold (K.operations body.now) view.cells.now.journal value (first_index (record { level = node.level; number = node.number + 1 })) }
     ensures low { node.number < result.end }
     ensures high { result.end ≤ end }
-    ensures kept { KnowsRun (K.operations (K.meaning body.now)) view.entry.cells.now.journal K.bit (record { level = node.level; number = node.number + 1 }) result.end value result.value flags.now flags.now rows.now rows.now }
+    ensures kept { KnowsRun (K.operations body.now) view.entry.cells.now.journal K.bit (record { level = node.level; number = node.number + 1 }) result.end value result.value flags.now flags.now rows.now rows.now }
 {
     let next = Node {
         level: node.level,

@@ -243,13 +243,13 @@ fn answer_by<K: OfSix>(
     lo: u32,
     hi: u32,
 ) -> Result<KindAnswer, Refusal>
-    requires parts { ArePartsFolds (K.operations (K.meaning body.now)) K.part_in view.cells.now.journal view.table.now }
-    requires can { CanAskBy (K.operations (K.meaning body.now)) view.cells.now.journal K.bit flags.old rows.old }
+    requires parts { ArePartsFolds (K.operations body.now) K.part_in view.cells.now.journal view.table.now }
+    requires can { CanAskBy (K.operations body.now) view.cells.now.journal K.bit flags.old rows.old }
     ensures ok { IfOk result (λ answer. (table : List (List ℕ)) → K.fits body.now table → IsKindAnswer table view.entry.cells.now.journal K.the_kind lo hi answer) }
     ensures err { IfErr result (λ refusal. range_refusal view.entry.cells.now.journal lo hi ≡ Some refusal) }
     ensures flags_unchanged { OnErr result (flags.new ≡ flags.old) }
     ensures rows_unchanged { OnErr result (rows.new ≡ rows.old) }
-    ensures folds { AreFolds (K.operations (K.meaning body.now)) view.entry.cells.now.journal flags.new K.bit rows.new }
+    ensures folds { AreFolds (K.operations body.now) view.entry.cells.now.journal flags.new K.bit rows.new }
     ensures learns { LearnsBy K.bit flags.old flags.new rows.old rows.new }
     ensures kept { IfOk result (λ _. AreTopsKnown (is_flagged flags.new K.bit) lo hi) }
 {

@@ -45,7 +45,7 @@ pub trait OfSix: Single {
 
     /// Its part of the fold by all six is its own fold.
     ghost parts_fold: { (b : Self) (table : List (List ℕ)) (xs : List ℤ) → fits b table →
-        part_in (fold_of (six_operations_by table) xs) ≡ fold_of (Self.operations (Self.meaning b)) xs };
+        part_in (fold_of (six_operations_by table) xs) ≡ fold_of (Self.operations b) xs };
 }
 
 impl OfSix for Sum {

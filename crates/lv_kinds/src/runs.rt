@@ -20,9 +20,9 @@ pub fn take_runs<K: OfSix>(
     rows: &mut NodeRows<K::S>,
     walk: KindWalk<K::S>,
 ) -> KindWalk<K::S>
-    requires parts { ArePartsFolds (K.operations (K.meaning body.now)) K.part_in view.cells.now.journal view.table.now }
-    requires stands { StandsBy (K.operations (K.meaning body.now)) view.cells.now.journal K.bit walk flags.old rows.old }
-    ensures { GoesOnBy (K.operations (K.meaning body.now)) view.entry.cells.now.journal K.bit walk result flags.old flags.new rows.old rows.new }
+    requires parts { ArePartsFolds (K.operations body.now) K.part_in view.cells.now.journal view.table.now }
+    requires stands { StandsBy (K.operations body.now) view.cells.now.journal K.bit walk flags.old rows.old }
+    ensures { GoesOnBy (K.operations body.now) view.entry.cells.now.journal K.bit walk result flags.old flags.new rows.old rows.new }
 {
     let begun = take_cells(view, body, flags, rows, walk);
     let risen = rise(view, body, flags, rows, begun);
@@ -40,9 +40,9 @@ fn rise<K: OfSix>(
     rows: &mut NodeRows<K::S>,
     walk: KindWalk<K::S>,
 ) -> KindWalk<K::S>
-    requires parts { ArePartsFolds (K.operations (K.meaning body.now)) K.part_in view.cells.now.journal view.table.now }
-    requires stands { StandsBy (K.operations (K.meaning body.now)) view.cells.now.journal K.bit walk flags.old rows.old }
-    ensures { GoesOnBy (K.operations (K.meaning body.now)) view.entry.cells.now.journal K.bit walk result flags.old flags.new rows.old rows.new }
+    requires parts { ArePartsFolds (K.operations body.now) K.part_in view.cells.now.journal view.table.now }
+    requires stands { StandsBy (K.operations body.now) view.cells.now.journal K.bit walk flags.old rows.old }
+    ensures { GoesOnBy (K.operations body.now) view.entry.cells.now.journal K.bit walk result flags.old flags.new rows.old rows.new }
 {
     let first = take_run(view, body, flags, rows, walk, 1);
     let second = take_run(view, body, flags, rows, first, 2);
@@ -59,9 +59,9 @@ fn cross<K: OfSix>(
     rows: &mut NodeRows<K::S>,
     walk: KindWalk<K::S>,
 ) -> KindWalk<K::S>
-    requires parts { ArePartsFolds (K.operations (K.meaning body.now)) K.part_in view.cells.now.journal view.table.now }
-    requires stands { StandsBy (K.operations (K.meaning body.now)) view.cells.now.journal K.bit walk flags.old rows.old }
-    ensures { GoesOnBy (K.operations (K.meaning body.now)) view.entry.cells.now.journal K.bit walk result flags.old flags.new rows.old rows.new }
+    requires parts { ArePartsFolds (K.operations body.now) K.part_in view.cells.now.journal view.table.now }
+    requires stands { StandsBy (K.operations body.now) view.cells.now.journal K.bit walk flags.old rows.old }
+    ensures { GoesOnBy (K.operations body.now) view.entry.cells.now.journal K.bit walk result flags.old flags.new rows.old rows.new }
 {
     if walk.hi - walk.at < width(4) {
         return walk;
@@ -80,9 +80,9 @@ fn pass_summit<K: OfSix>(
     rows: &mut NodeRows<K::S>,
     walk: KindWalk<K::S>,
 ) -> KindWalk<K::S>
-    requires parts { ArePartsFolds (K.operations (K.meaning body.now)) K.part_in view.cells.now.journal view.table.now }
-    requires stands { StandsBy (K.operations (K.meaning body.now)) view.cells.now.journal K.bit walk flags.old rows.old }
-    ensures { GoesOnBy (K.operations (K.meaning body.now)) view.entry.cells.now.journal K.bit walk result flags.old flags.new rows.old rows.new }
+    requires parts { ArePartsFolds (K.operations body.now) K.part_in view.cells.now.journal view.table.now }
+    requires stands { StandsBy (K.operations body.now) view.cells.now.journal K.bit walk flags.old rows.old }
+    ensures { GoesOnBy (K.operations body.now) view.entry.cells.now.journal K.bit walk result flags.old flags.new rows.old rows.new }
 {
     if walk.hi - walk.at < width(5) {
         return walk;
@@ -101,9 +101,9 @@ fn sink<K: OfSix>(
     rows: &mut NodeRows<K::S>,
     walk: KindWalk<K::S>,
 ) -> KindWalk<K::S>
-    requires parts { ArePartsFolds (K.operations (K.meaning body.now)) K.part_in view.cells.now.journal view.table.now }
-    requires stands { StandsBy (K.operations (K.meaning body.now)) view.cells.now.journal K.bit walk flags.old rows.old }
-    ensures { GoesOnBy (K.operations (K.meaning body.now)) view.entry.cells.now.journal K.bit walk result flags.old flags.new rows.old rows.new }
+    requires parts { ArePartsFolds (K.operations body.now) K.part_in view.cells.now.journal view.table.now }
+    requires stands { StandsBy (K.operations body.now) view.cells.now.journal K.bit walk flags.old rows.old }
+    ensures { GoesOnBy (K.operations body.now) view.entry.cells.now.journal K.bit walk result flags.old flags.new rows.old rows.new }
 {
     let first = take_run(view, body, flags, rows, walk, 3);
     let second = take_run(view, body, flags, rows, first, 2);
@@ -121,11 +121,11 @@ fn take_run<K: OfSix>(
     walk: KindWalk<K::S>,
     level: u32,
 ) -> KindWalk<K::S>
-    requires parts { ArePartsFolds (K.operations (K.meaning body.now)) K.part_in view.cells.now.journal view.table.now }
-    requires stands { StandsBy (K.operations (K.meaning body.now)) view.cells.now.journal K.bit walk flags.old rows.old }
+    requires parts { ArePartsFolds (K.operations body.now) K.part_in view.cells.now.journal view.table.now }
+    requires stands { StandsBy (K.operations body.now) view.cells.now.journal K.bit walk flags.old rows.old }
     requires low { 1 ≤ level }
     requires high { level ≤ 6 }
-    ensures { GoesOnBy (K.operations (K.meaning body.now)) view.entry.cells.now.journal K.bit walk result flags.old flags.new rows.old rows.new }
+    ensures { GoesOnBy (K.operations body.now) view.entry.cells.now.journal K.bit walk result flags.old flags.new rows.old rows.new }
 {
     let end = run_end(walk.at, walk.hi, level);
     let first = Node::over(level, walk.at);
@@ -173,8 +173,8 @@ fn take_cells<K: OfSix>(
     rows: &NodeRows<K::S>,
     walk: KindWalk<K::S>,
 ) -> KindWalk<K::S>
-    requires stands { StandsBy (K.operations (K.meaning body.now)) view.cells.now.journal K.bit walk flags.now rows.now }
-    ensures { GoesOnBy (K.operations (K.meaning body.now)) view.entry.cells.now.journal K.bit walk result flags.now flags.now rows.now rows.now }
+    requires stands { StandsBy (K.operations body.now) view.cells.now.journal K.bit walk flags.now rows.now }
+    ensures { GoesOnBy (K.operations body.now) view.entry.cells.now.journal K.bit walk result flags.now flags.now rows.now rows.now }
 {
     // The elements are few enough for a fold.
     let _size = view.cells.size();

@@ -48,9 +48,9 @@ impl<B: Body<S = S>, S> Model for BlockOutcomeOf<B, S> {
 
     ghost view = { λ a. a.job };
 
-    ghost invariant = { λ a. a.summary ≡ fold_of (B.operations (B.meaning a.job.body)) a.job.elements };
+    ghost invariant = { λ a. a.summary ≡ fold_of (B.operations a.job.body) a.job.elements };
 
-    ghost inverse = { λ d. record { job = d; summary = fold_of (B.operations (B.meaning d.body)) d.elements } };
+    ghost inverse = { λ d. record { job = d; summary = fold_of (B.operations d.body) d.elements } };
 
     ghost inverse_ok = { λ a h. ap (λ s. record a { summary = s }) (sym h) };
 }
@@ -89,7 +89,7 @@ impl<B: Body<S = S>, S: Copy> BlockOutcomeOf<B, S> {
     /// The fold of the elements.
     #[inline(always)]
     pub fn summary(&self) -> S
-        ensures { result ≡ fold_of (B.operations (B.meaning self.now.body)) self.now.elements }
+        ensures { result ≡ fold_of (B.operations self.now.body) self.now.elements }
     {
         self.summary
     }

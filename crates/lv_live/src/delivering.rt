@@ -26,11 +26,11 @@ pub fn deliver_anew<B: Body, J: Journal>(
     node: Node,
     version: u32,
 ) -> Accepted
-    requires agrees { Agrees (B.operations (B.meaning body.now)) history.now.journal table.old }
+    requires agrees { Agrees (B.operations body.now) history.now.journal table.old }
     requires ready { delivery_in table.old node version ≡ Accepted.Installed → IsReady table.old node }
     requires inside { delivery_in table.old node version ≡ Accepted.Installed → is_below node (8 * claim_blocks claims.old) ≡ true }
     ensures accepted { result ≡ delivery_in table.old node version }
-    ensures after { AfterDelivery table.old table.new node version (fold_of (B.operations (B.meaning body.now)) (elements_under history.now.journal node)) result }
+    ensures after { AfterDelivery table.old table.new node version (fold_of (B.operations body.now) (elements_under history.now.journal node)) result }
     ensures hears { ClaimsHear claims.old claims.new node result }
 {
     let accepted = delivery(table, node, version);

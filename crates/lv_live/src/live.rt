@@ -42,7 +42,7 @@ impl<B: Body, J: Journal> Model for Live<B, J> {
 
     ghost view = { λ a. record { body = a.body; history = a.history; table = a.table; claims = a.claims } };
 
-    ghost invariant = { λ a. IsLive (B.operations (B.meaning a.body)) record { body = a.body; history = a.history; table = a.table; claims = a.claims } };
+    ghost invariant = { λ a. IsLive (B.operations a.body) record { body = a.body; history = a.history; table = a.table; claims = a.claims } };
 }
 
 impl<B: Body> Live<B> {
@@ -232,7 +232,7 @@ impl<B: Body, J: Journal> Live<B, J> {
     /// Says what every vector keeps, to a caller who sees no invariant: it is a live one. Computes nothing.
     #[inline(always)]
     pub fn keeps(&self)
-        ensures { IsLive (B.operations (B.meaning self.now.body)) self.now }
+        ensures { IsLive (B.operations self.now.body) self.now }
     {
         let _ = &self.body;
     }

@@ -25,12 +25,12 @@ pub fn play<B: Body>(
     events: &[Event],
     replies: &mut Vec<Reply<B::S>>,
 )
-    requires world { IsWorld (B.operations (B.meaning live.old.body)) live.old issued.old.jobs }
+    requires world { IsWorld (B.operations live.old.body) live.old issued.old.jobs }
     requires issued { length events.now ≤ issued.old.room }
     requires replies { vec_len replies.old + length events.now ≤ vec_capacity replies.old }
     ensures run { (said : List (Reply B.S)) × (replies.new.items ≡ replies.old.items ++ said)
-        × Run (B.operations (B.meaning live.old.body)) live.old.history.limits (with_issued live.old issued.old.jobs) events.now said (with_issued live.new issued.new.jobs) }
-    ensures world { IsWorld (B.operations (B.meaning live.old.body)) live.new issued.new.jobs }
+        × Run (B.operations live.old.body) live.old.history.limits (with_issued live.old issued.old.jobs) events.now said (with_issued live.new issued.new.jobs) }
+    ensures world { IsWorld (B.operations live.old.body) live.new issued.new.jobs }
     ensures setting { SameSetting live.old live.new }
 {
     for event in events {
@@ -46,10 +46,10 @@ fn play_one<B: Body>(
     issued: &mut Issued<B>,
     event: Event,
 ) -> Reply<B::S>
-    requires world { IsWorld (B.operations (B.meaning live.old.body)) live.old issued.old.jobs }
+    requires world { IsWorld (B.operations live.old.body) live.old issued.old.jobs }
     requires room { 0 < issued.old.room }
-    ensures step { Step (B.operations (B.meaning live.old.body)) live.old.history.limits (with_issued live.old issued.old.jobs) event result (with_issued live.new issued.new.jobs) }
-    ensures world { IsWorld (B.operations (B.meaning live.old.body)) live.new issued.new.jobs }
+    ensures step { Step (B.operations live.old.body) live.old.history.limits (with_issued live.old issued.old.jobs) event result (with_issued live.new issued.new.jobs) }
+    ensures world { IsWorld (B.operations live.old.body) live.new issued.new.jobs }
     ensures setting { SameSetting live.old live.new }
     ensures room { issued.old.room ≤ issued.new.room + 1 }
 {
@@ -66,8 +66,8 @@ fn play_one<B: Body>(
 
 // Makes an edit.
 fn play_edit<B: Body>(live: &mut Live<B>, edit: Edit) -> Reply<B::S>
-    ensures step { (jobs : List (Carried B B.S)) → Step (B.operations (B.meaning live.old.body)) live.old.history.limits (with_issued live.old jobs) (event.Edit edit) result (with_issued live.new jobs) }
-    ensures world { (jobs : List (Carried B B.S)) → IsWorld (B.operations (B.meaning live.old.body)) live.old jobs → IsWorld (B.operations (B.meaning live.old.body)) live.new jobs }
+    ensures step { (jobs : List (Carried B B.S)) → Step (B.operations live.old.body) live.old.history.limits (with_issued live.old jobs) (event.Edit edit) result (with_issued live.new jobs) }
+    ensures world { (jobs : List (Carried B B.S)) → IsWorld (B.operations live.old.body) live.old jobs → IsWorld (B.operations live.old.body) live.new jobs }
     ensures setting { SameSetting live.old live.new }
 {
     match live.apply(edit) {
@@ -78,8 +78,8 @@ fn play_edit<B: Body>(live: &mut Live<B>, edit: Edit) -> Reply<B::S>
 
 // Completes what is pending.
 fn play_settle<B: Body>(live: &mut Live<B>) -> Reply<B::S>
-    ensures step { (jobs : List (Carried B B.S)) → Step (B.operations (B.meaning live.old.body)) live.old.history.limits (with_issued live.old jobs) event.Settle result (with_issued live.new jobs) }
-    ensures world { (jobs : List (Carried B B.S)) → IsWorld (B.operations (B.meaning live.old.body)) live.old jobs → IsWorld (B.operations (B.meaning live.old.body)) live.new jobs }
+    ensures step { (jobs : List (Carried B B.S)) → Step (B.operations live.old.body) live.old.history.limits (with_issued live.old jobs) event.Settle result (with_issued live.new jobs) }
+    ensures world { (jobs : List (Carried B B.S)) → IsWorld (B.operations live.old.body) live.old jobs → IsWorld (B.operations live.old.body) live.new jobs }
     ensures setting { SameSetting live.old live.new }
 {
     live.settle();
@@ -89,8 +89,8 @@ fn play_settle<B: Body>(live: &mut Live<B>) -> Reply<B::S>
 // Answers a claim.
 fn play_claim<B: Body>(live: &mut Live<B>, issued: &mut Issued<B>) -> Reply<B::S>
     requires room { 0 < issued.old.room }
-    ensures step { Step (B.operations (B.meaning live.old.body)) live.old.history.limits (with_issued live.old issued.old.jobs) event.Claim result (with_issued live.new issued.new.jobs) }
-    ensures world { IsWorld (B.operations (B.meaning live.old.body)) live.old issued.old.jobs → IsWorld (B.operations (B.meaning live.old.body)) live.new issued.new.jobs }
+    ensures step { Step (B.operations live.old.body) live.old.history.limits (with_issued live.old issued.old.jobs) event.Claim result (with_issued live.new issued.new.jobs) }
+    ensures world { IsWorld (B.operations live.old.body) live.old issued.old.jobs → IsWorld (B.operations live.old.body) live.new issued.new.jobs }
     ensures setting { SameSetting live.old live.new }
     ensures room { issued.old.room ≤ issued.new.room + 1 }
 {
@@ -104,8 +104,8 @@ fn play_claim<B: Body>(live: &mut Live<B>, issued: &mut Issued<B>) -> Reply<B::S
 /// no node wants a job. Room was made before. Takes no memory.
 pub fn claim<B: Body>(live: &mut Live<B>, issued: &mut Issued<B>) -> Option<(u64, Node, u32)>
     requires room { 0 < issued.old.room }
-    ensures step { Step (B.operations (B.meaning live.old.body)) live.old.history.limits (with_issued live.old issued.old.jobs) event.Claim (numbered_reply result) (with_issued live.new issued.new.jobs) }
-    ensures world { IsWorld (B.operations (B.meaning live.old.body)) live.old issued.old.jobs → IsWorld (B.operations (B.meaning live.old.body)) live.new issued.new.jobs }
+    ensures step { Step (B.operations live.old.body) live.old.history.limits (with_issued live.old issued.old.jobs) event.Claim (numbered_reply result) (with_issued live.new issued.new.jobs) }
+    ensures world { IsWorld (B.operations live.old.body) live.old issued.old.jobs → IsWorld (B.operations live.old.body) live.new issued.new.jobs }
     ensures body { live.new.body ≡ live.old.body }
     ensures history { live.new.history ≡ live.old.history }
     ensures room { issued.old.room ≤ issued.new.room + 1 }
@@ -119,9 +119,9 @@ pub fn claim<B: Body>(live: &mut Live<B>, issued: &mut Issued<B>) -> Option<(u64
 
 // Answers a delivery.
 fn play_delivery<B: Body>(live: &mut Live<B>, issued: &Issued<B>, k: u64) -> Reply<B::S>
-    requires world { IsWorld (B.operations (B.meaning live.old.body)) live.old issued.now.jobs }
-    ensures step { Step (B.operations (B.meaning live.old.body)) live.old.history.limits (with_issued live.old issued.now.jobs) (event.Deliver k) result (with_issued live.new issued.now.jobs) }
-    ensures world { IsWorld (B.operations (B.meaning live.old.body)) live.new issued.now.jobs }
+    requires world { IsWorld (B.operations live.old.body) live.old issued.now.jobs }
+    ensures step { Step (B.operations live.old.body) live.old.history.limits (with_issued live.old issued.now.jobs) (event.Deliver k) result (with_issued live.new issued.now.jobs) }
+    ensures world { IsWorld (B.operations live.old.body) live.new issued.now.jobs }
     ensures setting { SameSetting live.old live.new }
 {
     match deliver(live, issued, k) {
@@ -133,9 +133,9 @@ fn play_delivery<B: Body>(live: &mut Live<B>, issued: &Issued<B>, k: u64) -> Rep
 /// Delivers what the job of a number gave, however late, and however often. Refused with `NoJob` where no such job was handed out.
 /// Takes no memory.
 pub fn deliver<B: Body>(live: &mut Live<B>, issued: &Issued<B>, k: u64) -> Result<Accepted, Refusal>
-    requires world { IsWorld (B.operations (B.meaning live.old.body)) live.old issued.now.jobs }
-    ensures step { Step (B.operations (B.meaning live.old.body)) live.old.history.limits (with_issued live.old issued.now.jobs) (event.Deliver k) (accepted_reply result) (with_issued live.new issued.now.jobs) }
-    ensures world { IsWorld (B.operations (B.meaning live.old.body)) live.new issued.now.jobs }
+    requires world { IsWorld (B.operations live.old.body) live.old issued.now.jobs }
+    ensures step { Step (B.operations live.old.body) live.old.history.limits (with_issued live.old issued.now.jobs) (event.Deliver k) (accepted_reply result) (with_issued live.new issued.now.jobs) }
+    ensures world { IsWorld (B.operations live.old.body) live.new issued.now.jobs }
     ensures body { live.new.body ≡ live.old.body }
     ensures history { live.new.history ≡ live.old.history }
 {
@@ -147,8 +147,8 @@ pub fn deliver<B: Body>(live: &mut Live<B>, issued: &Issued<B>, k: u64) -> Resul
 
 // Forgets all claims.
 fn play_forget<B: Body>(live: &mut Live<B>) -> Reply<B::S>
-    ensures step { (jobs : List (Carried B B.S)) → Step (B.operations (B.meaning live.old.body)) live.old.history.limits (with_issued live.old jobs) event.Forget result (with_issued live.new jobs) }
-    ensures world { (jobs : List (Carried B B.S)) → IsWorld (B.operations (B.meaning live.old.body)) live.old jobs → IsWorld (B.operations (B.meaning live.old.body)) live.new jobs }
+    ensures step { (jobs : List (Carried B B.S)) → Step (B.operations live.old.body) live.old.history.limits (with_issued live.old jobs) event.Forget result (with_issued live.new jobs) }
+    ensures world { (jobs : List (Carried B B.S)) → IsWorld (B.operations live.old.body) live.old jobs → IsWorld (B.operations live.old.body) live.new jobs }
     ensures setting { SameSetting live.old live.new }
 {
     live.forget_claims();
@@ -157,7 +157,7 @@ fn play_forget<B: Body>(live: &mut Live<B>) -> Reply<B::S>
 
 // Answers a reduction.
 fn play_reduction<B: Body>(live: &Live<B>, lo: u32, hi: u32) -> Reply<B::S>
-    ensures { (jobs : List (Carried B B.S)) → Step (B.operations (B.meaning live.now.body)) live.now.history.limits (with_issued live.now jobs) (event.Reduce lo hi) result (with_issued live.now jobs) }
+    ensures { (jobs : List (Carried B B.S)) → Step (B.operations live.now.body) live.now.history.limits (with_issued live.now jobs) (event.Reduce lo hi) result (with_issued live.now jobs) }
 {
     match live.reduce(lo, hi) {
         Ok(answer) => Reply::Answered(answer),
@@ -173,7 +173,7 @@ fn play_scan<B: Body>(
     hi: u32,
     inclusive: bool,
 ) -> Reply<B::S>
-    ensures { (jobs : List (Carried B B.S)) → Step (B.operations (B.meaning live.now.body)) live.now.history.limits (with_issued live.now jobs) (event.Scan lo hi inclusive) result (with_issued live.now jobs) }
+    ensures { (jobs : List (Carried B B.S)) → Step (B.operations live.now.body) live.now.history.limits (with_issued live.now jobs) (event.Scan lo hi inclusive) result (with_issued live.now jobs) }
 {
     match scan(alloc, live, lo, hi, inclusive) {
         Ok(scan) => Reply::Scanned(scan),
@@ -189,7 +189,7 @@ fn scan<B: Body>(
     hi: u32,
     inclusive: bool,
 ) -> Result<Scan<B::S>, Refusal>
-    ensures { Scans (B.operations (B.meaning live.now.body)) (recorded live.now) lo hi inclusive result }
+    ensures { Scans (B.operations live.now.body) (recorded live.now) lo hi inclusive result }
 {
     if inclusive {
         live.scan_inclusive(alloc, lo, hi)

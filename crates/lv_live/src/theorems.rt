@@ -21,26 +21,26 @@ use lv_bodies::Body;
 /// at edit e, and is the plain left fold of its range after the first e edits; a scan has its running folds. An accepted edit is the
 /// next one behind the first e, and its receipt is the one there.
 pub fn every_run_is_true_of_its_edits<B: Body>()
-    ensures edits { (m : B.Meaning) (limits : Bounds) (r next : Record) (events : List Event) (replies : List (Reply B.S)) →
-        Run (B.operations m) limits r events replies next → next.edits ≡ r.edits ++ accepted_in events replies }
-    ensures answers { (m : B.Meaning) (limits : Bounds) (r next : Record) (events : List Event) (replies : List (Reply B.S)) →
-        Run (B.operations m) limits r events replies next → AreTrueOf (B.operations m) next.edits (length r.edits) events replies }
+    ensures edits { (body : B) (limits : Bounds) (r next : Record) (events : List Event) (replies : List (Reply B.S)) →
+        Run (B.operations body) limits r events replies next → next.edits ≡ r.edits ++ accepted_in events replies }
+    ensures answers { (body : B) (limits : Bounds) (r next : Record) (events : List Event) (replies : List (Reply B.S)) →
+        Run (B.operations body) limits r events replies next → AreTrueOf (B.operations body) next.edits (length r.edits) events replies }
 {}
 
 /// In every run edits and queries are answered by the edits alone: each reduction is the plain left fold of its range, and
 /// each scan its running folds, after the edits accepted before it, counts of reads apart. Runs that meet want of memory apart.
 pub fn answers_are_plain<B: Body>()
-    ensures { (m : B.Meaning) (limits : Bounds) (r next : Record) (events : List Event) (replies : List (Reply B.S)) →
-        Run (B.operations m) limits r events replies next → AllHadRoom replies →
-        answers_in events replies ≡ plain_answers (B.operations m) limits r.edits (without_refresh events) }
+    ensures { (body : B) (limits : Bounds) (r next : Record) (events : List Event) (replies : List (Reply B.S)) →
+        Run (B.operations body) limits r events replies next → AllHadRoom replies →
+        answers_in events replies ≡ plain_answers (B.operations body) limits r.edits (without_refresh events) }
 {}
 
 /// Refresh changes no answer: two runs from the same edits, whose events differ in claims, deliveries and forgetting alone,
 /// answer their edits and queries alike, counts of reads apart. Runs that meet want of memory apart.
 pub fn refresh_changes_no_answer<B: Body>()
-    ensures { (m : B.Meaning) (limits : Bounds) (r next q after : Record) (events others : List Event) (replies answers : List (Reply B.S)) →
-        Run (B.operations m) limits r events replies next → AllHadRoom replies →
-        Run (B.operations m) limits q others answers after → AllHadRoom answers →
+    ensures { (body : B) (limits : Bounds) (r next q after : Record) (events others : List Event) (replies answers : List (Reply B.S)) →
+        Run (B.operations body) limits r events replies next → AllHadRoom replies →
+        Run (B.operations body) limits q others answers after → AllHadRoom answers →
         r.edits ≡ q.edits → without_refresh events ≡ without_refresh others →
         answers_in events replies ≡ answers_in others answers }
 {}
@@ -48,39 +48,39 @@ pub fn refresh_changes_no_answer<B: Body>()
 /// Where memory is never wanted, a run has one outcome: from records that say the same, the same events have the same replies,
 /// with every count and every job, and leave records that say the same.
 pub fn runs_have_one_outcome<B: Body>()
-    ensures replies { (m : B.Meaning) (limits : Bounds) (r next q after : Record) (events : List Event) (replies answers : List (Reply B.S)) →
-        SameRecord r q → Run (B.operations m) limits r events replies next → AllHadRoom replies →
-        Run (B.operations m) limits q events answers after → AllHadRoom answers → replies ≡ answers }
-    ensures record { (m : B.Meaning) (limits : Bounds) (r next q after : Record) (events : List Event) (replies answers : List (Reply B.S)) →
-        SameRecord r q → Run (B.operations m) limits r events replies next → AllHadRoom replies →
-        Run (B.operations m) limits q events answers after → AllHadRoom answers → SameRecord next after }
+    ensures replies { (body : B) (limits : Bounds) (r next q after : Record) (events : List Event) (replies answers : List (Reply B.S)) →
+        SameRecord r q → Run (B.operations body) limits r events replies next → AllHadRoom replies →
+        Run (B.operations body) limits q events answers after → AllHadRoom answers → replies ≡ answers }
+    ensures record { (body : B) (limits : Bounds) (r next q after : Record) (events : List Event) (replies answers : List (Reply B.S)) →
+        SameRecord r q → Run (B.operations body) limits r events replies next → AllHadRoom replies →
+        Run (B.operations body) limits q events answers after → AllHadRoom answers → SameRecord next after }
 {}
 
 /// Whatever is refused changes nothing: the record is the same after any refusal.
 pub fn refusals_change_nothing<B: Body>()
-    ensures { (m : B.Meaning) (limits : Bounds) (r next : Record) (event : Event) (refusal : Refusal) →
-        Step (B.operations m) limits r event (Refused refusal) next → SameRecord r next }
+    ensures { (body : B) (limits : Bounds) (r next : Record) (event : Event) (refusal : Refusal) →
+        Step (B.operations body) limits r event (Refused refusal) next → SameRecord r next }
 {}
 
 /// Honesty lasts: contents that were taken honestly at a version stay so through every event, whatever is edited, claimed,
 /// delivered or forgotten.
 pub fn honesty_lasts<B: Body>()
-    ensures { (m : B.Meaning) (limits : Bounds) (r next : Record) (event : Event) (answered : Reply B.S) (n : Node) (v : ℕ) (contents : Contents B.S) →
-        IsLegal r.edits → Step (B.operations m) limits r event answered next →
-        IsHonest (B.operations m) r n v contents → IsHonest (B.operations m) next n v contents }
+    ensures { (body : B) (limits : Bounds) (r next : Record) (event : Event) (answered : Reply B.S) (n : Node) (v : ℕ) (contents : Contents B.S) →
+        IsLegal r.edits → Step (B.operations body) limits r event answered next →
+        IsHonest (B.operations body) r n v contents → IsHonest (B.operations body) next n v contents }
 {}
 
 /// What is honest is vouched for, where the body is the vector's. So vetting says yes, for good, to each outcome of a job that
 /// the vector handed out.
 pub fn honest_outcomes_are_vouched_for<B: Body>()
-    ensures { (m other : B.Meaning) (r : Record) (n : Node) (v : ℕ) (contents : Contents B.S) →
-        m ≡ other → IsLegal r.edits → IsHonest (B.operations m) r n v contents → Vouched (B.operations m) r (m ≡ other) n v contents }
+    ensures { (body other : B) (r : Record) (n : Node) (v : ℕ) (contents : Contents B.S) →
+        B.meaning body ≡ B.meaning other → IsLegal r.edits → IsHonest (B.operations body) r n v contents → Vouched (B.operations body) r (B.meaning body ≡ B.meaning other) n v contents }
 {}
 
 /// A job stays good: contents that were taken honestly at some moment of a run are vouched for at its end, whatever happened
 /// between, and so at every later moment.
 pub fn jobs_stay_vouched_for<B: Body>()
-    ensures { (m other : B.Meaning) (limits : Bounds) (r next : Record) (events : List Event) (replies : List (Reply B.S)) (n : Node) (v : ℕ) (contents : Contents B.S) →
-        m ≡ other → IsLegal r.edits → Run (B.operations m) limits r events replies next →
-        IsHonest (B.operations m) r n v contents → Vouched (B.operations m) next (m ≡ other) n v contents }
+    ensures { (body other : B) (limits : Bounds) (r next : Record) (events : List Event) (replies : List (Reply B.S)) (n : Node) (v : ℕ) (contents : Contents B.S) →
+        B.meaning body ≡ B.meaning other → IsLegal r.edits → Run (B.operations body) limits r events replies next →
+        IsHonest (B.operations body) r n v contents → Vouched (B.operations body) next (B.meaning body ≡ B.meaning other) n v contents }
 {}

@@ -23,9 +23,9 @@ pub fn stands_here<B: Body, J: Journal>(
     node: Node,
     contents: &Contents<B::S>,
 ) -> bool
-    requires agrees { Agrees (B.operations (B.meaning body.now)) history.now.journal table.now }
+    requires agrees { Agrees (B.operations body.now) history.now.journal table.now }
     requires whole { whole_in table.now node ≡ true }
-    ensures { (c : ClaimTable) → IsTrue result ↔ Stands (B.operations (B.meaning body.now)) (record_of history.now.journal table.now c) node contents.now }
+    ensures { (c : ClaimTable) → IsTrue result ↔ Stands (B.operations body.now) (record_of history.now.journal table.now c) node contents.now }
 {
     match contents {
         Contents::Elements(elements) => node.level == 1 && have_elements(history, node, elements),
@@ -53,10 +53,10 @@ fn have_summaries<B: Body, J: Journal>(
     node: Node,
     summaries: &Eight<B::S>,
 ) -> bool
-    requires agrees { Agrees (B.operations (B.meaning body.now)) _history.now.journal table.now }
+    requires agrees { Agrees (B.operations body.now) _history.now.journal table.now }
     requires whole { whole_in table.now node ≡ true }
     requires above { 1 < node.level }
-    ensures { (c : ClaimTable) → IsTrue result ↔ Stands (B.operations (B.meaning body.now)) (record_of _history.now.journal table.now c) node (Contents.Children summaries.now) }
+    ensures { (c : ClaimTable) → IsTrue result ↔ Stands (B.operations body.now) (record_of _history.now.journal table.now c) node (Contents.Children summaries.now) }
 {
     match children_of(table, node) {
         Some(here) => same_summaries(body, &here, summaries),

@@ -29,7 +29,7 @@ impl<B: Body> Model for World<B> {
 
     ghost view = { λ a. record { live = a.live; jobs = a.issued.jobs } };
 
-    ghost invariant = { λ a. IsWorld (B.operations (B.meaning a.live.body)) a.live a.issued.jobs };
+    ghost invariant = { λ a. IsWorld (B.operations a.live.body) a.live a.issued.jobs };
 }
 
 impl<B: Body> World<B> {
@@ -65,7 +65,7 @@ pub fn run<B: Body>(
     world: &mut World<B>,
     events: &[Event],
 ) -> Result<Vec<Reply<B::S>>, Refusal>
-    ensures ok { IfOk result (λ replies. Run (B.operations (B.meaning world.old.live.body)) world.old.live.history.limits
+    ensures ok { IfOk result (λ replies. Run (B.operations world.old.live.body) world.old.live.history.limits
         (world_record world.old) events.now replies.items (world_record world.new)) }
     ensures err { IfErr result (λ refusal. refusal ≡ Refusal.NoMemory) }
     ensures unchanged { OnErr result (world.new ≡ world.old) }

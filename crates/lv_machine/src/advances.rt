@@ -23,8 +23,8 @@ pub fn advance<B: Parted>(
     look: u64,
     found: u64,
 ) -> Advance<B::S>
-    requires { CanAdvance (B.is_within (B.meaning body.now)) B.PARTS B.whole_of task.now found }
-    ensures { result ≡ advanced (B.operations (B.meaning body.now)) B.PARTS B.parts_of B.whole_of limits look task.now found }
+    requires { CanAdvance (B.is_within body.now) B.PARTS B.whole_of task.now found }
+    ensures { result ≡ advanced (B.operations body.now) B.PARTS B.parts_of B.whole_of limits look task.now found }
 {
     match *task {
         Task::Look(goal) => after_look(body, limits, goal, found),
@@ -44,7 +44,7 @@ pub fn advance<B: Parted>(
 
 // What becomes of a call after its look.
 fn after_look<B: Parted>(body: &B, limits: Limits, goal: Goal, look: u64) -> Advance<B::S>
-    ensures { result ≡ looked_at (B.operations (B.meaning body.now)) B.PARTS B.parts_of B.whole_of look goal (refusal_at limits look goal) }
+    ensures { result ≡ looked_at (B.operations body.now) B.PARTS B.parts_of B.whole_of look goal (refusal_at limits look goal) }
 {
     if let Some(refusal) = refused_at(limits, goal, look) {
         return Advance::Ends(Said::Refused(refusal));
@@ -58,7 +58,7 @@ fn after_look<B: Parted>(body: &B, limits: Limits, goal: Goal, look: u64) -> Adv
 
 // What a call does once its look's pending write is complete, or there is none.
 fn begin<B: Parted>(body: &B, goal: Goal, look: u64) -> Advance<B::S>
-    ensures { result ≡ begun (B.operations (B.meaning body.now)) B.PARTS B.parts_of B.whole_of look goal }
+    ensures { result ≡ begun (B.operations body.now) B.PARTS B.parts_of B.whole_of look goal }
 {
     match goal {
         Goal::Edit(edit) => Advance::Goes(begin_edit(edit, look)),

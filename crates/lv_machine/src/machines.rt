@@ -41,7 +41,7 @@ impl<B: Parted> Model for Machine<B> {
 
     ghost view = { λ a. record { body = a.body; limits = a.limits; words = a.words.items; actors = a.actors.items } };
 
-    ghost invariant = { λ a. IsReached (B.operations (B.meaning a.body)) B.PARTS B.parts_of a.limits a.words.items a.actors.items };
+    ghost invariant = { λ a. IsReached (B.operations a.body) B.PARTS B.parts_of a.limits a.words.items a.actors.items };
 }
 
 impl<B: Parted> Machine<B> {
@@ -73,8 +73,8 @@ impl<B: Parted> Machine<B> {
     /// Does one event.
     #[tactic(auto, unfolding(crate::specs::Machine::machine_step))]
     pub fn step(&mut self, event: Event) -> Outcome<B::S>
-        ensures state { self.new ≡ (machine_step (B.operations (B.meaning self.old.body)) B.PARTS B.parts_of B.whole_of self.old event).0 }
-        ensures outcome { result ≡ (machine_step (B.operations (B.meaning self.old.body)) B.PARTS B.parts_of B.whole_of self.old event).1 }
+        ensures state { self.new ≡ (machine_step (B.operations self.old.body) B.PARTS B.parts_of B.whole_of self.old event).0 }
+        ensures outcome { result ≡ (machine_step (B.operations self.old.body) B.PARTS B.parts_of B.whole_of self.old event).1 }
     {
         match event {
             Event::Call { actor, call } => self.start(actor, call),
@@ -102,8 +102,8 @@ impl<B: Parted> Machine<B> {
     /// Does a list of events, and tells what each comes to. Refused with `NoMemory` where there is no room for the outcomes,
     /// which is made first; nothing has changed then.
     pub fn run(&mut self, events: &[Event]) -> Result<Vec<Outcome<B::S>>, Refusal>
-        ensures state { OnOk result (self.new ≡ (machine_run (B.operations (B.meaning self.old.body)) B.PARTS B.parts_of B.whole_of self.old events.now).0) }
-        ensures outcomes { IfOk result (λ outcomes. outcomes.items ≡ (machine_run (B.operations (B.meaning self.old.body)) B.PARTS B.parts_of B.whole_of self.old events.now).1) }
+        ensures state { OnOk result (self.new ≡ (machine_run (B.operations self.old.body) B.PARTS B.parts_of B.whole_of self.old events.now).0) }
+        ensures outcomes { IfOk result (λ outcomes. outcomes.items ≡ (machine_run (B.operations self.old.body) B.PARTS B.parts_of B.whole_of self.old events.now).1) }
         ensures err { IfErr result (λ refusal. refusal ≡ Refusal.NoMemory) }
         ensures unchanged { OnErr result (self.new ≡ self.old) }
     {
@@ -119,8 +119,8 @@ impl<B: Parted> Machine<B> {
 
     // Starts a call of an idle actor.
     fn start(&mut self, actor: u32, call: Call) -> Outcome<B::S>
-        ensures state { self.new ≡ (called (B.operations (B.meaning self.old.body)) B.PARTS B.parts_of B.whole_of self.old actor call (slice_get self.old.actors actor)).0 }
-        ensures outcome { result ≡ (called (B.operations (B.meaning self.old.body)) B.PARTS B.parts_of B.whole_of self.old actor call (slice_get self.old.actors actor)).1 }
+        ensures state { self.new ≡ (called (B.operations self.old.body) B.PARTS B.parts_of B.whole_of self.old actor call (slice_get self.old.actors actor)).0 }
+        ensures outcome { result ≡ (called (B.operations self.old.body) B.PARTS B.parts_of B.whole_of self.old actor call (slice_get self.old.actors actor)).1 }
     {
         match actor_at(&self.actors, actor) {
             None => Outcome::Refused(Refusal::NotNow),
@@ -133,8 +133,8 @@ impl<B: Parted> Machine<B> {
     fn begin(&mut self, actor: u32, look: u64, goal: Result<Goal, Refusal>) -> Outcome<B::S>
         requires idle { slice_get self.old.actors actor ≡ Some record { look = look; task = None } }
         requires goal { IfOk goal IsGoal }
-        ensures state { self.new ≡ (begins (B.operations (B.meaning self.old.body)) B.PARTS B.parts_of B.whole_of self.old actor look goal).0 }
-        ensures outcome { result ≡ (begins (B.operations (B.meaning self.old.body)) B.PARTS B.parts_of B.whole_of self.old actor look goal).1 }
+        ensures state { self.new ≡ (begins (B.operations self.old.body) B.PARTS B.parts_of B.whole_of self.old actor look goal).0 }
+        ensures outcome { result ≡ (begins (B.operations self.old.body) B.PARTS B.parts_of B.whole_of self.old actor look goal).1 }
     {
         match goal {
             Ok(goal) => {
@@ -148,8 +148,8 @@ impl<B: Parted> Machine<B> {
 
     // Does the next step of a busy actor's call.
     fn go_on(&mut self, actor: u32) -> Outcome<B::S>
-        ensures state { self.new ≡ (gone_on (B.operations (B.meaning self.old.body)) B.PARTS B.parts_of B.whole_of self.old actor (slice_get self.old.actors actor)).0 }
-        ensures outcome { result ≡ (gone_on (B.operations (B.meaning self.old.body)) B.PARTS B.parts_of B.whole_of self.old actor (slice_get self.old.actors actor)).1 }
+        ensures state { self.new ≡ (gone_on (B.operations self.old.body) B.PARTS B.parts_of B.whole_of self.old actor (slice_get self.old.actors actor)).0 }
+        ensures outcome { result ≡ (gone_on (B.operations self.old.body) B.PARTS B.parts_of B.whole_of self.old actor (slice_get self.old.actors actor)).1 }
     {
         match actor_at(&self.actors, actor) {
             None => Outcome::Refused(Refusal::NotNow),
@@ -166,8 +166,8 @@ impl<B: Parted> Machine<B> {
     // Does the next step of a call of an actor.
     fn take(&mut self, actor: u32, before: u64, task: Task<B::S>) -> Outcome<B::S>
         requires { slice_get self.old.actors actor ≡ Some record { look = before; task = Some task } }
-        ensures state { self.new ≡ (stepped (B.operations (B.meaning self.old.body)) B.PARTS B.parts_of B.whole_of self.old actor before task).0 }
-        ensures outcome { result ≡ (stepped (B.operations (B.meaning self.old.body)) B.PARTS B.parts_of B.whole_of self.old actor before task).1 }
+        ensures state { self.new ≡ (stepped (B.operations self.old.body) B.PARTS B.parts_of B.whole_of self.old actor before task).0 }
+        ensures outcome { result ≡ (stepped (B.operations self.old.body) B.PARTS B.parts_of B.whole_of self.old actor before task).1 }
     {
         let mut look = before;
         let found = take_step(&mut self.words, &mut look, &task);

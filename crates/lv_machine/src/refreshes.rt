@@ -14,7 +14,7 @@ use lv_bodies::{Parted, fold_more};
 pub fn after_keep_mark<B: Parted>(body: &B, block: u32, look: u64, found: u64) -> Advance<B::S>
     requires block { block < 511 }
     requires mark { found < 16777216 }
-    ensures { result ≡ unless_later look found (Advance.Goes (Task.KeepCell record { block = block; version = found; at = 8 * block; sum = (B.operations (B.meaning body.now)).identity })) }
+    ensures { result ≡ unless_later look found (Advance.Goes (Task.KeepCell record { block = block; version = found; at = 8 * block; sum = (B.operations body.now).identity })) }
 {
     if found > u64::from(edit_in(look)) {
         return overtaken(found);
@@ -34,8 +34,8 @@ pub fn after_keep_cell<B: Parted>(
     look: u64,
     found: u64,
 ) -> Advance<B::S>
-    requires { CanKeep (B.is_within (B.meaning body.now)) keep found }
-    ensures { result ≡ unless_later look (cell_version found) (cell_kept (B.operations (B.meaning body.now)) B.PARTS B.parts_of B.whole_of (with_kept (B.operations (B.meaning body.now)) B.PARTS B.parts_of B.whole_of keep found)) }
+    requires { CanKeep (B.is_within body.now) keep found }
+    ensures { result ≡ unless_later look (cell_version found) (cell_kept (B.operations body.now) B.PARTS B.parts_of B.whole_of (with_kept (B.operations body.now) B.PARTS B.parts_of B.whole_of keep found)) }
 {
     if version_in(found) > u64::from(edit_in(look)) {
         return overtaken(version_in(found));

@@ -11,6 +11,6 @@ use lv_bodies::Parted;
 /// `Worn`, `Empty`, `OutOfRange` and `Full`; `Contended` tells how many edits there are, more than the look showed; and `Overtaken`
 /// an edit that the look doesn't show. A refused event changes nothing.
 pub fn every_event_is_one_move<B: Parted>()
-    ensures moves { (body : B) → EveryEventIsOneMove (B.operations (B.meaning body)) B.PARTS B.parts_of B.whole_of body }
-    ensures grows { (body : B) → HistoriesGrow B (B.operations (B.meaning body)) B.PARTS B.parts_of B.whole_of }
+    ensures moves { (body : B) → EveryEventIsOneMove (B.operations body) B.PARTS B.parts_of B.whole_of body }
+    ensures grows { (body : B) → HistoriesGrow B (B.operations body) B.PARTS B.parts_of B.whole_of }
 {}

@@ -32,9 +32,9 @@ pub fn go_on_walking<S>(walk: Walk<S>, look: u64) -> Advance<S>
 
 /// What becomes of a reduction after the cell where it stands.
 pub fn after_sum_cell<B: Parted>(body: &B, walk: Walk<B::S>, look: u64, found: u64) -> Advance<B::S>
-    requires walk { CanWalk (B.is_within (B.meaning body.now)) walk }
+    requires walk { CanWalk (B.is_within body.now) walk }
     requires version { cell_version found < 16777216 }
-    ensures { result ≡ unless_later look (cell_version found) (walked look (with_cell (B.operations (B.meaning body.now)) B.PARTS B.parts_of B.whole_of walk found)) }
+    ensures { result ≡ unless_later look (cell_version found) (walked look (with_cell (B.operations body.now) B.PARTS B.parts_of B.whole_of walk found)) }
 {
     if version_in(found) > u64::from(edit_in(look)) {
         return overtaken(version_in(found));
@@ -73,8 +73,8 @@ pub fn after_part<B: Parted>(
     look: u64,
     found: u64,
 ) -> Advance<B::S>
-    requires { CanTake (B.is_within (B.meaning body.now)) B.PARTS B.whole_of walk parts found }
-    ensures { result ≡ part_loaded (B.operations (B.meaning body.now)) B.PARTS B.parts_of B.whole_of look walk parts found }
+    requires { CanTake (B.is_within body.now) B.PARTS B.whole_of walk parts found }
+    ensures { result ≡ part_loaded (B.operations body.now) B.PARTS B.parts_of B.whole_of look walk parts found }
 {
     if part_version_in(found) != u64::from(parts.version) {
         return Advance::Goes(Task::SumCell(walk));

@@ -24,11 +24,11 @@ pub fn ask<B: Body, J: Journal>(
     lo: u32,
     hi: u32,
 ) -> Result<Answer<B::S>, Refusal>
-    requires agrees { Agrees (B.operations (B.meaning body.now)) history.now.journal table.old }
-    ensures ok { IfOk result (λ answer. IsAnswer (B.operations (B.meaning body.now)) history.now.journal lo hi answer) }
+    requires agrees { Agrees (B.operations body.now) history.now.journal table.old }
+    ensures ok { IfOk result (λ answer. IsAnswer (B.operations body.now) history.now.journal lo hi answer) }
     ensures err { IfErr result (λ refusal. range_refusal history.now.journal lo hi ≡ Some refusal) }
     ensures unchanged { OnErr result (table.new ≡ table.old) }
-    ensures agrees { Agrees (B.operations (B.meaning body.now)) history.now.journal table.new }
+    ensures agrees { Agrees (B.operations body.now) history.now.journal table.new }
     ensures learns { OnlyLearns table.old table.new }
     ensures known { IfOk result (λ _. AreTopsKnown (known_in table.new) lo hi) }
     ensures quiet { AreTopsKnown (known_in table.old) lo hi → table.new ≡ table.old }
@@ -70,9 +70,9 @@ fn know<B: Body, J: Journal>(
     body: &B,
     node: Node,
 ) -> Known<B::S>
-    requires agrees { Agrees (B.operations (B.meaning body.now)) history.now.journal table.old }
+    requires agrees { Agrees (B.operations body.now) history.now.journal table.old }
     requires whole { whole_in table.old node ≡ true }
-    ensures { Knows (B.operations (B.meaning body.now)) history.now.journal table.old table.new node result }
+    ensures { Knows (B.operations body.now) history.now.journal table.old table.new node result }
 {
     if let Some(summary) = table.known(node) {
         return Known {
@@ -110,11 +110,11 @@ fn know_block<B: Body, J: Journal>(
     body: &B,
     block: Node,
 ) -> Known<B::S>
-    requires agrees { Agrees (B.operations (B.meaning body.now)) history.now.journal table.old }
+    requires agrees { Agrees (B.operations body.now) history.now.journal table.old }
     requires whole { whole_in table.old block ≡ true }
     requires level { block.level ≡ 1 }
     requires unknown { known_in table.old block ≡ false }
-    ensures { Knows (B.operations (B.meaning body.now)) history.now.journal table.old table.new block result }
+    ensures { Knows (B.operations body.now) history.now.journal table.old table.new block result }
 {
     let elements = history.block(block.number);
     let summary = fold_slice(body, &elements);

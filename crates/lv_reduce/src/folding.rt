@@ -17,7 +17,7 @@ pub fn fold_elements<B: Body>(
     lo: u32,
     hi: u32,
 ) -> Result<(u32, B::S), Refusal>
-    ensures ok { IfOk result (λ answer. IsAnswerPair (B.operations (B.meaning body.now)) history.now.journal lo hi answer) }
+    ensures ok { IfOk result (λ answer. IsAnswerPair (B.operations body.now) history.now.journal lo hi answer) }
     ensures err { IfErr result (λ refusal. range_refusal history.now.journal lo hi ≡ Some refusal) }
 {
     if let Some(refusal) = refusal_of(history, lo, hi) {

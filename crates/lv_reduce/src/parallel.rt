@@ -32,7 +32,7 @@ pub fn par_reduce<R: Threads + Sync, B: Body>(
     lo: u32,
     hi: u32,
 ) -> Result<(u32, B::S), Refusal>
-    ensures ok { IfOk result (λ answer. IsAnswerPair (B.operations (B.meaning body.now)) view.entry.cells.now.journal lo hi answer) }
+    ensures ok { IfOk result (λ answer. IsAnswerPair (B.operations body.now) view.entry.cells.now.journal lo hi answer) }
     ensures err { IfErr result (λ refusal. IsScanRefusal view.entry.cells.now.journal lo hi refusal) }
 {
     if let Some(refusal) = refusal_of(view.cells, lo, hi) {
@@ -54,7 +54,7 @@ pub fn par_scan_inclusive<R: Threads + Sync, B: Body>(
     hi: u32,
 ) -> Result<Scan<B::S>, Refusal>
     ensures ok { IfOk result (λ scan. IsScan view.entry.cells.now.journal lo hi
-        (inclusive_scan (B.operations (B.meaning body.now)) (slice_of view.entry.cells.now.journal lo hi)) scan) }
+        (inclusive_scan (B.operations body.now) (slice_of view.entry.cells.now.journal lo hi)) scan) }
     ensures err { IfErr result (λ refusal. IsScanRefusal view.entry.cells.now.journal lo hi refusal) }
 {
     scan_range(rt, alloc, view, body, lo, hi, true)
@@ -70,7 +70,7 @@ pub fn par_scan_exclusive<R: Threads + Sync, B: Body>(
     hi: u32,
 ) -> Result<Scan<B::S>, Refusal>
     ensures ok { IfOk result (λ scan. IsScan view.entry.cells.now.journal lo hi
-        (exclusive_scan (B.operations (B.meaning body.now)) (slice_of view.entry.cells.now.journal lo hi)) scan) }
+        (exclusive_scan (B.operations body.now) (slice_of view.entry.cells.now.journal lo hi)) scan) }
     ensures err { IfErr result (λ refusal. IsScanRefusal view.entry.cells.now.journal lo hi refusal) }
 {
     scan_range(rt, alloc, view, body, lo, hi, false)
@@ -86,7 +86,7 @@ pub fn par_scan_slice<R: Threads + Sync, B: Body>(
     inclusive: bool,
 ) -> Result<Values<B::S>, Refusal>
     requires few { length xs.now ≤ 2 ^ 20 }
-    ensures ok { IfOk result (λ values. values ≡ scan_of inclusive (B.operations (B.meaning body.now)) xs.now) }
+    ensures ok { IfOk result (λ values. values ≡ scan_of inclusive (B.operations body.now) xs.now) }
     ensures err { IfErr result (λ refusal. refusal ≡ Refusal.NoMemory) }
 {
     match scan_slice(rt, alloc, body, xs, inclusive) {
@@ -123,7 +123,7 @@ fn scan_range<R: Threads + Sync, B: Body>(
     inclusive: bool,
 ) -> Result<Scan<B::S>, Refusal>
     ensures ok { IfOk result (λ scan. IsScan view.entry.cells.now.journal lo hi
-        (scan_of inclusive (B.operations (B.meaning body.now)) (slice_of view.entry.cells.now.journal lo hi)) scan) }
+        (scan_of inclusive (B.operations body.now) (slice_of view.entry.cells.now.journal lo hi)) scan) }
     ensures err { IfErr result (λ refusal. IsScanRefusal view.entry.cells.now.journal lo hi refusal) }
 {
     let parts = parts_for(rt, body, hi.saturating_sub(lo), LEAST_SCAN);

@@ -77,8 +77,8 @@ pub fn reduce<B: Body, J: Journal>(
     lo: u32,
     hi: u32,
 ) -> Result<Answer<B::S>, Refusal>
-    requires { Agrees (B.operations (B.meaning body.now)) view.cells.now.journal view.table.now }
-    ensures ok { IfOk result (λ answer. IsAnswer (B.operations (B.meaning body.now)) view.entry.cells.now.journal lo hi answer) }
+    requires { Agrees (B.operations body.now) view.cells.now.journal view.table.now }
+    ensures ok { IfOk result (λ answer. IsAnswer (B.operations body.now) view.entry.cells.now.journal lo hi answer) }
     ensures err { IfErr result (λ refusal. range_refusal view.entry.cells.now.journal lo hi ≡ Some refusal) }
     ensures cost { IfOk result (λ answer. IsCost (fresh_in view.entry.table.now) lo hi answer.cells_read answer.summaries_read) }
     ensures few { IfOk result (λ answer. IsFew (fresh_in view.entry.table.now) lo hi answer.cells_read answer.summaries_read) }
@@ -138,10 +138,10 @@ pub fn greatest_level(at: u32, hi: u32) -> u32
 /// A fold with the fold of what follows joined at its end.
 #[inline(always)]
 pub fn join<B: Body>(body: &B, sum: B::S, more: B::S) -> B::S
-    requires { CanJoin (B.is_within (B.meaning body.now)) sum more }
-    ensures value { result ≡ (B.operations (B.meaning body.now)).join sum more }
-    ensures within { (n m : ℕ) → B.is_within (B.meaning body.now) sum n → B.is_within (B.meaning body.now) more m
-        → n + m ≤ 2 ^ 20 → B.is_within (B.meaning body.now) result (n + m) }
+    requires { CanJoin (B.is_within body.now) sum more }
+    ensures value { result ≡ (B.operations body.now).join sum more }
+    ensures within { (n m : ℕ) → B.is_within body.now sum n → B.is_within body.now more m
+        → n + m ≤ 2 ^ 20 → B.is_within body.now result (n + m) }
 {
     body.combine(sum, more)
 }

@@ -31,7 +31,7 @@ pub fn fold_range<B: Body>(row: Row<'_>, body: &B, lo: u32, hi: u32) -> B::S
     requires can { CanFold (elements_in row) }
     requires order { lo ≤ hi }
     requires inside { hi ≤ length (elements_in row) }
-    ensures { result ≡ fold_of (B.operations (B.meaning body.now)) (slice_range (elements_in row.entry) lo hi) }
+    ensures { result ≡ fold_of (B.operations body.now) (slice_range (elements_in row.entry) lo hi) }
 {
     match row {
         Row::Cells(history) => fold_cells(history, body, lo, hi),
@@ -44,7 +44,7 @@ fn fold_cells<B: Body>(history: &Edits, body: &B, lo: u32, hi: u32) -> B::S
     requires can { CanFold (list_of history.now.journal) }
     requires order { lo ≤ hi }
     requires inside { hi ≤ length (list_of history.now.journal) }
-    ensures { result ≡ fold_of (B.operations (B.meaning body.now)) (slice_of history.now.journal lo hi) }
+    ensures { result ≡ fold_of (B.operations body.now) (slice_of history.now.journal lo hi) }
 {
     let mut sum = body.identity();
     let mut cell = [0];
@@ -60,8 +60,8 @@ fn fold_cells<B: Body>(history: &Edits, body: &B, lo: u32, hi: u32) -> B::S
 // A fold that goes on over the elements of a slice.
 #[inline(always)]
 fn fold_on<B: Body>(body: &B, before: B::S, xs: &[i64]) -> B::S
-    requires { CanGoOn (B.is_within (B.meaning body.now)) before (length xs.now) }
-    ensures { result ≡ reached (B.operations (B.meaning body.now)) before xs.now }
+    requires { CanGoOn (B.is_within body.now) before (length xs.now) }
+    ensures { result ≡ reached (B.operations body.now) before xs.now }
 {
     let mut sum = before;
     for x in xs {

@@ -27,7 +27,7 @@ pub fn scan_inclusive<B: Body>(
     hi: u32,
 ) -> Result<Scan<B::S>, Refusal>
     ensures ok { IfOk result (λ scan. IsScan view.entry.cells.now.journal lo hi
-        (inclusive_scan (B.operations (B.meaning body.now)) (slice_of view.entry.cells.now.journal lo hi)) scan) }
+        (inclusive_scan (B.operations body.now) (slice_of view.entry.cells.now.journal lo hi)) scan) }
     ensures err { IfErr result (λ refusal. IsScanRefusal view.entry.cells.now.journal lo hi refusal) }
 {
     running_folds(alloc, view, body, lo, hi, true)
@@ -43,7 +43,7 @@ pub fn scan_exclusive<B: Body>(
     hi: u32,
 ) -> Result<Scan<B::S>, Refusal>
     ensures ok { IfOk result (λ scan. IsScan view.entry.cells.now.journal lo hi
-        (exclusive_scan (B.operations (B.meaning body.now)) (slice_of view.entry.cells.now.journal lo hi)) scan) }
+        (exclusive_scan (B.operations body.now) (slice_of view.entry.cells.now.journal lo hi)) scan) }
     ensures err { IfErr result (λ refusal. IsScanRefusal view.entry.cells.now.journal lo hi refusal) }
 {
     running_folds(alloc, view, body, lo, hi, false)
@@ -59,7 +59,7 @@ pub fn running_folds<B: Body>(
     inclusive: bool,
 ) -> Result<Scan<B::S>, Refusal>
     ensures ok { IfOk result (λ scan. IsScan view.entry.cells.now.journal lo hi
-        (scan_of inclusive (B.operations (B.meaning body.now)) (slice_of view.entry.cells.now.journal lo hi)) scan) }
+        (scan_of inclusive (B.operations body.now) (slice_of view.entry.cells.now.journal lo hi)) scan) }
     ensures err { IfErr result (λ refusal. IsScanRefusal view.entry.cells.now.journal lo hi refusal) }
 {
     if let Some(refusal) = refusal_of(view.cells, lo, hi) {
@@ -92,10 +92,10 @@ pub fn push_folds<B: Body>(
     xs: &[i64],
     values: &mut Vec<B::S>,
 ) -> B::S
-    requires can { CanGoOn (B.is_within (B.meaning body.now)) before (length xs.now) }
+    requires can { CanGoOn (B.is_within body.now) before (length xs.now) }
     requires room { vec_len values.old + length xs.now ≤ vec_capacity values.old }
-    ensures values { values.new.items ≡ values.old.items ++ scan_from inclusive (B.operations (B.meaning body.now)) before xs.now }
-    ensures sum { result ≡ reached (B.operations (B.meaning body.now)) before xs.now }
+    ensures values { values.new.items ≡ values.old.items ++ scan_from inclusive (B.operations body.now) before xs.now }
+    ensures sum { result ≡ reached (B.operations body.now) before xs.now }
     ensures len { vec_len values.new ≡ vec_len values.old + length xs.now }
     ensures capacity { vec_capacity values.new ≡ vec_capacity values.old }
 {

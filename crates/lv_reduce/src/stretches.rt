@@ -69,7 +69,7 @@ impl<B: Body> Stretch<B> {
         inclusive: bool,
     ) -> Result<Scan<B::S>, Refusal>
         ensures edit { IfOk result (λ scan. scan.edit ≡ self.now.edit) }
-        ensures values { IfOk result (λ scan. scan.values ≡ scan_of inclusive (B.operations (B.meaning self.now.body)) self.now.elements) }
+        ensures values { IfOk result (λ scan. scan.values ≡ scan_of inclusive (B.operations self.now.body) self.now.elements) }
         ensures err { IfErr result (λ refusal. refusal ≡ Refusal.NoMemory) }
     {
         let values = par_scan_slice(rt, alloc, &self.body, self.elements.as_slice(), inclusive)?;
@@ -82,7 +82,7 @@ impl<B: Body> Stretch<B> {
     /// The same by the thread that asks. Refused with `NoMemory` alone.
     pub fn scan_alone(&self, alloc: Global, inclusive: bool) -> Result<Scan<B::S>, Refusal>
         ensures edit { IfOk result (λ scan. scan.edit ≡ self.now.edit) }
-        ensures values { IfOk result (λ scan. scan.values ≡ scan_of inclusive (B.operations (B.meaning self.now.body)) self.now.elements) }
+        ensures values { IfOk result (λ scan. scan.values ≡ scan_of inclusive (B.operations self.now.body) self.now.elements) }
         ensures err { IfErr result (λ refusal. refusal ≡ Refusal.NoMemory) }
     {
         let Ok(values) = scan_alone(alloc, &self.body, self.elements.as_slice(), inclusive) else {

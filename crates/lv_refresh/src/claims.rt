@@ -143,14 +143,14 @@ impl Claims {
         table: &Summaries<B::S>,
         body: B,
     ) -> Option<Job<B>>
-        requires agrees { Agrees (B.operations (B.meaning body)) history.now.journal table.now }
+        requires agrees { Agrees (B.operations body) history.now.journal table.now }
         requires hints { AreHints (record_of history.now.journal table.now self.old) self.old }
         requires grown { table.now.size ≤ 8 * claim_blocks self.old }
         ensures next { IsNextJob (record_of history.now.journal table.now self.old) (option_map (λ job. (job.node, job.version)) result) }
         ensures claimed { IfSome result (λ job. (n : Node) → claimed_in self.new n ≡ (if same_node n job.node then Some job.version else claimed_in self.old n)) }
         ensures idle { IfNone result ((n : Node) → claimed_in self.new n ≡ claimed_in self.old n) }
         ensures hints { AreHints (record_of history.now.journal table.now self.new) self.new }
-        ensures job { IfSome result (λ job. Stands (B.operations (B.meaning body)) (record_of history.now.journal table.now self.old) job.node job.contents) }
+        ensures job { IfSome result (λ job. Stands (B.operations body) (record_of history.now.journal table.now self.old) job.node job.contents) }
         ensures body { IfSome result (λ job. job.body ≡ body) }
         ensures blocks { claim_blocks self.new ≡ claim_blocks self.old }
     {
@@ -169,10 +169,10 @@ impl Claims {
         table: &mut Summaries<B::S>,
         body: &B,
     ) -> bool
-        requires agrees { Agrees (B.operations (B.meaning body.now)) history.now.journal table.old }
+        requires agrees { Agrees (B.operations body.now) history.now.journal table.old }
         requires hints { AreHints (record_of history.now.journal table.old self.old) self.old }
         requires grown { table.old.size ≤ 8 * claim_blocks self.old }
-        ensures refreshed { result ≡ true → RefreshesNext (B.operations (B.meaning body.now)) history.now.journal table.old table.new self.old self.new }
+        ensures refreshed { result ≡ true → RefreshesNext (B.operations body.now) history.now.journal table.old table.new self.old self.new }
         ensures idle { result ≡ false → IsNextJob (record_of history.now.journal table.old self.old) None }
         ensures claimed { result ≡ false → (n : Node) → claimed_in self.new n ≡ claimed_in self.old n }
         ensures same { result ≡ false → table.new ≡ table.old }

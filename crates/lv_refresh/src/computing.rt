@@ -28,11 +28,11 @@ pub fn refresh_node<B: Body, J: Journal>(
     node: Node,
     version: u32,
 )
-    requires agrees { Agrees (B.operations (B.meaning body.now)) history.now.journal table.old }
+    requires agrees { Agrees (B.operations body.now) history.now.journal table.old }
     requires due { delivery_in table.old node version ≡ Installed }
     requires ready { IsReady table.old node }
     requires inside { is_below node (8 * claim_blocks claims.old) ≡ true }
-    ensures keeps { Keeps table.old table.new node version (fold_of (B.operations (B.meaning body.now)) (elements_under history.now.journal node)) }
+    ensures keeps { Keeps table.old table.new node version (fold_of (B.operations body.now) (elements_under history.now.journal node)) }
     ensures hinted { HintsNode claims.old claims.new (parent node) }
 {
     if node.level == 1 {
@@ -75,11 +75,11 @@ fn refresh_at<B: Body, J: Journal>(
     node: Node,
     version: u32,
 )
-    requires agrees { Agrees (B.operations (B.meaning body.now)) history.now.journal table.old }
+    requires agrees { Agrees (B.operations body.now) history.now.journal table.old }
     requires due { delivery_in table.old node version ≡ Installed }
     requires ready { IsReady table.old node }
     requires inside { is_below node (8 * claim_blocks claims.old) ≡ true }
-    ensures keeps { Keeps table.old table.new node version (fold_of (B.operations (B.meaning body.now)) (elements_under history.now.journal node)) }
+    ensures keeps { Keeps table.old table.new node version (fold_of (B.operations body.now) (elements_under history.now.journal node)) }
     ensures hinted { HintsNode claims.old claims.new (parent node) }
 {
     let summary = summary_of(history, table, body, node);
@@ -96,10 +96,10 @@ fn summary_of<B: Body, J: Journal>(
     body: &B,
     node: Node,
 ) -> B::S
-    requires agrees { Agrees (B.operations (B.meaning body.now)) history.now.journal table.now }
+    requires agrees { Agrees (B.operations body.now) history.now.journal table.now }
     requires whole { whole_in table.now node ≡ true }
     requires ready { IsReady table.now node }
-    ensures { result ≡ fold_of (B.operations (B.meaning body.now)) (elements_under history.now.journal node) }
+    ensures { result ≡ fold_of (B.operations body.now) (elements_under history.now.journal node) }
 {
     if node.level == 1 {
         fold_block(history, table, body, node)
@@ -117,10 +117,10 @@ fn fold_block<B: Body, J: Journal>(
     body: &B,
     block: Node,
 ) -> B::S
-    requires agrees { Agrees (B.operations (B.meaning body.now)) history.now.journal _table.now }
+    requires agrees { Agrees (B.operations body.now) history.now.journal _table.now }
     requires whole { whole_in _table.now block ≡ true }
     requires level { block.level ≡ 1 }
-    ensures { result ≡ fold_of (B.operations (B.meaning body.now)) (elements_under history.now.journal block) }
+    ensures { result ≡ fold_of (B.operations body.now) (elements_under history.now.journal block) }
 {
     // The elements are few enough for a fold, and their indices are of 32 bits.
     let _size = history.size();
@@ -143,11 +143,11 @@ pub fn fold_near<B: Body, J: Journal>(
     near: &[i64],
     block: Node,
 ) -> B::S
-    requires agrees { Agrees (B.operations (B.meaning body.now)) history.now.journal table.now }
+    requires agrees { Agrees (B.operations body.now) history.now.journal table.now }
     requires whole { whole_in table.now block ≡ true }
     requires level { block.level ≡ 1 }
     requires near { near.now ≡ slice_range (list_of history.now.journal) (512 * (block.number / 64)) (512 * (block.number / 64) + length near.now) }
-    ensures { result ≡ fold_of (B.operations (B.meaning body.now)) (elements_under history.now.journal block) }
+    ensures { result ≡ fold_of (B.operations body.now) (elements_under history.now.journal block) }
 {
     let from = block.number as usize % 64 * 8;
     match near.get(from..from + 8) {
@@ -164,11 +164,11 @@ fn join_children<B: Body, J: Journal>(
     body: &B,
     node: Node,
 ) -> B::S
-    requires agrees { Agrees (B.operations (B.meaning body.now)) history.now.journal table.now }
+    requires agrees { Agrees (B.operations body.now) history.now.journal table.now }
     requires whole { whole_in table.now node ≡ true }
     requires above { 1 < node.level }
     requires ready { IsReady table.now node }
-    ensures { result ≡ fold_of (B.operations (B.meaning body.now)) (elements_under history.now.journal node) }
+    ensures { result ≡ fold_of (B.operations body.now) (elements_under history.now.journal node) }
 {
     // The elements are few enough for a fold, and the children's numbers are of 32 bits.
     let _size = history.size();
@@ -187,11 +187,11 @@ fn join_node<B: Body, J: Journal>(
     body: &B,
     node: Node,
 ) -> B::S
-    requires agrees { Agrees (B.operations (B.meaning body.now)) history.now.journal table.now }
+    requires agrees { Agrees (B.operations body.now) history.now.journal table.now }
     requires whole { whole_in table.now node ≡ true }
     requires above { 1 < node.level }
     requires ready { IsReady table.now node }
-    ensures { result ≡ fold_of (B.operations (B.meaning body.now)) (elements_under history.now.journal node) }
+    ensures { result ≡ fold_of (B.operations body.now) (elements_under history.now.journal node) }
 {
     match table.children(node) {
         Some(summaries) => join_all(history, table, body, node, summaries),
@@ -208,11 +208,11 @@ fn join_all<B: Body, J: Journal>(
     node: Node,
     summaries: &[B::S],
 ) -> B::S
-    requires agrees { Agrees (B.operations (B.meaning body.now)) history.now.journal _table.now }
+    requires agrees { Agrees (B.operations body.now) history.now.journal _table.now }
     requires above { 1 < node.level }
     requires eight { length summaries.now ≡ 8 }
     requires entries { (k : ℕ) → k < 8 → slice_get summaries.now k ≡ entry_in _table.now (child node k) }
-    ensures { result ≡ fold_of (B.operations (B.meaning body.now)) (elements_under history.now.journal node) }
+    ensures { result ≡ fold_of (B.operations body.now) (elements_under history.now.journal node) }
 {
     // The elements are few enough for a fold.
     let _size = history.size();

@@ -33,7 +33,7 @@ impl<B: Body<S = S>, S> Model for JobOf<B, S> {
 
     ghost view = { λ a. record { node = a.node; version = a.version; contents = a.contents; body = a.body } };
 
-    ghost invariant = { λ a. (is_node a.node ≡ true) × CanFoldContents (B.is_within (B.meaning a.body)) a.contents };
+    ghost invariant = { λ a. (is_node a.node ≡ true) × CanFoldContents (B.is_within a.body) a.contents };
 
     ghost inverse = { λ d. record { contents = d.contents; body = d.body; node = d.node; version = d.version } };
 }
@@ -57,7 +57,7 @@ impl<B: Body<S = S>, S: Copy> JobOf<B, S> {
     #[inline(always)]
     pub(crate) fn new(node: Node, version: u32, contents: Contents<S>, body: B) -> JobOf<B, S>
         requires member { is_node node ≡ true }
-        requires contents { CanFoldContents (B.is_within (B.meaning body)) contents }
+        requires contents { CanFoldContents (B.is_within body) contents }
         ensures { result ≡ record { node = node; version = version; contents = contents; body = body } }
     {
         JobOf {
@@ -86,7 +86,7 @@ impl<B: Body<S = S>, S: Copy> JobOf<B, S> {
     #[inline(always)]
     pub(crate) fn as_contents(&self) -> &Contents<S>
         ensures value { result.now ≡ self.now.contents }
-        ensures can_fold { CanFoldContents (B.is_within (B.meaning self.now.body)) result.now }
+        ensures can_fold { CanFoldContents (B.is_within self.now.body) result.now }
         ensures member { is_node self.now.node ≡ true }
     {
         &self.contents

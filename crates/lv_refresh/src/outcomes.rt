@@ -31,9 +31,9 @@ impl<B: Body<S = S>, S> Model for OutcomeOf<B, S> {
 
     ghost view = { λ a. a.job };
 
-    ghost invariant = { λ a. (is_node a.job.node ≡ true) × (a.summary ≡ fold_of_contents (B.operations (B.meaning a.job.body)) a.job.contents) };
+    ghost invariant = { λ a. (is_node a.job.node ≡ true) × (a.summary ≡ fold_of_contents (B.operations a.job.body) a.job.contents) };
 
-    ghost inverse = { λ d. record { job = d; summary = fold_of_contents (B.operations (B.meaning d.body)) d.contents } };
+    ghost inverse = { λ d. record { job = d; summary = fold_of_contents (B.operations d.body) d.contents } };
 
     ghost inverse_ok = { λ a h. ap (λ s. record a { summary = s }) (sym h.1) };
 }
@@ -82,7 +82,7 @@ impl<B: Body<S = S>, S: Copy> OutcomeOf<B, S> {
     /// The fold of the elements, or the join of the summaries, that the job carried.
     #[inline(always)]
     pub fn summary(&self) -> S
-        ensures { result ≡ fold_of_contents (B.operations (B.meaning self.now.body)) self.now.contents }
+        ensures { result ≡ fold_of_contents (B.operations self.now.body) self.now.contents }
     {
         self.summary
     }
@@ -114,8 +114,8 @@ impl<B: Body<S = S>, S: Copy> OutcomeOf<B, S> {
 // The fold of the elements, or the join of the summaries from left to right.
 #[inline(always)]
 fn fold_contents<B: Body>(body: &B, contents: &Contents<B::S>) -> B::S
-    requires { CanFoldContents (B.is_within (B.meaning body.now)) contents.now }
-    ensures { result ≡ fold_of_contents (B.operations (B.meaning body.now)) contents.now }
+    requires { CanFoldContents (B.is_within body.now) contents.now }
+    ensures { result ≡ fold_of_contents (B.operations body.now) contents.now }
 {
     match contents {
         Contents::Elements(elements) => fold_slice(body, elements),
@@ -125,8 +125,8 @@ fn fold_contents<B: Body>(body: &B, contents: &Contents<B::S>) -> B::S
 
 // Eight summaries joined from left to right.
 fn join_eight<B: Body>(body: &B, summaries: &Eight<B::S>) -> B::S
-    requires { CanFoldContents (B.is_within (B.meaning body.now)) (Contents.Children summaries.now) }
-    ensures { result ≡ fold_of_contents (B.operations (B.meaning body.now)) (Contents.Children summaries.now) }
+    requires { CanFoldContents (B.is_within body.now) (Contents.Children summaries.now) }
+    ensures { result ≡ fold_of_contents (B.operations body.now) (Contents.Children summaries.now) }
 {
     let sum = body.combine(body.identity(), summaries.a);
     let sum = body.combine(sum, summaries.b);

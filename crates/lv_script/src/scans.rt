@@ -152,7 +152,7 @@ fn put_running_values<B: Single, W: Write>(
 // Shows a summary: of a fold it is the plain value.
 #[inline(always)]
 fn show_fold<B: Single>(body: &B, s: B::S) -> Shown
-    ensures { (xs : List ℤ) → CanFold xs → s ≡ fold_of (B.operations (B.meaning body.now)) xs → result ≡ B.plain body.now xs }
+    ensures { (xs : List ℤ) → CanFold xs → s ≡ fold_of (B.operations body.now) xs → result ≡ B.plain body.now xs }
 {
     body.shown(s)
 }

@@ -35,8 +35,8 @@ pub fn claim_under<B: Body>(
     ensures history { live.new.history ≡ live.old.history }
     ensures body { live.new.body ≡ live.old.body }
     ensures none { IfNone result (GivesNone ages.old ages.new (record { live = live.old; age = age.old }) (record { live = live.new; age = age.new })) }
-    ensures some { IfSome result (λ job. GivesJob (B.operations (B.meaning live.old.body)) ages.old ages.new (record { live = live.old; age = age.old }) (record { live = live.new; age = age.new }) job.age job.job) }
-    ensures part { IfSome result (λ job. IsPartOf (B.operations (B.meaning live.old.body)) 0 (list_of live.old.history.journal) job.job) }
+    ensures some { IfSome result (λ job. GivesJob (B.operations live.old.body) ages.old ages.new (record { live = live.old; age = age.old }) (record { live = live.new; age = age.new }) job.age job.job) }
+    ensures part { IfSome result (λ job. IsPartOf (B.operations live.old.body) 0 (list_of live.old.history.journal) job.job) }
     ensures shard { IfSome result (λ job. job.shard ≡ number) }
 {
     if *age == 0 && *ages == u64::MAX {
@@ -53,7 +53,7 @@ pub fn claim_under<B: Body>(
 
 /// Whether an outcome may be taken into a vector of an age: it is of another age, so that it is stale, or else it is vouched for.
 pub fn vet_under<B: Body>(live: &Live<B>, age: u64, outcome: &LongOutcome<B>) -> bool
-    ensures { IsTrue result ↔ (outcome.now.age ≡ age → IsVouched (B.operations (B.meaning live.now.body)) (B.meaning live.now.body ≡ B.meaning outcome.now.job.body) live.now outcome.now.job) }
+    ensures { IsTrue result ↔ (outcome.now.age ≡ age → IsVouched (B.operations live.now.body) (B.meaning live.now.body ≡ B.meaning outcome.now.job.body) live.now outcome.now.job) }
 {
     if outcome.age() != age {
         return true;
@@ -65,8 +65,8 @@ pub fn vet_under<B: Body>(live: &Live<B>, age: u64, outcome: &LongOutcome<B>) ->
 /// changes then. Else it is what the vector answers. What is taken in is the fold of the elements that stand there.
 pub fn accept_under<B: Body>(live: &mut Live<B>, age: u64, outcome: LongOutcome<B>) -> Accepted
     requires { IsLegalInLimits live.old.history }
-    ensures receives { Receives (B.operations (B.meaning live.old.body)) (B.meaning live.old.body ≡ B.meaning outcome.job.body) live.old age outcome.age outcome.job result live.new }
-    ensures part { is_taken result ≡ true → IsPartOf (B.operations (B.meaning live.old.body)) 0 (list_of live.old.history.journal) outcome.job }
+    ensures receives { Receives (B.operations live.old.body) (B.meaning live.old.body ≡ B.meaning outcome.job.body) live.old age outcome.age outcome.job result live.new }
+    ensures part { is_taken result ≡ true → IsPartOf (B.operations live.old.body) 0 (list_of live.old.history.journal) outcome.job }
 {
     if age != outcome.age() {
         return Accepted::Stale { now: 0 };
@@ -77,8 +77,8 @@ pub fn accept_under<B: Body>(live: &mut Live<B>, age: u64, outcome: LongOutcome<
 // Takes an outcome into a vector of its age.
 fn accept_vetted<B: Body>(live: &mut Live<B>, outcome: Outcome<B>) -> Accepted
     requires { IsLegalInLimits live.old.history }
-    ensures takes { Delivers (B.operations (B.meaning live.old.body)) (B.meaning live.old.body ≡ B.meaning outcome.body) live.old outcome result live.new }
-    ensures part { is_taken result ≡ true → IsPartOf (B.operations (B.meaning live.old.body)) 0 (list_of live.old.history.journal) outcome }
+    ensures takes { Delivers (B.operations live.old.body) (B.meaning live.old.body ≡ B.meaning outcome.body) live.old outcome result live.new }
+    ensures part { is_taken result ≡ true → IsPartOf (B.operations live.old.body) 0 (list_of live.old.history.journal) outcome }
 {
     if !live.vet(&outcome) {
         return Accepted::Stale { now: 0 };

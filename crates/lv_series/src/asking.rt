@@ -11,7 +11,7 @@ impl<B: LongBody> Series<B> {
     /// The fold of the elements from index `lo` up to `hi`, at the last edit. Refused with `BadRange`, then `OutOfRange`. Takes no
     /// memory.
     pub fn reduce(&self, lo: u64, hi: u64) -> Result<LongAnswer<B::S>, LongRefusal>
-        ensures { Reduces (B.operations (B.meaning self.now.kept.body)) self.now.kept lo hi result }
+        ensures { Reduces (B.operations self.now.kept.body) self.now.kept lo hi result }
     {
         match self.reduce_counted(lo, hi) {
             Ok(counted) => Ok(counted.answer),
@@ -22,7 +22,7 @@ impl<B: LongBody> Series<B> {
     /// What `reduce` answers, and how many joins it made beyond those in the two shards at the ends of its range: at most 126, and one
     /// for each 33,546,240 elements. That is 155 for 1,000,000,000 elements. Refused as `reduce` is.
     pub fn reduce_counted(&self, lo: u64, hi: u64) -> Result<Counted<B::S>, LongRefusal>
-        ensures answer { IfOk result (λ counted. IsLongAnswer (B.operations (B.meaning self.now.kept.body)) self.now.kept lo hi counted.answer) }
+        ensures answer { IfOk result (λ counted. IsLongAnswer (B.operations self.now.kept.body) self.now.kept lo hi counted.answer) }
         ensures joins { IfOk result (λ counted. counted.joins ≤ 126 + (hi - lo) / 33546240) }
         ensures err { IfErr result (λ refusal. range_refused self.now.kept.held lo hi ≡ Some refusal) }
     {
@@ -35,7 +35,7 @@ impl<B: LongBody> Series<B> {
     // The fold of a range that nothing refuses, with its joins.
     fn fold_kept(&self, lo: u64, hi: u64) -> Counted<B::S>
         requires { range_refused self.now.kept.held lo hi ≡ None }
-        ensures answer { IsLongAnswer (B.operations (B.meaning self.now.kept.body)) self.now.kept lo hi result.answer }
+        ensures answer { IsLongAnswer (B.operations self.now.kept.body) self.now.kept lo hi result.answer }
         ensures joins { result.joins ≤ 126 + (hi - lo) / 33546240 }
     {
         let folded = self.chain.fold(lo - self.gone, hi - self.gone);
@@ -51,7 +51,7 @@ impl<B: LongBody> Series<B> {
     /// What `reduce` answers, keeping what is computed for it in the two shards at the ends of the range: until one of them changes, it
     /// costs little to ask again. Refused as `reduce` is. Takes no memory.
     pub fn ask(&mut self, lo: u64, hi: u64) -> Result<LongAnswer<B::S>, LongRefusal>
-        ensures answer { Reduces (B.operations (B.meaning self.old.kept.body)) self.old.kept lo hi result }
+        ensures answer { Reduces (B.operations self.old.kept.body) self.old.kept lo hi result }
         ensures same { self.new.kept ≡ self.old.kept }
     {
         match self.range_verdict(lo, hi) {
@@ -63,7 +63,7 @@ impl<B: LongBody> Series<B> {
     // The same for a range that nothing refuses.
     fn ask_kept(&mut self, lo: u64, hi: u64) -> LongAnswer<B::S>
         requires { range_refused self.old.kept.held lo hi ≡ None }
-        ensures answer { IsLongAnswer (B.operations (B.meaning self.old.kept.body)) self.old.kept lo hi result }
+        ensures answer { IsLongAnswer (B.operations self.old.kept.body) self.old.kept lo hi result }
         ensures same { self.new.kept ≡ self.old.kept }
     {
         LongAnswer {
@@ -84,8 +84,8 @@ impl<B: LongBody> Series<B> {
         before: B::S,
         into: &mut [B::S],
     ) -> Result<LongScan, LongRefusal>
-        requires { StandsBefore (B.operations (B.meaning self.now.kept.body)) before (hi - lo) }
-        ensures { Scans (B.operations (B.meaning self.now.kept.body)) self.now.kept lo hi inclusive before into.old result into.new }
+        requires { StandsBefore (B.operations self.now.kept.body) before (hi - lo) }
+        ensures { Scans (B.operations self.now.kept.body) self.now.kept lo hi inclusive before into.old result into.new }
     {
         match self.range_verdict(lo, hi) {
             Some(refusal) => Err(refusal),
@@ -103,8 +103,8 @@ impl<B: LongBody> Series<B> {
         into: &mut [B::S],
     ) -> LongScan
         requires granted { range_refused self.now.kept.held lo hi ≡ None }
-        requires before { StandsBefore (B.operations (B.meaning self.now.kept.body)) before (hi - lo) }
-        ensures { IsLongScan (B.operations (B.meaning self.now.kept.body)) self.now.kept lo hi inclusive before into.old result into.new }
+        requires before { StandsBefore (B.operations self.now.kept.body) before (hi - lo) }
+        ensures { IsLongScan (B.operations self.now.kept.body) self.now.kept lo hi inclusive before into.old result into.new }
     {
         let count = into.len().min((hi - lo) as usize);
         self.chain

@@ -16,15 +16,15 @@ impl<B: LongBody> Chain<B> {
         requires { first + length self.old.held.elements < 2 ^ 64 }
         ensures held { self.new.held ≡ self.old.held }
         ensures none { IfNone result (ClaimsNone self.old.shards self.new.shards ages.old ages.new) }
-        ensures some { IfSome result (λ job. ClaimsAt self.old.shards self.new.shards (λ b. B.operations (B.meaning b)) ages.old ages.new first job.shard job.age job.job) }
-        ensures placed { IfSome result (λ job. IsPlaced (B.operations (B.meaning self.old.held.body)) self.old.held.elements first job.shard job.job) }
+        ensures some { IfSome result (λ job. ClaimsAt self.old.shards self.new.shards B.operations ages.old ages.new first job.shard job.age job.job) }
+        ensures placed { IfSome result (λ job. IsPlaced (B.operations self.old.held.body) self.old.held.elements first job.shard job.job) }
     {
         claim_first(&mut self.full, &mut self.tail, first, ages)
     }
 
     /// Whether an outcome may be delivered: it is stale, or its shard vouches for it.
     pub fn vet(&self, first: u64, outcome: &LongOutcome<B>) -> bool
-        ensures exact { IsTrue result ↔ IsVetted (λ b. B.operations (B.meaning b)) (λ b. B.meaning b ≡ B.meaning outcome.now.job.body) first self.now.shards outcome.now.shard outcome.now.age outcome.now.job }
+        ensures exact { IsTrue result ↔ IsVetted B.operations (λ b. B.meaning b ≡ B.meaning outcome.now.job.body) first self.now.shards outcome.now.shard outcome.now.age outcome.now.job }
         ensures fair { (first ≤ outcome.now.shard → IsFair (B.meaning self.now.held.body ≡ B.meaning outcome.now.job.body) (32760 * (outcome.now.shard - first)) self.now.held.elements outcome.now.job) → result ≡ true }
     {
         match index_of(first, outcome.shard(), self.full.len()) {
@@ -36,8 +36,8 @@ impl<B: LongBody> Chain<B> {
     /// Delivers an outcome. One of a shard that isn't there is stale. Takes no memory.
     pub fn accept(&mut self, first: u64, outcome: LongOutcome<B>) -> Accepted
         ensures held { self.new.held ≡ self.old.held }
-        ensures accepts { TakesOutcome (λ b. B.operations (B.meaning b)) (λ b. B.meaning b ≡ B.meaning outcome.job.body) first self.old.shards outcome.shard outcome.age outcome.job result self.new.shards }
-        ensures placed { is_taken result ≡ true → IsPlaced (B.operations (B.meaning self.old.held.body)) self.old.held.elements first outcome.shard outcome.job }
+        ensures accepts { TakesOutcome B.operations (λ b. B.meaning b ≡ B.meaning outcome.job.body) first self.old.shards outcome.shard outcome.age outcome.job result self.new.shards }
+        ensures placed { is_taken result ≡ true → IsPlaced (B.operations self.old.held.body) self.old.held.elements first outcome.shard outcome.job }
     {
         match index_of(first, outcome.shard(), self.full.len()) {
             Some(index) => accept_at(&mut self.full, &mut self.tail, index, outcome),
@@ -49,7 +49,7 @@ impl<B: LongBody> Chain<B> {
     /// longer. Takes no memory.
     pub fn refresh(&mut self, jobs: u32) -> u32
         ensures held { self.new.held ≡ self.old.held }
-        ensures turns { TakesAll self.old.shards self.new.shards (λ b. B.operations (B.meaning b)) jobs result }
+        ensures turns { TakesAll self.old.shards self.new.shards B.operations jobs result }
     {
         refresh_each(&mut self.full, &mut self.tail, jobs)
     }

@@ -35,7 +35,7 @@ impl<B: LongBody> Model for Chain<B> {
 
     ghost view = { λ a. record { held = record { body = (held_by a.tail).body; elements = all_in (held_by_each a.full.items) (held_by a.tail) }; shards = all_of a.full.items a.tail } };
 
-    ghost invariant = { λ a. IsSummed (λ b. B.operations (B.meaning b)) (held_by_each a.full.items) a.sums (held_by a.tail) };
+    ghost invariant = { λ a. IsSummed B.operations (held_by_each a.full.items) a.sums (held_by a.tail) };
 }
 
 impl<B: LongBody> Chain<B> {

@@ -24,10 +24,10 @@ pub fn write_in<B: LongBody>(
     requires sums { length sums.old.sums ≡ length full.old.items }
     requires numbered { sums.old.first ≡ 0 }
     requires index { (d : Holding B) → index < length (slice_index_or (held_by_each full.old.items) number d).elements }
-    requires folds { (d : Holding B) → AreFolds (B.operations (B.meaning sums.old.body)) (slice_set sums.old.sums number (sum_of (B.operations (B.meaning (slice_index_or (held_by_each full.old.items) number d).body))
+    requires folds { (d : Holding B) → AreFolds (B.operations sums.old.body) (slice_set sums.old.sums number (sum_of (B.operations (slice_index_or (held_by_each full.old.items) number d).body)
         (record (slice_index_or (held_by_each full.old.items) number d) { elements = slice_set (slice_index_or (held_by_each full.old.items) number d).elements index value }))) }
     ensures ok { OnOk result ((d : Holding B) → IsPut (held_by_each full.old.items) sums.old.sums (held_by_each full.new.items) sums.new.sums number
-        (sum_of (B.operations (B.meaning (slice_index_or (held_by_each full.old.items) number d).body)))
+        (sum_of (B.operations (slice_index_or (held_by_each full.old.items) number d).body))
         (record (slice_index_or (held_by_each full.old.items) number d) { elements = slice_set (slice_index_or (held_by_each full.old.items) number d).elements index value })) }
     ensures full { OnErr result (held_by_each full.new.items ≡ held_by_each full.old.items) }
     ensures same { OnErr result (sums.new.sums ≡ sums.old.sums) }
@@ -43,7 +43,7 @@ pub fn write_in<B: LongBody>(
 fn write_one<B: Body>(shard: &mut Shard<B>, index: u32, value: i64) -> Result<B::S, AllocError>
     requires { index < length (held_by shard.old).elements }
     ensures ok { OnOk result (held_by shard.new ≡ record (held_by shard.old) { elements = slice_set (held_by shard.old).elements index value }) }
-    ensures sum { IfOk result (λ sum. sum ≡ sum_of (B.operations (B.meaning (held_by shard.old).body)) (held_by shard.new)) }
+    ensures sum { IfOk result (λ sum. sum ≡ sum_of (B.operations (held_by shard.old).body) (held_by shard.new)) }
     ensures err { OnErr result (held_by shard.new ≡ held_by shard.old) }
 {
     shard.write(index, value)?;
@@ -63,10 +63,10 @@ pub fn swap_in<B: LongBody>(
     requires numbered { sums.old.first ≡ 0 }
     requires first { (d : Holding B) → first < length (slice_index_or (held_by_each full.old.items) number d).elements }
     requires second { (d : Holding B) → second < length (slice_index_or (held_by_each full.old.items) number d).elements }
-    requires folds { (d : Holding B) → AreFolds (B.operations (B.meaning sums.old.body)) (slice_set sums.old.sums number (sum_of (B.operations (B.meaning (slice_index_or (held_by_each full.old.items) number d).body))
+    requires folds { (d : Holding B) → AreFolds (B.operations sums.old.body) (slice_set sums.old.sums number (sum_of (B.operations (slice_index_or (held_by_each full.old.items) number d).body)
         (record (slice_index_or (held_by_each full.old.items) number d) { elements = swap (slice_index_or (held_by_each full.old.items) number d).elements first second }))) }
     ensures ok { OnOk result ((d : Holding B) → IsPut (held_by_each full.old.items) sums.old.sums (held_by_each full.new.items) sums.new.sums number
-        (sum_of (B.operations (B.meaning (slice_index_or (held_by_each full.old.items) number d).body)))
+        (sum_of (B.operations (slice_index_or (held_by_each full.old.items) number d).body))
         (record (slice_index_or (held_by_each full.old.items) number d) { elements = swap (slice_index_or (held_by_each full.old.items) number d).elements first second })) }
     ensures full { OnErr result (held_by_each full.new.items ≡ held_by_each full.old.items) }
     ensures same { OnErr result (sums.new.sums ≡ sums.old.sums) }
@@ -83,7 +83,7 @@ fn swap_one<B: Body>(shard: &mut Shard<B>, first: u32, second: u32) -> Result<B:
     requires first { first < length (held_by shard.old).elements }
     requires second { second < length (held_by shard.old).elements }
     ensures ok { OnOk result (held_by shard.new ≡ record (held_by shard.old) { elements = swap (held_by shard.old).elements first second }) }
-    ensures sum { IfOk result (λ sum. sum ≡ sum_of (B.operations (B.meaning (held_by shard.old).body)) (held_by shard.new)) }
+    ensures sum { IfOk result (λ sum. sum ≡ sum_of (B.operations (held_by shard.old).body) (held_by shard.new)) }
     ensures err { OnErr result (held_by shard.new ≡ held_by shard.old) }
 {
     shard.swap(first, second)?;
@@ -119,8 +119,8 @@ pub fn put_shard<B: LongBody>(
     requires number { number < length full.old.items }
     requires sums { length sums.old.sums ≡ length full.old.items }
     requires numbered { sums.old.first ≡ 0 }
-    requires folds { AreFolds (B.operations (B.meaning sums.old.body)) (slice_set sums.old.sums number (sum_of (B.operations (B.meaning (held_by shard.old).body)) (held_by shard.old))) }
-    ensures put { IsPut (held_by_each full.old.items) sums.old.sums (held_by_each full.new.items) sums.new.sums number (sum_of (B.operations (B.meaning (held_by shard.old).body))) (held_by shard.old) }
+    requires folds { AreFolds (B.operations sums.old.body) (slice_set sums.old.sums number (sum_of (B.operations (held_by shard.old).body) (held_by shard.old))) }
+    ensures put { IsPut (held_by_each full.old.items) sums.old.sums (held_by_each full.new.items) sums.new.sums number (sum_of (B.operations (held_by shard.old).body)) (held_by shard.old) }
     ensures body { sums.new.body ≡ sums.old.body }
     ensures first { sums.new.first ≡ sums.old.first }
 {
@@ -133,7 +133,7 @@ pub fn put_shard<B: LongBody>(
 fn put_sum<B: LongBody>(sums: &mut Sums<B>, number: usize, sum: B::S)
     requires number { number < length sums.old.sums }
     requires numbered { sums.old.first ≡ 0 }
-    requires folds { AreFolds (B.operations (B.meaning sums.old.body)) (slice_set sums.old.sums number sum) }
+    requires folds { AreFolds (B.operations sums.old.body) (slice_set sums.old.sums number sum) }
     ensures sums { sums.new.sums ≡ slice_set sums.old.sums number sum }
     ensures body { sums.new.body ≡ sums.old.body }
     ensures first { sums.new.first ≡ sums.old.first }

@@ -29,7 +29,7 @@ pub fn ask_at<B: Body>(
 ) -> B::S
     requires order { lo ≤ hi }
     requires inside { hi ≤ length (slice_index_or (held_by_each full.old.items) number (held_by tail.old)).elements }
-    ensures value { result ≡ fold_of (B.operations (B.meaning (slice_index_or (held_by_each full.old.items) number (held_by tail.old)).body)) (slice_range (slice_index_or (held_by_each full.old.items) number (held_by tail.old)).elements lo hi) }
+    ensures value { result ≡ fold_of (B.operations (slice_index_or (held_by_each full.old.items) number (held_by tail.old)).body) (slice_range (slice_index_or (held_by_each full.old.items) number (held_by tail.old)).elements lo hi) }
     ensures full { held_by_each full.new.items ≡ held_by_each full.old.items }
     ensures tail { held_by tail.new ≡ held_by tail.old }
 {
@@ -41,9 +41,9 @@ pub fn ask_at<B: Body>(
 
 /// The fold of three ranges side by side, from the fold of each.
 pub fn join_three<B: LongBody>(body: &B, front: B::S, middle: B::S, end: B::S) -> B::S
-    requires { Joinable (B.operations (B.meaning body.now)) front middle end }
-    ensures { (xs ys zs : List ℤ) → CanFoldLong (xs ++ ys ++ zs) → front ≡ fold_of (B.operations (B.meaning body.now)) xs → middle ≡ fold_of (B.operations (B.meaning body.now)) ys
-        → end ≡ fold_of (B.operations (B.meaning body.now)) zs → result ≡ fold_of (B.operations (B.meaning body.now)) (xs ++ ys ++ zs) }
+    requires { Joinable (B.operations body.now) front middle end }
+    ensures { (xs ys zs : List ℤ) → CanFoldLong (xs ++ ys ++ zs) → front ≡ fold_of (B.operations body.now) xs → middle ≡ fold_of (B.operations body.now) ys
+        → end ≡ fold_of (B.operations body.now) zs → result ≡ fold_of (B.operations body.now) (xs ++ ys ++ zs) }
 {
     long_laws(body);
     let begun = body.combine_long(front, middle);
@@ -57,10 +57,10 @@ pub fn join_ends<B: LongBody>(
     middle: Joined<B::S>,
     end: B::S,
 ) -> Joined<B::S>
-    requires joinable { Joinable (B.operations (B.meaning body.now)) front middle.summary end }
+    requires joinable { Joinable (B.operations body.now) front middle.summary end }
     requires few { middle.joins < 2 ^ 62 }
-    ensures summary { (xs ys zs : List ℤ) → CanFoldLong (xs ++ ys ++ zs) → front ≡ fold_of (B.operations (B.meaning body.now)) xs → middle.summary ≡ fold_of (B.operations (B.meaning body.now)) ys
-        → end ≡ fold_of (B.operations (B.meaning body.now)) zs → result.summary ≡ fold_of (B.operations (B.meaning body.now)) (xs ++ ys ++ zs) }
+    ensures summary { (xs ys zs : List ℤ) → CanFoldLong (xs ++ ys ++ zs) → front ≡ fold_of (B.operations body.now) xs → middle.summary ≡ fold_of (B.operations body.now) ys
+        → end ≡ fold_of (B.operations body.now) zs → result.summary ≡ fold_of (B.operations body.now) (xs ++ ys ++ zs) }
     ensures joins { result.joins ≡ middle.joins + 2 }
 {
     Joined {

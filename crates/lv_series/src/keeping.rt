@@ -56,8 +56,8 @@ impl<S> Rows<S> {
 /// Keeps folds of pieces that aren't kept yet, as far as there is memory for them.
 pub fn keep_rows<B: Body>(live: &Live<B>, rows: &mut Rows<B::S>)
     requires legal { IsLegalInLimits live.now.history }
-    requires rows { AreRows (B.operations (B.meaning live.now.body)) (list_of live.now.history.journal) rows.old.parts.items rows.old.groups.items }
-    ensures { AreRows (B.operations (B.meaning live.now.body)) (list_of live.now.history.journal) rows.new.parts.items rows.new.groups.items }
+    requires rows { AreRows (B.operations live.now.body) (list_of live.now.history.journal) rows.old.parts.items rows.old.groups.items }
+    ensures { AreRows (B.operations live.now.body) (list_of live.now.history.journal) rows.new.parts.items rows.new.groups.items }
 {
     let body = live.body();
     let history = live.view().cells;
@@ -76,13 +76,13 @@ pub fn make_kept<B: Body>(
 ) -> Result<(), AllocError>
     requires shard { IsShard live.old.history }
     requires free { refused_on live.old.history.limits (list_of live.old.history.journal) edit ≡ None }
-    requires rows { AreRows (B.operations (B.meaning live.old.body)) (list_of live.old.history.journal) rows.old.parts.items rows.old.groups.items }
+    requires rows { AreRows (B.operations live.old.body) (list_of live.old.history.journal) rows.old.parts.items rows.old.groups.items }
     ensures shard { IsShard live.new.history }
     ensures body { live.new.body ≡ live.old.body }
     ensures ok { OnOk result (applied (list_of live.old.history.journal) edit ≡ Some (list_of live.new.history.journal)) }
     ensures err { OnErr result (holding_of live.new ≡ holding_of live.old) }
     ensures age { GoesOn live.old live.new age.old age.new }
-    ensures rows { AreRows (B.operations (B.meaning live.new.body)) (list_of live.new.history.journal) rows.new.parts.items rows.new.groups.items }
+    ensures rows { AreRows (B.operations live.new.body) (list_of live.new.history.journal) rows.new.parts.items rows.new.groups.items }
 {
     match make_one(alloc, live, age, edit) {
         Ok(()) => {
@@ -103,13 +103,13 @@ pub fn push_kept<B: Body>(
 ) -> Result<(), AllocError>
     requires shard { IsShard live.old.history }
     requires room { length (list_of live.old.history.journal) + length values.now ≤ 32760 }
-    requires rows { AreRows (B.operations (B.meaning live.old.body)) (list_of live.old.history.journal) rows.now.parts.items rows.now.groups.items }
+    requires rows { AreRows (B.operations live.old.body) (list_of live.old.history.journal) rows.now.parts.items rows.now.groups.items }
     ensures shard { IsShard live.new.history }
     ensures body { live.new.body ≡ live.old.body }
     ensures ok { OnOk result (list_of live.new.history.journal ≡ list_of live.old.history.journal ++ values.now) }
     ensures err { OnErr result (holding_of live.new ≡ holding_of live.old) }
     ensures age { GoesOn live.old live.new age.old age.new }
-    ensures rows { AreRows (B.operations (B.meaning live.new.body)) (list_of live.new.history.journal) rows.now.parts.items rows.now.groups.items }
+    ensures rows { AreRows (B.operations live.new.body) (list_of live.new.history.journal) rows.now.parts.items rows.now.groups.items }
 {
     let _ = rows;
     make_pushes(alloc, live, age, values)
@@ -119,8 +119,8 @@ pub fn push_kept<B: Body>(
 #[inline(always)]
 fn keep_up<B: Body>(live: &Live<B>, rows: &mut Rows<B::S>, edit: &Edit)
     requires legal { IsLegalInLimits live.now.history }
-    requires rows { AreRowsBut (B.operations (B.meaning live.now.body)) (list_of live.now.history.journal) rows.old.parts.items rows.old.groups.items edit.now }
-    ensures { AreRows (B.operations (B.meaning live.now.body)) (list_of live.now.history.journal) rows.new.parts.items rows.new.groups.items }
+    requires rows { AreRowsBut (B.operations live.now.body) (list_of live.now.history.journal) rows.old.parts.items rows.old.groups.items edit.now }
+    ensures { AreRows (B.operations live.now.body) (list_of live.now.history.journal) rows.new.parts.items rows.new.groups.items }
 {
     if rows.are_none() {
         return;
@@ -146,8 +146,8 @@ pub fn fold_kept<B: Body>(live: &Live<B>, rows: &Rows<B::S>, lo: u32, hi: u32) -
     requires legal { IsLegalInLimits live.now.history }
     requires order { lo ≤ hi }
     requires inside { hi ≤ length (list_of live.now.history.journal) }
-    requires rows { AreRows (B.operations (B.meaning live.now.body)) (list_of live.now.history.journal) rows.now.parts.items rows.now.groups.items }
-    ensures { result ≡ fold_of (B.operations (B.meaning live.now.body)) (slice_range (list_of live.now.history.journal) lo hi) }
+    requires rows { AreRows (B.operations live.now.body) (list_of live.now.history.journal) rows.now.parts.items rows.now.groups.items }
+    ensures { result ≡ fold_of (B.operations live.now.body) (slice_range (list_of live.now.history.journal) lo hi) }
 {
     let body = live.body();
     fold_by_rows(live.view().cells, &body, &rows.parts, &rows.groups, lo, hi)
@@ -156,9 +156,9 @@ pub fn fold_kept<B: Body>(live: &Live<B>, rows: &Rows<B::S>, lo: u32, hi: u32) -
 // Follows an edit that leaves other elements at two indices alone.
 fn follow_rows<B: Body>(live: &Live<B>, rows: &mut Rows<B::S>, first: u32, second: u32)
     requires legal { IsLegalInLimits live.now.history }
-    requires parts { ArePiecesBut (B.operations (B.meaning live.now.body)) 64 (list_of live.now.history.journal) rows.old.parts.items first second }
-    requires groups { ArePiecesBut (B.operations (B.meaning live.now.body)) 2048 (list_of live.now.history.journal) rows.old.groups.items first second }
-    ensures { AreRows (B.operations (B.meaning live.now.body)) (list_of live.now.history.journal) rows.new.parts.items rows.new.groups.items }
+    requires parts { ArePiecesBut (B.operations live.now.body) 64 (list_of live.now.history.journal) rows.old.parts.items first second }
+    requires groups { ArePiecesBut (B.operations live.now.body) 2048 (list_of live.now.history.journal) rows.old.groups.items first second }
+    ensures { AreRows (B.operations live.now.body) (list_of live.now.history.journal) rows.new.parts.items rows.new.groups.items }
 {
     let body = live.body();
     let history = live.view().cells;

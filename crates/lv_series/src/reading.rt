@@ -17,7 +17,7 @@ impl<B: LongBody> Chain<B> {
     pub fn fold(&self, from: u64, to: u64) -> Joined<B::S>
         requires order { from ≤ to }
         requires inside { to ≤ length self.now.held.elements }
-        ensures fold { result.summary ≡ fold_of (B.operations (B.meaning self.now.held.body)) (slice_range self.now.held.elements from to) }
+        ensures fold { result.summary ≡ fold_of (B.operations self.now.held.body) (slice_range self.now.held.elements from to) }
         ensures joins { result.joins ≤ 126 + (to - from) / 33546240 }
     {
         let lo = place_of(from, self.full.len());
@@ -37,7 +37,7 @@ impl<B: LongBody> Chain<B> {
     pub fn ask(&mut self, from: u64, to: u64) -> B::S
         requires order { from ≤ to }
         requires inside { to ≤ length self.old.held.elements }
-        ensures fold { result ≡ fold_of (B.operations (B.meaning self.old.held.body)) (slice_range self.old.held.elements from to) }
+        ensures fold { result ≡ fold_of (B.operations self.old.held.body) (slice_range self.old.held.elements from to) }
         ensures same { self.new.held ≡ self.old.held }
     {
         let lo = place_of(from, self.full.len());
@@ -56,8 +56,8 @@ impl<B: LongBody> Chain<B> {
     /// place of a buffer. Takes no memory.
     pub fn fill(&self, from: u64, inclusive: bool, before: B::S, into: &mut [B::S])
         requires inside { from + length into.old ≤ length self.now.held.elements }
-        requires before { StandsBefore (B.operations (B.meaning self.now.held.body)) before (length into.old) }
-        ensures { into.new ≡ running_folds inclusive (B.operations (B.meaning self.now.held.body)) before (slice_range self.now.held.elements from (from + length into.old)) }
+        requires before { StandsBefore (B.operations self.now.held.body) before (length into.old) }
+        ensures { into.new ≡ running_folds inclusive (B.operations self.now.held.body) before (slice_range self.now.held.elements from (from + length into.old)) }
     {
         // The elements are few, and each has 64 bits.
         let _len = self.len();

@@ -18,8 +18,8 @@ impl<B: LongBody> Series<B> {
         ensures kept { self.new.kept ≡ self.old.kept }
         ensures number { self.new.number ≡ self.old.number }
         ensures none { IfNone result (ClaimsNone self.old.shards self.new.shards self.old.ages self.new.ages) }
-        ensures some { IfSome result (λ job. ClaimsAt self.old.shards self.new.shards (λ b. B.operations (B.meaning b)) self.old.ages self.new.ages self.old.number job.shard job.age job.job) }
-        ensures plain { IfSome result (λ job. IsJobIn (B.operations (B.meaning self.old.kept.body)) self.old.kept.held job.shard job.job) }
+        ensures some { IfSome result (λ job. ClaimsAt self.old.shards self.new.shards B.operations self.old.ages self.new.ages self.old.number job.shard job.age job.job) }
+        ensures plain { IfSome result (λ job. IsJobIn (B.operations self.old.kept.body) self.old.kept.held job.shard job.job) }
     {
         let first = self.gone / SHARD as u64;
         self.chain.claim(first, &mut self.ages)
@@ -29,7 +29,7 @@ impl<B: LongBody> Series<B> {
     /// vector vouches for it. Yes for each outcome of a job that this series handed out. Yes, too, for one of elements that aren't all
     /// there, and for one of level 1 that carries the elements that stand there, whoever made it. Takes no memory.
     pub fn vet(&self, outcome: &LongOutcome<B>) -> bool
-        ensures exact { IsTrue result ↔ IsVetted (λ b. B.operations (B.meaning b)) (λ b. B.meaning b ≡ B.meaning outcome.now.job.body) self.now.number self.now.shards outcome.now.shard outcome.now.age outcome.now.job }
+        ensures exact { IsTrue result ↔ IsVetted B.operations (λ b. B.meaning b ≡ B.meaning outcome.now.job.body) self.now.number self.now.shards outcome.now.shard outcome.now.age outcome.now.job }
         ensures fair { IsFairIn (B.meaning self.now.kept.body ≡ B.meaning outcome.now.job.body) self.now.kept.held outcome.now.shard outcome.now.job → result ≡ true }
     {
         self.chain.vet(self.gone / SHARD as u64, outcome)
@@ -42,8 +42,8 @@ impl<B: LongBody> Series<B> {
         ensures kept { self.new.kept ≡ self.old.kept }
         ensures number { self.new.number ≡ self.old.number }
         ensures ages { self.new.ages ≡ self.old.ages }
-        ensures accepts { TakesOutcome (λ b. B.operations (B.meaning b)) (λ b. B.meaning b ≡ B.meaning outcome.job.body) self.old.number self.old.shards outcome.shard outcome.age outcome.job result self.new.shards }
-        ensures plain { is_taken result ≡ true → IsJobIn (B.operations (B.meaning self.old.kept.body)) self.old.kept.held outcome.shard outcome.job }
+        ensures accepts { TakesOutcome B.operations (λ b. B.meaning b ≡ B.meaning outcome.job.body) self.old.number self.old.shards outcome.shard outcome.age outcome.job result self.new.shards }
+        ensures plain { is_taken result ≡ true → IsJobIn (B.operations self.old.kept.body) self.old.kept.held outcome.shard outcome.job }
     {
         let first = self.gone / SHARD as u64;
         self.chain.accept(first, outcome)
@@ -55,7 +55,7 @@ impl<B: LongBody> Series<B> {
         ensures kept { self.new.kept ≡ self.old.kept }
         ensures number { self.new.number ≡ self.old.number }
         ensures ages { self.new.ages ≡ self.old.ages }
-        ensures turns { TakesAll self.old.shards self.new.shards (λ b. B.operations (B.meaning b)) jobs result }
+        ensures turns { TakesAll self.old.shards self.new.shards B.operations jobs result }
     {
         self.chain.refresh(jobs)
     }

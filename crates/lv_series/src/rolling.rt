@@ -19,10 +19,10 @@ pub fn roll_over<B: LongBody>(
     tail: &mut Shard<B>,
     x: i64,
 ) -> Result<(), AllocError>
-    requires folds { AreFolds (B.operations (B.meaning sums.old.body)) (sums.old.sums ++ sum_of (B.operations (B.meaning (held_by tail.old).body)) (held_by tail.old) ∷ []) }
+    requires folds { AreFolds (B.operations sums.old.body) (sums.old.sums ++ sum_of (B.operations (held_by tail.old).body) (held_by tail.old) ∷ []) }
     requires numbered { sums.old.first + length sums.old.sums + 1 < 2 ^ 64 }
     ensures full { OnOk result (held_by_each full.new.items ≡ held_by_each full.old.items ++ (held_by tail.old) ∷ []) }
-    ensures sums { OnOk result (sums.new.sums ≡ sums.old.sums ++ sum_of (B.operations (B.meaning (held_by tail.old).body)) (held_by tail.old) ∷ []) }
+    ensures sums { OnOk result (sums.new.sums ≡ sums.old.sums ++ sum_of (B.operations (held_by tail.old).body) (held_by tail.old) ∷ []) }
     ensures tail { OnOk result (held_by tail.new ≡ record { body = (held_by tail.old).body; elements = x ∷ [] }) }
     ensures same_full { OnErr result (held_by_each full.new.items ≡ held_by_each full.old.items) }
     ensures same_sums { OnErr result (sums.new.sums ≡ sums.old.sums) }

@@ -25,8 +25,8 @@ pub fn claim_first<B: Body>(
     ensures full { held_by_each full.new.items ≡ held_by_each full.old.items }
     ensures tail { held_by tail.new ≡ held_by tail.old }
     ensures none { IfNone result (ClaimsNone (all_of full.old.items tail.old) (all_of full.new.items tail.new) ages.old ages.new) }
-    ensures some { IfSome result (λ job. ClaimsAt (all_of full.old.items tail.old) (all_of full.new.items tail.new) (λ b. B.operations (B.meaning b)) ages.old ages.new first job.shard job.age job.job) }
-    ensures part { IfSome result (λ job. IsShardJob (λ b. B.operations (B.meaning b)) (held_by_each full.old.items) (held_by tail.old) first job.shard job.job) }
+    ensures some { IfSome result (λ job. ClaimsAt (all_of full.old.items tail.old) (all_of full.new.items tail.new) B.operations ages.old ages.new first job.shard job.age job.job) }
+    ensures part { IfSome result (λ job. IsShardJob B.operations (held_by_each full.old.items) (held_by tail.old) first job.shard job.job) }
 {
     for index in 0..full.len() {
         match claim_in(full, index, first + index as u64, ages) {
@@ -46,8 +46,8 @@ fn claim_in<B: Body>(
 ) -> Option<LongJob<B>>
     requires { index < length full.old.items }
     ensures none { IfNone result (OnlyAt index full.old.items full.new.items (λ old new. GivesNone ages.old ages.new old new)) }
-    ensures some { IfSome result (λ job. OnlyAt index full.old.items full.new.items (λ old new. GivesJob (B.operations (B.meaning old.live.body)) ages.old ages.new old new job.age job.job)) }
-    ensures part { IfSome result (λ job. (d : ShardState B B.S) → IsPartOf (B.operations (B.meaning (slice_index_or full.old.items index d).live.body)) 0 (held_by (slice_index_or full.old.items index d)).elements job.job) }
+    ensures some { IfSome result (λ job. OnlyAt index full.old.items full.new.items (λ old new. GivesJob (B.operations old.live.body) ages.old ages.new old new job.age job.job)) }
+    ensures part { IfSome result (λ job. (d : ShardState B B.S) → IsPartOf (B.operations (slice_index_or full.old.items index d).live.body) 0 (held_by (slice_index_or full.old.items index d)).elements job.job) }
     ensures shard { IfSome result (λ job. job.shard ≡ number) }
 {
     full[index].claim(number, ages)
@@ -57,7 +57,7 @@ fn claim_in<B: Body>(
 pub fn refresh_each<B: Body>(full: &mut VecDeque<Shard<B>>, tail: &mut Shard<B>, jobs: u32) -> u32
     ensures full { held_by_each full.new.items ≡ held_by_each full.old.items }
     ensures tail { held_by tail.new ≡ held_by tail.old }
-    ensures turns { TakesAll (all_of full.old.items tail.old) (all_of full.new.items tail.new) (λ b. B.operations (B.meaning b)) jobs result }
+    ensures turns { TakesAll (all_of full.old.items tail.old) (all_of full.new.items tail.new) B.operations jobs result }
 {
     let mut done = 0;
     for index in 0..full.len() {
@@ -69,7 +69,7 @@ pub fn refresh_each<B: Body>(full: &mut VecDeque<Shard<B>>, tail: &mut Shard<B>,
 // Does jobs of a full shard, at most so many.
 fn refresh_in<B: Body>(full: &mut VecDeque<Shard<B>>, index: usize, jobs: u32) -> u32
     requires { index < length full.old.items }
-    ensures turns { OnlyAt index full.old.items full.new.items (λ old new. TurnsShard (B.operations (B.meaning old.live.body)) result old new) }
+    ensures turns { OnlyAt index full.old.items full.new.items (λ old new. TurnsShard (B.operations old.live.body) result old new) }
     ensures most { result ≤ jobs }
     ensures idle { result < jobs → (d : ShardState B B.S) → IsNextJob (recorded (slice_index_or full.new.items index d).live) None }
 {
@@ -106,8 +106,8 @@ pub fn accept_at<B: Body>(
     requires { index ≤ length full.old.items }
     ensures full { held_by_each full.new.items ≡ held_by_each full.old.items }
     ensures tail { held_by tail.new ≡ held_by tail.old }
-    ensures accepts { AcceptsAt (all_of full.old.items tail.old) (all_of full.new.items tail.new) (λ b. B.operations (B.meaning b)) (λ b. B.meaning b ≡ B.meaning outcome.job.body) index outcome.age outcome.job result }
-    ensures part { is_taken result ≡ true → IsPartOf (B.operations (B.meaning (shard_in (all_of full.old.items tail.old) index).live.body)) 0 (held_by (shard_in (all_of full.old.items tail.old) index)).elements outcome.job }
+    ensures accepts { AcceptsAt (all_of full.old.items tail.old) (all_of full.new.items tail.new) B.operations (λ b. B.meaning b ≡ B.meaning outcome.job.body) index outcome.age outcome.job result }
+    ensures part { is_taken result ≡ true → IsPartOf (B.operations (shard_in (all_of full.old.items tail.old) index).live.body) 0 (held_by (shard_in (all_of full.old.items tail.old) index)).elements outcome.job }
 {
     if index < full.len() {
         return accept_in(full, index, outcome);
@@ -122,8 +122,8 @@ fn accept_in<B: Body>(
     outcome: LongOutcome<B>,
 ) -> Accepted
     requires { index < length full.old.items }
-    ensures receives { OnlyAt index full.old.items full.new.items (λ old new. TakesIn (B.operations (B.meaning old.live.body)) (B.meaning old.live.body ≡ B.meaning outcome.job.body) outcome.age outcome.job result old new) }
-    ensures part { is_taken result ≡ true → (d : ShardState B B.S) → IsPartOf (B.operations (B.meaning (slice_index_or full.old.items index d).live.body)) 0 (held_by (slice_index_or full.old.items index d)).elements outcome.job }
+    ensures receives { OnlyAt index full.old.items full.new.items (λ old new. TakesIn (B.operations old.live.body) (B.meaning old.live.body ≡ B.meaning outcome.job.body) outcome.age outcome.job result old new) }
+    ensures part { is_taken result ≡ true → (d : ShardState B B.S) → IsPartOf (B.operations (slice_index_or full.old.items index d).live.body) 0 (held_by (slice_index_or full.old.items index d)).elements outcome.job }
 {
     full[index].accept(outcome)
 }

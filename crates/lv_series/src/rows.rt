@@ -27,8 +27,8 @@ pub fn fold_by_rows<B: Body>(
     requires legal { IsLegalInLimits history.now }
     requires order { lo ≤ hi }
     requires inside { hi ≤ length (list_of history.now.journal) }
-    requires rows { AreRows (B.operations (B.meaning body.now)) (list_of history.now.journal) parts.now groups.now }
-    ensures { result ≡ fold_of (B.operations (B.meaning body.now)) (slice_range (list_of history.now.journal) lo hi) }
+    requires rows { AreRows (B.operations body.now) (list_of history.now.journal) parts.now groups.now }
+    ensures { result ≡ fold_of (B.operations body.now) (slice_range (list_of history.now.journal) lo hi) }
 {
     let mut sum = body.identity();
     let mut at = lo;
@@ -53,8 +53,8 @@ fn next_fold<B: Body>(
     requires legal { IsLegalInLimits history.now }
     requires order { at < hi }
     requires inside { hi ≤ length (list_of history.now.journal) }
-    requires rows { AreRows (B.operations (B.meaning body.now)) (list_of history.now.journal) parts.now groups.now }
-    ensures { IsNext (B.operations (B.meaning body.now)) (list_of history.now.journal) at hi result.0 result.1 }
+    requires rows { AreRows (B.operations body.now) (list_of history.now.journal) parts.now groups.now }
+    ensures { IsNext (B.operations body.now) (list_of history.now.journal) at hi result.0 result.1 }
 {
     if let Some(fold) = kept_fold(groups, GROUP, at, hi) {
         return (fold, GROUP);
@@ -83,7 +83,7 @@ fn fold_run<B: Body>(history: &Edits<Erased>, body: &B, at: u32, hi: u32) -> (B:
     requires legal { IsLegalInLimits history.now }
     requires order { at < hi }
     requires inside { hi ≤ length (list_of history.now.journal) }
-    ensures { IsNext (B.operations (B.meaning body.now)) (list_of history.now.journal) at hi result.0 result.1 }
+    ensures { IsNext (B.operations body.now) (list_of history.now.journal) at hi result.0 result.1 }
 {
     let run = history.stretch(at, hi);
     if run.is_empty() {
@@ -103,9 +103,9 @@ pub fn extend<B: Body>(
 )
     requires legal { IsLegalInLimits history.now }
     requires some { 0 < size }
-    requires parts { ArePieces (B.operations (B.meaning body.now)) 64 (list_of history.now.journal) parts.now }
-    requires folds { ArePieces (B.operations (B.meaning body.now)) size (list_of history.now.journal) folds.old.items }
-    ensures { ArePieces (B.operations (B.meaning body.now)) size (list_of history.now.journal) folds.new.items }
+    requires parts { ArePieces (B.operations body.now) 64 (list_of history.now.journal) parts.now }
+    requires folds { ArePieces (B.operations body.now) size (list_of history.now.journal) folds.old.items }
+    ensures { ArePieces (B.operations body.now) size (list_of history.now.journal) folds.new.items }
 {
     let whole = (history.size() / size) as usize;
     while folds.len() < whole {
@@ -126,8 +126,8 @@ fn fold_piece<B: Body>(
 ) -> B::S
     requires legal { IsLegalInLimits history.now }
     requires inside { number * size + size ≤ length (list_of history.now.journal) }
-    requires parts { ArePieces (B.operations (B.meaning body.now)) 64 (list_of history.now.journal) parts.now }
-    ensures { result ≡ fold_of_piece (B.operations (B.meaning body.now)) size (list_of history.now.journal) number }
+    requires parts { ArePieces (B.operations body.now) 64 (list_of history.now.journal) parts.now }
+    ensures { result ≡ fold_of_piece (B.operations body.now) size (list_of history.now.journal) number }
 {
     fold_by_rows(
         history,
@@ -152,9 +152,9 @@ pub fn follow<B: Body>(
 )
     requires legal { IsLegalInLimits history.now }
     requires some { 0 < size }
-    requires parts { ArePieces (B.operations (B.meaning body.now)) 64 (list_of history.now.journal) parts.now }
-    requires folds { ArePiecesBut (B.operations (B.meaning body.now)) size (list_of history.now.journal) folds.old.items first second }
-    ensures { ArePieces (B.operations (B.meaning body.now)) size (list_of history.now.journal) folds.new.items }
+    requires parts { ArePieces (B.operations body.now) 64 (list_of history.now.journal) parts.now }
+    requires folds { ArePiecesBut (B.operations body.now) size (list_of history.now.journal) folds.old.items first second }
+    ensures { ArePieces (B.operations body.now) size (list_of history.now.journal) folds.new.items }
 {
     folds.truncate((history.size() / size) as usize);
     renew(history, body, parts, folds, first / size, size);
@@ -175,8 +175,8 @@ fn renew<B: Body>(
 )
     requires legal { IsLegalInLimits history.now }
     requires inside { length folds.old.items * size ≤ length (list_of history.now.journal) }
-    requires parts { ArePieces (B.operations (B.meaning body.now)) 64 (list_of history.now.journal) parts.now }
-    ensures { folds.new.items ≡ slice_set folds.old.items number (fold_of_piece (B.operations (B.meaning body.now)) size (list_of history.now.journal) number) }
+    requires parts { ArePieces (B.operations body.now) 64 (list_of history.now.journal) parts.now }
+    ensures { folds.new.items ≡ slice_set folds.old.items number (fold_of_piece (B.operations body.now) size (list_of history.now.journal) number) }
 {
     if (number as usize) < folds.len() {
         let fold = fold_piece(history, body, parts, number, size);

@@ -21,13 +21,13 @@ use lv_bodies::LongBody;
 /// scan at the end is that of the accepted edits alone. Where two runs from a series have the same edits, they end alike. An outcome that
 /// comes may be any, late, stale, repeated or made by nobody: what each call of refresh ensures is a step of such a run.
 pub fn refresh_changes_no_answer<B: LongBody>()
-    ensures plain { (m : B.Meaning) (body : B) (happened : List Happened) (s : SeriesState B) → ServedRun (plain_series body []) happened s → IsPlain (B.operations m) body (edits_in happened) s }
+    ensures plain { (by body : B) (happened : List Happened) (s : SeriesState B) → ServedRun (plain_series body []) happened s → IsPlain (B.operations by) body (edits_in happened) s }
     ensures alike { (s next after : SeriesState B) (happened others : List Happened) → ServedRun s happened next → ServedRun s others after → edits_in happened ≡ edits_in others → next ≡ after }
 {}
 
 /// A job stays good while the vector of its shard goes on under its age: what was taken honestly from it stays so, whatever is edited.
 pub fn jobs_outlast_edits<B: LongBody>()
-    ensures { (m : B.Meaning) (old new : LiveState B B.S) (n : Node) (v : ℕ) (contents : Contents B.S) → IsLater old new → IsHonest (B.operations m) (recorded old) n v contents → IsHonest (B.operations m) (recorded new) n v contents }
+    ensures { (by : B) (old new : LiveState B B.S) (n : Node) (v : ℕ) (contents : Contents B.S) → IsLater old new → IsHonest (B.operations by) (recorded old) n v contents → IsHonest (B.operations by) (recorded new) n v contents }
 {}
 
 /// Claims a job, pushes an element, runs the job, delivers its outcome twice, and reduces: the answer is the plain left fold after the
@@ -42,7 +42,7 @@ pub fn answers_while_served<B: LongBody>(
     Result<LongAnswer<B::S>, LongRefusal>,
 )
     ensures pushed { Answers series.old.kept (LongEdit.Push x) result.0 series.new.kept }
-    ensures answer { Reduces (B.operations (B.meaning series.new.kept.body)) series.new.kept lo hi result.1 }
+    ensures answer { Reduces (B.operations series.new.kept.body) series.new.kept lo hi result.1 }
 {
     let job = series.claim();
     let pushed = series.push(x);

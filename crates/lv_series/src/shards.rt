@@ -35,7 +35,7 @@ impl<B: Body> Model for Shard<B> {
 
     ghost view = { λ a. record { live = a.live; age = a.age } };
 
-    ghost invariant = { λ a. IsKept (B.operations (B.meaning a.live.body)) a.live.history a.rows.parts.items a.rows.groups.items };
+    ghost invariant = { λ a. IsKept (B.operations a.live.body) a.live.history a.rows.parts.items a.rows.groups.items };
 }
 
 impl<B: Body> Shard<B> {
@@ -198,7 +198,7 @@ impl<B: Body> Shard<B> {
     pub fn fold(&self, lo: u32, hi: u32) -> B::S
         requires order { lo ≤ hi }
         requires inside { hi ≤ length (held_by self.now).elements }
-        ensures { result ≡ fold_of (B.operations (B.meaning (held_by self.now).body)) (slice_range (held_by self.now).elements lo hi) }
+        ensures { result ≡ fold_of (B.operations (held_by self.now).body) (slice_range (held_by self.now).elements lo hi) }
     {
         let len = self.len();
         if self.rows.are_all(len) {
@@ -214,7 +214,7 @@ impl<B: Body> Shard<B> {
     pub fn ask(&mut self, lo: u32, hi: u32) -> B::S
         requires order { lo ≤ hi }
         requires inside { hi ≤ length (held_by self.old).elements }
-        ensures value { result ≡ fold_of (B.operations (B.meaning (held_by self.old).body)) (slice_range (held_by self.old).elements lo hi) }
+        ensures value { result ≡ fold_of (B.operations (held_by self.old).body) (slice_range (held_by self.old).elements lo hi) }
         ensures same { held_by self.new ≡ held_by self.old }
     {
         let len = self.len();
@@ -229,7 +229,7 @@ impl<B: Body> Shard<B> {
 
     /// The fold of all elements, kept like what `ask` computes.
     pub fn sum(&mut self) -> B::S
-        ensures value { result ≡ sum_of (B.operations (B.meaning (held_by self.old).body)) (held_by self.old) }
+        ensures value { result ≡ sum_of (B.operations (held_by self.old).body) (held_by self.old) }
         ensures same { held_by self.new ≡ held_by self.old }
     {
         let len = self.len();

@@ -12,7 +12,7 @@ use lv_bodies::LongBody;
 /// tells how many of them were accepted, and is the plain left fold of its range after these: so it was after each of the first of
 /// them too. Renewals and shards show in no answer. What each call on a series ensures is a step of such a run.
 pub fn every_answer_is_plain<B: LongBody>()
-    ensures plain { (m : B.Meaning) (body : B) (steps : List Asked) (s : SeriesState B) → Run (plain_series body []) steps s → IsPlain (B.operations m) body steps s }
+    ensures plain { (by body : B) (steps : List Asked) (s : SeriesState B) → Run (plain_series body []) steps s → IsPlain (B.operations by) body steps s }
     ensures steps { (old new : SeriesState B) (edit : LongEdit) (answer : Result LongReceipt LongRefusal) → Answers old edit answer new → Step old edit answer new }
 {}
 

@@ -13,9 +13,9 @@ pub struct Joined<S> {
 
 // A summary joined with each of some others in order.
 fn join_all<B: LongBody>(body: &B, so_far: Joined<B::S>, sums: &[B::S]) -> Joined<B::S>
-    requires can { CanJoinAll (B.operations (B.meaning body.now)) (B.is_within (B.meaning body.now)) so_far.summary sums.now }
+    requires can { CanJoinAll (B.operations body.now) (B.is_within body.now) so_far.summary sums.now }
     requires few { so_far.joins + length sums.now < 2 ^ 64 }
-    ensures summary { result.summary ≡ joined_on (B.operations (B.meaning body.now)) so_far.summary sums.now }
+    ensures summary { result.summary ≡ joined_on (B.operations body.now) so_far.summary sums.now }
     ensures joins { result.joins ≡ so_far.joins + length sums.now }
 {
     let mut summary = so_far.summary;
@@ -37,9 +37,9 @@ pub(crate) fn join_part<B: LongBody>(
 ) -> Joined<B::S>
     requires order { lo ≤ hi }
     requires inside { hi ≤ length sums.now }
-    requires can { CanJoinAll (B.operations (B.meaning body.now)) (B.is_within (B.meaning body.now)) so_far.summary (run_of sums.now lo (hi - lo)) }
+    requires can { CanJoinAll (B.operations body.now) (B.is_within body.now) so_far.summary (run_of sums.now lo (hi - lo)) }
     requires few { so_far.joins + (hi - lo) < 2 ^ 64 }
-    ensures summary { result.summary ≡ joined_on (B.operations (B.meaning body.now)) so_far.summary (run_of sums.now lo (hi - lo)) }
+    ensures summary { result.summary ≡ joined_on (B.operations body.now) so_far.summary (run_of sums.now lo (hi - lo)) }
     ensures joins { result.joins ≡ so_far.joins + (hi - lo) }
 {
     join_all(body, so_far, &sums[lo..hi])

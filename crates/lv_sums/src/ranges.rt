@@ -21,12 +21,12 @@ fn join_groups<B: LongBody>(
     lo: usize,
     hi: usize,
 ) -> Joined<B::S>
-    requires levels { AreLevels (B.operations (B.meaning body.now)) (32 * lo) tree.shards.now tree.groups.now tree.regions.now }
-    requires folds { AreInOrder (B.operations (B.meaning body.now)) so_far.summary (run_of tree.shards.now (32 * lo) (32 * hi - 32 * lo)) }
+    requires levels { AreLevels (B.operations body.now) (32 * lo) tree.shards.now tree.groups.now tree.regions.now }
+    requires folds { AreInOrder (B.operations body.now) so_far.summary (run_of tree.shards.now (32 * lo) (32 * hi - 32 * lo)) }
     requires order { lo ≤ hi }
     requires inside { hi ≤ length tree.groups.now }
     requires few { so_far.joins < 2 ^ 62 }
-    ensures summary { result.summary ≡ joined_on (B.operations (B.meaning body.now)) so_far.summary (run_of tree.entry.shards.now (32 * lo) (32 * hi - 32 * lo)) }
+    ensures summary { result.summary ≡ joined_on (B.operations body.now) so_far.summary (run_of tree.entry.shards.now (32 * lo) (32 * hi - 32 * lo)) }
     ensures joins { result.joins ≤ so_far.joins + 62 + (hi - lo) / 32 }
 {
     long_laws(body);
@@ -48,12 +48,12 @@ pub fn join_shards<B: LongBody>(
     lo: usize,
     hi: usize,
 ) -> Joined<B::S>
-    requires levels { AreLevels (B.operations (B.meaning body.now)) lo tree.shards.now tree.groups.now tree.regions.now }
-    requires folds { AreInOrder (B.operations (B.meaning body.now)) so_far.summary (run_of tree.shards.now lo (hi - lo)) }
+    requires levels { AreLevels (B.operations body.now) lo tree.shards.now tree.groups.now tree.regions.now }
+    requires folds { AreInOrder (B.operations body.now) so_far.summary (run_of tree.shards.now lo (hi - lo)) }
     requires order { lo ≤ hi }
     requires inside { hi ≤ length tree.shards.now }
     requires few { so_far.joins < 2 ^ 32 }
-    ensures summary { result.summary ≡ joined_on (B.operations (B.meaning body.now)) so_far.summary (run_of tree.entry.shards.now lo (hi - lo)) }
+    ensures summary { result.summary ≡ joined_on (B.operations body.now) so_far.summary (run_of tree.entry.shards.now lo (hi - lo)) }
     ensures joins { result.joins ≤ so_far.joins + 124 + (hi - lo) / 1024 }
 {
     long_laws(body);

@@ -14,11 +14,11 @@ fn refresh_entry<B: LongBody>(
     from: usize,
     at: usize,
 )
-    requires can { at < length entries.old → from ≤ at → CanJoinAll (B.operations (B.meaning body.now)) (B.is_within (B.meaning body.now)) (B.operations (B.meaning body.now)).identity (run_of below.now (32 * at) 32) }
+    requires can { at < length entries.old → from ≤ at → CanJoinAll (B.operations body.now) (B.is_within body.now) (B.operations body.now).identity (run_of below.now (32 * at) 32) }
     requires inside { 32 * length entries.old ≤ length below.now }
-    ensures fresh { let o = B.operations (B.meaning body.now) in at < length entries.old → from ≤ at
+    ensures fresh { let o = B.operations body.now in at < length entries.old → from ≤ at
         → slice_index_or entries.new at o.identity ≡ joined_on o o.identity (run_of below.now (32 * at) 32) }
-    ensures others { let o = B.operations (B.meaning body.now) in (g : ℕ) → ¬ (g ≡ at)
+    ensures others { let o = B.operations body.now in (g : ℕ) → ¬ (g ≡ at)
         → slice_index_or entries.new g o.identity ≡ slice_index_or entries.old g o.identity }
 {
     if from <= at && at < entries.len() {
@@ -39,9 +39,9 @@ pub fn refresh<B: LongBody>(
     gone: usize,
     at: usize,
 )
-    requires levels { AreLevelsBut (B.operations (B.meaning body.now)) gone at shards.now groups.old regions.old }
-    requires folds { AreFolds (B.operations (B.meaning body.now)) (drop gone shards.now) }
-    ensures { AreLevels (B.operations (B.meaning body.now)) gone shards.now groups.new regions.new }
+    requires levels { AreLevelsBut (B.operations body.now) gone at shards.now groups.old regions.old }
+    requires folds { AreFolds (B.operations body.now) (drop gone shards.now) }
+    ensures { AreLevels (B.operations body.now) gone shards.now groups.new regions.new }
 {
     long_laws(body);
     refresh_entry(body, shards, groups, gone.div_ceil(32), at / 32);

@@ -33,7 +33,7 @@ impl<B: LongBody> Model for Sums<B> {
 
     ghost view = { λ a. record { body = a.body; first = a.first; sums = drop a.gone a.shards.items } };
 
-    ghost invariant = { λ a. IsKept (B.operations (B.meaning a.body)) a.first a.gone a.shards.items a.groups.items a.regions.items };
+    ghost invariant = { λ a. IsKept (B.operations a.body) a.first a.gone a.shards.items a.groups.items a.regions.items };
 }
 
 impl<B: LongBody> Sums<B> {
@@ -72,7 +72,7 @@ impl<B: LongBody> Sums<B> {
     /// # Errors
     /// `NoMemory` where there is none, and nothing has changed then.
     pub fn push(&mut self, summary: B::S) -> Result<(), Refusal>
-        requires folds { AreFolds (B.operations (B.meaning self.old.body)) (self.old.sums ++ summary ∷ []) }
+        requires folds { AreFolds (B.operations self.old.body) (self.old.sums ++ summary ∷ []) }
         requires numbered { self.old.first + length self.old.sums + 1 < 2 ^ 64 }
         ensures ok { OnOk result (self.new ≡ record self.old { sums = self.old.sums ++ summary ∷ [] }) }
         ensures same { OnErr result (self.new ≡ self.old) }
@@ -102,7 +102,7 @@ impl<B: LongBody> Sums<B> {
     pub fn replace(&mut self, shard: u64, summary: B::S)
         requires low { self.old.first ≤ shard }
         requires high { shard < self.old.first + length self.old.sums }
-        requires folds { AreFolds (B.operations (B.meaning self.old.body)) (slice_set self.old.sums (shard - self.old.first) summary) }
+        requires folds { AreFolds (B.operations self.old.body) (slice_set self.old.sums (shard - self.old.first) summary) }
         ensures { self.new ≡ record self.old { sums = slice_set self.old.sums (shard - self.old.first) summary } }
     {
         let at = (shard - self.first) as usize + self.gone;
@@ -158,12 +158,12 @@ impl<B: LongBody> Sums<B> {
     /// The summary of the elements of the shards from number `lo` up to `hi`, and how many joins it took: at most 124, and one for
     /// each 1,024 shards. Takes no memory.
     pub fn reduce(&self, lo: u64, hi: u64) -> Joined<B::S>
-        requires folds { AreFolds (B.operations (B.meaning self.now.body)) self.now.sums }
+        requires folds { AreFolds (B.operations self.now.body) self.now.sums }
         requires first { self.now.first ≤ lo }
         requires order { lo ≤ hi }
         requires last { hi ≤ self.now.first + length self.now.sums }
-        ensures fold { (lists : List (List ℤ)) → AreFoldsOf (B.operations (B.meaning self.now.body)) lists self.now.sums
-            → result.summary ≡ fold_of (B.operations (B.meaning self.now.body)) (end_to_end (kept_range self.now.first lists lo hi)) }
+        ensures fold { (lists : List (List ℤ)) → AreFoldsOf (B.operations self.now.body) lists self.now.sums
+            → result.summary ≡ fold_of (B.operations self.now.body) (end_to_end (kept_range self.now.first lists lo hi)) }
         ensures joins { result.joins ≤ 124 + (hi - lo) / 1024 }
     {
         long_laws(&self.body);

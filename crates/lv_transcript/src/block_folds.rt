@@ -37,9 +37,9 @@ pub(crate) fn fold_range<B: Body>(
     requires few { length list.now ≤ 2 ^ 20 }
     requires order { lo ≤ hi }
     requires inside { hi ≤ length list.now }
-    requires folds { AreFolds (B.operations (B.meaning body.now)) list.now folds.old.items }
-    ensures fold { IfOk result (IsFold (B.operations (B.meaning body.now)) (slice_range list.now lo hi)) }
-    ensures folds { AreFolds (B.operations (B.meaning body.now)) list.now folds.new.items }
+    requires folds { AreFolds (B.operations body.now) list.now folds.old.items }
+    ensures fold { IfOk result (IsFold (B.operations body.now) (slice_range list.now lo hi)) }
+    ensures folds { AreFolds (B.operations body.now) list.now folds.new.items }
 {
     let (first, last) = (lo.div_ceil(BLOCK), hi / BLOCK);
     if last <= first {
@@ -73,9 +73,9 @@ fn fold_blocks<B: Body>(
     requires order { first ≤ last }
     requires inside { last * 1024 ≤ length list.now }
     requires room { last ≤ vec_len folds.old }
-    requires folds { AreFolds (B.operations (B.meaning body.now)) list.now folds.old.items }
-    ensures fold { IsFold (B.operations (B.meaning body.now)) (slice_range list.now lo (last * 1024)) result }
-    ensures folds { AreFolds (B.operations (B.meaning body.now)) list.now folds.new.items }
+    requires folds { AreFolds (B.operations body.now) list.now folds.old.items }
+    ensures fold { IsFold (B.operations body.now) (slice_range list.now lo (last * 1024)) result }
+    ensures folds { AreFolds (B.operations body.now) list.now folds.new.items }
 {
     let mut sum = fold_slice(body, &list[lo..first * BLOCK]);
     for block in first..last {
@@ -89,9 +89,9 @@ fn fold_blocks<B: Body>(
 fn fold_block<B: Body>(body: &B, list: &[i64], folds: &mut Vec<Option<B::S>>, block: usize) -> B::S
     requires few { length list.now ≤ 2 ^ 20 }
     requires room { block < vec_len folds.old }
-    requires folds { AreFolds (B.operations (B.meaning body.now)) list.now folds.old.items }
-    ensures fold { IsFold (B.operations (B.meaning body.now)) (block_elements list.now block) result }
-    ensures folds { AreFolds (B.operations (B.meaning body.now)) list.now folds.new.items }
+    requires folds { AreFolds (B.operations body.now) list.now folds.old.items }
+    ensures fold { IsFold (B.operations body.now) (block_elements list.now block) result }
+    ensures folds { AreFolds (B.operations body.now) list.now folds.new.items }
     ensures room { vec_len folds.new ≡ vec_len folds.old }
 {
     if let Some(fold) = folds[block] {

@@ -97,9 +97,9 @@ fn shown_fold<B: Single>(
     requires few { length list.now ≤ 2 ^ 20 }
     requires order { lo ≤ hi }
     requires inside { hi ≤ length list.now }
-    requires folds { AreFolds (B.operations (B.meaning body.now)) list.now folds.old.items }
+    requires folds { AreFolds (B.operations body.now) list.now folds.old.items }
     ensures value { IfOk result (λ shown. shown ≡ B.plain body.now (slice_range list.now lo hi)) }
-    ensures folds { AreFolds (B.operations (B.meaning body.now)) list.now folds.new.items }
+    ensures folds { AreFolds (B.operations body.now) list.now folds.new.items }
 {
     let fold = fold_range(body, list, folds, lo, hi)?;
     Ok(body.shown(fold))

@@ -66,7 +66,7 @@ pub(crate) struct Held<'a> {
 
 impl<'a> Body for Held<'a> {
     ghost use Rattle.lv_bodies.specs.Sums.{sum_operations, IsSum};
-    ghost use Rattle.std.proofs.Common.{rules};
+    ghost use Rattle.std.proofs.Common.{rules, refl};
     ghost use Rattle.lv_bodies.specs.SumLaws.{sum_laws};
 
     type S = u64;
@@ -76,6 +76,8 @@ impl<'a> Body for Held<'a> {
     ghost meaning = { λ _. tt };
 
     ghost operations = { λ _. sum_operations };
+
+    ghost decided = { λ _ _ _. refl };
 
     ghost is_within = { λ _. IsSum };
 

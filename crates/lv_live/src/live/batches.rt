@@ -68,7 +68,7 @@ impl<B: Body, J: Journal> Live<B, J> {
 
     /// Takes each outcome in, in order, as `accept` would where `vet` says yes; one of another vector changes nothing. Takes no memory.
     pub fn accept_batch(&mut self, outcomes: &BatchOutcome<B>) -> Batched
-        ensures delivers { DeliversEach (B.operations (B.meaning self.old.body)) (λ body. B.meaning self.old.body ≡ B.meaning body) outcomes.now self.old self.new result }
+        ensures delivers { DeliversEach (B.operations self.old.body) (λ body. B.meaning self.old.body ≡ B.meaning body) outcomes.now self.old self.new result }
         ensures body { self.new.body ≡ self.old.body }
         ensures history { self.new.history ≡ self.old.history }
     {
@@ -77,7 +77,7 @@ impl<B: Body, J: Journal> Live<B, J> {
 
     // The same of outcomes in a row.
     fn accept_each(&mut self, outcomes: &[BlockOutcome<B>]) -> Batched
-        ensures delivers { DeliversEach (B.operations (B.meaning self.old.body)) (λ body. B.meaning self.old.body ≡ B.meaning body) outcomes.now self.old self.new result }
+        ensures delivers { DeliversEach (B.operations self.old.body) (λ body. B.meaning self.old.body ≡ B.meaning body) outcomes.now self.old self.new result }
         ensures body { self.new.body ≡ self.old.body }
         ensures history { self.new.history ≡ self.old.history }
     {
@@ -97,7 +97,7 @@ impl<B: Body, J: Journal> Live<B, J> {
     #[inline(always)]
     fn accept_next(&mut self, outcome: &BlockOutcome<B>, told: Batched) -> Batched
         requires { all_told told < 2 ^ 64 - 1 }
-        ensures { DeliversOne (B.operations (B.meaning self.old.body)) (λ body. B.meaning self.old.body ≡ B.meaning body) outcome.now self.old self.new told result }
+        ensures { DeliversOne (B.operations self.old.body) (λ body. B.meaning self.old.body ≡ B.meaning body) outcome.now self.old self.new told result }
     {
         let mut told = told;
         if !self.vet_block(outcome) {
@@ -116,7 +116,7 @@ impl<B: Body, J: Journal> Live<B, J> {
     // body is the vector's. Elements are compared here, so that nothing has to be known of where it comes from.
     #[inline(always)]
     fn vet_block(&self, outcome: &BlockOutcome<B>) -> bool
-        ensures { IsTrue result ↔ Vouched (B.operations (B.meaning self.now.body)) (recorded self.now)
+        ensures { IsTrue result ↔ Vouched (B.operations self.now.body) (recorded self.now)
             (B.meaning self.now.body ≡ B.meaning outcome.now.body) (node_at 1 outcome.now.number) outcome.now.version (Elements outcome.now.elements) }
     {
         let job = outcome.job();
@@ -130,7 +130,7 @@ impl<B: Body, J: Journal> Live<B, J> {
     // Delivers an outcome: it is stale, or held already, or its summary is installed.
     #[inline(always)]
     fn accept_block(&mut self, outcome: &BlockOutcome<B>) -> Accepted
-        requires { Vouched (B.operations (B.meaning self.old.body)) (recorded self.old)
+        requires { Vouched (B.operations self.old.body) (recorded self.old)
             (B.meaning self.old.body ≡ B.meaning outcome.now.body) (node_at 1 outcome.now.number) outcome.now.version (Elements outcome.now.elements) }
         ensures accepted { result ≡ delivery_of (recorded self.old) (node_at 1 outcome.now.number) outcome.now.version }
         ensures delivered { HasDelivery self.old self.new (node_at 1 outcome.now.number) outcome.now.version result }

@@ -33,7 +33,7 @@ impl<B: Body> Live<B> {
     /// they lie and reads no summary, so it is meant for ranges that are so short that their summaries would cost more. Refused with
     /// `BadRange`, then `OutOfRange`. Takes no memory.
     pub fn fold_by<K: Body>(&self, body: &K, lo: u32, hi: u32) -> Result<(u32, K::S), Refusal>
-        ensures ok { IfOk result (λ answer. IsAnswerPair (K.operations (K.meaning body.now)) self.now.history.journal lo hi answer) }
+        ensures ok { IfOk result (λ answer. IsAnswerPair (K.operations body.now) self.now.history.journal lo hi answer) }
         ensures err { IfErr result (λ refusal. range_refusal self.now.history.journal lo hi ≡ Some refusal) }
     {
         lv_reduce::fold_elements(&self.history, body, lo, hi)
@@ -42,14 +42,14 @@ impl<B: Body> Live<B> {
     /// The running folds of the elements from index `lo` up to `hi`, each with its own. Refused with `BadRange`, `OutOfRange`,
     /// then `NoMemory`.
     pub fn scan_inclusive(&self, alloc: Global, lo: u32, hi: u32) -> Result<Scan<B::S>, Refusal>
-        ensures { Scans (B.operations (B.meaning self.now.body)) (recorded self.now) lo hi true result }
+        ensures { Scans (B.operations self.now.body) (recorded self.now) lo hi true result }
     {
         lv_reduce::scan_inclusive(alloc, self.view(), &self.body, lo, hi)
     }
 
     /// The running folds of the elements from index `lo` up to `hi`, each without its own. Refused as the inclusive scan is.
     pub fn scan_exclusive(&self, alloc: Global, lo: u32, hi: u32) -> Result<Scan<B::S>, Refusal>
-        ensures { Scans (B.operations (B.meaning self.now.body)) (recorded self.now) lo hi false result }
+        ensures { Scans (B.operations self.now.body) (recorded self.now) lo hi false result }
     {
         lv_reduce::scan_exclusive(alloc, self.view(), &self.body, lo, hi)
     }
@@ -68,7 +68,7 @@ impl<B: Body, J: Journal> Live<B, J> {
     /// The fold of the elements from index `lo` up to `hi`, at the last edit. Refused with `BadRange`, then `OutOfRange`.
     /// Takes no memory.
     pub fn reduce(&self, lo: u32, hi: u32) -> Result<Answer<B::S>, Refusal>
-        ensures answer { Reduces (B.operations (B.meaning self.now.body)) (recorded self.now) lo hi result }
+        ensures answer { Reduces (B.operations self.now.body) (recorded self.now) lo hi result }
         ensures few { IfOk result (λ answer. IsFew (is_fresh (recorded self.now)) lo hi answer.cells_read answer.summaries_read) }
     {
         lv_reduce::reduce(self.view(), &self.body, lo, hi)
@@ -78,11 +78,11 @@ impl<B: Body, J: Journal> Live<B, J> {
     /// until an edit touches it. Edits, claims and delivered versions stay as they are, and so does what `reduce` counts. Refused
     /// with `BadRange`, then `OutOfRange`. Takes no memory.
     pub fn ask(&mut self, lo: u32, hi: u32) -> Result<Answer<B::S>, Refusal>
-        ensures ok { IfOk result (λ answer. IsAnswer (B.operations (B.meaning self.old.body)) self.old.history.journal lo hi answer) }
+        ensures ok { IfOk result (λ answer. IsAnswer (B.operations self.old.body) self.old.history.journal lo hi answer) }
         ensures err { IfErr result (λ refusal. range_refusal self.old.history.journal lo hi ≡ Some refusal) }
         ensures same { SameLive self.old self.new }
         ensures unchanged { OnErr result (self.new.table ≡ self.old.table) }
-        ensures agrees { Agrees (B.operations (B.meaning self.new.body)) self.new.history.journal self.new.table }
+        ensures agrees { Agrees (B.operations self.new.body) self.new.history.journal self.new.table }
         ensures learns { OnlyLearns self.old.table self.new.table }
         ensures remembers { Remembers self.old self.new }
         ensures known { IfOk result (λ _. AreTopsKnown (known_in self.new.table) lo hi) }

@@ -23,7 +23,7 @@ impl<B: Body, J: Journal> Live<B, J> {
         ensures next { IsNextJob (recorded self.old) (option_map node_and_version result) }
         ensures claimed { HasClaim self.old self.new (option_map node_and_version result) }
         ensures body { IfSome result (λ job. job.body ≡ self.old.body) }
-        ensures honest { IfSome result (λ job. IsHonest (B.operations (B.meaning self.old.body)) (recorded self.new) job.node job.version job.contents) }
+        ensures honest { IfSome result (λ job. IsHonest (B.operations self.old.body) (recorded self.new) job.node job.version job.contents) }
         ensures remembers { Remembers self.old self.new }
     {
         self.claims.claim(&self.history, &self.table, self.body)
@@ -32,7 +32,7 @@ impl<B: Body, J: Journal> Live<B, J> {
     /// Does jobs in place, the least first, at most so many: each is claimed, run and delivered. Tells how many it did; fewer than
     /// it might where no node wants a job any longer. Takes no memory.
     pub fn refresh(&mut self, jobs: u32) -> u32
-        ensures turns { TakesTurns (B.operations (B.meaning self.old.body)) self.old self.new result }
+        ensures turns { TakesTurns (B.operations self.old.body) self.old self.new result }
         ensures most { result ≤ jobs }
         ensures idle { result < jobs → IsNextJob (recorded self.new) None }
         ensures remembers { Remembers self.old self.new }
@@ -52,7 +52,7 @@ impl<B: Body, J: Journal> Live<B, J> {
     // Takes turns, at most so many, while a node wants a job.
     #[inline(always)]
     fn take_turns(&mut self, jobs: u32) -> u32
-        ensures turns { TakesTurns (B.operations (B.meaning self.old.body)) self.old self.new result }
+        ensures turns { TakesTurns (B.operations self.old.body) self.old self.new result }
         ensures most { result ≤ jobs }
         ensures idle { result < jobs → IsNextJob (recorded self.new) None }
         ensures remembers { Remembers self.old self.new }
@@ -69,7 +69,7 @@ impl<B: Body, J: Journal> Live<B, J> {
     // Takes turns of blocks, at most so many, while many that lie side by side want a job.
     #[inline(always)]
     fn take_block_turns(&mut self, jobs: u32) -> u32
-        ensures turns { TakesTurns (B.operations (B.meaning self.old.body)) self.old self.new result }
+        ensures turns { TakesTurns (B.operations self.old.body) self.old self.new result }
         ensures most { result ≤ jobs }
         ensures remembers { Remembers self.old self.new }
     {
@@ -102,7 +102,7 @@ impl<B: Body, J: Journal> Live<B, J> {
     /// what stands here. Yes for each outcome of a job that this vector handed out. Takes no memory.
     #[inline(always)]
     pub fn vet(&self, outcome: &Outcome<B>) -> bool
-        ensures { IsTrue result ↔ Vouched (B.operations (B.meaning self.now.body)) (recorded self.now)
+        ensures { IsTrue result ↔ Vouched (B.operations self.now.body) (recorded self.now)
             (B.meaning self.now.body ≡ B.meaning outcome.now.body) outcome.now.node outcome.now.version outcome.now.contents }
     {
         let node = outcome.node();
@@ -117,7 +117,7 @@ impl<B: Body, J: Journal> Live<B, J> {
     /// Delivers an outcome: it is stale, or held already, or its summary is installed. Takes no memory.
     #[inline(always)]
     pub fn accept(&mut self, outcome: Outcome<B>) -> Accepted
-        requires { Vouched (B.operations (B.meaning self.old.body)) (recorded self.old)
+        requires { Vouched (B.operations self.old.body) (recorded self.old)
             (B.meaning self.old.body ≡ B.meaning outcome.body) outcome.node outcome.version outcome.contents }
         ensures accepted { result ≡ delivery_of (recorded self.old) outcome.node outcome.version }
         ensures delivered { HasDelivery self.old self.new outcome.node outcome.version result }

@@ -51,7 +51,7 @@ pub fn fold_halved<R: Threads + Sync, B: Body>(
     parts: usize,
 ) -> B::S
     requires part { IsPart part }
-    ensures { result ≡ fold_of (B.operations (B.meaning body.now)) (elements_of part.entry) }
+    ensures { result ≡ fold_of (B.operations body.now) (elements_of part.entry) }
 {
     let Part { row, lo, hi } = part;
     if parts < 2 {
@@ -65,11 +65,11 @@ pub fn fold_halved<R: Threads + Sync, B: Body>(
         rt,
         || -> B::S
             requires { IsSync R.row × IsSync B.row × (0 < low) × IsPart first }
-            ensures { result ≡ fold_of (B.operations (B.meaning body.entry.now)) (elements_of first.entry) }
+            ensures { result ≡ fold_of (B.operations body.entry.now) (elements_of first.entry) }
         { fold_halved(rt, first, body, low) },
         || -> B::S
             requires { IsSync R.row × IsSync B.row × (0 < high) × IsPart second }
-            ensures { result ≡ fold_of (B.operations (B.meaning body.entry.now)) (elements_of second.entry) }
+            ensures { result ≡ fold_of (B.operations body.entry.now) (elements_of second.entry) }
         { fold_halved(rt, second, body, high) },
     );
     join(body, front, back)

@@ -29,7 +29,7 @@ pub fn scan_slice<R: Threads + Sync, B: Body>(
     inclusive: bool,
 ) -> Result<Vec<B::S>, AllocError>
     requires { length xs.now ≤ 2 ^ 20 }
-    ensures { IfOk result (λ values. values.items ≡ scan_of inclusive (B.operations (B.meaning body.now)) xs.now) }
+    ensures { IfOk result (λ values. values.items ≡ scan_of inclusive (B.operations body.now) xs.now) }
 {
     let len = xs.len() as u32;
     let parts = parts_for(rt, body, len, LEAST_SCAN);
@@ -56,7 +56,7 @@ pub fn scan_part<R: Threads + Sync, B: Body>(
 ) -> Result<Vec<B::S>, AllocError>
     requires part { IsPart part }
     requires some { 0 < parts }
-    ensures { IfOk result (λ values. values.items ≡ scan_of inclusive (B.operations (B.meaning body.now)) (elements_of part.entry)) }
+    ensures { IfOk result (λ values. values.items ≡ scan_of inclusive (B.operations body.now) (elements_of part.entry)) }
 {
     if parts == 2 {
         scan_by_two(rt, alloc, part, body, inclusive)
@@ -77,7 +77,7 @@ fn scan_by_pieces<R: Threads + Sync, B: Body>(
 ) -> Result<Vec<B::S>, AllocError>
     requires part { IsPart part }
     requires some { 0 < parts }
-    ensures { IfOk result (λ values. values.items ≡ scan_of inclusive (B.operations (B.meaning body.now)) (elements_of part.entry)) }
+    ensures { IfOk result (λ values. values.items ≡ scan_of inclusive (B.operations body.now) (elements_of part.entry)) }
 {
     let len = (part.hi - part.lo) as usize;
     let size = len / parts + 1;
@@ -104,7 +104,7 @@ pub fn scan_alone<B: Body>(
     inclusive: bool,
 ) -> Result<Vec<B::S>, AllocError>
     requires { length xs.now ≤ 2 ^ 20 }
-    ensures { IfOk result (λ values. values.items ≡ scan_of inclusive (B.operations (B.meaning body.now)) xs.now) }
+    ensures { IfOk result (λ values. values.items ≡ scan_of inclusive (B.operations body.now) xs.now) }
 {
     let mut values = Vec::with_capacity(alloc, xs.len())?;
     push_folds(body, inclusive, body.identity(), xs, &mut values);
@@ -122,12 +122,12 @@ fn fold_pieces<R: Threads + Sync, B: Body>(
     requires part { IsPart part }
     requires size { 0 < size }
     ensures count { IfOk result (λ folds. length (elements_of part.entry) ≤ vec_len folds * size) }
-    ensures folds { IfOk result (λ folds. AreOfPieces (B.operations (B.meaning body.now)) size (elements_of part.entry) folds.items) }
+    ensures folds { IfOk result (λ folds. AreOfPieces (B.operations body.now) size (elements_of part.entry) folds.items) }
 {
     let count = ((part.hi - part.lo) as usize).div_ceil(size);
     let fold = |n: usize| -> B::S
         requires { IsPart part × (n * size < part.hi - part.lo) }
-        ensures { result ≡ fold_of (B.operations (B.meaning body.entry.now)) (take size (drop (n * size) (elements_of part.entry))) }
+        ensures { result ≡ fold_of (B.operations body.entry.now) (take size (drop (n * size) (elements_of part.entry))) }
     { fold_piece(part, body, size, n) };
     map_indices(rt, alloc, count, &fold)
 }
@@ -136,7 +136,7 @@ fn fold_pieces<R: Threads + Sync, B: Body>(
 fn fold_piece<B: Body>(part: Part<'_>, body: &B, size: usize, n: usize) -> B::S
     requires part { IsPart part }
     requires inside { n * size < part.hi - part.lo }
-    ensures { result ≡ fold_of (B.operations (B.meaning body.now)) (take size (drop (n * size) (elements_of part.entry))) }
+    ensures { result ≡ fold_of (B.operations body.now) (take size (drop (n * size) (elements_of part.entry))) }
 {
     let from = part.lo + (n * size) as u32;
     let count = size.min((part.hi - from) as usize) as u32;
@@ -162,7 +162,7 @@ fn befores_of<R: Threads + Sync, B: Body>(
 ) -> Result<Vec<B::S>, AllocError>
     requires part { IsPart part }
     requires size { 0 < size }
-    ensures { IfOk result (λ befores. AreBefore (B.operations (B.meaning body.now)) size (elements_of part.entry) befores.items) }
+    ensures { IfOk result (λ befores. AreBefore (B.operations body.now) size (elements_of part.entry) befores.items) }
 {
     let folds = fold_pieces(rt, alloc, part, body, size)?;
     let mut befores = Vec::with_capacity(alloc, folds.len())?;
@@ -185,18 +185,18 @@ fn scan_pieces<R: Threads + Sync, B: Body>(
     values: &mut [B::S],
 )
     requires part { IsPart part }
-    requires befores { AreBefore (B.operations (B.meaning body.now)) size (elements_of part) befores.now }
+    requires befores { AreBefore (B.operations body.now) size (elements_of part) befores.now }
     requires len { length values.old ≡ part.hi - part.lo }
     requires size { 0 < size }
-    ensures { values.new ≡ scan_of inclusive (B.operations (B.meaning body.now)) (elements_of part.entry) }
+    ensures { values.new ≡ scan_of inclusive (B.operations body.now) (elements_of part.entry) }
 {
     par_chunks_mut_for_each(
         rt,
         values,
         size,
         |start: usize, piece: &mut [B::S]|
-            requires { IsPiece (B.operations (B.meaning body.now)) part befores.now size start (length piece.now) }
-            ensures { piece.exit.now ≡ scan_from inclusive (B.operations (B.meaning body.entry.now)) (fold_of (B.operations (B.meaning body.entry.now)) (take start (elements_of part.entry))) (slice_range (elements_of part.entry) start (start + length piece.entry.now)) }
+            requires { IsPiece (B.operations body.now) part befores.now size start (length piece.now) }
+            ensures { piece.exit.now ≡ scan_from inclusive (B.operations body.entry.now) (fold_of (B.operations body.entry.now) (take start (elements_of part.entry))) (slice_range (elements_of part.entry) start (start + length piece.entry.now)) }
         { scan_piece(part, body, inclusive, befores, size, start, piece) },
     );
 }
@@ -211,8 +211,8 @@ fn scan_piece<B: Body>(
     start: usize,
     piece: &mut [B::S],
 )
-    requires { IsPiece (B.operations (B.meaning body.now)) part befores.now size start (length piece.old) }
-    ensures { piece.new ≡ scan_from inclusive (B.operations (B.meaning body.now)) (fold_of (B.operations (B.meaning body.now)) (take start (elements_of part.entry))) (slice_range (elements_of part.entry) start (start + length piece.old)) }
+    requires { IsPiece (B.operations body.now) part befores.now size start (length piece.old) }
+    ensures { piece.new ≡ scan_from inclusive (B.operations body.now) (fold_of (B.operations body.now) (take start (elements_of part.entry))) (slice_range (elements_of part.entry) start (start + length piece.old)) }
 {
     let before = befores[start / size];
     let lo = part.lo + start as u32;
@@ -243,9 +243,9 @@ fn scan_cells<B: Body>(
     values: &mut [B::S],
 )
     requires can { CanFold (list_of history.now.journal) }
-    requires before { (first : ℕ) × (first ≤ lo) × (before ≡ fold_of (B.operations (B.meaning body.now)) (slice_of history.now.journal first lo)) }
+    requires before { (first : ℕ) × (first ≤ lo) × (before ≡ fold_of (B.operations body.now) (slice_of history.now.journal first lo)) }
     requires inside { lo + length values.old ≤ length (list_of history.now.journal) }
-    ensures { values.new ≡ scan_from inclusive (B.operations (B.meaning body.now)) before (slice_of history.now.journal lo (lo + length values.old)) }
+    ensures { values.new ≡ scan_from inclusive (B.operations body.now) before (slice_of history.now.journal lo (lo + length values.old)) }
 {
     let hi = lo + values.len() as u32;
     let mut sum = before;
@@ -268,11 +268,11 @@ fn scan_into<B: Body>(
     from: usize,
     values: &mut [B::S],
 ) -> B::S
-    requires can { CanGoOn (B.is_within (B.meaning body.now)) before (length xs.now) }
+    requires can { CanGoOn (B.is_within body.now) before (length xs.now) }
     requires room { from + length xs.now ≤ length values.old }
-    ensures values { take (from + length xs.now) values.new ≡ take from values.old ++ scan_from inclusive (B.operations (B.meaning body.now)) before xs.now }
+    ensures values { take (from + length xs.now) values.new ≡ take from values.old ++ scan_from inclusive (B.operations body.now) before xs.now }
     ensures len { length values.new ≡ length values.old }
-    ensures sum { result ≡ reached (B.operations (B.meaning body.now)) before xs.now }
+    ensures sum { result ≡ reached (B.operations body.now) before xs.now }
 {
     let mut sum = before;
     for k in 0..xs.len() {

@@ -28,7 +28,7 @@ pub fn scan_by_two<R: Threads + Sync, B: Body>(
     inclusive: bool,
 ) -> Result<Vec<B::S>, AllocError>
     requires part { IsPart part }
-    ensures { IfOk result (λ values. values.items ≡ scan_of inclusive (B.operations (B.meaning body.now)) (elements_of part.entry)) }
+    ensures { IfOk result (λ values. values.items ≡ scan_of inclusive (B.operations body.now) (elements_of part.entry)) }
 {
     let Part { row, lo, hi } = part;
     let mid = cut(lo, hi, 3, 4);
@@ -63,17 +63,17 @@ fn scan_both<R: Threads + Sync, B: Body>(
     requires side_by_side { (second.row ≡ first.row) × (second.lo ≡ first.hi) }
     requires empty { (values.items ≡ []) × (vec_len values ≡ 0) × (rest.items ≡ []) × (vec_len rest ≡ 0) }
     requires room { (second.hi - first.lo ≤ vec_capacity values) × (second.hi - second.lo ≤ vec_capacity rest) }
-    ensures { result.items ≡ scan_of inclusive (B.operations (B.meaning body.now)) (slice_range (elements_in first.entry.row) first.entry.lo second.entry.hi) }
+    ensures { result.items ≡ scan_of inclusive (B.operations body.now) (slice_range (elements_in first.entry.row) first.entry.lo second.entry.hi) }
 {
     let (theirs, ours) = thread::join(
         rt,
         move || -> (Vec<B::S>, B::S)
             requires { IsSync B.row × IsPart second × (rest.items ≡ []) × (vec_len rest ≡ 0) × (second.hi - second.lo ≤ vec_capacity rest) }
-            ensures { (result.0.items ≡ scan_of inclusive (B.operations (B.meaning body.entry.now)) (elements_of second.entry)) × (vec_len result.0 ≡ second.entry.hi - second.entry.lo) }
+            ensures { (result.0.items ≡ scan_of inclusive (B.operations body.entry.now) (elements_of second.entry)) × (vec_len result.0 ≡ second.entry.hi - second.entry.lo) }
         { scan_one(second, body, inclusive, rest) },
         move || -> (Vec<B::S>, B::S)
             requires { IsPart first × (values.items ≡ []) × (vec_len values ≡ 0) × (first.hi - first.lo ≤ vec_capacity values) }
-            ensures { (result.0.items ≡ scan_of inclusive (B.operations (B.meaning body.entry.now)) (elements_of first.entry)) × (result.1 ≡ fold_of (B.operations (B.meaning body.entry.now)) (elements_of first.entry)) × (vec_len result.0 ≡ first.entry.hi - first.entry.lo) × (vec_capacity result.0 ≡ vec_capacity values) }
+            ensures { (result.0.items ≡ scan_of inclusive (B.operations body.entry.now) (elements_of first.entry)) × (result.1 ≡ fold_of (B.operations body.entry.now) (elements_of first.entry)) × (vec_len result.0 ≡ first.entry.hi - first.entry.lo) × (vec_capacity result.0 ≡ vec_capacity values) }
         { scan_one(first, body, inclusive, values) },
     );
     let (mut values, sum) = ours;
@@ -92,8 +92,8 @@ fn scan_one<B: Body>(
     requires part { IsPart part }
     requires empty { (values.items ≡ []) × (vec_len values ≡ 0) }
     requires room { part.hi - part.lo ≤ vec_capacity values }
-    ensures values { result.0.items ≡ scan_of inclusive (B.operations (B.meaning body.now)) (elements_of part.entry) }
-    ensures sum { result.1 ≡ fold_of (B.operations (B.meaning body.now)) (elements_of part.entry) }
+    ensures values { result.0.items ≡ scan_of inclusive (B.operations body.now) (elements_of part.entry) }
+    ensures sum { result.1 ≡ fold_of (B.operations body.now) (elements_of part.entry) }
     ensures len { vec_len result.0 ≡ part.entry.hi - part.entry.lo }
     ensures capacity { vec_capacity result.0 ≡ vec_capacity values }
 {
@@ -106,8 +106,8 @@ fn push_part<B: Body>(part: Part<'_>, body: &B, inclusive: bool, values: &mut Ve
     requires part { IsPart part }
     requires empty { (values.old.items ≡ []) × (vec_len values.old ≡ 0) }
     requires room { part.hi - part.lo ≤ vec_capacity values.old }
-    ensures values { values.new.items ≡ scan_of inclusive (B.operations (B.meaning body.now)) (elements_of part.entry) }
-    ensures sum { result ≡ fold_of (B.operations (B.meaning body.now)) (elements_of part.entry) }
+    ensures values { values.new.items ≡ scan_of inclusive (B.operations body.now) (elements_of part.entry) }
+    ensures sum { result ≡ fold_of (B.operations body.now) (elements_of part.entry) }
     ensures len { vec_len values.new ≡ part.entry.hi - part.entry.lo }
     ensures capacity { vec_capacity values.new ≡ vec_capacity values.old }
 {
@@ -137,8 +137,8 @@ fn push_cells<B: Body>(
     requires inside { hi ≤ length (list_of history.now.journal) }
     requires empty { (values.old.items ≡ []) × (vec_len values.old ≡ 0) }
     requires room { hi - lo ≤ vec_capacity values.old }
-    ensures values { values.new.items ≡ scan_of inclusive (B.operations (B.meaning body.now)) (slice_of history.now.journal lo hi) }
-    ensures sum { result ≡ fold_of (B.operations (B.meaning body.now)) (slice_of history.now.journal lo hi) }
+    ensures values { values.new.items ≡ scan_of inclusive (B.operations body.now) (slice_of history.now.journal lo hi) }
+    ensures sum { result ≡ fold_of (B.operations body.now) (slice_of history.now.journal lo hi) }
     ensures len { vec_len values.new ≡ hi - lo }
     ensures capacity { vec_capacity values.new ≡ vec_capacity values.old }
 {
@@ -155,9 +155,9 @@ fn push_cells<B: Body>(
 
 // Pushes some values, each joined with what stands before it. There is room for all.
 fn put_behind<B: Body>(body: &B, before: B::S, more: &[B::S], values: &mut Vec<B::S>)
-    requires can { All (λ value. CanJoin (B.is_within (B.meaning body.now)) before value) more.now }
+    requires can { All (λ value. CanJoin (B.is_within body.now) before value) more.now }
     requires room { vec_len values.old + length more.now ≤ vec_capacity values.old }
-    ensures { values.new.items ≡ values.old.items ++ map ((B.operations (B.meaning body.now)).join before) more.now }
+    ensures { values.new.items ≡ values.old.items ++ map ((B.operations body.now).join before) more.now }
 {
     for value in more {
         values.push_reserved(join(body, before, *value));

@@ -21,7 +21,7 @@ pub fn job_of<B: Body, J: Journal>(
     version: u32,
     body: B,
 ) -> Option<Job<B>>
-    requires agrees { Agrees (B.operations (B.meaning body)) history.now.journal table.now }
+    requires agrees { Agrees (B.operations body) history.now.journal table.now }
     requires whole { whole_in table.now node ≡ true }
     ensures job { IfSome result (λ job. IsJobOf history.now.journal table.now node version body job) }
     ensures none { IfNone result ((1 < node.level) × (children_fresh_in table.now node ≡ false)) }
@@ -42,7 +42,7 @@ fn block_job<B: Body, J: Journal>(
     version: u32,
     body: B,
 ) -> Option<Job<B>>
-    requires agrees { Agrees (B.operations (B.meaning body)) history.now.journal table.now }
+    requires agrees { Agrees (B.operations body) history.now.journal table.now }
     requires whole { whole_in table.now node ≡ true }
     requires level { node.level ≡ 1 }
     ensures job { IfSome result (λ job. IsJobOf history.now.journal table.now node version body job) }
@@ -63,7 +63,7 @@ fn parent_job<B: Body, J: Journal>(
     version: u32,
     body: B,
 ) -> Option<Job<B>>
-    requires agrees { Agrees (B.operations (B.meaning body)) history.now.journal table.now }
+    requires agrees { Agrees (B.operations body) history.now.journal table.now }
     requires whole { whole_in table.now node ≡ true }
     requires above { 1 < node.level }
     ensures job { IfSome result (λ job. IsJobOf history.now.journal table.now node version body job) }

@@ -27,11 +27,11 @@ impl Claims {
         body: &B,
         jobs: u32,
     ) -> u32
-        requires agrees { Agrees (B.operations (B.meaning body.now)) history.now.journal table.old }
+        requires agrees { Agrees (B.operations body.now) history.now.journal table.old }
         requires hints { AreHints (record_of history.now.journal table.old self.old) self.old }
         requires grown { table.old.size ≤ 8 * claim_blocks self.old }
-        ensures refreshed { RefreshesEach (B.operations (B.meaning body.now)) history.now.journal table.old table.new self.old self.new result }
-        ensures agrees { Agrees (B.operations (B.meaning body.now)) history.now.journal table.new }
+        ensures refreshed { RefreshesEach (B.operations body.now) history.now.journal table.old table.new self.old self.new result }
+        ensures agrees { Agrees (B.operations body.now) history.now.journal table.new }
         ensures hints { AreHints (record_of history.now.journal table.new self.new) self.new }
         ensures blocks { claim_blocks self.new ≡ claim_blocks self.old }
         ensures most { result ≤ jobs }
@@ -62,9 +62,9 @@ impl Claims {
         body: &B,
         word: u32,
     ) -> u32
-        requires swept { IsSwept (B.operations (B.meaning body.now)) history.now.journal table.old self.old (64 * word) }
+        requires swept { IsSwept (B.operations body.now) history.now.journal table.old self.old (64 * word) }
         requires inside { 512 * word + 512 ≤ table.old.size }
-        ensures sweeps { Sweeps (B.operations (B.meaning body.now)) history.now.journal table.old table.new self.old self.new result (64 * word + 64) }
+        ensures sweeps { Sweeps (B.operations body.now) history.now.journal table.old table.new self.old self.new result (64 * word + 64) }
         ensures few { result ≤ 64 }
     {
         let done = self.refresh_each(history, table, body, word);
@@ -81,9 +81,9 @@ impl Claims {
         body: &B,
         word: u32,
     ) -> u32
-        requires swept { IsSwept (B.operations (B.meaning body.now)) history.now.journal table.old self.old (64 * word) }
+        requires swept { IsSwept (B.operations body.now) history.now.journal table.old self.old (64 * word) }
         requires inside { 512 * word + 512 ≤ table.old.size }
-        ensures sweeps { Sweeps (B.operations (B.meaning body.now)) history.now.journal table.old table.new self.old self.new result (64 * word + 64) }
+        ensures sweeps { Sweeps (B.operations body.now) history.now.journal table.old table.new self.old self.new result (64 * word + 64) }
         ensures few { result ≤ 64 }
     {
         // The elements are few enough for their indices to be of 32 bits.
@@ -107,10 +107,10 @@ impl Claims {
         near: &[i64],
         number: u32,
     ) -> u32
-        requires swept { IsSwept (B.operations (B.meaning body.now)) history.now.journal table.old self.old number }
+        requires swept { IsSwept (B.operations body.now) history.now.journal table.old self.old number }
         requires inside { 8 * number + 8 ≤ table.old.size }
         requires near { near.now ≡ slice_range (list_of history.now.journal) (512 * (number / 64)) (512 * (number / 64) + length near.now) }
-        ensures sweeps { Sweeps (B.operations (B.meaning body.now)) history.now.journal table.old table.new self.old self.new result (number + 1) }
+        ensures sweeps { Sweeps (B.operations body.now) history.now.journal table.old table.new self.old self.new result (number + 1) }
         ensures few { result ≤ 1 }
     {
         let Some(version) = self.claim_block(table, number) else {

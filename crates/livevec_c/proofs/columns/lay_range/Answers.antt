@@ -10,14 +10,14 @@ use Rattle.livevec_c.proofs.columns.lay_range.Goals as goal
 
 pub lay_run-sum-requires-clause-can : goal.lay_run-sum-requires-clause-can
 lay_run-sum-requires-clause-can g c κs within =
-    let meaning = g.B.Body.meaning c.args.body.now in
+    let body = c.args.body.now in
     let xs = list_of c.args.history.now.journal in
     let can = can_fold c.args.history.now c.size-size.ensures.limits in
-    slice_can_go_on (g.B.Body.operations meaning) (g.B.Body.is_within meaning) (g.B.Body.laws c.args.body.now) xs can c.args.lo c.loop-at.at (length c.run_at-run.result.now) c.loop-at.invariant.low (omega (arith, c.requires, c.loop-at-test.true, c.run_at-run.ensures.few)) c.loop-at.sum c.loop-at.invariant.sum
+    slice_can_go_on (g.B.Body.operations body) (g.B.Body.is_within body) (g.B.Body.laws c.args.body.now) xs can c.args.lo c.loop-at.at (length c.run_at-run.result.now) c.loop-at.invariant.low (omega (arith, c.requires, c.loop-at-test.true, c.run_at-run.ensures.few)) c.loop-at.sum c.loop-at.invariant.sum
 
 pub loop-at-preserved : goal.loop-at-preserved
 loop-at-preserved g c =
-    let o = g.B.Body.operations (g.B.Body.meaning c.args.body.now) in
+    let o = g.B.Body.operations c.args.body.now in
     let cell_of = g.B.Celled.cell_of in
     let xs = list_of c.args.history.now.journal in
     let lo = c.args.lo in
@@ -46,7 +46,7 @@ loop-at-preserved g c =
 
 pub returns : goal.returns
 returns g c =
-    let o = g.B.Body.operations (g.B.Body.meaning c.args.body.now) in
+    let o = g.B.Body.operations c.args.body.now in
     let journal = c.args.history.now.journal in
     let hi = c.args.lo + length c.args.column.now in
     let kept = c.loop-at.invariant in

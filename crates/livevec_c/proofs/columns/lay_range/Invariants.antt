@@ -7,7 +7,7 @@ use Rattle.livevec_c.proofs.columns.lay_range.Given as goal
 -- the cells of the scan of what was read so far, and what it leads to
 abbrev pub invariant-loop-at : goal.invariant-loop-at
 invariant-loop-at g l =
-    let o = g.B.Body.operations (g.B.Body.meaning l.body) in
+    let o = g.B.Body.operations l.body in
     record {
       low : l.lo ≤ l.at;
       high : l.at ≤ l.hi;

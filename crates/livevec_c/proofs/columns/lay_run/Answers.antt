@@ -12,8 +12,8 @@ use Rattle.livevec_c.proofs.columns.lay_run.Goals.{then-inclusive, else-inclusiv
 
 pub loop-k-preserved : goal.loop-k-preserved
 loop-k-preserved g c =
-    let meaning = g.B.Body.meaning c.args.body.now in
-    let o = g.B.Body.operations meaning in
+    let body = c.args.body.now in
+    let o = g.B.Body.operations body in
     let xs = c.args.xs.now in
     let k = c.loop-k.k in
     let x = slice_index_or xs k (pos 0) in
@@ -47,7 +47,7 @@ loop-k-preserved g c =
           ∙ append_assoc old (map cell_of front) (c.cell.result ∷ [])
           ∙ ap (λ y. old ++ (map cell_of front ++ y ∷ [])) c.cell.ensures
           ∙ ap (λ ys. old ++ ys) (sym (map-append cell_of front (value ∷ [])) ∙ ap (map cell_of) gone.1);
-      can = (can.0, subst (g.B.Body.is_within meaning next) place (c.fold_more-sum.ensures.within (can.0 + k) can.1 (omega (arith, can.2))), can.2);
+      can = (can.0, subst (g.B.Body.is_within body next) place (c.fold_more-sum.ensures.within (can.0 + k) can.1 (omega (arith, can.2))), can.2);
       len = length-set column at c.cell.result ∙ c.loop-k.invariant.len;
     }
 
@@ -58,7 +58,7 @@ fold_more-sum-requires-after_bounds g c κs within =
 
 pub loop-k-init : goal.loop-k-init
 loop-k-init g c =
-    let within = g.B.Body.is_within (g.B.Body.meaning c.args.body.now) in
+    let within = g.B.Body.is_within c.args.body.now in
     let none : c.requires.can.count ≡ c.requires.can.count + 0 = omega arith in
     let place : c.args.from + 0 ≡ c.args.from = omega arith in
     record {
@@ -70,7 +70,7 @@ loop-k-init g c =
 
 pub returns-clause-cells : goal.returns-clause-cells
 returns-clause-cells g c =
-    let o = g.B.Body.operations (g.B.Body.meaning c.args.body.now) in
+    let o = g.B.Body.operations c.args.body.now in
     let all : length c.args.xs.now ≡ c.loop-k.k = omega arith in
     ap (λ n. take (c.args.from + n) c.loop-k.column) all
     ∙ c.loop-k.invariant.cells
@@ -79,6 +79,6 @@ returns-clause-cells g c =
 
 pub returns-clause-sum : goal.returns-clause-sum
 returns-clause-sum g c =
-    let o = g.B.Body.operations (g.B.Body.meaning c.args.body.now) in
+    let o = g.B.Body.operations c.args.body.now in
     let all : length c.args.xs.now ≡ c.loop-k.k = omega arith in
     c.loop-k.invariant.sum ∙ ap (λ n. reached o c.args.before (slice_range c.args.xs.now 0 n)) (sym all) ∙ ap (reached o c.args.before) (slice_range-whole c.args.xs.now)

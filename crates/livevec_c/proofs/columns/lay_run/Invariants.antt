@@ -6,12 +6,12 @@ use Rattle.livevec_c.proofs.columns.lay_run.Given as goal
 -- the cells of the scan of the elements so far, behind what was there, and what they lead to, which may take the rest
 abbrev pub invariant-loop-k : goal.invariant-loop-k
 invariant-loop-k g l =
-    let meaning = g.B.Body.meaning l.body in
-    let o = g.B.Body.operations meaning in
+    let body = l.body in
+    let o = g.B.Body.operations body in
     let front = slice_range l.xs 0 l.k in
     record {
       sum : l.sum ≡ reached o l.fn.before front;
       cells : take (l.from + l.k) l.column ≡ take l.from l.initial.column ++ map g.B.Celled.cell_of (scan_from l.inclusive o l.fn.before front);
-      can : (n : ℕ) × g.B.Body.is_within meaning l.sum (n + l.k) × (n + length l.xs ≤ 2 ^ 20);
+      can : (n : ℕ) × g.B.Body.is_within body l.sum (n + l.k) × (n + length l.xs ≤ 2 ^ 20);
       len : length l.column ≡ length l.initial.column;
     }

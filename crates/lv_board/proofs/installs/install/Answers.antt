@@ -17,7 +17,7 @@ pub fetch_max-requires : goal.fetch_max-requires
 fetch_max-requires g c = (
   c.requires.here,
   block_among c.args.seat.now.terms c.args.seat.now.terms c.args.table.now.shared.table_id.words c.part_place_of.result c.args.b (9 + c.args.part) refl c.requires.count c.requires.within (omega (arith, c.requires.part, g.B.Parted.some.1)) c.part_place_of.ensures,
-  installs_at_key (folds g.B.Parted.PARTS g.B.Parted.parts_of (λ b. g.B.Body.operations (g.B.Body.meaning b))) c.args.seat.now.terms c.args.table.now.shared.key c.requires.key c.args.table.now.shared.table_id.slots c.args.seat.now.token.id c.args.seat.now.token.me c.args.seat.now.sits c.args.b c.args.part c.part_place_of.result c.args.word (omega (arith, c.requires.within)) c.requires.part c.requires.whole c.requires.word c.part_place_of.ensures,
+  installs_at_key (folds g.B.Parted.PARTS g.B.Parted.parts_of g.B.Body.operations) c.args.seat.now.terms c.args.table.now.shared.key c.requires.key c.args.table.now.shared.table_id.slots c.args.seat.now.token.id c.args.seat.now.token.me c.args.seat.now.sits c.args.b c.args.part c.part_place_of.result c.args.word (omega (arith, c.requires.within)) c.requires.part c.requires.whole c.requires.word c.part_place_of.ensures,
 )
 
 pub invariant_of-seat : goal.invariant_of-seat

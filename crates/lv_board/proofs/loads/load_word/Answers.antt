@@ -13,8 +13,8 @@ pub load-requires : goal.load-requires
 load-requires g c = (
   c.requires.here,
   omega (arith, c.requires.count, c.requires.within),
-  subst (λ k. Allows (TableHolds (folds g.B.Parted.PARTS g.B.Parted.parts_of (λ b. g.B.Body.operations (g.B.Body.meaning b))) k) c.args.table.now.shared.table_id.slots c.args.seat.now.token.id c.args.seat.now.token.me c.args.at (λ n. n) (Reads (folds g.B.Parted.PARTS g.B.Parted.parts_of (λ b. g.B.Body.operations (g.B.Body.meaning b))) (step c.args.table.now.shared.table_id.slots c.args.at 0 0 none) c.args.seat.now.token.me)) (sym c.requires.key)
-      (reads_allowed (folds g.B.Parted.PARTS g.B.Parted.parts_of (λ b. g.B.Body.operations (g.B.Body.meaning b))) c.args.seat.now.terms _ _ _ _ c.args.seat.now.sits),
+  subst (λ k. Allows (TableHolds (folds g.B.Parted.PARTS g.B.Parted.parts_of g.B.Body.operations) k) c.args.table.now.shared.table_id.slots c.args.seat.now.token.id c.args.seat.now.token.me c.args.at (λ n. n) (Reads (folds g.B.Parted.PARTS g.B.Parted.parts_of g.B.Body.operations) (step c.args.table.now.shared.table_id.slots c.args.at 0 0 none) c.args.seat.now.token.me)) (sym c.requires.key)
+      (reads_allowed (folds g.B.Parted.PARTS g.B.Parted.parts_of g.B.Body.operations) c.args.seat.now.terms _ _ _ _ c.args.seat.now.sits),
 )
 
 pub invariant_of-seat-clause-made : goal.invariant_of-seat-clause-made

@@ -10,5 +10,5 @@ pub of_words-requires : goal.of_words-requires
 of_words-requires g c =
     let words = c.as_slice.ensures.value in
     let count : (1 + 2 * c.capacity.result) - 1 ≡ 16 * blocks_of (limits_of c.args.terms) = omega (arith, c.capacity.ensures.value) in
-    opens (Unit {0}) (folds g.B.Parted.PARTS g.B.Parted.parts_of (λ b. g.B.Body.operations (g.B.Body.meaning b))) c.args.terms c.as_slice.result.now (are_terms g.B.Parted.PARTS g.B.Parted.parts_of (λ b. g.B.Body.operations (g.B.Body.meaning b)) c.args.terms g.B.Parted.some.1 g.B.Parted.are_parts c.requires)
+    opens (Unit {0}) (folds g.B.Parted.PARTS g.B.Parted.parts_of g.B.Body.operations) c.args.terms c.as_slice.result.now (are_terms g.B.Parted.PARTS g.B.Parted.parts_of g.B.Body.operations c.args.terms g.B.Parted.some.1 g.B.Parted.are_parts c.requires)
     (words ∙ c.in_ok-words.ensures ∙ ap (λ n. descriptor_of [] ∷ replicate n 0) count)

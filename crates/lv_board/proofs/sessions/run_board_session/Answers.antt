@@ -12,10 +12,10 @@ returns-clause-plain g c =
     let board = c.args.board.now in
     let here = at_these (c.requires.own_board board) (c.requires.own_seat c.args.seat.now) (c.requires.own_seat c.hold.new.seat)
     (λ b s u. Conversed
-    (BoardStep (terms_of (folds g.B.Parted.PARTS g.B.Parted.parts_of (λ b. g.B.Body.operations (g.B.Body.meaning b))) b.terms) (g.B.Body.operations (g.B.Body.meaning b.terms.body)) g.B.Single.the_kind (g.B.Single.shown_as b.terms.body))
+    (BoardStep (terms_of (folds g.B.Parted.PARTS g.B.Parted.parts_of g.B.Body.operations) b.terms) (g.B.Body.operations b.terms.body) g.B.Single.the_kind (g.B.Single.shown_as b.terms.body))
     (actor_of s) (actor_of u) (g.R.Read.remaining c.args.reader.now) (g.R.Read.remaining c.hold.new.reader) (g.W.Write.contents c.args.writer.now) (g.W.Write.contents c.hold.new.writer) c.hold.result)
     c.hold.ensures.conversed in
-    session_plain (terms_of (folds g.B.Parted.PARTS g.B.Parted.parts_of (λ b. g.B.Body.operations (g.B.Body.meaning b))) board.terms) (g.B.Body.operations (g.B.Body.meaning board.terms.body)) g.B.Single.the_kind (g.B.Single.shown_as board.terms.body) (g.B.Single.plain board.terms.body)
-    (are_terms g.B.Parted.PARTS g.B.Parted.parts_of (λ b. g.B.Body.operations (g.B.Body.meaning b)) board.terms g.B.Parted.some.1 g.B.Parted.are_parts board.basis)
+    session_plain (terms_of (folds g.B.Parted.PARTS g.B.Parted.parts_of g.B.Body.operations) board.terms) (g.B.Body.operations board.terms.body) g.B.Single.the_kind (g.B.Single.shown_as board.terms.body) (g.B.Single.plain board.terms.body)
+    (are_terms g.B.Parted.PARTS g.B.Parted.parts_of g.B.Body.operations board.terms g.B.Parted.some.1 g.B.Parted.are_parts board.basis)
     ((g.met.B.Single g.world.𝓛 g.world.𝓜 g.world.𝓡 ((λ s x. x), (λ p. p), (λ n s. n s), (λ p. p))).shows_plain board.terms.body)
     _ _ _ _ _ _ _ here

@@ -3,4 +3,4 @@ use Rattle.lv_bodies.proofs.PairFolds.{fold_of-pair}
 use Rattle.lv_bodies.proofs.laws.pair_folds_apart.Goals as goal
 
 pub returns : goal.returns
-returns g c = λ m n xs. fold_of-pair (g.A.Body.operations m) (g.B.Body.operations n) xs
+returns g c = λ p xs. fold_of-pair (g.A.Body.operations p.first) (g.B.Body.operations p.second) xs

@@ -10,7 +10,7 @@ use Rattle.lv_kinds.proofs.asking.+learn.Goals.{then-not-has_bit, else-not-has_b
 
 pub returns-in-Some : goal.returns-in-Some
 returns-in-Some g t c =
-    knows_put (g.K.Body.operations (g.K.Body.meaning c.args.body.now)) c.args.view.cells.now.journal g.K.OfSix.bit c.args.node c.in-Some.summary
+    knows_put (g.K.Body.operations c.args.body.now) c.args.view.cells.now.journal g.K.OfSix.bit c.args.node c.in-Some.summary
     c.args.flags.now c.keep.new.flags c.args.rows.now c.keep.new.rows c.requires.can c.in-Some.ensures.some c.keep.ensures.flag c.keep.ensures.row
 
 pub children-known-requires : goal.children-known-requires
@@ -36,7 +36,7 @@ learn-requires-clause-whole g t c κs within =
 
 pub loop-k-preserved : goal.loop-k-preserved
 loop-k-preserved g t c =
-    let o = g.K.Body.operations (g.K.Body.meaning c.args.body.now) in
+    let o = g.K.Body.operations c.args.body.now in
     let edits = c.args.view.cells.now.journal in
     elim c.if-not-has_bit.branch [
       | then-not-has_bit w ↦
@@ -52,12 +52,12 @@ loop-k-preserved g t c =
 pub join_children-summary-requires-clause-folds : goal.join_children-summary-requires-clause-folds
 join_children-summary-requires-clause-folds g t c κs within =
     let all : c.loop-k.k ≡ 8 = omega arith in
-    children_folds (g.K.Body.operations (g.K.Body.meaning c.args.body.now)) c.args.view.cells.now.journal g.K.OfSix.bit c.args.node
+    children_folds (g.K.Body.operations c.args.body.now) c.args.view.cells.now.journal g.K.OfSix.bit c.args.node
     c.args.flags.now c.loop-k.flags c.args.rows.now c.loop-k.rows c.in_default.ensures.none c.requires.whole (rw all at c.loop-k.invariant)
 
 pub returns : goal.returns
 returns g t c =
-    let o = g.K.Body.operations (g.K.Body.meaning c.args.body.now) in
+    let o = g.K.Body.operations c.args.body.now in
     let edits = c.args.view.cells.now.journal in
     knows_after o edits g.K.OfSix.bit c.args.node c.join_children-summary.result c.args.flags.now c.loop-k.flags c.keep-2.new.flags c.args.rows.now c.loop-k.rows c.keep-2.new.rows
     c.loop-k.invariant.learns

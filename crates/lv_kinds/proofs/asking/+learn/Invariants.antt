@@ -9,4 +9,4 @@ decreases-learn g l = l.node.level
 -- so many children were made known
 abbrev pub invariant-loop-k : goal.invariant-loop-k
 invariant-loop-k g l =
-    GathersBy (g.K.Body.operations (g.K.Body.meaning l.body)) l.view.cells.now.journal g.K.OfSix.bit l.node l.k l.initial.flags l.flags l.initial.rows l.rows
+    GathersBy (g.K.Body.operations l.body) l.view.cells.now.journal g.K.OfSix.bit l.node l.k l.initial.flags l.flags l.initial.rows l.rows

@@ -16,8 +16,8 @@ written_below-written-requires-clause-fits g c =
 
 pub loop-k-init : goal.loop-k-init
 loop-k-init g c =
-    let meaning = g.K.Body.meaning c.args.body.now in
-    first_child (g.K.Body.operations meaning) (g.K.Body.is_within meaning) (g.K.Body.laws c.args.body.now) c.args.view.cells.now.journal
+    let body = c.args.body.now in
+    first_child (g.K.Body.operations body) (g.K.Body.is_within body) (g.K.Body.laws c.args.body.now) c.args.view.cells.now.journal
     (can_fold c.args.view.cells.now c.size-size.ensures.limits) c.args.node c.requires.above c.requires.whole
     c.value_of-sum.result
     (c.value_of-sum.ensures
@@ -27,29 +27,29 @@ loop-k-init g c =
 
 pub join-sum-requires-after_bounds : goal.join-sum-requires-after_bounds
 join-sum-requires-after_bounds g c κs within =
-    let meaning = g.K.Body.meaning c.args.body.now in
+    let body = c.args.body.now in
     let next = c.value_of.ensures
     ∙ ap (slice_index_or c.written_below-written.result.now c.loop-k.k) c.blank-blank.ensures
     ∙ c.written_below-written.ensures c.loop-k.k
     ∙ c.requires.folds c.loop-k.k c.loop-k-test.true in
-    child_can_join (g.K.Body.operations meaning) (g.K.Body.is_within meaning) (g.K.Body.laws c.args.body.now) c.args.view.cells.now.journal
+    child_can_join (g.K.Body.operations body) (g.K.Body.is_within body) (g.K.Body.laws c.args.body.now) c.args.view.cells.now.journal
     (can_fold c.args.view.cells.now c.size-size.ensures.limits) c.args.node c.requires.above c.requires.whole
     c.loop-k.k c.loop-k-test.true c.loop-k.sum c.value_of.result c.loop-k.invariant next
 
 pub loop-k-preserved : goal.loop-k-preserved
 loop-k-preserved g c =
-    let meaning = g.K.Body.meaning c.args.body.now in
+    let body = c.args.body.now in
     let next = c.value_of.ensures
     ∙ ap (slice_index_or c.written_below-written.result.now c.loop-k.k) c.blank-blank.ensures
     ∙ c.written_below-written.ensures c.loop-k.k
     ∙ c.requires.folds c.loop-k.k c.loop-k-test.true in
-    child_joined (g.K.Body.operations meaning) (g.K.Body.is_within meaning) (g.K.Body.laws c.args.body.now) c.args.view.cells.now.journal
+    child_joined (g.K.Body.operations body) (g.K.Body.is_within body) (g.K.Body.laws c.args.body.now) c.args.view.cells.now.journal
     (can_fold c.args.view.cells.now c.size-size.ensures.limits) c.args.node c.requires.above c.requires.whole
     c.loop-k.k c.loop-k-test.true c.loop-k.sum c.value_of.result c.loop-k.invariant next c.join-sum.result c.join-sum.ensures.value
 
 pub returns : goal.returns
 returns g c =
-    let o = g.K.Body.operations (g.K.Body.meaning c.args.body.now) in
+    let o = g.K.Body.operations c.args.body.now in
     let edits = c.args.view.cells.now.journal in
     let all : c.loop-k.k ≡ 8 = omega arith in
     c.loop-k.invariant ∙ ap (λ k. fold_of o (first_children edits c.args.node k)) all ∙ ap (fold_of o) (all_children edits c.args.node c.requires.above)

@@ -7,4 +7,4 @@ use Rattle.lv_kinds.proofs.asking.join_children.Given as goal
 -- the summaries of so many children were joined
 abbrev pub invariant-loop-k : goal.invariant-loop-k
 invariant-loop-k g l =
-    l.sum ≡ fold_of (g.K.Body.operations (g.K.Body.meaning l.body)) (first_children l.view.cells.now.journal l.fn.node l.k)
+    l.sum ≡ fold_of (g.K.Body.operations l.body) (first_children l.view.cells.now.journal l.fn.node l.k)

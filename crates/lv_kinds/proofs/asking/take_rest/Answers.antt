@@ -14,7 +14,7 @@ use Rattle.lv_kinds.proofs.asking.take_rest.Goals as goal
 
 pub loop-at-init : goal.loop-at-init
 loop-at-init g c =
-    let o = g.K.Body.operations (g.K.Body.meaning c.args.body.now) in
+    let o = g.K.Body.operations c.args.body.now in
     let stands = c.requires.stands in
     record {
       can = stands.can;
@@ -25,14 +25,14 @@ loop-at-init g c =
 
 pub fold_more-value-requires-after_bounds : goal.fold_more-value-requires-after_bounds
 fold_more-value-requires-after_bounds g c κs within =
-    let meaning = g.K.Body.meaning c.args.body.now in
-    passing_can_grow (g.K.Body.operations meaning) (g.K.Body.is_within meaning) (g.K.Body.laws c.args.body.now) c.args.view.cells.now.journal (can_fold c.args.view.cells.now c.size-size.ensures.limits) g.K.OfSix.bit
+    let body = c.args.body.now in
+    passing_can_grow (g.K.Body.operations body) (g.K.Body.is_within body) (g.K.Body.laws c.args.body.now) c.args.view.cells.now.journal (can_fold c.args.view.cells.now c.size-size.ensures.limits) g.K.OfSix.bit
     c.args.walk.lo c.args.walk.hi c.loop-at.at c.loop-at.value c.loop-at.flags c.loop-at.invariant.passes c.requires.stands.inside c.loop-at.invariant.fold c.loop-at-test.true
 
 pub loop-at-preserved-then-level-eq0 : goal.loop-at-preserved-then-level-eq0
 loop-at-preserved-then-level-eq0 g c =
-    let meaning = g.K.Body.meaning c.args.body.now in
-    let o = g.K.Body.operations meaning in
+    let body = c.args.body.now in
+    let o = g.K.Body.operations body in
     let edits = c.args.view.cells.now.journal in
     let xs = list_of edits in
     let at = c.loop-at.at in
@@ -56,12 +56,12 @@ know-summary-requires-clause-whole g c κs within =
 
 pub join-value-requires-after_bounds : goal.join-value-requires-after_bounds
 join-value-requires-after_bounds g c κs within =
-    let meaning = g.K.Body.meaning c.args.body.now in
-    let o = g.K.Body.operations meaning in
+    let body = c.args.body.now in
+    let o = g.K.Body.operations body in
     let edits = c.args.view.cells.now.journal in
     let level = c.greatest_level-level.result in
     let knows : KnowsBy o edits g.K.OfSix.bit (over level c.loop-at.at) c.know-summary.result c.loop-at.flags c.know-summary.new.flags c.loop-at.rows c.know-summary.new.rows = rw c.over.ensures at c.know-summary.ensures in
-    passing_can_join o (g.K.Body.is_within meaning) (g.K.Body.laws c.args.body.now) edits (can_fold c.args.view.cells.now c.size-size.ensures.limits) g.K.OfSix.bit
+    passing_can_join o (g.K.Body.is_within body) (g.K.Body.laws c.args.body.now) edits (can_fold c.args.view.cells.now c.size-size.ensures.limits) g.K.OfSix.bit
     c.args.walk.lo c.args.walk.hi c.loop-at.at c.loop-at.value c.loop-at.flags c.loop-at.invariant.passes c.requires.stands.inside c.loop-at.invariant.fold
     level c.greatest_level-level.ensures.fits c.know-summary.result c.loop-at.flags c.know-summary.new.flags c.loop-at.rows c.know-summary.new.rows knows
 
@@ -70,8 +70,8 @@ loop-at-smaller g c = omega (arith, some_width c.greatest_level-level.result, c.
 
 pub loop-at-preserved : goal.loop-at-preserved
 loop-at-preserved g c =
-    let meaning = g.K.Body.meaning c.args.body.now in
-    let o = g.K.Body.operations meaning in
+    let body = c.args.body.now in
+    let o = g.K.Body.operations body in
     let edits = c.args.view.cells.now.journal in
     let bit = g.K.OfSix.bit in
     let level = c.greatest_level-level.result in
@@ -80,7 +80,7 @@ loop-at-preserved g c =
     rw c.width-at.ensures (record {
       can = knows.can;
       learns = learns_along bit c.args.flags.now c.loop-at.flags c.know-summary.new.flags c.args.rows.now c.loop-at.rows c.know-summary.new.rows c.loop-at.invariant.learns knows.learns;
-      fold = passing_joined o (g.K.Body.is_within meaning) (g.K.Body.laws c.args.body.now) edits (can_fold c.args.view.cells.now c.size-size.ensures.limits) bit
+      fold = passing_joined o (g.K.Body.is_within body) (g.K.Body.laws c.args.body.now) edits (can_fold c.args.view.cells.now c.size-size.ensures.limits) bit
           c.args.walk.lo c.args.walk.hi c.loop-at.at c.loop-at.value c.loop-at.flags c.loop-at.invariant.passes c.requires.stands.inside c.loop-at.invariant.fold
           level c.greatest_level-level.ensures.fits c.know-summary.result c.loop-at.flags c.know-summary.new.flags c.loop-at.rows c.know-summary.new.rows knows c.join-value.result c.join-value.ensures.value;
       passes = passes_node bit c.args.walk.lo c.args.walk.hi c.loop-at.at c.know-summary.new.flags
@@ -90,6 +90,6 @@ loop-at-preserved g c =
 
 pub returns : goal.returns
 returns g c =
-    let o = g.K.Body.operations (g.K.Body.meaning c.args.body.now) in
+    let o = g.K.Body.operations c.args.body.now in
     ends_here o c.args.view.cells.now.journal g.K.OfSix.bit c.args.walk c.loop-at.at c.loop-at.value c.args.flags.now c.loop-at.flags c.args.rows.now c.loop-at.rows
     c.loop-at.invariant.can c.loop-at.invariant.learns c.loop-at.invariant.fold c.loop-at.invariant.passes (omega (arith, c.loop-at-test.false))

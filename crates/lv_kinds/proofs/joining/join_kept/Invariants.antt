@@ -9,6 +9,6 @@ use Rattle.lv_kinds.proofs.joining.join_kept.Given as goal
 abbrev pub invariant-loop-k : goal.invariant-loop-k
 invariant-loop-k g l = record {
   place : l.number ≡ l.fn.first.number + l.k;
-  goes_on : FoldGoesOn (g.K.Body.operations (g.K.Body.meaning l.body)) l.view.cells.now.journal l.fn.value (first_index l.fn.first) l.sum ((l.fn.first.number + l.k) * 8 ^ l.fn.first.level);
+  goes_on : FoldGoesOn (g.K.Body.operations l.body) l.view.cells.now.journal l.fn.value (first_index l.fn.first) l.sum ((l.fn.first.number + l.k) * 8 ^ l.fn.first.level);
   kept : (j : ℕ) → j < l.k → is_flagged l.flags g.K.OfSix.bit (record { level = l.fn.first.level; number = l.fn.first.number + j }) ≡ true;
 }

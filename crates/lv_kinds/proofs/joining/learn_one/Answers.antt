@@ -11,18 +11,18 @@ know-summary-requires-clause-whole g c κs within =
 
 pub join-requires-after_bounds : goal.join-requires-after_bounds
 join-requires-after_bounds g c κs within =
-    let meaning = g.K.Body.meaning c.args.body.now in
-    let o = g.K.Body.operations meaning in
+    let body = c.args.body.now in
+    let o = g.K.Body.operations body in
     let edits = c.args.view.cells.now.journal in
-    run_can_join o (g.K.Body.is_within meaning) (g.K.Body.laws c.args.body.now) edits (can_fold c.args.view.cells.now c.size-size.ensures.limits) c.args.node c.args.end c.requires.inside
+    run_can_join o (g.K.Body.is_within body) (g.K.Body.laws c.args.body.now) edits (can_fold c.args.view.cells.now c.size-size.ensures.limits) c.args.node c.args.end c.requires.inside
     c.args.node.number (omega arith) c.requires.inside.some c.args.value c.args.value c.know-summary.result (goes_nowhere o edits c.args.value (first_index c.args.node)) c.know-summary.ensures.value c.requires.so_far
 
 pub returns : goal.returns
 returns g c =
-    let meaning = g.K.Body.meaning c.args.body.now in
-    let o = g.K.Body.operations meaning in
+    let body = c.args.body.now in
+    let o = g.K.Body.operations body in
     let edits = c.args.view.cells.now.journal in
-    let goes_on = run_joined o (g.K.Body.is_within meaning) (g.K.Body.laws c.args.body.now) edits (can_fold c.args.view.cells.now c.size-size.ensures.limits) c.args.node c.args.end c.requires.inside
+    let goes_on = run_joined o (g.K.Body.is_within body) (g.K.Body.laws c.args.body.now) edits (can_fold c.args.view.cells.now c.size-size.ensures.limits) c.args.node c.args.end c.requires.inside
     c.args.node.number (omega arith) c.requires.inside.some c.args.value c.args.value c.know-summary.result (goes_nowhere o edits c.args.value (first_index c.args.node)) c.know-summary.ensures.value c.join.result c.join.ensures.value in
     knows_run_next o edits g.K.OfSix.bit c.args.node c.args.node.number c.args.value c.args.value c.know-summary.result c.join.result
     c.args.flags.now c.args.flags.now c.know-summary.new.flags c.args.rows.now c.args.rows.now c.know-summary.new.rows

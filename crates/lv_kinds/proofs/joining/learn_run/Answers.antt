@@ -6,18 +6,18 @@ use Rattle.lv_kinds.proofs.joining.learn_run.Goals as goal
 
 pub returns : goal.returns
 returns g c =
-    let o = g.K.Body.operations (g.K.Body.meaning c.args.body.now) in
+    let o = g.K.Body.operations c.args.body.now in
     let end : c.loop-number.number ≡ c.args.end = omega (arith, c.loop-number-test.false, c.loop-number.invariant.high) in
     subst (λ end. KnowsRun o c.args.view.cells.now.journal g.K.OfSix.bit c.args.first end c.args.value c.loop-number.sum c.args.flags.now c.loop-number.flags c.args.rows.now c.loop-number.rows) end c.loop-number.invariant.knows
 
 pub learn_one-learned-requires-clause-so_far : goal.learn_one-learned-requires-clause-so_far
 learn_one-learned-requires-clause-so_far g c κs within =
-    joined_is_fold (g.K.Body.operations (g.K.Body.meaning c.args.body.now)) c.args.view.cells.now.journal g.K.OfSix.bit c.args.first c.loop-number.number c.loop-number.invariant.low
+    joined_is_fold (g.K.Body.operations c.args.body.now) c.args.view.cells.now.journal g.K.OfSix.bit c.args.first c.loop-number.number c.loop-number.invariant.low
     c.args.value c.loop-number.sum c.requires.so_far c.loop-number.invariant.knows.goes_on
 
 pub join_behind-joined-requires-clause-so_far : goal.join_behind-joined-requires-clause-so_far
 join_behind-joined-requires-clause-so_far g c κs within =
-    let o = g.K.Body.operations (g.K.Body.meaning c.args.body.now) in
+    let o = g.K.Body.operations c.args.body.now in
     let edits = c.args.view.cells.now.journal in
     let number = c.loop-number.number in
     let so_far = joined_is_fold o edits g.K.OfSix.bit c.args.first number c.loop-number.invariant.low c.args.value c.loop-number.sum c.requires.so_far c.loop-number.invariant.knows.goes_on in
@@ -25,7 +25,7 @@ join_behind-joined-requires-clause-so_far g c κs within =
 
 pub loop-number-preserved : goal.loop-number-preserved
 loop-number-preserved g c =
-    let o = g.K.Body.operations (g.K.Body.meaning c.args.body.now) in
+    let o = g.K.Body.operations c.args.body.now in
     let edits = c.args.view.cells.now.journal in
     let first = c.args.first in
     let number = c.loop-number.number in

@@ -8,7 +8,7 @@ abbrev pub invariant-loop-number : goal.invariant-loop-number
 invariant-loop-number g l = record {
   low : l.fn.first.number ≤ l.number;
   high : l.number ≤ l.end;
-  knows : KnowsRun (g.K.Body.operations (g.K.Body.meaning l.body)) l.view.cells.now.journal g.K.OfSix.bit l.first l.number l.fn.value l.sum l.initial.flags l.flags l.initial.rows l.rows;
+  knows : KnowsRun (g.K.Body.operations l.body) l.view.cells.now.journal g.K.OfSix.bit l.first l.number l.fn.value l.sum l.initial.flags l.flags l.initial.rows l.rows;
 }
 
 -- what is left of the run

@@ -17,18 +17,18 @@ read-requires g c =
 
 pub fold_more-value-requires-after_bounds : goal.fold_more-value-requires-after_bounds
 fold_more-value-requires-after_bounds g c κs within =
-    let meaning = g.K.Body.meaning c.args.body.now in
-    let o = g.K.Body.operations meaning in
+    let body = c.args.body.now in
+    let o = g.K.Body.operations body in
     let edits = c.args.view.cells.now.journal in
     let here : KindWalk g.row.K-S.Denot = record { lo = c.args.walk.lo; hi = c.args.walk.hi; at = c.loop-at.at; value = c.loop-at.value } in
     let some = cells_inside c.args.walk.at c.args.walk.hi c.run_end-end.result c.loop-at.at c.run_end-end.ensures (omega arith) c.loop-at-test.true in
-    passing_can_grow o (g.K.Body.is_within meaning) (g.K.Body.laws c.args.body.now) edits (can_fold c.args.view.cells.now c.size-size.ensures.limits) g.K.OfSix.bit
+    passing_can_grow o (g.K.Body.is_within body) (g.K.Body.laws c.args.body.now) edits (can_fold c.args.view.cells.now c.size-size.ensures.limits) g.K.OfSix.bit
     c.args.walk.lo c.args.walk.hi c.loop-at.at c.loop-at.value c.args.flags.now (stands_passes o edits g.K.OfSix.bit here c.args.flags.now c.args.rows.now c.loop-at.invariant) c.loop-at.invariant.inside c.loop-at.invariant.fold some
 
 pub loop-at-preserved : goal.loop-at-preserved
 loop-at-preserved g c =
-    let meaning = g.K.Body.meaning c.args.body.now in
-    let o = g.K.Body.operations meaning in
+    let body = c.args.body.now in
+    let o = g.K.Body.operations body in
     let edits = c.args.view.cells.now.journal in
     let xs = list_of edits in
     let bit = g.K.OfSix.bit in
@@ -45,7 +45,7 @@ loop-at-preserved g c =
 
 pub returns : goal.returns
 returns g c =
-    let o = g.K.Body.operations (g.K.Body.meaning c.args.body.now) in
+    let o = g.K.Body.operations c.args.body.now in
     let edits = c.args.view.cells.now.journal in
     let all : c.loop-at.at ≡ c.run_end-end.result = omega arith in
     let stands = subst (λ at. StandsBy o edits g.K.OfSix.bit (record { lo = c.args.walk.lo; hi = c.args.walk.hi; at = at; value = c.loop-at.value }) c.args.flags.now c.args.rows.now) all c.loop-at.invariant in

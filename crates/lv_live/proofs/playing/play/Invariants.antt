@@ -6,7 +6,7 @@ use Rattle.lv_live.proofs.playing.play.Given as goal
 
 abbrev pub invariant-loop-event : goal.invariant-loop-event
 invariant-loop-event g l =
-    let o = g.B.Body.operations (g.B.Body.meaning l.initial.live.body) in
+    let o = g.B.Body.operations l.initial.live.body in
     Plays o l.initial.live.history.limits (with_issued l.initial.live l.initial.issued.jobs) (take l.event-index l.events) l.initial.replies.items l.replies.items l.live l.issued.jobs
     × SameSetting l.initial.live l.live
     × (length l.events - l.event-index ≤ l.issued.room)

@@ -4,5 +4,5 @@ use Rattle.lv_refresh.proofs.HonestyLaws.{vouched_of_honest}
 use Rattle.lv_live.proofs.theorems.honest_outcomes_are_vouched_for.Goals as goal
 
 pub returns : goal.returns
-returns g c = λ m other r n v contents same legal honest whole touched.
-    (same, vouched_of_honest (g.B.Body.operations m) r n v contents (list_of_legal r.edits legal) honest whole touched)
+returns g c = λ body other r n v contents same legal honest whole touched.
+    (same, vouched_of_honest (g.B.Body.operations body) r n v contents (list_of_legal r.edits legal) honest whole touched)

@@ -4,5 +4,5 @@ use Rattle.lv_live.proofs.HonestSteps.{honest_after_step}
 use Rattle.lv_live.proofs.theorems.honesty_lasts.Goals as goal
 
 pub returns : goal.returns
-returns g c = λ m limits r next event answered n v contents legal step honest.
-    honest_after_step (g.B.Body.operations m) n v contents limits r next event answered (list_of_legal r.edits legal) step honest
+returns g c = λ body limits r next event answered n v contents legal step honest.
+    honest_after_step (g.B.Body.operations body) n v contents limits r next event answered (list_of_legal r.edits legal) step honest

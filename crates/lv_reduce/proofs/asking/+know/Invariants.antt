@@ -11,5 +11,5 @@ decreases-know g l = l.node.level
 -- so many children were asked
 abbrev pub invariant-loop-k : goal.invariant-loop-k
 invariant-loop-k g l =
-    let meaning = g.B.Body.meaning l.body in
-    (can : CanFold (list_of l.history.journal)) × Gathers (g.B.Body.operations meaning) (g.B.Body.is_within meaning) (g.B.Body.laws l.body) l.history.journal can l.initial.table l.table l.node l.k l.summary l.cells_read l.summaries_read
+    let body = l.body in
+    (can : CanFold (list_of l.history.journal)) × Gathers (g.B.Body.operations body) (g.B.Body.is_within body) (g.B.Body.laws l.body) l.history.journal can l.initial.table l.table l.node l.k l.summary l.cells_read l.summaries_read

@@ -6,7 +6,7 @@ use Rattle.lv_reduce.proofs.asking.ask.Given as goal
 -- the walk has come so far
 abbrev pub invariant-loop-at : goal.invariant-loop-at
 invariant-loop-at g l =
-    Asks (g.B.Body.operations (g.B.Body.meaning l.body)) l.history.journal l.initial.table l.table l.lo l.hi l.at l.value l.cells_read l.summaries_read
+    Asks (g.B.Body.operations l.body) l.history.journal l.initial.table l.table l.lo l.hi l.at l.value l.cells_read l.summaries_read
 
 -- what is left of the range
 abbrev pub decreases-loop-at : goal.decreases-loop-at

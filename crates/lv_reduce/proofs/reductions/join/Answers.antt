@@ -7,6 +7,6 @@ returns-clause-value g c = c.combine.ensures
 
 pub returns-clause-within : goal.returns-clause-within
 returns-clause-within g c n m first second few =
-    let meaning = g.B.Body.meaning c.args.body.now in
-    subst (λ s. g.B.Body.is_within meaning s (n + m)) (sym c.combine.ensures)
+    let body = c.args.body.now in
+    subst (λ s. g.B.Body.is_within body s (n + m)) (sym c.combine.ensures)
     ((g.B.Body.laws c.args.body.now).join_within c.args.sum c.args.more n m first second few)

@@ -16,23 +16,23 @@ use Rattle.lv_reduce.proofs.reductions.reduce.Goals as goal
 
 pub loop-at-init : goal.loop-at-init
 loop-at-init g c =
-    let meaning = g.B.Body.meaning c.args.body.now in
+    let body = c.args.body.now in
     let nothing : 0 ≡ c.args.lo - c.args.lo = omega arith in
     record {
       walk = walk_starts (fresh_in c.args.view.table.now) c.args.lo c.args.hi c.in_default.ensures.order;
-      fold = c.identity-value.ensures ∙ slice-nothing (g.B.Body.operations meaning) (list_of c.args.view.cells.now.journal) c.args.lo;
-      within = subst (λ n. g.B.Body.is_within meaning c.identity-value.result n) nothing (subst (λ s. g.B.Body.is_within meaning s 0) (sym c.identity-value.ensures) (g.B.Body.laws c.args.body.now).identity_within);
+      fold = c.identity-value.ensures ∙ slice-nothing (g.B.Body.operations body) (list_of c.args.view.cells.now.journal) c.args.lo;
+      within = subst (λ n. g.B.Body.is_within body c.identity-value.result n) nothing (subst (λ s. g.B.Body.is_within body s 0) (sym c.identity-value.ensures) (g.B.Body.laws c.args.body.now).identity_within);
     }
 
 pub join-value-requires-after_bounds : goal.join-value-requires-after_bounds
 join-value-requires-after_bounds g c = λ _ _.
-    let meaning = g.B.Body.meaning c.args.body.now in
-    let o = g.B.Body.operations meaning in
+    let body = c.args.body.now in
+    let o = g.B.Body.operations body in
     let edits = c.args.view.cells.now.journal in
     let at = c.loop-at.at in
     let piece = c.in-Some-greatest_fresh.ensures.some in
     let level = c.in-Some-greatest_fresh.piece.level in
-    slices_can_join o (g.B.Body.is_within meaning) (g.B.Body.laws c.args.body.now) (list_of edits) (can_fold c.args.view.cells.now c.refusal_of.ensures.limits)
+    slices_can_join o (g.B.Body.is_within body) (g.B.Body.laws c.args.body.now) (list_of edits) (can_fold c.args.view.cells.now c.refusal_of.ensures.limits)
     c.args.lo at (at + 8 ^ level) c.loop-at.invariant.walk.low (omega arith) (omega (arith, piece.fits.ends, c.in_default.ensures.inside))
     c.loop-at.value c.in-Some-greatest_fresh.piece.summary c.loop-at.invariant.fold
     (piece_folds o edits c.args.view.table.now at c.args.hi level c.in-Some-greatest_fresh.piece.summary c.requires piece)
@@ -45,15 +45,15 @@ loop-at-smaller-in-Some-greatest_fresh g c =
 pub loop-at-preserved-in-Some-greatest_fresh : goal.loop-at-preserved-in-Some-greatest_fresh
 loop-at-preserved-in-Some-greatest_fresh g c =
     let fresh = fresh_in c.args.view.table.now in
-    let meaning = g.B.Body.meaning c.args.body.now in
-    let o = g.B.Body.operations meaning in
+    let body = c.args.body.now in
+    let o = g.B.Body.operations body in
     let edits = c.args.view.cells.now.journal in
     let lo = c.args.lo in
     let at = c.loop-at.at in
     let summary = c.in-Some-greatest_fresh.piece.summary in
     let level = c.in-Some-greatest_fresh.piece.level in
     let piece = c.in-Some-greatest_fresh.ensures.some in
-    let within = g.B.Body.is_within meaning in
+    let within = g.B.Body.is_within body in
     let laws = g.B.Body.laws c.args.body.now in
     let can = can_fold c.args.view.cells.now c.refusal_of.ensures.limits in
     let inside : at + 8 ^ level ≤ length (list_of edits) = omega (arith, piece.fits.ends, c.in_default.ensures.inside) in
@@ -69,8 +69,8 @@ loop-at-preserved-in-Some-greatest_fresh g c =
 pub loop-at-preserved : goal.loop-at-preserved
 loop-at-preserved g c =
     let fresh = fresh_in c.args.view.table.now in
-    let meaning = g.B.Body.meaning c.args.body.now in
-    let o = g.B.Body.operations meaning in
+    let body = c.args.body.now in
+    let o = g.B.Body.operations body in
     let edits = c.args.view.cells.now.journal in
     let xs = list_of edits in
     let lo = c.args.lo in
@@ -83,7 +83,7 @@ loop-at-preserved g c =
     record {
       walk = walk_cell fresh lo c.args.hi at c.loop-at.cells_read c.loop-at.summaries_read 0 c.loop-at.invariant.walk (omega arith) (cell_fits at c.args.hi c.loop-at-test.true) c.in_default-greatest_fresh.ensures.none refl c.loop-at-test.true;
       fold = fold_of-slice-more o xs lo at x low small c.read.ensures.value c.loop-at.value c.fold_more-value.result _ (to_z-of_z w64 x fits) c.loop-at.invariant.fold c.fold_more-value.ensures.value;
-      within = subst (λ n. g.B.Body.is_within meaning c.fold_more-value.result n) place (c.fold_more-value.ensures.within (at - lo) c.loop-at.invariant.within (omega (arith, c.refusal_of.ensures.limits.few)));
+      within = subst (λ n. g.B.Body.is_within body c.fold_more-value.result n) place (c.fold_more-value.ensures.within (at - lo) c.loop-at.invariant.within (omega (arith, c.refusal_of.ensures.limits.few)));
     }
 
 pub returns-clause-cost : goal.returns-clause-cost

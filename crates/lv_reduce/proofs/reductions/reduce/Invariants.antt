@@ -9,12 +9,12 @@ use Rattle.lv_reduce.proofs.reductions.reduce.Given as goal
 -- the walk has come so far, with the fold of what is before
 abbrev pub invariant-loop-at : goal.invariant-loop-at
 invariant-loop-at g l =
-    let meaning = g.B.Body.meaning l.body in
-    let o = g.B.Body.operations meaning in
+    let body = l.body in
+    let o = g.B.Body.operations body in
     record {
       walk : IsWalk (fresh_in l.view.table.now) l.lo l.hi l.at l.cells_read l.summaries_read;
       fold : l.value ≡ fold_of o (slice_of l.view.cells.now.journal l.lo l.at);
-      within : g.B.Body.is_within meaning l.value (l.at - l.lo);
+      within : g.B.Body.is_within body l.value (l.at - l.lo);
     }
 
 -- what is left of the range

@@ -10,7 +10,7 @@ use Rattle.lv_reduce.proofs.rows.fold_on.Goals as goal
 
 pub loop-x-init : goal.loop-x-init
 loop-x-init g c =
-    let within = g.B.Body.is_within (g.B.Body.meaning c.args.body.now) in
+    let within = g.B.Body.is_within c.args.body.now in
     let none : c.requires.count ≡ c.requires.count + 0 = omega arith in
     record {
       sum = refl;
@@ -24,8 +24,8 @@ fold_more-sum-requires-after_bounds g c κs within =
 
 pub loop-x-preserved : goal.loop-x-preserved
 loop-x-preserved g c =
-    let meaning = g.B.Body.meaning c.args.body.now in
-    let o = g.B.Body.operations meaning in
+    let body = c.args.body.now in
+    let o = g.B.Body.operations body in
     let xs = c.args.xs.now in
     let k = c.loop-x.x-index in
     let x = slice_index_or xs k (pos 0) in
@@ -37,10 +37,10 @@ loop-x-preserved g c =
     let place : can.0 + k + 1 ≡ can.0 + (k + 1) = omega arith in
     record {
       sum = reached-more o c.args.before xs k x (pos 0) small refl c.loop-x.sum next c.loop-x.invariant.sum joined;
-      can = (can.0, subst (g.B.Body.is_within meaning next) place (c.fold_more-sum.ensures.within (can.0 + k) can.1 (omega (arith, can.2))), can.2);
+      can = (can.0, subst (g.B.Body.is_within body next) place (c.fold_more-sum.ensures.within (can.0 + k) can.1 (omega (arith, can.2))), can.2);
     }
 
 pub returns : goal.returns
 returns g c =
-    let o = g.B.Body.operations (g.B.Body.meaning c.args.body.now) in
+    let o = g.B.Body.operations c.args.body.now in
     c.loop-x.invariant.sum ∙ ap (reached o c.args.before) (take_all c.loop-x.x-index c.args.xs.now (omega arith))

@@ -6,8 +6,8 @@ use Rattle.lv_reduce.proofs.rows.fold_on.Given as goal
 -- what the elements so far lead to, which may take the rest
 abbrev pub invariant-loop-x : goal.invariant-loop-x
 invariant-loop-x g l =
-    let meaning = g.B.Body.meaning l.body in
+    let body = l.body in
     record {
-      sum : l.sum ≡ reached (g.B.Body.operations meaning) l.fn.before (take l.x-index l.xs);
-      can : (n : ℕ) × g.B.Body.is_within meaning l.sum (n + l.x-index) × (n + length l.xs ≤ 2 ^ 20);
+      sum : l.sum ≡ reached (g.B.Body.operations body) l.fn.before (take l.x-index l.xs);
+      can : (n : ℕ) × g.B.Body.is_within body l.sum (n + l.x-index) × (n + length l.xs ≤ 2 ^ 20);
     }

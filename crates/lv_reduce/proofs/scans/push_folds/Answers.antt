@@ -11,7 +11,7 @@ use Rattle.lv_reduce.proofs.scans.push_folds.Goals.{then-inclusive, else-inclusi
 
 pub loop-x-init : goal.loop-x-init
 loop-x-init g c =
-    let within = g.B.Body.is_within (g.B.Body.meaning c.args.body.now) in
+    let within = g.B.Body.is_within c.args.body.now in
     let none : c.requires.can.count ≡ c.requires.can.count + 0 = omega arith in
     record {
       sum = refl;
@@ -28,8 +28,8 @@ fold_more-sum-requires-after_bounds g c κs within =
 
 pub loop-x-preserved : goal.loop-x-preserved
 loop-x-preserved g c =
-    let meaning = g.B.Body.meaning c.args.body.now in
-    let o = g.B.Body.operations meaning in
+    let body = c.args.body.now in
+    let o = g.B.Body.operations body in
     let xs = c.args.xs.now in
     let k = c.loop-x.x-index in
     let x = slice_index_or xs k (pos 0) in
@@ -56,17 +56,17 @@ loop-x-preserved g c =
           ∙ ap (λ ys. ys ++ value ∷ []) c.loop-x.invariant.values
           ∙ append_assoc old front (value ∷ [])
           ∙ ap (λ ys. old ++ ys) gone.1;
-      can = (can.0, subst (g.B.Body.is_within meaning next) place (c.fold_more-sum.ensures.within (can.0 + k) can.1 (omega (arith, can.2))), can.2);
+      can = (can.0, subst (g.B.Body.is_within body next) place (c.fold_more-sum.ensures.within (can.0 + k) can.1 (omega (arith, can.2))), can.2);
       count = omega (arith, c.push_reserved.ensures.len, c.loop-x.invariant.count);
       capacity = c.push_reserved.ensures.capacity ∙ c.loop-x.invariant.capacity;
     }
 
 pub returns-clause-values : goal.returns-clause-values
 returns-clause-values g c =
-    let o = g.B.Body.operations (g.B.Body.meaning c.args.body.now) in
+    let o = g.B.Body.operations c.args.body.now in
     c.loop-x.invariant.values ∙ ap (λ front. c.args.values.now.items ++ scan_from c.args.inclusive o c.args.before front) (take_all c.loop-x.x-index c.args.xs.now (omega arith))
 
 pub returns-clause-sum : goal.returns-clause-sum
 returns-clause-sum g c =
-    let o = g.B.Body.operations (g.B.Body.meaning c.args.body.now) in
+    let o = g.B.Body.operations c.args.body.now in
     c.loop-x.invariant.sum ∙ ap (reached o c.args.before) (take_all c.loop-x.x-index c.args.xs.now (omega arith))

@@ -7,7 +7,7 @@ use Rattle.lv_reduce.proofs.scans.running_folds.Given as goal
 -- the scan and the fold of what was read so far, with room for the rest
 abbrev pub invariant-loop-at : goal.invariant-loop-at
 invariant-loop-at g l =
-    let o = g.B.Body.operations (g.B.Body.meaning l.body) in
+    let o = g.B.Body.operations l.body in
     record {
       low : l.lo ≤ l.at;
       high : l.at ≤ l.hi;

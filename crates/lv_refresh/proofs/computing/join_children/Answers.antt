@@ -9,7 +9,7 @@ use Rattle.lv_refresh.proofs.computing.join_children.Goals as goal
 
 pub loop-k-init : goal.loop-k-init
 loop-k-init g c =
-    joins_none (g.B.Body.operations (g.B.Body.meaning c.args.body.now)) c.args.history.now.journal c.args.node c.identity-sum.result c.identity-sum.ensures
+    joins_none (g.B.Body.operations c.args.body.now) c.args.history.now.journal c.args.node c.identity-sum.result c.identity-sum.ensures
 
 pub child-requires-clause-fits : goal.child-requires-clause-fits
 child-requires-clause-fits g c =
@@ -18,23 +18,23 @@ child-requires-clause-fits g c =
 pub summary-requires : goal.summary-requires
 summary-requires g c =
     ap (fresh_in c.args.table.now) c.child.ensures
-    ∙ child_is_fresh (g.B.Body.operations (g.B.Body.meaning c.args.body.now)) c.args.history.now.journal c.args.table.now c.requires.agrees c.args.node c.loop-k.k c.requires.above c.requires.ready c.loop-k-test.true
+    ∙ child_is_fresh (g.B.Body.operations c.args.body.now) c.args.history.now.journal c.args.table.now c.requires.agrees c.args.node c.loop-k.k c.requires.above c.requires.ready c.loop-k-test.true
 
 pub combine-sum-requires : goal.combine-sum-requires
 combine-sum-requires g c =
-    joins_can (g.B.Body.operations (g.B.Body.meaning c.args.body.now)) c.args.history.now.journal c.args.table.now c.requires.agrees
-    (g.B.Body.is_within (g.B.Body.meaning c.args.body.now)) (g.B.Body.laws c.args.body.now) (can_fold c.args.history.now c.size-size.ensures.limits)
+    joins_can (g.B.Body.operations c.args.body.now) c.args.history.now.journal c.args.table.now c.requires.agrees
+    (g.B.Body.is_within c.args.body.now) (g.B.Body.laws c.args.body.now) (can_fold c.args.history.now c.size-size.ensures.limits)
     c.args.node c.loop-k.k c.loop-k.sum c.summary.result c.requires.above c.loop-k.invariant
     (sym (ap (entry_in c.args.table.now) c.child.ensures) ∙ c.summary.ensures)
 
 pub loop-k-preserved : goal.loop-k-preserved
 loop-k-preserved g c =
-    joins_more (g.B.Body.operations (g.B.Body.meaning c.args.body.now)) c.args.history.now.journal c.args.table.now c.requires.agrees
-    (g.B.Body.is_within (g.B.Body.meaning c.args.body.now)) (g.B.Body.laws c.args.body.now) (can_fold c.args.history.now c.size-size.ensures.limits)
+    joins_more (g.B.Body.operations c.args.body.now) c.args.history.now.journal c.args.table.now c.requires.agrees
+    (g.B.Body.is_within c.args.body.now) (g.B.Body.laws c.args.body.now) (can_fold c.args.history.now c.size-size.ensures.limits)
     c.args.node c.loop-k.k c.loop-k.sum c.summary.result c.combine-sum.result c.requires.above c.loop-k.invariant
     (sym (ap (entry_in c.args.table.now) c.child.ensures) ∙ c.summary.ensures) c.combine-sum.ensures
 
 pub returns : goal.returns
 returns g c =
     let all : c.loop-k.k ≡ 8 = omega (arith, c.loop-k.auto.k-end, c.loop-k-test.false) in
-    joins_all (g.B.Body.operations (g.B.Body.meaning c.args.body.now)) c.args.history.now.journal c.args.node c.loop-k.sum c.requires.above (rw all at c.loop-k.invariant)
+    joins_all (g.B.Body.operations c.args.body.now) c.args.history.now.journal c.args.node c.loop-k.sum c.requires.above (rw all at c.loop-k.invariant)

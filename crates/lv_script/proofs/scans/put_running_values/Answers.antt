@@ -38,8 +38,8 @@ returns-in_err-put_scanned-clause-fault g c =
 pub loop-i-preserved : goal.loop-i-preserved
 loop-i-preserved g c =
     let places = c.put_scanned.ensures.places in
-    let meaning = g.B.Body.meaning c.args.body.now in
-    let o = g.B.Body.operations meaning in
+    let body = c.args.body.now in
+    let o = g.B.Body.operations body in
     let history = c.args.live.now.history in
     let list = list_of history.journal in
     let lo = c.args.asked.now.lo in
@@ -64,7 +64,7 @@ loop-i-preserved g c =
     c.args.asked.now.inclusive c.loop-i.sum c.fold_more-sum.result c.loop-i.invariant.fold fold chosen in
     record {
       fold = fold;
-      within = subst (λ n. g.B.Body.is_within meaning c.fold_more-sum.result n) place (c.fold_more-sum.ensures.within (i - lo) c.loop-i.invariant.within (omega (arith, c.requires.limits.few)));
+      within = subst (λ n. g.B.Body.is_within body c.fold_more-sum.result n) place (c.fold_more-sum.ensures.within (i - lo) c.loop-i.invariant.within (omega (arith, c.requires.limits.few)));
       written = Writes-next (value_at plain c.args.asked.now.inclusive xs) lo hi (length xs) long i c.show_fold.result low c.loop-i-test.true c.loop-i.invariant.written shown c.in_ok-put_scanned.ensures.ok;
       places = (places.0 ∙ c.loop-i.invariant.places.0, places.1 ∙ c.loop-i.invariant.places.1);
     }

@@ -9,12 +9,12 @@ use Rattle.lv_script.proofs.scans.put_running_values.Given as goal
 -- the fold of what was read so far, whose values are written
 abbrev pub invariant-loop-i : goal.invariant-loop-i
 invariant-loop-i g l =
-    let meaning = g.B.Body.meaning l.body in
+    let body = l.body in
     let edits = l.live.history.journal in
     let xs = slice_of edits l.asked.lo l.asked.hi in
     record {
-      fold : l.sum ≡ fold_of (g.B.Body.operations meaning) (slice_of edits l.asked.lo l.i);
-      within : g.B.Body.is_within meaning l.sum (l.i - l.asked.lo);
+      fold : l.sum ≡ fold_of (g.B.Body.operations body) (slice_of edits l.asked.lo l.i);
+      within : g.B.Body.is_within body l.sum (l.i - l.asked.lo);
       written : Puts g.W.Write.contents l.initial.outbox l.outbox
           (values_up_to (value_at (g.B.Single.plain l.body) l.asked.inclusive xs) (length xs) (l.i - l.asked.lo));
       places : SamePlaces l.initial.outbox l.outbox;

@@ -5,5 +5,5 @@ use Rattle.lv_series.proofs.ages.accept_vetted.Goals as goal
 pub returns-clause-part : goal.returns-clause-part
 returns-clause-part g c = λ taken.
     let live = c.args.live.now in
-    let m = g.B.Body.meaning live.body in
-    part_of_taken (g.B.Body.operations m) (g.B.Body.is_within m) (g.B.Body.laws live.body) live c.requires c.args.outcome _ c.accept.result (c.vet.ensures.0 c.if-not-vet.false) c.accept.ensures.accepted taken
+    let body = live.body in
+    part_of_taken (g.B.Body.operations body) (g.B.Body.is_within body) (g.B.Body.laws live.body) live c.requires c.args.outcome _ c.accept.result (c.vet.ensures.0 c.if-not-vet.false) c.accept.ensures.accepted taken

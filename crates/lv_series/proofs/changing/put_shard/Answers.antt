@@ -11,7 +11,7 @@ put_sum-requires-clause-number g c = λ _ _. omega (arith, c.requires.number, c.
 pub put_sum-requires-clause-folds : goal.put_sum-requires-clause-folds
 put_sum-requires-clause-folds g c = λ _ _.
     let sums = c.args.sums.now in
-    subst (λ sum. AreFolds (g.B.Body.operations (g.B.Body.meaning sums.body)) (slice_set sums.sums c.args.number sum)) (sym c.sum-sum.ensures.value) c.requires.folds
+    subst (λ sum. AreFolds (g.B.Body.operations sums.body) (slice_set sums.sums c.args.number sum)) (sym c.sum-sum.ensures.value) c.requires.folds
 
 pub returns-clause-put : goal.returns-clause-put
 returns-clause-put g c =

@@ -14,12 +14,12 @@ pub put_sum-requires-clause-folds : goal.put_sum-requires-clause-folds
 put_sum-requires-clause-folds g c = λ _ _.
     let s = c.index_mut.result.now in
     let sums = c.args.sums.now in
-    subst (λ sum. AreFolds (g.B.Body.operations (g.B.Body.meaning sums.body)) (slice_set sums.sums c.args.number sum)) (sym (sum_put (λ b h. sum_of (g.B.Body.operations (g.B.Body.meaning b)) h) c.args.full.now.items c.args.number s c.swap_one.new.shard c.in_ok-sum.sum (λ xs. swap xs c.args.first c.args.second) c.requires.number c.index_mut.ensures.value c.in_ok-sum.ensures.ok c.in_ok-sum.ensures.sum (held_by s)))
+    subst (λ sum. AreFolds (g.B.Body.operations sums.body) (slice_set sums.sums c.args.number sum)) (sym (sum_put (λ b h. sum_of (g.B.Body.operations b) h) c.args.full.now.items c.args.number s c.swap_one.new.shard c.in_ok-sum.sum (λ xs. swap xs c.args.first c.args.second) c.requires.number c.index_mut.ensures.value c.in_ok-sum.ensures.ok c.in_ok-sum.ensures.sum (held_by s)))
     (c.requires.folds (held_by s))
 
 pub returns-clause-ok : goal.returns-clause-ok
 returns-clause-ok g c = λ d.
-    is_put (λ b h. sum_of (g.B.Body.operations (g.B.Body.meaning b)) h) c.args.full.now.items c.args.number c.index_mut.result.now c.swap_one.new.shard c.in_ok-sum.sum (λ xs. swap xs c.args.first c.args.second) c.requires.number c.index_mut.ensures.value c.in_ok-sum.ensures.ok c.in_ok-sum.ensures.sum c.args.sums.now.sums c.put_sum.new.sums.sums d c.put_sum.ensures.sums
+    is_put (λ b h. sum_of (g.B.Body.operations b) h) c.args.full.now.items c.args.number c.index_mut.result.now c.swap_one.new.shard c.in_ok-sum.sum (λ xs. swap xs c.args.first c.args.second) c.requires.number c.index_mut.ensures.value c.in_ok-sum.ensures.ok c.in_ok-sum.ensures.sum c.args.sums.now.sums c.put_sum.new.sums.sums d c.put_sum.ensures.sums
 
 pub swap_one-requires-clause-first : goal.swap_one-requires-clause-first
 swap_one-requires-clause-first g c = λ _ _.

@@ -9,7 +9,7 @@ returns-clause-ok g c = c.sum.ensures.same ∙ c.in_ok-swap.ensures.ok
 
 pub returns-clause-sum : goal.returns-clause-sum
 returns-clause-sum g c =
-    let o = g.B.Body.operations (g.B.Body.meaning c.args.shard.now.live.body) in
+    let o = g.B.Body.operations c.args.shard.now.live.body in
     c.sum.ensures.value
-    ∙ ap (λ b. sum_of (g.B.Body.operations (g.B.Body.meaning b)) (held_by c.swap.new.self)) (ap (λ t. t.body) c.in_ok-swap.ensures.ok)
+    ∙ ap (λ b. sum_of (g.B.Body.operations b) (held_by c.swap.new.self)) (ap (λ t. t.body) c.in_ok-swap.ensures.ok)
     ∙ ap (sum_of o) (sym c.sum.ensures.same)

@@ -15,12 +15,12 @@ pub put_sum-requires-clause-folds : goal.put_sum-requires-clause-folds
 put_sum-requires-clause-folds g c = λ _ _.
     let s = c.index_mut.result.now in
     let sums = c.args.sums.now in
-    subst (λ sum. AreFolds (g.B.Body.operations (g.B.Body.meaning sums.body)) (slice_set sums.sums c.args.number sum)) (sym (sum_put (λ b h. sum_of (g.B.Body.operations (g.B.Body.meaning b)) h) c.args.full.now.items c.args.number s c.write_one.new.shard c.in_ok-sum.sum (λ xs. slice_set xs c.args.index c.args.value) c.requires.number c.index_mut.ensures.value (rw (to_z-of_z w64 c.args.value c.ranges.value) at c.in_ok-sum.ensures.ok) c.in_ok-sum.ensures.sum (held_by s)))
+    subst (λ sum. AreFolds (g.B.Body.operations sums.body) (slice_set sums.sums c.args.number sum)) (sym (sum_put (λ b h. sum_of (g.B.Body.operations b) h) c.args.full.now.items c.args.number s c.write_one.new.shard c.in_ok-sum.sum (λ xs. slice_set xs c.args.index c.args.value) c.requires.number c.index_mut.ensures.value (rw (to_z-of_z w64 c.args.value c.ranges.value) at c.in_ok-sum.ensures.ok) c.in_ok-sum.ensures.sum (held_by s)))
     (c.requires.folds (held_by s))
 
 pub returns-clause-ok : goal.returns-clause-ok
 returns-clause-ok g c = λ d.
-    is_put (λ b h. sum_of (g.B.Body.operations (g.B.Body.meaning b)) h) c.args.full.now.items c.args.number c.index_mut.result.now c.write_one.new.shard c.in_ok-sum.sum (λ xs. slice_set xs c.args.index c.args.value) c.requires.number c.index_mut.ensures.value (rw (to_z-of_z w64 c.args.value c.ranges.value) at c.in_ok-sum.ensures.ok) c.in_ok-sum.ensures.sum c.args.sums.now.sums c.put_sum.new.sums.sums d c.put_sum.ensures.sums
+    is_put (λ b h. sum_of (g.B.Body.operations b) h) c.args.full.now.items c.args.number c.index_mut.result.now c.write_one.new.shard c.in_ok-sum.sum (λ xs. slice_set xs c.args.index c.args.value) c.requires.number c.index_mut.ensures.value (rw (to_z-of_z w64 c.args.value c.ranges.value) at c.in_ok-sum.ensures.ok) c.in_ok-sum.ensures.sum c.args.sums.now.sums c.put_sum.new.sums.sums d c.put_sum.ensures.sums
 
 pub write_one-requires-after_bounds : goal.write_one-requires-after_bounds
 write_one-requires-after_bounds g c = λ _ _.

@@ -11,7 +11,7 @@ returns-clause-ok g c = c.sum.ensures.same ∙ (rw (to_z-of_z w64 c.args.value c
 
 pub returns-clause-sum : goal.returns-clause-sum
 returns-clause-sum g c =
-    let o = g.B.Body.operations (g.B.Body.meaning c.args.shard.now.live.body) in
+    let o = g.B.Body.operations c.args.shard.now.live.body in
     c.sum.ensures.value
-    ∙ ap (λ b. sum_of (g.B.Body.operations (g.B.Body.meaning b)) (held_by c.write.new.self)) (ap (λ t. t.body) c.in_ok-write.ensures.ok)
+    ∙ ap (λ b. sum_of (g.B.Body.operations b) (held_by c.write.new.self)) (ap (λ t. t.body) c.in_ok-write.ensures.ok)
     ∙ ap (sum_of o) (sym c.sum.ensures.same)

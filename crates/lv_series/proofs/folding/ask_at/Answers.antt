@@ -16,7 +16,7 @@ pub returns-then-number-len-clause-value : goal.returns-then-number-len-clause-v
 returns-then-number-len-clause-value g c =
     let xs = c.args.full.now.items in
     let here : c.args.number < length xs = omega (arith, c.if-number-len.true, c.len.ensures, c.args.full.now.ok.0) in
-    c.ask.ensures.value ∙ ap (λ h. fold_of (g.B.Body.operations (g.B.Body.meaning h.body)) (slice_range h.elements c.args.lo c.args.hi)) (held_read xs c.args.number c.index_mut.result.now (held_by c.args.tail.now) here c.index_mut.ensures.value)
+    c.ask.ensures.value ∙ ap (λ h. fold_of (g.B.Body.operations h.body) (slice_range h.elements c.args.lo c.args.hi)) (held_read xs c.args.number c.index_mut.result.now (held_by c.args.tail.now) here c.index_mut.ensures.value)
 
 pub returns-then-number-len-clause-full : goal.returns-then-number-len-clause-full
 returns-then-number-len-clause-full g c = held_same c.args.full.now.items c.args.number c.index_mut.result.now c.ask.new.self c.index_mut.ensures.value c.ask.ensures.same
@@ -31,4 +31,4 @@ pub returns-clause-value : goal.returns-clause-value
 returns-clause-value g c =
     let xs = c.args.full.now.items in
     let last = get_or_past (held_by_each xs) c.args.number (held_by c.args.tail.now) (omega (arith, c.if-number-len.false, c.len.ensures, c.args.full.now.ok.0, length_held xs)) in
-    c.ask-2.ensures.value ∙ ap (λ h. fold_of (g.B.Body.operations (g.B.Body.meaning h.body)) (slice_range h.elements c.args.lo c.args.hi)) (sym last)
+    c.ask-2.ensures.value ∙ ap (λ h. fold_of (g.B.Body.operations h.body) (slice_range h.elements c.args.lo c.args.hi)) (sym last)

@@ -5,7 +5,7 @@ use Rattle.lv_series.proofs.keeping.keep_up.Goals as goal
 
 pub returns-then-are_none : goal.returns-then-are_none
 returns-then-are_none g c =
-    none_at (g.B.Body.operations (g.B.Body.meaning c.args.live.now.body)) (list_of c.args.live.now.history.journal) c.args.rows.now.parts.items c.args.rows.now.groups.items
+    none_at (g.B.Body.operations c.args.live.now.body) (list_of c.args.live.now.history.journal) c.args.rows.now.parts.items c.args.rows.now.groups.items
     (c.are_none.ensures.parts c.if-are_none.true) (c.are_none.ensures.groups c.if-are_none.true)
 
 pub follow_rows-requires-clause-parts : goal.follow_rows-requires-clause-parts

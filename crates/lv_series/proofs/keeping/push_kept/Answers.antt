@@ -5,5 +5,5 @@ use Rattle.lv_series.proofs.keeping.push_kept.Goals as goal
 
 pub returns-clause-rows : goal.returns-clause-rows
 returns-clause-rows g c =
-    rows_pushed (λ b. g.B.Body.operations (g.B.Body.meaning b)) c.make_pushes.result (holding_of c.args.live.now) (holding_of c.make_pushes.new.live) c.args.values.now
+    rows_pushed g.B.Body.operations c.make_pushes.result (holding_of c.args.live.now) (holding_of c.make_pushes.new.live) c.args.values.now
     c.args.rows.now.parts.items c.args.rows.now.groups.items c.make_pushes.ensures.body c.make_pushes.ensures.ok c.make_pushes.ensures.err c.requires.rows

@@ -10,11 +10,11 @@ use Rattle.lv_series.proofs.rounds.accept_in.Goals as goal
 pub returns-clause-receives : goal.returns-clause-receives
 returns-clause-receives g c =
     let outcome = c.args.outcome in
-    only_set (λ old new. TakesIn (g.B.Body.operations (g.B.Body.meaning old.live.body)) (g.B.Body.meaning old.live.body ≡ g.B.Body.meaning outcome.job.body) outcome.age outcome.job c.accept.result old new) c.args.full.now.items _ c.args.index c.index_mut.result.now c.accept.new.self c.requires c.index_mut.ensures.value refl c.accept.ensures.held
+    only_set (λ old new. TakesIn (g.B.Body.operations old.live.body) (g.B.Body.meaning old.live.body ≡ g.B.Body.meaning outcome.job.body) outcome.age outcome.job c.accept.result old new) c.args.full.now.items _ c.args.index c.index_mut.result.now c.accept.new.self c.requires c.index_mut.ensures.value refl c.accept.ensures.held
     record { receives = c.accept.ensures.receives; age = c.accept.ensures.age }
 
 pub returns-clause-part : goal.returns-clause-part
 returns-clause-part g c = λ taken d.
     let xs = c.args.full.now.items in
     let s = c.index_mut.result.now in
-    subst (λ t. IsPartOf (g.B.Body.operations (g.B.Body.meaning t.live.body)) 0 (held_by t).elements c.args.outcome.job) (c.index_mut.ensures.value ∙ get_or_default xs c.args.index s d c.requires) (c.accept.ensures.part taken)
+    subst (λ t. IsPartOf (g.B.Body.operations t.live.body) 0 (held_by t).elements c.args.outcome.job) (c.index_mut.ensures.value ∙ get_or_default xs c.args.index s d c.requires) (c.accept.ensures.part taken)

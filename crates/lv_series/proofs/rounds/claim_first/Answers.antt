@@ -27,8 +27,8 @@ returns-in-Some-clause-some g c =
     let xs = c.args.full.now.items in
     let new = c.claim_in.new.full.items in
     let inside : loop.index < length xs = omega (arith, c.loop-index-test.true, c.len-index-end.ensures, c.args.full.now.ok.0) in
-    claims_at (λ b. g.B.Body.operations (g.B.Body.meaning b)) c.args.ages.now c.claim_in.new.ages c.args.first loop.index job.shard job.age job.job xs loop.full.items new c.args.tail.now inside c.in-Some.ensures.shard loop.invariant.so
-    (subst (λ a. OnlyAt loop.index loop.full.items new (λ s t. GivesJob (g.B.Body.operations (g.B.Body.meaning s.live.body)) a c.claim_in.new.ages s t job.age job.job)) loop.invariant.ages c.in-Some.ensures.some)
+    claims_at g.B.Body.operations c.args.ages.now c.claim_in.new.ages c.args.first loop.index job.shard job.age job.job xs loop.full.items new c.args.tail.now inside c.in-Some.ensures.shard loop.invariant.so
+    (subst (λ a. OnlyAt loop.index loop.full.items new (λ s t. GivesJob (g.B.Body.operations s.live.body) a c.claim_in.new.ages s t job.age job.job)) loop.invariant.ages c.in-Some.ensures.some)
 
 pub returns-in-Some-clause-part : goal.returns-in-Some-clause-part
 returns-in-Some-clause-part g c =
@@ -37,7 +37,7 @@ returns-in-Some-clause-part g c =
     let a = c.args.ages.now in
     let xs = c.args.full.now.items in
     let inside : loop.index < length xs = omega (arith, c.loop-index-test.true, c.len-index-end.ensures, c.args.full.now.ok.0) in
-    part_at (λ b. g.B.Body.operations (g.B.Body.meaning b)) c.args.first loop.index job.shard job.job (λ k. GivesNone a a) xs loop.full.items c.args.tail.now inside c.in-Some.ensures.shard loop.invariant.so (c.in-Some.ensures.part c.args.tail.now)
+    part_at g.B.Body.operations c.args.first loop.index job.shard job.job (λ k. GivesNone a a) xs loop.full.items c.args.tail.now inside c.in-Some.ensures.shard loop.invariant.so (c.in-Some.ensures.part c.args.tail.now)
 
 pub returns-clause-full : goal.returns-clause-full
 returns-clause-full g c = c.loop-index.invariant.so.held
@@ -69,8 +69,8 @@ returns-clause-some g c =
     let end : loop.index ≡ length xs = omega (arith, c.loop-index-test.false, c.len-index-end.ensures, c.args.full.now.ok.0) in
     let so = subst (λ n. SoFar (λ k. GivesNone a a) n xs new) end loop.invariant.so in
     let many : c.len.result ≡ length new = omega (arith, c.len.ensures, loop.full.ok.0) in
-    if_both (λ job. GivesJob (g.B.Body.operations (g.B.Body.meaning last.live.body)) loop.ages later last next job.age job.job) (λ job. job.shard ≡ c.args.first + c.len.result) (λ job. ClaimsAt (all_of xs last) (all_of new next) (λ b. g.B.Body.operations (g.B.Body.meaning b)) a later c.args.first job.shard job.age job.job) c.claim.result
-    (λ job gives is. claims_last (λ b. g.B.Body.operations (g.B.Body.meaning b)) a later c.args.first job.shard job.age job.job xs new last next (subst (λ n. job.shard ≡ c.args.first + n) many is) so (subst (λ b. GivesJob (g.B.Body.operations (g.B.Body.meaning last.live.body)) b later last next job.age job.job) loop.invariant.ages gives)) c.claim.ensures.some c.claim.ensures.shard
+    if_both (λ job. GivesJob (g.B.Body.operations last.live.body) loop.ages later last next job.age job.job) (λ job. job.shard ≡ c.args.first + c.len.result) (λ job. ClaimsAt (all_of xs last) (all_of new next) g.B.Body.operations a later c.args.first job.shard job.age job.job) c.claim.result
+    (λ job gives is. claims_last g.B.Body.operations a later c.args.first job.shard job.age job.job xs new last next (subst (λ n. job.shard ≡ c.args.first + n) many is) so (subst (λ b. GivesJob (g.B.Body.operations last.live.body) b later last next job.age job.job) loop.invariant.ages gives)) c.claim.ensures.some c.claim.ensures.shard
 
 pub returns-clause-part : goal.returns-clause-part
 returns-clause-part g c =
@@ -78,5 +78,5 @@ returns-clause-part g c =
     let xs = c.args.full.now.items in
     let last = c.args.tail.now in
     let many : c.len.result ≡ length xs = omega (arith, c.len.ensures, loop.full.ok.0, loop.invariant.so.many) in
-    if_both (λ job. IsPartOf (g.B.Body.operations (g.B.Body.meaning last.live.body)) 0 (held_by last).elements job.job) (λ job. job.shard ≡ c.args.first + c.len.result) (λ job. IsShardJob (λ b. g.B.Body.operations (g.B.Body.meaning b)) (held_by_each xs) (held_by last) c.args.first job.shard job.job) c.claim.result
-    (λ job part is. part_last (λ b. g.B.Body.operations (g.B.Body.meaning b)) c.args.first job.shard job.job xs last (subst (λ n. job.shard ≡ c.args.first + n) many is) part) c.claim.ensures.part c.claim.ensures.shard
+    if_both (λ job. IsPartOf (g.B.Body.operations last.live.body) 0 (held_by last).elements job.job) (λ job. job.shard ≡ c.args.first + c.len.result) (λ job. IsShardJob g.B.Body.operations (held_by_each xs) (held_by last) c.args.first job.shard job.job) c.claim.result
+    (λ job part is. part_last g.B.Body.operations c.args.first job.shard job.job xs last (subst (λ n. job.shard ≡ c.args.first + n) many is) part) c.claim.ensures.part c.claim.ensures.shard

@@ -27,13 +27,13 @@ returns-clause-some g c =
     let t = c.claim.new.self in
     let a = c.args.ages.now in
     let b = c.claim.new.ages in
-    if_some (λ job. GivesJob (g.B.Body.operations (g.B.Body.meaning s.live.body)) a b s t job.age job.job) (λ job. OnlyAt i xs (slice_set xs i t) (λ old new. GivesJob (g.B.Body.operations (g.B.Body.meaning old.live.body)) a b old new job.age job.job)) c.claim.result
-    (λ job. only_set (λ old new. GivesJob (g.B.Body.operations (g.B.Body.meaning old.live.body)) a b old new job.age job.job) xs (slice_set xs i t) i s t c.requires c.index_mut.ensures.value refl c.claim.ensures.held) c.claim.ensures.some
+    if_some (λ job. GivesJob (g.B.Body.operations s.live.body) a b s t job.age job.job) (λ job. OnlyAt i xs (slice_set xs i t) (λ old new. GivesJob (g.B.Body.operations old.live.body) a b old new job.age job.job)) c.claim.result
+    (λ job. only_set (λ old new. GivesJob (g.B.Body.operations old.live.body) a b old new job.age job.job) xs (slice_set xs i t) i s t c.requires c.index_mut.ensures.value refl c.claim.ensures.held) c.claim.ensures.some
 
 pub returns-clause-part : goal.returns-clause-part
 returns-clause-part g c =
     let xs = c.args.full.now.items in
     let i = c.args.index in
     let s = c.index_mut.result.now in
-    if_some (λ job. IsPartOf (g.B.Body.operations (g.B.Body.meaning s.live.body)) 0 (held_by s).elements job.job) _ c.claim.result
-    (λ job part d. subst (λ t. IsPartOf (g.B.Body.operations (g.B.Body.meaning t.live.body)) 0 (held_by t).elements job.job) (c.index_mut.ensures.value ∙ get_or_default xs i s d c.requires) part) c.claim.ensures.part
+    if_some (λ job. IsPartOf (g.B.Body.operations s.live.body) 0 (held_by s).elements job.job) _ c.claim.result
+    (λ job part d. subst (λ t. IsPartOf (g.B.Body.operations t.live.body) 0 (held_by t).elements job.job) (c.index_mut.ensures.value ∙ get_or_default xs i s d c.requires) part) c.claim.ensures.part

@@ -4,13 +4,13 @@ use Rattle.lv_series.proofs.RoundLaws.{Turned, all_turned, more_turned, none_tur
 use Rattle.lv_series.proofs.rounds.refresh_each.Goals as goal
 
 pub loop-index-init : goal.loop-index-init
-loop-index-init g c = none_turned (λ b. g.B.Body.operations (g.B.Body.meaning b)) c.args.jobs c.args.full.now.items
+loop-index-init g c = none_turned g.B.Body.operations c.args.jobs c.args.full.now.items
 
 pub loop-index-preserved : goal.loop-index-preserved
 loop-index-preserved g c =
     let loop = c.loop-index in
     let one = c.refresh_in-done in
-    more_turned (λ b. g.B.Body.operations (g.B.Body.meaning b)) c.args.jobs loop.done one.result loop.index c.args.full.now.items loop.full.items one.new.full.items loop.invariant one.ensures.turns one.ensures.most one.ensures.idle
+    more_turned g.B.Body.operations c.args.jobs loop.done one.result loop.index c.args.full.now.items loop.full.items one.new.full.items loop.invariant one.ensures.turns one.ensures.most one.ensures.idle
 
 pub returns-clause-full : goal.returns-clause-full
 returns-clause-full g c = c.loop-index.invariant.turns.held
@@ -23,4 +23,4 @@ returns-clause-turns g c =
     let loop = c.loop-index in
     let xs = c.args.full.now.items in
     let end : loop.index ≡ length xs = omega (arith, c.loop-index-test.false, c.len-index-end.ensures, c.args.full.now.ok.0) in
-    all_turned (λ b. g.B.Body.operations (g.B.Body.meaning b)) c.args.jobs loop.done c.refresh.result xs loop.full.items c.args.tail.now c.refresh.new.self (subst (λ n. Turned (λ b. g.B.Body.operations (g.B.Body.meaning b)) c.args.jobs loop.done n xs loop.full.items) end loop.invariant) c.refresh.ensures.turns c.refresh.ensures.most c.refresh.ensures.idle
+    all_turned g.B.Body.operations c.args.jobs loop.done c.refresh.result xs loop.full.items c.args.tail.now c.refresh.new.self (subst (λ n. Turned g.B.Body.operations c.args.jobs loop.done n xs loop.full.items) end loop.invariant) c.refresh.ensures.turns c.refresh.ensures.most c.refresh.ensures.idle

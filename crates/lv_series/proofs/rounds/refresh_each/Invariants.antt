@@ -4,4 +4,4 @@ use Rattle.lv_series.proofs.rounds.refresh_each.Given as goal
 
 -- the first so many shards took their turns
 abbrev pub invariant-loop-index : goal.invariant-loop-index
-invariant-loop-index g l = Turned (λ b. g.B.Body.operations (g.B.Body.meaning b)) l.jobs l.done l.index l.initial.full.items l.full.items
+invariant-loop-index g l = Turned g.B.Body.operations l.jobs l.done l.index l.initial.full.items l.full.items

@@ -9,7 +9,7 @@ use Rattle.lv_series.proofs.rounds.refresh_in.Goals as goal
 
 pub returns-clause-turns : goal.returns-clause-turns
 returns-clause-turns g c =
-    only_set (λ old new. TurnsShard (g.B.Body.operations (g.B.Body.meaning old.live.body)) c.refresh.result old new) c.args.full.now.items _ c.args.index c.index_mut.result.now c.refresh.new.self c.requires c.index_mut.ensures.value refl c.refresh.ensures.held c.refresh.ensures.turns
+    only_set (λ old new. TurnsShard (g.B.Body.operations old.live.body) c.refresh.result old new) c.args.full.now.items _ c.args.index c.index_mut.result.now c.refresh.new.self c.requires c.index_mut.ensures.value refl c.refresh.ensures.held c.refresh.ensures.turns
 
 pub returns-clause-idle : goal.returns-clause-idle
 returns-clause-idle g c = λ less d.

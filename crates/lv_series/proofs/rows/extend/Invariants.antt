@@ -6,7 +6,7 @@ use Rattle.lv_series.proofs.rows.extend.Given as goal
 
 -- so many pieces are kept
 abbrev pub invariant-loop-folds : goal.invariant-loop-folds
-invariant-loop-folds g l = ArePieces (g.B.Body.operations (g.B.Body.meaning l.body)) l.size (list_of l.history.journal) l.folds.items
+invariant-loop-folds g l = ArePieces (g.B.Body.operations l.body) l.size (list_of l.history.journal) l.folds.items
 
 -- the pieces that are left
 abbrev pub decreases-loop-folds : goal.decreases-loop-folds

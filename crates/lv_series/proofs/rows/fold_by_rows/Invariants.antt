@@ -9,7 +9,7 @@ abbrev pub invariant-loop-at : goal.invariant-loop-at
 invariant-loop-at g l = record {
   low : l.lo ≤ l.at;
   high : l.at ≤ l.hi;
-  sum : l.sum ≡ fold_of (g.B.Body.operations (g.B.Body.meaning l.body)) (slice_range (list_of l.history.journal) l.lo l.at);
+  sum : l.sum ≡ fold_of (g.B.Body.operations l.body) (slice_range (list_of l.history.journal) l.lo l.at);
 }
 
 -- what is left

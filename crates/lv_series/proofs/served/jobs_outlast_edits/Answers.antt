@@ -3,4 +3,4 @@ use Rattle.lv_series.proofs.RefreshLaws.{honest_later}
 use Rattle.lv_series.proofs.served.jobs_outlast_edits.Goals as goal
 
 pub returns : goal.returns
-returns g c = λ m old new n v contents later honest. honest_later (g.B.Body.operations m) n v contents old new later honest
+returns g c = λ by old new n v contents later honest. honest_later (g.B.Body.operations by) n v contents old new later honest

@@ -8,17 +8,17 @@ use Rattle.lv_sums.proofs.joining.join_all.Goals as goal
 
 pub combine_long-summary-requires : goal.combine_long-summary-requires
 combine_long-summary-requires g c =
-    let meaning = g.B.Body.meaning c.args.body.now in
-    let o = g.B.Body.operations meaning in
+    let body = c.args.body.now in
+    let o = g.B.Body.operations body in
     let next = c.next-item.result in
     let sums = c.args.sums.now in
-    let may = join_at o (g.B.Body.is_within meaning) c.args.so_far.summary sums c.requires.can c.loop-next.next-index next c.loop-next-test.true in
-    subst (λ s. CanJoinLong (g.B.Body.is_within meaning) s next) (sym c.loop-next.invariant.summary)
-    (subst (CanJoinLong (g.B.Body.is_within meaning) (joined_on o c.args.so_far.summary (take c.loop-next.next-index sums))) (sym c.next-item.is) may)
+    let may = join_at o (g.B.Body.is_within body) c.args.so_far.summary sums c.requires.can c.loop-next.next-index next c.loop-next-test.true in
+    subst (λ s. CanJoinLong (g.B.Body.is_within body) s next) (sym c.loop-next.invariant.summary)
+    (subst (CanJoinLong (g.B.Body.is_within body) (joined_on o c.args.so_far.summary (take c.loop-next.next-index sums))) (sym c.next-item.is) may)
 
 pub loop-next-preserved : goal.loop-next-preserved
 loop-next-preserved g c =
-    let o = g.B.Body.operations (g.B.Body.meaning c.args.body.now) in
+    let o = g.B.Body.operations c.args.body.now in
     let next = c.next-item.result in
     record {
       summary = c.combine_long-summary.ensures

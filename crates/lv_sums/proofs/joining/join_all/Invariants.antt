@@ -6,6 +6,6 @@ use Rattle.lv_sums.proofs.joining.join_all.Given as goal
 -- what those so far are joined to, and how many they are
 abbrev pub invariant-loop-next : goal.invariant-loop-next
 invariant-loop-next g l = record {
-  summary : l.summary ≡ joined_on (g.B.Body.operations (g.B.Body.meaning l.body)) l.fn.so_far.summary (take l.next-index l.sums);
+  summary : l.summary ≡ joined_on (g.B.Body.operations l.body) l.fn.so_far.summary (take l.next-index l.sums);
   joins : l.joins ≡ l.fn.so_far.joins + l.next-index;
 }

@@ -5,9 +5,9 @@ use Rattle.lv_sums.proofs.ranges.join_groups.Goals as goal
 
 pub join_part-requires-clause-can : goal.join_part-requires-clause-can
 join_part-requires-clause-can g c κs within =
-    let meaning = g.B.Body.meaning c.args.body.now in
-    let o = g.B.Body.operations meaning in
-    let within_ = g.B.Body.is_within meaning in
+    let body = c.args.body.now in
+    let o = g.B.Body.operations body in
+    let within_ = g.B.Body.is_within body in
     let laws = c.long_laws.ensures in
     let tree = c.args.tree in
     let given = c.requires in
@@ -15,9 +15,9 @@ join_part-requires-clause-can g c κs within =
 
 pub returns-then-last-first-clause-summary : goal.returns-then-last-first-clause-summary
 returns-then-last-first-clause-summary g c =
-    let meaning = g.B.Body.meaning c.args.body.now in
-    let o = g.B.Body.operations meaning in
-    let within_ = g.B.Body.is_within meaning in
+    let body = c.args.body.now in
+    let o = g.B.Body.operations body in
+    let within_ = g.B.Body.is_within body in
     let laws = c.long_laws.ensures in
     let tree = c.args.tree in
     let given = c.requires in
@@ -25,9 +25,9 @@ returns-then-last-first-clause-summary g c =
 
 pub join_part-front-requires-clause-can : goal.join_part-front-requires-clause-can
 join_part-front-requires-clause-can g c κs within =
-    let meaning = g.B.Body.meaning c.args.body.now in
-    let o = g.B.Body.operations meaning in
-    let within_ = g.B.Body.is_within meaning in
+    let body = c.args.body.now in
+    let o = g.B.Body.operations body in
+    let within_ = g.B.Body.is_within body in
     let laws = c.long_laws.ensures in
     let tree = c.args.tree in
     let given = c.requires in
@@ -35,9 +35,9 @@ join_part-front-requires-clause-can g c κs within =
 
 pub join_part-middle-requires-clause-can : goal.join_part-middle-requires-clause-can
 join_part-middle-requires-clause-can g c κs within =
-    let meaning = g.B.Body.meaning c.args.body.now in
-    let o = g.B.Body.operations meaning in
-    let within_ = g.B.Body.is_within meaning in
+    let body = c.args.body.now in
+    let o = g.B.Body.operations body in
+    let within_ = g.B.Body.is_within body in
     let laws = c.long_laws.ensures in
     let tree = c.args.tree in
     let given = c.requires in
@@ -45,9 +45,9 @@ join_part-middle-requires-clause-can g c κs within =
 
 pub join_part-requires-2-clause-can : goal.join_part-requires-2-clause-can
 join_part-requires-2-clause-can g c κs within =
-    let meaning = g.B.Body.meaning c.args.body.now in
-    let o = g.B.Body.operations meaning in
-    let within_ = g.B.Body.is_within meaning in
+    let body = c.args.body.now in
+    let o = g.B.Body.operations body in
+    let within_ = g.B.Body.is_within body in
     let laws = c.long_laws.ensures in
     let tree = c.args.tree in
     let given = c.requires in
@@ -55,9 +55,9 @@ join_part-requires-2-clause-can g c κs within =
 
 pub returns-clause-summary : goal.returns-clause-summary
 returns-clause-summary g c =
-    let meaning = g.B.Body.meaning c.args.body.now in
-    let o = g.B.Body.operations meaning in
-    let within_ = g.B.Body.is_within meaning in
+    let body = c.args.body.now in
+    let o = g.B.Body.operations body in
+    let within_ = g.B.Body.is_within body in
     let laws = c.long_laws.ensures in
     let tree = c.args.tree in
     let given = c.requires in

@@ -8,9 +8,9 @@ use Rattle.lv_sums.proofs.ranges.join_shards.Goals as goal
 
 pub join_part-requires-clause-can : goal.join_part-requires-clause-can
 join_part-requires-clause-can g c κs within =
-    let meaning = g.B.Body.meaning c.args.body.now in
-    let o = g.B.Body.operations meaning in
-    let within_ = g.B.Body.is_within meaning in
+    let body = c.args.body.now in
+    let o = g.B.Body.operations body in
+    let within_ = g.B.Body.is_within body in
     let laws = c.long_laws.ensures in
     let tree = c.args.tree in
     let given = c.requires in
@@ -20,9 +20,9 @@ join_part-requires-clause-can g c κs within =
 
 pub join_part-front-requires-clause-can : goal.join_part-front-requires-clause-can
 join_part-front-requires-clause-can g c κs within =
-    let meaning = g.B.Body.meaning c.args.body.now in
-    let o = g.B.Body.operations meaning in
-    let within_ = g.B.Body.is_within meaning in
+    let body = c.args.body.now in
+    let o = g.B.Body.operations body in
+    let within_ = g.B.Body.is_within body in
     let laws = c.long_laws.ensures in
     let tree = c.args.tree in
     let given = c.requires in
@@ -32,9 +32,9 @@ join_part-front-requires-clause-can g c κs within =
 
 pub join_groups-middle-requires-clause-levels : goal.join_groups-middle-requires-clause-levels
 join_groups-middle-requires-clause-levels g c κs within =
-    let meaning = g.B.Body.meaning c.args.body.now in
-    let o = g.B.Body.operations meaning in
-    let within_ = g.B.Body.is_within meaning in
+    let body = c.args.body.now in
+    let o = g.B.Body.operations body in
+    let within_ = g.B.Body.is_within body in
     let laws = c.long_laws.ensures in
     let tree = c.args.tree in
     let given = c.requires in
@@ -44,9 +44,9 @@ join_groups-middle-requires-clause-levels g c κs within =
 
 pub join_groups-middle-requires-clause-folds : goal.join_groups-middle-requires-clause-folds
 join_groups-middle-requires-clause-folds g c κs within =
-    let meaning = g.B.Body.meaning c.args.body.now in
-    let o = g.B.Body.operations meaning in
-    let within_ = g.B.Body.is_within meaning in
+    let body = c.args.body.now in
+    let o = g.B.Body.operations body in
+    let within_ = g.B.Body.is_within body in
     let laws = c.long_laws.ensures in
     let tree = c.args.tree in
     let given = c.requires in
@@ -56,9 +56,9 @@ join_groups-middle-requires-clause-folds g c κs within =
 
 pub join_part-requires-2-clause-can : goal.join_part-requires-2-clause-can
 join_part-requires-2-clause-can g c κs within =
-    let meaning = g.B.Body.meaning c.args.body.now in
-    let o = g.B.Body.operations meaning in
-    let within_ = g.B.Body.is_within meaning in
+    let body = c.args.body.now in
+    let o = g.B.Body.operations body in
+    let within_ = g.B.Body.is_within body in
     let laws = c.long_laws.ensures in
     let tree = c.args.tree in
     let given = c.requires in
@@ -68,9 +68,9 @@ join_part-requires-2-clause-can g c κs within =
 
 pub returns-clause-summary : goal.returns-clause-summary
 returns-clause-summary g c =
-    let meaning = g.B.Body.meaning c.args.body.now in
-    let o = g.B.Body.operations meaning in
-    let within_ = g.B.Body.is_within meaning in
+    let body = c.args.body.now in
+    let o = g.B.Body.operations body in
+    let within_ = g.B.Body.is_within body in
     let laws = c.long_laws.ensures in
     let tree = c.args.tree in
     let given = c.requires in

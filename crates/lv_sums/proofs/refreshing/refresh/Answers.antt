@@ -5,17 +5,17 @@ use Rattle.lv_sums.proofs.refreshing.refresh.Goals as goal
 
 pub refresh_entry-requires-clause-can : goal.refresh_entry-requires-clause-can
 refresh_entry-requires-clause-can g c κs within inside past =
-    let meaning = g.B.Body.meaning c.args.body.now in
-    group_may (g.B.Body.operations meaning) (g.B.Body.is_within meaning) c.long_laws.ensures c.args.gone c.args.at c.div_ceil.result c.args.shards.now c.requires.folds c.div_ceil.ensures past
+    let body = c.args.body.now in
+    group_may (g.B.Body.operations body) (g.B.Body.is_within body) c.long_laws.ensures c.args.gone c.args.at c.div_ceil.result c.args.shards.now c.requires.folds c.div_ceil.ensures past
 
 pub refresh_entry-requires-clause-inside : goal.refresh_entry-requires-clause-inside
 refresh_entry-requires-clause-inside g c κs within = omega (arith, c.requires.levels.group_count)
 
 pub refresh_entry-requires-2-clause-can : goal.refresh_entry-requires-2-clause-can
 refresh_entry-requires-2-clause-can g c κs within inside past =
-    let meaning = g.B.Body.meaning c.args.body.now in
-    let o = g.B.Body.operations meaning in
-    let within_ = g.B.Body.is_within meaning in
+    let body = c.args.body.now in
+    let o = g.B.Body.operations body in
+    let within_ = g.B.Body.is_within body in
     let laws = c.long_laws.ensures in
     let shards = c.args.shards.now in
     let given = c.requires in
@@ -29,9 +29,9 @@ refresh_entry-requires-2-clause-inside g c κs within = omega (arith, c.requires
 
 pub returns : goal.returns
 returns g c =
-    let meaning = g.B.Body.meaning c.args.body.now in
-    let o = g.B.Body.operations meaning in
-    let within_ = g.B.Body.is_within meaning in
+    let body = c.args.body.now in
+    let o = g.B.Body.operations body in
+    let within_ = g.B.Body.is_within body in
     let laws = c.long_laws.ensures in
     let shards = c.args.shards.now in
     let given = c.requires in

@@ -12,18 +12,18 @@ loop-block-init g c = record {
 
 pub combine-sum-requires : goal.combine-sum-requires
 combine-sum-requires g c =
-    let meaning = g.B.Body.meaning c.args.body.now in
+    let body = c.args.body.now in
     let block = c.loop-block.block in
-    slices_can_join (g.B.Body.operations meaning) (g.B.Body.is_within meaning) (g.B.Body.laws c.args.body.now) c.args.list.now c.requires.few c.args.lo (block * 1024) ((block + 1) * 1024)
+    slices_can_join (g.B.Body.operations body) (g.B.Body.is_within body) (g.B.Body.laws c.args.body.now) c.args.list.now c.requires.few c.args.lo (block * 1024) ((block + 1) * 1024)
     (omega (arith, c.requires.before, c.loop-block.auto.block)) (omega arith) (omega (arith, c.requires.inside, c.loop-block-test.true))
     c.loop-block.sum c.fold_block-next.result c.loop-block.invariant.fold c.fold_block-next.ensures.fold
 
 pub loop-block-preserved : goal.loop-block-preserved
 loop-block-preserved g c =
-    let meaning = g.B.Body.meaning c.args.body.now in
+    let body = c.args.body.now in
     let block = c.loop-block.block in
     record {
-      fold = slice-joined (g.B.Body.operations meaning) (g.B.Body.is_within meaning) (g.B.Body.laws c.args.body.now) c.args.list.now c.requires.few c.args.lo (block * 1024) ((block + 1) * 1024)
+      fold = slice-joined (g.B.Body.operations body) (g.B.Body.is_within body) (g.B.Body.laws c.args.body.now) c.args.list.now c.requires.few c.args.lo (block * 1024) ((block + 1) * 1024)
           (omega (arith, c.requires.before, c.loop-block.auto.block)) (omega arith) (omega (arith, c.requires.inside, c.loop-block-test.true))
           c.loop-block.sum c.fold_block-next.result c.loop-block.invariant.fold c.fold_block-next.ensures.fold c.combine-sum.result c.combine-sum.ensures;
       folds = c.fold_block-next.ensures.folds;

@@ -6,7 +6,7 @@ use Rattle.lv_transcript.proofs.block_folds.fold_blocks.Given as goal
 -- the fold of what stands before the block
 abbrev pub invariant-loop-block : goal.invariant-loop-block
 invariant-loop-block g l =
-    let o = g.B.Body.operations (g.B.Body.meaning l.body) in
+    let o = g.B.Body.operations l.body in
     record {
       fold : IsFold o (slice_range l.list l.lo (l.block * 1024)) l.sum;
       folds : AreFolds o l.list l.folds.items;

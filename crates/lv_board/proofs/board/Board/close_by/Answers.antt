@@ -27,19 +27,19 @@ pub collect-requires-clause-within : goal.collect-requires-clause-within
 collect-requires-clause-within g c = λ i less.
     let settled = c.settle-words.ensures.settled in
     let first = word_read (slots_items c.settle-words.result.words) 0 c.word-look.result c.word-look.ensures in
-    let few = size_within (terms_of (folds g.B.Parted.PARTS g.B.Parted.parts_of (λ b. g.B.Body.operations (g.B.Body.meaning b))) c.args.self.terms) (slots_items c.settle-words.result.words) settled.history settled.looks settled.terms settled.shown in
-    omega (arith, cell_within (terms_of (folds g.B.Parted.PARTS g.B.Parted.parts_of (λ b. g.B.Body.operations (g.B.Body.meaning b))) c.args.self.terms) i (omega (arith, ap size_of first)), c.settle-words.ensures.words)
+    let few = size_within (terms_of (folds g.B.Parted.PARTS g.B.Parted.parts_of g.B.Body.operations) c.args.self.terms) (slots_items c.settle-words.result.words) settled.history settled.looks settled.terms settled.shown in
+    omega (arith, cell_within (terms_of (folds g.B.Parted.PARTS g.B.Parted.parts_of g.B.Body.operations) c.args.self.terms) i (omega (arith, ap size_of first)), c.settle-words.ensures.words)
 
 pub collect-requires-clause-room : goal.collect-requires-clause-room
 collect-requires-clause-room g c =
     let settled = c.settle-words.ensures.settled in
     let first = word_read (slots_items c.settle-words.result.words) 0 c.word-look.result c.word-look.ensures in
-    let few = size_within (terms_of (folds g.B.Parted.PARTS g.B.Parted.parts_of (λ b. g.B.Body.operations (g.B.Body.meaning b))) c.args.self.terms) (slots_items c.settle-words.result.words) settled.history settled.looks settled.terms settled.shown in
+    let few = size_within (terms_of (folds g.B.Parted.PARTS g.B.Parted.parts_of g.B.Body.operations) c.args.self.terms) (slots_items c.settle-words.result.words) settled.history settled.looks settled.terms settled.shown in
     omega (arith, ap size_of first, c.requires.room)
 
 pub returns : goal.returns
 returns g c =
     let first = word_read (slots_items c.settle-words.result.words) 0 c.word-look.result c.word-look.ensures in
-    ended_of (terms_of (folds g.B.Parted.PARTS g.B.Parted.parts_of (λ b. g.B.Body.operations (g.B.Body.meaning b))) c.args.self.terms) c.args.seats.items (slots_items c.settle-words.result.words) c.closed_at.result c.settle-words.ensures.settled
+    ended_of (terms_of (folds g.B.Parted.PARTS g.B.Parted.parts_of g.B.Body.operations) c.args.self.terms) c.args.seats.items (slots_items c.settle-words.result.words) c.closed_at.result c.settle-words.ensures.settled
     (c.closed_at.ensures.edit ∙ ap edit_of (sym first))
     (c.closed_at.ensures.elements ∙ c.collect.ensures ∙ ap (λ w. map (shown_at (slots_items c.settle-words.result.words)) (range_with_len 0 (size_of w))) (sym first))

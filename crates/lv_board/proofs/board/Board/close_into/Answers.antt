@@ -4,4 +4,4 @@ use Rattle.lv_board.proofs.Closes.{closed_of}
 use Rattle.lv_board.proofs.board.Board.close_into.Goals as goal
 
 pub returns : goal.returns
-returns g c = closed_of (terms_of (folds g.B.Parted.PARTS g.B.Parted.parts_of (λ b. g.B.Body.operations (g.B.Body.meaning b))) c.args.self.terms) c.args.seats.items c.close_by.result c.requires.all c.close_by.ensures
+returns g c = closed_of (terms_of (folds g.B.Parted.PARTS g.B.Parted.parts_of g.B.Body.operations) c.args.self.terms) c.args.seats.items c.close_by.result c.requires.all c.close_by.ensures

@@ -11,7 +11,7 @@ split_seat-token-requires g c =
     let (number, is, below) = c.requires.deals in (
       c.requires.here,
       omega (arith, c.args.self.now.count),
-      deals_at_key (Unit {0}) (folds g.B.Parted.PARTS g.B.Parted.parts_of (λ b. g.B.Body.operations (g.B.Body.meaning b))) c.args.self.now.terms c.args.self.now.table.shared.key c.args.dealer.now.id number c.args.dealer.now.me.0 c.args.self.now.key (ap (λ m. m.0) is) below,
+      deals_at_key (Unit {0}) (folds g.B.Parted.PARTS g.B.Parted.parts_of g.B.Body.operations) c.args.self.now.terms c.args.self.now.table.shared.key c.args.dealer.now.id number c.args.dealer.now.me.0 c.args.self.now.key (ap (λ m. m.0) is) below,
     )
 
 pub invariant_of-result : goal.invariant_of-result

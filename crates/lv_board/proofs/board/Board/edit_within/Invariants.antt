@@ -11,6 +11,6 @@ abbrev pub invariant-loop-outrun : goal.invariant-loop-outrun
 invariant-loop-outrun g l = record {
   still : IsStill l.fn.seat l.seat;
   before : Actor;
-  outrun : AreOutrun (terms_of (folds g.B.Parted.PARTS g.B.Parted.parts_of (λ b. g.B.Body.operations (g.B.Body.meaning b))) l.self.terms) l.edit l.outrun (actor_of l.fn.seat) before;
-  last : TryAnswers (terms_of (folds g.B.Parted.PARTS g.B.Parted.parts_of (λ b. g.B.Body.operations (g.B.Body.meaning b))) l.self.terms) before (actor_of l.seat) l.edit l.answer;
+  outrun : AreOutrun (terms_of (folds g.B.Parted.PARTS g.B.Parted.parts_of g.B.Body.operations) l.self.terms) l.edit l.outrun (actor_of l.fn.seat) before;
+  last : TryAnswers (terms_of (folds g.B.Parted.PARTS g.B.Parted.parts_of g.B.Body.operations) l.self.terms) before (actor_of l.seat) l.edit l.answer;
 }

@@ -15,7 +15,7 @@ join_seat-requires g c =
       inv.table,
       inv.slots,
       omega (arith, c.args.self.now.count),
-      gathers_at_key (Unit {0}) (folds g.B.Parted.PARTS g.B.Parted.parts_of (λ b. g.B.Body.operations (g.B.Body.meaning b))) c.args.self.now.terms c.args.self.now.table.shared.key c.in-Some.seat.token.id c.in-Some.seat.token.me.0 c.loop-seat.gathered.id c.loop-seat.gathered.me.0 c.args.self.now.key inv.sits,
+      gathers_at_key (Unit {0}) (folds g.B.Parted.PARTS g.B.Parted.parts_of g.B.Body.operations) c.args.self.now.terms c.args.self.now.table.shared.key c.in-Some.seat.token.id c.in-Some.seat.token.me.0 c.loop-seat.gathered.id c.loop-seat.gathered.me.0 c.args.self.now.key inv.sits,
     )
 
 pub loop-seat-preserved : goal.loop-seat-preserved

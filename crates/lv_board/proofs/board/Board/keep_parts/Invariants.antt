@@ -9,5 +9,5 @@ use Rattle.lv_board.proofs.board.Board.keep_parts.Given as goal
 abbrev pub invariant-loop-part : goal.invariant-loop-part
 invariant-loop-part g l = record {
   here : IsAt l.self.table.shared.table_id l.self.terms l.seat;
-  installed : HasInstalled (block_installed (terms_of (folds g.B.Parted.PARTS g.B.Parted.parts_of (λ b. g.B.Body.operations (g.B.Body.meaning b))) l.self.terms) l.b (actor_of l.fn.seat).seen l.part (actor_of l.fn.seat).installed) l.fn.seat l.seat;
+  installed : HasInstalled (block_installed (terms_of (folds g.B.Parted.PARTS g.B.Parted.parts_of g.B.Body.operations) l.self.terms) l.b (actor_of l.fn.seat).seen l.part (actor_of l.fn.seat).installed) l.fn.seat l.seat;
 }

@@ -14,7 +14,7 @@ load_word-word-requires-clause-within g c = λ _ _. block_among c.args.self.now.
 
 pub returns-then-part_version_in-from-clause-value : goal.returns-then-part_version_in-from-clause-value
 returns-then-part_version_in-from-clause-value g c =
-    let t = terms_of (folds g.B.Parted.PARTS g.B.Parted.parts_of (λ b. g.B.Body.operations (g.B.Body.meaning b))) c.args.self.now.terms in
-    let read = subst (λ z. IsRead (terms_of (folds g.B.Parted.PARTS g.B.Parted.parts_of (λ b. g.B.Body.operations (g.B.Body.meaning b))) z) c.args.seat.now.token.me.0.actor c.load_word-word.new.seat.token.me.0.actor c.part_place_of.result c.load_word-word.result) c.requires.here.terms c.load_word-word.ensures.read in
+    let t = terms_of (folds g.B.Parted.PARTS g.B.Parted.parts_of g.B.Body.operations) c.args.self.now.terms in
+    let read = subst (λ z. IsRead (terms_of (folds g.B.Parted.PARTS g.B.Parted.parts_of g.B.Body.operations) z) c.args.seat.now.token.me.0.actor c.load_word-word.new.seat.token.me.0.actor c.part_place_of.result c.load_word-word.result) c.requires.here.terms c.load_word-word.ensures.read in
     let version : part_version c.load_word-word.result ≡ mark_of c.args.b c.args.seat.now.token.me.0.actor.seen = omega (arith, c.if-part_version_in-from.true, c.part_version_in.ensures, c.requires.mark) in
     c.part_value_in.ensures ∙ part_read t c.args.seat.now.token.me.0.actor c.load_word-word.new.seat.token.me.0.actor c.part_place_of.result c.load_word-word.result c.args.b c.args.part read c.requires.within c.requires.part c.part_place_of.ensures c.requires.whole version

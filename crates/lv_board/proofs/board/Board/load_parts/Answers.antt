@@ -11,14 +11,14 @@ returns-in-None-clause-read g c = read_then c.args.seat.now c.loop-part.seat c.l
 pub loop-part-preserved : goal.loop-part-preserved
 loop-part-preserved g c =
     let inv = c.loop-part.invariant in
-    let s = block_fold (g.B.Body.operations (g.B.Body.meaning c.args.self.now.terms.body)) c.args.b c.args.seat.now.token.me.0.actor.seen in
+    let s = block_fold (g.B.Body.operations c.args.self.now.terms.body) c.args.b c.args.seat.now.token.me.0.actor.seen in
     record {
       here = at_still c.args.self.now.table.shared.table_id c.args.self.now.terms c.loop-part.seat c.load_part.new.seat inv.here c.load_part.ensures.read;
-      may = may_still (terms_of (folds g.B.Parted.PARTS g.B.Parted.parts_of (λ b. g.B.Body.operations (g.B.Body.meaning b))) c.args.self.now.terms) c.loop-part.seat c.load_part.new.seat inv.may c.load_part.ensures.read;
+      may = may_still (terms_of (folds g.B.Parted.PARTS g.B.Parted.parts_of g.B.Body.operations) c.args.self.now.terms) c.loop-part.seat c.load_part.new.seat inv.may c.load_part.ensures.read;
       read = read_then c.args.seat.now c.loop-part.seat c.load_part.new.seat inv.read c.load_part.ensures.read;
-      taken = one_more_taken g.B.Parted.parts_of (block_fold (g.B.Body.operations (g.B.Body.meaning c.args.self.now.terms.body)) c.args.b c.args.seat.now.token.me.0.actor.seen) c.loop-part.part c.in-Some.value c.loop-part.values (omega (arith, c.loop-part-test.true, c.PARTS-part-end.ensures, g.B.Parted.some.1)) inv.taken
-          (c.in-Some.ensures.value ∙ ap (λ h. slice_index (g.B.Parted.parts_of (block_fold (g.B.Body.operations (g.B.Body.meaning c.args.self.now.terms.body)) c.args.b h)) c.loop-part.part) (seen_still c.args.seat.now c.loop-part.seat inv.read));
+      taken = one_more_taken g.B.Parted.parts_of (block_fold (g.B.Body.operations c.args.self.now.terms.body) c.args.b c.args.seat.now.token.me.0.actor.seen) c.loop-part.part c.in-Some.value c.loop-part.values (omega (arith, c.loop-part-test.true, c.PARTS-part-end.ensures, g.B.Parted.some.1)) inv.taken
+          (c.in-Some.ensures.value ∙ ap (λ h. slice_index (g.B.Parted.parts_of (block_fold (g.B.Body.operations c.args.self.now.terms.body) c.args.b h)) c.loop-part.part) (seen_still c.args.seat.now c.loop-part.seat inv.read));
     }
 
 pub returns-clause-parts : goal.returns-clause-parts
-returns-clause-parts g c = all_taken g.B.Parted.parts_of (block_fold (g.B.Body.operations (g.B.Body.meaning c.args.self.now.terms.body)) c.args.b c.args.seat.now.token.me.0.actor.seen) g.B.Parted.PARTS c.loop-part.part c.loop-part.values g.B.Parted.are_parts (omega (arith, c.loop-part-test.false, c.PARTS-part-end.ensures)) c.loop-part.invariant.taken
+returns-clause-parts g c = all_taken g.B.Parted.parts_of (block_fold (g.B.Body.operations c.args.self.now.terms.body) c.args.b c.args.seat.now.token.me.0.actor.seen) g.B.Parted.PARTS c.loop-part.part c.loop-part.values g.B.Parted.are_parts (omega (arith, c.loop-part-test.false, c.PARTS-part-end.ensures)) c.loop-part.invariant.taken

@@ -9,7 +9,7 @@ use Rattle.lv_board.proofs.Walking.{AreTaken}
 abbrev pub invariant-loop-part : goal.invariant-loop-part
 invariant-loop-part g l = record {
   here : IsAt l.self.table.shared.table_id l.self.terms l.seat;
-  may : MayRead (terms_of (folds g.B.Parted.PARTS g.B.Parted.parts_of (λ b. g.B.Body.operations (g.B.Body.meaning b))) l.self.terms) l.seat;
+  may : MayRead (terms_of (folds g.B.Parted.PARTS g.B.Parted.parts_of g.B.Body.operations) l.self.terms) l.seat;
   read : HasRead l.fn.seat l.seat;
-  taken : AreTaken g.B.Parted.parts_of (block_fold (g.B.Body.operations (g.B.Body.meaning l.self.terms.body)) l.b (actor_of l.fn.seat).seen) l.part l.values;
+  taken : AreTaken g.B.Parted.parts_of (block_fold (g.B.Body.operations l.self.terms.body) l.b (actor_of l.fn.seat).seen) l.part l.values;
 }

@@ -4,4 +4,4 @@ use Rattle.lv_board.proofs.Calling.{has_looked}
 use Rattle.lv_board.proofs.board.Board.look.Goals as goal
 
 pub returns-clause-looked : goal.returns-clause-looked
-returns-clause-looked g c = has_looked (folds g.B.Parted.PARTS g.B.Parted.parts_of (λ b. g.B.Body.operations (g.B.Body.meaning b))) c.args.seat.now.terms c.args.self.now.terms c.args.seat.now.token.me.0.actor c.load_descriptor.new.seat.token.me.0.actor c.load_descriptor.new.seat.look c.requires.terms c.load_descriptor.ensures.quiet c.load_descriptor.ensures.sees
+returns-clause-looked g c = has_looked (folds g.B.Parted.PARTS g.B.Parted.parts_of g.B.Body.operations) c.args.seat.now.terms c.args.self.now.terms c.args.seat.now.token.me.0.actor c.load_descriptor.new.seat.token.me.0.actor c.load_descriptor.new.seat.look c.requires.terms c.load_descriptor.ensures.quiet c.load_descriptor.ensures.sees

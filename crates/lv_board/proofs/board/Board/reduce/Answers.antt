@@ -7,18 +7,18 @@ use Rattle.lv_board.proofs.Walking.{looked_and_read, may_after, seen_still, summ
 use Rattle.lv_board.proofs.board.Board.reduce.Goals as goal
 
 pub returns-then-hi-size-clause-looked : goal.returns-then-hi-size-clause-looked
-returns-then-hi-size-clause-looked g c = λ order. has_looked (folds g.B.Parted.PARTS g.B.Parted.parts_of (λ b. g.B.Body.operations (g.B.Body.meaning b))) c.args.seat.now.terms c.args.self.now.terms c.args.seat.now.token.me.0.actor c.load_descriptor.new.seat.token.me.0.actor c.load_descriptor.new.seat.look c.requires.terms c.load_descriptor.ensures.quiet c.load_descriptor.ensures.sees
+returns-then-hi-size-clause-looked g c = λ order. has_looked (folds g.B.Parted.PARTS g.B.Parted.parts_of g.B.Body.operations) c.args.seat.now.terms c.args.self.now.terms c.args.seat.now.token.me.0.actor c.load_descriptor.new.seat.token.me.0.actor c.load_descriptor.new.seat.look c.requires.terms c.load_descriptor.ensures.quiet c.load_descriptor.ensures.sees
 
 pub walk_range-requires-clause-may : goal.walk_range-requires-clause-may
-walk_range-requires-clause-may g c = λ _ _. may_after (folds g.B.Parted.PARTS g.B.Parted.parts_of (λ b. g.B.Body.operations (g.B.Body.meaning b))) c.args.seat.now.terms c.args.self.now.terms c.load_descriptor.new.seat c.help.new.seat c.load_descriptor.new.seat.look c.requires.terms c.load_descriptor.ensures.sees c.help.ensures
+walk_range-requires-clause-may g c = λ _ _. may_after (folds g.B.Parted.PARTS g.B.Parted.parts_of g.B.Body.operations) c.args.seat.now.terms c.args.self.now.terms c.load_descriptor.new.seat c.help.new.seat c.load_descriptor.new.seat.look c.requires.terms c.load_descriptor.ensures.sees c.help.ensures
 
 pub returns-in-Err-clause-looked : goal.returns-in-Err-clause-looked
-returns-in-Err-clause-looked g c = λ order. looked_and_read (terms_of (folds g.B.Parted.PARTS g.B.Parted.parts_of (λ b. g.B.Body.operations (g.B.Body.meaning b))) c.args.self.now.terms) c.args.seat.now.token.me.0.actor c.load_descriptor.new.seat c.help.new.seat c.walk_range.new.seat (has_looked (folds g.B.Parted.PARTS g.B.Parted.parts_of (λ b. g.B.Body.operations (g.B.Body.meaning b))) c.args.seat.now.terms c.args.self.now.terms c.args.seat.now.token.me.0.actor c.load_descriptor.new.seat.token.me.0.actor c.load_descriptor.new.seat.look c.requires.terms c.load_descriptor.ensures.quiet c.load_descriptor.ensures.sees) c.help.ensures c.walk_range.ensures.read
+returns-in-Err-clause-looked g c = λ order. looked_and_read (terms_of (folds g.B.Parted.PARTS g.B.Parted.parts_of g.B.Body.operations) c.args.self.now.terms) c.args.seat.now.token.me.0.actor c.load_descriptor.new.seat c.help.new.seat c.walk_range.new.seat (has_looked (folds g.B.Parted.PARTS g.B.Parted.parts_of g.B.Body.operations) c.args.seat.now.terms c.args.self.now.terms c.args.seat.now.token.me.0.actor c.load_descriptor.new.seat.token.me.0.actor c.load_descriptor.new.seat.look c.requires.terms c.load_descriptor.ensures.quiet c.load_descriptor.ensures.sees) c.help.ensures c.walk_range.ensures.read
 
 pub returns-clause-looked : goal.returns-clause-looked
-returns-clause-looked g c = λ order. looked_and_read (terms_of (folds g.B.Parted.PARTS g.B.Parted.parts_of (λ b. g.B.Body.operations (g.B.Body.meaning b))) c.args.self.now.terms) c.args.seat.now.token.me.0.actor c.load_descriptor.new.seat c.help.new.seat c.walk_range.new.seat (has_looked (folds g.B.Parted.PARTS g.B.Parted.parts_of (λ b. g.B.Body.operations (g.B.Body.meaning b))) c.args.seat.now.terms c.args.self.now.terms c.args.seat.now.token.me.0.actor c.load_descriptor.new.seat.token.me.0.actor c.load_descriptor.new.seat.look c.requires.terms c.load_descriptor.ensures.quiet c.load_descriptor.ensures.sees) c.help.ensures c.walk_range.ensures.read
+returns-clause-looked g c = λ order. looked_and_read (terms_of (folds g.B.Parted.PARTS g.B.Parted.parts_of g.B.Body.operations) c.args.self.now.terms) c.args.seat.now.token.me.0.actor c.load_descriptor.new.seat c.help.new.seat c.walk_range.new.seat (has_looked (folds g.B.Parted.PARTS g.B.Parted.parts_of g.B.Body.operations) c.args.seat.now.terms c.args.self.now.terms c.args.seat.now.token.me.0.actor c.load_descriptor.new.seat.token.me.0.actor c.load_descriptor.new.seat.look c.requires.terms c.load_descriptor.ensures.quiet c.load_descriptor.ensures.sees) c.help.ensures c.walk_range.ensures.read
 
 pub returns-clause-answer : goal.returns-clause-answer
 returns-clause-answer g c = λ order.
-    summed (g.B.Body.operations (g.B.Body.meaning c.args.self.now.terms.body)) c.walk_range.new.seat.token.me.0.actor.seen c.args.lo c.args.hi c.edit_in.result c.in-Ok.walk order (c.edit_in.ensures.value ∙ c.walk_range.new.seat.looks.edit)
-    (subst (λ h. HasCome (g.B.Body.operations (g.B.Body.meaning c.args.self.now.terms.body)) h c.args.lo c.args.hi c.in-Ok.walk) (sym (seen_still c.help.new.seat c.walk_range.new.seat c.walk_range.ensures.read)) c.in-Ok.ensures.come)
+    summed (g.B.Body.operations c.args.self.now.terms.body) c.walk_range.new.seat.token.me.0.actor.seen c.args.lo c.args.hi c.edit_in.result c.in-Ok.walk order (c.edit_in.ensures.value ∙ c.walk_range.new.seat.looks.edit)
+    (subst (λ h. HasCome (g.B.Body.operations c.args.self.now.terms.body) h c.args.lo c.args.hi c.in-Ok.walk) (sym (seen_still c.help.new.seat c.walk_range.new.seat c.walk_range.ensures.read)) c.in-Ok.ensures.come)

@@ -8,5 +8,5 @@ pub split_seat-requires : goal.split_seat-requires
 split_seat-requires g c = (
   c.requires.at,
   omega (arith, c.args.self.now.count),
-  notes_at_key (Unit {0}) (folds g.B.Parted.PARTS g.B.Parted.parts_of (λ b. g.B.Body.operations (g.B.Body.meaning b))) c.args.self.now.terms c.args.self.now.table.shared.key c.args.seat.now.token.id c.args.seat.now.token.me.0 c.args.self.now.key,
+  notes_at_key (Unit {0}) (folds g.B.Parted.PARTS g.B.Parted.parts_of g.B.Body.operations) c.args.self.now.terms c.args.self.now.table.shared.key c.args.seat.now.token.id c.args.seat.now.token.me.0 c.args.self.now.key,
 )

@@ -9,11 +9,11 @@ use Rattle.lv_board.proofs.board.Board.walk_cells.Given as goal
 abbrev pub invariant-loop-walk : goal.invariant-loop-walk
 invariant-loop-walk g l = record {
   here : IsAt l.self.table.shared.table_id l.self.terms l.seat;
-  may : MayRead (terms_of (folds g.B.Parted.PARTS g.B.Parted.parts_of (λ b. g.B.Body.operations (g.B.Body.meaning b))) l.self.terms) l.seat;
+  may : MayRead (terms_of (folds g.B.Parted.PARTS g.B.Parted.parts_of g.B.Body.operations) l.self.terms) l.seat;
   read : HasRead l.fn.seat l.seat;
   from : l.walk.lo ≡ l.fn.walk.lo;
   most : l.walk.at ≤ l.end;
-  sums : Sums (g.B.Body.operations (g.B.Body.meaning l.self.terms.body)) (actor_of l.fn.seat).seen l.walk;
+  sums : Sums (g.B.Body.operations l.self.terms.body) (actor_of l.fn.seat).seen l.walk;
 }
 
 -- what is left of the way

@@ -18,9 +18,9 @@ loop-walk-preserved g c =
     let gone = c.in-Ok.ensures.gone in
     record {
       here = at_still c.args.self.now.table.shared.table_id c.args.self.now.terms c.loop-walk.seat c.walk_on.new.seat inv.here c.walk_on.ensures.read;
-      may = may_still (terms_of (folds g.B.Parted.PARTS g.B.Parted.parts_of (λ b. g.B.Body.operations (g.B.Body.meaning b))) c.args.self.now.terms) c.loop-walk.seat c.walk_on.new.seat inv.may c.walk_on.ensures.read;
+      may = may_still (terms_of (folds g.B.Parted.PARTS g.B.Parted.parts_of g.B.Body.operations) c.args.self.now.terms) c.loop-walk.seat c.walk_on.new.seat inv.may c.walk_on.ensures.read;
       read = read_then c.args.seat.now c.loop-walk.seat c.walk_on.new.seat inv.read c.walk_on.ensures.read;
       from = gone.from ∙ inv.from;
       most = gone.most;
-      sums = subst (λ h. Sums (g.B.Body.operations (g.B.Body.meaning c.args.self.now.terms.body)) h c.in-Ok.next) (seen_still c.args.seat.now c.loop-walk.seat inv.read) gone.sums;
+      sums = subst (λ h. Sums (g.B.Body.operations c.args.self.now.terms.body) h c.in-Ok.next) (seen_still c.args.seat.now c.loop-walk.seat inv.read) gone.sums;
     }

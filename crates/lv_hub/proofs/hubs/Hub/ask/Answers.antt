@@ -12,7 +12,7 @@ returns-clause-told g c =
     let of : s.body ≡ c.args.self.now = same_Some _ _ (sym c.ask.ensures.body ∙ c.self.invariant ∙ ap Some c.self.view_is) in
     let seen : IsPrefix c.args.share.now.seen c.show.new.share.seen = search rules in
     let is : c.show.new.share.seen ≡ s.history.journal = search rules in
-    ask_told (λ body. g.B.Body.operations (g.B.Body.meaning body)) _ _ s _ _ _ _ c.ask.ensures.vector of seen is c.ask.result c.ask.ensures.ok c.ask.ensures.err
+    ask_told g.B.Body.operations _ _ s _ _ _ _ c.ask.ensures.vector of seen is c.ask.result c.ask.ensures.ok c.ask.ensures.err
 
 pub returns-clause-live : goal.returns-clause-live
 returns-clause-live g c =
@@ -20,4 +20,4 @@ returns-clause-live g c =
     let of : s.body ≡ c.args.self.now = same_Some _ _ (sym c.ask.ensures.body ∙ c.self.invariant ∙ ap Some c.self.view_is) in
     let seen : IsPrefix c.args.share.now.seen c.show.new.share.seen = search rules in
     let is : c.show.new.share.seen ≡ s.history.journal = search rules in
-    (s, stands_there (λ body. g.B.Body.operations (g.B.Body.meaning body)) _ _ s _ _ c.args.lo c.args.hi c.ask.ensures.vector of seen is c.ask.ensures.live)
+    (s, stands_there g.B.Body.operations _ _ s _ _ c.args.lo c.args.hi c.ask.ensures.vector of seen is c.ask.ensures.live)

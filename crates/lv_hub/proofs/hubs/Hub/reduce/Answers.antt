@@ -15,14 +15,14 @@ returns-clause-told g c =
     let of : s.body ≡ c.args.self.now = same_Some _ _ (ap (λ s. Some s.body) c.live.ensures.same ∙ sym c.live.ensures.body ∙ c.self.invariant ∙ ap Some c.self.view_is) in
     let seen : IsPrefix c.args.share.now.seen c.show.new.share.seen = search rules in
     let is : c.show.new.share.seen ≡ s.history.journal = search rules in
-    reduction_told (λ body. g.B.Body.operations (g.B.Body.meaning body)) _ _ s _ _ _ _ vector of seen is c.reduce.result c.reduce.ensures.answer
+    reduction_told g.B.Body.operations _ _ s _ _ _ _ vector of seen is c.reduce.result c.reduce.ensures.answer
 
 pub returns-clause-reads : goal.returns-clause-reads
 returns-clause-reads g c =
     let s = c.live.result.now in
     let vector = subst (λ s. IsVector g.N.Naming.limits s.history) (sym c.live.ensures.same) c.live.ensures.vector in
-    let live = subst (λ s. IsLive (g.B.Body.operations (g.B.Body.meaning s.body)) s) (sym c.live.ensures.same) c.live.ensures.live in
+    let live = subst (λ s. IsLive (g.B.Body.operations s.body) s) (sym c.live.ensures.same) c.live.ensures.live in
     let of : s.body ≡ c.args.self.now = same_Some _ _ (ap (λ s. Some s.body) c.live.ensures.same ∙ sym c.live.ensures.body ∙ c.self.invariant ∙ ap Some c.self.view_is) in
     let seen : IsPrefix c.args.share.now.seen c.show.new.share.seen = search rules in
     let is : c.show.new.share.seen ≡ s.history.journal = search rules in
-    reads_told (λ body. g.B.Body.operations (g.B.Body.meaning body)) _ _ s _ _ _ _ vector of seen is c.reduce.result live c.reduce.ensures.answer
+    reads_told g.B.Body.operations _ _ s _ _ _ _ vector of seen is c.reduce.result live c.reduce.ensures.answer

@@ -5,8 +5,8 @@ use Rattle.lv_hub.proofs.hubs.Hub.scan_alone.Goals as goal
 
 pub returns-in_err-stretch-clause-told : goal.returns-in_err-stretch-clause-told
 returns-in_err-stretch-clause-told g c =
-    told_refused (λ body. g.B.Body.operations (g.B.Body.meaning body)) _ _ _ _ _ _ _ c.in_err-stretch.field-0.0 c.from_residual.result (c.in_err-stretch.ensures.told) (search rules)
+    told_refused g.B.Body.operations _ _ _ _ _ _ _ c.in_err-stretch.field-0.0 c.from_residual.result (c.in_err-stretch.ensures.told) (search rules)
 
 pub returns-clause-told : goal.returns-clause-told
 returns-clause-told g c =
-    told_scanned (λ body. g.B.Body.operations (g.B.Body.meaning body)) _ _ _ _ _ _ _ c.in_ok-stretch.stretch c.scan_alone.result (c.in_ok-stretch.ensures.told) c.scan_alone.ensures.edit c.scan_alone.ensures.values c.scan_alone.ensures.err
+    told_scanned g.B.Body.operations _ _ _ _ _ _ _ c.in_ok-stretch.stretch c.scan_alone.result (c.in_ok-stretch.ensures.told) c.scan_alone.ensures.edit c.scan_alone.ensures.values c.scan_alone.ensures.err

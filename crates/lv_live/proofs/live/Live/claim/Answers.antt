@@ -7,8 +7,8 @@ returns-clause-next g c = rw (← c.self.view_is) c.claim.ensures.next
 
 pub returns-clause-claimed : goal.returns-clause-claimed
 returns-clause-claimed g c =
-    rw (← c.self.view_is) (claimed_by (g.B.Body.operations (g.B.Body.meaning c.self.inside.body)) (g.B.Body.is_within (g.B.Body.meaning c.self.inside.body)) (g.B.Body.laws c.self.inside.body) _ c.self.invariant c.claim.new.self c.claim.result c.claim.ensures.claimed c.claim.ensures.idle)
+    rw (← c.self.view_is) (claimed_by (g.B.Body.operations c.self.inside.body) (g.B.Body.is_within c.self.inside.body) (g.B.Body.laws c.self.inside.body) _ c.self.invariant c.claim.new.self c.claim.result c.claim.ensures.claimed c.claim.ensures.idle)
 
 pub returns-clause-honest : goal.returns-clause-honest
 returns-clause-honest g c =
-    rw (← c.self.view_is) (honest_claim (g.B.Body.operations (g.B.Body.meaning c.self.inside.body)) (g.B.Body.is_within (g.B.Body.meaning c.self.inside.body)) (g.B.Body.laws c.self.inside.body) _ c.self.invariant c.claim.new.self c.claim.result c.claim.ensures.next c.claim.ensures.job)
+    rw (← c.self.view_is) (honest_claim (g.B.Body.operations c.self.inside.body) (g.B.Body.is_within c.self.inside.body) (g.B.Body.laws c.self.inside.body) _ c.self.invariant c.claim.new.self c.claim.result c.claim.ensures.next c.claim.ensures.job)

@@ -5,4 +5,4 @@ use Rattle.lv_live.proofs.live.Live.empty.Goals as goal
 
 pub invariant_of-result : goal.invariant_of-result
 invariant_of-result g c =
-    live_empty (g.B.Body.operations (g.B.Body.meaning c.args.body)) _ (ap (λ h. h.journal) c.empty.ensures.history) c.empty.ensures.limits c.new.ensures.size c.new.ensures.untouched c.new.ensures.nothing_kept c.new.ensures.nothing_computed
+    live_empty (g.B.Body.operations c.args.body) _ (ap (λ h. h.journal) c.empty.ensures.history) c.empty.ensures.limits c.new.ensures.size c.new.ensures.untouched c.new.ensures.nothing_kept c.new.ensures.nothing_computed

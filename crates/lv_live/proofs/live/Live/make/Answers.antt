@@ -47,4 +47,4 @@ returns-clause-refresh g c =
 
 pub returns-clause-remembers : goal.returns-clause-remembers
 returns-clause-remembers g c =
-    rw (← c.self.view_is) (remembers_edit (g.B.Body.operations (g.B.Body.meaning c.self.inside.body)) _ _ _ _ _ _ _ _ c.self.invariant (invariant_of-self-2 g c) c.make_room.ensures.table c.follow.ensures.table)
+    rw (← c.self.view_is) (remembers_edit (g.B.Body.operations c.self.inside.body) _ _ _ _ _ _ _ _ c.self.invariant (invariant_of-self-2 g c) c.make_room.ensures.table c.follow.ensures.table)

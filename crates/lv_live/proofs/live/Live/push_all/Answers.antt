@@ -63,4 +63,4 @@ pub returns-clause-remembers : goal.returns-clause-remembers
 returns-clause-remembers g c =
     let at = (goal.at.returns-clause-remembers g c).After-edit-edit in
     rw (← c.self.view_is)
-    (remembers_pushed {B = g.row.B.Denot} {S = g.row.B-S.Denot} (record { body = c.self.inside.body; history = c.self.inside.history; table = c.self.inside.table; claims = c.self.inside.claims }) c.args.values.now c.push_all.new.self _ _ _ _ _ _ _ c.in_ok-last.ensures.answer.journal (are g at) c.follow_pushes.ensures (g.B.Body.operations (g.B.Body.meaning c.self.inside.body)) c.self.invariant (invariant_of-self-2 g c) c.make_room.ensures.table)
+    (remembers_pushed {B = g.row.B.Denot} {S = g.row.B-S.Denot} (record { body = c.self.inside.body; history = c.self.inside.history; table = c.self.inside.table; claims = c.self.inside.claims }) c.args.values.now c.push_all.new.self _ _ _ _ _ _ _ c.in_ok-last.ensures.answer.journal (are g at) c.follow_pushes.ensures (g.B.Body.operations c.self.inside.body) c.self.invariant (invariant_of-self-2 g c) c.make_room.ensures.table)

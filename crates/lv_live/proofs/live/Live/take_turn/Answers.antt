@@ -10,17 +10,17 @@ returns-clause-same g c = λ none. rw (← c.self.view_is) (not_taken _ c.refres
 
 pub invariant_of-self : goal.invariant_of-self
 invariant_of-self g c =
-    live_turned (g.B.Body.operations (g.B.Body.meaning c.self.inside.body)) (g.B.Body.is_within (g.B.Body.meaning c.self.inside.body)) (g.B.Body.laws c.self.inside.body) _ c.self.invariant c.refresh_next.new.table c.refresh_next.new.self
+    live_turned (g.B.Body.operations c.self.inside.body) (g.B.Body.is_within c.self.inside.body) (g.B.Body.laws c.self.inside.body) _ c.self.invariant c.refresh_next.new.table c.refresh_next.new.self
     c.refresh_next.ensures.hints c.refresh_next.ensures.blocks c.refresh_next.result c.refresh_next.ensures.refreshed c.refresh_next.ensures.same
 
 pub returns-clause-turn : goal.returns-clause-turn
 returns-clause-turn g c = λ took.
     rw (← c.self.view_is) (
-    turn_taken (g.B.Body.operations (g.B.Body.meaning c.self.inside.body)) (g.B.Body.is_within (g.B.Body.meaning c.self.inside.body)) (g.B.Body.laws c.self.inside.body) _ c.self.invariant c.refresh_next.new.table c.refresh_next.new.self
+    turn_taken (g.B.Body.operations c.self.inside.body) (g.B.Body.is_within c.self.inside.body) (g.B.Body.laws c.self.inside.body) _ c.self.invariant c.refresh_next.new.table c.refresh_next.new.self
     c.refresh_next.ensures.hints c.refresh_next.ensures.blocks (c.refresh_next.ensures.refreshed took))
 
 pub returns-clause-remembers : goal.returns-clause-remembers
 returns-clause-remembers g c =
     rw (← c.self.view_is) (
-    remembers_turned (g.B.Body.operations (g.B.Body.meaning c.self.inside.body)) (g.B.Body.is_within (g.B.Body.meaning c.self.inside.body)) (g.B.Body.laws c.self.inside.body) _ c.self.invariant c.refresh_next.new.table c.refresh_next.new.self
+    remembers_turned (g.B.Body.operations c.self.inside.body) (g.B.Body.is_within c.self.inside.body) (g.B.Body.laws c.self.inside.body) _ c.self.invariant c.refresh_next.new.table c.refresh_next.new.self
     c.refresh_next.ensures.hints c.refresh_next.ensures.blocks c.refresh_next.result c.refresh_next.ensures.refreshed c.refresh_next.ensures.same)

@@ -10,7 +10,7 @@ loop-done-init g c = (c.take_block_turns-swept.ensures.turns, c.take_block_turns
 pub loop-done-preserved : goal.loop-done-preserved
 loop-done-preserved g c =
     let turn = c.if-not-take_turn.ensures.turn refl in (
-      turns_next (g.B.Body.operations (g.B.Body.meaning c.args.self.now.body)) c.args.self.now c.loop-done.self c.take_turn.new.self c.loop-done.done c.loop-done.invariant.0 turn,
+      turns_next (g.B.Body.operations c.args.self.now.body) c.args.self.now c.loop-done.self c.take_turn.new.self c.loop-done.done c.loop-done.invariant.0 turn,
       remembers_then c.args.self.now c.loop-done.self c.take_turn.new.self c.loop-done.invariant.0.history (turn.delivers.history ∙ turn.claims.history) c.loop-done.invariant.1 c.if-not-take_turn.ensures.remembers,
     )
 

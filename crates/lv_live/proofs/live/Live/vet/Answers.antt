@@ -6,5 +6,5 @@ use Rattle.lv_live.proofs.live.Live.vet.Goals as goal
 pub returns-then-same : goal.returns-then-same
 returns-then-same g c =
     rw (← c.self.view_is) (rw (← c.node-node.ensures.value) (rw (← c.version.ensures) (rw (← c.as_contents-contents.ensures) (rw (← c.body.ensures)
-    (vouched_where (g.B.Body.operations (g.B.Body.meaning c.self.inside.body)) (g.B.Body.is_within (g.B.Body.meaning c.self.inside.body)) (g.B.Body.laws c.self.inside.body) _ c.self.invariant
+    (vouched_where (g.B.Body.operations c.self.inside.body) (g.B.Body.is_within c.self.inside.body) (g.B.Body.laws c.self.inside.body) _ c.self.invariant
     c.node-node.result c.version.result c.as_contents-contents.result.now _ c.stands_here.result (cc) (sym c.touched.ensures.value ∙ c.if-touched-version.false) (c.same.ensures.0 c.if-same.true) (c.stands_here.ensures c.self.inside.claims))))))

@@ -25,4 +25,4 @@ returns-clause-remembers g c =
     let s = c.self.inside in
     let are = accepted_writes s.history c.args.indices.now c.args.values.now c.edit-edit.result c.self.invariant.limits c.requires.paired c.in_ok-last.ensures.answer.verdict c.edit-edit.ensures.value in
     rw (← c.self.view_is)
-    (remembers_written {B = g.row.B.Denot} {S = g.row.B-S.Denot} (record { body = s.body; history = s.history; table = s.table; claims = s.claims }) c.args.indices.now c.args.values.now c.write_all.new.self _ _ c.edit-edit.result c.in_ok-last.ensures.answer.journal are c.follow_writes.ensures (g.B.Body.operations (g.B.Body.meaning s.body)) c.self.invariant (invariant_of-self-2 g c))
+    (remembers_written {B = g.row.B.Denot} {S = g.row.B-S.Denot} (record { body = s.body; history = s.history; table = s.table; claims = s.claims }) c.args.indices.now c.args.values.now c.write_all.new.self _ _ c.edit-edit.result c.in_ok-last.ensures.answer.journal are c.follow_writes.ensures (g.B.Body.operations s.body) c.self.invariant (invariant_of-self-2 g c))

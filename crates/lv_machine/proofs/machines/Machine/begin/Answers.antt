@@ -16,9 +16,9 @@ set_actor-requires g c =
 pub invariant_of-self : goal.invariant_of-self
 invariant_of-self g c =
     let there = ap (λ m. slice_get m.actors c.args.actor) c.self.view_is ∙ c.requires.idle in
-    let has : HasParts g.B.Parted.parts_of g.B.Parted.whole_of (g.B.Body.operations (g.B.Body.meaning c.self.inside.body)) = (g.met.B.Parted g.world.𝓛 g.world.𝓜 g.world.𝓡 ((λ s x. x), (λ p. p), (λ n s. n s), (λ p. p))).has_parts c.self.inside.body in
+    let has : HasParts g.B.Parted.parts_of g.B.Parted.whole_of (g.B.Body.operations c.self.inside.body) = (g.met.B.Parted g.world.𝓛 g.world.𝓜 g.world.𝓡 ((λ s x. x), (λ p. p), (λ n s. n s), (λ p. p))).has_parts c.self.inside.body in
     let may : IsGoal c.in-Ok.goal = subst (λ r. IfOk r IsGoal) c.in-Ok.is c.requires.goal in
     let actors : take c.self.inside.actors.len (c.set_actor.new.actors ++ drop (length c.set_actor.new.actors) c.self.inside.actors.items) ≡ slice_set c.self.inside.actors.items c.args.actor record { look = c.args.look; task = Some (task.Look c.in-Ok.goal) } =
     lent_back c.set_actor.new.actors c.self.inside.actors.items c.self.inside.actors.len (c.set_actor.auto.actors ∙ c.deref_mut.ensures.len)
     ∙ c.set_actor.ensures ∙ ap (λ xs. slice_set xs c.args.actor record { look = c.args.look; task = Some (task.Look c.in-Ok.goal) }) c.deref_mut.ensures.value in
-    rw actors (reached_call (g.B.Body.operations (g.B.Body.meaning c.self.inside.body)) (g.B.Body.is_within (g.B.Body.meaning c.self.inside.body)) (g.B.Body.laws c.self.inside.body) g.B.Parted.PARTS g.B.Parted.some.0 g.B.Parted.parts_of g.B.Parted.whole_of g.B.Parted.are_parts has c.self.inside.limits c.self.inside.words.items c.self.inside.actors.items c.self.invariant c.args.actor c.args.look c.in-Ok.goal there may)
+    rw actors (reached_call (g.B.Body.operations c.self.inside.body) (g.B.Body.is_within c.self.inside.body) (g.B.Body.laws c.self.inside.body) g.B.Parted.PARTS g.B.Parted.some.0 g.B.Parted.parts_of g.B.Parted.whole_of g.B.Parted.are_parts has c.self.inside.limits c.self.inside.words.items c.self.inside.actors.items c.self.invariant c.args.actor c.args.look c.in-Ok.goal there may)

@@ -15,7 +15,7 @@ returns-in_default-clause-unchanged g c = refl
 
 pub loop-event-init : goal.loop-event-init
 loop-event-init g c =
-    let none = run-nil (g.B.Body.operations (g.B.Body.meaning c.args.self.now.body)) g.B.Parted.PARTS g.B.Parted.parts_of g.B.Parted.whole_of c.args.self.now in
+    let none = run-nil (g.B.Body.operations c.args.self.now.body) g.B.Parted.PARTS g.B.Parted.parts_of g.B.Parted.whole_of c.args.self.now in
     record {
       state = ap (λ r. r.0) (sym none);
       said = c.in-Ok.ensures.items ∙ ap (λ r. r.1) (sym none);
@@ -28,8 +28,8 @@ loop-event-preserved g c =
     let i = c.loop-event.invariant in
     let pushed = c.push_reserved.ensures in
     record {
-      state = run_more (λ b. g.B.Body.operations (g.B.Body.meaning b)) g.B.Parted.PARTS g.B.Parted.parts_of g.B.Parted.whole_of c.args.self.now c.loop-event.self (take c.loop-event.event-index c.args.events.now) _ _ (take_at_read c.args.events.now c.loop-event.event-index _ c.loop-event-test.true).1 i.state _ c.step-outcome.ensures.state;
-      said = run_says_more (λ b. g.B.Body.operations (g.B.Body.meaning b)) g.B.Parted.PARTS g.B.Parted.parts_of g.B.Parted.whole_of c.args.self.now c.loop-event.self (take c.loop-event.event-index c.args.events.now) _ _ (take_at_read c.args.events.now c.loop-event.event-index _ c.loop-event-test.true).1 i.state _ _ _ i.said c.step-outcome.ensures.outcome pushed.items;
+      state = run_more g.B.Body.operations g.B.Parted.PARTS g.B.Parted.parts_of g.B.Parted.whole_of c.args.self.now c.loop-event.self (take c.loop-event.event-index c.args.events.now) _ _ (take_at_read c.args.events.now c.loop-event.event-index _ c.loop-event-test.true).1 i.state _ c.step-outcome.ensures.state;
+      said = run_says_more g.B.Body.operations g.B.Parted.PARTS g.B.Parted.parts_of g.B.Parted.whole_of c.args.self.now c.loop-event.self (take c.loop-event.event-index c.args.events.now) _ _ (take_at_read c.args.events.now c.loop-event.event-index _ c.loop-event-test.true).1 i.state _ _ _ i.said c.step-outcome.ensures.outcome pushed.items;
       room = omega (arith, i.room, pushed.len, pushed.capacity, c.loop-event-test.true);
       events = refl;
     }
@@ -42,10 +42,10 @@ pub returns-clause-state : goal.returns-clause-state
 returns-clause-state g c =
     let all = take_all c.loop-event.event-index c.args.events.now (omega (arith, c.loop-event-test.false)) in
     c.loop-event.invariant.state
-    ∙ ap (λ events. (machine_run (g.B.Body.operations (g.B.Body.meaning c.args.self.now.body)) g.B.Parted.PARTS g.B.Parted.parts_of g.B.Parted.whole_of c.args.self.now events).0) all
+    ∙ ap (λ events. (machine_run (g.B.Body.operations c.args.self.now.body) g.B.Parted.PARTS g.B.Parted.parts_of g.B.Parted.whole_of c.args.self.now events).0) all
 
 pub returns-clause-outcomes : goal.returns-clause-outcomes
 returns-clause-outcomes g c =
     let all = take_all c.loop-event.event-index c.args.events.now (omega (arith, c.loop-event-test.false)) in
     c.loop-event.invariant.said
-    ∙ ap (λ events. (machine_run (g.B.Body.operations (g.B.Body.meaning c.args.self.now.body)) g.B.Parted.PARTS g.B.Parted.parts_of g.B.Parted.whole_of c.args.self.now events).1) all
+    ∙ ap (λ events. (machine_run (g.B.Body.operations c.args.self.now.body) g.B.Parted.PARTS g.B.Parted.parts_of g.B.Parted.whole_of c.args.self.now events).1) all

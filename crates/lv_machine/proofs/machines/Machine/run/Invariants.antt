@@ -6,7 +6,7 @@ use Rattle.lv_machine.proofs.machines.Machine.run.Given as goal
 -- the events so far were done, and there is room for the outcomes of the others
 abbrev pub invariant-loop-event : goal.invariant-loop-event
 invariant-loop-event g l =
-    let run = machine_run (g.B.Body.operations (g.B.Body.meaning l.initial.self.body)) g.B.Parted.PARTS g.B.Parted.parts_of g.B.Parted.whole_of l.initial.self (take l.event-index l.events) in
+    let run = machine_run (g.B.Body.operations l.initial.self.body) g.B.Parted.PARTS g.B.Parted.parts_of g.B.Parted.whole_of l.initial.self (take l.event-index l.events) in
     record {
       state : l.self ≡ run.0;
       said : l.outcomes.items ≡ run.1;

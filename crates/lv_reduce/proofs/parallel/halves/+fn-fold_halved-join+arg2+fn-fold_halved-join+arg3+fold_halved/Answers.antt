@@ -6,15 +6,15 @@ use Rattle.lv_reduce.proofs.parallel.halves.+fn-fold_halved-join+arg2+fn-fold_ha
 
 pub join-requires-after_bounds : goal.join-requires-after_bounds
 join-requires-after_bounds g t c κs within =
-    let meaning = g.B.Body.meaning c.args.body.now in
-    slices_can_join (g.B.Body.operations meaning) (g.B.Body.is_within meaning) (g.B.Body.laws c.args.body.now) (elements_in c.args.part.row) c.requires.part.can
+    let body = c.args.body.now in
+    slices_can_join (g.B.Body.operations body) (g.B.Body.is_within body) (g.B.Body.laws c.args.body.now) (elements_in c.args.part.row) c.requires.part.can
     c.args.part.lo c.cut-mid.result c.args.part.hi c.cut-mid.ensures.low c.cut-mid.ensures.high c.requires.part.inside
     c.join-front.result.0 c.join-front.result.1 c.join-front.ensures.first c.join-front.ensures.second
 
 pub returns : goal.returns
 returns g t c =
-    let meaning = g.B.Body.meaning c.args.body.now in
-    slice-joined (g.B.Body.operations meaning) (g.B.Body.is_within meaning) (g.B.Body.laws c.args.body.now) (elements_in c.args.part.row) c.requires.part.can
+    let body = c.args.body.now in
+    slice-joined (g.B.Body.operations body) (g.B.Body.is_within body) (g.B.Body.laws c.args.body.now) (elements_in c.args.part.row) c.requires.part.can
     c.args.part.lo c.cut-mid.result c.args.part.hi c.cut-mid.ensures.low c.cut-mid.ensures.high c.requires.part.inside
     c.join-front.result.0 c.join-front.result.1 c.join.result c.join-front.ensures.first c.join-front.ensures.second c.join.ensures.value
 

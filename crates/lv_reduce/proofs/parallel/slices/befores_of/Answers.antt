@@ -15,8 +15,8 @@ can {part} is = part_can_fold (part.hi - part.lo) part.lo (elements_in part.row)
 
 pub join-before-requires-after_bounds : goal.join-before-requires-after_bounds
 join-before-requires-after_bounds g c κs within =
-    let meaning = g.B.Body.meaning c.args.body.now in
-    let o = g.B.Body.operations meaning in
+    let body = c.args.body.now in
+    let o = g.B.Body.operations body in
     let xs = elements_of c.args.part in
     let size = c.args.size in
     let k = c.loop-fold.fold-index in
@@ -25,12 +25,12 @@ join-before-requires-after_bounds g c κs within =
     let piece = c.fold-item.result in
     let fold : piece ≡ fold_of o (take size (drop (k * size) xs)) =
     c.fold-item.is ∙ ap (λ l. slice_index_or l k piece) same ∙ c.in_ok-folds.ensures.folds k piece inside in
-    can_join_piece o (g.B.Body.is_within meaning) (g.B.Body.laws c.args.body.now) xs (can c.requires.part) size k c.loop-fold.before piece c.loop-fold.invariant.before fold
+    can_join_piece o (g.B.Body.is_within body) (g.B.Body.laws c.args.body.now) xs (can c.requires.part) size k c.loop-fold.before piece c.loop-fold.invariant.before fold
 
 pub loop-fold-preserved : goal.loop-fold-preserved
 loop-fold-preserved g c =
-    let meaning = g.B.Body.meaning c.args.body.now in
-    let o = g.B.Body.operations meaning in
+    let body = c.args.body.now in
+    let o = g.B.Body.operations body in
     let xs = elements_of c.args.part in
     let size = c.args.size in
     let k = c.loop-fold.fold-index in
@@ -41,7 +41,7 @@ loop-fold-preserved g c =
     c.fold-item.is ∙ ap (λ l. slice_index_or l k piece) same ∙ c.in_ok-folds.ensures.folds k piece inside in
     let kept = c.loop-fold.invariant in
     record {
-      before = before_next o (g.B.Body.is_within meaning) (g.B.Body.laws c.args.body.now) xs (can c.requires.part) size k c.loop-fold.before piece c.join-before.result kept.before fold c.join-before.ensures.value;
+      before = before_next o (g.B.Body.is_within body) (g.B.Body.laws c.args.body.now) xs (can c.requires.part) size k c.loop-fold.before piece c.join-before.result kept.before fold c.join-before.ensures.value;
       befores =
           c.push_reserved.ensures.items
           ∙ ap (λ l. l ++ c.loop-fold.before ∷ []) kept.befores
@@ -53,7 +53,7 @@ loop-fold-preserved g c =
 
 pub returns : goal.returns
 returns g c =
-    let o = g.B.Body.operations (g.B.Body.meaning c.args.body.now) in
+    let o = g.B.Body.operations c.args.body.now in
     let xs = elements_of c.args.part in
     let k = c.loop-fold.fold-index in
     let all : vec_len c.in_ok-folds.folds ≡ k = omega (arith, c.as_slice-fold-items.ensures.len, c.loop-fold-test.false) in

@@ -8,7 +8,7 @@ use Rattle.lv_reduce.proofs.parallel.slices.befores_of.Given as goal
 -- what stands before each piece so far, and before the next
 abbrev pub invariant-loop-fold : goal.invariant-loop-fold
 invariant-loop-fold g l =
-    let o = g.B.Body.operations (g.B.Body.meaning l.body) in
+    let o = g.B.Body.operations l.body in
     record {
       before : l.before ≡ fold_of o (take (l.fold-index * l.size) (elements_of l.fn.part));
       befores : l.befores.items ≡ map (λ n. fold_of o (take (n * l.size) (elements_of l.fn.part))) (range_with_len 0 l.fold-index);

@@ -10,5 +10,5 @@ returns g c =
     let part = c.args.part in
     let at = c.args.n * c.args.size in
     c.fold_range.ensures
-    ∙ ap (fold_of (g.B.Body.operations (g.B.Body.meaning c.args.body.now)))
+    ∙ ap (fold_of (g.B.Body.operations c.args.body.now))
     (piece_of_slice (elements_in part.row) part.lo part.hi at c.args.size c.min-count.result c.requires.part.inside (omega (arith, c.requires.inside)) c.requires.part.order (omega (arith, c.min-count.ensures)))

@@ -6,7 +6,7 @@ use Rattle.lv_reduce.proofs.parallel.slices.scan_alone.Goals as goal
 
 pub push_folds-requires-clause-can : goal.push_folds-requires-clause-can
 push_folds-requires-clause-can g c κs within =
-    let is_within = g.B.Body.is_within (g.B.Body.meaning c.args.body.now) in
+    let is_within = g.B.Body.is_within c.args.body.now in
     record {
       count = 0;
       count_within = subst (λ s. is_within s 0) (sym c.identity.ensures) (g.B.Body.laws c.args.body.now).identity_within;
@@ -15,7 +15,7 @@ push_folds-requires-clause-can g c κs within =
 
 pub returns : goal.returns
 returns g c =
-    let o = g.B.Body.operations (g.B.Body.meaning c.args.body.now) in
+    let o = g.B.Body.operations c.args.body.now in
     c.push_folds.ensures.values
     ∙ ap (λ none. none ++ scan_from c.args.inclusive o c.identity.result c.args.xs.now) c.in_ok-values.ensures.items
     ∙ ap (λ s. scan_from c.args.inclusive o s c.args.xs.now) c.identity.ensures

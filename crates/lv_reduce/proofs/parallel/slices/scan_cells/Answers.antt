@@ -9,17 +9,17 @@ use Rattle.lv_reduce.proofs.parallel.slices.scan_cells.Goals as goal
 
 pub scan_into-sum-requires-clause-can : goal.scan_into-sum-requires-clause-can
 scan_into-sum-requires-clause-can g c κs within =
-    let meaning = g.B.Body.meaning c.args.body.now in
-    let o = g.B.Body.operations meaning in
+    let body = c.args.body.now in
+    let o = g.B.Body.operations body in
     let xs = list_of c.args.history.now.journal in
     let at = c.loop-at.at in
     let kept = c.loop-at.invariant in
     let so_far = slice_went_on o xs c.requires.before.0 c.args.lo at c.requires.before.1 kept.low c.args.before c.loop-at.sum c.requires.before.2 kept.sum in
-    slice_can_go_on o (g.B.Body.is_within meaning) (g.B.Body.laws c.args.body.now) xs c.requires.can c.requires.before.0 at (length c.run_at-run.result.now) (omega (arith, c.requires.before.1, kept.low)) (omega (arith, c.requires.inside, c.loop-at-test.true, c.run_at-run.ensures.few)) c.loop-at.sum so_far
+    slice_can_go_on o (g.B.Body.is_within body) (g.B.Body.laws c.args.body.now) xs c.requires.can c.requires.before.0 at (length c.run_at-run.result.now) (omega (arith, c.requires.before.1, kept.low)) (omega (arith, c.requires.inside, c.loop-at-test.true, c.run_at-run.ensures.few)) c.loop-at.sum so_far
 
 pub loop-at-preserved : goal.loop-at-preserved
 loop-at-preserved g c =
-    let o = g.B.Body.operations (g.B.Body.meaning c.args.body.now) in
+    let o = g.B.Body.operations c.args.body.now in
     let xs = list_of c.args.history.now.journal in
     let lo = c.args.lo in
     let at = c.loop-at.at in
@@ -40,7 +40,7 @@ loop-at-preserved g c =
 
 pub returns : goal.returns
 returns g c =
-    let o = g.B.Body.operations (g.B.Body.meaning c.args.body.now) in
+    let o = g.B.Body.operations c.args.body.now in
     let journal = c.args.history.now.journal in
     let hi = c.args.lo + length c.args.values.now in
     let kept = c.loop-at.invariant in

@@ -11,8 +11,8 @@ use Rattle.lv_reduce.proofs.parallel.slices.scan_into.Goals.{then-inclusive, els
 
 pub loop-k-preserved : goal.loop-k-preserved
 loop-k-preserved g c =
-    let meaning = g.B.Body.meaning c.args.body.now in
-    let o = g.B.Body.operations meaning in
+    let body = c.args.body.now in
+    let o = g.B.Body.operations body in
     let xs = c.args.xs.now in
     let k = c.loop-k.k in
     let x = slice_index_or xs k (pos 0) in
@@ -44,7 +44,7 @@ loop-k-preserved g c =
           ∙ ap (λ ys. ys ++ value ∷ []) c.loop-k.invariant.values
           ∙ append_assoc old front (value ∷ [])
           ∙ ap (λ ys. old ++ ys) gone.1;
-      can = (can.0, subst (g.B.Body.is_within meaning next) place (c.fold_more-sum.ensures.within (can.0 + k) can.1 (omega (arith, can.2))), can.2);
+      can = (can.0, subst (g.B.Body.is_within body next) place (c.fold_more-sum.ensures.within (can.0 + k) can.1 (omega (arith, can.2))), can.2);
       len = length-set values at value ∙ c.loop-k.invariant.len;
     }
 
@@ -55,7 +55,7 @@ fold_more-sum-requires-after_bounds g c κs within =
 
 pub loop-k-init : goal.loop-k-init
 loop-k-init g c =
-    let within = g.B.Body.is_within (g.B.Body.meaning c.args.body.now) in
+    let within = g.B.Body.is_within c.args.body.now in
     let none : c.requires.can.count ≡ c.requires.can.count + 0 = omega arith in
     let place : c.args.from + 0 ≡ c.args.from = omega arith in
     record {
@@ -67,7 +67,7 @@ loop-k-init g c =
 
 pub returns-clause-values : goal.returns-clause-values
 returns-clause-values g c =
-    let o = g.B.Body.operations (g.B.Body.meaning c.args.body.now) in
+    let o = g.B.Body.operations c.args.body.now in
     let all : length c.args.xs.now ≡ c.loop-k.k = omega arith in
     ap (λ n. take (c.args.from + n) c.loop-k.values) all
     ∙ c.loop-k.invariant.values
@@ -75,5 +75,5 @@ returns-clause-values g c =
 
 pub returns-clause-sum : goal.returns-clause-sum
 returns-clause-sum g c =
-    let o = g.B.Body.operations (g.B.Body.meaning c.args.body.now) in
+    let o = g.B.Body.operations c.args.body.now in
     c.loop-k.invariant.sum ∙ ap (reached o c.args.before) (take_all c.loop-k.k c.args.xs.now (omega arith))

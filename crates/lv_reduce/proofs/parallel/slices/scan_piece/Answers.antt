@@ -24,9 +24,9 @@ piece_is xs lo hi start m inside =
 
 pub scan_into-requires-clause-can : goal.scan_into-requires-clause-can
 scan_into-requires-clause-can g c κs within =
-    let meaning = g.B.Body.meaning c.args.body.now in
-    let o = g.B.Body.operations meaning in
-    let is_within = g.B.Body.is_within meaning in
+    let body = c.args.body.now in
+    let o = g.B.Body.operations body in
+    let is_within = g.B.Body.is_within body in
     let part = c.args.part in
     let xs = elements_in part.row in
     let start = c.args.start in
@@ -44,7 +44,7 @@ scan_into-requires-clause-can g c κs within =
 
 pub scan_cells-requires-clause-before : goal.scan_cells-requires-clause-before
 scan_cells-requires-clause-before g c κs within =
-    let o = g.B.Body.operations (g.B.Body.meaning c.args.body.now) in
+    let o = g.B.Body.operations c.args.body.now in
     let part = c.args.part in
     let xs = elements_in part.row in
     let start = c.args.start in
@@ -56,7 +56,7 @@ scan_cells-requires-clause-before g c κs within =
 
 pub returns-in-Cells : goal.returns-in-Cells
 returns-in-Cells g c =
-    let o = g.B.Body.operations (g.B.Body.meaning c.args.body.now) in
+    let o = g.B.Body.operations c.args.body.now in
     let part = c.args.part in
     let start = c.args.start in
     let m = length c.args.piece.now in
@@ -70,7 +70,7 @@ returns-in-Cells g c =
 
 pub returns-in-Slice : goal.returns-in-Slice
 returns-in-Slice g c =
-    let o = g.B.Body.operations (g.B.Body.meaning c.args.body.now) in
+    let o = g.B.Body.operations c.args.body.now in
     let part = c.args.part in
     let xs = elements_in part.row in
     let start = c.args.start in

@@ -10,7 +10,7 @@ use Rattle.lv_reduce.proofs.parallel.slices.scan_pieces.Goals as goal
 
 pub returns : goal.returns
 returns g c =
-    let o = g.B.Body.operations (g.B.Body.meaning c.args.body.now) in
+    let o = g.B.Body.operations c.args.body.now in
     let part = c.args.part in
     let xs = elements_of part in
     let all : length xs ≡ part.hi - part.lo = length-slice_range (elements_in part.row) part.lo part.hi c.requires.part.order c.requires.part.inside in

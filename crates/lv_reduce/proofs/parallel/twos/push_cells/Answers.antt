@@ -6,13 +6,13 @@ use Rattle.lv_reduce.proofs.parallel.twos.push_cells.Goals as goal
 
 pub push_folds-sum-requires-clause-can : goal.push_folds-sum-requires-clause-can
 push_folds-sum-requires-clause-can g c κs within =
-    let meaning = g.B.Body.meaning c.args.body.now in
+    let body = c.args.body.now in
     let xs = list_of c.args.history.now.journal in
-    slice_can_go_on (g.B.Body.operations meaning) (g.B.Body.is_within meaning) (g.B.Body.laws c.args.body.now) xs c.requires.can c.args.lo c.loop-at.at (length c.run_at-run.result.now) c.loop-at.invariant.low (omega (arith, c.requires.inside, c.run_at-run.ensures.few)) c.loop-at.sum c.loop-at.invariant.sum
+    slice_can_go_on (g.B.Body.operations body) (g.B.Body.is_within body) (g.B.Body.laws c.args.body.now) xs c.requires.can c.args.lo c.loop-at.at (length c.run_at-run.result.now) c.loop-at.invariant.low (omega (arith, c.requires.inside, c.run_at-run.ensures.few)) c.loop-at.sum c.loop-at.invariant.sum
 
 pub loop-at-preserved : goal.loop-at-preserved
 loop-at-preserved g c =
-    let o = g.B.Body.operations (g.B.Body.meaning c.args.body.now) in
+    let o = g.B.Body.operations c.args.body.now in
     let xs = list_of c.args.history.now.journal in
     let at = c.loop-at.at in
     let run = c.run_at-run.result.now in

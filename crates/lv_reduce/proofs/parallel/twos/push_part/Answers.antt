@@ -9,7 +9,7 @@ use Rattle.lv_reduce.proofs.parallel.twos.push_part.Goals as goal
 
 pub returns-in-Slice-clause-values : goal.returns-in-Slice-clause-values
 returns-in-Slice-clause-values g c =
-    let o = g.B.Body.operations (g.B.Body.meaning c.args.body.now) in
+    let o = g.B.Body.operations c.args.body.now in
     let part = c.args.part in
     let xs = slice_range c.in-Slice.xs.now part.lo part.hi in
     c.push_folds.ensures.values

@@ -5,7 +5,7 @@ use Rattle.lv_reduce.proofs.parallel.twos.put_behind.Given as goal
 -- the values so far stand behind what was there, each joined with what stands before
 abbrev pub invariant-loop-value : goal.invariant-loop-value
 invariant-loop-value g l =
-    let o = g.B.Body.operations (g.B.Body.meaning l.body) in
+    let o = g.B.Body.operations l.body in
     record {
       values : l.values.items ≡ l.initial.values.items ++ map (o.join l.before) (take l.value-index l.more);
       count : vec_len l.values ≡ vec_len l.initial.values + l.value-index;

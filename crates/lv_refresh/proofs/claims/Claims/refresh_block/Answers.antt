@@ -8,5 +8,5 @@ claim_block-requires-clause-hints g c = HintsWants-from _ _ _ c.requires.swept.a
 
 pub returns-clause-sweeps : goal.returns-clause-sweeps
 returns-clause-sweeps g c =
-    sweeps_one (g.B.Body.operations (g.B.Body.meaning c.args.body.now)) c.args.history.now.journal c.args.table.now c.install_due.new.self c.args.self.now c.claim_block.new.self c.hint_above.new.self c.args.number c.in-Some.version
+    sweeps_one (g.B.Body.operations c.args.body.now) c.args.history.now.journal c.args.table.now c.install_due.new.self c.args.self.now c.claim_block.new.self c.hint_above.new.self c.args.number c.in-Some.version
     c.requires.swept c.in-Some.ensures.some c.hint_above.ensures (rw c.fold_near-summary.ensures at c.install_due.ensures)

@@ -6,6 +6,6 @@ use Rattle.lv_refresh.proofs.claims.Claims.refresh_blocks.Given as goal
 -- the blocks of the words before this one were swept
 abbrev pub invariant-loop-word : goal.invariant-loop-word
 invariant-loop-word g l = record {
-  sweeps : Sweeps (g.B.Body.operations (g.B.Body.meaning l.body)) l.history.journal l.initial.table l.table l.initial.self l.self l.done (64 * l.word);
+  sweeps : Sweeps (g.B.Body.operations l.body) l.history.journal l.initial.table l.table l.initial.self l.self l.done (64 * l.word);
   few : l.done ≤ l.jobs;
 }

@@ -9,5 +9,5 @@ invariant_of-self g c =
 
 pub returns-clause-sweeps : goal.returns-clause-sweeps
 returns-clause-sweeps g c =
-    sweeps_unhinted (g.B.Body.operations (g.B.Body.meaning c.args.body.now)) c.args.history.now.journal c.args.table.now c.refresh_each-done.new.table c.args.self.now (claims_of c.self.inside.levels) _ c.refresh_each-done.result c.args.word
+    sweeps_unhinted (g.B.Body.operations c.args.body.now) c.args.history.now.journal c.args.table.now c.refresh_each-done.new.table c.args.self.now (claims_of c.self.inside.levels) _ c.refresh_each-done.result c.args.word
     (rw (← c.self.view_is) at c.refresh_each-done.ensures.sweeps) (UnhintsBlocks-by_rows _ _ c.args.word c.unhint_word.ensures (others_stay c.self.inside.levels c.unhint_word.new.self))

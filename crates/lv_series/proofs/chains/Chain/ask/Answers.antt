@@ -13,13 +13,13 @@ pub place_of-lo-requires : goal.place_of-lo-requires
 place_of-lo-requires g c =
     let s = c.self.inside in
     let last : c.args.to ≤ length (all_in (held_by_each s.full.items) (held_by s.tail)) = rw (← c.self.view_is) at c.requires.inside in
-    omega (arith, place_fits (λ b. g.B.Body.operations (g.B.Body.meaning b)) (held_by_each s.full.items) s.sums.sums (held_by s.tail) c.self.invariant.chain c.args.from (omega (arith, c.requires.order)), c.len.ensures, s.full.ok.0, length_held s.full.items)
+    omega (arith, place_fits g.B.Body.operations (held_by_each s.full.items) s.sums.sums (held_by s.tail) c.self.invariant.chain c.args.from (omega (arith, c.requires.order)), c.len.ensures, s.full.ok.0, length_held s.full.items)
 
 pub place_of-hi-requires : goal.place_of-hi-requires
 place_of-hi-requires g c =
     let s = c.self.inside in
     let last : c.args.to ≤ length (all_in (held_by_each s.full.items) (held_by s.tail)) = rw (← c.self.view_is) at c.requires.inside in
-    omega (arith, place_fits (λ b. g.B.Body.operations (g.B.Body.meaning b)) (held_by_each s.full.items) s.sums.sums (held_by s.tail) c.self.invariant.chain c.args.to last, c.len-2.ensures, s.full.ok.0, length_held s.full.items)
+    omega (arith, place_fits g.B.Body.operations (held_by_each s.full.items) s.sums.sums (held_by s.tail) c.self.invariant.chain c.args.to last, c.len-2.ensures, s.full.ok.0, length_held s.full.items)
 
 pub ask_at-requires-clause-order : goal.ask_at-requires-clause-order
 ask_at-requires-clause-order g c = λ _ _. omega (arith, c.place_of-lo.ensures.place, c.place_of-hi.ensures.place, c.if-lo-hi.true, c.requires.order)
@@ -35,7 +35,7 @@ ask_at-requires-clause-inside g c = λ _ _.
 pub invariant_of-self : goal.invariant_of-self
 invariant_of-self g c =
     let s = c.self.inside in
-    asked_chain (λ b. g.B.Body.operations (g.B.Body.meaning b)) (held_by_each s.full.items) s.sums (held_by s.tail) c.self.invariant (held_by_each c.ask_at.new.full.items) (held_by c.ask_at.new.tail) c.ask_at.ensures.full c.ask_at.ensures.tail
+    asked_chain g.B.Body.operations (held_by_each s.full.items) s.sums (held_by s.tail) c.self.invariant (held_by_each c.ask_at.new.full.items) (held_by c.ask_at.new.tail) c.ask_at.ensures.full c.ask_at.ensures.tail
 
 pub returns-then-lo-hi-clause-fold : goal.returns-then-lo-hi-clause-fold
 returns-then-lo-hi-clause-fold g c =
@@ -46,14 +46,14 @@ returns-then-lo-hi-clause-fold g c =
     let few : p.result.shard ≤ length (held_by_each s.full.items) = omega (arith, p.ensures.shard, c.len.ensures, s.full.ok.0, length_held s.full.items) in
     let there : 32760 * p.result.shard + q.result.index ≡ c.args.to = omega (arith, q.ensures.place, c.if-lo-hi.true) in
     let inside = fits_at (held_by s.tail).body (held_by_each s.full.items) (held_by s.tail) c.self.invariant.chain.each p.result.shard q.result.index c.args.to few there q.ensures.small last in
-    rw (← c.self.view_is) (folded_inside (λ b. g.B.Body.operations (g.B.Body.meaning b)) (held_by_each s.full.items) s.sums.sums (held_by s.tail) c.self.invariant.chain p.result.shard p.result.index q.result.index c.args.from c.args.to c.ask_at.result few p.ensures.place there
+    rw (← c.self.view_is) (folded_inside g.B.Body.operations (held_by_each s.full.items) s.sums.sums (held_by s.tail) c.self.invariant.chain p.result.shard p.result.index q.result.index c.args.from c.args.to c.ask_at.result few p.ensures.place there
     (omega (arith, p.ensures.place, there, c.requires.order)) inside
     c.ask_at.ensures.value)
 
 pub returns-then-lo-hi-clause-same : goal.returns-then-lo-hi-clause-same
 returns-then-lo-hi-clause-same g c =
     let s = c.self.inside in
-    rw (← c.self.view_is) (asked_held (λ b. g.B.Body.operations (g.B.Body.meaning b)) (held_by_each s.full.items) s.sums (held_by s.tail) c.self.invariant (held_by_each c.ask_at.new.full.items) (held_by c.ask_at.new.tail) c.ask_at.ensures.full c.ask_at.ensures.tail)
+    rw (← c.self.view_is) (asked_held g.B.Body.operations (held_by_each s.full.items) s.sums (held_by s.tail) c.self.invariant (held_by_each c.ask_at.new.full.items) (held_by c.ask_at.new.tail) c.ask_at.ensures.full c.ask_at.ensures.tail)
 
 pub ask_at-front-requires-clause-order : goal.ask_at-front-requires-clause-order
 ask_at-front-requires-clause-order g c = λ _ _. omega (arith, c.place_of-lo.ensures.small)
@@ -78,7 +78,7 @@ overflow_add-lo g c =
 pub reduce-middle-requires-clause-folds : goal.reduce-middle-requires-clause-folds
 reduce-middle-requires-clause-folds g c = λ _ _.
     let s = c.self.inside in
-    folds_here (λ b. g.B.Body.operations (g.B.Body.meaning b)) (held_by_each s.full.items) s.sums (held_by s.tail) c.self.invariant
+    folds_here g.B.Body.operations (held_by_each s.full.items) s.sums (held_by s.tail) c.self.invariant
 
 pub reduce-middle-requires-clause-first : goal.reduce-middle-requires-clause-first
 reduce-middle-requires-clause-first g c = λ _ _. omega (arith, c.self.invariant.first)
@@ -93,7 +93,7 @@ reduce-middle-requires-clause-order g c = λ _ _.
 pub reduce-middle-requires-clause-last : goal.reduce-middle-requires-clause-last
 reduce-middle-requires-clause-last g c = λ _ _.
     let s = c.self.inside in
-    omega (arith, c.place_of-hi.ensures.shard, c.len-2.ensures, s.full.ok.0, length_held s.full.items, as_many (λ b. g.B.Body.operations (g.B.Body.meaning b)) (held_by_each s.full.items) s.sums (held_by s.tail) c.self.invariant, c.self.invariant.first)
+    omega (arith, c.place_of-hi.ensures.shard, c.len-2.ensures, s.full.ok.0, length_held s.full.items, as_many g.B.Body.operations (held_by_each s.full.items) s.sums (held_by s.tail) c.self.invariant, c.self.invariant.first)
 
 pub ask_at-end-requires-clause-order : goal.ask_at-end-requires-clause-order
 ask_at-end-requires-clause-order g c = λ _ _. omega arith
@@ -114,10 +114,10 @@ join_three-requires-after_bounds g c = λ _ _.
     let later : p.result.shard < q.result.shard = later_shard p.result.shard p.result.index q.result.shard q.result.index c.len-2.result c.args.from c.args.to p.ensures.place q.ensures.place (omega (arith, p.ensures.shard, c.len.ensures, c.len-2.ensures)) q.ensures.inside c.if-lo-hi.false c.requires.order in
     let few : q.result.shard ≤ length (held_by_each s.full.items) = omega (arith, q.ensures.shard, c.len-2.ensures, s.full.ok.0, length_held s.full.items) in
     let inside = fits_at (held_by s.tail).body (held_by_each s.full.items) (held_by s.tail) c.self.invariant.chain.each q.result.shard q.result.index c.args.to few q.ensures.place q.ensures.small last in
-    rw c.body-body.ensures (parts_joinable (λ b. g.B.Body.operations (g.B.Body.meaning b)) (held_by_each s.full.items) s.sums.sums (held_by s.tail) c.self.invariant.chain p.result.shard p.result.index q.result.shard q.result.index c.args.from c.args.to later few p.ensures.small inside p.ensures.place q.ensures.place
+    rw c.body-body.ensures (parts_joinable g.B.Body.operations (held_by_each s.full.items) s.sums.sums (held_by s.tail) c.self.invariant.chain p.result.shard p.result.index q.result.shard q.result.index c.args.from c.args.to later few p.ensures.small inside p.ensures.place q.ensures.place
     c.ask_at-front.result c.reduce-middle.result.summary c.ask_at-end.result
     c.ask_at-front.ensures.value
-    (range_folded (λ b. g.B.Body.operations (g.B.Body.meaning b)) (held_by_each s.full.items) s.sums (held_by s.tail) c.self.invariant (p.result.shard + 1) q.result.shard c.reduce-middle.result.summary c.reduce-middle.ensures.fold)
+    (range_folded g.B.Body.operations (held_by_each s.full.items) s.sums (held_by s.tail) c.self.invariant (p.result.shard + 1) q.result.shard c.reduce-middle.result.summary c.reduce-middle.ensures.fold)
     (rw (c.ask_at-front.ensures.full, c.ask_at-front.ensures.tail) at c.ask_at-end.ensures.value))
 
 pub invariant_of-self-2 : goal.invariant_of-self-2
@@ -125,7 +125,7 @@ invariant_of-self-2 g c =
     let s = c.self.inside in
     let f = c.ask_at-front in
     let e = c.ask_at-end in
-    asked_chain (λ b. g.B.Body.operations (g.B.Body.meaning b)) (held_by_each s.full.items) s.sums (held_by s.tail) c.self.invariant (held_by_each e.new.full.items) (held_by e.new.tail) (e.ensures.full ∙ f.ensures.full) (e.ensures.tail ∙ f.ensures.tail)
+    asked_chain g.B.Body.operations (held_by_each s.full.items) s.sums (held_by s.tail) c.self.invariant (held_by_each e.new.full.items) (held_by e.new.tail) (e.ensures.full ∙ f.ensures.full) (e.ensures.tail ∙ f.ensures.tail)
 
 pub returns-clause-fold : goal.returns-clause-fold
 returns-clause-fold g c =
@@ -136,10 +136,10 @@ returns-clause-fold g c =
     let later : p.result.shard < q.result.shard = later_shard p.result.shard p.result.index q.result.shard q.result.index c.len-2.result c.args.from c.args.to p.ensures.place q.ensures.place (omega (arith, p.ensures.shard, c.len.ensures, c.len-2.ensures)) q.ensures.inside c.if-lo-hi.false c.requires.order in
     let few : q.result.shard ≤ length (held_by_each s.full.items) = omega (arith, q.ensures.shard, c.len-2.ensures, s.full.ok.0, length_held s.full.items) in
     let inside = fits_at (held_by s.tail).body (held_by_each s.full.items) (held_by s.tail) c.self.invariant.chain.each q.result.shard q.result.index c.args.to few q.ensures.place q.ensures.small last in
-    rw (← c.self.view_is) (folded_across (λ b. g.B.Body.operations (g.B.Body.meaning b)) (held_by_each s.full.items) s.sums.sums (held_by s.tail) c.self.invariant.chain p.result.shard p.result.index q.result.shard q.result.index c.args.from c.args.to later few p.ensures.small inside p.ensures.place q.ensures.place
+    rw (← c.self.view_is) (folded_across g.B.Body.operations (held_by_each s.full.items) s.sums.sums (held_by s.tail) c.self.invariant.chain p.result.shard p.result.index q.result.shard q.result.index c.args.from c.args.to later few p.ensures.small inside p.ensures.place q.ensures.place
     c.ask_at-front.result c.reduce-middle.result.summary c.ask_at-end.result
     c.ask_at-front.ensures.value
-    (range_folded (λ b. g.B.Body.operations (g.B.Body.meaning b)) (held_by_each s.full.items) s.sums (held_by s.tail) c.self.invariant (p.result.shard + 1) q.result.shard c.reduce-middle.result.summary c.reduce-middle.ensures.fold)
+    (range_folded g.B.Body.operations (held_by_each s.full.items) s.sums (held_by s.tail) c.self.invariant (p.result.shard + 1) q.result.shard c.reduce-middle.result.summary c.reduce-middle.ensures.fold)
     (rw (c.ask_at-front.ensures.full, c.ask_at-front.ensures.tail) at c.ask_at-end.ensures.value)
     c.join_three.result (rw c.body-body.ensures at c.join_three.ensures))
 
@@ -148,4 +148,4 @@ returns-clause-same g c =
     let s = c.self.inside in
     let f = c.ask_at-front in
     let e = c.ask_at-end in
-    rw (← c.self.view_is) (asked_held (λ b. g.B.Body.operations (g.B.Body.meaning b)) (held_by_each s.full.items) s.sums (held_by s.tail) c.self.invariant (held_by_each e.new.full.items) (held_by e.new.tail) (e.ensures.full ∙ f.ensures.full) (e.ensures.tail ∙ f.ensures.tail))
+    rw (← c.self.view_is) (asked_held g.B.Body.operations (held_by_each s.full.items) s.sums (held_by s.tail) c.self.invariant (held_by_each e.new.full.items) (held_by e.new.tail) (e.ensures.full ∙ f.ensures.full) (e.ensures.tail ∙ f.ensures.tail))

@@ -18,12 +18,12 @@ claim_first-requires-after_bounds g c = λ _ _.
 pub invariant_of-self : goal.invariant_of-self
 invariant_of-self g c =
     let s = c.self.inside in
-    asked_chain (λ b. g.B.Body.operations (g.B.Body.meaning b)) (held_by_each s.full.items) s.sums (held_by s.tail) c.self.invariant (held_by_each c.claim_first.new.full.items) (held_by c.claim_first.new.tail) c.claim_first.ensures.full c.claim_first.ensures.tail
+    asked_chain g.B.Body.operations (held_by_each s.full.items) s.sums (held_by s.tail) c.self.invariant (held_by_each c.claim_first.new.full.items) (held_by c.claim_first.new.tail) c.claim_first.ensures.full c.claim_first.ensures.tail
 
 pub returns-clause-held : goal.returns-clause-held
 returns-clause-held g c =
     let s = c.self.inside in
-    rw (← c.self.view_is) (asked_held (λ b. g.B.Body.operations (g.B.Body.meaning b)) (held_by_each s.full.items) s.sums (held_by s.tail) c.self.invariant (held_by_each c.claim_first.new.full.items) (held_by c.claim_first.new.tail) c.claim_first.ensures.full c.claim_first.ensures.tail)
+    rw (← c.self.view_is) (asked_held g.B.Body.operations (held_by_each s.full.items) s.sums (held_by s.tail) c.self.invariant (held_by_each c.claim_first.new.full.items) (held_by c.claim_first.new.tail) c.claim_first.ensures.full c.claim_first.ensures.tail)
 
 pub returns-clause-none : goal.returns-clause-none
 returns-clause-none g c = rw (← c.self.view_is) c.claim_first.ensures.none
@@ -36,5 +36,5 @@ returns-clause-placed g c =
     let s = c.self.inside in
     let full = held_by_each s.full.items in
     let tail = held_by s.tail in
-    rw (← c.self.view_is) (if_some (λ job. IsShardJob (λ b. g.B.Body.operations (g.B.Body.meaning b)) full tail c.args.first job.shard job.job) (λ job. IsPlaced (g.B.Body.operations (g.B.Body.meaning tail.body)) (all_in full tail) c.args.first job.shard job.job) c.claim_first.result
-    (λ job there. placed_job (λ b. g.B.Body.operations (g.B.Body.meaning b)) full s.sums.sums tail c.self.invariant.chain c.args.first job.shard job.job there) c.claim_first.ensures.part)
+    rw (← c.self.view_is) (if_some (λ job. IsShardJob g.B.Body.operations full tail c.args.first job.shard job.job) (λ job. IsPlaced (g.B.Body.operations tail.body) (all_in full tail) c.args.first job.shard job.job) c.claim_first.result
+    (λ job there. placed_job g.B.Body.operations full s.sums.sums tail c.self.invariant.chain c.args.first job.shard job.job there) c.claim_first.ensures.part)

@@ -20,20 +20,20 @@ overflow_add-from g c = omega (arith, c.requires.inside, c.len-len.ensures.value
 
 pub combine_long-sum-requires : goal.combine_long-sum-requires
 combine_long-sum-requires g c =
-    let m = g.B.Body.meaning c.args.self.now.held.body in
-    let o = g.B.Body.operations m in
+    let body = c.args.self.now.held.body in
+    let o = g.B.Body.operations body in
     let els = c.args.self.now.held.elements in
     let more = length c.args.into.now in
     let k = c.loop-k.k in
     let fits : IsElement c.get-element.result = search rules in
     let all : All IsElement els = c.len-len.ensures.elements in
-    let laws : LongLaws o (g.B.Body.is_within m) = rw c.body-body.ensures at c.long_laws.ensures in
-    rw (c.body-body.ensures, c.lift.ensures, to_z-of_z w64 c.get-element.result fits, c.body-body.ensures) (may_join o c.args.before els c.args.from more c.requires.inside (g.B.Body.is_within m) laws c.requires.before all k c.get-element.result c.loop-k.sum (omega arith) fits c.loop-k.invariant.sum)
+    let laws : LongLaws o (g.B.Body.is_within body) = rw c.body-body.ensures at c.long_laws.ensures in
+    rw (c.body-body.ensures, c.lift.ensures, to_z-of_z w64 c.get-element.result fits, c.body-body.ensures) (may_join o c.args.before els c.args.from more c.requires.inside (g.B.Body.is_within body) laws c.requires.before all k c.get-element.result c.loop-k.sum (omega arith) fits c.loop-k.invariant.sum)
 
 pub loop-k-preserved : goal.loop-k-preserved
 loop-k-preserved g c =
-    let m = g.B.Body.meaning c.args.self.now.held.body in
-    let o = g.B.Body.operations m in
+    let body = c.args.self.now.held.body in
+    let o = g.B.Body.operations body in
     let els = c.args.self.now.held.elements in
     let more = length c.args.into.now in
     let k = c.loop-k.k in
@@ -60,5 +60,5 @@ loop-k-preserved g c =
 
 pub returns : goal.returns
 returns g c =
-    let o = g.B.Body.operations (g.B.Body.meaning c.args.self.now.held.body) in
+    let o = g.B.Body.operations c.args.self.now.held.body in
     values_all o c.args.before c.args.self.now.held.elements c.args.from (length c.args.into.now) c.requires.inside c.args.inclusive c.loop-k.k c.loop-k.into c.loop-k.invariant.len (omega arith) c.loop-k.invariant.values

@@ -9,7 +9,7 @@ use Rattle.lv_series.proofs.chains.Chain.fill.Given as goal
 
 abbrev pub invariant-loop-k : goal.invariant-loop-k
 invariant-loop-k g l =
-    let o = g.B.Body.operations (g.B.Body.meaning l.self.held.body) in
+    let o = g.B.Body.operations l.self.held.body in
     let run = slice_range l.self.held.elements l.from (l.from + length l.initial.into) in
     record {
       sum : l.sum ≡ fold_on o l.fn.before (take l.k run);

@@ -13,7 +13,7 @@ pub place_of-place-requires : goal.place_of-place-requires
 place_of-place-requires g c =
     let s = c.self.inside in
     let inside : c.args.position < length (all_in (held_by_each s.full.items) (held_by s.tail)) = rw (← c.self.view_is) at c.requires in
-    omega (arith, place_fits (λ b. g.B.Body.operations (g.B.Body.meaning b)) (held_by_each s.full.items) s.sums.sums (held_by s.tail) c.self.invariant.chain c.args.position (omega arith), c.len.ensures, s.full.ok.0, length_held s.full.items)
+    omega (arith, place_fits g.B.Body.operations (held_by_each s.full.items) s.sums.sums (held_by s.tail) c.self.invariant.chain c.args.position (omega arith), c.len.ensures, s.full.ok.0, length_held s.full.items)
 
 pub get-requires-after_bounds : goal.get-requires-after_bounds
 get-requires-after_bounds g c = λ _ _.

@@ -26,8 +26,8 @@ invariant_of-self g c =
     let body : (held_by w.new.tail).body ≡ (held_by s.tail).body = ap (λ t. t.body) (ap held_by w.ensures.tail) ∙ (rw (← c.self.view_is) at c.requires.body) in
     let short : length (held_by w.new.tail).elements ≤ 32760 = omega (arith, ap (λ t. length t.elements) (ap held_by w.ensures.tail), c.requires.short) in
     let parts : take c.args.before els ≡ take (32760 * c.args.number) els ++ (held_by c.args.last.now).elements = rw (← c.self.view_is) at c.requires.parts in
-    summed (λ b. g.B.Body.operations (g.B.Body.meaning b)) (held_by_each s.full.items) s.sums (held_by s.tail) c.self.invariant (held_by_each w.new.full.items) w.new.sums (held_by w.new.tail)
-    (front_chain (λ b. g.B.Body.operations (g.B.Body.meaning b)) (held_by_each s.full.items) s.sums.sums (held_by s.tail) c.self.invariant.chain c.args.number c.args.before few (held_by_each w.new.full.items) w.new.sums.sums (held_by w.new.tail) (held_take c.args.number s.full.items w.new.full.items w.ensures.full) w.ensures.sums body short
+    summed g.B.Body.operations (held_by_each s.full.items) s.sums (held_by s.tail) c.self.invariant (held_by_each w.new.full.items) w.new.sums (held_by w.new.tail)
+    (front_chain g.B.Body.operations (held_by_each s.full.items) s.sums.sums (held_by s.tail) c.self.invariant.chain c.args.number c.args.before few (held_by_each w.new.full.items) w.new.sums.sums (held_by w.new.tail) (held_take c.args.number s.full.items w.new.full.items w.ensures.full) w.ensures.sums body short
     (parts ∙ ap (λ t. take (32760 * c.args.number) els ++ t.elements) (sym (ap held_by w.ensures.tail))))
     w.ensures.body w.ensures.first body
 
@@ -42,5 +42,5 @@ returns g c =
     let body : (held_by w.new.tail).body ≡ (held_by s.tail).body = ap (λ t. t.body) (ap held_by w.ensures.tail) ∙ (rw (← c.self.view_is) at c.requires.body) in
     let short : length (held_by w.new.tail).elements ≤ 32760 = omega (arith, ap (λ t. length t.elements) (ap held_by w.ensures.tail), c.requires.short) in
     let parts : take c.args.before els ≡ take (32760 * c.args.number) els ++ (held_by c.args.last.now).elements = rw (← c.self.view_is) at c.requires.parts in
-    rw (← c.self.view_is) (front_held (λ b. g.B.Body.operations (g.B.Body.meaning b)) (held_by_each s.full.items) s.sums.sums (held_by s.tail) c.self.invariant.chain c.args.number c.args.before few (held_by_each w.new.full.items) w.new.sums.sums (held_by w.new.tail) (held_take c.args.number s.full.items w.new.full.items w.ensures.full) w.ensures.sums body short
+    rw (← c.self.view_is) (front_held g.B.Body.operations (held_by_each s.full.items) s.sums.sums (held_by s.tail) c.self.invariant.chain c.args.number c.args.before few (held_by_each w.new.full.items) w.new.sums.sums (held_by w.new.tail) (held_take c.args.number s.full.items w.new.full.items w.ensures.full) w.ensures.sums body short
     (parts ∙ ap (λ t. take (32760 * c.args.number) els ++ t.elements) (sym (ap held_by w.ensures.tail))))

@@ -10,8 +10,8 @@ pub invariant_of-result : goal.invariant_of-result
 invariant_of-result g c =
     let full = c.new.result.items in
     let sums = c.new-2.result in
-    subst (λ t. IsSummed (λ b. g.B.Body.operations (g.B.Body.meaning b)) (held_by_each full) sums t) (sym c.new-3.ensures.held)
-    (subst (λ f. IsSummed (λ b. g.B.Body.operations (g.B.Body.meaning b)) f sums (record { body = c.args.body; elements = [] })) (sym (ap held_by_each c.new.ensures.items)) (subst (λ s. IsSummed (λ b. g.B.Body.operations (g.B.Body.meaning b)) [] s (record { body = c.args.body; elements = [] })) (sym c.new-2.ensures) record { chain = no_chain (g.B.Body.operations (g.B.Body.meaning c.args.body)) c.args.body; body = refl; first = refl }))
+    subst (λ t. IsSummed g.B.Body.operations (held_by_each full) sums t) (sym c.new-3.ensures.held)
+    (subst (λ f. IsSummed g.B.Body.operations f sums (record { body = c.args.body; elements = [] })) (sym (ap held_by_each c.new.ensures.items)) (subst (λ s. IsSummed g.B.Body.operations [] s (record { body = c.args.body; elements = [] })) (sym c.new-2.ensures) record { chain = no_chain (g.B.Body.operations c.args.body) c.args.body; body = refl; first = refl }))
 
 pub returns-clause-held : goal.returns-clause-held
 returns-clause-held g c = ap (λ f. held_in (held_by_each f) (held_by c.new-3.result)) c.new.ensures.items ∙ ap (held_in []) c.new-3.ensures.held

@@ -16,8 +16,8 @@ pub invariant_of-self : goal.invariant_of-self
 invariant_of-self g c =
     let s = c.self.inside in
     let few : length (all_in (held_by_each s.full.items) (held_by s.tail)) < 2 ^ 62 = rw (← c.self.view_is) at c.requires in
-    summed (λ b. g.B.Body.operations (g.B.Body.meaning b)) (held_by_each s.full.items) s.sums (held_by s.tail) c.self.invariant (held_by_each s.full.items) s.sums (held_by c.push.new.self)
-    (push_chain (λ b. g.B.Body.operations (g.B.Body.meaning b)) (held_by_each s.full.items) s.sums.sums (held_by s.tail) c.self.invariant.chain c.push.result (held_by c.push.new.self) c.push.ensures.err c.args.x (rw (to_z-of_z w64 c.args.x c.ranges.x) at c.push.ensures.ok)
+    summed g.B.Body.operations (held_by_each s.full.items) s.sums (held_by s.tail) c.self.invariant (held_by_each s.full.items) s.sums (held_by c.push.new.self)
+    (push_chain g.B.Body.operations (held_by_each s.full.items) s.sums.sums (held_by s.tail) c.self.invariant.chain c.push.result (held_by c.push.new.self) c.push.ensures.err c.args.x (rw (to_z-of_z w64 c.args.x c.ranges.x) at c.push.ensures.ok)
     (omega (arith, c.if-len-lt-SHARD.true, c.len.ensures.value)) few c.ranges.x)
     refl refl
     (kept_body c.push.result (held_by s.tail) (held_by c.push.new.self) ((held_by s.tail).elements ++ c.args.x ∷ []) (rw (to_z-of_z w64 c.args.x c.ranges.x) at c.push.ensures.ok) c.push.ensures.err)
@@ -25,30 +25,30 @@ invariant_of-self g c =
 pub returns-then-len-lt-SHARD-clause-ok : goal.returns-then-len-lt-SHARD-clause-ok
 returns-then-len-lt-SHARD-clause-ok g c =
     let s = c.self.inside in
-    rw (← c.self.view_is) (push_ok (λ b. g.B.Body.operations (g.B.Body.meaning b)) (held_by_each s.full.items) s.sums.sums (held_by s.tail) c.self.invariant.chain c.push.result (held_by c.push.new.self) c.push.ensures.err c.args.x (rw (to_z-of_z w64 c.args.x c.ranges.x) at c.push.ensures.ok))
+    rw (← c.self.view_is) (push_ok g.B.Body.operations (held_by_each s.full.items) s.sums.sums (held_by s.tail) c.self.invariant.chain c.push.result (held_by c.push.new.self) c.push.ensures.err c.args.x (rw (to_z-of_z w64 c.args.x c.ranges.x) at c.push.ensures.ok))
 
 pub returns-then-len-lt-SHARD-clause-err : goal.returns-then-len-lt-SHARD-clause-err
 returns-then-len-lt-SHARD-clause-err g c =
     let s = c.self.inside in
-    rw (← c.self.view_is) (tail_err (λ b. g.B.Body.operations (g.B.Body.meaning b)) (held_by_each s.full.items) s.sums.sums (held_by s.tail) c.self.invariant.chain c.push.result (held_by c.push.new.self) c.push.ensures.err)
+    rw (← c.self.view_is) (tail_err g.B.Body.operations (held_by_each s.full.items) s.sums.sums (held_by s.tail) c.self.invariant.chain c.push.result (held_by c.push.new.self) c.push.ensures.err)
 
 pub roll_over-requires-clause-folds : goal.roll_over-requires-clause-folds
 roll_over-requires-clause-folds g c = λ _ _.
     let s = c.self.inside in
-    folds_rolled (λ b. g.B.Body.operations (g.B.Body.meaning b)) (held_by_each s.full.items) s.sums (held_by s.tail) c.self.invariant
+    folds_rolled g.B.Body.operations (held_by_each s.full.items) s.sums (held_by s.tail) c.self.invariant
 
 pub roll_over-requires-clause-numbered : goal.roll_over-requires-clause-numbered
 roll_over-requires-clause-numbered g c = λ _ _.
     let s = c.self.inside in
-    omega (arith, as_many (λ b. g.B.Body.operations (g.B.Body.meaning b)) (held_by_each s.full.items) s.sums (held_by s.tail) c.self.invariant, c.self.invariant.first, c.self.invariant.chain.few, length_all (held_by s.tail).body (held_by_each s.full.items) (held_by s.tail) c.self.invariant.chain.each)
+    omega (arith, as_many g.B.Body.operations (held_by_each s.full.items) s.sums (held_by s.tail) c.self.invariant, c.self.invariant.first, c.self.invariant.chain.few, length_all (held_by s.tail).body (held_by_each s.full.items) (held_by s.tail) c.self.invariant.chain.each)
 
 pub invariant_of-self-2 : goal.invariant_of-self-2
 invariant_of-self-2 g c =
     let s = c.self.inside in
     let r = c.roll_over in
     let few : length (all_in (held_by_each s.full.items) (held_by s.tail)) < 2 ^ 62 = rw (← c.self.view_is) at c.requires in
-    summed (λ b. g.B.Body.operations (g.B.Body.meaning b)) (held_by_each s.full.items) s.sums (held_by s.tail) c.self.invariant (held_by_each r.new.full.items) r.new.sums (held_by r.new.tail)
-    (rolled_chain (λ b. g.B.Body.operations (g.B.Body.meaning b)) (held_by_each s.full.items) s.sums.sums (held_by s.tail) c.self.invariant.chain r.result c.args.x (held_by_each r.new.full.items) r.new.sums.sums (held_by r.new.tail) r.ensures.full r.ensures.sums (rw (to_z-of_z w64 c.args.x c.ranges.x) at r.ensures.tail) r.ensures.same_full r.ensures.same_sums r.ensures.same_tail
+    summed g.B.Body.operations (held_by_each s.full.items) s.sums (held_by s.tail) c.self.invariant (held_by_each r.new.full.items) r.new.sums (held_by r.new.tail)
+    (rolled_chain g.B.Body.operations (held_by_each s.full.items) s.sums.sums (held_by s.tail) c.self.invariant.chain r.result c.args.x (held_by_each r.new.full.items) r.new.sums.sums (held_by r.new.tail) r.ensures.full r.ensures.sums (rw (to_z-of_z w64 c.args.x c.ranges.x) at r.ensures.tail) r.ensures.same_full r.ensures.same_sums r.ensures.same_tail
     (omega (arith, c.if-len-lt-SHARD.false, c.len.ensures.value, c.self.invariant.chain.short)) few c.ranges.x)
     r.ensures.body r.ensures.first
     (kept_body r.result (held_by s.tail) (held_by r.new.tail) (c.args.x ∷ []) (rw (to_z-of_z w64 c.args.x c.ranges.x) at r.ensures.tail) r.ensures.same_tail)
@@ -57,10 +57,10 @@ pub returns-clause-ok : goal.returns-clause-ok
 returns-clause-ok g c =
     let s = c.self.inside in
     let r = c.roll_over in
-    rw (← c.self.view_is) (rolled_ok (λ b. g.B.Body.operations (g.B.Body.meaning b)) (held_by_each s.full.items) s.sums.sums (held_by s.tail) c.self.invariant.chain r.result c.args.x (held_by_each r.new.full.items) r.new.sums.sums (held_by r.new.tail) r.ensures.full r.ensures.sums (rw (to_z-of_z w64 c.args.x c.ranges.x) at r.ensures.tail) r.ensures.same_full r.ensures.same_sums r.ensures.same_tail)
+    rw (← c.self.view_is) (rolled_ok g.B.Body.operations (held_by_each s.full.items) s.sums.sums (held_by s.tail) c.self.invariant.chain r.result c.args.x (held_by_each r.new.full.items) r.new.sums.sums (held_by r.new.tail) r.ensures.full r.ensures.sums (rw (to_z-of_z w64 c.args.x c.ranges.x) at r.ensures.tail) r.ensures.same_full r.ensures.same_sums r.ensures.same_tail)
 
 pub returns-clause-err : goal.returns-clause-err
 returns-clause-err g c =
     let s = c.self.inside in
     let r = c.roll_over in
-    rw (← c.self.view_is) (rolled_err (λ b. g.B.Body.operations (g.B.Body.meaning b)) (held_by_each s.full.items) s.sums.sums (held_by s.tail) c.self.invariant.chain r.result c.args.x (held_by_each r.new.full.items) r.new.sums.sums (held_by r.new.tail) r.ensures.full r.ensures.sums (rw (to_z-of_z w64 c.args.x c.ranges.x) at r.ensures.tail) r.ensures.same_full r.ensures.same_sums r.ensures.same_tail)
+    rw (← c.self.view_is) (rolled_err g.B.Body.operations (held_by_each s.full.items) s.sums.sums (held_by s.tail) c.self.invariant.chain r.result c.args.x (held_by_each r.new.full.items) r.new.sums.sums (held_by r.new.tail) r.ensures.full r.ensures.sums (rw (to_z-of_z w64 c.args.x c.ranges.x) at r.ensures.tail) r.ensures.same_full r.ensures.same_sums r.ensures.same_tail)

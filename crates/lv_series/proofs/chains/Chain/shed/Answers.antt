@@ -13,7 +13,7 @@ pub place_of-place-requires : goal.place_of-place-requires
 place_of-place-requires g c =
     let s = c.self.inside in
     let last : c.args.most ≤ length (all_in (held_by_each s.full.items) (held_by s.tail)) = rw (← c.self.view_is) at c.requires in
-    omega (arith, place_fits (λ b. g.B.Body.operations (g.B.Body.meaning b)) (held_by_each s.full.items) s.sums.sums (held_by s.tail) c.self.invariant.chain c.args.most last, c.len.ensures, s.full.ok.0, length_held s.full.items)
+    omega (arith, place_fits g.B.Body.operations (held_by_each s.full.items) s.sums.sums (held_by s.tail) c.self.invariant.chain c.args.most last, c.len.ensures, s.full.ok.0, length_held s.full.items)
 
 pub drop_front-requires-clause-full : goal.drop_front-requires-clause-full
 drop_front-requires-clause-full g c = λ _ _.
@@ -23,7 +23,7 @@ drop_front-requires-clause-full g c = λ _ _.
 pub drop_front-requires-clause-sums : goal.drop_front-requires-clause-sums
 drop_front-requires-clause-sums g c = λ _ _.
     let s = c.self.inside in
-    as_many (λ b. g.B.Body.operations (g.B.Body.meaning b)) (held_by_each s.full.items) s.sums (held_by s.tail) c.self.invariant ∙ length_held s.full.items
+    as_many g.B.Body.operations (held_by_each s.full.items) s.sums (held_by s.tail) c.self.invariant ∙ length_held s.full.items
 
 pub drop_front-requires-clause-numbered : goal.drop_front-requires-clause-numbered
 drop_front-requires-clause-numbered g c = λ _ _. c.self.invariant.first
@@ -35,8 +35,8 @@ pub invariant_of-self : goal.invariant_of-self
 invariant_of-self g c =
     let s = c.self.inside in
     let few : c.place_of-place.result.shard ≤ length (held_by_each s.full.items) = omega (arith, c.place_of-place.ensures.shard, c.len.ensures, s.full.ok.0, length_held s.full.items) in
-    summed (λ b. g.B.Body.operations (g.B.Body.meaning b)) (held_by_each s.full.items) s.sums (held_by s.tail) c.self.invariant (held_by_each c.drop_front.new.full.items) c.drop_front.new.sums (held_by s.tail)
-    (shed_chain (λ b. g.B.Body.operations (g.B.Body.meaning b)) (held_by_each s.full.items) s.sums.sums (held_by s.tail) c.self.invariant.chain c.place_of-place.result.shard (held_by_each c.drop_front.new.full.items) c.drop_front.new.sums.sums few (held_drop c.place_of-place.result.shard s.full.items c.drop_front.new.full.items c.drop_front.ensures.full) c.drop_front.ensures.sums)
+    summed g.B.Body.operations (held_by_each s.full.items) s.sums (held_by s.tail) c.self.invariant (held_by_each c.drop_front.new.full.items) c.drop_front.new.sums (held_by s.tail)
+    (shed_chain g.B.Body.operations (held_by_each s.full.items) s.sums.sums (held_by s.tail) c.self.invariant.chain c.place_of-place.result.shard (held_by_each c.drop_front.new.full.items) c.drop_front.new.sums.sums few (held_drop c.place_of-place.result.shard s.full.items c.drop_front.new.full.items c.drop_front.ensures.full) c.drop_front.ensures.sums)
     c.drop_front.ensures.body c.drop_front.ensures.first
     refl
 
@@ -58,4 +58,4 @@ returns-clause-dropped g c =
     let few : p.result.shard ≤ length (held_by_each s.full.items) = omega (arith, p.ensures.shard, c.len.ensures, s.full.ok.0, length_held s.full.items) in
     let many : 32760 * p.result.shard ≡ c.args.most - p.result.index = omega (arith, p.ensures.place) in
     rw (← c.self.view_is) (ap (λ ys. record (held_in (held_by_each s.full.items) (held_by s.tail)) { elements = ys })
-    (shed_all (λ b. g.B.Body.operations (g.B.Body.meaning b)) (held_by_each s.full.items) s.sums.sums (held_by s.tail) c.self.invariant.chain p.result.shard (held_by_each c.drop_front.new.full.items) few (held_drop p.result.shard s.full.items c.drop_front.new.full.items c.drop_front.ensures.full) ∙ ap (λ n. drop n (all_in (held_by_each s.full.items) (held_by s.tail))) many))
+    (shed_all g.B.Body.operations (held_by_each s.full.items) s.sums.sums (held_by s.tail) c.self.invariant.chain p.result.shard (held_by_each c.drop_front.new.full.items) few (held_drop p.result.shard s.full.items c.drop_front.new.full.items c.drop_front.ensures.full) ∙ ap (λ n. drop n (all_in (held_by_each s.full.items) (held_by s.tail))) many))

@@ -20,7 +20,7 @@ pub place_of-place-requires : goal.place_of-place-requires
 place_of-place-requires g c =
     let s = c.self.inside in
     let inside : c.args.high < length (all_in (held_by_each s.full.items) (held_by s.tail)) = rw (← c.self.view_is) at c.requires.inside in
-    omega (arith, c.requires.apart, place_fits (λ b. g.B.Body.operations (g.B.Body.meaning b)) (held_by_each s.full.items) s.sums.sums (held_by s.tail) c.self.invariant.chain c.args.high (omega arith), c.len.ensures, s.full.ok.0, length_held s.full.items)
+    omega (arith, c.requires.apart, place_fits g.B.Body.operations (held_by_each s.full.items) s.sums.sums (held_by s.tail) c.self.invariant.chain c.args.high (omega arith), c.len.ensures, s.full.ok.0, length_held s.full.items)
 
 pub index-requires : goal.index-requires
 index-requires g c =
@@ -97,7 +97,7 @@ change_both-done-requires-clause-elements g c = λ _ _.
     let fits_too : FitsSigned w64 c.get-value.result = search rules in
     let copied = rw (to_z-of_z w64 c.get-value.result fits_too) at c.in_ok-shard.ensures in
     let n = 32760 * p.result.shard in
-    let there : All IsElement (slice_index_or (held_by_each s.full.items) p.result.shard (held_by s.tail)).elements = subst (All IsElement) (shard_is (λ b. g.B.Body.operations (g.B.Body.meaning b)) (held_by_each s.full.items) s.sums.sums (held_by s.tail) c.self.invariant.chain p.result.shard low.0) (All-take IsElement (n + 32760 - n) (drop n els) (All-drop IsElement n els c.self.invariant.chain.elements)) in
+    let there : All IsElement (slice_index_or (held_by_each s.full.items) p.result.shard (held_by s.tail)).elements = subst (All IsElement) (shard_is g.B.Body.operations (held_by_each s.full.items) s.sums.sums (held_by s.tail) c.self.invariant.chain p.result.shard low.0) (All-take IsElement (n + 32760 - n) (drop n els) (All-drop IsElement n els c.self.invariant.chain.elements)) in
     let part : All IsElement t.elements = subst (λ h. All IsElement h.elements) (sym at) there in
     subst (λ h. All IsElement h.elements) (sym copied) (All-set IsElement t.elements p.result.index c.get-value.result fits_too part)
 
@@ -119,7 +119,7 @@ returns-clause-ok g c =
     let fits_too : FitsSigned w64 value = search rules in
     let copied = rw (to_z-of_z w64 value fits_too) at c.in_ok-shard.ensures in
     let part = ap (λ h. h.elements) copied ∙ ap (λ h. slice_set h.elements p.result.index value) at
-    ∙ ap (λ ys. slice_set ys p.result.index value) (sym (shard_is (λ b. g.B.Body.operations (g.B.Body.meaning b)) (held_by_each s.full.items) s.sums.sums (held_by s.tail) c.self.invariant.chain p.result.shard low.0)) in
+    ∙ ap (λ ys. slice_set ys p.result.index value) (sym (shard_is g.B.Body.operations (held_by_each s.full.items) s.sums.sums (held_by s.tail) c.self.invariant.chain p.result.shard low.0)) in
     let before_is : before ≡ slice_index_or els c.args.low (pos 0) = rw (← c.self.view_is) at c.get-before.ensures in
     let value_is : value ≡ slice_index_or els c.args.high (pos 0) = rw (← c.self.view_is) at c.get-value.ensures in
     let swapped = swapped_by els n 32760 p.result.index c.args.low c.args.high before value (held_by c.in_ok-shard.shard).elements p.ensures.place low.1 low.2 inside before_is value_is part in

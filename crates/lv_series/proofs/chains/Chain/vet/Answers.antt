@@ -14,7 +14,7 @@ returns-in-Some-clause-exact g c =
     let outcome = c.args.outcome.now in
     let few : c.in-Some.index ≤ length s.full.items = omega (arith, at.1, c.len.ensures, s.full.ok.0) in
     let number : outcome.shard ≡ c.args.first + c.in-Some.index = omega (arith, at.0, c.shard.ensures) in
-    rw (← c.self.view_is) (vetted_there (λ b. g.B.Body.operations (g.B.Body.meaning b)) (λ b. g.B.Body.meaning b ≡ g.B.Body.meaning outcome.job.body) c.args.first (all_of s.full.items s.tail) outcome.shard outcome.age outcome.job c.vet.result c.in-Some.index few number (rw c.shard_at.ensures.shard at c.vet.ensures.exact))
+    rw (← c.self.view_is) (vetted_there g.B.Body.operations (λ b. g.B.Body.meaning b ≡ g.B.Body.meaning outcome.job.body) c.args.first (all_of s.full.items s.tail) outcome.shard outcome.age outcome.job c.vet.result c.in-Some.index few number (rw c.shard_at.ensures.shard at c.vet.ensures.exact))
 
 pub returns-in-Some-clause-fair : goal.returns-in-Some-clause-fair
 returns-in-Some-clause-fair g c =
@@ -25,11 +25,11 @@ returns-in-Some-clause-fair g c =
     let number : c.args.first + c.in-Some.index ≡ outcome.shard = omega (arith, at.0, c.shard.ensures) in
     rw (← c.self.view_is) (λ fair. c.vet.ensures.fair
     (subst (λ h. IsFair (g.B.Body.meaning h.body ≡ g.B.Body.meaning outcome.job.body) 0 h.elements outcome.job) (sym c.shard_at.ensures.held)
-    (fair_in_shard (λ b. g.B.Body.operations (g.B.Body.meaning b)) (held_by_each s.full.items) s.sums.sums (held_by s.tail) c.self.invariant.chain c.args.first c.in-Some.index outcome.shard outcome.job (λ b. g.B.Body.meaning b ≡ g.B.Body.meaning outcome.job.body) few number fair)))
+    (fair_in_shard g.B.Body.operations (held_by_each s.full.items) s.sums.sums (held_by s.tail) c.self.invariant.chain c.args.first c.in-Some.index outcome.shard outcome.job (λ b. g.B.Body.meaning b ≡ g.B.Body.meaning outcome.job.body) few number fair)))
 
 pub returns-in-None-clause-exact : goal.returns-in-None-clause-exact
 returns-in-None-clause-exact g c =
     let s = c.self.inside in
     let outcome = c.args.outcome.now in
     let many : c.len.result ≡ length s.full.items = omega (arith, c.len.ensures, s.full.ok.0) in
-    rw (← c.self.view_is) (vetted_absent (λ b. g.B.Body.operations (g.B.Body.meaning b)) (λ b. g.B.Body.meaning b ≡ g.B.Body.meaning outcome.job.body) c.args.first (all_of s.full.items s.tail) outcome.shard outcome.age outcome.job c.len.result c.shard.result c.in-None.ensures.none many c.shard.ensures)
+    rw (← c.self.view_is) (vetted_absent g.B.Body.operations (λ b. g.B.Body.meaning b ≡ g.B.Body.meaning outcome.job.body) c.args.first (all_of s.full.items s.tail) outcome.shard outcome.age outcome.job c.len.result c.shard.result c.in-None.ensures.none many c.shard.ensures)

@@ -27,5 +27,5 @@ returns-clause-accepts g c = rw (← c.self.view_is) c.accept.ensures.accepts
 pub returns-clause-plain : goal.returns-clause-plain
 returns-clause-plain g c =
     let s = c.self.inside in
-    let o = g.B.Body.operations (g.B.Body.meaning s.chain.held.body) in
+    let o = g.B.Body.operations s.chain.held.body in
     rw (← c.self.view_is) (λ taken. job_in_series o s.gone s.skip s.chain.held.elements c.self.invariant.0 c.self.invariant.3 c.args.outcome.shard c.args.outcome.job (c.accept.ensures.placed taken))

@@ -38,7 +38,7 @@ returns-clause-answer g c =
     rw (← c.self.view_is) record {
       granted = free;
       edit = refl;
-      value = c.ask.ensures.fold ∙ ap (fold_of (g.B.Body.operations (g.B.Body.meaning s.chain.held.body))) (range_held s.gone s.skip s.chain.held.elements c.self.invariant.0 c.args.lo c.args.hi kept.1 kept.0);
+      value = c.ask.ensures.fold ∙ ap (fold_of (g.B.Body.operations s.chain.held.body)) (range_held s.gone s.skip s.chain.held.elements c.self.invariant.0 c.args.lo c.args.hi kept.1 kept.0);
     }
 
 pub returns-clause-same : goal.returns-clause-same

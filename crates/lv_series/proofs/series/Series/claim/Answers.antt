@@ -29,6 +29,6 @@ pub returns-clause-plain : goal.returns-clause-plain
 returns-clause-plain g c =
     let s = c.self.inside in
     let els = s.chain.held.elements in
-    let o = g.B.Body.operations (g.B.Body.meaning s.chain.held.body) in
+    let o = g.B.Body.operations s.chain.held.body in
     rw (← c.self.view_is) (if_some (λ job. IsPlaced o els (s.gone / 32760) job.shard job.job) (λ job. IsJobIn o (held_of s.gone s.skip els) job.shard job.job) c.claim.result
     (λ job placed. job_in_series o s.gone s.skip els c.self.invariant.0 c.self.invariant.3 job.shard job.job placed) c.claim.ensures.placed)

@@ -10,5 +10,5 @@ pub returns-clause-fair : goal.returns-clause-fair
 returns-clause-fair g c =
     let s = c.self.inside in
     let outcome = c.args.outcome.now in
-    let m = g.B.Body.meaning s.chain.held.body in
-    rw (← c.self.view_is) (λ fair. c.vet.ensures.fair (fair_in_chain (g.B.Body.operations m) s.gone s.skip s.chain.held.elements c.self.invariant.0 c.self.invariant.3 outcome.shard outcome.job (m ≡ g.B.Body.meaning outcome.job.body) fair))
+    let body = s.chain.held.body in
+    rw (← c.self.view_is) (λ fair. c.vet.ensures.fair (fair_in_chain (g.B.Body.operations body) s.gone s.skip s.chain.held.elements c.self.invariant.0 c.self.invariant.3 outcome.shard outcome.job (g.B.Body.meaning body ≡ g.B.Body.meaning outcome.job.body) fair))

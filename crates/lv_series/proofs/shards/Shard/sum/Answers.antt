@@ -8,5 +8,5 @@ use Rattle.lv_series.proofs.shards.Shard.sum.Goals as goal
 pub returns-clause-value : goal.returns-clause-value
 returns-clause-value g c =
     let els = (held_by c.args.self.now).elements in
-    let o = g.B.Body.operations (g.B.Body.meaning (held_by c.args.self.now).body) in
+    let o = g.B.Body.operations (held_by c.args.self.now).body in
     c.ask.ensures.value ∙ ap (fold_of o) (ap (slice_range els 0) c.len-len.ensures.value ∙ slice_range-whole els)

@@ -6,7 +6,7 @@ use Rattle.lv_sums.proofs.sums.Sums.pop.Goals as goal
 pub invariant_of-self : goal.invariant_of-self
 invariant_of-self g c =
     let inside = c.self.inside in
-    let o = g.B.Body.operations (g.B.Body.meaning inside.body) in
+    let o = g.B.Body.operations inside.body in
     let now = c.args.self.now in
     let xs = inside.shards.items in
     let kept = c.self.invariant in

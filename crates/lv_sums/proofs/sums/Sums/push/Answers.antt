@@ -9,7 +9,7 @@ use Rattle.lv_sums.proofs.sums.Sums.push.Goals as goal
 pub invariant_of-self : goal.invariant_of-self
 invariant_of-self g c =
     let inside = c.self.inside in
-    let o = g.B.Body.operations (g.B.Body.meaning inside.body) in
+    let o = g.B.Body.operations inside.body in
     let now = c.args.self.now in
     let xs = inside.shards.items in
     let kept = c.self.invariant in
@@ -29,7 +29,7 @@ overflow_sub-last g c =
 pub refresh-requires-clause-levels : goal.refresh-requires-clause-levels
 refresh-requires-clause-levels g c κs within =
     let inside = c.self.inside in
-    let o = g.B.Body.operations (g.B.Body.meaning inside.body) in
+    let o = g.B.Body.operations inside.body in
     let now = c.args.self.now in
     let xs = inside.shards.items in
     let kept = c.self.invariant in
@@ -43,19 +43,19 @@ refresh-requires-clause-levels g c κs within =
 pub refresh-requires-clause-folds : goal.refresh-requires-clause-folds
 refresh-requires-clause-folds g c κs within =
     let inside = c.self.inside in
-    let o = g.B.Body.operations (g.B.Body.meaning inside.body) in
+    let o = g.B.Body.operations inside.body in
     let now = c.args.self.now in
     let xs = inside.shards.items in
     let kept = c.self.invariant in
     let s = c.args.summary in
     let more = c.if-not-extend.ensures.shards refl in
-    let folds = subst (λ b. AreFolds (g.B.Body.operations (g.B.Body.meaning b)) (now.sums ++ s ∷ [])) (same_body now inside.body inside.first inside.gone xs c.self.view_is) c.requires.folds in
+    let folds = subst (λ b. AreFolds (g.B.Body.operations b) (now.sums ++ s ∷ [])) (same_body now inside.body inside.first inside.gone xs c.self.view_is) c.requires.folds in
     push_folds o now inside.body inside.first inside.gone xs c.deref.result.now s c.self.view_is (c.deref.ensures.value ∙ more) kept.inside folds
 
 pub invariant_of-self-2 : goal.invariant_of-self-2
 invariant_of-self-2 g c =
     let inside = c.self.inside in
-    let o = g.B.Body.operations (g.B.Body.meaning inside.body) in
+    let o = g.B.Body.operations inside.body in
     let now = c.args.self.now in
     let xs = inside.shards.items in
     let kept = c.self.invariant in
@@ -71,7 +71,7 @@ invariant_of-self-2 g c =
 pub returns-clause-ok : goal.returns-clause-ok
 returns-clause-ok g c =
     let inside = c.self.inside in
-    let o = g.B.Body.operations (g.B.Body.meaning inside.body) in
+    let o = g.B.Body.operations inside.body in
     let now = c.args.self.now in
     let xs = inside.shards.items in
     let kept = c.self.invariant in

@@ -8,7 +8,7 @@ use Rattle.lv_sums.proofs.sums.Sums.reduce.Goals as goal
 pub join_shards-requires-clause-levels : goal.join_shards-requires-clause-levels
 join_shards-requires-clause-levels g c κs within =
     let inside = c.self.inside in
-    let o = g.B.Body.operations (g.B.Body.meaning inside.body) in
+    let o = g.B.Body.operations inside.body in
     let now = c.args.self.now in
     let xs = inside.shards.items in
     let kept = c.self.invariant in
@@ -21,20 +21,20 @@ join_shards-requires-clause-levels g c κs within =
 pub join_shards-requires-clause-folds : goal.join_shards-requires-clause-folds
 join_shards-requires-clause-folds g c κs within =
     let inside = c.self.inside in
-    let o = g.B.Body.operations (g.B.Body.meaning inside.body) in
+    let o = g.B.Body.operations inside.body in
     let now = c.args.self.now in
     let xs = inside.shards.items in
     let kept = c.self.invariant in
     let from = c.args.lo - inside.first + inside.gone in
     let count = c.args.hi - inside.first + inside.gone - from in
-    let folds = seen_folds (λ b. g.B.Body.operations (g.B.Body.meaning b)) now inside.body inside.first inside.gone xs c.self.view_is c.requires.folds in
+    let folds = seen_folds g.B.Body.operations now inside.body inside.first inside.gone xs c.self.view_is c.requires.folds in
     let part = kept_in_order o xs inside.gone from count (omega arith) folds in
     subst (λ s. AreInOrder o s (run_of c.deref.result.now from count)) (sym c.identity.ensures) (subst (λ a. AreInOrder o o.identity (run_of a from count)) (sym c.deref.ensures.value) part)
 
 pub returns-clause-fold : goal.returns-clause-fold
 returns-clause-fold g c lists h =
     let inside = c.self.inside in
-    let o = g.B.Body.operations (g.B.Body.meaning inside.body) in
+    let o = g.B.Body.operations inside.body in
     let now = c.args.self.now in
     let xs = inside.shards.items in
     let kept = c.self.invariant in
@@ -44,7 +44,7 @@ returns-clause-fold g c lists h =
     c.join_shards.ensures.summary
     ∙ ap (λ s. joined_on o s (run_of c.deref.result.now from count)) c.identity.ensures
     ∙ ap (λ a. joined_on o o.identity (run_of a from count)) c.deref.ensures.value
-    ∙ reduced_seen (λ b. g.B.Body.operations (g.B.Body.meaning b)) (g.B.Body.is_within (g.B.Body.meaning inside.body)) now inside.body inside.first inside.gone xs c.self.view_is c.long_laws.ensures c.args.lo c.args.hi from count refl long lists h
+    ∙ reduced_seen g.B.Body.operations (g.B.Body.is_within inside.body) now inside.body inside.first inside.gone xs c.self.view_is c.long_laws.ensures c.args.lo c.args.hi from count refl long lists h
 
 pub returns-clause-joins : goal.returns-clause-joins
 returns-clause-joins g c =

@@ -9,7 +9,7 @@ use Rattle.lv_sums.proofs.sums.Sums.replace.Goals as goal
 pub refresh-requires-clause-levels : goal.refresh-requires-clause-levels
 refresh-requires-clause-levels g c κs within =
     let inside = c.self.inside in
-    let o = g.B.Body.operations (g.B.Body.meaning inside.body) in
+    let o = g.B.Body.operations inside.body in
     let now = c.args.self.now in
     let xs = inside.shards.items in
     let kept = c.self.invariant in
@@ -21,19 +21,19 @@ refresh-requires-clause-levels g c κs within =
 pub refresh-requires-clause-folds : goal.refresh-requires-clause-folds
 refresh-requires-clause-folds g c κs within =
     let inside = c.self.inside in
-    let o = g.B.Body.operations (g.B.Body.meaning inside.body) in
+    let o = g.B.Body.operations inside.body in
     let now = c.args.self.now in
     let xs = inside.shards.items in
     let kept = c.self.invariant in
     let s = c.args.summary in
     let at = c.args.shard - inside.first + inside.gone in
-    let folds = subst (λ b. AreFolds (g.B.Body.operations (g.B.Body.meaning b)) (slice_set now.sums (c.args.shard - now.first) s)) (same_body now inside.body inside.first inside.gone xs c.self.view_is) c.requires.folds in
+    let folds = subst (λ b. AreFolds (g.B.Body.operations b) (slice_set now.sums (c.args.shard - now.first) s)) (same_body now inside.body inside.first inside.gone xs c.self.view_is) c.requires.folds in
     write_folds o now inside.body inside.first inside.gone at c.args.shard xs c.deref.result.now s c.self.view_is c.deref.ensures.value refl folds
 
 pub invariant_of-self : goal.invariant_of-self
 invariant_of-self g c =
     let inside = c.self.inside in
-    let o = g.B.Body.operations (g.B.Body.meaning inside.body) in
+    let o = g.B.Body.operations inside.body in
     let now = c.args.self.now in
     let xs = inside.shards.items in
     let kept = c.self.invariant in
@@ -48,7 +48,7 @@ invariant_of-self g c =
 pub returns : goal.returns
 returns g c =
     let inside = c.self.inside in
-    let o = g.B.Body.operations (g.B.Body.meaning inside.body) in
+    let o = g.B.Body.operations inside.body in
     let now = c.args.self.now in
     let xs = inside.shards.items in
     let kept = c.self.invariant in
