@@ -11,7 +11,7 @@ import zipfile
 
 HERE = pathlib.Path(__file__).resolve().parent
 PACKAGES = "livevec", "livevec_dashboard"
-BROUGHT = ".py", ".typed", ".html"
+BROUGHT = ".py", ".typed", ".html", ".css", ".js"
 METADATA = """\
 Metadata-Version: 2.1
 Name: livevec

@@ -11,5 +11,5 @@ Each name of the stream has a `livevec.Vector` of its samples. Each number on th
 | `store` | the vectors, their renewal, and their answers |
 | `views` | what a viewer looks at, and what of it has changed |
 | `server` | the page, the events and the bounds of requests |
-| `page.html` | the page |
+| `page.html` | the page; `page.css` is its look, `page_state.js`, `page_charts.js`, `page_choices.js` are its script |
 """

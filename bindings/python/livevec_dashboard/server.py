@@ -227,15 +227,25 @@ class Handler(http.server.BaseHTTPRequestHandler):
         self.end_headers()
 
 
+# what stands in the page's style and script, in the order in which a browser reads it
+_PARTS = {"script": ("page_state.js", "page_charts.js", "page_choices.js"), "style": ("page.css",)}
+
+
+def _beside(name: str) -> str:
+    """The text of a file of this package."""
+    with open(os.path.join(os.path.dirname(os.path.abspath(__file__)), name), encoding="utf-8") as file:
+        return file.read()
+
+
 def _page() -> tuple[bytes, str]:
-    """The page, and the policy under which a browser runs its own script and style and no others."""
-    with open(os.path.join(os.path.dirname(os.path.abspath(__file__)), "page.html"), encoding="utf-8") as file:
-        page = file.read()
+    """The page with its parts, and the policy under which a browser runs its own script and style and no others."""
+    page = _beside("page.html")
     hashes = {}
-    for tag in ("script", "style"):
-        inside = re.search(f"<{tag}>(.*?)</{tag}>", page, re.DOTALL)
-        assert inside is not None
-        hashes[tag] = base64.b64encode(hashlib.sha256(inside[1].encode()).digest()).decode()
+    for tag, names in _PARTS.items():
+        inside = "\n" + "".join(map(_beside, names))
+        assert page.count(f"<{tag}></{tag}>") == 1
+        page = page.replace(f"<{tag}></{tag}>", f"<{tag}>{inside}</{tag}>")
+        hashes[tag] = base64.b64encode(hashlib.sha256(inside.encode()).digest()).decode()
     policy = (f"default-src 'none'; script-src 'sha256-{hashes['script']}'; style-src 'sha256-{hashes['style']}'; connect-src 'self'; img-src data:; "
               "base-uri 'none'; form-action 'none'; frame-ancestors 'none'")
     return page.encode(), policy
