@@ -3,6 +3,7 @@
 mod plain;
 
 use std::panic::{AssertUnwindSafe, catch_unwind};
+use std::sync::mpsc;
 use std::thread;
 use std::time::Duration;
 
@@ -35,7 +36,10 @@ fn a_subscriber_looks_sleeps_and_has_the_last_notes() {
     assert_eq!(told(alerts.next()), [(5, Value::Sum(16))]);
     let pausing = thread::spawn(move || (told(alerts.next()), alerts.next().is_none(), alerts.look()));
     let sleeping = shared.subscribe(watching(Kind::Greatest)).unwrap();
-    let sleeping = thread::spawn(move || sleeping.map(|notes| told(Some(notes))).collect::<Vec<_>>());
+    let (tells, first) = mpsc::channel();
+    let sleeping = thread::spawn(move || sleeping.map(|notes| told(Some(notes))).inspect(|_| tells.send(()).unwrap_or(())).collect::<Vec<_>>());
+    // however busy the machine is, it has looked before the next edit
+    first.recv().unwrap();
     thread::sleep(Duration::from_millis(20));
     shared.write(0, -9).unwrap();
     let clone = shared.clone();
