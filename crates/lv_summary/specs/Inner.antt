@@ -1,6 +1,6 @@
 -- What the fields of `Summaries` keep, and how one of its levels is seen and changed.
-use Rattle.std.specs.Prelude.{◌≡◌, ℕ, ◌+◌, ◌-◌, ◌*◌, ◌^◌, ◌<◌, ◌≤◌, true, List, [], ◌∷◌, ◌++◌, length, replicate, slice_get, slice_index, slice_set, All}
-use Rattle.std.specs.List.{slice_index_or}
+use Rattle.std.specs.Prelude.{◌≡◌, ℕ, ◌+◌, ◌-◌, ◌*◌, ◌/◌, ◌%◌, ◌^◌, ◌<◌, ◌≤◌, true, Some, List, [], ◌∷◌, ◌++◌, length, map, nat_lt, replicate, slice_get, slice_index, slice_set, All, if◌then◌else◌}
+use Rattle.std.specs.List.{range_with_len, slice_index_or}
 use Rattle.lv_geometry.specs.declared.levels.Levels.{Levels}
 use Rattle.lv_geometry.specs.declared.nodes.Node.{Node}
 use Rattle.lv_geometry.specs.Levels.{thing_at}
@@ -26,6 +26,33 @@ lengthened xs n x = xs ++ replicate (n - length xs) x
 -- eight neighbours of a list, from one on
 abbrev pub AreEight : {A : Type 0} → List A → List A → ℕ → Type 0
 AreEight eight xs first = (length eight ≡ 8) × ((k : ℕ) → k < 8 → slice_get eight k ≡ slice_get xs (first + k))
+
+-- what stands at a number in the pieces behind the first; the blank where nothing was written
+abbrev pub later_item : {S : Type 0} → List (List S) → ℕ → S → S
+later_item later number blank =
+    if nat_lt number 1024 then blank else slice_index_or (slice_index_or later (number / 1024 - 1) []) (number % 1024) blank
+
+-- what stands at a number: in the first piece, or behind it
+abbrev pub item_at : {S : Type 0} → List S → List (List S) → S → ℕ → S
+item_at front later blank k = if nat_lt k 1024 then slice_index_or front k blank else later_item later k blank
+
+-- so many items in pieces
+abbrev pub in_pieces : {S : Type 0} → List S → List (List S) → S → ℕ → List S
+in_pieces front later blank count = map (item_at front later blank) (range_with_len 0 count)
+
+-- for how many items there is memory, by that of the first piece and how many there are behind it
+abbrev pub room_in_pieces : ℕ → ℕ → ℕ
+room_in_pieces capacity later = if nat_lt capacity 1024 then capacity else 1024 + 1024 * later
+
+-- eight neighbours behind the first piece, from one on
+abbrev pub AreLaterEight : {S : Type 0} → List S → List (List S) → ℕ → Type 0
+AreLaterEight {S} eight later first =
+    (1024 ≤ first) × (length eight ≡ 8) × ((k : ℕ) → k < 8 → (blank : S) → slice_get eight k ≡ Some (later_item later (first + k) blank))
+
+-- a piece with an item at a place, and with blanks before it where nothing was written
+abbrev pub put_late : {S : Type 0} → List S → ℕ → S → S → List S
+put_late written place s blank =
+    if nat_lt place (length written) then slice_set written place s else lengthened written place blank ++ s ∷ []
 
 -- rows with further ones, n in all, which nothing touched and for which nothing is kept
 abbrev pub filled : {S : Type 0} → Rows S → ℕ → S → Rows S

@@ -1,27 +1,35 @@
 //! Rows that cost addresses alone until they are written.
-ghost use Rattle.std.specs.Prelude.{◌≡◌, ◌+◌, ◌<◌, ◌≤◌, [], length, replicate, true, slice_get, slice_set, Some, IfSome, vec_capacity};
-ghost use Rattle.lv_summary.specs.Inner.{AreEight, lengthened};
+ghost use Rattle.std.specs.Prelude.{◌≡◌, ℕ, ◌+◌, ◌*◌, ◌<◌, ◌≤◌, ◌++◌, [], ◌∷◌, length, min, replicate, nat_eq, true, false, slice_get, slice_set, Some, IfSome, vec_capacity, if◌then◌else◌};
+ghost use Rattle.std.specs.List.{slice_index_or};
+ghost use Rattle.lv_summary.specs.Inner.{AreEight, AreLaterEight, item_at, later_item, lengthened};
 
-use std::alloc::Global;
+use crate::pieces::{PIECE, Piece};
+use std::alloc::{AllocError, Global};
 use std::marker::Model;
 
-/// A list of which a front was written; the rest of it is blank, and costs addresses alone until it is written.
+/// A list of which some was written; the rest of it is blank, and costs addresses alone until it is written. It lies in pieces of 1,024
+/// items, so that little is written to reach one far behind.
 #[derive(Drop)]
 pub struct LateRows<S> {
+    alloc: Global,
     front: Vec<S>,
+    later: Vec<Piece<S>>,
     count: usize,
     blank: S,
 }
 
 impl<S> Model for LateRows<S> {
-    ghost use Rattle.std.specs.Prelude.{◌≤◌, length, vec_capacity};
-    ghost use Rattle.lv_summary.specs.Inner.{LateRowsState, lengthened};
+    ghost use Rattle.std.specs.Prelude.{◌≡◌, ℕ, ◌<◌, ◌≤◌, length, min, vec_capacity};
+    ghost use Rattle.lv_summary.specs.Inner.{LateRowsState, in_pieces, item_at, room_in_pieces};
 
     ghost Value = { LateRowsState S };
 
-    ghost view = { λ a. record { items = lengthened a.front.items a.count a.blank; capacity = vec_capacity a.front; blank = a.blank } };
+    ghost view = { λ a. record { items = in_pieces a.front.items a.later.items a.blank a.count; capacity = room_in_pieces (vec_capacity a.front) (length a.later.items); blank = a.blank } };
 
-    ghost invariant = { λ a. (length a.front.items ≤ a.count) × (a.count ≤ vec_capacity a.front) };
+    ghost invariant = { λ a. (a.count ≤ room_in_pieces (vec_capacity a.front) (length a.later.items))
+        × (length a.front.items ≤ min a.count 1024)
+        × (a.count < 18446744073709551616)
+        × ((k : ℕ) → a.count ≤ k → item_at a.front.items a.later.items a.blank k ≡ a.blank) };
 }
 
 impl<S: Copy> LateRows<S> {
@@ -31,7 +39,9 @@ impl<S: Copy> LateRows<S> {
         ensures blank { result.blank ≡ blank }
     {
         LateRows {
+            alloc,
             front: Vec::new(alloc),
+            later: Vec::new(alloc),
             count: 0,
             blank,
         }
@@ -43,8 +53,8 @@ impl<S: Copy> LateRows<S> {
         ensures blank { self.new.blank ≡ self.old.blank }
         ensures room { result ≡ true → items ≤ self.new.capacity }
     {
-        let more = items.saturating_sub(self.front.len());
-        self.front.reserve(more).is_ok()
+        let more = items.min(PIECE).saturating_sub(self.front.len());
+        self.front.reserve(more).is_ok() && reserve_later(self.alloc, &mut self.later, items)
     }
 
     /// Adds blanks, so that there are so many items in all, where there are fewer. Writes none of them.
@@ -69,6 +79,7 @@ impl<S: Copy> LateRows<S> {
         ensures blank { self.new.blank ≡ self.old.blank }
     {
         self.front.clear();
+        forget_later(&mut self.later);
     }
 
     /// The item at a number.
@@ -77,10 +88,10 @@ impl<S: Copy> LateRows<S> {
         requires { number < length self.now.items }
         ensures { slice_get self.now.items number ≡ Some result }
     {
-        self.front.get(number).copied().unwrap_or(self.blank)
+        *item_of(&self.front, &self.later, number, &self.blank)
     }
 
-    /// Eight items, from one on, where they lie; none where one of them was never written.
+    /// Eight items, from one on, where they lie side by side; none where one of them was never written.
     #[inline(always)]
     pub fn eight(&self, first: usize) -> Option<&[S]>
         requires { first + 8 ≤ length self.now.items }
@@ -88,27 +99,86 @@ impl<S: Copy> LateRows<S> {
     {
         match self.front.get(first..first + 8) {
             Some(eight) => Some(eight),
-            None => None,
+            None => later_eight(&self.later, first),
         }
     }
 
-    /// Puts an item at a number; blanks before it that were never written are written first.
+    /// Puts an item at a number; blanks before it in its piece that were never written are written first.
     #[inline(always)]
     pub fn set(&mut self, number: usize, s: S)
         requires { number < length self.old.items }
         ensures items { self.new.items ≡ slice_set self.old.items number s }
         ensures blank { self.new.blank ≡ self.old.blank }
     {
-        if number >= self.front.len() {
-            write_blanks(&mut self.front, self.count.min(number + 64), self.blank);
+        if number < PIECE {
+            set_front(&mut self.front, self.count, number, s, self.blank);
+        } else {
+            self.later[number / PIECE - 1].set(number % PIECE, s, self.blank);
         }
-        self.front[number] = s;
     }
+}
+
+// The item at a number, where it lies: so it is copied once.
+#[inline(always)]
+fn item_of<'a, S: Copy>(front: &'a [S], later: &'a [Piece<S>], number: usize, blank: &'a S) -> &'a S
+    requires { length front.now ≤ 1024 }
+    ensures { result.now ≡ item_at front.now later.now blank.now number }
+{
+    match front.get(number) {
+        Some(s) => s,
+        None => later_at(later, number, blank),
+    }
+}
+
+// The item at a number past what was written to the first piece.
+#[inline(always)]
+fn later_at<'a, S: Copy>(later: &'a [Piece<S>], number: usize, blank: &'a S) -> &'a S
+    ensures { result.now ≡ later_item later.now number blank.now }
+{
+    if number < PIECE {
+        return blank;
+    }
+    match later.get(number / PIECE - 1) {
+        Some(piece) => piece.at(number % PIECE, blank),
+        None => blank,
+    }
+}
+
+// Eight items behind the first piece, where they were written and lie in one.
+#[inline(always)]
+fn later_eight<S: Copy>(later: &[Piece<S>], first: usize) -> Option<&[S]>
+    ensures { IfSome result (λ eight. AreLaterEight eight.now later.now first) }
+{
+    let place = first % PIECE;
+    if first < PIECE || place > PIECE - 8 {
+        return None;
+    }
+    match later.get(first / PIECE - 1) {
+        Some(piece) => piece.eight(place),
+        None => None,
+    }
+}
+
+// Puts an item into the first piece, and blanks before it that were never written. The memory for them is there.
+#[inline(always)]
+fn set_front<S: Copy>(front: &mut Vec<S>, count: usize, number: usize, s: S, blank: S)
+    requires inside { number < count }
+    requires first { number < 1024 }
+    requires memory { min count 1024 ≤ vec_capacity front.old }
+    requires few { length front.old.items ≤ min count 1024 }
+    ensures items { (k : ℕ) → slice_index_or front.new.items k blank ≡ (if nat_eq k number then s else slice_index_or front.old.items k blank) }
+    ensures few { length front.new.items ≤ min count 1024 }
+    ensures capacity { vec_capacity front.old ≤ vec_capacity front.new }
+{
+    if number >= front.len() {
+        write_blanks(front, count.min(number + 64).min(PIECE), blank);
+    }
+    front[number] = s;
 }
 
 // Adds blanks to what was written, so that there are so many items in all. The memory for them is there.
 #[inline(never)]
-fn write_blanks<S: Copy>(front: &mut Vec<S>, items: usize, blank: S)
+pub(crate) fn write_blanks<S: Copy>(front: &mut Vec<S>, items: usize, blank: S)
     requires longer { length front.old.items ≤ items }
     requires memory { items ≤ vec_capacity front.old }
     ensures items { front.new.items ≡ lengthened front.old.items items blank }
@@ -117,4 +187,40 @@ fn write_blanks<S: Copy>(front: &mut Vec<S>, items: usize, blank: S)
     let Ok(()) = front.resize(items, blank) else {
         unreachable!()
     };
+}
+
+// Makes memory for the pieces behind the first that so many items need, and says whether there is. Nothing is written to them.
+fn reserve_later<S: Copy>(alloc: Global, later: &mut Vec<Piece<S>>, items: usize) -> bool
+    ensures same { (number : ℕ) (blank : S) → later_item later.new.items number blank ≡ later_item later.old.items number blank }
+    ensures more { length later.old.items ≤ length later.new.items }
+    ensures room { result ≡ true → items ≤ 1024 + 1024 * length later.new.items }
+{
+    let more = (items.saturating_sub(1) / PIECE).saturating_sub(later.len());
+    for _piece in 0..more {
+        if !add_piece(alloc, later) {
+            return false;
+        }
+    }
+    true
+}
+
+// Adds a piece to which nothing was written, and says whether there is memory.
+fn add_piece<S: Copy>(alloc: Global, later: &mut Vec<Piece<S>>) -> bool
+    ensures piece { result ≡ true → later.new.items ≡ later.old.items ++ [] ∷ [] }
+    ensures same { result ≡ false → later.new.items ≡ later.old.items }
+{
+    match Piece::new(alloc) {
+        Ok(piece) => later.push(piece).is_ok(),
+        Err(AllocError) => false,
+    }
+}
+
+// Makes every item of some pieces blank.
+fn forget_later<S: Copy>(later: &mut Vec<Piece<S>>)
+    ensures blank { (number : ℕ) (blank : S) → later_item later.new.items number blank ≡ blank }
+    ensures pieces { length later.new.items ≡ length later.old.items }
+{
+    for k in 0..later.len() {
+        later[k].forget();
+    }
 }

@@ -9,6 +9,7 @@ mod accepted;
 mod delivery;
 mod late_rows;
 mod level;
+mod pieces;
 mod summaries;
 
 pub use accepted::Accepted;

@@ -1,27 +1,55 @@
--- Proof of `LateRows::set`: puts an item at a number; blanks before it that were never written are written first.
-use Rattle.std.proofs.Common.{◌≡◌, ◌∙◌, ap, arith, length, slice_set}
-use Rattle.lv_summary.specs.Inner.{lengthened}
-use Rattle.lv_summary.proofs.LateLaws.{set_early, set_late}
-use Rattle.lv_summary.proofs.LevelLaws.{length-lengthened}
+-- Proof of `LateRows::set`: puts an item at a number; blanks before it in its piece that were never written are written first.
+use Rattle.std.proofs.Common.{◌-◌, ◌/◌, ◌<◌, ◌∙◌, ap, arith, length, length-set, slice_set, vec_capacity}
+use Rattle.lv_summary.proofs.LateLaws.{in_pieces-set, length-in_pieces, piece_there, set_early, set_late, still_blank}
 use Rattle.lv_summary.proofs.late_rows.LateRows.set.Goals as goal
-use Rattle.lv_summary.proofs.late_rows.LateRows.set.Goals.{then-number-len, else-number-len}
 
-pub returns-clause-items : goal.returns-clause-items
-returns-clause-items g c =
+pub set_front-requires-clause-inside : goal.set_front-requires-clause-inside
+set_front-requires-clause-inside g c =
+    omega (arith, length-in_pieces c.self.inside.front.items c.self.inside.later.items c.self.inside.blank c.self.inside.count, ap (λ of. length of.items) c.self.view_is)
+
+pub set_front-requires-clause-few : goal.set_front-requires-clause-few
+set_front-requires-clause-few g c = c.self.invariant.1
+
+pub index_mut-requires : goal.index_mut-requires
+index_mut-requires g c =
+    let inside : c.args.number < c.self.inside.count = omega (arith, length-in_pieces c.self.inside.front.items c.self.inside.later.items c.self.inside.blank c.self.inside.count, ap (λ of. length of.items) c.self.view_is) in
+    let there : c.args.number / 1024 - 1 < length c.self.inside.later.items = piece_there c.self.inside.count (vec_capacity c.self.inside.front) (length c.self.inside.later.items) c.args.number c.self.invariant.0 inside c.if-number-lt-PIECE.false in
+    omega arith
+
+pub invariant_of-self-else-number-lt-PIECE : goal.invariant_of-self-else-number-lt-PIECE
+invariant_of-self-else-number-lt-PIECE g c =
     let front = c.self.inside.front.items in
+    let later = c.self.inside.later.items in
     let count = c.self.inside.count in
     let blank = c.self.inside.blank in
-    let long : length (lengthened front count blank) ≡ count = omega (arith, length-lengthened front count blank, c.self.invariant.0) in
-    let same = ap (λ of. length of.items) c.self.view_is in
-    let seen = ap (λ of. slice_set of.items c.args.number c.args.s) c.self.view_is in
-    elim c.if-number-len.branch [
-      | then-number-len w ↦
-          ap (λ of. lengthened (slice_set of.front.items c.args.number c.args.s) of.count of.blank) w.self-inside-is
-          ∙ ap (λ xs. lengthened (slice_set xs c.args.number c.args.s) count blank) w.write_blanks.ensures.items
-          ∙ set_late front count blank c.args.number w.min.result c.args.s (omega (arith, w.if-number-len.true, c.len.ensures)) (omega (arith, long, same, c.requires, w.min.ensures)) (omega (arith, w.min.ensures))
-          ∙ seen
-      | else-number-len w ↦
-          ap (λ of. lengthened (slice_set of.front.items c.args.number c.args.s) of.count of.blank) w.self-inside-is
-          ∙ set_early front count blank c.args.number c.args.s (omega (arith, w.if-number-len.false, c.len.ensures))
-          ∙ seen
-    ]
+    let place = c.args.number / 1024 - 1 in
+    let inside : c.args.number < count = omega (arith, length-in_pieces front later blank count, ap (λ of. length of.items) c.self.view_is) in
+    let there : place < length later = piece_there count (vec_capacity c.self.inside.front) (length later) c.args.number c.self.invariant.0 inside c.if-number-lt-PIECE.false in (
+      rw (length-set later place c.set.new.self) c.self.invariant.0,
+      c.self.invariant.1,
+      c.self.invariant.2,
+      still_blank front front later (slice_set later place c.set.new.self) blank count c.args.number c.args.s inside (set_late front c.index_mut.result.now c.set.new.self later blank c.args.number c.args.s c.if-number-lt-PIECE.false there c.index_mut.ensures.value c.set.ensures) c.self.invariant.3,
+    )
+
+pub returns-then-number-lt-PIECE-clause-items : goal.returns-then-number-lt-PIECE-clause-items
+returns-then-number-lt-PIECE-clause-items g c =
+    let front = c.self.inside.front.items in
+    let later = c.self.inside.later.items in
+    let count = c.self.inside.count in
+    let blank = c.self.inside.blank in
+    let inside : c.args.number < count = omega (arith, length-in_pieces front later blank count, ap (λ of. length of.items) c.self.view_is) in
+    in_pieces-set front c.set_front.new.front.items later later blank count c.args.number c.args.s inside (set_early front c.set_front.new.front.items later blank c.args.number c.args.s c.if-number-lt-PIECE.true c.set_front.ensures.items)
+    ∙ ap (λ of. slice_set of.items c.args.number c.args.s) c.self.view_is
+
+pub returns-else-number-lt-PIECE-clause-items : goal.returns-else-number-lt-PIECE-clause-items
+returns-else-number-lt-PIECE-clause-items g c =
+    let front = c.self.inside.front.items in
+    let later = c.self.inside.later.items in
+    let count = c.self.inside.count in
+    let blank = c.self.inside.blank in
+    let place = c.args.number / 1024 - 1 in
+    let inside : c.args.number < count = omega (arith, length-in_pieces front later blank count, ap (λ of. length of.items) c.self.view_is) in
+    let there : place < length later = piece_there count (vec_capacity c.self.inside.front) (length later) c.args.number c.self.invariant.0 inside c.if-number-lt-PIECE.false in
+    rw (← c.self.view_is) (
+    in_pieces-set front front later (slice_set later place c.set.new.self) blank count c.args.number c.args.s inside
+    (set_late front c.index_mut.result.now c.set.new.self later blank c.args.number c.args.s c.if-number-lt-PIECE.false there c.index_mut.ensures.value c.set.ensures))
