@@ -1,5 +1,5 @@
 //! The sum that was answered last: it is told again without a walk where its range is asked for again.
-ghost use Rattle.std.specs.Prelude.{◌≡◌, IfSome};
+ghost use Rattle.std.specs.Prelude.{◌≡◌, IfSome, Some};
 ghost use Rattle.lv_kinds.specs.LastSum.{no_sum, sum_after, sum_put};
 
 /// The sum of a range, its end excluded, modulo 2^64.
@@ -26,7 +26,8 @@ impl LastSum {
     /// The sum, where it is that of this range.
     #[inline(always)]
     pub fn of(&self, lo: u32, hi: u32) -> Option<u64>
-        ensures { IfSome result (λ value. record { lo = lo; hi = hi; value = value } ≡ self.now) }
+        ensures sum { IfSome result (λ value. record { lo = lo; hi = hi; value = value } ≡ self.now) }
+        ensures told { self.now.lo ≡ lo → self.now.hi ≡ hi → result ≡ Some self.now.value }
     {
         if self.lo == lo && self.hi == hi {
             Some(self.value)

@@ -9,7 +9,7 @@ use Rattle.lv_kinds.proofs.asking.ask_sum.Goals as goal
 pub returns-in-Some-clause-ok : goal.returns-in-Some-clause-ok
 returns-in-Some-clause-ok c table =
     let es = c.args.view.cells.now.journal in
-    let held = subst (IsSumOfRange es (is_flagged c.args.flags.now 0)) (sym c.in-Some.ensures) c.requires.remembered in
+    let held = subst (IsSumOfRange es (is_flagged c.args.flags.now 0)) (sym c.in-Some.ensures.sum) c.requires.remembered in
     sum_is_answer table es c.args.lo c.args.hi c.edit.result c.in-Some.value held.granted c.edit.ensures.value held.value
 
 pub returns-in-Some-clause-learns : goal.returns-in-Some-clause-learns
@@ -18,7 +18,7 @@ returns-in-Some-clause-learns c = learns_nothing 0 c.args.flags.now c.args.sums.
 pub returns-in-Some-clause-kept : goal.returns-in-Some-clause-kept
 returns-in-Some-clause-kept c =
     let es = c.args.view.cells.now.journal in
-    let held = subst (IsSumOfRange es (is_flagged c.args.flags.now 0)) (sym c.in-Some.ensures) c.requires.remembered in
+    let held = subst (IsSumOfRange es (is_flagged c.args.flags.now 0)) (sym c.in-Some.ensures.sum) c.requires.remembered in
     held.known
 
 pub returns-in-Err-clause-remembered : goal.returns-in-Err-clause-remembered
