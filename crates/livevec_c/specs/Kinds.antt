@@ -38,21 +38,21 @@ folding_of kind.Automaton = kept_as 1 automaton_parts (automaton_operations prog
 
 -- where a seat is, and what it knows
 abbrev pub sat_at : KindSeat → Sat
-sat_at (seats.Sum s) = sat_of 1 sum_parts (λ _. sum_operations) kind.Sum (λ _. plain_value kind.Sum) s
-sat_at (seats.Least s) = sat_of 1 extreme_parts (λ _. least_operations) kind.Least (λ _. plain_value kind.Least) s
-sat_at (seats.Greatest s) = sat_of 1 extreme_parts (λ _. greatest_operations) kind.Greatest (λ _. plain_value kind.Greatest) s
-sat_at (seats.Best s) = sat_of 4 best_parts (λ _. best_operations) kind.Best (λ _. plain_value kind.Best) s
-sat_at (seats.Affine s) = sat_of 2 affine_parts (λ _. affine_operations) kind.Affine (λ _. plain_value kind.Affine) s
-sat_at (seats.Automaton s) = sat_of 1 automaton_parts (λ a. automaton_operations (table_of a)) kind.Automaton (λ a. plain_value_with (table_of a) kind.Automaton) s
+sat_at (seats.Sum s) = sat_of (folds 1 sum_parts (λ _. sum_operations)) kind.Sum (λ _. plain_value kind.Sum) s
+sat_at (seats.Least s) = sat_of (folds 1 extreme_parts (λ _. least_operations)) kind.Least (λ _. plain_value kind.Least) s
+sat_at (seats.Greatest s) = sat_of (folds 1 extreme_parts (λ _. greatest_operations)) kind.Greatest (λ _. plain_value kind.Greatest) s
+sat_at (seats.Best s) = sat_of (folds 4 best_parts (λ _. best_operations)) kind.Best (λ _. plain_value kind.Best) s
+sat_at (seats.Affine s) = sat_of (folds 2 affine_parts (λ _. affine_operations)) kind.Affine (λ _. plain_value kind.Affine) s
+sat_at (seats.Automaton s) = sat_of (folds 1 automaton_parts (λ a. automaton_operations (table_of a))) kind.Automaton (λ a. plain_value_with (table_of a) kind.Automaton) s
 
 -- which board it is, and what the seats know that are there
 abbrev pub shared_at : KindBoard → Shared
-shared_at (boards.Sum o) = shared_of 1 sum_parts (λ _. sum_operations) kind.Sum (λ _. plain_value kind.Sum) o
-shared_at (boards.Least o) = shared_of 1 extreme_parts (λ _. least_operations) kind.Least (λ _. plain_value kind.Least) o
-shared_at (boards.Greatest o) = shared_of 1 extreme_parts (λ _. greatest_operations) kind.Greatest (λ _. plain_value kind.Greatest) o
-shared_at (boards.Best o) = shared_of 4 best_parts (λ _. best_operations) kind.Best (λ _. plain_value kind.Best) o
-shared_at (boards.Affine o) = shared_of 2 affine_parts (λ _. affine_operations) kind.Affine (λ _. plain_value kind.Affine) o
-shared_at (boards.Automaton o) = shared_of 1 automaton_parts (λ a. automaton_operations (table_of a)) kind.Automaton (λ a. plain_value_with (table_of a) kind.Automaton) o
+shared_at (boards.Sum o) = shared_of (folds 1 sum_parts (λ _. sum_operations)) kind.Sum (λ _. plain_value kind.Sum) o
+shared_at (boards.Least o) = shared_of (folds 1 extreme_parts (λ _. least_operations)) kind.Least (λ _. plain_value kind.Least) o
+shared_at (boards.Greatest o) = shared_of (folds 1 extreme_parts (λ _. greatest_operations)) kind.Greatest (λ _. plain_value kind.Greatest) o
+shared_at (boards.Best o) = shared_of (folds 4 best_parts (λ _. best_operations)) kind.Best (λ _. plain_value kind.Best) o
+shared_at (boards.Affine o) = shared_of (folds 2 affine_parts (λ _. affine_operations)) kind.Affine (λ _. plain_value kind.Affine) o
+shared_at (boards.Automaton o) = shared_of (folds 1 automaton_parts (λ a. automaton_operations (table_of a))) kind.Automaton (λ a. plain_value_with (table_of a) kind.Automaton) o
 
 -- a seat of the board, and none that is there has its number
 abbrev pub IsOutOf : KindBoard → KindSeat → Type 0

@@ -42,14 +42,18 @@ part_below xs p below = elim (cases_lt p (length xs)) [
 ]
 
 -- a basis and the parts of a body make terms
-pub are_terms : {B S : Type 0} (count : ℕ) (parts : S → List ℕ) (operations : B → Operations S) (z : Basis B) → count ≤ 4 → AreParts count parts → IsBasis z → AreTerms (terms_of (folds count parts operations) z)
-are_terms count parts operations z few are basis = record {
+parts_make_terms : {B S : Type 0} (count : ℕ) (parts : S → List ℕ) (operations : B → Operations S) (z : Basis B) → count ≤ 4 → AreParts count parts → IsBasis z → AreTerms (terms_of (folds count parts operations) z)
+parts_make_terms count parts operations z few are basis = record {
   allowed = record { some_buckets = basis.some_buckets; few_buckets = omega (arith, basis.few_buckets); some_edits = basis.some_edits; few_edits = basis.few_edits };
   few_buckets = basis.few_buckets;
   few_seats = basis.few_seats;
   few_parts = few;
   short_parts = λ p xs. part_below (parts (fold_of (operations z.body) xs)) p (are.below (fold_of (operations z.body) xs));
 }
+
+-- the same, where a body's folds are kept by parts
+pub are_terms : {B S : Type 0} (f : B → Folding) (count : ℕ) (parts : S → List ℕ) (operations : B → Operations S) (z : Basis B) → f ≡ folds count parts operations → count ≤ 4 → AreParts count parts → IsBasis z → AreTerms (terms_of f z)
+are_terms f count parts operations z by_parts few are basis = subst (λ g. AreTerms (terms_of g z)) (sym by_parts) (parts_make_terms count parts operations z few are basis)
 
 only_one : {A : Type 0} (a b : A) (j : ℕ) → get_elem? (a ∷ []) j ≡ some b → (j ≡ 0) × (a ≡ b)
 only_one a b zero at = (refl, some-injective a b at)

@@ -13,9 +13,8 @@ use Rattle.lv_geometry.specs.declared.refusals.Refusal.{Refusal}
 use Rattle.lv_geometry.specs.declared.refusals.Refusal.TheVariants.{NoMemory}
 use Rattle.lv_bodies.specs.declared.kinds.Kind.{Kind}
 use Rattle.lv_bodies.specs.declared.kinds.Shown.{Shown}
-use Rattle.lv_bodies.specs.Body.{Operations}
 use Rattle.lv_machine.specs.History.{own}
-use Rattle.lv_machine.specs.Terms.{Terms}
+use Rattle.lv_machine.specs.Terms.{Folding, Terms}
 use Rattle.lv_board.specs.declared.actors.Actor.{Actor}
 use Rattle.lv_board.specs.declared.actors.Basis.{Basis}
 use Rattle.lv_board.specs.declared.board.Board.{Board}
@@ -25,7 +24,7 @@ use Rattle.lv_board.specs.declared.seats.Seat.{Seat}
 use Rattle.lv_board.specs.Closing.{IsKept}
 use Rattle.lv_board.specs.Ended.{IsEnded}
 use Rattle.lv_board.specs.Opening.{AreDealt, IsBasisOf, IsOpeningRefusal, MayOpen}
-use Rattle.lv_board.specs.Rule.{folds, newcomer, terms_of}
+use Rattle.lv_board.specs.Rule.{newcomer, terms_of}
 use Rattle.lv_board.specs.Sharing.{IsClosedShared, IsNewlyShared, Shared, shared_of}
 use Rattle.lv_board.specs.Tells.{actor_of, IsAt}
 use Rattle.lv_board.proofs.Closes.{known_total}
@@ -68,15 +67,15 @@ module _ {B : Type 0} (table : TableId) (z : Basis B) where
   dealt_new [] dealt = refl
   dealt_new (s ∷ rest) dealt = dealt_from (s ∷ rest) s dealt
 
-module _ {B S : Type 0} (count : ℕ) (parts_of : S → List ℕ) (operations : B → Operations S) (kind : Kind) (plain : B → List ℤ → Shown) where
+module _ {B S : Type 0} (folding : B → Folding) (kind : Kind) (plain : B → List ℤ → Shown) where
   -- what is shared of a new board
   pub newly_shared : (limits : Bounds) (number stamp : ℕ) (body : B) (board : Board B S) (seats : List (Seat B)) (result : Result (Opened B S) Refusal) → MayOpen limits number → IsBasisOf limits number body board.terms → length seats ≡ number → AreDealt board.table.shared.table_id board.terms seats
-      → IfOk result (λ o. (arc_value o.board ≡ board) × (o.seats.items ≡ seats) × (o.stamp ≡ stamp)) → IfOk result (λ o. IsNewlyShared limits number stamp (folds count parts_of operations body) kind (plain body) (shared_of count parts_of operations kind plain o))
+      → IfOk result (λ o. (arc_value o.board ≡ board) × (o.seats.items ≡ seats) × (o.stamp ≡ stamp)) → IfOk result (λ o. IsNewlyShared limits number stamp (folding body) kind (plain body) (shared_of folding kind plain o))
   newly_shared limits number stamp body board seats (Err refusal) may basis long dealt shared = tt
   newly_shared limits number stamp body board seats (Ok o) may basis long dealt (same, left, stamped) = record {
     allowed = may;
     stamp_is = stamped;
-    terms = ap (λ (b : Board B S). terms_of (folds count parts_of operations) b.terms) same ∙ ap (terms_of (folds count parts_of operations)) basis;
+    terms = ap (λ (b : Board B S). terms_of folding b.terms) same ∙ ap (terms_of folding) basis;
     kind_is = refl;
     plain_is = ap (λ (b : Board B S). plain b.terms.body) same ∙ ap (λ (z : Basis B). plain z.body) basis;
     left = ap (map actor_of) left ∙ dealt_new board.table.shared.table_id board.terms seats dealt ∙ ap (λ n. map newcomer (range_with_len 0 n)) long;

@@ -6,7 +6,6 @@ use Rattle.atomic_table.specs.Seated.{TableId}
 use Rattle.lv_geometry.specs.Bounds.{Bounds}
 use Rattle.lv_bodies.specs.declared.kinds.Kind.{Kind}
 use Rattle.lv_bodies.specs.declared.kinds.Shown.{Shown}
-use Rattle.lv_bodies.specs.Body.{Operations}
 use Rattle.lv_machine.specs.declared.events.Call.{Call}
 use Rattle.lv_machine.specs.declared.outcomes.Said.{Said}
 use Rattle.lv_machine.specs.declared.entries.Entry.{Entry}
@@ -23,7 +22,7 @@ use Rattle.lv_board.specs.declared.seats_with_board.SeatWithBoard.{SeatWithBoard
 use Rattle.lv_board.specs.Closing.{IsKept}
 use Rattle.lv_board.specs.Opening.{MayOpen}
 use Rattle.lv_board.specs.Retrying.{AnswersWithin}
-use Rattle.lv_board.specs.Rule.{folds, newcomer, terms_of}
+use Rattle.lv_board.specs.Rule.{newcomer, terms_of}
 use Rattle.lv_board.specs.Session.{CallEnds}
 use Rattle.lv_board.specs.Tells.{actor_of}
 
@@ -97,12 +96,12 @@ module _ {B S : Type 0} where
     pub board : arc_value s.board ≡ arc_value o.board
     pub apart : All (λ u. (actor_of u).number ≢ (actor_of s.seat).number) o.seats.items
 
-module _ {B S : Type 0} (count : ℕ) (parts_of : S → List ℕ) (operations : B → Operations S) (kind : Kind) (plain : B → List ℤ → Shown) where
+module _ {B S : Type 0} (folding : B → Folding) (kind : Kind) (plain : B → List ℤ → Shown) where
   abbrev pub sat_of : SeatWithBoard B S → Sat
   sat_of s = record {
     board = (arc_value s.board).table.shared.table_id;
     stamp = s.stamp;
-    terms = terms_of (folds count parts_of operations) (arc_value s.board).terms;
+    terms = terms_of folding (arc_value s.board).terms;
     kind = kind;
     plain = plain (arc_value s.board).terms.body;
     knows = actor_of s.seat;
@@ -112,7 +111,7 @@ module _ {B S : Type 0} (count : ℕ) (parts_of : S → List ℕ) (operations : 
   shared_of o = record {
     board = (arc_value o.board).table.shared.table_id;
     stamp = o.stamp;
-    terms = terms_of (folds count parts_of operations) (arc_value o.board).terms;
+    terms = terms_of folding (arc_value o.board).terms;
     kind = kind;
     plain = plain (arc_value o.board).terms.body;
     left = map actor_of o.seats.items;

@@ -3,21 +3,22 @@ ghost use Rattle.std.specs.Prelude.{◌≡◌, ◌++◌, ℕ, List};
 ghost use Rattle.lv_lines.specs.Output.{HasRoom, KeepsRoom};
 ghost use Rattle.lv_board.specs.declared.board.Board.{Board};
 ghost use Rattle.lv_board.specs.declared.seats.Seat.{Seat};
-ghost use Rattle.lv_board.specs.Rule.{folds, terms_of};
+ghost use Rattle.lv_board.specs.Rule.{terms_of};
 ghost use Rattle.lv_board.specs.Session.{BoardAnswer};
 ghost use Rattle.lv_board.specs.Tells.{actor_of, IsAt, Stays};
 
 use crate::board::Board;
+use crate::bodies::BoardBody;
 use crate::calls::asked_block;
 use crate::seats::Seat;
-use lv_bodies::{Affine, Automaton, Best, Greatest, Least, Parted, Sum};
+use lv_bodies::{Affine, Automaton, Best, Greatest, Least, Sum};
 use lv_script::{BoardLine, LINE, put_bad, put_said, said_shown};
 
 /// A body whose boards hold sessions, which each of the six is. `T` is its board, and `S` its seat.
 ///
 /// A method of another trait, as a session's is, can make calls of a board only where its body's type is known: so this trait has an
 /// implementation for each body, and its method has the board and the seat as type parameters.
-pub trait Answering<T, S>: Parted {
+pub trait Answering<T, S>: BoardBody {
     /// The board and the seat that the two parameters are.
     ghost board_of: { T → Board Self Self.S };
 
@@ -29,7 +30,7 @@ pub trait Answering<T, S>: Parted {
         requires room { HasRoom held.old LINE }
         ensures stays { Stays (seat_of seat.old) (seat_of seat.new) }
         ensures answer { (text : List ℕ)
-            × BoardAnswer (terms_of (folds Self.PARTS Self.parts_of (λ b. Self.operations b)) (board_of board.now).terms) (Self.operations (board_of board.now).terms.body) Self.the_kind (Self.shown_as (board_of board.now).terms.body) (actor_of (seat_of seat.old)) number line text (actor_of (seat_of seat.new))
+            × BoardAnswer (terms_of Self.folding (board_of board.now).terms) (Self.operations (board_of board.now).terms.body) Self.the_kind (Self.shown_as (board_of board.now).terms.body) (actor_of (seat_of seat.old)) number line text (actor_of (seat_of seat.new))
             × (held.new.items ≡ held.old.items ++ text) }
         ensures room { KeepsRoom held.old held.new };
 }
@@ -131,7 +132,7 @@ impl Answering<Board<Automaton>, Seat<Automaton>> for Automaton {
 }
 
 // Answers a line.
-fn answer_line<B: Parted>(
+fn answer_line<B: BoardBody>(
     board: &Board<B>,
     seat: &mut Seat<B>,
     number: u32,
@@ -142,7 +143,7 @@ fn answer_line<B: Parted>(
     requires room { HasRoom held.old LINE }
     ensures stays { Stays seat.old seat.new }
     ensures answer { (text : List ℕ)
-        × BoardAnswer (terms_of (folds B.PARTS B.parts_of B.operations) board.now.terms) (B.operations board.now.terms.body) B.the_kind (B.shown_as board.now.terms.body) (actor_of seat.old) number line text (actor_of seat.new)
+        × BoardAnswer (terms_of B.folding board.now.terms) (B.operations board.now.terms.body) B.the_kind (B.shown_as board.now.terms.body) (actor_of seat.old) number line text (actor_of seat.new)
         × (held.new.items ≡ held.old.items ++ text) }
     ensures room { KeepsRoom held.old held.new }
 {

@@ -5,14 +5,14 @@ ghost use Rattle.lv_board.specs.Stands.{IsBasis};
 ghost use Rattle.lv_board.specs.Rule.{limits_of};
 
 use crate::actors::{Basis, View};
+use crate::bodies::BoardBody;
 use crate::rules::Reached;
 use atomic_table::Table;
-use lv_bodies::Parted;
 use std::alloc::Global;
 
 /// The words of one vector, which its seats share. No call on it waits.
 #[derive(Drop)]
-pub struct Board<B: Parted> {
+pub struct Board<B: BoardBody> {
     pub(crate) terms: Basis<B>,
     pub(crate) table: Table<(), View<B>, Basis<B>, Reached<B>, Global>,
     ghost basis: { IsBasis terms },

@@ -5,19 +5,20 @@ ghost use Rattle.lv_bodies.specs.Body.{fold_of};
 ghost use Rattle.lv_board.specs.Calls.{HasLooked, ReduceAnswers, TryAnswers};
 ghost use Rattle.lv_board.specs.Closing.{IsStill};
 ghost use Rattle.lv_board.specs.Sharing.{EndsWithin};
-ghost use Rattle.lv_board.specs.Rule.{folds, terms_of};
+ghost use Rattle.lv_board.specs.Rule.{terms_of};
 ghost use Rattle.lv_board.specs.Session.{CallEnds, asked_block, said_by};
 ghost use Rattle.lv_board.specs.Tells.{actor_of, IsAt, IsSame, Stays};
 
 use crate::board::Board;
+use crate::bodies::BoardBody;
 use crate::seats::Seat;
-use lv_bodies::{Parted, Shown};
+use lv_bodies::Shown;
 use lv_edits::Receipt;
 use lv_geometry::Refusal;
 use lv_machine::{Call, Read, Refreshed, Said};
 use lv_reduce::Answer;
 
-impl<B: Parted> Board<B> {
+impl<B: BoardBody> Board<B> {
     /// What `reduce` answers, with the plain value of the range in place of its summary. The seat is one of this board's.
     pub fn reduce_plain(
         &self,
@@ -27,7 +28,7 @@ impl<B: Parted> Board<B> {
     ) -> Result<Answer<Shown>, Refusal>
         requires { IsAt self.now.table.shared.table_id self.now.terms seat.old }
         ensures stays { Stays seat.old seat.new }
-        ensures looked { lo ≤ hi → HasLooked (terms_of (folds B.PARTS B.parts_of B.operations) self.now.terms) (actor_of seat.old) (actor_of seat.new) }
+        ensures looked { lo ≤ hi → HasLooked (terms_of B.folding self.now.terms) (actor_of seat.old) (actor_of seat.new) }
         ensures answer { lo ≤ hi → ReduceAnswers (B.plain self.now.terms.body) lo hi (actor_of seat.new) result }
         ensures backwards { hi < lo → (result ≡ Err Refusal.BadRange) × IsSame seat.old seat.new }
     {
@@ -47,7 +48,7 @@ impl<B: Parted> Board<B> {
         requires here { IsAt self.now.table.shared.table_id self.now.terms seat.old }
         requires some { 1 ≤ tries }
         ensures still { IsStill seat.old seat.new }
-        ensures ends { EndsWithin (terms_of (folds B.PARTS B.parts_of B.operations) self.now.terms) (B.plain self.now.terms.body) tries call (actor_of seat.old) result (actor_of seat.new) }
+        ensures ends { EndsWithin (terms_of B.folding self.now.terms) (B.plain self.now.terms.body) tries call (actor_of seat.old) result (actor_of seat.new) }
     {
         match call {
             Call::Push(x) => tried(self.push_within(seat, x, tries)),
@@ -64,7 +65,7 @@ impl<B: Parted> Board<B> {
     pub(crate) fn make(&self, seat: &mut Seat<B>, call: Call) -> Said<B::S>
         requires { IsAt self.now.table.shared.table_id self.now.terms seat.old }
         ensures stays { Stays seat.old seat.new }
-        ensures ends { CallEnds (terms_of (folds B.PARTS B.parts_of B.operations) self.now.terms) (TryAnswers (terms_of (folds B.PARTS B.parts_of B.operations) self.now.terms)) (fold_of (B.operations self.now.terms.body)) call (actor_of seat.old) result (actor_of seat.new) }
+        ensures ends { CallEnds (terms_of B.folding self.now.terms) (TryAnswers (terms_of B.folding self.now.terms)) (fold_of (B.operations self.now.terms.body)) call (actor_of seat.old) result (actor_of seat.new) }
     {
         match call {
             Call::Push(x) => tried(self.try_push(seat, x)),

@@ -7,17 +7,17 @@ ghost use Rattle.lv_machine.specs.Layout.{cell_place, count_of};
 ghost use Rattle.lv_machine.specs.Words.{edit_of, signed, size_of};
 ghost use Rattle.lv_board.specs.Closing.{AreAll, AreAt, IsClosed};
 ghost use Rattle.lv_board.specs.Ended.{IsEnded, IsSettled, shown_at};
-ghost use Rattle.lv_board.specs.Rule.{folds, terms_of, limits_of};
+ghost use Rattle.lv_board.specs.Rule.{terms_of, limits_of};
 ghost use Rattle.lv_board.specs.Tells.{actor_of, IsAt};
 
 use crate::actors::View;
 use crate::board::Board;
+use crate::bodies::BoardBody;
 use crate::plays::Gather;
 use crate::remains::{Closed, Elements};
 use crate::seats::Seat;
 use crate::words::{cell_place_of, edit_in, element, index_in, size_in, value_in};
 use atomic_table::{Closed as Shut, Seat as Token};
-use lv_bodies::Parted;
 use lv_geometry::capacity;
 use std::alloc::Global;
 
@@ -60,7 +60,7 @@ fn collect(words: &Shut<(), Global>, look: u64, elements: &mut Vec<i64>)
     }
 }
 
-impl<B: Parted> Board<B> {
+impl<B: BoardBody> Board<B> {
     // Seats in one token, whose view has their actors in the order of the seats.
     fn gather(&self, mut seats: Vec<Seat<B>>, last: Seat<B>) -> Token<(), View<B>>
         requires last { IsAt self.now.table.shared.table_id self.now.terms last }
@@ -92,7 +92,7 @@ impl<B: Parted> Board<B> {
         ensures words { slots_len result.words ≡ count_of (limits_of self.terms) }
         ensures slots { slots_len result.slots ≡ 0 }
         ensures full { IsFull result.words }
-        ensures settled { IsSettled (terms_of (folds B.PARTS B.parts_of B.operations) self.terms) (map actor_of seats.items) (slots_items result.words) }
+        ensures settled { IsSettled (terms_of B.folding self.terms) (map actor_of seats.items) (slots_items result.words) }
     {
         let Some(last) = seats.pop() else {
             let Board { terms: _, table } = self;
@@ -122,7 +122,7 @@ impl<B: Parted> Board<B> {
         requires at { AreAt self.table.shared.table_id self.terms seats.items }
         requires none { elements.items ≡ [] }
         requires room { capacity_of self.terms.buckets ≤ vec_capacity elements }
-        ensures { IsEnded (terms_of (folds B.PARTS B.parts_of B.operations) self.terms) seats.items result }
+        ensures { IsEnded (terms_of B.folding self.terms) seats.items result }
     {
         let words = self.settle(seats);
         let look = words.word(0);
@@ -137,7 +137,7 @@ impl<B: Parted> Board<B> {
         requires all { AreAll self.terms.seats seats.items }
         requires none { elements.items ≡ [] }
         requires room { capacity_of self.terms.buckets ≤ vec_capacity elements }
-        ensures { IsClosed (terms_of (folds B.PARTS B.parts_of B.operations) self.terms) seats.items result }
+        ensures { IsClosed (terms_of B.folding self.terms) seats.items result }
     {
         self.close_by(seats, elements)
     }
@@ -151,7 +151,7 @@ impl<B: Parted> Board<B> {
     ) -> Result<Closed, (Board<B>, Vec<Seat<B>>)>
         requires at { AreAt self.table.shared.table_id self.terms seats.items }
         requires all { AreAll self.terms.seats seats.items }
-        ensures ok { IfOk result (λ closed. IsClosed (terms_of (folds B.PARTS B.parts_of B.operations) self.terms) seats.items closed) }
+        ensures ok { IfOk result (λ closed. IsClosed (terms_of B.folding self.terms) seats.items closed) }
         ensures err { IfErr result (λ r. (r.0 ≡ self) × (r.1.items ≡ seats.items)) }
     {
         let Ok(elements) = Vec::with_capacity(alloc, self.capacity() as usize) else {

@@ -4,23 +4,23 @@ ghost use Rattle.lv_machine.specs.History.{IsShortEdit};
 ghost use Rattle.lv_machine.specs.Layout.{count_of};
 ghost use Rattle.lv_machine.specs.Moves.{verdict_at};
 ghost use Rattle.lv_machine.specs.Words.{descriptor_after};
-ghost use Rattle.lv_board.specs.Rule.{folds, limits_of};
+ghost use Rattle.lv_board.specs.Rule.{limits_of};
 ghost use Rattle.lv_board.specs.Stands.{IsReady};
 ghost use Rattle.lv_board.specs.Tells.{actor_of};
 ghost use Rattle.lv_board.specs.Steps.{IsExchanged};
 
 use crate::actors::{Basis, View};
+use crate::bodies::BoardBody;
 use crate::plays::Exchange;
 use crate::rules::Reached;
 use crate::seats::Seat;
 use atomic_table::Table;
-use lv_bodies::Parted;
 use lv_edits::Edit;
 use std::alloc::Global;
 
 // The exchange of the descriptor from the look to the one after an edit, at the seat's own table. Says whether it was made; either
 // way the look becomes the descriptor that is there then.
-pub(crate) fn exchange<B: Parted>(
+pub(crate) fn exchange<B: BoardBody>(
     table: &Table<(), View<B>, Basis<B>, Reached<B>, Global>,
     seat: &mut Seat<B>,
     edit: Edit,
@@ -33,7 +33,7 @@ pub(crate) fn exchange<B: Parted>(
     requires short { IsShortEdit edit }
     requires free { verdict_at (limits_of seat.old.terms) seat.old.look edit ≡ None }
     requires after { new ≡ descriptor_after seat.old.look edit }
-    ensures { IsExchanged (folds B.PARTS B.parts_of B.operations) edit result seat.old seat.new }
+    ensures { IsExchanged B.folding edit result seat.old seat.new }
 {
     let old = seat.look;
     let found = table

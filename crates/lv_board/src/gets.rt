@@ -5,25 +5,25 @@ ghost use Rattle.lv_machine.specs.Words.{signed, value_of};
 ghost use Rattle.lv_machine.specs.History.{cell_of};
 ghost use Rattle.lv_board.specs.Calls.{GetAnswers, HasLooked};
 ghost use Rattle.lv_board.specs.Tells.{IsQuiet, actor_of, IsAt, Stays};
-ghost use Rattle.lv_board.specs.Rule.{folds, terms_of};
+ghost use Rattle.lv_board.specs.Rule.{terms_of};
 ghost use Rattle.lv_board.specs.Stands.{IsReady};
 ghost use Rattle.lv_board.specs.Steps.{IsCellTaken};
 
 use crate::board::Board;
+use crate::bodies::BoardBody;
 use crate::loads::load_cell;
 use crate::seats::Seat;
 use crate::words::{edit_in, size_in};
-use lv_bodies::Parted;
 use lv_geometry::Refusal;
 use lv_machine::Read;
 
-impl<B: Parted> Board<B> {
+impl<B: BoardBody> Board<B> {
     // The element in a cell, as the seat looked, or the later edit that wrote there since.
     pub(crate) fn load_cell(&self, seat: &mut Seat<B>, i: u32) -> Result<i64, Refusal>
         requires here { IsAt self.now.table.shared.table_id self.now.terms seat.old }
         requires ready { IsReady (actor_of seat.old) seat.old.look }
         requires within { i < capacity_of self.now.terms.buckets }
-        ensures { IsCellTaken (terms_of (folds B.PARTS B.parts_of B.operations) self.now.terms) i result seat.old seat.new }
+        ensures { IsCellTaken (terms_of B.folding self.now.terms) i result seat.old seat.new }
     {
         load_cell(&self.table, seat, i)
     }
@@ -33,7 +33,7 @@ impl<B: Parted> Board<B> {
     pub fn get(&self, seat: &mut Seat<B>, i: u32) -> Result<Read, Refusal>
         requires { IsAt self.now.table.shared.table_id self.now.terms seat.old }
         ensures stays { Stays seat.old seat.new }
-        ensures looked { HasLooked (terms_of (folds B.PARTS B.parts_of B.operations) self.now.terms) (actor_of seat.old) (actor_of seat.new) }
+        ensures looked { HasLooked (terms_of B.folding self.now.terms) (actor_of seat.old) (actor_of seat.new) }
         ensures answer { GetAnswers i (actor_of seat.new) result }
     {
         self.load_descriptor(seat);

@@ -7,10 +7,10 @@ ghost use Rattle.lv_board.specs.Closing.{IsClosed};
 ghost use Rattle.lv_board.specs.PlainBoard.{IsOneHistory, sat_of};
 ghost use Rattle.lv_board.specs.Tells.{actor_of};
 
-use lv_bodies::Parted;
+use crate::bodies::BoardBody;
 
 /// A board that was closed had one history: each session's is a beginning of it, with all edits of its own, and each edit is of one
 /// session.
-pub fn a_board_has_one_history<B: Parted>()
+pub fn a_board_has_one_history<B: BoardBody>()
     ensures { (t : Terms) (seats : List (Seat B)) (closed : Closed) → (c : IsClosed t seats closed) → IsOneHistory c.history (map (λ seat. sat_of (actor_of seat)) seats) }
 {}

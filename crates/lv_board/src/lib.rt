@@ -4,6 +4,7 @@
 mod actors;
 mod answering;
 mod board;
+mod bodies;
 mod calls;
 mod closing;
 mod exchanges;
@@ -35,6 +36,7 @@ mod words;
 pub use actors::{Actor, Basis, InstalledPart, View};
 pub use answering::Answering;
 pub use board::Board;
+pub use bodies::BoardBody;
 pub use laws::a_board_has_one_history;
 pub use looks::Look;
 pub use meetings::Met;

@@ -2,36 +2,36 @@
 ghost use Rattle.std.specs.Prelude.{◌≡◌, ◌<◌};
 ghost use Rattle.lv_geometry.specs.Cells.{capacity_of};
 ghost use Rattle.lv_machine.specs.Layout.{count_of};
-ghost use Rattle.lv_board.specs.Rule.{folds, terms_of, limits_of};
+ghost use Rattle.lv_board.specs.Rule.{terms_of, limits_of};
 ghost use Rattle.lv_board.specs.Stands.{IsReady};
 ghost use Rattle.lv_board.specs.Tells.{actor_of};
 ghost use Rattle.lv_board.specs.Steps.{IsCellTaken, IsLoaded, IsWordLoaded};
 
 use crate::actors::{Basis, View};
+use crate::bodies::BoardBody;
 use crate::plays::{LoadDescriptor, LoadWord};
 use crate::rules::Reached;
 use crate::seats::Seat;
 use crate::words::{cell_place_of, edit_in, element, value_in, version_in};
 use atomic_table::Table;
-use lv_bodies::Parted;
 use lv_geometry::Refusal;
 use std::alloc::Global;
 
 // The descriptor of the seat's own table: the look becomes what is loaded.
-pub(crate) fn load_descriptor<B: Parted>(
+pub(crate) fn load_descriptor<B: BoardBody>(
     table: &Table<(), View<B>, Basis<B>, Reached<B>, Global>,
     seat: &mut Seat<B>,
 )
     requires here { seat.old.token.table_id ≡ table.now.shared.table_id }
     requires key { table.now.shared.key ≡ seat.old.terms }
     requires count { table.now.shared.table_id.words ≡ count_of (limits_of seat.old.terms) }
-    ensures { IsLoaded (folds B.PARTS B.parts_of B.operations) seat.old seat.new }
+    ensures { IsLoaded B.folding seat.old seat.new }
 {
     seat.look = table.shared.load::<LoadDescriptor<B>>(&mut seat.token, 0);
 }
 
 // Another word of it.
-pub(crate) fn load_word<B: Parted>(
+pub(crate) fn load_word<B: BoardBody>(
     table: &Table<(), View<B>, Basis<B>, Reached<B>, Global>,
     seat: &mut Seat<B>,
     at: usize,
@@ -40,13 +40,13 @@ pub(crate) fn load_word<B: Parted>(
     requires key { table.now.shared.key ≡ seat.old.terms }
     requires count { table.now.shared.table_id.words ≡ count_of (limits_of seat.old.terms) }
     requires within { at < count_of (limits_of seat.old.terms) }
-    ensures { IsWordLoaded (folds B.PARTS B.parts_of B.operations) at result seat.old seat.new }
+    ensures { IsWordLoaded B.folding at result seat.old seat.new }
 {
     table.shared.load::<LoadWord<B>>(&mut seat.token, at)
 }
 
 // The element in a cell, as the seat looked, or the later edit that wrote there since.
-pub(crate) fn load_cell<B: Parted>(
+pub(crate) fn load_cell<B: BoardBody>(
     table: &Table<(), View<B>, Basis<B>, Reached<B>, Global>,
     seat: &mut Seat<B>,
     i: u32,
@@ -56,7 +56,7 @@ pub(crate) fn load_cell<B: Parted>(
     requires count { table.now.shared.table_id.words ≡ count_of (limits_of seat.old.terms) }
     requires ready { IsReady (actor_of seat.old) seat.old.look }
     requires within { i < capacity_of seat.old.terms.buckets }
-    ensures { IsCellTaken (terms_of (folds B.PARTS B.parts_of B.operations) seat.old.terms) i result seat.old seat.new }
+    ensures { IsCellTaken (terms_of B.folding seat.old.terms) i result seat.old seat.new }
 {
     let cell = load_word(table, seat, cell_place_of(i));
     let version = version_in(cell);

@@ -6,25 +6,25 @@ ghost use Rattle.lv_machine.specs.History.{edits_of};
 ghost use Rattle.lv_machine.specs.Layout.{part_place};
 ghost use Rattle.lv_machine.specs.Shows.{block, mark_of};
 ghost use Rattle.lv_machine.specs.Words.{part_word};
-ghost use Rattle.lv_board.specs.Rule.{folds, terms_of};
+ghost use Rattle.lv_board.specs.Rule.{terms_of};
 ghost use Rattle.lv_board.specs.Stands.{IsReady};
 ghost use Rattle.lv_board.specs.Tells.{actor_of, IsAt};
 ghost use Rattle.lv_board.specs.Steps.{HasMovedPart, IsInstalled, IsMarkTaken};
 
 use crate::board::Board;
+use crate::bodies::BoardBody;
 use crate::installs::install;
 use crate::seats::Seat;
 use crate::words::{edit_in, mark_place_of};
-use lv_bodies::Parted;
 use lv_geometry::Refusal;
 
-impl<B: Parted> Board<B> {
+impl<B: BoardBody> Board<B> {
     // The mark of a block, as the seat looked, or the later edit that touched the block since.
     pub(crate) fn load_mark(&self, seat: &mut Seat<B>, b: u32) -> Result<u32, Refusal>
         requires here { IsAt self.now.table.shared.table_id self.now.terms seat.old }
         requires ready { IsReady (actor_of seat.old) seat.old.look }
         requires within { 8 * b < capacity_of self.now.terms.buckets }
-        ensures { IsMarkTaken (terms_of (folds B.PARTS B.parts_of B.operations) self.now.terms) b result seat.old seat.new }
+        ensures { IsMarkTaken (terms_of B.folding self.now.terms) b result seat.old seat.new }
     {
         let mark = self.load_word(seat, mark_place_of(b));
         if mark > u64::from(edit_in(seat.look)) {
@@ -39,7 +39,7 @@ impl<B: Parted> Board<B> {
         requires within { 8 * b < capacity_of self.now.terms.buckets }
         requires part { part < B.PARTS }
         requires whole { is_whole (edits_of (actor_of seat.old).seen) (block b) ≡ true }
-        requires word { word ≡ part_word (mark_of b (actor_of seat.old).seen) ((terms_of (folds B.PARTS B.parts_of B.operations) self.now.terms).folding.part part (elements_under (edits_of (actor_of seat.old).seen) (block b))) }
+        requires word { word ≡ part_word (mark_of b (actor_of seat.old).seen) ((terms_of B.folding self.now.terms).folding.part part (elements_under (edits_of (actor_of seat.old).seen) (block b))) }
         ensures installed { IsInstalled (part_place b part) word seat.old seat.new }
         ensures moves { HasMovedPart b part word seat.old seat.new }
     {

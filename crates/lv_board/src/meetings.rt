@@ -3,17 +3,17 @@ ghost use Rattle.std.specs.Prelude.{◌≡◌, [], length};
 ghost use Rattle.lv_machine.specs.declared.moves.Move.TheVariants.{Look};
 ghost use Rattle.lv_machine.specs.History.{Ends};
 ghost use Rattle.lv_board.specs.Calls.{HasLooked};
-ghost use Rattle.lv_board.specs.Rule.{folds, terms_of};
+ghost use Rattle.lv_board.specs.Rule.{terms_of};
 ghost use Rattle.lv_board.specs.TableRule.{note};
 ghost use Rattle.lv_board.specs.Tells.{actor_of, HasMoved, IsAt, IsSame, moves_of, Stays};
 
 use crate::actors::View;
 use crate::board::Board;
+use crate::bodies::BoardBody;
 use crate::plays::{Inform, LoadDescriptor, Note};
 use crate::seats::Seat;
 use crate::words::edit_in;
 use atomic_table::Seat as Token;
-use lv_bodies::Parted;
 
 /// The numbers of the last edits where the two seats looked.
 #[derive(Clone, Copy, Debug, PartialEq, Eq)]
@@ -22,7 +22,7 @@ pub struct Met {
     pub second: u32,
 }
 
-impl<B: Parted> Board<B> {
+impl<B: BoardBody> Board<B> {
     // A note of what a seat knows.
     fn tell(&self, seat: &mut Seat<B>) -> Token<(), View<B>>
         requires { IsAt self.now.table.shared.table_id self.now.terms seat.old }
@@ -40,7 +40,7 @@ impl<B: Parted> Board<B> {
         requires table { note.table_id ≡ self.now.table.shared.table_id }
         requires slots { note.me.1 ≡ [] }
         ensures stays { Stays seat.old seat.new }
-        ensures looked { HasLooked (terms_of (folds B.PARTS B.parts_of B.operations) self.now.terms) (actor_of seat.old) (actor_of seat.new) }
+        ensures looked { HasLooked (terms_of B.folding self.now.terms) (actor_of seat.old) (actor_of seat.new) }
         ensures told { Ends note.me.0.actor.known (actor_of seat.new).seen }
         ensures moves { HasMoved Look seat.old seat.new }
     {
@@ -58,8 +58,8 @@ impl<B: Parted> Board<B> {
         requires second { IsAt self.now.table.shared.table_id self.now.terms second.old }
         ensures first_stays { Stays first.old first.new }
         ensures second_stays { Stays second.old second.new }
-        ensures first_looked { HasLooked (terms_of (folds B.PARTS B.parts_of B.operations) self.now.terms) (actor_of first.old) (actor_of first.new) }
-        ensures second_looked { HasLooked (terms_of (folds B.PARTS B.parts_of B.operations) self.now.terms) (actor_of second.old) (actor_of second.new) }
+        ensures first_looked { HasLooked (terms_of B.folding self.now.terms) (actor_of first.old) (actor_of first.new) }
+        ensures second_looked { HasLooked (terms_of B.folding self.now.terms) (actor_of second.old) (actor_of second.new) }
         ensures told { Ends (actor_of first.new).seen (actor_of second.new).seen }
         ensures first_edit { result.first ≡ length (actor_of first.new).seen }
         ensures second_edit { result.second ≡ length (actor_of second.new).seen }

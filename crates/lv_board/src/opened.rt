@@ -7,14 +7,14 @@ ghost use Rattle.lv_board.specs.Closing.{AreAt};
 ghost use Rattle.lv_board.specs.Tells.{actor_of};
 
 use crate::board::Board;
+use crate::bodies::BoardBody;
 use crate::seats::Seat;
-use lv_bodies::Parted;
 use std::alloc::Global;
 use std::sync::Arc;
 
 /// A board that is shared, and those of its seats that are there: none has them. Its stamp tells it from other boards.
 #[derive(Drop)]
-pub struct Opened<B: Parted> {
+pub struct Opened<B: BoardBody> {
     pub(crate) stamp: u64,
     pub(crate) board: Arc<Board<B>, Global>,
     pub(crate) seats: Vec<Seat<B>>,

@@ -11,11 +11,11 @@ ghost use Rattle.lv_board.specs.Tells.{actor_of, IsAt};
 
 use crate::actors::{Basis, View};
 use crate::board::Board;
+use crate::bodies::BoardBody;
 use crate::plays::Deal;
 use crate::seats::Seat;
 use crate::words::first_descriptor;
 use atomic_table::{Seat as Token, Table};
-use lv_bodies::Parted;
 use lv_geometry::{Limits, Refusal, capacity};
 use std::alloc::{AllocError, Global};
 
@@ -30,7 +30,7 @@ fn first_words(alloc: Global, count: usize) -> Result<Vec<u64>, AllocError>
 }
 
 // A board with no edits, and the token that deals its seats.
-fn lay<B: Parted>(
+fn lay<B: BoardBody>(
     alloc: Global,
     terms: Basis<B>,
 ) -> Result<(Board<B>, Token<(), View<B>>), AllocError>
@@ -43,7 +43,7 @@ fn lay<B: Parted>(
     Ok((Board { terms, table }, dealer))
 }
 
-impl<B: Parted> Board<B> {
+impl<B: BoardBody> Board<B> {
     // The next seat.
     fn deal(&self, dealer: &mut Token<(), View<B>>) -> Seat<B>
         requires here { dealer.old.table_id ≡ self.now.table.shared.table_id }

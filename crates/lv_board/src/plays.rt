@@ -1,27 +1,26 @@
 //! The plays of the table's rule, one for each kind of atomic step.
 ghost use Rattle.lv_board.specs.TableRule.{dealt, fresh, gathered, informed, note, spent};
-ghost use Rattle.lv_board.specs.Rule.{folds};
 ghost use Rattle.lv_board.specs.Plays.{Exchanges, HelpsCell, HelpsMark, Installs, Looks, Reads};
 
 use crate::actors::View;
+use crate::bodies::BoardBody;
 use atomic_table::{Join, Play, Split};
-use lv_bodies::Parted;
 use std::marker::PhantomData;
 
 pub(crate) struct LoadDescriptor<B> {
     body: PhantomData<B>,
 }
 
-impl<B: Parted> Play<(), View<B>> for LoadDescriptor<B> {
-    ghost then = { Looks (folds B.PARTS B.parts_of B.operations) };
+impl<B: BoardBody> Play<(), View<B>> for LoadDescriptor<B> {
+    ghost then = { Looks B.folding };
 }
 
 pub(crate) struct LoadWord<B> {
     body: PhantomData<B>,
 }
 
-impl<B: Parted> Play<(), View<B>> for LoadWord<B> {
-    ghost then = { Reads (folds B.PARTS B.parts_of B.operations) };
+impl<B: BoardBody> Play<(), View<B>> for LoadWord<B> {
+    ghost then = { Reads B.folding };
 }
 
 pub(crate) struct HelpCell;
@@ -46,8 +45,8 @@ pub(crate) struct Exchange<B> {
     body: PhantomData<B>,
 }
 
-impl<B: Parted> Play<(), View<B>> for Exchange<B> {
-    ghost then = { Exchanges (folds B.PARTS B.parts_of B.operations) };
+impl<B: BoardBody> Play<(), View<B>> for Exchange<B> {
+    ghost then = { Exchanges B.folding };
 }
 
 /// A seat is dealt.

@@ -6,23 +6,24 @@ ghost use Rattle.lv_geometry.specs.Cells.{capacity_of};
 ghost use Rattle.lv_machine.specs.History.{edits_of, elements_of};
 ghost use Rattle.lv_machine.specs.Shows.{block, mark_of};
 ghost use Rattle.lv_board.specs.Calls.{HasLooked, ReduceAnswers};
-ghost use Rattle.lv_board.specs.Rule.{folds, terms_of};
+ghost use Rattle.lv_board.specs.Rule.{terms_of};
 ghost use Rattle.lv_board.specs.Tells.{actor_of, IsAt, IsSame, Stays};
 ghost use Rattle.lv_board.specs.Walks.{block_fold, Comes, GoesOn, HasCome, HasRead, MayRead, Sums};
 
 use crate::board::Board;
+use crate::bodies::BoardBody;
 use crate::seats::Seat;
 use crate::underway::BoardWalk;
 use crate::words::{edit_in, part_place_of, part_value_in, part_version_in, size_in};
-use lv_bodies::{Parted, fold_more};
+use lv_bodies::fold_more;
 use lv_geometry::Refusal;
 use lv_reduce::Answer;
 
-impl<B: Parted> Board<B> {
+impl<B: BoardBody> Board<B> {
     // A part of a whole block's summary, where its version is that of the block's mark.
     fn load_part(&self, seat: &mut Seat<B>, b: u32, part: u32, mark: u32) -> Option<u32>
         requires here { IsAt self.now.table.shared.table_id self.now.terms seat.old }
-        requires may { MayRead (terms_of (folds B.PARTS B.parts_of B.operations) self.now.terms) seat.old }
+        requires may { MayRead (terms_of B.folding self.now.terms) seat.old }
         requires within { 8 * b < capacity_of self.now.terms.buckets }
         requires part { part < B.PARTS }
         requires whole { is_whole (edits_of (actor_of seat.old).seen) (block b) ≡ true }
@@ -41,7 +42,7 @@ impl<B: Parted> Board<B> {
     // The parts of a whole block's summary, where each has the version of the block's mark.
     fn load_parts(&self, seat: &mut Seat<B>, b: u32, mark: u32) -> Option<[u32; 4]>
         requires here { IsAt self.now.table.shared.table_id self.now.terms seat.old }
-        requires may { MayRead (terms_of (folds B.PARTS B.parts_of B.operations) self.now.terms) seat.old }
+        requires may { MayRead (terms_of B.folding self.now.terms) seat.old }
         requires within { 8 * b < capacity_of self.now.terms.buckets }
         requires whole { is_whole (edits_of (actor_of seat.old).seen) (block b) ≡ true }
         requires mark { mark ≡ mark_of b (actor_of seat.old).seen }
@@ -81,7 +82,7 @@ impl<B: Parted> Board<B> {
         end: u32,
     ) -> Result<BoardWalk<B::S>, Refusal>
         requires here { IsAt self.now.table.shared.table_id self.now.terms seat.old }
-        requires may { MayRead (terms_of (folds B.PARTS B.parts_of B.operations) self.now.terms) seat.old }
+        requires may { MayRead (terms_of B.folding self.now.terms) seat.old }
         requires sums { Sums (B.operations self.now.terms.body) (actor_of seat.old).seen walk }
         requires order { walk.at ≤ end }
         requires inside { end ≤ length (elements_of (actor_of seat.old).seen) }
@@ -106,7 +107,7 @@ impl<B: Parted> Board<B> {
 
     // A walk with the block where it stands, of which these are the parts.
     fn with_block(&self, seat: &Seat<B>, walk: BoardWalk<B::S>, parts: [u32; 4]) -> BoardWalk<B::S>
-        requires may { MayRead (terms_of (folds B.PARTS B.parts_of B.operations) self.now.terms) seat.now }
+        requires may { MayRead (terms_of B.folding self.now.terms) seat.now }
         requires sums { Sums (B.operations self.now.terms.body) (actor_of seat.now).seen walk }
         requires begins { walk.at % 8 ≡ 0 }
         requires inside { walk.at + 8 ≤ length (elements_of (actor_of seat.now).seen) }
@@ -129,7 +130,7 @@ impl<B: Parted> Board<B> {
         walk: BoardWalk<B::S>,
     ) -> Result<BoardWalk<B::S>, Refusal>
         requires here { IsAt self.now.table.shared.table_id self.now.terms seat.old }
-        requires may { MayRead (terms_of (folds B.PARTS B.parts_of B.operations) self.now.terms) seat.old }
+        requires may { MayRead (terms_of B.folding self.now.terms) seat.old }
         requires sums { Sums (B.operations self.now.terms.body) (actor_of seat.old).seen walk }
         requires begins { walk.at % 8 ≡ 0 }
         requires inside { walk.at + 8 ≤ length (elements_of (actor_of seat.old).seen) }
@@ -154,7 +155,7 @@ impl<B: Parted> Board<B> {
         hi: u32,
     ) -> Result<BoardWalk<B::S>, Refusal>
         requires here { IsAt self.now.table.shared.table_id self.now.terms seat.old }
-        requires may { MayRead (terms_of (folds B.PARTS B.parts_of B.operations) self.now.terms) seat.old }
+        requires may { MayRead (terms_of B.folding self.now.terms) seat.old }
         requires sums { Sums (B.operations self.now.terms.body) (actor_of seat.old).seen walk }
         requires order { walk.at < hi }
         requires inside { hi ≤ length (elements_of (actor_of seat.old).seen) }
@@ -170,7 +171,7 @@ impl<B: Parted> Board<B> {
     // Goes through a range of the elements.
     fn walk_range(&self, seat: &mut Seat<B>, lo: u32, hi: u32) -> Result<BoardWalk<B::S>, Refusal>
         requires here { IsAt self.now.table.shared.table_id self.now.terms seat.old }
-        requires may { MayRead (terms_of (folds B.PARTS B.parts_of B.operations) self.now.terms) seat.old }
+        requires may { MayRead (terms_of B.folding self.now.terms) seat.old }
         requires order { lo ≤ hi }
         requires inside { hi ≤ length (elements_of (actor_of seat.old).seen) }
         ensures { Comes (B.operations self.now.terms.body) lo hi result seat.old seat.new }
@@ -191,7 +192,7 @@ impl<B: Parted> Board<B> {
     pub fn reduce(&self, seat: &mut Seat<B>, lo: u32, hi: u32) -> Result<Answer<B::S>, Refusal>
         requires { IsAt self.now.table.shared.table_id self.now.terms seat.old }
         ensures stays { Stays seat.old seat.new }
-        ensures looked { lo ≤ hi → HasLooked (terms_of (folds B.PARTS B.parts_of B.operations) self.now.terms) (actor_of seat.old) (actor_of seat.new) }
+        ensures looked { lo ≤ hi → HasLooked (terms_of B.folding self.now.terms) (actor_of seat.old) (actor_of seat.new) }
         ensures answer { lo ≤ hi → ReduceAnswers (fold_of (B.operations self.now.terms.body)) lo hi (actor_of seat.new) result }
         ensures backwards { hi < lo → (result ≡ Err Refusal.BadRange) × IsSame seat.old seat.new }
     {

@@ -5,23 +5,23 @@ ghost use Rattle.lv_geometry.specs.Cells.{capacity_of};
 ghost use Rattle.lv_machine.specs.History.{edits_of, elements_of};
 ghost use Rattle.lv_machine.specs.Shows.{block, mark_of};
 ghost use Rattle.lv_board.specs.Calls.{AreInstalled, HasLooked, RefreshAnswers};
-ghost use Rattle.lv_board.specs.Rule.{folds, terms_of};
+ghost use Rattle.lv_board.specs.Rule.{terms_of};
 ghost use Rattle.lv_board.specs.Tells.{actor_of, IsAt, Stays};
 ghost use Rattle.lv_board.specs.Steps.{HasInstalled};
 ghost use Rattle.lv_board.specs.Walks.{block_fold, block_installed, MayRead, SumsBlock};
 
 use crate::board::Board;
+use crate::bodies::BoardBody;
 use crate::seats::Seat;
 use crate::words::{edit_in, pack_part, size_in};
-use lv_bodies::Parted;
 use lv_geometry::Refusal;
 use lv_machine::Refreshed;
 
-impl<B: Parted> Board<B> {
+impl<B: BoardBody> Board<B> {
     // The fold of a whole block's elements, from its cells.
     fn sum_block(&self, seat: &mut Seat<B>, b: u32) -> Result<B::S, Refusal>
         requires here { IsAt self.now.table.shared.table_id self.now.terms seat.old }
-        requires may { MayRead (terms_of (folds B.PARTS B.parts_of B.operations) self.now.terms) seat.old }
+        requires may { MayRead (terms_of B.folding self.now.terms) seat.old }
         requires inside { 8 * b + 8 ≤ length (elements_of (actor_of seat.old).seen) }
         ensures { SumsBlock (B.operations self.now.terms.body) b result seat.old seat.new }
     {
@@ -40,7 +40,7 @@ impl<B: Parted> Board<B> {
         requires whole { is_whole (edits_of (actor_of seat.old).seen) (block b) ≡ true }
         requires mark { mark ≡ mark_of b (actor_of seat.old).seen }
         requires parts { parts ≡ B.parts_of (block_fold (B.operations self.now.terms.body) b (actor_of seat.old).seen) }
-        ensures { HasInstalled (block_installed (terms_of (folds B.PARTS B.parts_of B.operations) self.now.terms) b (actor_of seat.old).seen B.PARTS (actor_of seat.old).installed) seat.old seat.new }
+        ensures { HasInstalled (block_installed (terms_of B.folding self.now.terms) b (actor_of seat.old).seen B.PARTS (actor_of seat.old).installed) seat.old seat.new }
     {
         for part in 0..B::PARTS {
             self.install(seat, b, part, pack_part(mark, parts[part as usize]));
@@ -53,9 +53,9 @@ impl<B: Parted> Board<B> {
     pub fn refresh(&self, seat: &mut Seat<B>, block: u32) -> Result<Refreshed, Refusal>
         requires { IsAt self.now.table.shared.table_id self.now.terms seat.old }
         ensures stays { Stays seat.old seat.new }
-        ensures looked { HasLooked (terms_of (folds B.PARTS B.parts_of B.operations) self.now.terms) (actor_of seat.old) (actor_of seat.new) }
+        ensures looked { HasLooked (terms_of B.folding self.now.terms) (actor_of seat.old) (actor_of seat.new) }
         ensures answer { RefreshAnswers block (actor_of seat.new) result }
-        ensures installed { IfOk result (λ refreshed. AreInstalled (terms_of (folds B.PARTS B.parts_of B.operations) self.now.terms) block (actor_of seat.new)) }
+        ensures installed { IfOk result (λ refreshed. AreInstalled (terms_of B.folding self.now.terms) block (actor_of seat.new)) }
     {
         self.load_descriptor(seat);
         let size = size_in(seat.look);

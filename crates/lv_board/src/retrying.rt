@@ -7,13 +7,13 @@ ghost use Rattle.lv_board.specs.Calls.{HasLooked, LookedAnswers, TryAnswers};
 ghost use Rattle.lv_board.specs.Closing.{IsStill};
 ghost use Rattle.lv_board.specs.Retrying.{AnswersWithin, IsOutrun};
 ghost use Rattle.lv_board.specs.Steps.{HasFound};
-ghost use Rattle.lv_board.specs.Rule.{folds, terms_of};
+ghost use Rattle.lv_board.specs.Rule.{terms_of};
 ghost use Rattle.lv_board.specs.Tells.{actor_of, IsAt, IsSame, Stays};
 
 use crate::board::Board;
+use crate::bodies::BoardBody;
 use crate::seats::Seat;
 use crate::words::fits_short;
-use lv_bodies::Parted;
 use lv_edits::{Edit, Receipt};
 use lv_geometry::Refusal;
 use std::hint;
@@ -59,14 +59,14 @@ fn pause(outrun: u32) {
     }
 }
 
-impl<B: Parted> Board<B> {
+impl<B: BoardBody> Board<B> {
     // An edit as the seat looked. Where the kind of the edit is known, it is chosen when this is built.
     #[inline(always)]
     fn edit_looked(&self, seat: &mut Seat<B>, edit: Edit) -> Result<Receipt, Refusal>
         requires here { IsAt self.now.table.shared.table_id self.now.terms seat.old }
         requires short { IsShortEdit edit }
         ensures stays { Stays seat.old seat.new }
-        ensures answer { LookedAnswers (terms_of (folds B.PARTS B.parts_of B.operations) self.now.terms) (actor_of seat.old) (actor_of seat.new) edit result }
+        ensures answer { LookedAnswers (terms_of B.folding self.now.terms) (actor_of seat.old) (actor_of seat.new) edit result }
     {
         match edit {
             Edit::Push(x) => self.push_looked(seat, x),
@@ -80,9 +80,9 @@ impl<B: Parted> Board<B> {
     #[inline(always)]
     fn look_where(&self, seat: &mut Seat<B>, loads: bool)
         requires here { IsAt self.now.table.shared.table_id self.now.terms seat.old }
-        requires found { loads ≡ false → HasLooked (terms_of (folds B.PARTS B.parts_of B.operations) self.now.terms) (actor_of seat.old) (actor_of seat.old) }
+        requires found { loads ≡ false → HasLooked (terms_of B.folding self.now.terms) (actor_of seat.old) (actor_of seat.old) }
         ensures stays { Stays seat.old seat.new }
-        ensures looked { HasLooked (terms_of (folds B.PARTS B.parts_of B.operations) self.now.terms) (actor_of seat.old) (actor_of seat.new) }
+        ensures looked { HasLooked (terms_of B.folding self.now.terms) (actor_of seat.old) (actor_of seat.new) }
     {
         if loads {
             self.look(seat);
@@ -94,9 +94,9 @@ impl<B: Parted> Board<B> {
     fn try_edit(&self, seat: &mut Seat<B>, edit: Edit, loads: bool) -> Result<Receipt, Refusal>
         requires here { IsAt self.now.table.shared.table_id self.now.terms seat.old }
         requires short { IsShortEdit edit }
-        requires found { loads ≡ false → HasLooked (terms_of (folds B.PARTS B.parts_of B.operations) self.now.terms) (actor_of seat.old) (actor_of seat.old) }
+        requires found { loads ≡ false → HasLooked (terms_of B.folding self.now.terms) (actor_of seat.old) (actor_of seat.old) }
         ensures still { IsStill seat.old seat.new }
-        ensures answer { TryAnswers (terms_of (folds B.PARTS B.parts_of B.operations) self.now.terms) (actor_of seat.old) (actor_of seat.new) edit result }
+        ensures answer { TryAnswers (terms_of B.folding self.now.terms) (actor_of seat.old) (actor_of seat.new) edit result }
     {
         self.look_where(seat, loads);
         self.edit_looked(seat, edit)
@@ -109,7 +109,7 @@ impl<B: Parted> Board<B> {
         requires short { IsShortEdit edit }
         requires some { 1 ≤ tries }
         ensures still { IsStill seat.old seat.new }
-        ensures answer { AnswersWithin (terms_of (folds B.PARTS B.parts_of B.operations) self.now.terms) tries (actor_of seat.old) (actor_of seat.new) edit result }
+        ensures answer { AnswersWithin (terms_of B.folding self.now.terms) tries (actor_of seat.old) (actor_of seat.new) edit result }
     {
         let mut answer = self.try_edit(seat, edit, true);
         for outrun in 0..tries - 1 {
@@ -129,7 +129,7 @@ impl<B: Parted> Board<B> {
         requires here { IsAt self.now.table.shared.table_id self.now.terms seat.old }
         requires some { 1 ≤ tries }
         ensures still { IsStill seat.old seat.new }
-        ensures short { IsShort x → AnswersWithin (terms_of (folds B.PARTS B.parts_of B.operations) self.now.terms) tries (actor_of seat.old) (actor_of seat.new) (Edit.Push x) result }
+        ensures short { IsShort x → AnswersWithin (terms_of B.folding self.now.terms) tries (actor_of seat.old) (actor_of seat.new) (Edit.Push x) result }
         ensures wide { ¬ IsShort x → (result ≡ Err Refusal.TooWide) × IsSame seat.old seat.new }
     {
         if !fits_short(x) {
@@ -144,7 +144,7 @@ impl<B: Parted> Board<B> {
         requires here { IsAt self.now.table.shared.table_id self.now.terms seat.old }
         requires some { 1 ≤ tries }
         ensures still { IsStill seat.old seat.new }
-        ensures answer { AnswersWithin (terms_of (folds B.PARTS B.parts_of B.operations) self.now.terms) tries (actor_of seat.old) (actor_of seat.new) Edit.Pop result }
+        ensures answer { AnswersWithin (terms_of B.folding self.now.terms) tries (actor_of seat.old) (actor_of seat.new) Edit.Pop result }
     {
         self.edit_within(seat, Edit::Pop, tries)
     }
@@ -161,7 +161,7 @@ impl<B: Parted> Board<B> {
         requires here { IsAt self.now.table.shared.table_id self.now.terms seat.old }
         requires some { 1 ≤ tries }
         ensures still { IsStill seat.old seat.new }
-        ensures short { IsShort value → AnswersWithin (terms_of (folds B.PARTS B.parts_of B.operations) self.now.terms) tries (actor_of seat.old) (actor_of seat.new) (Edit.Write index value) result }
+        ensures short { IsShort value → AnswersWithin (terms_of B.folding self.now.terms) tries (actor_of seat.old) (actor_of seat.new) (Edit.Write index value) result }
         ensures wide { ¬ IsShort value → (result ≡ Err Refusal.TooWide) × IsSame seat.old seat.new }
     {
         if !fits_short(value) {

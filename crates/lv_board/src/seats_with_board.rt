@@ -4,14 +4,14 @@ ghost use Rattle.std.specs.Arc.{arc_value};
 ghost use Rattle.lv_board.specs.Tells.{actor_of, IsAt};
 
 use crate::board::Board;
+use crate::bodies::BoardBody;
 use crate::seats::Seat;
-use lv_bodies::Parted;
 use std::alloc::Global;
 use std::sync::Arc;
 
 /// A seat with its share of the board, and the board's stamp: who has one needs nothing else, in whatever thread.
 #[derive(Drop)]
-pub struct SeatWithBoard<B: Parted> {
+pub struct SeatWithBoard<B: BoardBody> {
     pub(crate) stamp: u64,
     pub(crate) board: Arc<Board<B>, Global>,
     pub(crate) seat: Seat<B>,

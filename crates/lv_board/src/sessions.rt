@@ -4,13 +4,14 @@ ghost use Rattle.lv_lines.specs.Replies.{Conversed};
 ghost use Rattle.lv_board.specs.declared.board.Board.{Board};
 ghost use Rattle.lv_board.specs.declared.seats.Seat.{Seat};
 ghost use Rattle.lv_board.specs.PlainBoard.{PlainBoardStep, sat_of};
-ghost use Rattle.lv_board.specs.Rule.{folds, terms_of, limits_of};
+ghost use Rattle.lv_board.specs.Rule.{terms_of, limits_of};
 ghost use Rattle.lv_board.specs.Session.{BoardStep};
 ghost use Rattle.lv_board.specs.Sitting.{Sitting, SittingStep};
 ghost use Rattle.lv_board.specs.Tells.{actor_of, IsAt, Stays};
 
 use crate::answering::Answering;
 use crate::board::Board;
+use crate::bodies::BoardBody;
 use crate::seats::Seat;
 use lv_bodies::Kind;
 use lv_script::{Fault, LINE, Outbox, Responder, converse, read_board_line};
@@ -33,7 +34,7 @@ pub fn run_board_session<B: Answering<Board<B>, Seat<B>>, R: Read, W: Write>(
     requires own_board { (b : Board B B.S) → B.board_of b ≡ b }
     requires own_seat { (s : Seat B) → B.seat_of s ≡ s }
     ensures stays { Stays seat.old seat.new }
-    ensures conversed { Conversed (BoardStep (terms_of (folds B.PARTS B.parts_of B.operations) board.now.terms) (B.operations board.now.terms.body) B.the_kind (B.shown_as board.now.terms.body))
+    ensures conversed { Conversed (BoardStep (terms_of B.folding board.now.terms) (B.operations board.now.terms.body) B.the_kind (B.shown_as board.now.terms.body))
         (actor_of seat.old) (actor_of seat.new) (R.remaining reader.old) (R.remaining reader.new) (W.contents writer.old) (W.contents writer.new) result }
     // Line by line, by lists alone: each call is answered after a beginning of one history.
     ensures plain { Conversed (PlainBoardStep (limits_of board.now.terms) B.the_kind (B.plain board.now.terms.body))
@@ -55,7 +56,7 @@ fn hold<T, S, B: Answering<T, S>, R: Read, W: Write>(
     requires here { IsAt (B.board_of board.now).table.shared.table_id (B.board_of board.now).terms (B.seat_of seat.old) }
     requires kind { kind ≡ B.the_kind }
     ensures stays { Stays (B.seat_of seat.old) (B.seat_of seat.new) }
-    ensures conversed { Conversed (BoardStep (terms_of (folds B.PARTS B.parts_of B.operations) (B.board_of board.now).terms) (B.operations (B.board_of board.now).terms.body) B.the_kind (B.shown_as (B.board_of board.now).terms.body))
+    ensures conversed { Conversed (BoardStep (terms_of B.folding (B.board_of board.now).terms) (B.operations (B.board_of board.now).terms.body) B.the_kind (B.shown_as (B.board_of board.now).terms.body))
         (actor_of (B.seat_of seat.old)) (actor_of (B.seat_of seat.new)) (R.remaining reader.old) (R.remaining reader.new) (W.contents writer.old) (W.contents writer.new) result }
 {
     let mut session: Session<'_, '_, T, S, B> = Session {
@@ -78,12 +79,12 @@ struct Session<'a, 's, T, S, B: Answering<T, S>> {
     ghost here: { IsAt (B.board_of board.now).table.shared.table_id (B.board_of board.now).terms (B.seat_of seat.now) },
 }
 
-impl<'a, 's, T, S, B: Answering<T, S>> Responder for Session<'a, 's, T, S, B> {
+impl<'a, 's, T, S, B: Answering<T, S> + BoardBody> Responder for Session<'a, 's, T, S, B> {
     ghost State = { Sitting B };
 
     ghost state = { λ s. record { seat = B.seat_of s.seat.now; basis = (B.board_of s.board.now).terms; name = s.seat.ghost_name } };
 
-    ghost step = { SittingStep (folds B.PARTS B.parts_of B.operations) B.operations B.the_kind B.shown_as };
+    ghost step = { SittingStep B.folding B.operations B.the_kind B.shown_as };
 
     fn respond<W: Write>(
         &mut self,

@@ -3,15 +3,15 @@ ghost use Rattle.std.specs.Prelude.{◌≡◌, ◌≢◌, ◌≤◌, [], length,
 ghost use Rattle.std.specs.Arc.{arc_value};
 ghost use Rattle.lv_board.specs.Opening.{IsOpeningRefusal, MayOpen};
 ghost use Rattle.lv_board.specs.Ordered.{AreInOrder};
-ghost use Rattle.lv_board.specs.Rule.{folds};
 ghost use Rattle.lv_board.specs.Sharing.{IsBack, IsClosedShared, IsNewlyShared, IsOut, IsUnclosed, IsUnseated, Makes, sat_of, shared_of, Sits};
 
 use crate::board::Board;
+use crate::bodies::BoardBody;
 use crate::opened::Opened;
 use crate::remains::Closed;
 use crate::seats::Seat;
 use crate::seats_with_board::SeatWithBoard;
-use lv_bodies::{Parted, Shown};
+use lv_bodies::Shown;
 use lv_geometry::{Limits, Refusal};
 use lv_machine::{Call, Said};
 use std::alloc::Global;
@@ -36,7 +36,7 @@ pub enum Unclosed {
 }
 
 // A board and its seats, to be shared.
-fn share<B: Parted>(
+fn share<B: BoardBody>(
     alloc: Global,
     board: Board<B>,
     seats: Vec<Seat<B>>,
@@ -56,7 +56,7 @@ fn share<B: Parted>(
     }
 }
 
-impl<B: Parted> Opened<B> {
+impl<B: BoardBody> Opened<B> {
     /// A board with no edits, to be shared, whose seats are all there: seat k is actor k. Who opens several boards gives each a stamp of
     /// its own. Refused as `Board::new` is.
     pub fn new(
@@ -66,7 +66,7 @@ impl<B: Parted> Opened<B> {
         body: B,
         stamp: u64,
     ) -> Result<Opened<B>, Refusal>
-        ensures ok { IfOk result (λ o. IsNewlyShared limits seats stamp (folds B.PARTS B.parts_of B.operations body) B.the_kind (B.plain body) (shared_of B.PARTS B.parts_of B.operations B.the_kind B.plain o)) }
+        ensures ok { IfOk result (λ o. IsNewlyShared limits seats stamp (B.folding body) B.the_kind (B.plain body) (shared_of B.folding B.the_kind B.plain o)) }
         ensures err { IfErr result (λ refusal. IsOpeningRefusal limits seats refusal) }
     {
         match Board::new(alloc, limits, seats, body) {
@@ -77,9 +77,9 @@ impl<B: Parted> Opened<B> {
 
     /// The seat that has been there for the longest; at first they are there in the order of their numbers.
     pub fn sit(&mut self) -> Result<SeatWithBoard<B>, Unseated>
-        ensures ok { IfOk result (λ s. Sits (shared_of B.PARTS B.parts_of B.operations B.the_kind B.plain self.old) (sat_of B.PARTS B.parts_of B.operations B.the_kind B.plain s) (shared_of B.PARTS B.parts_of B.operations B.the_kind B.plain self.new)) }
+        ensures ok { IfOk result (λ s. Sits (shared_of B.folding B.the_kind B.plain self.old) (sat_of B.folding B.the_kind B.plain s) (shared_of B.folding B.the_kind B.plain self.new)) }
         ensures out { IfOk result (λ s. IsOut self.new s) }
-        ensures err { IfErr result (λ why. ((shared_of B.PARTS B.parts_of B.operations B.the_kind B.plain self.new) ≡ (shared_of B.PARTS B.parts_of B.operations B.the_kind B.plain self.old)) × IsUnseated (shared_of B.PARTS B.parts_of B.operations B.the_kind B.plain self.old) why) }
+        ensures err { IfErr result (λ why. ((shared_of B.folding B.the_kind B.plain self.new) ≡ (shared_of B.folding B.the_kind B.plain self.old)) × IsUnseated (shared_of B.folding B.the_kind B.plain self.old) why) }
     {
         if self.seats.is_empty() {
             return Err(Unseated::NoSeat);
@@ -99,8 +99,8 @@ impl<B: Parted> Opened<B> {
     /// board of another stamp comes back as it was. One of this stamp is this board's.
     pub fn take_back(&mut self, seat_with_board: SeatWithBoard<B>) -> Result<(), SeatWithBoard<B>>
         requires own { seat_with_board.stamp ≡ self.old.stamp → IsOut self.old seat_with_board }
-        ensures ok { OnOk result (IsBack (shared_of B.PARTS B.parts_of B.operations B.the_kind B.plain self.old) (sat_of B.PARTS B.parts_of B.operations B.the_kind B.plain seat_with_board) (shared_of B.PARTS B.parts_of B.operations B.the_kind B.plain self.new)) }
-        ensures err { IfErr result (λ same. (same ≡ seat_with_board) × (seat_with_board.stamp ≢ self.old.stamp) × ((shared_of B.PARTS B.parts_of B.operations B.the_kind B.plain self.new) ≡ (shared_of B.PARTS B.parts_of B.operations B.the_kind B.plain self.old))) }
+        ensures ok { OnOk result (IsBack (shared_of B.folding B.the_kind B.plain self.old) (sat_of B.folding B.the_kind B.plain seat_with_board) (shared_of B.folding B.the_kind B.plain self.new)) }
+        ensures err { IfErr result (λ same. (same ≡ seat_with_board) × (seat_with_board.stamp ≢ self.old.stamp) × ((shared_of B.folding B.the_kind B.plain self.new) ≡ (shared_of B.folding B.the_kind B.plain self.old))) }
     {
         if seat_with_board.stamp != self.stamp {
             return Err(seat_with_board);
@@ -125,8 +125,8 @@ impl<B: Parted> Opened<B> {
     /// The vector when all seats are there: the number of its last edit, and its elements. Else, or for want of memory, the board comes
     /// back as it was.
     pub fn close(self, alloc: Global) -> Result<Closed, (Opened<B>, Unclosed)>
-        ensures ok { IfOk result (λ closed. IsClosedShared (shared_of B.PARTS B.parts_of B.operations B.the_kind B.plain self) closed) }
-        ensures err { IfErr result (λ r. ((shared_of B.PARTS B.parts_of B.operations B.the_kind B.plain r.0) ≡ (shared_of B.PARTS B.parts_of B.operations B.the_kind B.plain self)) × IsUnclosed (shared_of B.PARTS B.parts_of B.operations B.the_kind B.plain self) r.1) }
+        ensures ok { IfOk result (λ closed. IsClosedShared (shared_of B.folding B.the_kind B.plain self) closed) }
+        ensures err { IfErr result (λ r. ((shared_of B.folding B.the_kind B.plain r.0) ≡ (shared_of B.folding B.the_kind B.plain self)) × IsUnclosed (shared_of B.folding B.the_kind B.plain self) r.1) }
     {
         if !self.is_whole() {
             return Err((self, Unclosed::SeatsOut));
@@ -153,10 +153,10 @@ impl<B: Parted> Opened<B> {
     }
 }
 
-impl<B: Parted> SeatWithBoard<B> {
+impl<B: BoardBody> SeatWithBoard<B> {
     /// Makes a call, and gives what it ends with, a fold as its plain value. An edit is tried so often at most, and once at least.
     pub fn make(&mut self, call: Call, tries: u32) -> Said<Shown>
-        ensures makes { Makes tries call (sat_of B.PARTS B.parts_of B.operations B.the_kind B.plain self.old) result (sat_of B.PARTS B.parts_of B.operations B.the_kind B.plain self.new) }
+        ensures makes { Makes tries call (sat_of B.folding B.the_kind B.plain self.old) result (sat_of B.folding B.the_kind B.plain self.new) }
         ensures board { arc_value self.new.board ≡ arc_value self.old.board }
     {
         self.board.make_within(&mut self.seat, call, tries.max(1))

@@ -2,22 +2,22 @@
 ghost use Rattle.std.specs.Prelude.{◌<◌};
 ghost use Rattle.lv_machine.specs.Layout.{count_of};
 ghost use Rattle.lv_machine.specs.Words.{HasPending};
-ghost use Rattle.lv_board.specs.Rule.{folds, limits_of};
+ghost use Rattle.lv_board.specs.Rule.{limits_of};
 ghost use Rattle.lv_board.specs.Tells.{IsAt};
 ghost use Rattle.lv_board.specs.Steps.{IsCellHelped, IsHelped, IsLoaded, IsMarkHelped, IsWordLoaded};
 
 use crate::board::Board;
+use crate::bodies::BoardBody;
 use crate::loads::{load_descriptor, load_word};
 use crate::plays::{HelpCell, HelpMark};
 use crate::seats::Seat;
 use crate::words::{cell_place_of, edit_in, index_in, mark_place_of, pack_cell, value_in};
-use lv_bodies::Parted;
 
-impl<B: Parted> Board<B> {
+impl<B: BoardBody> Board<B> {
     // The descriptor: the seat's look becomes what is loaded.
     pub(crate) fn load_descriptor(&self, seat: &mut Seat<B>)
         requires { IsAt self.now.table.shared.table_id self.now.terms seat.old }
-        ensures { IsLoaded (folds B.PARTS B.parts_of B.operations) seat.old seat.new }
+        ensures { IsLoaded B.folding seat.old seat.new }
     {
         load_descriptor(&self.table, seat);
     }
@@ -26,7 +26,7 @@ impl<B: Parted> Board<B> {
     pub(crate) fn load_word(&self, seat: &mut Seat<B>, at: usize) -> u64
         requires here { IsAt self.now.table.shared.table_id self.now.terms seat.old }
         requires within { at < count_of (limits_of self.now.terms) }
-        ensures { IsWordLoaded (folds B.PARTS B.parts_of B.operations) at result seat.old seat.new }
+        ensures { IsWordLoaded B.folding at result seat.old seat.new }
     {
         load_word(&self.table, seat, at)
     }

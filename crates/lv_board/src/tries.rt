@@ -8,20 +8,20 @@ ghost use Rattle.lv_machine.specs.Ready.{IsIndexShort};
 ghost use Rattle.lv_board.specs.Calls.{LookedAnswers, TryAnswers};
 ghost use Rattle.lv_board.specs.Steps.{TakeAnswers, entry_of};
 ghost use Rattle.lv_board.specs.Plays.{IsAccepted, IsContended};
-ghost use Rattle.lv_board.specs.Rule.{folds, terms_of, limits_of};
+ghost use Rattle.lv_board.specs.Rule.{terms_of, limits_of};
 ghost use Rattle.lv_board.specs.Stands.{IsReady};
 ghost use Rattle.lv_board.specs.Tells.{actor_of, IsAt, IsSame, Stays};
 
 use crate::board::Board;
+use crate::bodies::BoardBody;
 use crate::exchanges::exchange;
 use crate::seats::Seat;
 use crate::verdicts::verdict;
 use crate::words::{edit_in, fits_short, look_after, size_in};
-use lv_bodies::Parted;
 use lv_edits::{Edit, Receipt};
 use lv_geometry::Refusal;
 
-impl<B: Parted> Board<B> {
+impl<B: BoardBody> Board<B> {
     // The exchange for an edit that nothing refuses at the look, whose pending write is complete. Gives the edit's number.
     fn exchange_for(&self, seat: &mut Seat<B>, edit: Edit) -> Result<u32, Refusal>
         requires here { IsAt self.now.table.shared.table_id self.now.terms seat.old }
@@ -31,9 +31,9 @@ impl<B: Parted> Board<B> {
         requires free { verdict_at (limits_of self.now.terms) seat.old.look edit ≡ None }
         ensures stays { Stays seat.old seat.new }
         ensures number { IfOk result (λ n. n ≡ length (actor_of seat.new).seen) }
-        ensures accepted { IfOk result (λ n. IsAccepted (terms_of (folds B.PARTS B.parts_of B.operations) seat.old.terms) (actor_of seat.old) (actor_of seat.new) (entry_of seat.old edit)) }
+        ensures accepted { IfOk result (λ n. IsAccepted (terms_of B.folding seat.old.terms) (actor_of seat.old) (actor_of seat.new) (entry_of seat.old edit)) }
         ensures refusal { IfErr result (λ e. e ≡ Refusal.Contended (length (actor_of seat.new).seen)) }
-        ensures contended { IfErr result (λ e. IsContended (terms_of (folds B.PARTS B.parts_of B.operations) seat.old.terms) (actor_of seat.old) (actor_of seat.new) seat.new.look) }
+        ensures contended { IfErr result (λ e. IsContended (terms_of B.folding seat.old.terms) (actor_of seat.old) (actor_of seat.new) seat.new.look) }
     {
         let new = look_after(seat.look, edit);
         if exchange(&self.table, seat, edit, new) {
@@ -50,7 +50,7 @@ impl<B: Parted> Board<B> {
         requires here { IsAt self.now.table.shared.table_id self.now.terms seat.old }
         requires short { IsShort x }
         ensures stays { Stays seat.old seat.new }
-        ensures answer { LookedAnswers (terms_of (folds B.PARTS B.parts_of B.operations) self.now.terms) (actor_of seat.old) (actor_of seat.new) (Edit.Push x) result }
+        ensures answer { LookedAnswers (terms_of B.folding self.now.terms) (actor_of seat.old) (actor_of seat.new) (Edit.Push x) result }
     {
         let edit = Edit::Push(x);
         if let Some(refusal) = verdict(&self.terms, seat.look, edit) {
@@ -69,7 +69,7 @@ impl<B: Parted> Board<B> {
     pub fn push_looked(&self, seat: &mut Seat<B>, x: i64) -> Result<Receipt, Refusal>
         requires { IsAt self.now.table.shared.table_id self.now.terms seat.old }
         ensures stays { Stays seat.old seat.new }
-        ensures short { IsShort x → LookedAnswers (terms_of (folds B.PARTS B.parts_of B.operations) self.now.terms) (actor_of seat.old) (actor_of seat.new) (Edit.Push x) result }
+        ensures short { IsShort x → LookedAnswers (terms_of B.folding self.now.terms) (actor_of seat.old) (actor_of seat.new) (Edit.Push x) result }
         ensures wide { ¬ IsShort x → (result ≡ Err Refusal.TooWide) × IsSame seat.old seat.new }
     {
         if !fits_short(x) {
@@ -83,7 +83,7 @@ impl<B: Parted> Board<B> {
     pub fn try_push(&self, seat: &mut Seat<B>, x: i64) -> Result<Receipt, Refusal>
         requires { IsAt self.now.table.shared.table_id self.now.terms seat.old }
         ensures stays { Stays seat.old seat.new }
-        ensures short { IsShort x → TryAnswers (terms_of (folds B.PARTS B.parts_of B.operations) self.now.terms) (actor_of seat.old) (actor_of seat.new) (Edit.Push x) result }
+        ensures short { IsShort x → TryAnswers (terms_of B.folding self.now.terms) (actor_of seat.old) (actor_of seat.new) (Edit.Push x) result }
         ensures wide { ¬ IsShort x → (result ≡ Err Refusal.TooWide) × IsSame seat.old seat.new }
     {
         if !fits_short(x) {
@@ -101,7 +101,7 @@ impl<B: Parted> Board<B> {
         requires free { verdict_at (limits_of self.now.terms) seat.old.look edit ≡ None }
         requires within { i < length (elements_of (actor_of seat.old).seen) }
         ensures stays { Stays seat.old seat.new }
-        ensures answer { TakeAnswers (terms_of (folds B.PARTS B.parts_of B.operations) self.now.terms) (actor_of seat.old) (actor_of seat.new) edit i result }
+        ensures answer { TakeAnswers (terms_of B.folding self.now.terms) (actor_of seat.old) (actor_of seat.new) edit i result }
     {
         self.help(seat);
         let value = match self.load_cell(seat, i) {
@@ -120,7 +120,7 @@ impl<B: Parted> Board<B> {
     pub fn pop_looked(&self, seat: &mut Seat<B>) -> Result<Receipt, Refusal>
         requires { IsAt self.now.table.shared.table_id self.now.terms seat.old }
         ensures stays { Stays seat.old seat.new }
-        ensures answer { LookedAnswers (terms_of (folds B.PARTS B.parts_of B.operations) self.now.terms) (actor_of seat.old) (actor_of seat.new) Edit.Pop result }
+        ensures answer { LookedAnswers (terms_of B.folding self.now.terms) (actor_of seat.old) (actor_of seat.new) Edit.Pop result }
     {
         if let Some(refusal) = verdict(&self.terms, seat.look, Edit::Pop) {
             return Err(refusal);
@@ -137,7 +137,7 @@ impl<B: Parted> Board<B> {
     pub fn try_pop(&self, seat: &mut Seat<B>) -> Result<Receipt, Refusal>
         requires { IsAt self.now.table.shared.table_id self.now.terms seat.old }
         ensures stays { Stays seat.old seat.new }
-        ensures answer { TryAnswers (terms_of (folds B.PARTS B.parts_of B.operations) self.now.terms) (actor_of seat.old) (actor_of seat.new) Edit.Pop result }
+        ensures answer { TryAnswers (terms_of B.folding self.now.terms) (actor_of seat.old) (actor_of seat.new) Edit.Pop result }
     {
         self.look(seat);
         self.pop_looked(seat)
@@ -148,7 +148,7 @@ impl<B: Parted> Board<B> {
         requires here { IsAt self.now.table.shared.table_id self.now.terms seat.old }
         requires short { IsShort value }
         ensures stays { Stays seat.old seat.new }
-        ensures answer { LookedAnswers (terms_of (folds B.PARTS B.parts_of B.operations) self.now.terms) (actor_of seat.old) (actor_of seat.new) (Edit.Write index value) result }
+        ensures answer { LookedAnswers (terms_of B.folding self.now.terms) (actor_of seat.old) (actor_of seat.new) (Edit.Write index value) result }
     {
         let edit = Edit::Write { index, value };
         if let Some(refusal) = verdict(&self.terms, seat.look, edit) {
@@ -171,7 +171,7 @@ impl<B: Parted> Board<B> {
     ) -> Result<Receipt, Refusal>
         requires { IsAt self.now.table.shared.table_id self.now.terms seat.old }
         ensures stays { Stays seat.old seat.new }
-        ensures short { IsShort value → LookedAnswers (terms_of (folds B.PARTS B.parts_of B.operations) self.now.terms) (actor_of seat.old) (actor_of seat.new) (Edit.Write index value) result }
+        ensures short { IsShort value → LookedAnswers (terms_of B.folding self.now.terms) (actor_of seat.old) (actor_of seat.new) (Edit.Write index value) result }
         ensures wide { ¬ IsShort value → (result ≡ Err Refusal.TooWide) × IsSame seat.old seat.new }
     {
         if !fits_short(value) {
@@ -185,7 +185,7 @@ impl<B: Parted> Board<B> {
     pub fn try_write(&self, seat: &mut Seat<B>, index: u32, value: i64) -> Result<Receipt, Refusal>
         requires { IsAt self.now.table.shared.table_id self.now.terms seat.old }
         ensures stays { Stays seat.old seat.new }
-        ensures short { IsShort value → TryAnswers (terms_of (folds B.PARTS B.parts_of B.operations) self.now.terms) (actor_of seat.old) (actor_of seat.new) (Edit.Write index value) result }
+        ensures short { IsShort value → TryAnswers (terms_of B.folding self.now.terms) (actor_of seat.old) (actor_of seat.new) (Edit.Write index value) result }
         ensures wide { ¬ IsShort value → (result ≡ Err Refusal.TooWide) × IsSame seat.old seat.new }
     {
         if !fits_short(value) {

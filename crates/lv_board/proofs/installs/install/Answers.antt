@@ -1,10 +1,9 @@
 -- Proof of `install`: installs a part of the summary of a block that is whole where the seat looked, at the seat's own table.
-use Rattle.std.proofs.Common.{◌≡◌, ℕ, ◌+◌, ◌-◌, List, ◌∷◌, refl, sym, ap, ◌∙◌, arith}
+use Rattle.std.proofs.Common.{◌≡◌, ℕ, ◌+◌, ◌-◌, ◌<◌, List, ◌∷◌, refl, sym, ap, ◌∙◌, arith}
 use Rattle.lv_machine.specs.declared.moves.Move.TheVariants.{Install}
 use Rattle.lv_machine.specs.Layout.{block_at, row_at}
 use Rattle.lv_board.specs.declared.actors.Actor.{Actor}
 use Rattle.lv_board.specs.declared.actors.InstalledPart.{InstalledPart}
-use Rattle.lv_board.specs.Rule.{folds}
 use Rattle.lv_board.proofs.Seated.{install_at}
 use Rattle.lv_board.proofs.Keeping.{installs_at_key}
 use Rattle.lv_board.proofs.Seating.{based_after, block_among, made_same, same_look, seat_after}
@@ -14,11 +13,13 @@ pub part_place_of-requires : goal.part_place_of-requires
 part_place_of-requires g c = omega (arith, c.requires.part, g.B.Parted.some.1)
 
 pub fetch_max-requires : goal.fetch_max-requires
-fetch_max-requires g c = (
-  c.requires.here,
-  block_among c.args.seat.now.terms c.args.seat.now.terms c.args.table.now.shared.table_id.words c.part_place_of.result c.args.b (9 + c.args.part) refl c.requires.count c.requires.within (omega (arith, c.requires.part, g.B.Parted.some.1)) c.part_place_of.ensures,
-  installs_at_key (folds g.B.Parted.PARTS g.B.Parted.parts_of g.B.Body.operations) c.args.seat.now.terms c.args.table.now.shared.key c.requires.key c.args.table.now.shared.table_id.slots c.args.seat.now.token.id c.args.seat.now.token.me c.args.seat.now.sits c.args.b c.args.part c.part_place_of.result c.args.word (omega (arith, c.requires.within)) c.requires.part c.requires.whole c.requires.word c.part_place_of.ensures,
-)
+fetch_max-requires g c =
+    let keeps = (g.met.B.BoardBody g.world.𝓛 g.world.𝓜 g.world.𝓡 ((λ s x. x), (λ p. p), (λ n s. n s), (λ p. p))).keeps_parts in
+    let among : c.args.part < (g.B.BoardBody.folding c.args.seat.now.terms.body).parts = omega (arith, c.requires.part, ap (λ f. (f c.args.seat.now.terms.body).parts) keeps) in (
+      c.requires.here,
+      block_among c.args.seat.now.terms c.args.seat.now.terms c.args.table.now.shared.table_id.words c.part_place_of.result c.args.b (9 + c.args.part) refl c.requires.count c.requires.within (omega (arith, c.requires.part, g.B.Parted.some.1)) c.part_place_of.ensures,
+      installs_at_key g.B.BoardBody.folding c.args.seat.now.terms c.args.table.now.shared.key c.requires.key c.args.table.now.shared.table_id.slots c.args.seat.now.token.id c.args.seat.now.token.me c.args.seat.now.sits c.args.b c.args.part c.part_place_of.result c.args.word (omega (arith, c.requires.within)) among c.requires.whole c.requires.word c.part_place_of.ensures,
+    )
 
 pub invariant_of-seat : goal.invariant_of-seat
 invariant_of-seat g c =

@@ -3,7 +3,6 @@ use Rattle.std.proofs.Common.{refl, sym, ap, ◌∙◌, subst, arith}
 use mathlib.Core.Option.{none}
 use Rattle.atomic_table.specs.Table.{Allows, step}
 use Rattle.lv_board.specs.Plays.{Looks}
-use Rattle.lv_board.specs.Rule.{folds}
 use Rattle.lv_board.specs.TableRule.{TableHolds}
 use Rattle.lv_board.proofs.Keeping.{looks_allowed}
 use Rattle.lv_board.proofs.Seating.{based_after, look_found, seat_after}
@@ -13,8 +12,8 @@ pub load-seat-requires : goal.load-seat-requires
 load-seat-requires g c = (
   c.requires.here,
   omega (arith, c.requires.count),
-  subst (λ k. Allows (TableHolds (folds g.B.Parted.PARTS g.B.Parted.parts_of g.B.Body.operations) k) c.args.table.now.shared.table_id.slots c.args.seat.now.token.id c.args.seat.now.token.me 0 (λ n. n) (Looks (folds g.B.Parted.PARTS g.B.Parted.parts_of g.B.Body.operations) (step c.args.table.now.shared.table_id.slots 0 0 0 none) c.args.seat.now.token.me)) (sym c.requires.key)
-      (looks_allowed (folds g.B.Parted.PARTS g.B.Parted.parts_of g.B.Body.operations) c.args.seat.now.terms _ _ _ c.args.seat.now.sits),
+  subst (λ k. Allows (TableHolds g.B.BoardBody.folding k) c.args.table.now.shared.table_id.slots c.args.seat.now.token.id c.args.seat.now.token.me 0 (λ n. n) (Looks g.B.BoardBody.folding (step c.args.table.now.shared.table_id.slots 0 0 0 none) c.args.seat.now.token.me)) (sym c.requires.key)
+      (looks_allowed g.B.BoardBody.folding c.args.seat.now.terms _ _ _ c.args.seat.now.sits),
 )
 
 pub invariant_of-seat : goal.invariant_of-seat
@@ -26,7 +25,7 @@ invariant_of-seat g c =
       based = based_after c.args.seat.now.token.me.0 c.load-seat.new.seat.me.0 c.args.seat.now.terms c.load-seat.new.seat.me.0.actor told.0.1 c.args.seat.now.based;
       slots = told.0.0 ∙ c.args.seat.now.slots;
       made = (told.2 c.args.seat.now.terms c.args.seat.now.based).made;
-      looks = look_found (folds g.B.Parted.PARTS g.B.Parted.parts_of g.B.Body.operations) c.args.seat.now.terms c.load-seat.new.seat.me.0.actor c.load-seat.result (told.2 c.args.seat.now.terms c.args.seat.now.based);
+      looks = look_found g.B.BoardBody.folding c.args.seat.now.terms c.load-seat.new.seat.me.0.actor c.load-seat.result (told.2 c.args.seat.now.terms c.args.seat.now.based);
     }
 
 pub returns : goal.returns

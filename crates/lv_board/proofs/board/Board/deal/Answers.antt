@@ -1,6 +1,5 @@
 -- Proof of `Board::deal`: the next seat.
 use Rattle.std.proofs.Common.{sym, ap, ◌∙◌, arith}
-use Rattle.lv_board.specs.Rule.{folds}
 use Rattle.lv_machine.specs.History.{own}
 use Rattle.lv_board.proofs.Advancing.{own-nil}
 use Rattle.lv_board.proofs.Opens.{deals_at_key, first_look, fresh_seat, is_seat}
@@ -11,7 +10,7 @@ split_seat-token-requires g c =
     let (number, is, below) = c.requires.deals in (
       c.requires.here,
       omega (arith, c.args.self.now.count),
-      deals_at_key (Unit {0}) (folds g.B.Parted.PARTS g.B.Parted.parts_of g.B.Body.operations) c.args.self.now.terms c.args.self.now.table.shared.key c.args.dealer.now.id number c.args.dealer.now.me.0 c.args.self.now.key (ap (λ m. m.0) is) below,
+      deals_at_key (Unit {0}) g.B.BoardBody.folding c.args.self.now.terms c.args.self.now.table.shared.key c.args.dealer.now.id number c.args.dealer.now.me.0 c.args.self.now.key (ap (λ m. m.0) is) below,
     )
 
 pub invariant_of-result : goal.invariant_of-result

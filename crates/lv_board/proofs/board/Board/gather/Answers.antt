@@ -2,7 +2,6 @@
 use Rattle.std.proofs.Common.{ap, ◌∙◌, ◌++◌, ◌∷◌, [], map, arith}
 use Rattle.std.specs.Prelude.{Some}
 use Rattle.std.proofs.lemmas.List.Elements.{All-pop}
-use Rattle.lv_board.specs.Rule.{folds}
 use Rattle.lv_board.specs.Tells.{actor_of, IsAt}
 use Rattle.lv_board.proofs.Closes.{gathered_more, gathers_at_key}
 use Rattle.lv_board.proofs.board.Board.gather.Goals as goal
@@ -15,7 +14,7 @@ join_seat-requires g c =
       inv.table,
       inv.slots,
       omega (arith, c.args.self.now.count),
-      gathers_at_key (Unit {0}) (folds g.B.Parted.PARTS g.B.Parted.parts_of g.B.Body.operations) c.args.self.now.terms c.args.self.now.table.shared.key c.in-Some.seat.token.id c.in-Some.seat.token.me.0 c.loop-seat.gathered.id c.loop-seat.gathered.me.0 c.args.self.now.key inv.sits,
+      gathers_at_key (Unit {0}) g.B.BoardBody.folding c.args.self.now.terms c.args.self.now.table.shared.key c.in-Some.seat.token.id c.in-Some.seat.token.me.0 c.loop-seat.gathered.id c.loop-seat.gathered.me.0 c.args.self.now.key inv.sits,
     )
 
 pub loop-seat-preserved : goal.loop-seat-preserved

@@ -7,12 +7,12 @@ use Rattle.lv_geometry.specs.declared.refusals.Refusal.TheVariants.{OutOfRange}
 use Rattle.lv_edits.specs.Verdict.{element_at}
 use Rattle.lv_machine.specs.History.{edits_of, elements_of}
 use Rattle.lv_machine.proofs.ReadLaws.{cell_element}
-use Rattle.lv_board.specs.Rule.{folds, terms_of}
+use Rattle.lv_board.specs.Rule.{terms_of}
 use Rattle.lv_board.proofs.Calling.{element_inside, element_outside, has_looked, helped_quiet, looked_then, quiet_then}
 use Rattle.lv_board.proofs.board.Board.get.Goals as goal
 
 pub returns-then-i-size-clause-looked : goal.returns-then-i-size-clause-looked
-returns-then-i-size-clause-looked g c = has_looked (folds g.B.Parted.PARTS g.B.Parted.parts_of g.B.Body.operations) c.args.seat.now.terms c.args.self.now.terms c.args.seat.now.token.me.0.actor c.load_descriptor.new.seat.token.me.0.actor c.load_descriptor.new.seat.look c.requires.terms c.load_descriptor.ensures.quiet c.load_descriptor.ensures.sees
+returns-then-i-size-clause-looked g c = has_looked g.B.BoardBody.folding c.args.seat.now.terms c.args.self.now.terms c.args.seat.now.token.me.0.actor c.load_descriptor.new.seat.token.me.0.actor c.load_descriptor.new.seat.look c.requires.terms c.load_descriptor.ensures.quiet c.load_descriptor.ensures.sees
 
 pub returns-then-i-size-clause-answer : goal.returns-then-i-size-clause-answer
 returns-then-i-size-clause-answer g c =
@@ -22,17 +22,17 @@ returns-then-i-size-clause-answer g c =
 pub returns-in_err-value-clause-looked : goal.returns-in_err-value-clause-looked
 returns-in_err-value-clause-looked g c =
     let m = c.load_descriptor.new.seat.token.me.0.actor in
-    let looked = has_looked (folds g.B.Parted.PARTS g.B.Parted.parts_of g.B.Body.operations) c.args.seat.now.terms c.args.self.now.terms c.args.seat.now.token.me.0.actor c.load_descriptor.new.seat.token.me.0.actor c.load_descriptor.new.seat.look c.requires.terms c.load_descriptor.ensures.quiet c.load_descriptor.ensures.sees in
+    let looked = has_looked g.B.BoardBody.folding c.args.seat.now.terms c.args.self.now.terms c.args.seat.now.token.me.0.actor c.load_descriptor.new.seat.token.me.0.actor c.load_descriptor.new.seat.look c.requires.terms c.load_descriptor.ensures.quiet c.load_descriptor.ensures.sees in
     let helped = helped_quiet c.load_descriptor.new.seat.token.me.0.actor c.help.new.seat.token.me.0.actor c.help.ensures.made c.help.ensures.known c.help.ensures.number in
-    looked_then (terms_of (folds g.B.Parted.PARTS g.B.Parted.parts_of g.B.Body.operations) c.args.self.now.terms) c.args.seat.now.token.me.0.actor c.load_descriptor.new.seat.token.me.0.actor c.load_cell.new.seat.token.me.0.actor looked
+    looked_then (terms_of g.B.BoardBody.folding c.args.self.now.terms) c.args.seat.now.token.me.0.actor c.load_descriptor.new.seat.token.me.0.actor c.load_cell.new.seat.token.me.0.actor looked
     (quiet_then c.load_descriptor.new.seat.token.me.0.actor c.help.new.seat.token.me.0.actor c.load_cell.new.seat.token.me.0.actor helped c.load_cell.ensures.quiet)
     (ap (λ a. a.seen) c.load_cell.ensures.rest ∙ c.help.ensures.seen)
 
 pub returns-clause-looked : goal.returns-clause-looked
 returns-clause-looked g c =
-    let looked = has_looked (folds g.B.Parted.PARTS g.B.Parted.parts_of g.B.Body.operations) c.args.seat.now.terms c.args.self.now.terms c.args.seat.now.token.me.0.actor c.load_descriptor.new.seat.token.me.0.actor c.load_descriptor.new.seat.look c.requires.terms c.load_descriptor.ensures.quiet c.load_descriptor.ensures.sees in
+    let looked = has_looked g.B.BoardBody.folding c.args.seat.now.terms c.args.self.now.terms c.args.seat.now.token.me.0.actor c.load_descriptor.new.seat.token.me.0.actor c.load_descriptor.new.seat.look c.requires.terms c.load_descriptor.ensures.quiet c.load_descriptor.ensures.sees in
     let helped = helped_quiet c.load_descriptor.new.seat.token.me.0.actor c.help.new.seat.token.me.0.actor c.help.ensures.made c.help.ensures.known c.help.ensures.number in
-    looked_then (terms_of (folds g.B.Parted.PARTS g.B.Parted.parts_of g.B.Body.operations) c.args.self.now.terms) c.args.seat.now.token.me.0.actor c.load_descriptor.new.seat.token.me.0.actor c.load_cell.new.seat.token.me.0.actor looked
+    looked_then (terms_of g.B.BoardBody.folding c.args.self.now.terms) c.args.seat.now.token.me.0.actor c.load_descriptor.new.seat.token.me.0.actor c.load_cell.new.seat.token.me.0.actor looked
     (quiet_then c.load_descriptor.new.seat.token.me.0.actor c.help.new.seat.token.me.0.actor c.load_cell.new.seat.token.me.0.actor helped c.load_cell.ensures.quiet)
     (ap (λ a. a.seen) c.load_cell.ensures.rest ∙ c.help.ensures.seen)
 
@@ -41,7 +41,7 @@ returns-clause-answer g c =
     let rest : c.load_cell.new.seat.token.me.0.actor.seen ≡ c.help.new.seat.token.me.0.actor.seen = ap (λ a. a.seen) c.load_cell.ensures.rest in
     let size : c.size_in-size.result ≡ length (elements_of c.help.new.seat.token.me.0.actor.seen) = c.size_in-size.ensures.value ∙ c.load_descriptor.new.seat.looks.size ∙ ap (λ h. length (elements_of h)) (sym c.help.ensures.seen) in
     let within : c.args.i < length (elements_of c.help.new.seat.token.me.0.actor.seen) = omega (arith, c.if-i-size.false) in
-    let value : c.in_ok-value.value ≡ slice_index_or (elements_of c.help.new.seat.token.me.0.actor.seen) c.args.i (pos 0) = c.in_ok-value.ensures.taken ∙ cell_element (terms_of (folds g.B.Parted.PARTS g.B.Parted.parts_of g.B.Body.operations) c.args.self.now.terms) c.args.i c.help.new.seat.token.me.0.actor.seen c.load_cell.ensures.terms c.load_cell.ensures.legal within in (
+    let value : c.in_ok-value.value ≡ slice_index_or (elements_of c.help.new.seat.token.me.0.actor.seen) c.args.i (pos 0) = c.in_ok-value.ensures.taken ∙ cell_element (terms_of g.B.BoardBody.folding c.args.self.now.terms) c.args.i c.help.new.seat.token.me.0.actor.seen c.load_cell.ensures.terms c.load_cell.ensures.legal within in (
       c.edit_in.ensures.value ∙ c.load_cell.new.seat.looks.edit,
       ap (λ h. element_at (edits_of h) c.args.i) rest ∙ element_inside (edits_of c.help.new.seat.token.me.0.actor.seen) c.args.i c.in_ok-value.value within value ∙ ap Ok (sym (to_z-of_z w64 c.in_ok-value.value (search rules))),
     )

@@ -2,7 +2,6 @@
 use Rattle.std.proofs.Common.{◌≡◌, true, refl, ap, ◌∙◌}
 use Rattle.lv_machine.specs.Layout.{cell_place}
 use Rattle.lv_machine.specs.Words.{cell_word, edit_of, index_of}
-use Rattle.lv_board.specs.Rule.{folds}
 use Rattle.lv_board.proofs.Keeping.{helps_cell_at_key}
 use Rattle.lv_board.proofs.Seating.{based_after, cell_among, made_same, same_look, seat_after}
 use Rattle.lv_board.proofs.board.Board.help_cell.Goals as goal
@@ -14,7 +13,7 @@ fetch_max-requires g c =
     let near = look.pending c.requires.pending in (
       c.requires.here.at,
       cell_among c.args.seat.now.terms c.args.self.now.terms c.args.self.now.table.shared.table_id.words c.cell_place_of-at.result (index_of c.args.seat.now.look) c.requires.here.terms c.args.self.now.count near (c.cell_place_of-at.ensures ∙ ap cell_place c.index_in.ensures.value),
-      helps_cell_at_key (folds g.B.Parted.PARTS g.B.Parted.parts_of g.B.Body.operations) c.args.self.now.terms c.args.self.now.table.shared.key c.args.self.now.key c.args.self.now.table.shared.table_id.slots c.args.seat.now.token.id c.args.seat.now.token.me c.args.seat.now.sits c.args.seat.now.look _ _ look.shown c.requires.pending (c.cell_place_of-at.ensures ∙ ap cell_place c.index_in.ensures.value) (c.pack_cell-word.ensures ∙ ap (λ e. cell_word e c.value_in.result) c.edit_in.ensures.value ∙ ap (cell_word (edit_of c.args.seat.now.look)) c.value_in.ensures),
+      helps_cell_at_key g.B.BoardBody.folding c.args.self.now.terms c.args.self.now.table.shared.key c.args.self.now.key c.args.self.now.table.shared.table_id.slots c.args.seat.now.token.id c.args.seat.now.token.me c.args.seat.now.sits c.args.seat.now.look _ _ look.shown c.requires.pending (c.cell_place_of-at.ensures ∙ ap cell_place c.index_in.ensures.value) (c.pack_cell-word.ensures ∙ ap (λ e. cell_word e c.value_in.result) c.edit_in.ensures.value ∙ ap (cell_word (edit_of c.args.seat.now.look)) c.value_in.ensures),
     )
 
 pub invariant_of-seat : goal.invariant_of-seat

@@ -2,7 +2,6 @@
 use Rattle.std.proofs.Common.{rules, ◌≡◌, ◌/◌, true, refl, ap, ◌∙◌, arith}
 use Rattle.lv_machine.specs.Layout.{mark_place}
 use Rattle.lv_machine.specs.Words.{index_of}
-use Rattle.lv_board.specs.Rule.{folds}
 use Rattle.lv_board.proofs.Keeping.{helps_mark_at_key}
 use Rattle.lv_board.proofs.Seating.{based_after, block_among, made_same, same_look, seat_after}
 use Rattle.lv_board.proofs.board.Board.help_mark.Goals as goal
@@ -14,7 +13,7 @@ fetch_max-requires g c =
     let near = look.pending c.requires.pending in (
       c.requires.here.at,
       block_among c.args.seat.now.terms c.args.self.now.terms c.args.self.now.table.shared.table_id.words c.mark_place_of-at.result (index_of c.args.seat.now.look / 8) 8 c.requires.here.terms c.args.self.now.count (omega (arith, near)) (omega arith) (c.mark_place_of-at.ensures ∙ ap (λ i. mark_place (i / 8)) c.index_in.ensures.value),
-      helps_mark_at_key (folds g.B.Parted.PARTS g.B.Parted.parts_of g.B.Body.operations) c.args.self.now.terms c.args.self.now.table.shared.key c.args.self.now.key c.args.self.now.table.shared.table_id.slots c.args.seat.now.token.id c.args.seat.now.token.me c.args.seat.now.sits c.args.seat.now.look _ _ look.shown c.requires.pending (c.mark_place_of-at.ensures ∙ ap (λ i. mark_place (i / 8)) c.index_in.ensures.value) (search rules),
+      helps_mark_at_key g.B.BoardBody.folding c.args.self.now.terms c.args.self.now.table.shared.key c.args.self.now.key c.args.self.now.table.shared.table_id.slots c.args.seat.now.token.id c.args.seat.now.token.me c.args.seat.now.sits c.args.seat.now.look _ _ look.shown c.requires.pending (c.mark_place_of-at.ensures ∙ ap (λ i. mark_place (i / 8)) c.index_in.ensures.value) (search rules),
     )
 
 pub invariant_of-seat : goal.invariant_of-seat

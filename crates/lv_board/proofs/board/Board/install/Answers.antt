@@ -6,7 +6,7 @@ use Rattle.lv_machine.specs.History.{edits_of}
 use Rattle.lv_machine.specs.Layout.{count_of}
 use Rattle.lv_machine.specs.Shows.{block, mark_of}
 use Rattle.lv_machine.specs.Words.{part_word}
-use Rattle.lv_board.specs.Rule.{folds, terms_of, limits_of}
+use Rattle.lv_board.specs.Rule.{terms_of, limits_of}
 use Rattle.lv_board.proofs.board.Board.install.Goals as goal
 
 pub install-requires-clause-key : goal.install-requires-clause-key
@@ -21,4 +21,4 @@ install-requires-clause-within g c = λ _ _. subst (λ z. 8 * c.args.b < capacit
 pub install-requires-clause-word : goal.install-requires-clause-word
 install-requires-clause-word g c = λ _ _.
     let h = c.args.seat.now.token.me.0.actor.seen in
-    subst (λ z. c.args.word ≡ part_word (mark_of c.args.b h) ((terms_of (folds g.B.Parted.PARTS g.B.Parted.parts_of g.B.Body.operations) z).folding.part c.args.part (elements_under (edits_of h) (block c.args.b)))) (sym c.requires.here.terms) c.requires.word
+    subst (λ z. c.args.word ≡ part_word (mark_of c.args.b h) ((terms_of g.B.BoardBody.folding z).folding.part c.args.part (elements_under (edits_of h) (block c.args.b)))) (sym c.requires.here.terms) c.requires.word

@@ -4,7 +4,7 @@ use Rattle.lv_machine.specs.Layout.{count_of}
 use Rattle.lv_machine.specs.Words.{edit_of}
 use Rattle.lv_machine.proofs.EndsLaws.{legal_earlier}
 use Rattle.lv_board.specs.Plays.{IsRead}
-use Rattle.lv_board.specs.Rule.{folds, terms_of, limits_of}
+use Rattle.lv_board.specs.Rule.{terms_of, limits_of}
 use Rattle.lv_board.proofs.Calling.{mark_few, mark_found}
 use Rattle.lv_board.proofs.Seating.{block_among}
 use Rattle.lv_board.proofs.board.Board.load_mark.Goals as goal
@@ -14,29 +14,29 @@ load_word-mark-requires-clause-within g c = λ _ _. block_among c.args.self.now.
 
 pub overflow_cast-result : goal.overflow_cast-result
 overflow_cast-result g c =
-    let read = subst (λ z. IsRead (terms_of (folds g.B.Parted.PARTS g.B.Parted.parts_of g.B.Body.operations) z) c.args.seat.now.token.me.0.actor c.load_word-mark.new.seat.token.me.0.actor c.mark_place_of.result c.load_word-mark.result) c.requires.here.terms c.load_word-mark.ensures.read in
-    let mark = mark_found (terms_of (folds g.B.Parted.PARTS g.B.Parted.parts_of g.B.Body.operations) c.args.self.now.terms) c.args.seat.now.token.me.0.actor c.load_word-mark.new.seat.token.me.0.actor c.args.seat.now.look c.mark_place_of.result c.load_word-mark.result c.args.b read c.args.seat.now.looks.shown c.requires.ready c.requires.within c.mark_place_of.ensures in
-    let few = mark_few (terms_of (folds g.B.Parted.PARTS g.B.Parted.parts_of g.B.Body.operations) c.args.self.now.terms) c.args.b c.args.seat.now.token.me.0.actor.seen c.load_word-mark.new.seat.token.me.0.actor.known c.load_word-mark.result read.terms read.legal mark in
+    let read = subst (λ z. IsRead (terms_of g.B.BoardBody.folding z) c.args.seat.now.token.me.0.actor c.load_word-mark.new.seat.token.me.0.actor c.mark_place_of.result c.load_word-mark.result) c.requires.here.terms c.load_word-mark.ensures.read in
+    let mark = mark_found (terms_of g.B.BoardBody.folding c.args.self.now.terms) c.args.seat.now.token.me.0.actor c.load_word-mark.new.seat.token.me.0.actor c.args.seat.now.look c.mark_place_of.result c.load_word-mark.result c.args.b read c.args.seat.now.looks.shown c.requires.ready c.requires.within c.mark_place_of.ensures in
+    let few = mark_few (terms_of g.B.BoardBody.folding c.args.self.now.terms) c.args.b c.args.seat.now.token.me.0.actor.seen c.load_word-mark.new.seat.token.me.0.actor.known c.load_word-mark.result read.terms read.legal mark in
     omega (arith, few)
 
 pub overflow_cast-result-2 : goal.overflow_cast-result-2
 overflow_cast-result-2 g c =
-    let read = subst (λ z. IsRead (terms_of (folds g.B.Parted.PARTS g.B.Parted.parts_of g.B.Body.operations) z) c.args.seat.now.token.me.0.actor c.load_word-mark.new.seat.token.me.0.actor c.mark_place_of.result c.load_word-mark.result) c.requires.here.terms c.load_word-mark.ensures.read in
-    let mark = mark_found (terms_of (folds g.B.Parted.PARTS g.B.Parted.parts_of g.B.Body.operations) c.args.self.now.terms) c.args.seat.now.token.me.0.actor c.load_word-mark.new.seat.token.me.0.actor c.args.seat.now.look c.mark_place_of.result c.load_word-mark.result c.args.b read c.args.seat.now.looks.shown c.requires.ready c.requires.within c.mark_place_of.ensures in
-    let few = mark_few (terms_of (folds g.B.Parted.PARTS g.B.Parted.parts_of g.B.Body.operations) c.args.self.now.terms) c.args.b c.args.seat.now.token.me.0.actor.seen c.load_word-mark.new.seat.token.me.0.actor.known c.load_word-mark.result read.terms read.legal mark in
+    let read = subst (λ z. IsRead (terms_of g.B.BoardBody.folding z) c.args.seat.now.token.me.0.actor c.load_word-mark.new.seat.token.me.0.actor c.mark_place_of.result c.load_word-mark.result) c.requires.here.terms c.load_word-mark.ensures.read in
+    let mark = mark_found (terms_of g.B.BoardBody.folding c.args.self.now.terms) c.args.seat.now.token.me.0.actor c.load_word-mark.new.seat.token.me.0.actor c.args.seat.now.look c.mark_place_of.result c.load_word-mark.result c.args.b read c.args.seat.now.looks.shown c.requires.ready c.requires.within c.mark_place_of.ensures in
+    let few = mark_few (terms_of g.B.BoardBody.folding c.args.self.now.terms) c.args.b c.args.seat.now.token.me.0.actor.seen c.load_word-mark.new.seat.token.me.0.actor.known c.load_word-mark.result read.terms read.legal mark in
     omega (arith, few)
 
 pub returns-then-mark-from : goal.returns-then-mark-from
 returns-then-mark-from g c =
-    let read = subst (λ z. IsRead (terms_of (folds g.B.Parted.PARTS g.B.Parted.parts_of g.B.Body.operations) z) c.args.seat.now.token.me.0.actor c.load_word-mark.new.seat.token.me.0.actor c.mark_place_of.result c.load_word-mark.result) c.requires.here.terms c.load_word-mark.ensures.read in
-    let mark = mark_found (terms_of (folds g.B.Parted.PARTS g.B.Parted.parts_of g.B.Body.operations) c.args.self.now.terms) c.args.seat.now.token.me.0.actor c.load_word-mark.new.seat.token.me.0.actor c.args.seat.now.look c.mark_place_of.result c.load_word-mark.result c.args.b read c.args.seat.now.looks.shown c.requires.ready c.requires.within c.mark_place_of.ensures in
+    let read = subst (λ z. IsRead (terms_of g.B.BoardBody.folding z) c.args.seat.now.token.me.0.actor c.load_word-mark.new.seat.token.me.0.actor c.mark_place_of.result c.load_word-mark.result) c.requires.here.terms c.load_word-mark.ensures.read in
+    let mark = mark_found (terms_of g.B.BoardBody.folding c.args.self.now.terms) c.args.seat.now.token.me.0.actor c.load_word-mark.new.seat.token.me.0.actor c.args.seat.now.look c.mark_place_of.result c.load_word-mark.result c.args.b read c.args.seat.now.looks.shown c.requires.ready c.requires.within c.mark_place_of.ensures in
     record {
       stays = c.load_word-mark.ensures.stays;
       look = c.load_word-mark.ensures.look;
       quiet = read.quiet;
       rest = read.rest;
       terms = read.terms;
-      legal = legal_earlier (terms_of (folds g.B.Parted.PARTS g.B.Parted.parts_of g.B.Body.operations) c.args.self.now.terms) c.args.seat.now.token.me.0.actor.seen c.load_word-mark.new.seat.token.me.0.actor.known read.seen read.legal;
+      legal = legal_earlier (terms_of g.B.BoardBody.folding c.args.self.now.terms) c.args.seat.now.token.me.0.actor.seen c.load_word-mark.new.seat.token.me.0.actor.known read.seen read.legal;
       taken = tt;
       overtaken = record {
         version = c.load_word-mark.result;
@@ -48,8 +48,8 @@ returns-then-mark-from g c =
 
 pub returns : goal.returns
 returns g c =
-    let read = subst (λ z. IsRead (terms_of (folds g.B.Parted.PARTS g.B.Parted.parts_of g.B.Body.operations) z) c.args.seat.now.token.me.0.actor c.load_word-mark.new.seat.token.me.0.actor c.mark_place_of.result c.load_word-mark.result) c.requires.here.terms c.load_word-mark.ensures.read in
-    let mark = mark_found (terms_of (folds g.B.Parted.PARTS g.B.Parted.parts_of g.B.Body.operations) c.args.self.now.terms) c.args.seat.now.token.me.0.actor c.load_word-mark.new.seat.token.me.0.actor c.args.seat.now.look c.mark_place_of.result c.load_word-mark.result c.args.b read c.args.seat.now.looks.shown c.requires.ready c.requires.within c.mark_place_of.ensures in
+    let read = subst (λ z. IsRead (terms_of g.B.BoardBody.folding z) c.args.seat.now.token.me.0.actor c.load_word-mark.new.seat.token.me.0.actor c.mark_place_of.result c.load_word-mark.result) c.requires.here.terms c.load_word-mark.ensures.read in
+    let mark = mark_found (terms_of g.B.BoardBody.folding c.args.self.now.terms) c.args.seat.now.token.me.0.actor c.load_word-mark.new.seat.token.me.0.actor c.args.seat.now.look c.mark_place_of.result c.load_word-mark.result c.args.b read c.args.seat.now.looks.shown c.requires.ready c.requires.within c.mark_place_of.ensures in
     let early : c.load_word-mark.result ≤ length c.args.seat.now.token.me.0.actor.seen = omega (arith, c.if-mark-from.false, c.args.seat.now.looks.edit, ap edit_of c.load_word-mark.ensures.look) in
     record {
       stays = c.load_word-mark.ensures.stays;
@@ -57,7 +57,7 @@ returns g c =
       quiet = read.quiet;
       rest = read.rest;
       terms = read.terms;
-      legal = legal_earlier (terms_of (folds g.B.Parted.PARTS g.B.Parted.parts_of g.B.Body.operations) c.args.self.now.terms) c.args.seat.now.token.me.0.actor.seen c.load_word-mark.new.seat.token.me.0.actor.known read.seen read.legal;
+      legal = legal_earlier (terms_of g.B.BoardBody.folding c.args.self.now.terms) c.args.seat.now.token.me.0.actor.seen c.load_word-mark.new.seat.token.me.0.actor.known read.seen read.legal;
       taken = mark.settled early;
       overtaken = tt;
     }

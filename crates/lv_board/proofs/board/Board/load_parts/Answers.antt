@@ -1,6 +1,6 @@
 -- Proof of `Board::load_parts`: the parts of a whole block's summary, where each has the version of the block's mark.
 use Rattle.std.proofs.Common.{ap, ◌∙◌, slice_index, arith}
-use Rattle.lv_board.specs.Rule.{folds, terms_of}
+use Rattle.lv_board.specs.Rule.{terms_of}
 use Rattle.lv_board.specs.Walks.{block_fold}
 use Rattle.lv_board.proofs.Walking.{all_taken, at_still, may_still, one_more_taken, read_then, seen_still}
 use Rattle.lv_board.proofs.board.Board.load_parts.Goals as goal
@@ -14,7 +14,7 @@ loop-part-preserved g c =
     let s = block_fold (g.B.Body.operations c.args.self.now.terms.body) c.args.b c.args.seat.now.token.me.0.actor.seen in
     record {
       here = at_still c.args.self.now.table.shared.table_id c.args.self.now.terms c.loop-part.seat c.load_part.new.seat inv.here c.load_part.ensures.read;
-      may = may_still (terms_of (folds g.B.Parted.PARTS g.B.Parted.parts_of g.B.Body.operations) c.args.self.now.terms) c.loop-part.seat c.load_part.new.seat inv.may c.load_part.ensures.read;
+      may = may_still (terms_of g.B.BoardBody.folding c.args.self.now.terms) c.loop-part.seat c.load_part.new.seat inv.may c.load_part.ensures.read;
       read = read_then c.args.seat.now c.loop-part.seat c.load_part.new.seat inv.read c.load_part.ensures.read;
       taken = one_more_taken g.B.Parted.parts_of (block_fold (g.B.Body.operations c.args.self.now.terms.body) c.args.b c.args.seat.now.token.me.0.actor.seen) c.loop-part.part c.in-Some.value c.loop-part.values (omega (arith, c.loop-part-test.true, c.PARTS-part-end.ensures, g.B.Parted.some.1)) inv.taken
           (c.in-Some.ensures.value ∙ ap (λ h. slice_index (g.B.Parted.parts_of (block_fold (g.B.Body.operations c.args.self.now.terms.body) c.args.b h)) c.loop-part.part) (seen_still c.args.seat.now c.loop-part.seat inv.read));

@@ -2,14 +2,14 @@
 use Rattle.std.proofs.Common.{sym, ap, ◌∙◌, subst}
 use Rattle.lv_machine.specs.History.{Ends}
 use Rattle.lv_board.specs.Calls.{HasLooked}
-use Rattle.lv_board.specs.Rule.{folds, terms_of}
+use Rattle.lv_board.specs.Rule.{terms_of}
 use Rattle.lv_board.proofs.Calling.{has_looked}
 use Rattle.lv_board.proofs.board.Board.meet.Goals as goal
 
 pub returns-clause-first_looked : goal.returns-clause-first_looked
 returns-clause-first_looked g c =
-    let looked = has_looked (folds g.B.Parted.PARTS g.B.Parted.parts_of g.B.Body.operations) c.args.first.now.terms c.args.self.now.terms c.args.first.now.token.me.0.actor c.load_descriptor.new.seat.token.me.0.actor c.load_descriptor.new.seat.look c.requires.first.terms c.load_descriptor.ensures.quiet c.load_descriptor.ensures.sees in
-    subst (HasLooked (terms_of (folds g.B.Parted.PARTS g.B.Parted.parts_of g.B.Body.operations) c.args.self.now.terms) c.args.first.now.token.me.0.actor) (sym c.tell-note.ensures.same.actor) looked
+    let looked = has_looked g.B.BoardBody.folding c.args.first.now.terms c.args.self.now.terms c.args.first.now.token.me.0.actor c.load_descriptor.new.seat.token.me.0.actor c.load_descriptor.new.seat.look c.requires.first.terms c.load_descriptor.ensures.quiet c.load_descriptor.ensures.sees in
+    subst (HasLooked (terms_of g.B.BoardBody.folding c.args.self.now.terms) c.args.first.now.token.me.0.actor) (sym c.tell-note.ensures.same.actor) looked
 
 pub returns-clause-told : goal.returns-clause-told
 returns-clause-told g c =

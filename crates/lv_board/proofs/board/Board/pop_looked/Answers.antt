@@ -9,7 +9,7 @@ use Rattle.lv_edits.specs.History.{list_of}
 use Rattle.lv_machine.specs.History.{edits_of}
 use Rattle.lv_machine.proofs.HistoryLaws.{length-edits_of}
 use Rattle.lv_board.specs.Steps.{TakeAnswers}
-use Rattle.lv_board.specs.Rule.{folds, terms_of, limits_of}
+use Rattle.lv_board.specs.Rule.{terms_of, limits_of}
 use Rattle.lv_board.proofs.Calling.{looked_of_taken, looked_of_untaken, verdict_is}
 use Rattle.lv_board.proofs.board.Board.pop_looked.Goals as goal
 
@@ -19,14 +19,14 @@ returns-in-Some-clause-answer g c = inl (sym (verdict_is (limits_of c.args.self.
 pub returns-in-Err-clause-answer : goal.returns-in-Err-clause-answer
 returns-in-Err-clause-answer g c =
     let free = sym (verdict_is (limits_of c.args.self.now.terms) c.args.seat.now.look c.args.seat.now.token.me.0.actor.seen Pop c.args.seat.now.looks.edit c.args.seat.now.looks.size) ∙ sym c.verdict.ensures ∙ c.in_default.is in
-    looked_of_untaken (terms_of (folds g.B.Parted.PARTS g.B.Parted.parts_of g.B.Body.operations) c.args.self.now.terms) c.args.seat.now.token.me.0.actor c.take_for.new.seat.token.me.0.actor Pop (c.size_in-last.result - 1) c.in-Err.refusal tt free c.in-Err.ensures.answer
+    looked_of_untaken (terms_of g.B.BoardBody.folding c.args.self.now.terms) c.args.seat.now.token.me.0.actor c.take_for.new.seat.token.me.0.actor Pop (c.size_in-last.result - 1) c.in-Err.refusal tt free c.in-Err.ensures.answer
 
 pub returns-in-Ok-clause-answer : goal.returns-in-Ok-clause-answer
 returns-in-Ok-clause-answer g c =
     let free = sym (verdict_is (limits_of c.args.self.now.terms) c.args.seat.now.look c.args.seat.now.token.me.0.actor.seen Pop c.args.seat.now.looks.edit c.args.seat.now.looks.size) ∙ sym c.verdict.ensures ∙ c.in_default.is in
-    let taken : TakeAnswers (terms_of (folds g.B.Parted.PARTS g.B.Parted.parts_of g.B.Body.operations) c.args.self.now.terms) c.args.seat.now.token.me.0.actor c.take_for.new.seat.token.me.0.actor Pop (c.size_in-last.result - 1) (Ok (c.in-Ok.edit, c.in-Ok.value)) = c.in-Ok.ensures.answer in
+    let taken : TakeAnswers (terms_of g.B.BoardBody.folding c.args.self.now.terms) c.args.seat.now.token.me.0.actor c.take_for.new.seat.token.me.0.actor Pop (c.size_in-last.result - 1) (Ok (c.in-Ok.edit, c.in-Ok.value)) = c.in-Ok.ensures.answer in
     let (u, quiet, same, told, number, value) = taken in
     let last : c.size_in-last.result ≡ length (list_of (edits_of c.args.seat.now.token.me.0.actor.seen)) = c.size_in-last.ensures.value ∙ c.args.seat.now.looks.size in
     let edit : c.in-Ok.edit ≡ length (edits_of c.args.seat.now.token.me.0.actor.seen) + 1 = omega (arith, number, ap length told.seen, ap length same, length-edits_of c.args.seat.now.token.me.0.actor.seen) in
-    looked_of_taken (terms_of (folds g.B.Parted.PARTS g.B.Parted.parts_of g.B.Body.operations) c.args.self.now.terms) c.args.seat.now.token.me.0.actor c.take_for.new.seat.token.me.0.actor Pop (c.size_in-last.result - 1) (c.in-Ok.edit, c.in-Ok.value) (Popped c.in-Ok.edit (cast_signed w64 (cast_unsigned w64 c.in-Ok.value))) free taken
+    looked_of_taken (terms_of g.B.BoardBody.folding c.args.self.now.terms) c.args.seat.now.token.me.0.actor c.take_for.new.seat.token.me.0.actor Pop (c.size_in-last.result - 1) (c.in-Ok.edit, c.in-Ok.value) (Popped c.in-Ok.edit (cast_signed w64 (cast_unsigned w64 c.in-Ok.value))) free taken
     (ap (λ n. Popped n (cast_signed w64 (cast_unsigned w64 c.in-Ok.value))) edit ∙ ap (Popped (length (edits_of c.args.seat.now.token.me.0.actor.seen) + 1)) (to_z-of_z w64 c.in-Ok.value (search rules) ∙ value ∙ ap (λ n. slice_index_or (list_of (edits_of c.args.seat.now.token.me.0.actor.seen)) (n - 1) (pos 0)) last))

@@ -4,12 +4,12 @@ use Rattle.std.specs.Int.{w64}
 use Rattle.std.proofs.lemmas.Int.{to_z-of_z}
 use Rattle.lv_edits.specs.declared.edit.Edit.TheVariants.{Push}
 use Rattle.lv_board.specs.Calls.{LookedAnswers}
-use Rattle.lv_board.specs.Rule.{folds, terms_of}
+use Rattle.lv_board.specs.Rule.{terms_of}
 use Rattle.lv_board.proofs.Shorts.{fits, too_wide}
 use Rattle.lv_board.proofs.board.Board.push_looked.Goals as goal
 
 pub returns-clause-short : goal.returns-clause-short
-returns-clause-short g c = λ _. subst (λ y. LookedAnswers (terms_of (folds g.B.Parted.PARTS g.B.Parted.parts_of g.B.Body.operations) c.args.self.now.terms) c.args.seat.now.token.me.0.actor c.push_short.new.seat.token.me.0.actor (Push y) c.push_short.result) (to_z-of_z w64 c.args.x c.ranges.x) c.push_short.ensures.answer
+returns-clause-short g c = λ _. subst (λ y. LookedAnswers (terms_of g.B.BoardBody.folding c.args.self.now.terms) c.args.seat.now.token.me.0.actor c.push_short.new.seat.token.me.0.actor (Push y) c.push_short.result) (to_z-of_z w64 c.args.x c.ranges.x) c.push_short.ensures.answer
 
 pub returns-then-not-fits_short-clause-stays : goal.returns-then-not-fits_short-clause-stays
 returns-then-not-fits_short-clause-stays g c = record { table = refl; terms = refl }

@@ -10,7 +10,7 @@ use Rattle.lv_machine.specs.Moves.{verdict_at}
 use Rattle.lv_machine.specs.Words.{size_of}
 use Rattle.lv_machine.proofs.HistoryLaws.{length-edits_of}
 use Rattle.lv_board.specs.Plays.{IsAccepted, IsContended}
-use Rattle.lv_board.specs.Rule.{folds, terms_of, limits_of}
+use Rattle.lv_board.specs.Rule.{terms_of, limits_of}
 use Rattle.lv_board.proofs.Calling.{accepted_before, added_of, contended_looked, helped_quiet, verdict_is}
 use Rattle.lv_board.proofs.board.Board.push_short.Goals as goal
 
@@ -23,9 +23,9 @@ pub returns-in-Err-clause-answer : goal.returns-in-Err-clause-answer
 returns-in-Err-clause-answer g c =
     let x = to_z-of_z w64 c.args.x c.ranges.x in
     let free = sym (verdict_is (limits_of c.args.self.now.terms) c.args.seat.now.look c.args.seat.now.token.me.0.actor.seen (Push c.args.x) c.args.seat.now.looks.edit c.args.seat.now.looks.size) ∙ ap (λ y. verdict_at (limits_of c.args.self.now.terms) c.args.seat.now.look (Push y)) (sym x) ∙ sym c.verdict.ensures ∙ c.in_default.is in
-    let told = subst (λ z. IsContended (terms_of (folds g.B.Parted.PARTS g.B.Parted.parts_of g.B.Body.operations) z) c.help.new.seat.token.me.0.actor c.exchange_for.new.seat.token.me.0.actor c.exchange_for.new.seat.look) (c.help.ensures.stays.terms ∙ c.requires.here.terms) c.in-Err.ensures.contended in
+    let told = subst (λ z. IsContended (terms_of g.B.BoardBody.folding z) c.help.new.seat.token.me.0.actor c.exchange_for.new.seat.token.me.0.actor c.exchange_for.new.seat.look) (c.help.ensures.stays.terms ∙ c.requires.here.terms) c.in-Err.ensures.contended in
     inr (inr (
-      contended_looked (terms_of (folds g.B.Parted.PARTS g.B.Parted.parts_of g.B.Body.operations) c.args.self.now.terms) c.args.seat.now.token.me.0.actor c.help.new.seat.token.me.0.actor c.exchange_for.new.seat.token.me.0.actor c.exchange_for.new.seat.look (helped_quiet c.args.seat.now.token.me.0.actor c.help.new.seat.token.me.0.actor c.help.ensures.made c.help.ensures.known c.help.ensures.number) told,
+      contended_looked (terms_of g.B.BoardBody.folding c.args.self.now.terms) c.args.seat.now.token.me.0.actor c.help.new.seat.token.me.0.actor c.exchange_for.new.seat.token.me.0.actor c.exchange_for.new.seat.look (helped_quiet c.args.seat.now.token.me.0.actor c.help.new.seat.token.me.0.actor c.help.ensures.made c.help.ensures.known c.help.ensures.number) told,
       record { refusal_is = c.in-Err.ensures.refusal; all = sym told.sees.all; before = omega (arith, told.later, ap length c.help.ensures.seen); verdict = free },
     ))
 
@@ -33,9 +33,9 @@ pub returns-in-Ok-clause-answer : goal.returns-in-Ok-clause-answer
 returns-in-Ok-clause-answer g c =
     let x = to_z-of_z w64 c.args.x c.ranges.x in
     let free = sym (verdict_is (limits_of c.args.self.now.terms) c.args.seat.now.look c.args.seat.now.token.me.0.actor.seen (Push c.args.x) c.args.seat.now.looks.edit c.args.seat.now.looks.size) ∙ ap (λ y. verdict_at (limits_of c.args.self.now.terms) c.args.seat.now.look (Push y)) (sym x) ∙ sym c.verdict.ensures ∙ c.in_default.is in
-    let raw = subst (λ z. IsAccepted (terms_of (folds g.B.Parted.PARTS g.B.Parted.parts_of g.B.Body.operations) z) c.help.new.seat.token.me.0.actor c.exchange_for.new.seat.token.me.0.actor record { actor = c.help.new.seat.token.me.0.actor.number; edit = Push (cast_signed w64 (cast_unsigned w64 c.args.x)) }) (c.help.ensures.stays.terms ∙ c.requires.here.terms) c.in-Ok.ensures.accepted in
-    let told = subst (λ y. IsAccepted (terms_of (folds g.B.Parted.PARTS g.B.Parted.parts_of g.B.Body.operations) c.args.self.now.terms) c.help.new.seat.token.me.0.actor c.exchange_for.new.seat.token.me.0.actor record { actor = c.help.new.seat.token.me.0.actor.number; edit = Push y }) x raw in
-    let mine = accepted_before (terms_of (folds g.B.Parted.PARTS g.B.Parted.parts_of g.B.Body.operations) c.args.self.now.terms) c.args.seat.now.token.me.0.actor c.help.new.seat.token.me.0.actor c.exchange_for.new.seat.token.me.0.actor (Push c.args.x) c.help.ensures.number c.help.ensures.seen c.help.ensures.known c.help.ensures.made told in
+    let raw = subst (λ z. IsAccepted (terms_of g.B.BoardBody.folding z) c.help.new.seat.token.me.0.actor c.exchange_for.new.seat.token.me.0.actor record { actor = c.help.new.seat.token.me.0.actor.number; edit = Push (cast_signed w64 (cast_unsigned w64 c.args.x)) }) (c.help.ensures.stays.terms ∙ c.requires.here.terms) c.in-Ok.ensures.accepted in
+    let told = subst (λ y. IsAccepted (terms_of g.B.BoardBody.folding c.args.self.now.terms) c.help.new.seat.token.me.0.actor c.exchange_for.new.seat.token.me.0.actor record { actor = c.help.new.seat.token.me.0.actor.number; edit = Push y }) x raw in
+    let mine = accepted_before (terms_of g.B.BoardBody.folding c.args.self.now.terms) c.args.seat.now.token.me.0.actor c.help.new.seat.token.me.0.actor c.exchange_for.new.seat.token.me.0.actor (Push c.args.x) c.help.ensures.number c.help.ensures.seen c.help.ensures.known c.help.ensures.made told in
     let number : c.in-Ok.edit ≡ length (edits_of c.args.seat.now.token.me.0.actor.seen) + 1 = omega (arith, c.in-Ok.ensures.number, ap length mine.seen, length-edits_of c.args.seat.now.token.me.0.actor.seen) in
     let index : c.size_in-index.result ≡ length (list_of (edits_of c.args.seat.now.token.me.0.actor.seen)) = c.size_in-index.ensures.value ∙ ap size_of c.help.ensures.look ∙ c.args.seat.now.looks.size in
-    added_of (terms_of (folds g.B.Parted.PARTS g.B.Parted.parts_of g.B.Body.operations) c.args.self.now.terms) c.args.seat.now.token.me.0.actor c.exchange_for.new.seat.token.me.0.actor (Push c.args.x) (Pushed c.in-Ok.edit c.size_in-index.result) mine free (ap (λ n. Pushed n c.size_in-index.result) number ∙ ap (Pushed (length (edits_of c.args.seat.now.token.me.0.actor.seen) + 1)) index)
+    added_of (terms_of g.B.BoardBody.folding c.args.self.now.terms) c.args.seat.now.token.me.0.actor c.exchange_for.new.seat.token.me.0.actor (Push c.args.x) (Pushed c.in-Ok.edit c.size_in-index.result) mine free (ap (λ n. Pushed n c.size_in-index.result) number ∙ ap (Pushed (length (edits_of c.args.seat.now.token.me.0.actor.seen) + 1)) index)

@@ -1,22 +1,22 @@
 -- Proof of `Board::reduce`: the fold of the elements from index `lo` up to `hi`, `hi` excluded.
 use Rattle.std.proofs.Common.{◌∙◌, sym, subst}
-use Rattle.lv_board.specs.Rule.{folds, terms_of}
+use Rattle.lv_board.specs.Rule.{terms_of}
 use Rattle.lv_board.specs.Walks.{HasCome}
 use Rattle.lv_board.proofs.Calling.{has_looked}
 use Rattle.lv_board.proofs.Walking.{looked_and_read, may_after, seen_still, summed}
 use Rattle.lv_board.proofs.board.Board.reduce.Goals as goal
 
 pub returns-then-hi-size-clause-looked : goal.returns-then-hi-size-clause-looked
-returns-then-hi-size-clause-looked g c = λ order. has_looked (folds g.B.Parted.PARTS g.B.Parted.parts_of g.B.Body.operations) c.args.seat.now.terms c.args.self.now.terms c.args.seat.now.token.me.0.actor c.load_descriptor.new.seat.token.me.0.actor c.load_descriptor.new.seat.look c.requires.terms c.load_descriptor.ensures.quiet c.load_descriptor.ensures.sees
+returns-then-hi-size-clause-looked g c = λ order. has_looked g.B.BoardBody.folding c.args.seat.now.terms c.args.self.now.terms c.args.seat.now.token.me.0.actor c.load_descriptor.new.seat.token.me.0.actor c.load_descriptor.new.seat.look c.requires.terms c.load_descriptor.ensures.quiet c.load_descriptor.ensures.sees
 
 pub walk_range-requires-clause-may : goal.walk_range-requires-clause-may
-walk_range-requires-clause-may g c = λ _ _. may_after (folds g.B.Parted.PARTS g.B.Parted.parts_of g.B.Body.operations) c.args.seat.now.terms c.args.self.now.terms c.load_descriptor.new.seat c.help.new.seat c.load_descriptor.new.seat.look c.requires.terms c.load_descriptor.ensures.sees c.help.ensures
+walk_range-requires-clause-may g c = λ _ _. may_after g.B.BoardBody.folding c.args.seat.now.terms c.args.self.now.terms c.load_descriptor.new.seat c.help.new.seat c.load_descriptor.new.seat.look c.requires.terms c.load_descriptor.ensures.sees c.help.ensures
 
 pub returns-in-Err-clause-looked : goal.returns-in-Err-clause-looked
-returns-in-Err-clause-looked g c = λ order. looked_and_read (terms_of (folds g.B.Parted.PARTS g.B.Parted.parts_of g.B.Body.operations) c.args.self.now.terms) c.args.seat.now.token.me.0.actor c.load_descriptor.new.seat c.help.new.seat c.walk_range.new.seat (has_looked (folds g.B.Parted.PARTS g.B.Parted.parts_of g.B.Body.operations) c.args.seat.now.terms c.args.self.now.terms c.args.seat.now.token.me.0.actor c.load_descriptor.new.seat.token.me.0.actor c.load_descriptor.new.seat.look c.requires.terms c.load_descriptor.ensures.quiet c.load_descriptor.ensures.sees) c.help.ensures c.walk_range.ensures.read
+returns-in-Err-clause-looked g c = λ order. looked_and_read (terms_of g.B.BoardBody.folding c.args.self.now.terms) c.args.seat.now.token.me.0.actor c.load_descriptor.new.seat c.help.new.seat c.walk_range.new.seat (has_looked g.B.BoardBody.folding c.args.seat.now.terms c.args.self.now.terms c.args.seat.now.token.me.0.actor c.load_descriptor.new.seat.token.me.0.actor c.load_descriptor.new.seat.look c.requires.terms c.load_descriptor.ensures.quiet c.load_descriptor.ensures.sees) c.help.ensures c.walk_range.ensures.read
 
 pub returns-clause-looked : goal.returns-clause-looked
-returns-clause-looked g c = λ order. looked_and_read (terms_of (folds g.B.Parted.PARTS g.B.Parted.parts_of g.B.Body.operations) c.args.self.now.terms) c.args.seat.now.token.me.0.actor c.load_descriptor.new.seat c.help.new.seat c.walk_range.new.seat (has_looked (folds g.B.Parted.PARTS g.B.Parted.parts_of g.B.Body.operations) c.args.seat.now.terms c.args.self.now.terms c.args.seat.now.token.me.0.actor c.load_descriptor.new.seat.token.me.0.actor c.load_descriptor.new.seat.look c.requires.terms c.load_descriptor.ensures.quiet c.load_descriptor.ensures.sees) c.help.ensures c.walk_range.ensures.read
+returns-clause-looked g c = λ order. looked_and_read (terms_of g.B.BoardBody.folding c.args.self.now.terms) c.args.seat.now.token.me.0.actor c.load_descriptor.new.seat c.help.new.seat c.walk_range.new.seat (has_looked g.B.BoardBody.folding c.args.seat.now.terms c.args.self.now.terms c.args.seat.now.token.me.0.actor c.load_descriptor.new.seat.token.me.0.actor c.load_descriptor.new.seat.look c.requires.terms c.load_descriptor.ensures.quiet c.load_descriptor.ensures.sees) c.help.ensures c.walk_range.ensures.read
 
 pub returns-clause-answer : goal.returns-clause-answer
 returns-clause-answer g c = λ order.

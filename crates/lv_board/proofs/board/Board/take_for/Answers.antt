@@ -6,22 +6,22 @@ use Rattle.std.proofs.lemmas.Int.{to_z-of_z}
 use Rattle.lv_machine.specs.History.{elements_of}
 use Rattle.lv_machine.proofs.ReadLaws.{cell_element}
 use Rattle.lv_board.specs.Plays.{IsAccepted, IsContended}
-use Rattle.lv_board.specs.Rule.{folds, terms_of}
+use Rattle.lv_board.specs.Rule.{terms_of}
 use Rattle.lv_board.proofs.Calling.{contended_looked, helped_quiet, quiet_then}
 use Rattle.lv_board.proofs.board.Board.take_for.Goals as goal
 
 pub returns-in-Err-exchange_for-clause-answer : goal.returns-in-Err-exchange_for-clause-answer
 returns-in-Err-exchange_for-clause-answer g c =
-    let told = subst (λ z. IsContended (terms_of (folds g.B.Parted.PARTS g.B.Parted.parts_of g.B.Body.operations) z) c.load_cell.new.seat.token.me.0.actor c.exchange_for.new.seat.token.me.0.actor c.exchange_for.new.seat.look) (c.load_cell.ensures.stays.terms ∙ c.help.ensures.stays.terms ∙ c.requires.here.terms) c.in-Err-exchange_for.ensures.contended in
+    let told = subst (λ z. IsContended (terms_of g.B.BoardBody.folding z) c.load_cell.new.seat.token.me.0.actor c.exchange_for.new.seat.token.me.0.actor c.exchange_for.new.seat.look) (c.load_cell.ensures.stays.terms ∙ c.help.ensures.stays.terms ∙ c.requires.here.terms) c.in-Err-exchange_for.ensures.contended in
     let same : c.load_cell.new.seat.token.me.0.actor.seen ≡ c.args.seat.now.token.me.0.actor.seen = ap (λ a. a.seen) c.load_cell.ensures.rest ∙ c.help.ensures.seen in
     let quiet = quiet_then c.args.seat.now.token.me.0.actor c.help.new.seat.token.me.0.actor c.load_cell.new.seat.token.me.0.actor (helped_quiet c.args.seat.now.token.me.0.actor c.help.new.seat.token.me.0.actor c.help.ensures.made c.help.ensures.known c.help.ensures.number) c.load_cell.ensures.quiet in
-    inr (c.load_cell.new.seat.token.me.0.actor, quiet, same, contended_looked (terms_of (folds g.B.Parted.PARTS g.B.Parted.parts_of g.B.Body.operations) c.args.self.now.terms) c.load_cell.new.seat.token.me.0.actor c.load_cell.new.seat.token.me.0.actor c.exchange_for.new.seat.token.me.0.actor c.exchange_for.new.seat.look (helped_quiet c.load_cell.new.seat.token.me.0.actor c.load_cell.new.seat.token.me.0.actor refl refl refl) told, omega (arith, told.later, ap length same), sym told.sees.all, c.in-Err-exchange_for.ensures.refusal)
+    inr (c.load_cell.new.seat.token.me.0.actor, quiet, same, contended_looked (terms_of g.B.BoardBody.folding c.args.self.now.terms) c.load_cell.new.seat.token.me.0.actor c.load_cell.new.seat.token.me.0.actor c.exchange_for.new.seat.token.me.0.actor c.exchange_for.new.seat.look (helped_quiet c.load_cell.new.seat.token.me.0.actor c.load_cell.new.seat.token.me.0.actor refl refl refl) told, omega (arith, told.later, ap length same), sym told.sees.all, c.in-Err-exchange_for.ensures.refusal)
 
 pub returns-in-Ok-exchange_for-clause-answer : goal.returns-in-Ok-exchange_for-clause-answer
 returns-in-Ok-exchange_for-clause-answer g c =
-    let told = subst (λ z. IsAccepted (terms_of (folds g.B.Parted.PARTS g.B.Parted.parts_of g.B.Body.operations) z) c.load_cell.new.seat.token.me.0.actor c.exchange_for.new.seat.token.me.0.actor record { actor = c.load_cell.new.seat.token.me.0.actor.number; edit = c.args.edit }) (c.load_cell.ensures.stays.terms ∙ c.help.ensures.stays.terms ∙ c.requires.here.terms) c.in-Ok-exchange_for.ensures.accepted in
+    let told = subst (λ z. IsAccepted (terms_of g.B.BoardBody.folding z) c.load_cell.new.seat.token.me.0.actor c.exchange_for.new.seat.token.me.0.actor record { actor = c.load_cell.new.seat.token.me.0.actor.number; edit = c.args.edit }) (c.load_cell.ensures.stays.terms ∙ c.help.ensures.stays.terms ∙ c.requires.here.terms) c.in-Ok-exchange_for.ensures.accepted in
     let same : c.load_cell.new.seat.token.me.0.actor.seen ≡ c.args.seat.now.token.me.0.actor.seen = ap (λ a. a.seen) c.load_cell.ensures.rest ∙ c.help.ensures.seen in
     let quiet = quiet_then c.args.seat.now.token.me.0.actor c.help.new.seat.token.me.0.actor c.load_cell.new.seat.token.me.0.actor (helped_quiet c.args.seat.now.token.me.0.actor c.help.new.seat.token.me.0.actor c.help.ensures.made c.help.ensures.known c.help.ensures.number) c.load_cell.ensures.quiet in
     let within : c.args.i < length (elements_of c.help.new.seat.token.me.0.actor.seen) = subst (λ h. c.args.i < length (elements_of h)) (sym c.help.ensures.seen) c.requires.within in
-    let value = to_z-of_z w64 c.in-Ok.value (search rules) ∙ c.in-Ok.ensures.taken ∙ cell_element (terms_of (folds g.B.Parted.PARTS g.B.Parted.parts_of g.B.Body.operations) c.args.self.now.terms) c.args.i c.help.new.seat.token.me.0.actor.seen c.load_cell.ensures.terms c.load_cell.ensures.legal within ∙ ap (λ h. slice_index_or (elements_of h) c.args.i (pos 0)) c.help.ensures.seen in
+    let value = to_z-of_z w64 c.in-Ok.value (search rules) ∙ c.in-Ok.ensures.taken ∙ cell_element (terms_of g.B.BoardBody.folding c.args.self.now.terms) c.args.i c.help.new.seat.token.me.0.actor.seen c.load_cell.ensures.terms c.load_cell.ensures.legal within ∙ ap (λ h. slice_index_or (elements_of h) c.args.i (pos 0)) c.help.ensures.seen in
     (c.load_cell.new.seat.token.me.0.actor, quiet, same, told, c.in-Ok-exchange_for.ensures.number, value)

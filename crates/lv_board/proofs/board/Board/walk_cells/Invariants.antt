@@ -1,6 +1,6 @@
 -- What the loop keeps in `Board::walk_cells`: goes on by cells to an index.
 use Rattle.std.specs.Prelude.{◌≡◌, ◌-◌, ◌≤◌}
-use Rattle.lv_board.specs.Rule.{folds, terms_of}
+use Rattle.lv_board.specs.Rule.{terms_of}
 use Rattle.lv_board.specs.Tells.{actor_of, IsAt}
 use Rattle.lv_board.specs.Walks.{HasRead, MayRead, Sums}
 use Rattle.lv_board.proofs.board.Board.walk_cells.Given as goal
@@ -9,7 +9,7 @@ use Rattle.lv_board.proofs.board.Board.walk_cells.Given as goal
 abbrev pub invariant-loop-walk : goal.invariant-loop-walk
 invariant-loop-walk g l = record {
   here : IsAt l.self.table.shared.table_id l.self.terms l.seat;
-  may : MayRead (terms_of (folds g.B.Parted.PARTS g.B.Parted.parts_of g.B.Body.operations) l.self.terms) l.seat;
+  may : MayRead (terms_of g.B.BoardBody.folding l.self.terms) l.seat;
   read : HasRead l.fn.seat l.seat;
   from : l.walk.lo ≡ l.fn.walk.lo;
   most : l.walk.at ≤ l.end;

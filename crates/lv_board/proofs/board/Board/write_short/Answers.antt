@@ -11,7 +11,7 @@ use Rattle.lv_machine.specs.History.{edits_of}
 use Rattle.lv_machine.specs.Moves.{verdict_at}
 use Rattle.lv_machine.proofs.HistoryLaws.{length-edits_of}
 use Rattle.lv_board.specs.Steps.{TakeAnswers}
-use Rattle.lv_board.specs.Rule.{folds, terms_of, limits_of}
+use Rattle.lv_board.specs.Rule.{terms_of, limits_of}
 use Rattle.lv_board.proofs.Calling.{looked_of_taken, looked_of_untaken, verdict_is}
 use Rattle.lv_board.proofs.board.Board.write_short.Goals as goal
 
@@ -32,15 +32,15 @@ pub returns-in-Err-clause-answer : goal.returns-in-Err-clause-answer
 returns-in-Err-clause-answer g c =
     let x = to_z-of_z w64 c.args.value c.ranges.value in
     let free = sym (verdict_is (limits_of c.args.self.now.terms) c.args.seat.now.look c.args.seat.now.token.me.0.actor.seen (Write c.args.index c.args.value) c.args.seat.now.looks.edit c.args.seat.now.looks.size) ∙ ap (λ y. verdict_at (limits_of c.args.self.now.terms) c.args.seat.now.look (Write c.args.index y)) (sym x) ∙ sym c.verdict.ensures ∙ c.in_default.is in
-    let untaken = subst (λ y. TakeAnswers (terms_of (folds g.B.Parted.PARTS g.B.Parted.parts_of g.B.Body.operations) c.args.self.now.terms) c.args.seat.now.token.me.0.actor c.take_for.new.seat.token.me.0.actor (Write c.args.index y) c.args.index (Err c.in-Err.refusal)) x c.in-Err.ensures.answer in
-    looked_of_untaken (terms_of (folds g.B.Parted.PARTS g.B.Parted.parts_of g.B.Body.operations) c.args.self.now.terms) c.args.seat.now.token.me.0.actor c.take_for.new.seat.token.me.0.actor (Write c.args.index c.args.value) c.args.index c.in-Err.refusal tt free untaken
+    let untaken = subst (λ y. TakeAnswers (terms_of g.B.BoardBody.folding c.args.self.now.terms) c.args.seat.now.token.me.0.actor c.take_for.new.seat.token.me.0.actor (Write c.args.index y) c.args.index (Err c.in-Err.refusal)) x c.in-Err.ensures.answer in
+    looked_of_untaken (terms_of g.B.BoardBody.folding c.args.self.now.terms) c.args.seat.now.token.me.0.actor c.take_for.new.seat.token.me.0.actor (Write c.args.index c.args.value) c.args.index c.in-Err.refusal tt free untaken
 
 pub returns-in-Ok-clause-answer : goal.returns-in-Ok-clause-answer
 returns-in-Ok-clause-answer g c =
     let x = to_z-of_z w64 c.args.value c.ranges.value in
     let free = sym (verdict_is (limits_of c.args.self.now.terms) c.args.seat.now.look c.args.seat.now.token.me.0.actor.seen (Write c.args.index c.args.value) c.args.seat.now.looks.edit c.args.seat.now.looks.size) ∙ ap (λ y. verdict_at (limits_of c.args.self.now.terms) c.args.seat.now.look (Write c.args.index y)) (sym x) ∙ sym c.verdict.ensures ∙ c.in_default.is in
-    let taken : TakeAnswers (terms_of (folds g.B.Parted.PARTS g.B.Parted.parts_of g.B.Body.operations) c.args.self.now.terms) c.args.seat.now.token.me.0.actor c.take_for.new.seat.token.me.0.actor (Write c.args.index c.args.value) c.args.index (Ok (c.in-Ok.edit, c.in-Ok.before)) = subst (λ y. TakeAnswers (terms_of (folds g.B.Parted.PARTS g.B.Parted.parts_of g.B.Body.operations) c.args.self.now.terms) c.args.seat.now.token.me.0.actor c.take_for.new.seat.token.me.0.actor (Write c.args.index y) c.args.index (Ok (c.in-Ok.edit, c.in-Ok.before))) x c.in-Ok.ensures.answer in
+    let taken : TakeAnswers (terms_of g.B.BoardBody.folding c.args.self.now.terms) c.args.seat.now.token.me.0.actor c.take_for.new.seat.token.me.0.actor (Write c.args.index c.args.value) c.args.index (Ok (c.in-Ok.edit, c.in-Ok.before)) = subst (λ y. TakeAnswers (terms_of g.B.BoardBody.folding c.args.self.now.terms) c.args.seat.now.token.me.0.actor c.take_for.new.seat.token.me.0.actor (Write c.args.index y) c.args.index (Ok (c.in-Ok.edit, c.in-Ok.before))) x c.in-Ok.ensures.answer in
     let (u, quiet, same, told, number, value) = taken in
     let edit : c.in-Ok.edit ≡ length (edits_of c.args.seat.now.token.me.0.actor.seen) + 1 = omega (arith, number, ap length told.seen, ap length same, length-edits_of c.args.seat.now.token.me.0.actor.seen) in
-    looked_of_taken (terms_of (folds g.B.Parted.PARTS g.B.Parted.parts_of g.B.Body.operations) c.args.self.now.terms) c.args.seat.now.token.me.0.actor c.take_for.new.seat.token.me.0.actor (Write c.args.index c.args.value) c.args.index (c.in-Ok.edit, c.in-Ok.before) (Written c.in-Ok.edit (cast_signed w64 (cast_unsigned w64 c.in-Ok.before))) free taken
+    looked_of_taken (terms_of g.B.BoardBody.folding c.args.self.now.terms) c.args.seat.now.token.me.0.actor c.take_for.new.seat.token.me.0.actor (Write c.args.index c.args.value) c.args.index (c.in-Ok.edit, c.in-Ok.before) (Written c.in-Ok.edit (cast_signed w64 (cast_unsigned w64 c.in-Ok.before))) free taken
     (ap (λ n. Written n (cast_signed w64 (cast_unsigned w64 c.in-Ok.before))) edit ∙ ap (Written (length (edits_of c.args.seat.now.token.me.0.actor.seen) + 1)) (to_z-of_z w64 c.in-Ok.before (search rules) ∙ value))

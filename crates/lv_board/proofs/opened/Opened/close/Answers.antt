@@ -6,7 +6,7 @@ use Rattle.std.proofs.lemmas.Bool.{eqb-true}
 use Rattle.std.proofs.lemmas.List.{length-map}
 use Rattle.lv_board.specs.declared.board.Board.{Board}
 use Rattle.lv_board.specs.Closing.{AreAt}
-use Rattle.lv_board.specs.Rule.{folds, terms_of}
+use Rattle.lv_board.specs.Rule.{terms_of}
 use Rattle.lv_board.specs.Sharing.{shared_of}
 use Rattle.lv_board.specs.Tells.{actor_of}
 use Rattle.lv_board.proofs.Sharings.{closed_shared}
@@ -23,8 +23,8 @@ close_by-requires-clause-at g c = λ _ _. subst (λ (b : Board g.row.B.Denot g.r
 
 pub returns-in-Ok-try_unwrap-clause-ok : goal.returns-in-Ok-try_unwrap-clause-ok
 returns-in-Ok-try_unwrap-clause-ok g c =
-    let same = ap (λ (b : Board g.row.B.Denot g.row.B-S.Denot). terms_of (folds g.B.Parted.PARTS g.B.Parted.parts_of g.B.Body.operations) b.terms) c.in-Ok-try_unwrap.ensures.ok in
-    closed_shared (shared_of g.B.Parted.PARTS g.B.Parted.parts_of g.B.Body.operations g.B.Single.the_kind g.B.Single.plain c.args.self) _ c.args.self.seats.items c.close_by.result same refl
+    let same = ap (λ (b : Board g.row.B.Denot g.row.B-S.Denot). terms_of g.B.BoardBody.folding b.terms) c.in-Ok-try_unwrap.ensures.ok in
+    closed_shared (shared_of g.B.BoardBody.folding g.B.Single.the_kind g.B.Single.plain c.args.self) _ c.args.self.seats.items c.close_by.result same refl
     record { below = c.args.self.below; apart = c.args.self.apart }
     (eqb-true _ _ (sym c.is_whole.ensures ∙ c.if-not-is_whole.false)) c.close_by.ensures
 

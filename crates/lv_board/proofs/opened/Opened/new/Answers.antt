@@ -13,7 +13,7 @@ share-requires-clause-order g c = λ _ _.
 pub returns-in-Ok-clause-ok : goal.returns-in-Ok-clause-ok
 returns-in-Ok-clause-ok g c =
     let made = c.in-Ok.ensures in
-    newly_shared g.B.Parted.PARTS g.B.Parted.parts_of g.B.Body.operations g.B.Single.the_kind g.B.Single.plain c.args.limits c.args.seats c.args.stamp c.args.body c.in-Ok.board c.in-Ok.seats.items c.share.result made.allowed made.basis made.count made.dealt c.share.ensures.ok
+    newly_shared g.B.BoardBody.folding g.B.Single.the_kind g.B.Single.plain c.args.limits c.args.seats c.args.stamp c.args.body c.in-Ok.board c.in-Ok.seats.items c.share.result made.allowed made.basis made.count made.dealt c.share.ensures.ok
 
 pub returns-in-Err-clause-ok : goal.returns-in-Err-clause-ok
 returns-in-Err-clause-ok g c = tt
