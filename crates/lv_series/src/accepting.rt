@@ -1,6 +1,6 @@
 //! The edits of a series: each is judged, made, and counted.
 ghost use Rattle.std.specs.Prelude.{◌≡◌, None};
-ghost use Rattle.lv_series.specs.Series.{Accepts, Answers, refused};
+ghost use Rattle.lv_series.specs.Series.{Answers, refused};
 
 use crate::edits::LongEdit;
 use crate::receipts::LongReceipt;
@@ -91,33 +91,6 @@ impl<B: LongBody> Series<B> {
                 })
             }
             Err(_) => Err(LongRefusal::NoMemory),
-        }
-    }
-
-    /// Drops the elements before an index; the others keep their indices, and the memory of whole shards comes back. Refused with
-    /// `Worn`, then `OutOfRange`. Takes no memory.
-    pub fn expire(&mut self, index: u64) -> Result<LongReceipt, LongRefusal>
-        ensures { Answers self.old.kept (LongEdit.Expire index) result self.new.kept }
-    {
-        match self.verdict(&LongEdit::Expire(index)) {
-            Some(refusal) => Err(refusal),
-            None => Ok(self.make_expiry(index)),
-        }
-    }
-
-    // Drops the elements before an index, where nothing refuses that.
-    fn make_expiry(&mut self, index: u64) -> LongReceipt
-        requires { refused self.old.kept (LongEdit.Expire index) ≡ None }
-        ensures { Accepts self.old.kept (LongEdit.Expire index) result self.new.kept }
-    {
-        let dropped = index - self.first();
-        let shed = self.chain.shed(index - self.gone);
-        self.gone += shed;
-        self.skip = index - self.gone;
-        self.edits += 1;
-        LongReceipt::Expired {
-            edit: self.edits,
-            dropped,
         }
     }
 

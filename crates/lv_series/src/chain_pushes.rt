@@ -3,7 +3,6 @@ ghost use Rattle.std.specs.Prelude.{◌≡◌, ◌+◌, ◌*◌, ◌^◌, ◌≤
 ghost use Rattle.lv_series.specs.Shard.{held_by};
 
 use crate::chains::Chain;
-use crate::cutting::keep_front;
 use crate::places::SHARD;
 use crate::shards::Shard;
 use lv_bodies::LongBody;
@@ -64,20 +63,5 @@ impl<B: LongBody> Chain<B> {
             self.push(values[i])?;
         }
         Ok(())
-    }
-
-    // Keeps so many elements, the first ones: those of so many full shards, and of another that becomes the last one. Takes no memory.
-    fn go_back(&mut self, before: u64, number: usize, last: &mut Shard<B>)
-        requires least { before ≤ length self.old.held.elements }
-        requires parts { take before self.old.held.elements ≡ take (32760 * number) self.old.held.elements ++ (held_by last.old).elements }
-        requires front { 32760 * number ≤ before }
-        requires body { (held_by last.old).body ≡ self.old.held.body }
-        requires short { length (held_by last.old).elements ≤ 32760 }
-        ensures { self.new.held ≡ record self.old.held { elements = take before self.old.held.elements } }
-    {
-        if self.len() <= before {
-            return;
-        }
-        keep_front(&mut self.full, &mut self.sums, &mut self.tail, number, last);
     }
 }

@@ -1,5 +1,5 @@
 //! Writes and swaps in full shards, whose folds are renewed.
-ghost use Rattle.std.specs.Prelude.{◌≡◌, ◌+◌, ◌<◌, ◌≤◌, length, slice_set, IfOk, OnOk, OnErr};
+ghost use Rattle.std.specs.Prelude.{◌≡◌, ◌<◌, length, slice_set, IfOk, OnOk, OnErr};
 ghost use Rattle.std.specs.List.{slice_index_or, swap};
 ghost use Rattle.lv_series.specs.Chain.{IsPut, sum_of};
 ghost use Rattle.lv_series.specs.Shard.{Holding, held_by, held_by_each};

@@ -1,5 +1,5 @@
 //! The folds of pieces that a shard keeps, over its edits.
-ghost use Rattle.std.specs.Prelude.{◌≡◌, ◌+◌, ◌≤◌, None, Some, [], ◌++◌, OnOk, OnErr, length, true};
+ghost use Rattle.std.specs.Prelude.{◌≡◌, ◌+◌, ◌≤◌, None, Some, [], ◌++◌, OnOk, OnErr, length};
 ghost use Rattle.std.specs.List.{slice_range};
 ghost use Rattle.lv_bodies.specs.Body.{fold_of};
 ghost use Rattle.lv_edits.specs.History.{applied, list_of};
@@ -9,49 +9,14 @@ ghost use Rattle.lv_series.specs.Refresh.{GoesOn};
 ghost use Rattle.lv_series.specs.Rows.{ArePiecesBut, AreRows, AreRowsBut, ChangesAt};
 ghost use Rattle.lv_series.specs.Shard.{IsShard, holding_of};
 
+use crate::pieces::{GROUP, PART, Rows};
 use crate::renewing::{make_one, make_pushes};
-use crate::rows::{GROUP, PART, extend, fold_by_rows, follow};
+use crate::rows::{extend, fold_by_rows, follow};
 use crate::vectors::Live;
 use lv_bodies::Body;
 use lv_edits::Edit;
 use lv_live::{Touched, touched_indices};
 use std::alloc::{AllocError, Global};
-
-/// Folds of a list's pieces side by side, from the first on: of 64 elements each, and of 2,048.
-#[derive(Drop)]
-pub struct Rows<S> {
-    pub parts: Vec<S>,
-    pub groups: Vec<S>,
-}
-
-impl<S> Rows<S> {
-    /// None of them. Takes no memory.
-    pub fn new(alloc: Global) -> Rows<S>
-        ensures parts { result.parts.items ≡ [] }
-        ensures groups { result.groups.items ≡ [] }
-    {
-        Rows {
-            parts: Vec::new(alloc),
-            groups: Vec::new(alloc),
-        }
-    }
-
-    /// Whether there are none.
-    #[inline(always)]
-    pub fn are_none(&self) -> bool
-        ensures parts { result ≡ true → self.now.parts.items ≡ [] }
-        ensures groups { result ≡ true → self.now.groups.items ≡ [] }
-    {
-        self.parts.is_empty() && self.groups.is_empty()
-    }
-
-    /// Whether all pieces of so many elements are kept, and there is one.
-    #[inline(always)]
-    pub fn are_all(&self, len: u32) -> bool {
-        let count = self.parts.len();
-        count > 0 && count == (len / PART) as usize
-    }
-}
 
 /// Keeps folds of pieces that aren't kept yet, as far as there is memory for them.
 pub fn keep_rows<B: Body>(live: &Live<B>, rows: &mut Rows<B::S>)

@@ -1,6 +1,6 @@
 //! What a chain answers of a range of its positions.
-ghost use Rattle.std.specs.Prelude.{◌≡◌, ◌+◌, ◌-◌, ◌/◌, ◌≤◌, length};
-ghost use Rattle.std.specs.List.{slice_range};
+ghost use Rattle.std.specs.Prelude.{◌≡◌, ◌+◌, ◌-◌, ◌/◌, ◌<◌, ◌≤◌, pos, length};
+ghost use Rattle.std.specs.List.{slice_index_or, slice_range};
 ghost use Rattle.lv_bodies.specs.Body.{fold_of};
 ghost use Rattle.lv_series.specs.Series.{StandsBefore, running_folds};
 
@@ -12,6 +12,15 @@ use lv_bodies::{LongBody, long_laws};
 use lv_sums::Joined;
 
 impl<B: LongBody> Chain<B> {
+    /// The element at a position.
+    pub fn get(&self, position: u64) -> i64
+        requires { position < length self.now.held.elements }
+        ensures { result ≡ slice_index_or self.now.held.elements position (pos 0) }
+    {
+        let place = place_of(position, self.full.len());
+        shard_at(&self.full, &self.tail, place.shard).get(place.index)
+    }
+
     /// The fold of the elements from one position up to another, and how many joins it took beyond those in the two shards at its ends.
     /// Takes no memory.
     pub fn fold(&self, from: u64, to: u64) -> Joined<B::S>

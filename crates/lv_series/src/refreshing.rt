@@ -1,6 +1,6 @@
 //! Refresh through a series. Its jobs are those of its shards' vectors: they may be run anywhere, and their outcomes may come late, stale
 //! or twice. None of these calls changes an answer.
-ghost use Rattle.std.specs.Prelude.{◌≡◌, ◌↔◌, ◌≤◌, true, IsTrue, IfNone, IfSome};
+ghost use Rattle.std.specs.Prelude.{◌≡◌, ◌↔◌, true, IsTrue, IfNone, IfSome};
 ghost use Rattle.lv_series.specs.Refresh.{IsFairIn, IsJobIn, is_taken};
 ghost use Rattle.lv_series.specs.Sharded.{ClaimsAt, ClaimsNone, ForgetsAll, IsVetted, TakesAll, TakesOutcome};
 

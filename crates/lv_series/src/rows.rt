@@ -6,14 +6,10 @@ ghost use Rattle.lv_edits.specs.History.{list_of};
 ghost use Rattle.lv_edits.specs.Kept.{IsLegalInLimits};
 ghost use Rattle.lv_series.specs.Rows.{ArePieces, ArePiecesBut, AreRows, IsNext, fold_of_piece};
 
+use crate::pieces::{GROUP, PART};
 use lv_bodies::{Body, fold_slice};
 use lv_edits::{Edits, Erased};
 use lv_reduce::join;
-
-/// How many elements a piece has; and a great one.
-pub const PART: u32 = 64;
-
-pub const GROUP: u32 = 2048;
 
 /// The fold of the elements from `lo` up to `hi`, by the folds of pieces where these lie in the range, else from the elements.
 pub fn fold_by_rows<B: Body>(

@@ -1,13 +1,11 @@
 //! The series: a vector that goes on, and whose front may be dropped.
-ghost use Rattle.std.specs.Prelude.{◌≡◌, ◌+◌, ◌/◌, ◌^◌, ◌≤◌, [], length, All, true};
+ghost use Rattle.std.specs.Prelude.{◌≡◌, ◌+◌, ◌/◌, ◌^◌, ◌≤◌, [], length, All};
 ghost use Rattle.lv_geometry.specs.Elements.{IsElement};
 ghost use Rattle.lv_series.specs.Plain.{plain_series};
 ghost use Rattle.lv_series.specs.Sharded.{IsNewShard};
-ghost use Rattle.lv_series.specs.Series.{element_at, element_of, is_border, is_kept, refused, refused_on, size_of};
+ghost use Rattle.lv_series.specs.Series.{size_of};
 
 use crate::chains::Chain;
-use crate::edits::LongEdit;
-use crate::refusals::LongRefusal;
 use lv_bodies::LongBody;
 use std::alloc::Global;
 use std::marker::Model;
@@ -103,76 +101,5 @@ impl<B: LongBody> Series<B> {
         ensures { result ≡ self.now.kept.body }
     {
         self.chain.body()
-    }
-
-    /// The element under an index. Refused with `OutOfRange`.
-    pub fn get(&self, index: u64) -> Result<i64, LongRefusal>
-        ensures { result ≡ element_at self.now.kept.held index }
-    {
-        if self.keeps(index) {
-            Ok(self.read(index))
-        } else {
-            Err(self.out_of_range())
-        }
-    }
-
-    // The element under an index that is kept.
-    fn read(&self, index: u64) -> i64
-        requires { is_kept self.now.kept.held index ≡ true }
-        ensures { result ≡ element_of self.now.kept.held index }
-    {
-        self.chain.get(index - self.gone)
-    }
-
-    // Whether an element is kept under an index.
-    fn keeps(&self, index: u64) -> bool
-        ensures { result ≡ is_kept self.now.kept.held index }
-    {
-        self.first() <= index && index < self.size()
-    }
-
-    // Whether what is kept may begin or end at an index.
-    pub(crate) fn borders(&self, index: u64) -> bool
-        ensures { result ≡ is_border self.now.kept.held index }
-    {
-        self.first() <= index && index <= self.size()
-    }
-
-    // That an index isn't kept, with what is.
-    pub(crate) fn out_of_range(&self) -> LongRefusal
-        ensures { result ≡ LongRefusal.OutOfRange self.now.kept.held.first (size_of self.now.kept.held) }
-    {
-        LongRefusal::OutOfRange {
-            first: self.first(),
-            size: self.size(),
-        }
-    }
-
-    /// Why an edit would be refused, for want of memory apart; none where it would be accepted.
-    #[inline(always)]
-    pub fn verdict(&self, edit: &LongEdit) -> Option<LongRefusal>
-        ensures { result ≡ refused self.now.kept edit.now }
-    {
-        if self.edits == u64::MAX {
-            return Some(LongRefusal::Worn);
-        }
-        self.verdict_on(edit)
-    }
-
-    // The same, while edits are left.
-    #[inline(always)]
-    fn verdict_on(&self, edit: &LongEdit) -> Option<LongRefusal>
-        ensures { result ≡ refused_on self.now.kept.held edit.now }
-    {
-        match *edit {
-            LongEdit::Push(_) => (self.size() >= MOST).then_some(LongRefusal::Full),
-            LongEdit::Pop => (self.first() == self.size()).then_some(LongRefusal::Empty),
-            LongEdit::Write { index, .. } => (!self.keeps(index)).then_some(self.out_of_range()),
-            LongEdit::Expire(index) => (!self.borders(index)).then_some(self.out_of_range()),
-            LongEdit::Swap { first, second } => {
-                (!(self.keeps(first) && self.keeps(second))).then_some(self.out_of_range())
-            }
-            LongEdit::Truncate(size) => (!self.borders(size)).then_some(self.out_of_range()),
-        }
     }
 }

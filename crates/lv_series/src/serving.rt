@@ -1,5 +1,5 @@
 //! Refresh of a shard: its jobs are claimed, and outcomes delivered, under its age.
-ghost use Rattle.std.specs.Prelude.{◌≡◌, ◌↔◌, ◌+◌, ◌<◌, ◌≤◌, true, length, IsTrue, IfNone, IfSome, None};
+ghost use Rattle.std.specs.Prelude.{◌≡◌, ◌↔◌, ◌<◌, ◌≤◌, true, IsTrue, IfNone, IfSome, None};
 ghost use Rattle.lv_live.specs.State.{recorded};
 ghost use Rattle.lv_refresh.specs.Claim.{IsNextJob};
 ghost use Rattle.lv_series.specs.Refresh.{IsFair, IsPartOf, IsVouched, Receives, is_taken};

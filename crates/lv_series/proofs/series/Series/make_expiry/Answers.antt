@@ -36,8 +36,8 @@ overflow_add-self g c =
     let kept = free_expire (held_of s.gone s.skip s.chain.held.elements) c.args.index (free_edit (state_of s.chain.held s.gone s.skip s.edits) (Expire c.args.index) free).1 in
     omega (arith, kept.0, kept.1, c.shed-shed.ensures.most, size_held s.gone s.skip s.chain.held.elements c.self.invariant.0, c.self.invariant.1)
 
-pub overflow_sub-self : goal.overflow_sub-self
-overflow_sub-self g c =
+pub forgotten-self-inside-requires : goal.forgotten-self-inside-requires
+forgotten-self-inside-requires g c =
     let s = c.self.inside in
     let free : refused (state_of s.chain.held s.gone s.skip s.edits) (Expire c.args.index) ≡ None = rw (← c.self.view_is) at c.requires in
     let kept = free_expire (held_of s.gone s.skip s.chain.held.elements) c.args.index (free_edit (state_of s.chain.held s.gone s.skip s.edits) (Expire c.args.index) free).1 in
@@ -57,7 +57,8 @@ invariant_of-self g c =
     let long = ap (λ t. length t.elements) c.shed-shed.ensures.dropped in
     let less = length-drop c.shed-shed.result s.chain.held.elements in
     let size = size_held s.gone s.skip s.chain.held.elements c.self.invariant.0 in
-    (omega (arith, kept.0, kept.1, c.shed-shed.ensures.most, long, less, size), omega (arith, kept.0, kept.1, c.shed-shed.ensures.most, long, less, size, c.self.invariant.1), omega (arith, kept.0, kept.1, c.shed-shed.ensures.most, c.shed-shed.ensures.least, size), omega (arith, c.self.invariant.3, c.shed-shed.ensures.whole))
+    let skip = c.forgotten-self-inside.ensures in
+    (omega (arith, skip, kept.0, kept.1, c.shed-shed.ensures.most, long, less, size), omega (arith, kept.0, kept.1, c.shed-shed.ensures.most, long, less, size, c.self.invariant.1), omega (arith, skip, kept.0, kept.1, c.shed-shed.ensures.most, c.shed-shed.ensures.least, size), omega (arith, c.self.invariant.3, c.shed-shed.ensures.whole))
 
 pub returns : goal.returns
 returns g c =
@@ -65,5 +66,5 @@ returns g c =
     let i = c.args.index in
     let free : refused (state_of s.chain.held s.gone s.skip s.edits) (Expire i) ≡ None = rw (← c.self.view_is) at c.requires in
     let first : c.first.result ≡ s.gone + s.skip = rw (← c.self.view_is) at c.first.ensures in
-    rw (← c.self.view_is) (expired s.chain.held c.shed-shed.new.self.held s.gone s.skip s.edits c.shed-shed.result i (Expired (s.edits + 1) (i - c.first.result)) free c.shed-shed.ensures.dropped c.shed-shed.ensures.most c.self.invariant.0
-    (ap (λ n. Expired (s.edits + 1) (i - n)) first))
+    rw c.forgotten-self-inside.ensures (rw (← c.self.view_is) (expired s.chain.held c.shed-shed.new.self.held s.gone s.skip s.edits c.shed-shed.result i (Expired (s.edits + 1) (i - c.first.result)) free c.shed-shed.ensures.dropped c.shed-shed.ensures.most c.self.invariant.0
+    (ap (λ n. Expired (s.edits + 1) (i - n)) first)))

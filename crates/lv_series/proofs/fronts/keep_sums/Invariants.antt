@@ -1,6 +1,6 @@
 -- What the loop keeps in `keep_sums`: keeps so many folds, the first ones.
 use Rattle.std.proofs.Common.{◌≡◌, length, take}
-use Rattle.lv_series.proofs.cutting.keep_sums.Given as goal
+use Rattle.lv_series.proofs.fronts.keep_sums.Given as goal
 
 -- the first so many are as they were
 abbrev pub invariant-loop-sums : goal.invariant-loop-sums

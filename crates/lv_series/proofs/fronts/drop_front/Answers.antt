@@ -1,7 +1,7 @@
 -- Proof of `drop_front`: drops so many full shards at the front.
 use Rattle.std.proofs.Common.{◌≡◌, drop, arith, ap, refl, sym, ◌∙◌}
 use Rattle.std.proofs.lemmas.List.{drop-drop}
-use Rattle.lv_series.proofs.cutting.drop_front.Goals as goal
+use Rattle.lv_series.proofs.fronts.drop_front.Goals as goal
 
 pub loop-shard-init : goal.loop-shard-init
 loop-shard-init g c = refl

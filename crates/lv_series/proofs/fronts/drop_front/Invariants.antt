@@ -1,6 +1,6 @@
 -- What the loop keeps in `drop_front`: drops so many full shards at the front.
 use Rattle.std.proofs.Common.{◌≡◌, drop}
-use Rattle.lv_series.proofs.cutting.drop_front.Given as goal
+use Rattle.lv_series.proofs.fronts.drop_front.Given as goal
 
 -- so many are gone
 abbrev pub invariant-loop-shard : goal.invariant-loop-shard
