@@ -23,32 +23,32 @@ read_pieces front later blank count k inside =
     ∙ ap Some (get_or-in_pieces front later blank count k inside)
 
 -- an item of the first piece
-item_at-early : {A : Type 0} (front : List A) (later : List (List A)) (blank : A) (k : ℕ) → k < 1024 → item_at front later blank k ≡ get_or front k blank
-item_at-early front later blank k early = cond-true _ _ _ (lt-ltb k 1024 early)
+pub item_at-early : {A : Type 0} (front : List A) (later : List (List A)) (blank : A) (k : ℕ) → k < 512 → item_at front later blank k ≡ get_or front k blank
+item_at-early front later blank k early = cond-true _ _ _ (lt-ltb k 512 early)
 
 -- an item behind it
-item_at-late : {A : Type 0} (front : List A) (later : List (List A)) (blank : A) (k : ℕ) → 1024 ≤ k → item_at front later blank k ≡ later_item later k blank
-item_at-late front later blank k late = cond-false _ _ _ (le-ltb k 1024 late)
+pub item_at-late : {A : Type 0} (front : List A) (later : List (List A)) (blank : A) (k : ℕ) → 512 ≤ k → item_at front later blank k ≡ later_item later k blank
+item_at-late front later blank k late = cond-false _ _ _ (le-ltb k 512 late)
 
 -- no item behind the first piece stands at a number of it
-later_item-early : {A : Type 0} (later : List (List A)) (number : ℕ) (blank : A) → number < 1024 → later_item later number blank ≡ blank
-later_item-early later number blank early = cond-true _ _ _ (lt-ltb number 1024 early)
+later_item-early : {A : Type 0} (later : List (List A)) (number : ℕ) (blank : A) → number < 512 → later_item later number blank ≡ blank
+later_item-early later number blank early = cond-true _ _ _ (lt-ltb number 512 early)
 
 -- what stands at another is in its piece
-later_item-late : {A : Type 0} (later : List (List A)) (number : ℕ) (blank : A) → 1024 ≤ number → later_item later number blank ≡ get_or (get_or later (number / 1024 - 1) []) (number % 1024) blank
-later_item-late later number blank late = cond-false _ _ _ (le-ltb number 1024 late)
+pub later_item-late : {A : Type 0} (later : List (List A)) (number : ℕ) (blank : A) → 512 ≤ number → later_item later number blank ≡ get_or (get_or later (number / 512 - 1) []) (number % 512) blank
+later_item-late later number blank late = cond-false _ _ _ (le-ltb number 512 late)
 
 -- what stands at a number past what was written of the first piece is what is read of those behind it
 pub item_at-past : {A : Type 0} (front : List A) (later : List (List A)) (blank : A) (number : ℕ) → length front ≤ number → item_at front later blank number ≡ later_item later number blank
 item_at-past front later blank number past =
-    elim (cases_lt number 1024) [
+    elim (cases_lt number 512) [
       | inl early ↦
           item_at-early front later blank number early ∙ get_or_past front number blank past ∙ sym (later_item-early later number blank early)
       | inr late ↦ item_at-late front later blank number late
     ]
 
 -- eight neighbours that were written to the first piece are those of the list
-pub eight_early : {A : Type 0} (front eight : List A) (later : List (List A)) (blank : A) (count first : ℕ) → length front ≤ 1024 → first + 8 ≤ length front → eight ≡ slice_range front first (first + 8) → first + 8 ≤ count → AreEight eight (in_pieces front later blank count) first
+pub eight_early : {A : Type 0} (front eight : List A) (later : List (List A)) (blank : A) (count first : ℕ) → length front ≤ 512 → first + 8 ≤ length front → eight ≡ slice_range front first (first + 8) → first + 8 ≤ count → AreEight eight (in_pieces front later blank count) first
 eight_early front eight later blank count first short written is inside =
     let long : length (slice_range front first (first + 8)) ≡ 8 = omega (arith, length-take (first + 8 - first) (drop first front), length-drop first front) in (
       ap length is ∙ long,
@@ -91,6 +91,12 @@ in_pieces-longer front later blank count items none =
       | inr past ↦ get_or_past (in_pieces front later blank count) k blank (omega (arith, long)) ∙ sym (none k past)
     ]))
 
+-- pieces in which the same stands at each number are the same list
+pub in_pieces-same : {A : Type 0} (front others : List A) (later those : List (List A)) (blank : A) (count : ℕ) → ((k : ℕ) → item_at others those blank k ≡ item_at front later blank k) → in_pieces others those blank count ≡ in_pieces front later blank count
+in_pieces-same front others later those blank count is =
+    sym (fill_by_all (item_at others those blank) (in_pieces front later blank count) count blank (length-in_pieces front later blank count)
+    (λ k below. get_or-in_pieces front later blank count k below ∙ sym (is k)))
+
 -- pieces with another item at a number are a list with that item
 pub in_pieces-set : {A : Type 0} (front others : List A) (later those : List (List A)) (blank : A) (count number : ℕ) (s : A) → number < count → ((k : ℕ) → item_at others those blank k ≡ (if nat_eq k number then s else item_at front later blank k)) → in_pieces others those blank count ≡ set (in_pieces front later blank count) number s
 in_pieces-set front others later those blank count number s inside is =
@@ -111,13 +117,13 @@ in_pieces-set front others later those blank count number s inside is =
 -- pieces to which nothing was written are blank
 pub later_item-none : {A : Type 0} (later : List (List A)) → ((j : ℕ) → j < length later → get_or later j [] ≡ []) → (number : ℕ) (blank : A) → later_item later number blank ≡ blank
 later_item-none later none number blank =
-    elim (cases_lt number 1024) [
+    elim (cases_lt number 512) [
       | inl early ↦ later_item-early later number blank early
       | inr late ↦
           later_item-late later number blank late
-          ∙ ap (λ xs. get_or xs (number % 1024) blank) (elim (cases_lt (number / 1024 - 1) (length later)) [
-            | inl inside ↦ none (number / 1024 - 1) inside
-            | inr past ↦ get_or_past later (number / 1024 - 1) [] past
+          ∙ ap (λ xs. get_or xs (number % 512) blank) (elim (cases_lt (number / 512 - 1) (length later)) [
+            | inl inside ↦ none (number / 512 - 1) inside
+            | inr past ↦ get_or_past later (number / 512 - 1) [] past
           ])
     ]
 
@@ -129,36 +135,36 @@ get_or-nothing (suc j) = refl
 -- a piece that is added changes nothing
 pub later_item-added : {A : Type 0} (later : List (List A)) (number : ℕ) (blank : A) → later_item (later ++ [] ∷ []) number blank ≡ later_item later number blank
 later_item-added later number blank =
-    elim (cases_lt number 1024) [
+    elim (cases_lt number 512) [
       | inl early ↦ later_item-early (later ++ [] ∷ []) number blank early ∙ sym (later_item-early later number blank early)
       | inr late ↦
           later_item-late (later ++ [] ∷ []) number blank late
-          ∙ ap (λ xs. get_or xs (number % 1024) blank) (elim (cases_lt (number / 1024 - 1) (length later)) [
-            | inl inside ↦ get_or_append_left later ([] ∷ []) [] (number / 1024 - 1) inside
+          ∙ ap (λ xs. get_or xs (number % 512) blank) (elim (cases_lt (number / 512 - 1) (length later)) [
+            | inl inside ↦ get_or_append_left later ([] ∷ []) [] (number / 512 - 1) inside
             | inr past ↦
-                get_or-append_right later ([] ∷ []) (length later) (number / 1024 - 1) [] refl past
-                ∙ get_or-nothing (number / 1024 - 1 - length later)
-                ∙ sym (get_or_past later (number / 1024 - 1) [] past)
+                get_or-append_right later ([] ∷ []) (length later) (number / 512 - 1) [] refl past
+                ∙ get_or-nothing (number / 512 - 1 - length later)
+                ∙ sym (get_or_past later (number / 512 - 1) [] past)
           ])
           ∙ sym (later_item-late later number blank late)
     ]
 
 -- each number below the room has its piece
-pub piece_there : (count capacity later number : ℕ) → count ≤ room_in_pieces capacity later → number < count → 1024 ≤ number → number / 1024 - 1 < later
+pub piece_there : (count capacity later number : ℕ) → count ≤ room_in_pieces capacity later → number < count → 512 ≤ number → number / 512 - 1 < later
 piece_there count capacity later number fits inside late =
-    elim (cases_lt capacity 1024) [
+    elim (cases_lt capacity 512) [
       | inl low ↦
-          let room : room_in_pieces capacity later ≡ capacity = cond-true _ _ _ (lt-ltb capacity 1024 low) in
+          let room : room_in_pieces capacity later ≡ capacity = cond-true _ _ _ (lt-ltb capacity 512 low) in
           absurd (omega arith)
       | inr high ↦
-          let room : room_in_pieces capacity later ≡ 1024 + 1024 * later = cond-false _ _ _ (le-ltb capacity 1024 high) in
+          let room : room_in_pieces capacity later ≡ 512 + 512 * later = cond-false _ _ _ (le-ltb capacity 512 high) in
           omega arith
     ]
 
 -- an item that is put into the first piece
-pub set_early : {A : Type 0} (front others : List A) (later : List (List A)) (blank : A) (number : ℕ) (s : A) → number < 1024 → ((k : ℕ) → get_or others k blank ≡ (if nat_eq k number then s else get_or front k blank)) → (k : ℕ) → item_at others later blank k ≡ (if nat_eq k number then s else item_at front later blank k)
+pub set_early : {A : Type 0} (front others : List A) (later : List (List A)) (blank : A) (number : ℕ) (s : A) → number < 512 → ((k : ℕ) → get_or others k blank ≡ (if nat_eq k number then s else get_or front k blank)) → (k : ℕ) → item_at others later blank k ≡ (if nat_eq k number then s else item_at front later blank k)
 set_early front others later blank number s early is k =
-    elim (cases_lt k 1024) [
+    elim (cases_lt k 512) [
       | inl low ↦
           item_at-early others later blank k low
           ∙ is k
@@ -198,37 +204,37 @@ get_or-put_late written place s blank k =
     ]
 
 -- an item that is put into a piece behind the first is put there among those behind it
-later_item-set : {A : Type 0} (later : List (List A)) (blank : A) (number : ℕ) (s : A) → 1024 ≤ number → number / 1024 - 1 < length later → (k : ℕ) → 1024 ≤ k → later_item (set later (number / 1024 - 1) (put_late (get_or later (number / 1024 - 1) []) (number % 1024) s blank)) k blank ≡ (if nat_eq k number then s else later_item later k blank)
+later_item-set : {A : Type 0} (later : List (List A)) (blank : A) (number : ℕ) (s : A) → 512 ≤ number → number / 512 - 1 < length later → (k : ℕ) → 512 ≤ k → later_item (set later (number / 512 - 1) (put_late (get_or later (number / 512 - 1) []) (number % 512) s blank)) k blank ≡ (if nat_eq k number then s else later_item later k blank)
 later_item-set later blank number s late there k high =
-    let piece = get_or later (number / 1024 - 1) [] in
-    let others = set later (number / 1024 - 1) (put_late piece (number % 1024) s blank) in
+    let piece = get_or later (number / 512 - 1) [] in
+    let others = set later (number / 512 - 1) (put_late piece (number % 512) s blank) in
     later_item-late others k blank high
-    ∙ elim (cases_eq (k / 1024 - 1) (number / 1024 - 1)) [
+    ∙ elim (cases_eq (k / 512 - 1) (number / 512 - 1)) [
       | inl same ↦
-          ap (λ j. get_or (get_or others j []) (k % 1024) blank) same
-          ∙ ap (λ xs. get_or xs (k % 1024) blank) (get_or-set_same later (number / 1024 - 1) (put_late piece (number % 1024) s blank) [] there)
-          ∙ get_or-put_late piece (number % 1024) s blank (k % 1024)
+          ap (λ j. get_or (get_or others j []) (k % 512) blank) same
+          ∙ ap (λ xs. get_or xs (k % 512) blank) (get_or-set_same later (number / 512 - 1) (put_late piece (number % 512) s blank) [] there)
+          ∙ get_or-put_late piece (number % 512) s blank (k % 512)
           ∙ elim (cases_eq k number) [
             | inl equal ↦
-                cond-true _ _ _ (eq-eqb (k % 1024) (number % 1024) (ap (λ k. k % 1024) equal)) ∙ sym (cond-true _ _ _ (eq-eqb k number equal))
+                cond-true _ _ _ (eq-eqb (k % 512) (number % 512) (ap (λ k. k % 512) equal)) ∙ sym (cond-true _ _ _ (eq-eqb k number equal))
             | inr other ↦
-                cond-false _ _ _ (ne_eqb (k % 1024) (number % 1024) (λ alike. other (omega arith)))
-                ∙ ap (λ j. get_or (get_or later j []) (k % 1024) blank) (sym same)
+                cond-false _ _ _ (ne_eqb (k % 512) (number % 512) (λ alike. other (omega arith)))
+                ∙ ap (λ j. get_or (get_or later j []) (k % 512) blank) (sym same)
                 ∙ sym (cond-false _ _ _ (ne_eqb k number other) ∙ later_item-late later k blank high)
           ]
       | inr other ↦
-          ap (λ xs. get_or xs (k % 1024) blank) (get_or-set_other later (number / 1024 - 1) (k / 1024 - 1) (put_late piece (number % 1024) s blank) [] other)
-          ∙ sym (cond-false _ _ _ (ne_eqb k number (λ equal. other (ap (λ k. k / 1024 - 1) equal))) ∙ later_item-late later k blank high)
+          ap (λ xs. get_or xs (k % 512) blank) (get_or-set_other later (number / 512 - 1) (k / 512 - 1) (put_late piece (number % 512) s blank) [] other)
+          ∙ sym (cond-false _ _ _ (ne_eqb k number (λ equal. other (ap (λ k. k / 512 - 1) equal))) ∙ later_item-late later k blank high)
     ]
 
 -- so it is put into the list, by one piece that has changed
-pub set_late : {A : Type 0} (front before after : List A) (later : List (List A)) (blank : A) (number : ℕ) (s : A) → 1024 ≤ number → number / 1024 - 1 < length later → before ≡ get_or later (number / 1024 - 1) before → after ≡ put_late before (number % 1024) s blank → (k : ℕ) → item_at front (set later (number / 1024 - 1) after) blank k ≡ (if nat_eq k number then s else item_at front later blank k)
+pub set_late : {A : Type 0} (front before after : List A) (later : List (List A)) (blank : A) (number : ℕ) (s : A) → 512 ≤ number → number / 512 - 1 < length later → before ≡ get_or later (number / 512 - 1) before → after ≡ put_late before (number % 512) s blank → (k : ℕ) → item_at front (set later (number / 512 - 1) after) blank k ≡ (if nat_eq k number then s else item_at front later blank k)
 set_late front before after later blank number s late there was is k =
-    let place = number / 1024 - 1 in
-    let put = put_late (get_or later place []) (number % 1024) s blank in
-    let same : after ≡ put = is ∙ ap (λ xs. put_late xs (number % 1024) s blank) (get_or_read later place before there was []) in
+    let place = number / 512 - 1 in
+    let put = put_late (get_or later place []) (number % 512) s blank in
+    let same : after ≡ put = is ∙ ap (λ xs. put_late xs (number % 512) s blank) (get_or_read later place before there was []) in
     ap (λ piece. item_at front (set later place piece) blank k) same
-    ∙ elim (cases_lt k 1024) [
+    ∙ elim (cases_lt k 512) [
       | inl low ↦
           item_at-early front (set later place put) blank k low
           ∙ sym (cond-false _ _ _ (ne_eqb k number (λ same. omega arith)) ∙ item_at-early front later blank k low)

@@ -54,12 +54,12 @@ slice_get-lengthened xs n x k inside =
     ∙ sym (slice_get-get_or xs k x inside)
 
 -- an element that was put into a list is there
-slice_get-set_same : {A : Type 0} (xs : List A) (k : ℕ) (x : A) → k < length xs → slice_get (set xs k x) k ≡ Some x
+pub slice_get-set_same : {A : Type 0} (xs : List A) (k : ℕ) (x : A) → k < length xs → slice_get (set xs k x) k ≡ Some x
 slice_get-set_same xs k x inside =
     slice_get-get_or (set xs k x) k x (omega (arith, length-set xs k x)) ∙ ap Some (get_or-set_same xs k x x inside)
 
 -- an element that is put into a list leaves the others
-slice_get-set_other : {A : Type 0} (xs : List A) (k j : ℕ) (x : A) → j ≢ k → slice_get (set xs k x) j ≡ slice_get xs j
+pub slice_get-set_other : {A : Type 0} (xs : List A) (k j : ℕ) (x : A) → j ≢ k → slice_get (set xs k x) j ≡ slice_get xs j
 slice_get-set_other xs k j x other =
     elim (cases_lt j (length xs)) [
       | inl inside ↦ slice_get-get_or (set xs k x) j x (omega (arith, length-set xs k x)) ∙ ap Some (get_or-set_other xs k j x x other) ∙ sym (slice_get-get_or xs j x inside)
@@ -123,7 +123,7 @@ kept_by-put stamps summaries number version s k inside there =
     ]
 
 -- what a stamp says, beside another summary
-kept_by-beside : {S : Type 0} (stamp : ℕ) (s t : S) → kept_by stamp (Some s) ≡ beside s (kept_by stamp (Some t))
+pub kept_by-beside : {S : Type 0} (stamp : ℕ) (s t : S) → kept_by stamp (Some s) ≡ beside s (kept_by stamp (Some t))
 kept_by-beside stamp s t =
     elim (cases_lt 0 stamp) [
       | inl some ↦ kept_by-some stamp s some ∙ ap (beside s) (sym (kept_by-some stamp t some))

@@ -6,4 +6,6 @@ mod LateLaws
 pub mod LearntLaws
 mod LevelLaws
 mod NodeRows
+mod RunLaws
+mod Runs
 pub mod TableLaws

@@ -1,5 +1,5 @@
 -- What the calls of a table of summaries change, node by node.
-use Rattle.std.specs.Prelude.{◌≡◌, ℕ, true, ◌&&◌, Option, Some, option_map, List, if◌then◌else◌}
+use Rattle.std.specs.Prelude.{◌≡◌, ℕ, ◌+◌, Bool, true, false, ◌&&◌, Option, Some, option_map, List, length, slice_get, nat_eq, nat_le, nat_lt, if◌then◌else◌}
 use Rattle.std.specs.List.{list_any}
 use Rattle.lv_geometry.specs.declared.nodes.Node.{Node}
 use Rattle.lv_geometry.specs.Nodes.{covers, is_node, same_node}
@@ -58,6 +58,23 @@ pub record Learns {S : Type 0} (old new : Table S) (node : Node) (s : S) : Type 
   pub touched : (n : Node) → touched_in new n ≡ touched_in old n
   pub computed : (n : Node) → computed_in new n ≡ (if same_node n node then Some (touched_in old node, s) else computed_in old n)
   pub kept : (n : Node) → kept_in new n ≡ (if same_node n node then beside s (kept_in old n) else kept_in old n)
+
+-- whether a node is one of so many of a level side by side, from one on
+abbrev pub is_in_run : ℕ → ℕ → ℕ → Node → Bool
+is_in_run level first count n = nat_eq n.level level && nat_le first n.number && nat_lt n.number (first + count)
+
+-- summaries of their nodes' touched numbers were put in place of what was kept for nodes of a level side by side, from one on, and
+-- nothing else has changed
+pub record KeepsRun {S : Type 0} (old new : Table S) (level first : ℕ) (summaries : List S) : Type 0 where
+  pub size : new.size ≡ old.size
+  pub blocks : blocks_in new ≡ blocks_in old
+  pub touched : (n : Node) → touched_in new n ≡ touched_in old n
+  pub kept : (k : ℕ) (s : S) → slice_get summaries k ≡ Some s →
+      kept_in new (record { level = level; number = first + k }) ≡ Some (touched_in old (record { level = level; number = first + k }), s)
+  pub computed : (k : ℕ) (s : S) → slice_get summaries k ≡ Some s →
+      computed_in new (record { level = level; number = first + k }) ≡ beside s (computed_in old (record { level = level; number = first + k }))
+  pub others_kept : (n : Node) → is_in_run level first (length summaries) n ≡ false → kept_in new n ≡ kept_in old n
+  pub others_computed : (n : Node) → is_in_run level first (length summaries) n ≡ false → computed_in new n ≡ computed_in old n
 
 -- a table learnt some summaries, if any: all that was delivered is as before, and what was known still is
 pub record OnlyLearns {S : Type 0} (old new : Table S) : Type 0 where

@@ -1,5 +1,5 @@
 -- What the fields of `Summaries` keep, and how one of its levels is seen and changed.
-use Rattle.std.specs.Prelude.{◌≡◌, ℕ, ◌+◌, ◌-◌, ◌*◌, ◌/◌, ◌%◌, ◌^◌, ◌<◌, ◌≤◌, true, Some, List, [], ◌∷◌, ◌++◌, length, map, nat_lt, replicate, slice_get, slice_index, slice_set, All, if◌then◌else◌}
+use Rattle.std.specs.Prelude.{◌≡◌, ℕ, ◌+◌, ◌-◌, ◌*◌, ◌/◌, ◌%◌, ◌^◌, ◌<◌, ◌≤◌, ◌&&◌, true, false, Option, Some, List, [], ◌∷◌, ◌++◌, length, map, nat_le, nat_lt, replicate, slice_get, slice_index, slice_set, All, if◌then◌else◌}
 use Rattle.std.specs.List.{range_with_len, slice_index_or}
 use Rattle.lv_geometry.specs.declared.levels.Levels.{Levels}
 use Rattle.lv_geometry.specs.declared.nodes.Node.{Node}
@@ -30,11 +30,11 @@ AreEight eight xs first = (length eight ≡ 8) × ((k : ℕ) → k < 8 → slice
 -- what stands at a number in the pieces behind the first; the blank where nothing was written
 abbrev pub later_item : {S : Type 0} → List (List S) → ℕ → S → S
 later_item later number blank =
-    if nat_lt number 1024 then blank else slice_index_or (slice_index_or later (number / 1024 - 1) []) (number % 1024) blank
+    if nat_lt number 512 then blank else slice_index_or (slice_index_or later (number / 512 - 1) []) (number % 512) blank
 
 -- what stands at a number: in the first piece, or behind it
 abbrev pub item_at : {S : Type 0} → List S → List (List S) → S → ℕ → S
-item_at front later blank k = if nat_lt k 1024 then slice_index_or front k blank else later_item later k blank
+item_at front later blank k = if nat_lt k 512 then slice_index_or front k blank else later_item later k blank
 
 -- so many items in pieces
 abbrev pub in_pieces : {S : Type 0} → List S → List (List S) → S → ℕ → List S
@@ -42,17 +42,27 @@ in_pieces front later blank count = map (item_at front later blank) (range_with_
 
 -- for how many items there is memory, by that of the first piece and how many there are behind it
 abbrev pub room_in_pieces : ℕ → ℕ → ℕ
-room_in_pieces capacity later = if nat_lt capacity 1024 then capacity else 1024 + 1024 * later
+room_in_pieces capacity later = if nat_lt capacity 512 then capacity else 512 + 512 * later
 
 -- eight neighbours behind the first piece, from one on
 abbrev pub AreLaterEight : {S : Type 0} → List S → List (List S) → ℕ → Type 0
 AreLaterEight {S} eight later first =
-    (1024 ≤ first) × (length eight ≡ 8) × ((k : ℕ) → k < 8 → (blank : S) → slice_get eight k ≡ Some (later_item later (first + k) blank))
+    (512 ≤ first) × (length eight ≡ 8) × ((k : ℕ) → k < 8 → (blank : S) → slice_get eight k ≡ Some (later_item later (first + k) blank))
 
 -- a piece with an item at a place, and with blanks before it where nothing was written
 abbrev pub put_late : {S : Type 0} → List S → ℕ → S → S → List S
 put_late written place s blank =
     if nat_lt place (length written) then slice_set written place s else lengthened written place blank ++ s ∷ []
+
+-- a list in which so many items stand from a number on, each told by its place among them; all else is as before
+pub record HasItems {A : Type 0} (old new : List A) (first count : ℕ) (item : ℕ → Option A) : Type 0 where
+  pub long : length new ≡ length old
+  pub item_is : (k : ℕ) → k < count → slice_get new (first + k) ≡ item k
+  pub others : (k : ℕ) → (nat_le first k && nat_lt k (first + count)) ≡ false → slice_get new k ≡ slice_get old k
+
+-- a list in which a part stands from a number on; all else is as before
+abbrev pub HasPart : {A : Type 0} → List A → List A → ℕ → List A → Type 0
+HasPart old new first part = HasItems old new first (length part) (slice_get part)
 
 -- rows with further ones, n in all, which nothing touched and for which nothing is kept
 abbrev pub filled : {S : Type 0} → Rows S → ℕ → S → Rows S
@@ -90,6 +100,13 @@ with_kept rows number version s =
 abbrev pub with_learnt : {S : Type 0} → Rows S → ℕ → S → Rows S
 with_learnt rows number s =
     record rows { computed = slice_set rows.computed number (slice_index rows.touched number + 1); kept = slice_set rows.kept number s }
+
+-- rows with summaries of their nodes' touched numbers for nodes side by side, from one on; all else is as before
+pub record KeepsRows {S : Type 0} (old new : Rows S) (first : ℕ) (summaries : List S) : Type 0 where
+  pub touched : new.touched ≡ old.touched
+  pub computed : new.computed ≡ old.computed
+  pub kept : HasPart old.kept new.kept first summaries
+  pub stamps : HasItems old.stamps new.stamps first (length summaries) (λ k. Some (slice_index old.touched (first + k) + 1))
 
 -- a table of six levels
 abbrev pub table_of : {S : Type 0} → ℕ → Levels (LevelState S) → Table S

@@ -1,13 +1,14 @@
 //! Rows that cost addresses alone until they are written.
-ghost use Rattle.std.specs.Prelude.{◌≡◌, ℕ, ◌+◌, ◌*◌, ◌<◌, ◌≤◌, ◌++◌, [], ◌∷◌, length, min, replicate, nat_eq, true, false, slice_get, slice_set, Some, IfSome, vec_capacity, if◌then◌else◌};
+ghost use Rattle.std.specs.Prelude.{◌≡◌, ℕ, ◌+◌, ◌*◌, ◌%◌, ◌<◌, ◌≤◌, ◌++◌, [], ◌∷◌, length, min, replicate, nat_eq, true, false, slice_get, slice_set, Some, IfSome, vec_capacity, if◌then◌else◌};
 ghost use Rattle.std.specs.List.{slice_index_or};
-ghost use Rattle.lv_summary.specs.Inner.{AreEight, AreLaterEight, item_at, later_item, lengthened};
+ghost use Rattle.lv_summary.specs.Inner.{AreEight, AreLaterEight, HasPart, item_at, later_item, lengthened};
 
 use crate::pieces::{PIECE, Piece};
 use std::alloc::{AllocError, Global};
 use std::marker::Model;
+use std::mem;
 
-/// A list of which some was written; the rest of it is blank, and costs addresses alone until it is written. It lies in pieces of 1,024
+/// A list of which some was written; the rest of it is blank, and costs addresses alone until it is written. It lies in pieces of 512
 /// items, so that little is written to reach one far behind.
 #[derive(Drop)]
 pub struct LateRows<S> {
@@ -27,7 +28,7 @@ impl<S> Model for LateRows<S> {
     ghost view = { λ a. record { items = in_pieces a.front.items a.later.items a.blank a.count; capacity = room_in_pieces (vec_capacity a.front) (length a.later.items); blank = a.blank } };
 
     ghost invariant = { λ a. (a.count ≤ room_in_pieces (vec_capacity a.front) (length a.later.items))
-        × (length a.front.items ≤ min a.count 1024)
+        × (length a.front.items ≤ min a.count 512)
         × (a.count < 18446744073709551616)
         × ((k : ℕ) → a.count ≤ k → item_at a.front.items a.later.items a.blank k ≡ a.blank) };
 }
@@ -116,12 +117,28 @@ impl<S: Copy> LateRows<S> {
             self.later[number / PIECE - 1].set(number % PIECE, s, self.blank);
         }
     }
+
+    /// Puts a whole piece of items in the place of those from a number on, by taking their memory: none is copied. The memory of those
+    /// goes to who gave them, with whatever lay there. Takes no memory.
+    pub fn adopt(&mut self, first: usize, items: &mut Vec<S>)
+        requires whole { length items.old.items ≡ 512 }
+        requires aligned { first % 512 ≡ 0 }
+        requires inside { first + 512 ≤ length self.old.items }
+        ensures items { HasPart self.old.items self.new.items first items.old.items }
+        ensures blank { self.new.blank ≡ self.old.blank }
+    {
+        if first < PIECE {
+            mem::swap(&mut self.front, items);
+        } else {
+            self.later[first / PIECE - 1].swap(items);
+        }
+    }
 }
 
 // The item at a number, where it lies: so it is copied once.
 #[inline(always)]
 fn item_of<'a, S: Copy>(front: &'a [S], later: &'a [Piece<S>], number: usize, blank: &'a S) -> &'a S
-    requires { length front.now ≤ 1024 }
+    requires { length front.now ≤ 512 }
     ensures { result.now ≡ item_at front.now later.now blank.now number }
 {
     match front.get(number) {
@@ -163,11 +180,11 @@ fn later_eight<S: Copy>(later: &[Piece<S>], first: usize) -> Option<&[S]>
 #[inline(always)]
 fn set_front<S: Copy>(front: &mut Vec<S>, count: usize, number: usize, s: S, blank: S)
     requires inside { number < count }
-    requires first { number < 1024 }
-    requires memory { min count 1024 ≤ vec_capacity front.old }
-    requires few { length front.old.items ≤ min count 1024 }
+    requires first { number < 512 }
+    requires memory { min count 512 ≤ vec_capacity front.old }
+    requires few { length front.old.items ≤ min count 512 }
     ensures items { (k : ℕ) → slice_index_or front.new.items k blank ≡ (if nat_eq k number then s else slice_index_or front.old.items k blank) }
-    ensures few { length front.new.items ≤ min count 1024 }
+    ensures few { length front.new.items ≤ min count 512 }
     ensures capacity { vec_capacity front.old ≤ vec_capacity front.new }
 {
     if number >= front.len() {
@@ -193,7 +210,7 @@ pub(crate) fn write_blanks<S: Copy>(front: &mut Vec<S>, items: usize, blank: S)
 fn reserve_later<S: Copy>(alloc: Global, later: &mut Vec<Piece<S>>, items: usize) -> bool
     ensures same { (number : ℕ) (blank : S) → later_item later.new.items number blank ≡ later_item later.old.items number blank }
     ensures more { length later.old.items ≤ length later.new.items }
-    ensures room { result ≡ true → items ≤ 1024 + 1024 * length later.new.items }
+    ensures room { result ≡ true → items ≤ 512 + 512 * length later.new.items }
 {
     let more = (items.saturating_sub(1) / PIECE).saturating_sub(later.len());
     for _piece in 0..more {

@@ -1,7 +1,7 @@
 //! The rows of one level: which edit touched a node, and what is kept for it.
-ghost use Rattle.std.specs.Prelude.{◌≡◌, ℕ, ◌+◌, ◌-◌, ◌<◌, ◌≤◌, ◌++◌, ◌==◌, ◌||◌, length, replicate, true, false, slice_index, slice_get, Some, OnOk, IfErr, IfSome, IfNone, vec_len, vec_capacity};
+ghost use Rattle.std.specs.Prelude.{◌≡◌, ℕ, ◌+◌, ◌-◌, ◌%◌, ◌<◌, ◌≤◌, ◌++◌, ◌==◌, ◌||◌, length, replicate, true, false, slice_index, slice_get, Some, OnOk, IfErr, IfSome, IfNone, vec_len, vec_capacity};
 ghost use Rattle.std.specs.List.{list_all, range_with_len};
-ghost use Rattle.lv_summary.specs.Inner.{AreEight, filled, with_kept, with_learnt, with_touch};
+ghost use Rattle.lv_summary.specs.Inner.{AreEight, HasItems, HasPart, KeepsRows, filled, with_kept, with_learnt, with_touch};
 ghost use Rattle.lv_summary.specs.Table.{no_rows};
 
 use crate::late_rows::LateRows;
@@ -162,6 +162,34 @@ impl<S: Copy> Level<S> {
         self.kept.set(number as usize, s);
     }
 
+    /// Puts summaries of their nodes' touched numbers in the rows of nodes side by side, from one on.
+    pub fn keep_run(&mut self, first: u32, summaries: &[S])
+        requires touched { first + length summaries.now ≤ length self.old.rows.touched }
+        requires stamps { first + length summaries.now ≤ length self.old.rows.stamps }
+        requires kept { first + length summaries.now ≤ length self.old.rows.kept }
+        requires edits { (k : ℕ) → k < length summaries.now → slice_index self.old.rows.touched (first + k) ≤ 16777215 }
+        ensures { KeepsRows self.old.rows self.new.rows first summaries.now }
+    {
+        let first = first as usize;
+        stamp_run(&mut self.stamps, &self.touched, first, summaries.len());
+        put_run(&mut self.kept, first, summaries);
+    }
+
+    /// The same of a whole piece of rows, whose memory takes the place of the rows' own.
+    pub fn adopt(&mut self, first: u32, summaries: &mut Vec<S>)
+        requires whole { length summaries.old.items ≡ 512 }
+        requires aligned { first % 512 ≡ 0 }
+        requires touched { first + 512 ≤ length self.old.rows.touched }
+        requires stamps { first + 512 ≤ length self.old.rows.stamps }
+        requires kept { first + 512 ≤ length self.old.rows.kept }
+        requires edits { (k : ℕ) → k < 512 → slice_index self.old.rows.touched (first + k) ≤ 16777215 }
+        ensures { KeepsRows self.old.rows self.new.rows first summaries.old.items }
+    {
+        let first = first as usize;
+        stamp_run(&mut self.stamps, &self.touched, first, summaries.len());
+        self.kept.adopt(first, summaries);
+    }
+
     /// Puts a summary that was computed at its touched number in the row of a node.
     pub fn learn(&mut self, number: u32, s: S)
         requires touched { number < length self.old.rows.touched }
@@ -230,4 +258,28 @@ fn lengthen<T: Copy>(list: &mut Vec<T>, items: usize, item: T)
     let Ok(()) = list.resize(items, item) else {
         unreachable!()
     };
+}
+
+// Notes that summaries of the touched numbers were delivered for so many nodes, from one on.
+fn stamp_run(stamps: &mut Vec<u32>, touched: &[u32], first: usize, count: usize)
+    requires touched { first + count ≤ length touched.now }
+    requires stamps { first + count ≤ length stamps.old.items }
+    requires edits { (k : ℕ) → k < count → slice_index touched.now (first + k) ≤ 16777215 }
+    ensures { HasItems stamps.old.items stamps.new.items first count (λ k. Some (slice_index touched.now (first + k) + 1)) }
+{
+    for k in 0..count {
+        stamps[first + k] = touched[first + k] + 1;
+    }
+}
+
+// Puts summaries in rows side by side, from one on.
+fn put_run<S: Copy>(kept: &mut LateRows<S>, first: usize, summaries: &[S])
+    requires inside { first + length summaries.now ≤ length kept.old.items }
+    requires fits { first + length summaries.now < 18446744073709551616 }
+    ensures items { HasPart kept.old.items kept.new.items first summaries.now }
+    ensures blank { kept.new.blank ≡ kept.old.blank }
+{
+    for k in 0..summaries.len() {
+        kept.set(first + k, summaries[k]);
+    }
 }

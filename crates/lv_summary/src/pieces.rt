@@ -1,4 +1,4 @@
-//! Pieces of rows: memory for 1,024 rows each, of which a front was written.
+//! Pieces of rows: memory for 512 rows each, of which a front was written.
 ghost use Rattle.std.specs.Prelude.{◌≡◌, [], ◌+◌, ◌<◌, ◌≤◌, ◌++◌, ◌∷◌, IfOk, IfSome, length, vec_capacity};
 ghost use Rattle.std.specs.List.{slice_index_or};
 ghost use Rattle.lv_summary.specs.Inner.{AreEight, lengthened, put_late};
@@ -6,9 +6,10 @@ ghost use Rattle.lv_summary.specs.Inner.{AreEight, lengthened, put_late};
 use crate::late_rows::write_blanks;
 use std::alloc::{AllocError, Global};
 use std::marker::Model;
+use std::mem;
 
 /// How many rows a piece has.
-pub const PIECE: usize = 1024;
+pub const PIECE: usize = 512;
 
 /// Memory for the rows of a piece, of which a front was written.
 #[derive(Drop)]
@@ -23,7 +24,7 @@ impl<S> Model for Piece<S> {
 
     ghost view = { λ a. a.written.items };
 
-    ghost invariant = { λ a. 1024 ≤ vec_capacity a.written };
+    ghost invariant = { λ a. 512 ≤ vec_capacity a.written };
 }
 
 impl<S: Copy> Piece<S> {
@@ -46,7 +47,7 @@ impl<S: Copy> Piece<S> {
     /// Eight rows, from a place on; none where one of them wasn't written.
     #[inline(always)]
     pub fn eight(&self, first: usize) -> Option<&[S]>
-        requires { first + 8 ≤ 1024 }
+        requires { first + 8 ≤ 512 }
         ensures written { IfSome result (λ eight. first + 8 ≤ length self.now) }
         ensures eight { IfSome result (λ eight. AreEight eight.now self.now first) }
     {
@@ -59,7 +60,7 @@ impl<S: Copy> Piece<S> {
     /// Writes a row at a place, and blanks before it that weren't written.
     #[inline(always)]
     pub fn set(&mut self, place: usize, s: S, blank: S)
-        requires { place < 1024 }
+        requires { place < 512 }
         ensures { self.new ≡ put_late self.old place s blank }
     {
         if place < self.written.len() {
@@ -67,6 +68,14 @@ impl<S: Copy> Piece<S> {
         } else {
             push_late(&mut self.written, place, s, blank);
         }
+    }
+
+    /// Puts a whole piece of rows in the place of its own. Its own memory goes to who gave them, with whatever lay there.
+    pub fn swap(&mut self, rows: &mut Vec<S>)
+        requires { length rows.old.items ≡ 512 }
+        ensures { self.new ≡ rows.old.items }
+    {
+        mem::swap(&mut self.written, rows);
     }
 
     /// Makes every row blank. Writes none of them.

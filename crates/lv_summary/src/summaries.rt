@@ -1,10 +1,10 @@
 //! The table of summaries: what is kept for each node.
-ghost use Rattle.std.specs.Prelude.{◌≡◌, ℕ, length, slice_get, ◌/◌, ◌*◌, ◌<◌, ◌≤◌, ◌&&◌, not, true, false, option_map, Some, None, OnOk, OnErr, IfErr, IfSome, IfNone};
+ghost use Rattle.std.specs.Prelude.{◌≡◌, ℕ, length, slice_get, ◌+◌, ◌/◌, ◌%◌, ◌*◌, ◌^◌, ◌<◌, ◌≤◌, ◌&&◌, not, true, false, option_map, Some, None, OnOk, OnErr, IfErr, IfSome, IfNone};
 ghost use Rattle.std.specs.List.{list_all, range_with_len};
 ghost use Rattle.lv_geometry.specs.Nodes.{child};
 ghost use Rattle.lv_summary.specs.declared.accepted.Accepted.TheVariants.{Installed};
 ghost use Rattle.lv_summary.specs.Inner.{AreFilled, HaveRoom, HaveSameRows};
-ghost use Rattle.lv_summary.specs.Changes.{AfterDelivery, AnswersAlike, HasSize, Keeps, Learns, Touches};
+ghost use Rattle.lv_summary.specs.Changes.{AfterDelivery, AnswersAlike, HasSize, Keeps, KeepsRun, Learns, Touches};
 ghost use Rattle.lv_summary.specs.Table.{blocks_in, computed_in, delivery_in, entry_in, fresh_in, kept_in, known_entry_in, touched_in, whole_in};
 
 use crate::accepted::Accepted;
@@ -232,6 +232,27 @@ impl<S: Copy> Summaries<S> {
         ensures { Keeps self.old self.new node version s }
     {
         self.levels.at_mut(node.level).keep(node.number, version, s);
+    }
+
+    /// Keeps summaries of their nodes' touched numbers for nodes of a level side by side, from one on. Takes no memory.
+    pub fn keep_run(&mut self, level: u32, first: u32, summaries: &[S])
+        requires low { 1 ≤ level }
+        requires high { level ≤ 6 }
+        requires inside { (first + length summaries.now) * 8 ^ level ≤ self.old.size }
+        ensures { KeepsRun self.old self.new level first summaries.now }
+    {
+        self.levels.at_mut(level).keep_run(first, summaries);
+    }
+
+    /// The same of 512 blocks, from a multiple of 512 on, by taking the memory of their summaries: none is copied. The memory of what was
+    /// kept goes to who gave them, with whatever lay there. Takes no memory.
+    pub fn adopt_blocks(&mut self, first: u32, summaries: &mut Vec<S>)
+        requires whole { length summaries.old.items ≡ 512 }
+        requires aligned { first % 512 ≡ 0 }
+        requires inside { (first + 512) * 8 ≤ self.old.size }
+        ensures { KeepsRun self.old self.new 1 first summaries.old.items }
+    {
+        self.levels.level_1.adopt(first, summaries);
     }
 
     /// Keeps a summary that who asks computed for a whole node, so that the node is known until it is touched again. What was

@@ -13,7 +13,7 @@ set_front-requires-clause-few g c = c.self.invariant.1
 pub index_mut-requires : goal.index_mut-requires
 index_mut-requires g c =
     let inside : c.args.number < c.self.inside.count = omega (arith, length-in_pieces c.self.inside.front.items c.self.inside.later.items c.self.inside.blank c.self.inside.count, ap (λ of. length of.items) c.self.view_is) in
-    let there : c.args.number / 1024 - 1 < length c.self.inside.later.items = piece_there c.self.inside.count (vec_capacity c.self.inside.front) (length c.self.inside.later.items) c.args.number c.self.invariant.0 inside c.if-number-lt-PIECE.false in
+    let there : c.args.number / 512 - 1 < length c.self.inside.later.items = piece_there c.self.inside.count (vec_capacity c.self.inside.front) (length c.self.inside.later.items) c.args.number c.self.invariant.0 inside c.if-number-lt-PIECE.false in
     omega arith
 
 pub invariant_of-self-else-number-lt-PIECE : goal.invariant_of-self-else-number-lt-PIECE
@@ -22,7 +22,7 @@ invariant_of-self-else-number-lt-PIECE g c =
     let later = c.self.inside.later.items in
     let count = c.self.inside.count in
     let blank = c.self.inside.blank in
-    let place = c.args.number / 1024 - 1 in
+    let place = c.args.number / 512 - 1 in
     let inside : c.args.number < count = omega (arith, length-in_pieces front later blank count, ap (λ of. length of.items) c.self.view_is) in
     let there : place < length later = piece_there count (vec_capacity c.self.inside.front) (length later) c.args.number c.self.invariant.0 inside c.if-number-lt-PIECE.false in (
       rw (length-set later place c.set.new.self) c.self.invariant.0,
@@ -47,7 +47,7 @@ returns-else-number-lt-PIECE-clause-items g c =
     let later = c.self.inside.later.items in
     let count = c.self.inside.count in
     let blank = c.self.inside.blank in
-    let place = c.args.number / 1024 - 1 in
+    let place = c.args.number / 512 - 1 in
     let inside : c.args.number < count = omega (arith, length-in_pieces front later blank count, ap (λ of. length of.items) c.self.view_is) in
     let there : place < length later = piece_there count (vec_capacity c.self.inside.front) (length later) c.args.number c.self.invariant.0 inside c.if-number-lt-PIECE.false in
     rw (← c.self.view_is) (
