@@ -1,5 +1,5 @@
 -- What a hint at one node makes of claims.
-use Rattle.std.proofs.Common.{◌≡◌, ◌≢◌, ℕ, ◌<◌, ◌≤◌, ◌&&◌, ◌||◌, length, nat_eq, refl, sym, ap, ◌∙◌, inl, inr, arith}
+use Rattle.std.proofs.Common.{◌≡◌, ◌≢◌, ℕ, ◌<◌, ◌≤◌, ◌&&◌, ◌||◌, length, nat_eq, true, refl, sym, ap, ◌∙◌, inl, inr, arith}
 use Rattle.std.proofs.lemmas.Bool.{and_parts, and_right, cases_Bool, cases_eq, eq-eqb, eqb-true, ne_eqb}
 use Rattle.lv_geometry.specs.declared.levels.Levels.{Levels}
 use Rattle.lv_geometry.specs.declared.nodes.Node.{Node}
@@ -87,17 +87,21 @@ module _ (old new : ClaimTable) (k number : ℕ) (hinted : (level : ℕ) → 1 �
         blocks = claim_blocks-same old new (λ level low high. ap length (stamps_stay level low high));
       }
 
--- a hint at the block of an index is at a node of the table
-pub block_hinted : (old new : ClaimTable) (i : ℕ) → HintsNode old new (over 1 i) → (n : Node) → is_hinted new n ≡ same_node n (over 1 i) || is_hinted old n
-block_hinted old new i hinted n =
-    elim (cases_Bool (same_node n (over 1 i))) [
+-- a hint at a node of the table
+pub hinted_there : (old new : ClaimTable) (node : Node) → is_node node ≡ true → HintsNode old new node → (n : Node) → is_hinted new n ≡ same_node n node || is_hinted old n
+hinted_there old new node there hinted n =
+    elim (cases_Bool (same_node n node)) [
       | inl same ↦
-          hinted.hints n ∙ ap (λ member. (member && same_node n (over 1 i)) || is_hinted old n) (node_of_same n (over 1 i) same refl)
+          hinted.hints n ∙ ap (λ member. (member && same_node n node) || is_hinted old n) (node_of_same n node same there)
       | inr other ↦
           hinted.hints n
-          ∙ ap (λ block. block || is_hinted old n) (and_right (is_node n) (same_node n (over 1 i)) other)
-          ∙ ap (λ block. block || is_hinted old n) (sym other)
+          ∙ ap (λ one. one || is_hinted old n) (and_right (is_node n) (same_node n node) other)
+          ∙ ap (λ one. one || is_hinted old n) (sym other)
     ]
+
+-- a hint at the block of an index is at a node of the table
+pub block_hinted : (old new : ClaimTable) (i : ℕ) → HintsNode old new (over 1 i) → (n : Node) → is_hinted new n ≡ same_node n (over 1 i) || is_hinted old n
+block_hinted old new i hinted = hinted_there old new (over 1 i) refl hinted
 
 -- a node above the six levels needs no hint
 pub HintsNode-above : (c : ClaimTable) (node : Node) → 6 < node.level → HintsNode c c node

@@ -19,7 +19,7 @@ module _ {S : Type 0} (o : Operations S) (within : S → ℕ → Type 0) (laws :
       subst (λ k. within (fold o.join (o.join s x) xs) k) (sym size) (joined_within (o.join s x) (n + count) count xs longer (All-tail (λ t. within t count) x xs all) (omega arith))
 
   -- the first k of some summaries, joined from left to right, can be joined with the next
-  can_join_next : (xs : List S) (count k : ℕ) (d : S) → All (λ t. within t count) xs → length xs * count ≤ 2 ^ 20 → k < length xs → CanJoin within (fold o.join o.identity (take k xs)) (get_or xs k d)
+  pub can_join_next : (xs : List S) (count k : ℕ) (d : S) → All (λ t. within t count) xs → length xs * count ≤ 2 ^ 20 → k < length xs → CanJoin within (fold o.join o.identity (take k xs)) (get_or xs k d)
   can_join_next xs count k d all few inside =
       let long : length (take k xs) ≡ k = length-take-le k xs (omega arith) in
       let size : 0 + length (take k xs) * count ≡ k * count = rw long (omega arith) in

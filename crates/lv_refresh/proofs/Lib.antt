@@ -9,6 +9,9 @@ mod NextLaws
 mod OverLaws
 mod PickLaws
 mod RowLaws
+mod SubtreeFolds
+mod SubtreeHints
+mod SubtreeTables
 mod SweepLaws
 mod TurnLaws
 pub mod HonestyLaws

@@ -1,8 +1,8 @@
 -- What a sweep over blocks keeps, and how it is joined from its steps.
-use Rattle.std.proofs.Common.{◌≡◌, ◌≢◌, ◌⊎◌, ℕ, ℤ, zero, suc, ◌+◌, ◌-◌, ◌*◌, ◌/◌, ◌%◌, ◌^◌, ◌<◌, ◌≤◌, true, false, ◌&&◌, ◌||◌, not, if◌then◌else◌, None, Some, List, drop, get_or, length, nat_eq, slice_set, take, refl, sym, ap, subst, ◌∙◌, inl, inr, arith}
+use Rattle.std.proofs.Common.{◌≡◌, ◌⊎◌, ℕ, ℤ, zero, suc, ◌+◌, ◌-◌, ◌*◌, ◌/◌, ◌%◌, ◌^◌, ◌<◌, ◌≤◌, true, false, not, if◌then◌else◌, Some, List, drop, get_or, length, nat_eq, slice_set, take, refl, sym, ap, subst, ◌∙◌, inl, inr, arith}
 use Rattle.std.specs.Prelude.{slice_range}
 use Rattle.std.proofs.lemmas.List.{drop-drop, get_or-set_other, get_or-set_same}
-use Rattle.std.proofs.lemmas.Bool.{and_from, and_parts, cases_Bool, cases_eq, cases_lt, cond-false, cond-true, and_right, eq-eqb, eqb-true, or_left, false_from_ne_true, false≢true, ne_eqb, true≢false}
+use Rattle.std.proofs.lemmas.Bool.{and_from, and_parts, cases_Bool, cases_eq, cond-false, cond-true, and_right, eq-eqb, or_left, false_from_ne_true, false≢true, ne_eqb, true≢false}
 use Rattle.lv_geometry.specs.declared.nodes.Node.{Node}
 use Rattle.lv_geometry.specs.Nodes.{is_node, parent, same_node}
 use Rattle.lv_geometry.proofs.NodeLaws.{at_each_level, level_of_node, node_of_level}
@@ -23,7 +23,7 @@ use Rattle.lv_geometry.specs.Levels.{with_thing}
 use Rattle.lv_refresh.specs.Inner.{AreClaims, CanServe, ClaimLevelState, HintsNode, Picks, ServesNode, UnhintsWord, claims_of, node_at, wants_at, wants_in, with_claim}
 use Rattle.lv_refresh.specs.Marks.{is_marked}
 use Rattle.lv_refresh.specs.Record.{SameRecord}
-use Rattle.lv_refresh.specs.Refreshed.{RefreshesEach, RefreshesNext, RefreshesOne}
+use Rattle.lv_refresh.specs.Refreshed.{RefreshesEach, RefreshesOne}
 use Rattle.lv_refresh.specs.Sweep.{IsSwept, Sweeps}
 use Rattle.lv_refresh.proofs.ComputeLaws.{hints_refreshed, refreshes, whole_served}
 use Rattle.lv_refresh.proofs.HonestyLaws.{whole_of_wanted}

@@ -89,6 +89,12 @@ pub record UnhintsWord (old new : ClaimRows) (word : ℕ) : Type 0 where
   pub hints : (k : ℕ) → is_marked new.hints k ≡ (not (nat_eq (k / 64) word) && is_marked old.hints k)
   pub room : length new.hints ≡ length old.hints
 
+-- the hints at the 512 blocks of a subtree are taken away, and nothing else has changed
+pub record UnhintsSubtree (old new : ClaimRows) (number : ℕ) : Type 0 where
+  pub claimed : new.claimed ≡ old.claimed
+  pub hints : (k : ℕ) → is_marked new.hints k ≡ (not (nat_eq (k / 512) number) && is_marked old.hints k)
+  pub room : length new.hints ≡ length old.hints
+
 -- no row is claimed, and each is hinted at
 pub record ForgetsClaims (old new : ClaimRows) : Type 0 where
   pub claimed : (k : ℕ) → slice_index new.claimed k ≡ 0

@@ -9,4 +9,5 @@ pub mod Inner
 pub mod Marks
 pub mod Record
 pub mod Refreshed
+pub mod Subtrees
 pub mod Sweep

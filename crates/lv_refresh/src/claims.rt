@@ -1,5 +1,5 @@
 //! Claims: which nodes are claimed, hints at those that may want a job, and the next job.
-ghost use Rattle.std.specs.Prelude.{◌≡◌, ℕ, ◌*◌, ◌/◌, ◌<◌, ◌≤◌, ◌&&◌, ◌||◌, true, false, None, Some, option_map, IfSome, IfNone, OnOk, OnErr, IfErr, if◌then◌else◌};
+ghost use Rattle.std.specs.Prelude.{◌≡◌, ℕ, ◌+◌, ◌*◌, ◌/◌, ◌<◌, ◌≤◌, ◌&&◌, ◌||◌, not, true, false, None, Some, length, option_map, IfSome, IfNone, OnOk, OnErr, IfErr, if◌then◌else◌};
 ghost use Rattle.lv_geometry.specs.Levels.{thing_at};
 ghost use Rattle.lv_geometry.specs.Nodes.{is_below, is_node, over, parent, same_node};
 ghost use Rattle.lv_known.specs.Agrees.{Agrees};
@@ -7,7 +7,8 @@ ghost use Rattle.lv_refresh.specs.Claim.{IsNextJob};
 ghost use Rattle.lv_refresh.specs.ClaimTable.{AreHints, claim_blocks, claimed_in, is_hinted, record_of};
 ghost use Rattle.lv_refresh.specs.Honesty.{Stands};
 ghost use Rattle.lv_refresh.specs.Refreshed.{RefreshesNext};
-ghost use Rattle.lv_refresh.specs.Inner.{AreFilled, CanServe, GivesNext, HaveRoom, HaveSameRows, HintsNode, HintsWants, ServesNext};
+ghost use Rattle.lv_refresh.specs.Inner.{AreFilled, CanServe, GivesNext, HaveRoom, HaveSameRows, HintsNode, HintsWants, ServesNext, UnhintsSubtree, node_at};
+ghost use Rattle.lv_refresh.specs.Subtrees.{is_block_of};
 
 mod handing;
 mod sweeps;
@@ -119,6 +120,18 @@ impl Claims {
         if above.level <= 6 {
             self.levels.at_mut(above.level).hint(above.number);
         }
+    }
+
+    /// Hears that every summary of a subtree was installed, that of the node of level 4 that has a number and of all nodes below it: so none
+    /// of its blocks wants a job, and the node above it may.
+    pub fn pass_subtree(&mut self, number: u32)
+        requires inside { is_below (node_at 4 number) (8 * claim_blocks self.old) ≡ true }
+        ensures claimed { (n : Node) → claimed_in self.new n ≡ claimed_in self.old n }
+        ensures hints { (n : Node) → is_hinted self.new n ≡ (same_node n (parent (node_at 4 number)) || (not (is_block_of number n) && is_hinted self.old n)) }
+        ensures blocks { claim_blocks self.new ≡ claim_blocks self.old }
+    {
+        unhint_subtree(&mut self.levels.level_1, number);
+        self.hint_above(Node { level: 4, number });
     }
 
     /// Makes every claim void, so that every node may want a job. Jobs handed out before stay good.
@@ -234,6 +247,17 @@ fn fill_levels(levels: &mut Levels<Level>, rows: &Levels<u32>)
 {
     for level in 1..=6 {
         levels.at_mut(level).fill(*rows.at(level));
+    }
+}
+
+// Takes the hints at the 512 blocks of a subtree away.
+fn unhint_subtree(rows: &mut Level, number: u32)
+    requires inside { 8 * number + 8 ≤ length rows.old.rows.hints }
+    requires few { 8 * number + 8 ≤ 2048 }
+    ensures { UnhintsSubtree rows.old.rows rows.new.rows number }
+{
+    for word in 8 * number..8 * number + 8 {
+        rows.unhint_word(word);
     }
 }
 

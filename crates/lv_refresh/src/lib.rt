@@ -15,6 +15,7 @@ mod jobs;
 mod level;
 mod marks;
 mod outcomes;
+mod subtrees;
 mod wants;
 
 pub use claims::Claims;
@@ -23,3 +24,7 @@ pub use contents::{Contents, Eight};
 pub use gathering::children_of;
 pub use jobs::{Job, JobOf};
 pub use outcomes::{Outcome, OutcomeOf};
+pub use subtrees::{
+    SUBTREE_BLOCKS, SUBTREE_ELEMENTS, SUBTREE_SUMMARIES, SubtreeJob, SubtreeOutcome,
+    SubtreeOutcomeOf,
+};
