@@ -13,6 +13,8 @@ pub mod QueryLaws
 mod RefreshLaws
 mod RememberLaws
 pub mod RunLaws
+mod SubtreeElements
+mod SubtreeLaws
 mod TurnLaws
 pub mod VouchLaws
 pub mod WorldLaws

@@ -7,5 +7,6 @@ pub mod PlainAnswers
 pub mod Pushed
 pub mod State
 pub mod Step
+pub mod Subtrees
 pub mod Turns
 pub mod Written

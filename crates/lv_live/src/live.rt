@@ -13,6 +13,7 @@ ghost use Rattle.lv_live.specs.State.{Remembers, SameLive, SameRefresh, recorded
 mod batches;
 mod questions;
 mod refreshing;
+mod subtrees;
 
 use crate::following::{Touched, follow, make_room, touched_indices};
 use crate::pushing::follow_pushes;

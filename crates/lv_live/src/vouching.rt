@@ -1,5 +1,5 @@
 //! Whether contents are what stands at a node now.
-ghost use Rattle.std.specs.Prelude.{◌≡◌, ◌↔◌, ◌<◌, IsTrue, true, length};
+ghost use Rattle.std.specs.Prelude.{◌≡◌, ◌↔◌, ◌+◌, ◌*◌, ◌<◌, ◌≤◌, IsTrue, true, length, take, drop, slice_range};
 ghost use Rattle.lv_geometry.specs.Nodes.{is_below};
 ghost use Rattle.lv_edits.specs.History.{list_of};
 ghost use Rattle.lv_edits.specs.Touch.{elements_under};
@@ -7,11 +7,13 @@ ghost use Rattle.lv_known.specs.Agrees.{Agrees};
 ghost use Rattle.lv_summary.specs.Table.{whole_in};
 ghost use Rattle.lv_refresh.specs.ClaimTable.{ClaimTable, record_of};
 ghost use Rattle.lv_refresh.specs.Honesty.{Stands};
+ghost use Rattle.lv_refresh.specs.Inner.{node_at};
+ghost use Rattle.lv_refresh.specs.Subtrees.{IsInside};
 
 use lv_bodies::Body;
 use lv_edits::{Edits, Journal};
 use lv_geometry::Node;
-use lv_refresh::{Contents, Eight, children_of};
+use lv_refresh::{Contents, Eight, SUBTREE_BLOCKS, children_of};
 use lv_summary::Summaries;
 
 /// Whether contents are what stands at a whole node now.
@@ -43,6 +45,34 @@ pub fn have_elements<J: Journal>(history: &Edits<J>, block: Node, elements: &[i6
     ensures { IsTrue result ↔ (elements.now ≡ elements_under history.now.journal block) }
 {
     *elements == history.block(block.number)
+}
+
+/// Whether elements are those of a whole node of level 4.
+pub fn has_elements<J: Journal>(history: &Edits<J>, number: u32, elements: &[i64]) -> bool
+    requires inside { IsInside number (length (list_of history.now.journal)) }
+    requires many { length elements.now ≡ 4096 }
+    ensures { IsTrue result ↔ (elements.now ≡ elements_under history.now.journal (node_at 4 number)) }
+{
+    // The elements are few enough for their indices to be of 32 bits.
+    let _size = history.size();
+    let first = SUBTREE_BLOCKS * number;
+    for k in 0..SUBTREE_BLOCKS {
+        if !has_block(history, first + k, elements, 8 * k as usize) {
+            return false;
+        }
+    }
+    true
+}
+
+// Whether the eight elements from a place on are those of a block whose number is given.
+#[inline(always)]
+fn has_block<J: Journal>(history: &Edits<J>, number: u32, elements: &[i64], at: usize) -> bool
+    requires block { (number + 1) * 8 ≤ length (list_of history.now.journal) }
+    requires inside { at + 8 ≤ length elements.now }
+    ensures { IsTrue result ↔ (slice_range elements.now at (at + 8) ≡ take 8 (drop (number * 8) (list_of history.now.journal))) }
+{
+    let here = history.block(number);
+    &elements[at..at + 8] == &here[..]
 }
 
 // Whether summaries are those of a whole node's children, which are fresh. The cells are those that the table is of.
