@@ -41,15 +41,33 @@ uint32_t livevec_free_outcome(livevec_outcome *outcome);
  * Refusals: NULL, IN_USE (of the batch's slot), NO_HANDLE, NO_MEMORY. Who calls owes a livevec_accept_blocks or a livevec_free_batch. */
 LIVEVEC_MUST_USE livevec_count livevec_blocks(livevec_vector *slot, livevec_batch *batch, uint32_t first, uint32_t limit);
 
-/* Computes the jobs of a batch, on any thread, beside any call on the vector. The slot then has their outcomes, of some 250 bytes each, and no jobs.
+/* Computes the jobs of a batch, or that of a subtree (below), on any thread, beside any call on the vector. The slot then has what they gave, and
+ * no jobs: some 250 bytes a block, and some 120 KB for a subtree.
  * Refusals: NULL, NO_HANDLE (also of a batch that was run), NO_MEMORY; the jobs stay then. */
 LIVEVEC_MUST_USE uint32_t livevec_run_blocks(livevec_batch *batch);
 
 /* Takes in the outcomes of a batch that was run, each where livevec_vet would say yes, and tells how many of them became what. The batch's slot is
- * empty then. Takes no memory. Refusals: NULL, NO_HANDLE (of either slot, and of a batch that was not run); the batch's slot stays as it is then. */
+ * empty then. Takes no memory.
+ * Refusals: NULL, NO_HANDLE (of either slot, and of a batch that was not run or is of a subtree); the batch's slot stays as it is then. */
 livevec_taken livevec_accept_blocks(livevec_vector *slot, livevec_batch *batch);
 
-/* Frees a batch, run or not. The slot is then empty. Of a slot that holds something else it answers NO_HANDLE and frees nothing.
+/* All summaries of a subtree at once, where much is to be computed. A subtree is 4,096 elements side by side, with 585 summaries: those of its 512
+ * blocks, and those above them up to the one of all its elements. Of `size` elements size / 4096 subtrees are whole, and those are 0, 1 and so on.
+ *
+ * Puts the job of a subtree into an empty slot, where the subtree is whole, and its first block and its last each want a job; `value` is 585. Else
+ * `value` is 0 and the slot stays empty: what is wanted there is computed by livevec_blocks or livevec_refresh. The slot holds nothing of the vector:
+ * 32 KB, copied from it. Such a job claims nothing: threads that share the work ask for subtrees apart.
+ * Refusals: NULL, IN_USE (of the batch's slot), NO_HANDLE, NO_MEMORY. Who calls owes a livevec_free_batch. */
+LIVEVEC_MUST_USE livevec_count livevec_subtree(livevec_vector *slot, livevec_batch *batch, uint32_t number);
+
+/* Takes in what the job of a subtree gave, once it was run. Where the elements that were copied stand there still, all its summaries are kept from
+ * now on, and `value` is 585. Else `value` is 0 and nothing has changed. The elements are compared, and the table of the automaton: what another
+ * vector's job gave is taken in where both are the same. What was taken in once is not taken in again: `value` is 0. Takes no memory.
+ * The batch's slot still has what it was given. Free it by livevec_free_batch where no lock is held: that gives some 120 KB back.
+ * Refusals: NULL, NO_HANDLE (of either slot, and of a batch that was not run or is not of a subtree). */
+livevec_count livevec_accept_subtree(livevec_vector *slot, livevec_batch *batch);
+
+/* Frees a batch or a subtree, run or not. The slot is then empty. Of a slot that holds something else it answers NO_HANDLE and frees nothing.
  * Refusals: NULL, NO_HANDLE. */
 uint32_t livevec_free_batch(livevec_batch *batch);
 

@@ -21,7 +21,7 @@ typedef struct livevec_outcome {
     unsigned char busy_;
 } livevec_outcome;
 
-/* Its slot has jobs of many blocks, and once those are run, what they gave. */
+/* Its slot has jobs of many blocks, or the job of a subtree, and once they are run, what they gave. */
 typedef struct livevec_batch {
     bool full_;
     void *at_;

@@ -36,6 +36,7 @@ static uint32_t cut(void) { return made(livevec_truncate(&vector, 3)); }
 static uint32_t claim(void) { return (claimed = livevec_claim(&vector, &job)).refusal; }
 static uint32_t run(void) { return livevec_run(&job, &outcome); }
 static uint32_t copy_blocks(void) { return livevec_blocks(&vector, &batch, 0, 1).refusal; }
+static uint32_t copy_subtree(void) { return livevec_subtree(&vector, &batch, 0).refusal; }
 static uint32_t run_blocks(void) { return livevec_run_blocks(&batch); }
 static uint32_t new_board(void) { return livevec_board_new(&board, LIVEVEC_AFFINE, 9, 100, 8); }
 static uint32_t sit(void) { return livevec_board_sit(&board, &seat); }
@@ -87,6 +88,7 @@ static bool is_claimed(void) { return claimed.level == 1 && claimed.number == 0 
 static bool is_run(void) { return livevec_vet(&vector, &outcome).refusal == LIVEVEC_OK; }
 static bool is_copied(void) { return livevec_run_blocks(&batch) == LIVEVEC_OK; }
 static bool is_run_blocks(void) { return livevec_accept_blocks(&vector, &batch).installed == 1; }
+static bool is_run_subtree(void) { return livevec_accept_subtree(&vector, &batch).value == 585 && seen().summaries == 1 && seen().sum == SUBTREE; }
 static bool is_board(void) { return livevec_board_sit(&board, &seat) == LIVEVEC_OK; }
 static bool is_seat(void) { return livevec_seat_push(&seat, 42, 1).edit == 1; }
 static bool is_pushed_many(void) { return pushed_many.pushed == 100 && pushed_many.edit == 108 && seen().sum == 108; }
@@ -134,6 +136,8 @@ static const struct {
     {"livevec_run", with_job, run, is_run},
     {"livevec_blocks", stale, copy_blocks, is_copied},
     {"livevec_run_blocks", with_batch, run_blocks, is_run_blocks},
+    {"livevec_subtree", with_subtree, copy_subtree, is_copied},
+    {"livevec_run_blocks of a subtree", with_subtree_job, run_blocks, is_run_subtree},
     {"livevec_board_new", nothing, new_board, is_board},
     {"livevec_board_sit", with_board, sit, is_seat},
     {"livevec_board_close", pushed, close_board, is_closed},

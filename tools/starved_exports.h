@@ -17,8 +17,8 @@ static livevec_seat seat;
 static livevec_series series;
 static livevec_queries queries;
 
-/* Elements 1, one more than a shard of a series takes; and the names that a set of queries is asked for. */
-enum { SHARD = 32760, NAMES = 2 };
+/* Elements 1, one more than a shard of a series takes; how many of them a subtree has; and the names that a set of queries is asked for. */
+enum { SHARD = 32760, SUBTREE = 4096, NAMES = 2 };
 static const char *const names[NAMES] = {"all", "new"};
 static int64_t ones[SHARD + 1];
 
@@ -99,6 +99,19 @@ static void with_batch(void)
 {
     stale();
     livevec_blocks(&vector, &batch, 0, 1);
+}
+
+/* A subtree of elements 1, of which nothing is fresh. */
+static void with_subtree(void)
+{
+    livevec_new(&vector, 17, 10000);
+    livevec_push_many(&vector, ones, SUBTREE);
+}
+
+static void with_subtree_job(void)
+{
+    with_subtree();
+    livevec_subtree(&vector, &batch, 0);
 }
 
 static void with_board(void) { livevec_board_new(&board, LIVEVEC_SUM, 9, 100, 2); }

@@ -87,6 +87,8 @@ ANSWERED_AT_TWO(livevec_accepted, accept, (livevec_vector *slot, livevec_outcome
 TOLD(forget, (livevec_vector *slot), slot, (slot))
 ANSWERED_AT_TWO(livevec_count, blocks, (livevec_vector *slot, livevec_batch *batch, uint32_t first, uint32_t limit), slot, batch,
                 (slot, batch, first, limit))
+ANSWERED_AT_TWO(livevec_count, subtree, (livevec_vector *slot, livevec_batch *batch, uint32_t number), slot, batch, (slot, batch, number))
+ANSWERED_AT_TWO(livevec_count, accept_subtree, (livevec_vector *slot, livevec_batch *batch), slot, batch, (slot, batch))
 TOLD(run_blocks, (livevec_batch *batch), batch, (batch))
 ANSWERED_AT_TWO(livevec_taken, accept_blocks, (livevec_vector *slot, livevec_batch *batch), slot, batch, (slot, batch))
 

@@ -289,6 +289,7 @@ int main(void)
     places();
     queries();
     blocks();
+    subtrees();
     summaries();
     boards();
     series();

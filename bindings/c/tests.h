@@ -49,8 +49,9 @@ void series_kinds(void);
 /* The tests of standing queries. */
 void queries(void);
 
-/* The tests of jobs of many blocks. */
+/* The tests of jobs of many blocks, and of whole subtrees. */
 void blocks(void);
+void subtrees(void);
 
 /* The tests of the journal and of transcripts. */
 void transcripts(void);

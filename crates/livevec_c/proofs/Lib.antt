@@ -17,6 +17,7 @@ pub mod Seatless
 pub mod Others
 pub mod Summing
 mod WrittenLaws
+pub mod SubtreeLaws
 pub mod SeriesPlain
 pub mod SeriesLaws
 pub mod RemadeLaws

@@ -4,7 +4,7 @@ use Rattle.std.specs.Prelude.{Option, Some}
 use Rattle.livevec_c.specs.declared.kind_boards.KindBoard.{KindBoard}
 use Rattle.livevec_c.specs.declared.kind_seats.KindSeat.{KindSeat}
 use Rattle.livevec_c.specs.declared.objects.Object.{Object}
-use Rattle.livevec_c.specs.declared.objects.Object.TheVariants.{Vector, Job, Outcome, Batch, BatchOutcome, Board, Seat, Closed, Series, Queries}
+use Rattle.livevec_c.specs.declared.objects.Object.TheVariants.{Vector, Job, Outcome, Batch, BatchOutcome, Subtree, SubtreeOutcome, Board, Seat, Closed, Series, Queries}
 use Rattle.livevec_c.specs.Behind.{no_count}
 use Rattle.livevec_c.specs.Lives.{ClosesObject, TakesBackObject}
 
@@ -14,6 +14,8 @@ other_closes (Job job) other = (refl, refl)
 other_closes (Outcome outcome) other = (refl, refl)
 other_closes (Batch jobs) other = (refl, refl)
 other_closes (BatchOutcome jobs) other = (refl, refl)
+other_closes (Subtree job) other = (refl, refl)
+other_closes (SubtreeOutcome outcome) other = (refl, refl)
 other_closes (Board board) other = elim (other board refl) [ ]
 other_closes (Seat seat) other = (refl, refl)
 other_closes (Closed ended) other = (refl, refl)
@@ -27,6 +29,8 @@ other_stays board (Job job) slot other is = (refl, refl, is)
 other_stays board (Outcome outcome) slot other is = (refl, refl, is)
 other_stays board (Batch jobs) slot other is = (refl, refl, is)
 other_stays board (BatchOutcome jobs) slot other is = (refl, refl, is)
+other_stays board (Subtree job) slot other is = (refl, refl, is)
+other_stays board (SubtreeOutcome outcome) slot other is = (refl, refl, is)
 other_stays board (Board closed) slot other is = (refl, refl, is)
 other_stays board (Seat seat) slot other is = elim (other seat refl) [ ]
 other_stays board (Closed ended) slot other is = (refl, refl, is)

@@ -13,7 +13,7 @@ use Rattle.lv_reduce.specs.declared.reductions.Answer.{Answer}
 use Rattle.lv_reduce.specs.Answer.{IsAnswer, slice_of}
 use Rattle.lv_known.proofs.FoldableLaws.{can_fold, part_can_fold}
 use Rattle.livevec_c.specs.declared.objects.Object.{Object}
-use Rattle.livevec_c.specs.declared.objects.Object.TheVariants.{Vector, Job, Outcome, Batch, BatchOutcome, Board, Seat, Closed, Series, Queries}
+use Rattle.livevec_c.specs.declared.objects.Object.TheVariants.{Vector, Job, Outcome, Batch, BatchOutcome, Subtree, SubtreeOutcome, Board, Seat, Closed, Series, Queries}
 use Rattle.livevec_c.specs.declared.results.Reduced.{Reduced}
 use Rattle.livevec_c.specs.Answers.{reduced_by, spread, unreduced}
 use Rattle.livevec_c.specs.Behind.{AsksObject, ReducesObject, State}
@@ -72,6 +72,8 @@ reduces_plain lo hi answer (Job other) reduces = tt
 reduces_plain lo hi answer (Outcome other) reduces = tt
 reduces_plain lo hi answer (Batch jobs) reduces = tt
 reduces_plain lo hi answer (BatchOutcome jobs) reduces = tt
+reduces_plain lo hi answer (Subtree job) reduces = tt
+reduces_plain lo hi answer (SubtreeOutcome outcome) reduces = tt
 reduces_plain lo hi answer (Board other) reduces = tt
 reduces_plain lo hi answer (Seat other) reduces = tt
 reduces_plain lo hi answer (Closed other) reduces = tt
@@ -85,6 +87,8 @@ asks_plain lo hi answer (Job other) new asks = tt
 asks_plain lo hi answer (Outcome other) new asks = tt
 asks_plain lo hi answer (Batch jobs) new asks = tt
 asks_plain lo hi answer (BatchOutcome jobs) new asks = tt
+asks_plain lo hi answer (Subtree job) new asks = tt
+asks_plain lo hi answer (SubtreeOutcome outcome) new asks = tt
 asks_plain lo hi answer (Board other) new asks = tt
 asks_plain lo hi answer (Seat other) new asks = tt
 asks_plain lo hi answer (Closed other) new asks = tt

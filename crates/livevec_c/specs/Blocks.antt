@@ -4,12 +4,13 @@ use Rattle.lv_bodies.specs.Automata.{table_of}
 use Rattle.lv_bodies.specs.Six.{six_operations_by}
 use Rattle.lv_bodies.specs.declared.sixes.SixByTable.{SixByTable}
 use Rattle.lv_edits.specs.History.{list_of}
+use Rattle.lv_refresh.specs.Subtrees.{Copied}
 use Rattle.lv_live.specs.declared.batches.Batched.{Batched}
 use Rattle.lv_live.specs.declared.batches.BlockJob.{BlockJob}
 use Rattle.lv_live.specs.Batches.{DeliversEach, due_jobs}
 use Rattle.lv_live.specs.State.{recorded}
 use Rattle.livevec_c.specs.declared.objects.Object.{Object}
-use Rattle.livevec_c.specs.declared.objects.Object.TheVariants.{Vector, Batch, BatchOutcome}
+use Rattle.livevec_c.specs.declared.objects.Object.TheVariants.{Vector, Batch, BatchOutcome, Subtree, SubtreeOutcome}
 use Rattle.livevec_c.specs.declared.results.Taken.{Taken}
 use Rattle.livevec_c.specs.declared.results.Count.{Count}
 use Rattle.livevec_c.specs.Behind.{State}
@@ -50,8 +51,17 @@ Copies first limit answer object (Some batch) slot = (answer ≡ uncopied 104) �
 Copies first limit answer object None slot = CopiesInto first limit answer object slot
 
 -- jobs became their outcomes, of the same blocks, versions and elements, in order; or there was no memory, and they stay
+abbrev pub RunsBatch : ℕ → List (BlockJob SixByTable) → Object → Type 0
+RunsBatch number jobs new = ((number ≡ 6) × (new ≡ Batch jobs)) ⊎ ((number ≡ 0) × (new ≡ BatchOutcome jobs))
+
+-- the job of a subtree became its outcome, of the same elements; or there was no memory, and it stays
+abbrev pub RunsSubtree : ℕ → Copied SixByTable → Object → Type 0
+RunsSubtree number job new = ((number ≡ 6) × (new ≡ Subtree job)) ⊎ ((number ≡ 0) × (new ≡ SubtreeOutcome (Some job)))
+
+-- a run of either kind of job, and of nothing else
 abbrev pub RunsObject : ℕ → Object → Object → Type 0
-RunsObject number (Batch jobs) new = ((number ≡ 6) × (new ≡ Batch jobs)) ⊎ ((number ≡ 0) × (new ≡ BatchOutcome jobs))
+RunsObject number (Batch jobs) new = RunsBatch number jobs new
+RunsObject number (Subtree job) new = RunsSubtree number job new
 RunsObject number other new = (number ≡ 101) × (new ≡ other)
 
 abbrev pub RunsBlocks : ℕ → Option Object → Option Object → Type 0

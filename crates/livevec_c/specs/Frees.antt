@@ -3,15 +3,17 @@ use Rattle.std.specs.Prelude.{ℕ, Bool, true, false, Option, Some, None, if◌t
 use Rattle.livevec_c.specs.declared.frees.Freed.{Freed}
 use Rattle.livevec_c.specs.declared.frees.Freed.TheVariants as freed
 use Rattle.livevec_c.specs.declared.objects.Object.{Object}
-use Rattle.livevec_c.specs.declared.objects.Object.TheVariants.{Vector, Job, Outcome, Batch, BatchOutcome, Board, Seat, Closed, Series, Queries}
+use Rattle.livevec_c.specs.declared.objects.Object.TheVariants.{Vector, Job, Outcome, Batch, BatchOutcome, Subtree, SubtreeOutcome, Board, Seat, Closed, Series, Queries}
 
--- whether an object is what a free is of; a batch may have been run, a board may be closed
+-- whether an object is what a free is of; a batch may be of a subtree and may have been run, a board may be closed
 abbrev pub is_of : Freed → Object → Bool
 is_of freed.Vector (Vector state only) = true
 is_of freed.Job (Job job) = true
 is_of freed.Outcome (Outcome outcome) = true
 is_of freed.Batch (Batch jobs) = true
 is_of freed.Batch (BatchOutcome jobs) = true
+is_of freed.Batch (Subtree job) = true
+is_of freed.Batch (SubtreeOutcome outcome) = true
 is_of freed.Board (Board board) = true
 is_of freed.Board (Closed ended) = true
 is_of freed.Seat (Seat seat) = true

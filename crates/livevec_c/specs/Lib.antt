@@ -8,6 +8,7 @@ pub mod Columns
 pub mod Frees
 pub mod Behind
 pub mod Blocks
+pub mod Subtrees
 pub mod KindVectors
 pub mod Lives
 pub mod Working

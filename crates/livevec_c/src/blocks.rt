@@ -1,21 +1,16 @@
 //! Jobs of many blocks at once: they are copied with the vector, and computed without it.
 ghost use Rattle.std.specs.Prelude.{◌≡◌, ◌<◌, ◌^◌, IfOk, None, length};
 ghost use Rattle.livevec_c.specs.declared.objects.Object.TheVariants as behind;
-ghost use Rattle.livevec_c.specs.Blocks.{Copies, CopiesObject, CopiesVector, KeepsCopies, RunsObject, RunsBlocks};
+ghost use Rattle.livevec_c.specs.Blocks.{Copies, CopiesObject, CopiesVector, KeepsCopies, RunsBatch, RunsBlocks, RunsObject};
 
-use crate::objects::{Object, refill};
-use crate::results::{Count, IN_USE, NO_HANDLE, NO_MEMORY};
+use crate::objects::{Object, nothing, refill};
+use crate::results::{Count, IN_USE, NO_HANDLE, NO_MEMORY, not_copied};
 use crate::slots::{Slot, is_full, put, take};
+use crate::subtrees::run_subtree;
 use lv_bodies::SixByTable;
 use lv_live::{Batch, Live};
 use std::alloc::{AllocError, Global};
-
-// What a copy answers that was refused.
-fn not_copied(refusal: u32) -> Count
-    ensures { result ≡ record { refusal = refusal; value = 0 } }
-{
-    Count { refusal, value: 0 }
-}
+use std::mem;
 
 // A batch in a place of its own.
 fn place_of(alloc: Global, batch: Batch<SixByTable>) -> Result<Box<Object>, AllocError>
@@ -99,23 +94,37 @@ pub extern "C" fn livevec_proved_blocks(
     }
 }
 
-// Computes an object that is a batch of jobs.
-fn run_of(alloc: Global, object: &mut Object) -> u32
-    ensures { RunsObject result object.old object.new }
+// Computes a batch of jobs: the number of the refusal, and what is there then.
+fn run_batch(alloc: Global, batch: Batch<SixByTable>) -> (u32, Object)
+    ensures { RunsBatch result.0 batch result.1 }
 {
-    match object {
-        Object::Batch(batch) => match batch.run(alloc) {
-            Err(_) => NO_MEMORY,
-            Ok(outcomes) => {
-                refill(object, Object::BatchOutcome(outcomes));
-                0
-            }
-        },
-        _ => NO_HANDLE,
+    match batch.run(alloc) {
+        Err(_) => (NO_MEMORY, Object::Batch(batch)),
+        Ok(outcomes) => (0, Object::BatchOutcome(outcomes)),
     }
 }
 
-/// Computes a batch of jobs. Their outcomes lie behind its slot then.
+// Computes an object that is jobs of blocks, or the job of a subtree, the same way.
+fn run_object(alloc: Global, object: Object) -> (u32, Object)
+    ensures { RunsObject result.0 object result.1 }
+{
+    match object {
+        Object::Batch(batch) => run_batch(alloc, batch),
+        Object::Subtree(job) => run_subtree(alloc, job),
+        other => (NO_HANDLE, other),
+    }
+}
+
+// Computes an object in its place.
+fn run_of(alloc: Global, object: &mut Object) -> u32
+    ensures { RunsObject result object.old object.new }
+{
+    let (answer, left) = run_object(alloc, mem::replace(object, nothing(alloc)));
+    refill(object, left);
+    answer
+}
+
+/// Computes a batch of jobs, or the job of a subtree. What they gave lies behind the slot then.
 #[unsafe(no_mangle)]
 pub extern "C" fn livevec_proved_run_blocks(alloc: Global, batch: &mut Slot) -> u32
     ensures { RunsBlocks result batch.old.raw.inner batch.new.raw.inner }

@@ -29,7 +29,13 @@ fn is_of(what: Freed, object: &Object) -> bool
         Freed::Vector => matches!(object, Object::Vector(..)),
         Freed::Job => matches!(object, Object::Job(_)),
         Freed::Outcome => matches!(object, Object::Outcome(_)),
-        Freed::Batch => matches!(object, Object::Batch(_) | Object::BatchOutcome(_)),
+        Freed::Batch => matches!(
+            object,
+            Object::Batch(_)
+                | Object::BatchOutcome(_)
+                | Object::Subtree(_)
+                | Object::SubtreeOutcome(_)
+        ),
         Freed::Board => matches!(object, Object::Board(_) | Object::Closed(_)),
         Freed::Seat => matches!(object, Object::Seat(_)),
         Freed::Series => matches!(object, Object::Series(_)),
@@ -82,7 +88,7 @@ pub extern "C" fn livevec_proved_free_outcome(alloc: Global, slot: &mut Slot) ->
     free_held(alloc, slot, Freed::Outcome)
 }
 
-/// Frees a batch of jobs, or what it gave.
+/// Frees a batch of jobs or the job of a subtree, or what it gave.
 #[unsafe(no_mangle)]
 pub extern "C" fn livevec_proved_free_batch(alloc: Global, slot: &mut Slot) -> u32
     ensures number { result ≡ free_number freed.Batch slot.old.raw.inner }

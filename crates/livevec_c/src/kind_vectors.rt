@@ -1,5 +1,5 @@
 //! A vector for C: a live one of all six kinds, and beside it what is kept by one kind at a time.
-ghost use Rattle.std.specs.Prelude.{◌≡◌, ◌↔◌, ◌≤◌, ◌<◌, IsTrue, ◌-◌, None, [], length, option_map, IfOk, IfErr, IfSome, Some};
+ghost use Rattle.std.specs.Prelude.{◌≡◌, ◌↔◌, ◌≤◌, ◌<◌, IsTrue, true, false, ◌-◌, None, [], length, option_map, IfOk, IfErr, IfSome, Some};
 ghost use Rattle.lv_geometry.specs.declared.nodes.Node.{Node};
 ghost use Rattle.lv_bodies.specs.Automata.{table_of};
 ghost use Rattle.lv_bodies.specs.Six.{six_operations_by};
@@ -14,6 +14,7 @@ ghost use Rattle.lv_refresh.specs.Honesty.{IsHonest, Vouched};
 ghost use Rattle.lv_reduce.specs.Answer.{IsAnswer, range_refusal};
 ghost use Rattle.lv_live.specs.Batches.{DeliversEach};
 ghost use Rattle.lv_live.specs.State.{HasClaim, HasDelivery, HasNoClaims, SameLive, SameRefresh, node_and_version, recorded};
+ghost use Rattle.lv_live.specs.Subtrees.{CanTake, HasSubtree};
 ghost use Rattle.lv_live.specs.Turns.{TakesTurns};
 ghost use Rattle.lv_kinds.specs.Asked.{IsKindAnswer};
 ghost use Rattle.lv_where.specs.Where.{IsEndReached, IsPlaceOfBest, IsPlaceOfGreatest, IsPlaceOfLeast};
@@ -27,7 +28,7 @@ use lv_geometry::{Limits, Refusal};
 use lv_kinds::{KindAnswer, Kinds};
 use lv_live::{BatchOutcome, Batched, Live};
 use lv_reduce::Answer;
-use lv_refresh::{Job, Outcome};
+use lv_refresh::{Job, Outcome, SubtreeOutcome};
 use lv_summary::Accepted;
 use lv_where::{Placed, Run};
 use std::alloc::Global;
@@ -246,5 +247,16 @@ impl KindVector {
         ensures history { self.new.history ≡ self.old.history }
     {
         self.live.accept_batch(outcomes)
+    }
+
+    /// Takes a subtree in, where the elements that it is of stand here still: then it tells yes, and the outcome is spent. Else nothing has
+    /// changed. Takes no memory.
+    pub fn accept_subtree(&mut self, outcome: &mut SubtreeOutcome<SixByTable>) -> bool
+        ensures answer { IsTrue result ↔ CanTake (λ body. table_of self.old.body.automaton ≡ table_of body.automaton) self.old.history.journal outcome.old }
+        ensures kept { result ≡ true → IfSome outcome.old (λ copied. HasSubtree self.old self.new copied.number) }
+        ensures spent { result ≡ true → outcome.new ≡ None }
+        ensures refused { result ≡ false → (self.new ≡ self.old) × (outcome.new ≡ outcome.old) }
+    {
+        self.live.accept_subtree(outcome)
     }
 }

@@ -48,6 +48,7 @@ mod series_pieces;
 mod series_pushes;
 mod series_results;
 mod slots;
+mod subtrees;
 mod summaries;
 mod transcript_audits;
 mod transcripts;

@@ -10,7 +10,7 @@ use crate::queries::Queries;
 use lv_board::{Closed, Elements};
 use lv_bodies::{Kind, SixByTable};
 use lv_live::{Batch, BatchOutcome};
-use lv_refresh::{Job, Outcome};
+use lv_refresh::{Job, Outcome, SubtreeJob, SubtreeOutcome};
 use std::alloc::Global;
 use std::mem;
 
@@ -24,6 +24,9 @@ pub enum Object {
     /// Jobs of many blocks, and what they gave.
     Batch(Batch<SixByTable>),
     BatchOutcome(BatchOutcome<SixByTable>),
+    /// The job of a subtree, and what it gave.
+    Subtree(SubtreeJob<SixByTable>),
+    SubtreeOutcome(SubtreeOutcome<SixByTable>),
     Board(KindBoard),
     Seat(KindSeat),
     Closed(Ended),

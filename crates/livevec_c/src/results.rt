@@ -178,6 +178,13 @@ pub fn edit_answer(answer: Result<Receipt, Refusal>) -> Edited
     }
 }
 
+/// What a copy answers that was refused, or came to nothing.
+pub fn not_copied(refusal: u32) -> Count
+    ensures { result ≡ record { refusal = refusal; value = 0 } }
+{
+    Count { refusal, value: 0 }
+}
+
 /// The element at an index, for C.
 pub fn element_answer(answer: Result<i64, Refusal>) -> Element
     ensures { result ≡ element_by answer }

@@ -1,0 +1,84 @@
+-- What the calls of whole subtrees do and answer, by what lies behind the slots.
+use Rattle.std.specs.Prelude.{◌≡◌, ◌⊎◌, ℕ, Option, Some, None, option_map, IfSome}
+use Rattle.lv_bodies.specs.Automata.{table_of}
+use Rattle.lv_bodies.specs.declared.sixes.SixByTable.{SixByTable}
+use Rattle.lv_refresh.specs.Subtrees.{Copied}
+use Rattle.lv_live.specs.State.{recorded}
+use Rattle.lv_live.specs.Subtrees.{CanTake, HasSubtree, subtree_job}
+use Rattle.livevec_c.specs.declared.objects.Object.{Object}
+use Rattle.livevec_c.specs.declared.objects.Object.TheVariants.{Vector, Subtree, SubtreeOutcome}
+use Rattle.livevec_c.specs.declared.results.Count.{Count}
+use Rattle.livevec_c.specs.Behind.{State}
+use Rattle.livevec_c.specs.Blocks.{uncopied}
+
+-- the answer of a subtree that was copied or taken in: so many summaries it has
+abbrev pub all_summaries : Count
+all_summaries = record { refusal = 0; value = 585 }
+
+-- the answer of a copy: 0 where the subtree is worth no job
+abbrev pub copied_answer : Option (Copied SixByTable) → Count
+copied_answer None = uncopied 0
+copied_answer (Some job) = all_summaries
+
+-- a job lies behind the slot, and it is told of how many summaries; or there is none, or no memory, and the slot is empty
+abbrev pub KeepsJob : Option (Copied SixByTable) → Count → Option Object → Type 0
+KeepsJob job answer slot =
+    ((answer ≡ uncopied 6) × (slot ≡ None)) ⊎ ((answer ≡ copied_answer job) × (slot ≡ option_map Subtree job))
+
+-- a copy from a vector, which stays as it is
+abbrev pub CopiesFromVector : ℕ → Count → State → Option Object → Type 0
+CopiesFromVector number answer state slot = KeepsJob (subtree_job state.body (recorded state) number) answer slot
+
+abbrev pub CopiesFrom : ℕ → Count → Object → Option Object → Type 0
+CopiesFrom number answer (Vector state only) slot = CopiesFromVector number answer state slot
+CopiesFrom number answer other slot = (answer ≡ uncopied 101) × (slot ≡ None)
+
+-- the same for an empty slot of the batch
+abbrev pub CopiesSubtreeInto : ℕ → Count → Option Object → Option Object → Type 0
+CopiesSubtreeInto number answer None slot = (answer ≡ uncopied 101) × (slot ≡ None)
+CopiesSubtreeInto number answer (Some object) slot = CopiesFrom number answer object slot
+
+abbrev pub CopiesSubtree : ℕ → Count → Option Object → Option Object → Option Object → Type 0
+CopiesSubtree number answer object (Some batch) slot = (answer ≡ uncopied 104) × (slot ≡ Some batch)
+CopiesSubtree number answer object None slot = CopiesSubtreeInto number answer object slot
+
+-- an outcome may be taken in by a vector: it wasn't yet, and what it is of stands there
+abbrev pub CanTakeIn : State → Option (Copied SixByTable) → Type 0
+CanTakeIn state outcome = CanTake (λ body. table_of state.body.automaton ≡ table_of body.automaton) state.history.journal outcome
+
+-- a subtree that may be taken in was: each of its nodes is kept, nothing else has changed, and its outcome is spent
+pub record IsTakenIn (answer : Count) (old new : State) (outcome left : Option (Copied SixByTable)) : Type 0 where
+  pub can : CanTakeIn old outcome
+  pub answer_is : answer ≡ all_summaries
+  pub kept : IfSome outcome (λ copied. HasSubtree old new copied.number)
+  pub spent : left ≡ None
+
+-- one that may not be taken in was not: nothing has changed
+pub record IsLeftOut (answer : Count) (old new : State) (outcome left : Option (Copied SixByTable)) : Type 0 where
+  pub cannot : ¬ CanTakeIn old outcome
+  pub answer_is : answer ≡ uncopied 0
+  pub vector : new ≡ old
+  pub unspent : left ≡ outcome
+
+-- one of the two, at a vector
+abbrev pub TakesSubtreeIn : Count → State → State → Option (Copied SixByTable) → Option (Copied SixByTable) → Type 0
+TakesSubtreeIn answer old new outcome left = IsTakenIn answer old new outcome left ⊎ IsLeftOut answer old new outcome left
+
+-- the same of an object that was brought; one that is no outcome of a subtree stays as it is
+abbrev pub TakesObjectIn : Count → State → State → Object → Object → Type 0
+TakesObjectIn answer old new (SubtreeOutcome outcome) left = (rest : Option (Copied SixByTable)) × (left ≡ SubtreeOutcome rest) × TakesSubtreeIn answer old new outcome rest
+TakesObjectIn answer old new brought left = (answer ≡ uncopied 101) × (new ≡ old) × (left ≡ brought)
+
+-- the same at an object that is a vector
+abbrev pub TakesInAt : Count → Object → Object → Object → Object → Type 0
+TakesInAt answer (Vector old only) new brought left = (state : State) × (new ≡ Vector state only) × TakesObjectIn answer old state brought left
+TakesInAt answer other new brought left = (answer ≡ uncopied 101) × (new ≡ other) × (left ≡ brought)
+
+-- the same of what lies behind the batch's slot, where it lies on
+abbrev pub TakesInFrom : Count → Object → Object → Option Object → Option Object → Type 0
+TakesInFrom answer old new None slot = (answer ≡ uncopied 101) × (new ≡ old) × (slot ≡ None)
+TakesInFrom answer old new (Some brought) slot = (left : Object) × (slot ≡ Some left) × TakesInAt answer old new brought left
+
+abbrev pub TakesSubtree : Count → Option Object → Option Object → Option Object → Option Object → Type 0
+TakesSubtree answer None new batch slot = (answer ≡ uncopied 101) × (new ≡ None) × (slot ≡ batch)
+TakesSubtree answer (Some old) new batch slot = (object : Object) × (new ≡ Some object) × TakesInFrom answer old object batch slot
