@@ -1,4 +1,5 @@
-/* Jobs and outcomes, for livevec.hpp: summaries of a vector that any thread may compute. Those of many blocks stand in livevec_blocks.hpp. */
+/* Jobs and outcomes, for livevec.hpp: summaries of a vector that any thread may compute. Those of many blocks and of subtrees stand in
+ * livevec_blocks.hpp. */
 #ifndef LIVEVEC_JOBS_HPP
 #define LIVEVEC_JOBS_HPP
 
@@ -73,6 +74,16 @@ class with_jobs : public owned<livevec_vector, livevec_free> {
         made.size_ = counted(livevec_blocks(slot(), made.slot(), first, limit));
         return made.size_ ? std::optional<batch>(std::move(made)) : std::nullopt;
     }
+    /* The job of a subtree: of the 4,096 elements from 4096 * number on. None where these aren't all there, or where the first or the last of their
+     * blocks has its summary already: then `copy_blocks` does less. None is claimed. LIVEVEC_NO_MEMORY is thrown where it is wanting. */
+    [[nodiscard]] std::optional<subtree> copy_subtree(std::uint32_t number) const
+    {
+        subtree made(number);
+        return counted(livevec_subtree(slot(), made.slot(), number)) ? std::optional<subtree>(std::move(made)) : std::nullopt;
+    }
+    /* Keeps all 585 summaries of a subtree that was run, where its elements stand here still, and tells whether it did; else nothing changes. Each is
+     * taken once; its memory stays with it. Takes none. LIVEVEC_NO_HANDLE is thrown where it was not run. */
+    bool take_subtree(subtree &made) { return counted(livevec_accept_subtree(slot(), made.slot())) > 0; }
     /* Takes in what a batch that was run gave, each where it is vouched for, and tells how many of them became what. */
     livevec_taken take_in(batch made)
     {

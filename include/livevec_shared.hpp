@@ -181,8 +181,9 @@ class [[nodiscard]] shared_vector {
     template <class Calls> decltype(auto) with(Calls &&calls) { return at().with(std::forward<Calls>(calls)); }
 
     /* Starts so many more workers, or none, where LIVEVEC_NO_MEMORY is thrown. Each sleeps while there is nothing to compute; edits wake it.
-     * It takes jobs under the lock, or 1,024 blocks where many near together want one, computes them without it, and hands in what the vector vouches
-     * for. Summaries above such blocks it computes under the lock, by the 256. No answer changes by it. */
+     * It takes jobs under the lock, computes them without it, and hands in what the vector vouches for. Where many blocks near together want one it
+     * takes a subtree of 4,096 elements, or where there is none at most 1,024 blocks. A subtree that was written to meanwhile it goes over again by
+     * its blocks. Summaries above those it computes under the lock, by the 256. No answer changes by it. */
     void start_workers(std::size_t count) { at().start(count); }
     /* Ends all workers, and waits for them. More may be started later. */
     void stop_workers() { at().stop(); }

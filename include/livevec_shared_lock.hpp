@@ -36,7 +36,7 @@ struct shared_seat {
 };
 
 /* The lock, what it guards, and who sleeps at it. Nothing is computed under it but in `with`, in a subscriber's look, and by the 256 the
- * summaries above blocks that workers went over. */
+ * summaries above blocks and subtrees that workers went over. */
 class shared_lock : private shared_workers {
   public:
     using shared_workers::held;

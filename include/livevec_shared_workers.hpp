@@ -36,15 +36,17 @@ class shared_workers {
         std::unique_ptr<std::atomic<bool>> stop;
     };
 
-    /* What a worker has in hand: so many jobs at once, or one batch of blocks, that the lock is taken seldom, and never held for long. */
+    /* What a worker has in hand: so many jobs at once, or one batch of blocks or one subtree, that the lock is taken seldom, and never held for long.
+     * A subtree that is spent is freed without the lock. */
     struct hands {
         static constexpr std::size_t at_once = 16;
         std::vector<job> jobs;
         std::vector<outcome> outcomes;
         std::optional<batch> blocks;
+        std::optional<subtree> whole, spent;
         bool is_wanting = false, is_run = false;
 
-        bool are_empty() const { return jobs.empty() && !blocks; }
+        bool are_empty() const { return jobs.empty() && !blocks && !whole; }
 
         /* An outcome that the vector doesn't know, since a `with` put another in its place, is let go. */
         void deliver(vector &to, sweep &over)
@@ -56,12 +58,29 @@ class shared_workers {
             if (blocks)
                 over.back(is_run ? to.take_in(std::move(*blocks)).installed : 0);
             blocks.reset();
+            if (whole)
+                deliver_subtree(to, over);
         }
-        /* Takes blocks where many that lie near together want a job, else jobs. */
+        /* Where a write came between, its blocks are taken in its place at once, and count as in hand as it did: so a sweep gets on beside a
+         * writer. */
+        void deliver_subtree(vector &to, sweep &over)
+        {
+            const bool is_taken = is_run && to.take_subtree(*whole);
+            try {
+                if (is_run && !is_taken)
+                    blocks = to.copy_blocks(subtree::blocks * whole->number(), subtree::blocks);
+            } catch (const std::exception &) {
+                is_wanting = true;
+            }
+            if (!blocks)
+                over.back(is_taken);
+            spent = std::exchange(whole, std::nullopt);
+        }
+        /* Takes a subtree or blocks where many that lie near together want a job, else jobs. */
         void take(vector &from, sweep &over)
         {
             try {
-                if (over.is_under_way)
+                if (are_empty() && over.is_under_way)
                     take_blocks(from, over);
                 if (are_empty() && !over.out && !over.above)
                     claim(from, over);
@@ -69,9 +88,14 @@ class shared_workers {
                 is_wanting = true;
             }
         }
+        /* A subtree leaves fewer summaries above to be computed under the lock, so it is taken where one begins and is worth it. */
         void take_blocks(vector &from, sweep &over)
         {
-            const std::uint32_t all = from.size() / 8, end = over.next < all ? over.next + std::min(all - over.next, sweep::at_once) : over.next;
+            if (over.next % subtree::blocks == 0)
+                whole = from.copy_subtree(over.next / subtree::blocks);
+            if (whole)
+                return over.takes(subtree::blocks, over.next + subtree::blocks);
+            const std::uint32_t end = over.end_of_batch(from.size() / 8);
             blocks = from.copy_blocks(over.next, end - over.next);
             over.takes(blocks ? blocks->size() : 0, end);
         }
@@ -96,11 +120,14 @@ class shared_workers {
         void run()
         {
             is_run = false;
+            spent.reset();
             try {
                 for (job &it : jobs)
                     outcomes.push_back(it.run());
                 if (blocks)
                     blocks->run();
+                if (whole)
+                    whole->run();
                 is_run = true;
             } catch (const std::exception &) {
                 is_wanting = true;
@@ -122,22 +149,24 @@ class shared_workers {
         while (true) {
             if (!closed_)
                 mine.deliver(of_, over_);
-            if (changes_ != seen && !closed_)
+            if (mine.are_empty() && changes_ != seen && !closed_)
                 pause_.wait_for(guard, rest);
-            if (closed_ || stop)
+            // what is in hand counts as such until it is delivered
+            if (closed_ || (stop && mine.are_empty()))
                 break;
             seen = changes_;
             mine.take(of_, over_);
-            if (!mine.are_empty()) {
+            if (!mine.are_empty() || mine.spent) {
                 run(mine, guard);
-            } else if (mine.is_wanting) {
-                pause_.wait_for(guard, rest);
-                seen = changes_;
             } else if (!over_.out && over_.above) {
+                // it takes no memory, and claims wait for it: so it comes before want of memory does
                 over_.risen(of_.refresh(over_.rises()));
                 guard.unlock();
                 std::this_thread::yield();
                 guard.lock();
+            } else if (mine.is_wanting) {
+                pause_.wait_for(guard, rest);
+                seen = changes_;
             } else {
                 sleep(guard, stop);
                 seen = changes_;

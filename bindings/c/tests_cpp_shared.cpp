@@ -1,6 +1,7 @@
 /* A shared vector of livevec_shared.hpp: subscribers, workers, what is refused or thrown, and want of memory. */
 #include "tests_cpp.hpp"
 
+#include <algorithm>
 #include <chrono>
 #include <cstdint>
 #include <cstdio>
@@ -189,6 +190,92 @@ static void batches_come_late()
     IS(of.reduce(0, 99999).values.sum == std::uint64_t{99998} * 99999 / 2 - 17);
 }
 
+/* All elements of a vector by its own answer, against a plain fold of a list. */
+static void is_like(const livevec_reduced &told, const list &elements)
+{
+    std::uint64_t sum = 0;
+    std::int64_t best = 0, run = 0;
+    for (std::int64_t it : elements) {
+        sum += static_cast<std::uint64_t>(it);
+        run = std::max(run, std::int64_t{0}) + it;
+        best = std::max(best, run);
+    }
+    IS(told.values.sum == sum && told.values.best_low == static_cast<std::uint64_t>(best));
+    IS(told.values.least == *std::min_element(elements.begin(), elements.end()));
+    IS(told.values.greatest == *std::max_element(elements.begin(), elements.end()));
+}
+
+/* Element `i` of lists that rise and fall. */
+static std::int64_t wave(std::int64_t i)
+{
+    return i * 7919 % 2003 - 1000;
+}
+
+static list waves(std::size_t size)
+{
+    list made(size);
+    for (std::size_t i = 0; i < size; i++)
+        made[i] = wave(static_cast<std::int64_t>(i));
+    return made;
+}
+
+static void subtrees_come_late()
+{
+    list many = waves(9000);
+    const list first_part(many.begin(), many.begin() + 4096), second_part(many.begin() + 4096, many.begin() + 8192);
+    livevec::vector of(many), other(list(5000, 5));
+    IS(!of.copy_subtree(2) && !of.copy_subtree(UINT32_MAX) && !livevec::vector().copy_subtree(0));
+    std::optional<livevec::subtree> first = of.copy_subtree(0), again = of.copy_subtree(0), late = of.copy_subtree(1);
+    IS(first && again && late && first->number() == 0 && late->number() == 1);
+    IS(refusal_of([&] { (void)of.take_subtree(*first); }) == LIVEVEC_NO_HANDLE);
+    first->run(), again->run(), late->run();
+    IS(!other.take_subtree(*first) && other.reduce(0, 4096).summaries == 0 && other.sum(0, 5000) == 25000);
+    IS(of.take_subtree(*first) && !of.take_subtree(*first) && !of.copy_subtree(0) && !of.copy_blocks(0, 512));
+    IS(of.reduce(0, 4096).summaries == 1 && of.reduce(0, 4096).cells == 0 && of.reduce(0, 512).summaries == 1 && of.reduce(8, 16).summaries == 1);
+    is_like(of.reduce(0, 4096), first_part);
+    // what stands there still may be taken in again, by another job
+    IS(of.take_subtree(*again) && refusal_of([&] { again->run(); }) == LIVEVEC_NO_HANDLE);
+    // a write comes between, and is made good by another
+    of.write(5000, -1);
+    IS(!of.take_subtree(*late) && of.reduce(4096, 8192).summaries == 0);
+    of.write(5000, many[5000]);
+    IS(of.take_subtree(*late) && of.reduce(4096, 8192).summaries == 1);
+    is_like(of.reduce(4096, 8192), second_part);
+    is_like(of.reduce(0, 9000), many);
+    // a subtree of which the last block is there is gone over by its blocks
+    of.write(0, 1);
+    IS(!of.copy_subtree(0) && of.copy_blocks(0, 512)->size() == 1);
+}
+
+/* Whether each whole node of each level is read as one summary. */
+static bool is_all_fresh(const livevec::shared_vector &of, std::uint32_t size)
+{
+    for (std::uint32_t wide = 8; wide <= size; wide *= 8)
+        for (std::uint32_t end = wide; end <= size; end += wide)
+            if (of.reduce(end - wide, end).cells || of.reduce(end - wide, end).summaries != 1)
+                return false;
+    return true;
+}
+
+/* A writer writes all over while four workers compute; then they become idle, and have left nothing out. */
+static void workers_get_on_beside_a_writer()
+{
+    list many = waves(100000);
+    livevec::shared_vector shared{livevec::vector(many)};
+    shared.start_workers(4);
+    for (std::uint32_t i = 0; i < 60000; i++) {
+        const std::uint32_t index = i * 7919 % 100000;
+        shared.write(index, many[index] = wave(i) + i);
+        if (i == 30000) {
+            shared.stop_workers();
+            shared.start_workers(4);
+        }
+    }
+    until([&] { return is_all_fresh(shared, 100000); });
+    is_like(shared.reduce(0, 100000), many);
+    IS(shared.reduce(0, 100000).cells == 0 && shared.close().refresh(UINT32_MAX) == 0);
+}
+
 /* Four workers share all blocks, again and again, while edits go on. */
 static void workers_share_many_blocks()
 {
@@ -281,8 +368,10 @@ int main()
 #endif
     what_is_thrown_within_stops_nobody();
     batches_come_late();
+    subtrees_come_late();
     workers_compute_stop_and_start_again();
     workers_share_many_blocks();
+    workers_get_on_beside_a_writer();
     subscribers_come_and_go_while_edits_go_on();
     std::puts("livevec_shared.hpp: all hold");
 }
