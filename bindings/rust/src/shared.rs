@@ -185,9 +185,10 @@ impl Shared {
         self.lock.with(calls)
     }
 
-    /// Starts so many more workers, or none. Each sleeps while there is nothing to compute; edits wake it. It takes jobs under the lock, or
-    /// 1,024 blocks where many near together want one, computes them without it, and hands in what the vector vouches for. Summaries above such blocks
-    /// it computes under the lock, by the 256. No answer changes by it. Refused with `CLOSED`, then with `NoMemory`.
+    /// Starts so many more workers, or none. Each sleeps while there is nothing to compute; edits wake it. It takes jobs under the lock, computes
+    /// them without it, and hands in what the vector vouches for. Where many blocks near together want one it takes a subtree of 4,096 elements, or
+    /// where there is none at most 1,024 blocks. A subtree that was written to meanwhile it goes over again by its blocks. Summaries above those it
+    /// computes under the lock, by the 256. No answer changes by it. Refused with `CLOSED`, then with `NoMemory`.
     pub fn start_workers(&self, count: usize) -> Result<(), Refusal> {
         shared_workers::start(&self.lock, count)
     }

@@ -9,7 +9,7 @@ use crate::shared_sweep::Sweep;
 use crate::{Note, Queries, Refusal, Shared, Vector};
 
 /// What each call at a shared vector goes through. Nothing is computed while it is held, but in `with`, in a subscriber's look, and by the 256
-/// the summaries above blocks that workers went over.
+/// the summaries above blocks and subtrees that workers went over.
 pub(crate) struct Lock {
     guarded: Mutex<Guarded>,
     /// Workers sleep here while there is no job.

@@ -6,7 +6,8 @@ use std::thread;
 use std::time::Duration;
 
 use crate::shared_lock::{Guarded, Lock, Worker};
-use crate::{Batch, BatchOutcome, Job, Outcome, Refusal, Vector, raw};
+use crate::shared_sweep::{Gave, Portion};
+use crate::{Job, Outcome, Refusal, SubtreeOutcome, Vector, raw};
 
 /// So many jobs are claimed at once, so that the lock is taken seldom, and never held for long.
 const AT_ONCE: usize = 16;
@@ -14,28 +15,30 @@ const AT_ONCE: usize = 16;
 /// How long a worker lets edits go on, where some came while it computed, and how long it waits for memory.
 const PAUSE: Duration = Duration::from_millis(1);
 
-/// What a worker has in hand: jobs, for as many of which it has room, or a batch of blocks.
+/// What a worker has in hand: jobs, for as many of which it has room, or a portion of many blocks.
 struct Hands {
     jobs: Vec<Job>,
     outcomes: Vec<Outcome>,
-    batch: Option<Batch>,
-    /// What a batch that was run gave; none inside where memory was wanting.
-    back: Option<Option<BatchOutcome>>,
+    portion: Option<Portion>,
+    /// What a portion that was run gave; none inside where memory was wanting.
+    back: Option<Option<Gave>>,
+    /// A subtree that was handed in. It is dropped without the lock.
+    spent: Option<SubtreeOutcome>,
 }
 
 impl Hands {
     fn new() -> Result<Hands, Refusal> {
-        Ok(Hands { jobs: raw::roomy(AT_ONCE)?, outcomes: raw::roomy(AT_ONCE)?, batch: None, back: None })
+        Ok(Hands { jobs: raw::roomy(AT_ONCE)?, outcomes: raw::roomy(AT_ONCE)?, portion: None, back: None, spent: None })
     }
 
     fn are_empty(&self) -> bool {
-        self.jobs.is_empty() && self.batch.is_none()
+        self.jobs.is_empty() && self.portion.is_none()
     }
 
     /// Hands in what was computed. An outcome that the vector doesn't know, since a `with` put another in its place, is let go.
     fn deliver(&mut self, guarded: &mut Guarded) {
-        if let Some(outcomes) = self.back.take() {
-            guarded.sweep.back(guarded.vector.as_mut(), outcomes);
+        if let Some(gave) = self.back.take() {
+            self.give_back(guarded, gave);
         }
         if let Some(vector) = &mut guarded.vector {
             for outcome in &self.outcomes {
@@ -48,11 +51,24 @@ impl Hands {
         self.outcomes.clear();
     }
 
-    /// Takes blocks where many that lie near together want a job, else jobs. Refused with `NoMemory` alone.
+    /// Hands in a portion. Of a subtree that a write came to it has the blocks in hand then.
+    fn give_back(&mut self, guarded: &mut Guarded, gave: Option<Gave>) {
+        let Guarded { vector: Some(vector), sweep, .. } = guarded else { return };
+        match gave {
+            None => sweep.lost(vector),
+            Some(Gave::Batch(outcomes)) => sweep.take_batch_in(vector, outcomes),
+            Some(Gave::Subtree(mut outcome)) => {
+                self.portion = sweep.take_subtree_in(vector, &mut outcome);
+                self.spent = Some(outcome);
+            }
+        }
+    }
+
+    /// Takes a portion where many blocks that lie near together want a job, else jobs. Refused with `NoMemory` alone.
     fn take(&mut self, guarded: &mut Guarded) -> Result<(), Refusal> {
         let Guarded { vector: Some(vector), sweep, .. } = guarded else { return Ok(()) };
-        if sweep.is_under_way() {
-            self.batch = sweep.take(vector)?;
+        if self.are_empty() && sweep.is_under_way() {
+            self.portion = sweep.take(vector)?;
         }
         if !self.are_empty() || !sweep.is_done() {
             return Ok(());
@@ -65,7 +81,7 @@ impl Hands {
         }
         if sweep.is_under_way() {
             self.jobs.clear();
-            self.batch = sweep.take(vector)?;
+            self.portion = sweep.take(vector)?;
         }
         Ok(())
     }
@@ -81,8 +97,9 @@ impl Hands {
 
     /// Computes all, without the lock.
     fn run(&mut self) {
+        self.spent = None;
         self.outcomes.extend(self.jobs.drain(..).map(Job::run));
-        self.back = self.batch.take().map(|batch| batch.run().ok());
+        self.back = self.portion.take().map(|portion| portion.run().ok());
     }
 }
 
@@ -120,15 +137,16 @@ fn work(lock: &Lock, stop: &AtomicBool, hands: &mut Hands) {
     let mut seen = guarded.changes;
     loop {
         hands.deliver(&mut guarded);
-        if guarded.changes != seen && !guarded.closed {
+        if hands.are_empty() && guarded.changes != seen && !guarded.closed {
             guarded = lock.paused(guarded, PAUSE);
         }
-        if guarded.closed || stop.load(Ordering::Relaxed) {
+        // what is in hand counts as such until it is delivered
+        if guarded.closed || stop.load(Ordering::Relaxed) && hands.are_empty() {
             break;
         }
         seen = guarded.changes;
         let is_wanting = hands.take(&mut guarded).is_err();
-        if !hands.are_empty() {
+        if !hands.are_empty() || hands.spent.is_some() {
             run(lock, hands, guarded);
         } else if is_wanting {
             guarded = lock.paused(guarded, PAUSE);

@@ -1,4 +1,4 @@
-//! The C calls of jobs of many blocks, and a handle over them. What C asks of who calls is kept as `raw.rs` says.
+//! The C calls of jobs of many blocks and of subtrees, and a handle over them. What C asks of who calls is kept as `raw.rs` says.
 
 use std::cell::UnsafeCell;
 
@@ -18,6 +18,8 @@ unsafe extern "C" {
     fn livevec_blocks(slot: *mut Slot, batch: *mut Slot, first: u32, limit: u32) -> Count;
     fn livevec_run_blocks(batch: *mut Slot) -> u32;
     fn livevec_accept_blocks(slot: *mut Slot, batch: *mut Slot) -> Taken;
+    fn livevec_subtree(slot: *mut Slot, batch: *mut Slot, number: u32) -> Count;
+    fn livevec_accept_subtree(slot: *mut Slot, batch: *mut Slot) -> Count;
     fn livevec_free_batch(batch: *mut Slot) -> u32;
 }
 
@@ -38,9 +40,25 @@ impl Vector {
         let did = unsafe { livevec_accept_blocks(self.slot.get(), batch.slot.get()) };
         answered(did.refusal, 0, did)
     }
+
+    /// The job of a subtree, where it is whole and worth one.
+    pub(crate) fn copy_subtree(&self, number: u32) -> Result<Option<Batch>, Refusal> {
+        let slot = boxed(Slot::empty())?;
+        // SAFETY: as for blocks.
+        let did = unsafe { livevec_subtree(self.slot.get(), slot.get(), number) };
+        let summaries = answered(did.refusal, 0, did.value)?;
+        Ok((summaries > 0).then_some(Batch { slot }))
+    }
+
+    /// Takes in what a subtree that was run gave, and tells how many summaries are kept of it. Its slot stays full.
+    pub(crate) fn accept_subtree(&mut self, subtree: &mut Batch) -> Result<u32, Refusal> {
+        // SAFETY: as above; the subtree is borrowed alone, so that no other call is at its slot.
+        let did = unsafe { livevec_accept_subtree(self.slot.get(), subtree.slot.get()) };
+        answered(did.refusal, 0, did.value)
+    }
 }
 
-/// A batch of C: its slot is full until it is handed in.
+/// A batch of C, or a subtree: the slot of the one is full until it is handed in, that of the other until it is dropped.
 pub(crate) struct Batch {
     slot: Box<UnsafeCell<Slot>>,
 }
