@@ -1,4 +1,5 @@
-"""Jobs of many blocks: late ones, those of threads that share the work, and the workers of a shared vector. Run it with `python3 test_blocks.py`."""
+"""Jobs of many blocks and of subtrees: late ones, those of threads that share the work, and the workers of a shared vector. Run it with
+`python3 test_blocks.py`."""
 import threading
 import time
 import unittest
@@ -78,6 +79,101 @@ class Blocks(unittest.TestCase):
                 shared.write(9, 9 + turn)
             shared.stop_workers()
             self.assertEqual(len(shared.close()), SIZE)
+
+
+WRITTEN = 100_000
+
+
+def waves(size):
+    """Elements that rise and fall."""
+    return [i * 7919 % 2003 - 1000 for i in range(size)]
+
+
+def folded(elements):
+    """The sum, the least, the greatest and the best run's sum of a list, by a plain fold."""
+    best = run = 0
+    for it in elements:
+        run = max(run, 0) + it
+        best = max(best, run)
+    return sum(elements), min(elements), max(elements), best
+
+
+def told(of, lo, hi):
+    values = of.reduce(lo, hi).values
+    return values.sum, values.least, values.greatest, values.best
+
+
+class Subtrees(unittest.TestCase):
+    def test_subtrees_come_late(self):
+        many = waves(9000)
+        vector, other = Vector(many), Vector([5] * 5000)
+        self.assertIsNone(vector.copy_subtree(2))
+        self.assertIsNone(vector.copy_subtree((1 << 32) - 1))
+        first, late = vector.copy_subtree(0), vector.copy_subtree(1)
+        self.assertEqual((first.number, late.number, repr(late)), (0, 1, "<livevec.Subtree 1>"))
+        self.assertRaises(livevec.Closed, vector.take_subtree, first)
+        first.run()
+        late.run()
+        self.assertFalse(other.take_subtree(first))
+        self.assertEqual((other.reduce(0, 4096).summaries, other.sum()), (0, 25000))
+        self.assertTrue(vector.take_subtree(first))
+        self.assertFalse(vector.take_subtree(first))
+        self.assertRaises(livevec.Closed, first.run)
+        self.assertIsNone(vector.copy_subtree(0))
+        self.assertIsNone(vector.copy_blocks(0, 512))
+        for lo, hi in ((0, 4096), (0, 512), (64, 128), (4088, 4096)):
+            did = vector.reduce(lo, hi)
+            self.assertEqual((did.cells, did.summaries), (0, 1))
+            self.assertEqual(told(vector, lo, hi), folded(many[lo:hi]))
+        # a write comes between, and is made good by another
+        vector[5000] = -1
+        self.assertFalse(vector.take_subtree(late))
+        self.assertEqual(vector.reduce(4096, 8192).summaries, 0)
+        vector[5000] = many[5000]
+        self.assertTrue(vector.take_subtree(late))
+        self.assertEqual(vector.reduce(4096, 8192).summaries, 1)
+        self.assertEqual(told(vector, 4096, 8192), folded(many[4096:8192]))
+        self.assertEqual(told(vector, 0, 9000), folded(many))
+        # a subtree of which the last block is there is gone over by its blocks
+        vector[0] = 1
+        self.assertIsNone(vector.copy_subtree(0))
+        self.assertEqual(len(vector.copy_blocks(0, 512)), 1)
+
+    def test_wrong_arguments_change_nothing(self):
+        vector = Vector([5] * 5000)
+        self.assertRaises(TypeError, vector.take_subtree, vector.copy_blocks())
+        self.assertRaises(TypeError, vector.take_in, vector.copy_subtree(0))
+        self.assertRaises(OverflowError, vector.copy_subtree, -1)
+        self.assertRaises(OverflowError, vector.copy_subtree, 1 << 32)
+        self.assertRaises(livevec.Closed, livevec.Subtree().run)
+        self.assertRaises(livevec.Closed, vector.take_subtree, livevec.Subtree())
+        self.assertEqual((repr(livevec.Subtree()), vector.reduce().summaries), ("<livevec.Subtree of nothing>", 0))
+        vector.close()
+        self.assertRaises(livevec.Closed, vector.copy_subtree, 0)
+
+    def test_workers_get_on_beside_a_writer(self):
+        many = waves(WRITTEN)
+        with SharedVector(Vector(many)) as shared:
+            shared.start_workers(4)
+            for i in range(20000):
+                index = i * 7919 % WRITTEN
+                many[index] = i * 31 % 1999 - 900
+                shared.write(index, many[index])
+                if i == 10000:
+                    shared.stop_workers()
+                    shared.start_workers(4)
+            # they become idle, and have left nothing out: each whole node of each level is read as one summary
+            end = time.monotonic() + 60
+            while not self.is_all_fresh(shared):
+                self.assertLess(time.monotonic(), end)
+                time.sleep(0.01)
+            self.assertEqual((shared.reduce().cells, told(shared, 0, WRITTEN)), (0, folded(many)))
+            self.assertEqual(shared.close().refresh(), 0)
+
+    def is_all_fresh(self, shared):
+        with shared.locked() as vector:
+            nodes = ((at, at + 8 ** level) for level in (5, 4, 3, 2, 1) for at in range(0, WRITTEN - 8 ** level + 1, 8 ** level))
+            return all((did.cells, did.summaries) == (0, 1) for did in (vector.reduce(lo, hi) for lo, hi in nodes))
 
 
 if __name__ == "__main__":

@@ -24,7 +24,7 @@ Machines. A `Summary` is what a list comes to, as bytes that travel; `livevec_mp
 """
 from __future__ import annotations
 
-from ._blocks import Batch, Taken
+from ._blocks import Batch, Subtree, Taken
 from ._board import Board, Finished, Refreshed, Seat, Told
 from ._jobs import Became, Delivered, Job, Node, Outcome
 from ._kinds import Kind
@@ -46,7 +46,7 @@ from ._values import BestRun, Placed, Reduced, Values
 from ._vector import Vector, _remade
 
 __all__ = [
-    "Vector", "Job", "Outcome", "Batch", "Taken", "Scan", "Column", "Summary", "Values", "Reduced", "Delivered", "Became", "Node", "Placed", "BestRun",
+    "Vector", "Job", "Outcome", "Batch", "Taken", "Subtree", "Scan", "Column", "Summary", "Values", "Reduced", "Delivered", "Became", "Node", "Placed", "BestRun",
     "Board", "Seat", "Kind", "Told", "Refreshed", "Finished",
     "Queries", "Note", "Answered",
     "SharedVector", "Subscriber", "Receipt",

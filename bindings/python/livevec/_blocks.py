@@ -1,4 +1,4 @@
-"""Jobs of many blocks at once: computed outside a vector, and what becomes of them there."""
+"""Jobs of many blocks at once and of subtrees: computed outside a vector, and what becomes of them there."""
 from __future__ import annotations
 
 import ctypes
@@ -29,6 +29,8 @@ _batch = ctypes.POINTER(_BatchSlot)
 _blocks = _call("livevec_blocks", _Count, _slot, _batch, _u32, _u32, by=_released)
 _run_blocks = _call("livevec_run_blocks", _u32, _batch, by=_released)
 _accept_blocks = _call("livevec_accept_blocks", _Taken, _slot, _batch, by=_released)
+_subtree = _call("livevec_subtree", _Count, _slot, _batch, _u32, by=_released)
+_accept_subtree = _call("livevec_accept_subtree", _Count, _slot, _batch, by=_released)
 _free_batch = _call("livevec_free_batch", _u32, _batch)
 
 
@@ -78,3 +80,37 @@ class Batch(_Handle):
 
     def __repr__(self) -> str:
         return f"<livevec.Batch of {len(self)} blocks>"
+
+
+class Subtree(_Handle):
+    """The job of a subtree: of all 585 summaries of 4,096 elements side by side, which are those of its 512 blocks and of the nodes above them up to
+    the one of all. Once it is run it has what they came to. It holds nothing of its vector, so any thread may run it. It has some 150 KB until it is
+    let go.
+
+        >>> from livevec import Vector
+        >>> vector = Vector(range(5000))
+        >>> subtree = vector.copy_subtree(0)
+        >>> subtree.run()
+        >>> vector.take_subtree(subtree)
+        True
+        >>> vector.reduce(0, 4096).summaries
+        1
+    """
+
+    __slots__ = ("number",)
+    _made_of = _BatchSlot
+    number: int
+    """Which subtree it is: that of the elements from index 4096 * number on."""
+
+    def run(self) -> None:
+        """Computes all, once; the interpreter's lock is released. Raises NoMemory, where the job stays, Closed where it was run before or has no
+        job, and Busy beside another thread's call at it."""
+        refusal = _run_blocks(self._at)
+        if refusal:
+            raise _refuse(refusal)
+
+    def __del__(self, _free: Callable[..., int] = _free_batch) -> None:
+        _free(self._at)
+
+    def __repr__(self) -> str:
+        return f"<livevec.Subtree {self.number}>" if hasattr(self, "number") else "<livevec.Subtree of nothing>"

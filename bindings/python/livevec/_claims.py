@@ -3,7 +3,7 @@ from __future__ import annotations
 
 from typing import Optional
 
-from ._blocks import Batch, Taken, _accept_blocks, _blocks
+from ._blocks import Batch, Subtree, Taken, _accept_blocks, _accept_subtree, _blocks, _subtree
 from ._calls import _accept, _claim, _forget, _refresh, _vet
 from ._elements import _Elements
 from ._jobs import Became, Delivered, Job, Node, Outcome, _checked
@@ -66,6 +66,28 @@ class _Claims(_Elements):
         if did.refusal:
             raise _refuse(did.refusal)
         return Taken(did.installed, did.held, did.stale, did.strangers)
+
+    def copy_subtree(self, number: int) -> Optional[Subtree]:
+        """The job of a subtree, of the 4,096 elements from index 4096 * number on. None where these aren't all there, or where the first or the last
+        of their blocks has its summary already: then `copy_blocks` does less. Nothing is claimed: threads that share the work ask for subtrees
+        apart. Raises NoMemory, and Busy beside another call."""
+        subtree = Subtree()
+        subtree.number = _as_u32(number, "the subtree")
+        did = _subtree(self._at, subtree._at, subtree.number)
+        if did.refusal:
+            raise _refuse(did.refusal)
+        return subtree if did.value else None
+
+    def take_subtree(self, subtree: Subtree) -> bool:
+        """Keeps all summaries of a subtree that was run, where its elements stand here still, and tells whether it did; else nothing has changed.
+        What was taken in once isn't taken again. No answer changes by it. Raises Closed where the subtree was not run, and Busy beside another
+        call."""
+        if not isinstance(subtree, Subtree):
+            raise TypeError(f"a Subtree is wanted, not a {type(subtree).__name__}")
+        did = _accept_subtree(self._at, subtree._at)
+        if did.refusal:
+            raise _refuse(did.refusal)
+        return did.value > 0
 
     def forget_claims(self) -> None:
         """Makes every claim void, so that their nodes are handed out again. Jobs that are out stay good."""

@@ -124,8 +124,10 @@ class SharedVector(_SharedEdits):
     def start_workers(self, count: int = 1) -> None:
         """Starts so many more threads that compute summaries, or none. Each sleeps while there is nothing to compute; edits wake it.
 
-        It takes jobs under the lock, or 1,024 blocks where many near together want one, and computes them without it. Summaries above such blocks
-        it computes under the lock, by the 256. No answer changes by it. Raises Closed, and NoMemory where no thread is to be had."""
+        It takes jobs under the lock, computes them without it, and hands in what the vector vouches for. Where many blocks near together want one it
+        takes a subtree of 4,096 elements, or where there is none at most 1,024 blocks. A subtree that was written to meanwhile it goes over again by
+        its blocks. Summaries above those it computes under the lock, by the 256. No answer changes by it. Raises Closed, and NoMemory where no thread
+        is to be had."""
         state, stop = self._state, threading.Event()
         self._read(len)
         made: list[tuple[threading.Thread, threading.Event]] = []

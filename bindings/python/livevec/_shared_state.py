@@ -32,7 +32,7 @@ class _Seat:
 
 class _State:
     """The lock round a vector, what it guards, and who sleeps at it. Nothing is computed under it but in `locked`, in a subscriber's look,
-    and by the 256 the summaries above blocks that workers went over."""
+    and by the 256 the summaries above blocks and subtrees that workers went over."""
 
     def __init__(self, vector: Vector) -> None:
         self.lock = threading.Lock()

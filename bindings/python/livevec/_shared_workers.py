@@ -27,15 +27,16 @@ _REST = 0.001
 
 
 class _Hands:
-    """What a worker has in hand: slots of jobs, and of what they came to; or a batch of blocks."""
+    """What a worker has in hand: slots of jobs, and of what they came to; or a batch of blocks, or a subtree. One that is spent is freed without the
+    lock."""
 
     def __init__(self) -> None:
         self.slots = [(_JobSlot(), _OutcomeSlot()) for _ in range(_AT_ONCE)]
         self.at = [(ctypes.byref(job), ctypes.byref(outcome)) for job, outcome in self.slots]
-        self.batch_slot = _BatchSlot()
-        self.batch = ctypes.byref(self.batch_slot)
-        self.count = 0
-        self.has_batch = self.is_wanting = False
+        self.batch_slots = [_BatchSlot() for _ in range(3)]
+        self.batch, self.subtree, self.spent = (ctypes.byref(it) for it in self.batch_slots)
+        self.count = self.number = 0
+        self.has_batch = self.has_subtree = self.has_spent = self.is_wanting = False
 
     def deliver(self, vector: Vector, sweep: _Sweep) -> None:
         """Hands in what was computed. An outcome that the vector doesn't know, since it isn't the one of before, is let go."""
@@ -44,17 +45,30 @@ class _Hands:
                 _accept(vector._at, outcome)
         if self.has_batch:
             self.has_batch = False
-            if not sweep.back(vector, self.batch):
+            if not sweep.take_in(vector, self.batch):
                 # what was claimed of it is handed out again
                 vector.forget_claims()
+        elif self.has_subtree:
+            self.deliver_subtree(vector, sweep)
+
+    def deliver_subtree(self, vector: Vector, sweep: _Sweep) -> None:
+        """Hands in a subtree. Where a write came between, its blocks are in hand then."""
+        out = sweep.out
+        self.subtree, self.spent = self.spent, self.subtree
+        self.has_subtree, self.has_spent = False, True
+        if sweep.take_subtree_in(vector, self.spent, self.number, self.batch):
+            vector.forget_claims()
+        self.has_batch = sweep.out == out
 
     def take(self, vector: Vector, sweep: _Sweep) -> None:
-        """Takes blocks where many that lie near together want a job, else jobs."""
-        self.empty()
+        """Takes a subtree or blocks where many that lie near together want a job, else jobs."""
         self.is_wanting = False
+        if self.has_batch:
+            return
+        self.empty()
         if sweep.is_under_way:
             self.take_blocks(vector, sweep)
-        if self.has_batch or self.is_wanting or sweep.out or sweep.above:
+        if self.has_blocks() or self.is_wanting or sweep.out or sweep.above:
             return
         first, last = self.claim(vector)
         if self.count == _AT_ONCE:
@@ -64,9 +78,18 @@ class _Hands:
             self.take_blocks(vector, sweep)
 
     def take_blocks(self, vector: Vector, sweep: _Sweep) -> None:
+        """Takes a subtree, for it leaves fewer summaries above to be computed under the lock; where there is none, a batch."""
         out = sweep.out
-        self.is_wanting = sweep.take(vector, self.batch) == NoMemory.number
-        self.has_batch = sweep.out > out
+        self.number = sweep.next // sweep.SUBTREE
+        refusal = sweep.take_subtree(vector, self.subtree)
+        self.has_subtree = sweep.out > out
+        if not refusal and not self.has_subtree:
+            refusal = sweep.take(vector, self.batch)
+            self.has_batch = sweep.out > out
+        self.is_wanting = refusal == NoMemory.number
+
+    def has_blocks(self) -> bool:
+        return self.has_batch or self.has_subtree
 
     def claim(self, vector: Vector) -> tuple[Node, Node]:
         """Takes jobs until the hands are full or there is none; gives the nodes of the first and the last."""
@@ -82,10 +105,14 @@ class _Hands:
         return first, last
 
     def run(self) -> None:
+        _free_batch(self.spent)
+        self.has_spent = False
         for job, outcome in self.at[: self.count]:
             _run(job, outcome)
         if self.has_batch:
             _run_blocks(self.batch)
+        if self.has_subtree:
+            _run_blocks(self.subtree)
 
     def empty(self) -> None:
         for job, outcome in self.at[: self.count]:
@@ -93,6 +120,12 @@ class _Hands:
             _free_outcome(outcome)
         self.count = 0
         _free_batch(self.batch)
+
+    def let_go(self) -> None:
+        """Frees all, at the end of its thread."""
+        self.empty()
+        _free_batch(self.subtree)
+        _free_batch(self.spent)
 
 
 def _work(state: _State, stop: threading.Event) -> None:
@@ -106,15 +139,16 @@ def _work(state: _State, stop: threading.Event) -> None:
             with state.lock:
                 if not state.is_over():
                     hands.deliver(state.vector, state.sweep)
-                    if state.changes != seen:
+                    if state.changes != seen and not hands.has_batch:
                         state.pause.wait(_REST)
-                if state.is_over() or stop.is_set():
+                # what is in hand counts as such until it is delivered
+                if state.is_over() or stop.is_set() and not hands.has_batch:
                     return
                 seen = state.changes
                 hands.take(state.vector, state.sweep)
-                if hands.count == _AT_ONCE or hands.has_batch and state.sweep.is_under_way:
+                if hands.count == _AT_ONCE or hands.has_blocks() and state.sweep.is_under_way:
                     state.call()
-                elif hands.count or hands.has_batch or not hands.is_wanting and state.sweep.rise(state.vector):
+                elif hands.count or hands.has_blocks() or hands.has_spent or not hands.is_wanting and state.sweep.rise(state.vector):
                     pass
                 else:
                     if hands.is_wanting:
@@ -128,4 +162,4 @@ def _work(state: _State, stop: threading.Event) -> None:
             state.working -= 1
             # a call that came to one that ends is another's
             state.call()
-        hands.empty()
+        hands.let_go()
