@@ -47,7 +47,24 @@ class Taken(NamedTuple):
     """The vector can't vouch for them: they are another vector's, as a rule."""
 
 
-class Batch(_Handle):
+class _Portion(_Handle):
+    """What a slot of a batch has: jobs, and what they gave once they are run."""
+
+    __slots__ = ()
+    _made_of = _BatchSlot
+
+    def run(self) -> None:
+        """Computes all, once; the interpreter's lock is released. Raises NoMemory, where the jobs stay, Closed where it was run before or has no
+        jobs, and Busy beside another thread's call at it."""
+        refusal = _run_blocks(self._at)
+        if refusal:
+            raise _refuse(refusal)
+
+    def __del__(self, _free: Callable[..., int] = _free_batch) -> None:
+        _free(self._at)
+
+
+class Batch(_Portion):
     """Jobs of blocks, of 8 elements side by side each, and what they gave once they are run. It holds nothing of its vector, so any thread may run it.
 
         >>> from livevec import Vector
@@ -61,28 +78,17 @@ class Batch(_Handle):
     """
 
     __slots__ = ("_jobs",)
-    _made_of = _BatchSlot
     _jobs: int
 
     def __len__(self) -> int:
         """How many jobs there are."""
         return getattr(self, "_jobs", 0)
 
-    def run(self) -> None:
-        """Computes all, once; the interpreter's lock is released. Raises NoMemory, where the jobs stay, Closed where it was run before or has no
-        jobs, and Busy beside another thread's call at it."""
-        refusal = _run_blocks(self._at)
-        if refusal:
-            raise _refuse(refusal)
-
-    def __del__(self, _free: Callable[..., int] = _free_batch) -> None:
-        _free(self._at)
-
     def __repr__(self) -> str:
         return f"<livevec.Batch of {len(self)} blocks>"
 
 
-class Subtree(_Handle):
+class Subtree(_Portion):
     """The job of a subtree: of all 585 summaries of 4,096 elements side by side, which are those of its 512 blocks and of the nodes above them up to
     the one of all. Once it is run it has what they came to. It holds nothing of its vector, so any thread may run it. It has some 150 KB until it is
     let go.
@@ -98,19 +104,8 @@ class Subtree(_Handle):
     """
 
     __slots__ = ("number",)
-    _made_of = _BatchSlot
     number: int
     """Which subtree it is: that of the elements from index 4096 * number on."""
-
-    def run(self) -> None:
-        """Computes all, once; the interpreter's lock is released. Raises NoMemory, where the job stays, Closed where it was run before or has no
-        job, and Busy beside another thread's call at it."""
-        refusal = _run_blocks(self._at)
-        if refusal:
-            raise _refuse(refusal)
-
-    def __del__(self, _free: Callable[..., int] = _free_batch) -> None:
-        _free(self._at)
 
     def __repr__(self) -> str:
         return f"<livevec.Subtree {self.number}>" if hasattr(self, "number") else "<livevec.Subtree of nothing>"
