@@ -7,14 +7,15 @@ use Rattle.lv_geometry.specs.Elements.{IsElement}
 use Rattle.lv_geometry.specs.declared.refusals.Refusal.{Refusal}
 use Rattle.lv_geometry.specs.declared.refusals.Refusal.TheVariants.{NoMemory}
 use Rattle.lv_store.specs.Inner.{IsStore}
-use Rattle.lv_store.specs.State.{AreAlike, StoreState, announced, settled}
+use Rattle.lv_store.specs.State.{AreAlike, StoreState, announced, settled, written_through}
 use Rattle.lv_store.proofs.ElementsLaws.{settled_alike}
+use Rattle.lv_store.proofs.ShowsLaws.{IsStore-announced, IsStore-completed}
 use Rattle.lv_edits.specs.declared.edit.Edit.{Edit}
 use Rattle.lv_edits.specs.declared.edit.Edit.TheVariants.{Write}
 use Rattle.lv_edits.specs.Batches.{AnswersEdits, verdict_of_edits}
 use Rattle.lv_edits.specs.Inner.{HoldsReplay, history_of}
 use Rattle.lv_edits.specs.Verdict.{verdict_of}
-use Rattle.lv_edits.proofs.HoldsLaws.{edits_left, write_fits, write_held}
+use Rattle.lv_edits.proofs.HoldsLaws.{HoldsReplay-alike, edits_left, write_fits, write_held}
 
 -- what is refused for want of memory alone leaves the history as it was, where the store reads alike
 pub AnswersEdits-no_memory : (s m : StoreState) (journal es : List Edit) (r : Result ℕ Refusal) (why : Refusal) → verdict_of_edits (history_of s journal) es ≡ None → AreAlike s m → why ≡ NoMemory → IsErrAnd r (λ refusal. refusal ≡ why) → AnswersEdits (history_of s journal) es r (history_of m journal)
@@ -50,3 +51,12 @@ write_held_settled s m journal i x size held free is at fits sound =
   where
     same : (k : ℕ) → AreFewest 0 k → (settled s).buckets ≡ s.buckets → (settled s).buckets ≡ max s.buckets k
     same k fewest buckets = omega (arith, fewest.fewest 0 (omega arith), buckets)
+
+-- a write that is announced to a store that was settled, and completed, is held too
+pub write_held_through : (s m : StoreState) (journal : List Edit) (i : ℕ) (x : ℤ) → HoldsReplay s journal → verdict_of s.limits journal (Write i x) ≡ None → m ≡ settled s → IsElement x → IsStore m → HoldsReplay (written_through m i x) (journal ++ Write i x ∷ [])
+write_held_through s m journal i x held free is fits sound =
+    let allows = write_allowed s m journal i x held free is in
+    let next = announced m (Some (i, x)) None m.descriptor.size in
+    let next_sound = IsStore-announced m i x allows.edit allows.index fits sound in
+    let (alike, buckets, pending) = settled_alike next next_sound in
+    HoldsReplay-alike next (settled next) _ (write_held_settled s m journal i x m.descriptor.size held free is refl fits next_sound) alike buckets (IsStore-completed next next.descriptor.pending refl next_sound)

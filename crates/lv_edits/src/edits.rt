@@ -12,6 +12,7 @@ use crate::edit::Edit;
 use crate::journals::{Journal, Kept};
 use crate::making::make_edit;
 use crate::receipt::Receipt;
+use crate::writing::make_write_through;
 use lv_geometry::{Limits, Refusal, capacity};
 use lv_store::Store;
 use std::alloc::Global;
@@ -141,7 +142,21 @@ impl<J: Journal> Edits<J> {
         make_edit(&mut self.store, &mut self.journal, edit)
     }
 
+    /// Overwrites the element at `index`, as `write` does, and completes that at once: nothing is pending then. Refused as it is.
+    #[inline(always)]
+    pub fn write_through(&mut self, index: u32, value: i64) -> Result<Receipt, Refusal>
+        ensures answer { Answers self.old (Edit.Write index value) result self.new }
+        ensures limits { IsLegalInLimits self.new }
+    {
+        let _ = &self.store;
+        match self.verdict(&Edit::Write { index, value }) {
+            Some(refusal) => Err(refusal),
+            None => make_write_through(&mut self.store, &mut self.journal, index, value),
+        }
+    }
+
     /// The first refusal that applies to an edit, want of memory apart, or none.
+    #[inline(always)]
     pub fn verdict(&self, edit: &Edit) -> Option<Refusal>
         ensures { result ≡ verdict_of self.now.limits self.now.journal edit.now }
     {

@@ -1,14 +1,17 @@
-//! Many writes at once.
+//! Writes that are completed at once: one, and many.
 ghost use Rattle.std.specs.Prelude.{◌≡◌, ◌+◌, ◌<◌, ◌≤◌, None, length};
 ghost use Rattle.lv_edits.specs.declared.edit.Edit.{Edit as AnEdit};
 ghost use Rattle.lv_edits.specs.Batches.{AnswersEdits, verdict_of_edits, with_edits, writes_at};
 ghost use Rattle.lv_edits.specs.History.{with_edit};
 ghost use Rattle.lv_edits.specs.Inner.{HoldsReplay, history_of};
-ghost use Rattle.lv_edits.specs.Verdict.{verdict_of};
+ghost use Rattle.lv_store.specs.Inner.{IsStore};
+ghost use Rattle.lv_store.specs.State.{settled};
+ghost use Rattle.lv_edits.specs.Verdict.{Answers, verdict_of};
 
 use crate::edit::Edit;
 use crate::journals::Journal;
 use crate::making::make_room;
+use crate::receipt::Receipt;
 use lv_geometry::Refusal;
 use lv_store::Store;
 
@@ -59,4 +62,51 @@ fn write_next<J: Journal>(store: &mut Store, journal: &mut J, index: u32, value:
     let size = store.size();
     store.announce(Some((index, value)), None, size);
     journal.note(Edit::Write { index, value });
+}
+
+/// Makes a write that the verdict allows, and completes it at once, so that it is refused with `NoMemory` alone. The room in the journal
+/// is made before anything changes.
+#[inline(always)]
+pub fn make_write_through<J: Journal>(
+    store: &mut Store,
+    journal: &mut J,
+    index: u32,
+    value: i64,
+) -> Result<Receipt, Refusal>
+    requires held { HoldsReplay store.old (J.noted journal.old) }
+    requires free { verdict_of store.old.limits (J.noted journal.old) (AnEdit.Write index value) ≡ None }
+    ensures answer { Answers (history_of store.old (J.noted journal.old)) (AnEdit.Write index value) result (history_of store.new (J.noted journal.new)) }
+    ensures held { HoldsReplay store.new (J.noted journal.new) }
+{
+    if journal.reserve(1).is_err() {
+        return Err(Refusal::NoMemory);
+    }
+    settle_first(store);
+    let before = store.write_through(index, value);
+    journal.note(Edit::Write { index, value });
+    Ok(Receipt::Written {
+        edit: store.edit(),
+        before,
+    })
+}
+
+// Completes a write that is pending, if one is.
+#[inline(always)]
+fn settle_first(store: &mut Store)
+    requires { IsStore store.old }
+    ensures state { store.new ≡ settled store.old }
+    ensures sound { IsStore store.new }
+{
+    if store.is_pending() {
+        settle_apart(store);
+    }
+}
+
+// It stands apart: where all writes complete themselves, none is ever pending.
+#[inline(never)]
+fn settle_apart(store: &mut Store)
+    ensures state { store.new ≡ settled store.old }
+    ensures sound { IsStore store.new }
+{
+    store.settle();
 }

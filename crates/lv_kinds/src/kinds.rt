@@ -113,7 +113,7 @@ impl Kinds {
 
     /// Hears of an edit that was accepted by a vector of this size: what is kept of the nodes that it touches is kept no longer. The
     /// room for what the vector then has is there.
-    #[inline]
+    #[inline(always)]
     pub fn follow(&mut self, edit: &Edit, size: u32)
         ghost before: { History }
         requires legal { IsLegalInLimits before }
@@ -129,7 +129,7 @@ impl Kinds {
 
     /// Hears of a write that was accepted: sums take the difference to the element before, and stay kept; of the other kinds, what is
     /// kept of the nodes that it touches is kept no longer.
-    #[inline]
+    #[inline(always)]
     pub fn follow_write(&mut self, index: u32, before: i64, x: i64)
         ensures kept { (table : List (List ℕ)) (h : History) → IsWriteOver h index before → AreKept table h.journal self.old → AreKept table (with_edit h (Write index x)).journal self.new }
         ensures remembers { (table : List (List ℕ)) (edits : List Edit) → AreKept table edits self.old → (k : OneKind) (n : Node) → covers n index ≡ false → is_kept_by self.new k n ≡ is_kept_by self.old k n }
@@ -141,7 +141,7 @@ impl Kinds {
 
     /// Hears of an edit that was accepted by a vector of this size, and answered so: after a write sums stay kept; else what is kept of
     /// the nodes that it touches is kept no longer. The room for what the vector then has is there.
-    #[inline]
+    #[inline(always)]
     pub fn follow_made(&mut self, edit: &Edit, receipt: &Receipt, size: u32)
         ghost before: { History }
         requires legal { IsLegalInLimits before }

@@ -1,6 +1,7 @@
 //! The live vector: what it holds, its edits, and what is read of it.
 ghost use Rattle.std.specs.Prelude.{◌≡◌, ℤ, None, List, [], length};
 ghost use Rattle.lv_geometry.specs.declared.nodes.Node.{Node};
+ghost use Rattle.lv_edits.specs.declared.edit.Edit.{Edit as AnEdit};
 ghost use Rattle.lv_edits.specs.Batches.{AnswersEdits, verdict_of_edits, writes_at};
 ghost use Rattle.lv_edits.specs.Capacity.{capacity_after};
 ghost use Rattle.lv_edits.specs.History.{list_of};
@@ -121,6 +122,31 @@ impl<B: Body, J: Journal> Live<B, J> {
         Ok(receipt)
     }
 
+    /// Overwrites the element at an index, as `apply` does, and completes that at once. Refused as it is.
+    // Inlined: its rows are there already, and so it takes no more than a write needs.
+    #[inline(always)]
+    pub fn write_through(&mut self, index: u32, value: i64) -> Result<Receipt, Refusal>
+        ensures answer { Answers self.old.history (AnEdit.Write index value) result self.new.history }
+        ensures limits { IsLegalInLimits self.new.history }
+        ensures refresh { SameRefresh self.old self.new }
+        ensures remembers { Remembers self.old self.new }
+    {
+        let size = self.table.size();
+        match self.history.write_through(index, value) {
+            Err(refusal) => Err(refusal),
+            Ok(receipt) => {
+                follow(
+                    &mut self.table,
+                    &mut self.claims,
+                    Touched::One(index),
+                    self.history.edit(),
+                    size,
+                );
+                Ok(receipt)
+            }
+        }
+    }
+
     /// Pushes values in order, all of them or none, and tells the number of the last edit. Refused as the first push that would be
     /// refused, then with `NoMemory`: nothing has changed then. Room for summaries, claims, elements and journal is made before
     /// anything changes.
@@ -166,6 +192,7 @@ impl<B: Body, J: Journal> Live<B, J> {
     }
 
     /// Why an edit would be refused, for want of memory apart; none where it would be accepted.
+    #[inline(always)]
     pub fn verdict(&self, edit: &Edit) -> Option<Refusal>
         ensures { result ≡ verdict_of self.now.history.limits self.now.history.journal edit.now }
     {

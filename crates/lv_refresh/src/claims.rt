@@ -87,7 +87,7 @@ impl Claims {
 
     /// Hears that an edit touched index `i`, so that its block may want a job. No node above can, before the summary of its
     /// child is installed again.
-    #[inline]
+    #[inline(always)]
     pub fn touch(&mut self, i: u32)
         requires { i / 8 < claim_blocks self.old }
         ensures claimed { (n : Node) → claimed_in self.new n ≡ claimed_in self.old n }

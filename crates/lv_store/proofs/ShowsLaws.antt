@@ -3,7 +3,7 @@ use Rattle.std.proofs.Common.{◌≡◌, ℕ, ℤ, pos, ◌+◌, ◌-◌, ◌/�
 use Rattle.std.specs.Prelude.{All, IfSome}
 use Rattle.std.proofs.lemmas.Bool.{cases_eq, cases_lt, cond-false, cond-true, eq-eqb, ne_eqb}
 use Rattle.std.proofs.lemmas.List.{get_or-append_right, get_or-replicate, get_or-set_other, get_or-set_same, get_or_append_left, get_or_past, get_or_push, length_push, length-replicate, length-set}
-use Rattle.std.proofs.lemmas.List.Elements.{All-set}
+use Rattle.std.proofs.lemmas.List.Elements.{All-set, All-weaker}
 use Rattle.std.proofs.lemmas.List.Sums.{fold_push}
 use Rattle.std.proofs.lemmas.Option.{IfSome_then, slice_get-get_or}
 use Rattle.lv_geometry.specs.Cells.{capacity_of}
@@ -143,6 +143,21 @@ IsStore-completed s (Some w) is sound =
       edits = sound.edits;
       size = sound.size;
       pending = tt;
+    }
+
+-- a store that announces a write of a number of 64 bits at an open cell keeps it too
+pub IsStore-announced : (s : StoreState) (i : ℕ) (x : ℤ) → s.descriptor.edit < s.limits.edits → i < capacity_of s.buckets → IsElement x → IsStore s → IsStore (announced s (Some (i, x)) None s.descriptor.size)
+IsStore-announced s i x left inside fits sound =
+    record {
+      allowed = sound.allowed;
+      few = sound.few;
+      values = sound.values;
+      versions = sound.versions;
+      elements = sound.elements;
+      past = All-weaker (λ version. version ≤ s.descriptor.edit) (λ version. version ≤ s.descriptor.edit + 1) (λ version past. omega (arith, past)) s.versions sound.past;
+      edits = omega (arith, left);
+      size = sound.size;
+      pending = ((inside, fits), tt);
     }
 
 -- an empty store shows that nothing was announced

@@ -108,6 +108,10 @@ completed s (Some writes) =
 abbrev pub settled : StoreState → StoreState
 settled s = completed s s.descriptor.pending
 
+-- the store after one more edit, which announces a write at an index and is completed
+abbrev pub written_through : StoreState → ℕ → ℤ → StoreState
+written_through s i x = settled (announced s (Some (i, x)) None s.descriptor.size)
+
 -- the store after one more edit, which announces a value at the end and is completed
 abbrev pub pushed : StoreState → ℤ → StoreState
 pushed s x = settled (announced s (Some (s.descriptor.size, x)) None (s.descriptor.size + 1))

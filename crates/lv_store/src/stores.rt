@@ -1,11 +1,11 @@
 //! The store: its cells, a version for each block, and what the last edit made of them.
-ghost use Rattle.std.specs.Prelude.{All, ◌≡◌, ◌≢◌, ◌+◌, ◌*◌, ◌/◌, ◌<◌, ◌≤◌, None, [], ◌∷◌, ◌++◌, length, map, replicate, true, OnOk, OnErr, IfErr, IfSome, IsSomeAnd, vec_capacity, vec_len};
+ghost use Rattle.std.specs.Prelude.{All, ◌≡◌, ◌≢◌, ◌+◌, ◌*◌, ◌/◌, ◌<◌, ◌≤◌, None, Some, [], ◌∷◌, ◌++◌, length, map, replicate, true, is_some, OnOk, OnErr, IfErr, IfSome, IsSomeAnd, vec_capacity, vec_len};
 ghost use Rattle.std.specs.List.{range_with_len};
 ghost use Rattle.lv_geometry.specs.Cells.{capacity_of};
 ghost use Rattle.lv_geometry.specs.Elements.{IsElement};
 ghost use Rattle.lv_store.specs.Announced.{Announcements, Shows, pushes_at};
 ghost use Rattle.lv_store.specs.Inner.{IsStore};
-ghost use Rattle.lv_store.specs.State.{Opens, announced, are_at, are_in, block_version, empty_store, indices_of, pushed_all, settled, value_in, writes_of, written};
+ghost use Rattle.lv_store.specs.State.{Opens, announced, are_at, are_in, block_version, empty_store, indices_of, pushed_all, settled, value_in, writes_of, written, written_through};
 
 use crate::descriptors::Descriptor;
 use crate::directories::Directory;
@@ -81,7 +81,7 @@ impl Store {
 
     /// The next edit: it has the next number, leaves so many elements, and announces writes, each of an element at an index: none, a
     /// first, or a first and a second at another index. They are pending until they are settled, both at once.
-    #[inline]
+    #[inline(always)]
     pub fn announce(&mut self, first: Option<(u32, i64)>, second: Option<(u32, i64)>, size: u32)
         requires settled { self.old.descriptor.pending ≡ None }
         requires edit { self.old.descriptor.edit < self.old.limits.edits }
@@ -119,7 +119,7 @@ impl Store {
     }
 
     /// Completes the writes that are pending, if any are. Changes no answer.
-    #[inline]
+    #[inline(always)]
     pub fn settle(&mut self)
         ensures state { self.new ≡ settled self.old }
         ensures shows { (all : Announcements) → Shows self.old all → Shows self.new all }
@@ -137,6 +137,32 @@ impl Store {
         );
         put(&mut self.values, &mut self.versions, edit, writes.second);
         self.descriptor.pending = None;
+    }
+
+    /// One more edit, which announces a write at an index and is completed at once; tells the element that was there.
+    #[inline(always)]
+    pub fn write_through(&mut self, i: u32, x: i64) -> i64
+        requires settled { self.old.descriptor.pending ≡ None }
+        requires edit { self.old.descriptor.edit < self.old.limits.edits }
+        requires index { i < capacity_of self.old.buckets }
+        ensures before { result ≡ value_in self.old i }
+        ensures state { self.new ≡ written_through self.old i x }
+        ensures shows { (all : Announcements) → Shows self.old all → Shows self.new (all ++ writes_of (Some (i, x)) None ∷ []) }
+        ensures sound { IsStore self.new }
+    {
+        let before = self.values.get(i);
+        let edit = self.descriptor.edit + 1;
+        put(&mut self.values, &mut self.versions, edit, Some((i, x)));
+        self.descriptor.edit = edit;
+        before
+    }
+
+    /// Whether a write is pending.
+    #[inline(always)]
+    pub fn is_pending(&self) -> bool
+        ensures { result ≡ is_some self.now.descriptor.pending }
+    {
+        self.descriptor.pending.is_some()
     }
 
     /// The element that was written last at an index, its write pending or not; 0 where none was.

@@ -79,7 +79,7 @@ impl<S: Copy> Summaries<S> {
     }
 
     /// Notes that an edit touched index `i`, and so every node that has it.
-    #[inline]
+    #[inline(always)]
     pub fn touch(&mut self, i: u32, edit: u32)
         requires inside { i / 8 < blocks_in self.old }
         requires edit { edit ≤ 16777215 }
