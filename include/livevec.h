@@ -8,8 +8,8 @@
  * A slot serves one call at a time. A call beside another at the same slot is answered LIVEVEC_BUSY, and nothing has happened:
  * call again, or put a lock round the slot. Calls at different slots run side by side.
  * A function never follows an empty slot: it answers LIVEVEC_NO_HANDLE. Freeing a slot makes it empty.
- * No slot is passed by a pointer to const, also where a call changes nothing: a call enters its slot by an exchange of the byte
- * `busy_` and leaves it by a store, so the slot is written to. Arrays and tables that are only read are const.
+ * No slot is passed by a pointer to const, also where a call changes nothing: a call enters its slot by writing its byte `busy_`, by an
+ * atomic exchange where the program has more than one thread, and leaves it by a store. Arrays and tables that are only read are const.
  *
  * Refusals. Each call tells why it was refused, 0 where it was not. A refused call changes nothing.
  * Each function names its refusals in the order in which they are tried. NULL is for a null pointer, NO_HANDLE for a slot that

@@ -29,14 +29,17 @@ uint32_t livevec_board_new(livevec_board *slot, uint32_t kind, uint32_t buckets,
         return LIVEVEC_NULL;
     if (!enter(&slot->busy_))
         return LIVEVEC_BUSY;
-    uint32_t told = livevec_proved_board_new(slot, kind, buckets, edits, seats, atomic_fetch_add(&stamps, 1));
-    leave(&slot->busy_);
-    return told;
+    LEAVES(left, slot);
+    return livevec_proved_board_new(slot, kind, buckets, edits, seats, atomic_fetch_add(&stamps, 1));
 }
 
-/* Reads a closed board whose slot is entered. */
-static uint32_t read_closed(livevec_board *board, int64_t *buffer, size_t room, uint32_t *count)
+uint32_t livevec_closed_read(livevec_board *board, int64_t *buffer, size_t room, uint32_t *count)
 {
+    if (!board || !count || (!buffer && room))
+        return LIVEVEC_NULL;
+    if (!enter(&board->busy_))
+        return LIVEVEC_BUSY;
+    LEAVES(left, board);
     livevec_count size = livevec_proved_closed_size(board);
     if (size.refusal)
         return size.refusal;
@@ -46,15 +49,4 @@ static uint32_t read_closed(livevec_board *board, int64_t *buffer, size_t room, 
     for (uint32_t i = 0; i < size.value; i++)
         buffer[i] = livevec_proved_closed_get(board, i).value;
     return LIVEVEC_OK;
-}
-
-uint32_t livevec_closed_read(livevec_board *board, int64_t *buffer, size_t room, uint32_t *count)
-{
-    if (!board || !count || (!buffer && room))
-        return LIVEVEC_NULL;
-    if (!enter(&board->busy_))
-        return LIVEVEC_BUSY;
-    uint32_t told = read_closed(board, buffer, room, count);
-    leave(&board->busy_);
-    return told;
 }

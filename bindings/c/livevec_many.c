@@ -10,18 +10,14 @@ livevec_pushed livevec_proved_push_all(livevec_vector *slot, const int64_t *valu
 
 livevec_pushed livevec_push_many(livevec_vector *slot, const int64_t *values, size_t length)
 {
-    livevec_pushed answer = {LIVEVEC_NULL, 0, 0, 0};
     if (!slot || (!values && length))
-        return answer;
-    answer.refusal = LIVEVEC_BUSY;
+        return (livevec_pushed){.refusal = LIVEVEC_NULL};
     if (!enter(&slot->busy_))
-        return answer;
-    if (length)
-        answer = livevec_proved_push_all(slot, values, length);
-    else
-        answer.refusal = livevec_proved_size(slot).refusal;
-    leave(&slot->busy_);
-    return answer;
+        return (livevec_pushed){.refusal = LIVEVEC_BUSY};
+    LEAVES(left, slot);
+    if (!length)
+        return (livevec_pushed){.refusal = livevec_proved_size(slot).refusal};
+    return livevec_proved_push_all(slot, values, length);
 }
 
 /* All writes at once, or none. As many values as indices are handed over. */
@@ -31,15 +27,12 @@ livevec_many livevec_write_many(livevec_vector *slot, const uint32_t *indices, c
 {
     static const uint32_t no_index[1];
     static const int64_t no_value[1];
-    livevec_many answer = {.refusal = LIVEVEC_NULL};
     if (!slot || ((!indices || !values) && length))
-        return answer;
-    answer.refusal = LIVEVEC_BUSY;
+        return (livevec_many){.refusal = LIVEVEC_NULL};
     if (!enter(&slot->busy_))
-        return answer;
-    answer = livevec_proved_write_all(slot, length ? indices : no_index, length, length ? values : no_value, length);
-    leave(&slot->busy_);
-    return answer;
+        return (livevec_many){.refusal = LIVEVEC_BUSY};
+    LEAVES(left, slot);
+    return livevec_proved_write_all(slot, length ? indices : no_index, length, length ? values : no_value, length);
 }
 
 /* What the first of some ranges that is refused is refused with, at a slot that is entered. An empty range is refused by its kind or
@@ -69,9 +62,9 @@ livevec_many livevec_value_many(livevec_vector *slot, uint32_t kind, const livev
     answer.refusal = LIVEVEC_BUSY;
     if (!enter(&slot->busy_))
         return answer;
+    LEAVES(left, slot);
     answer = judge_ranges(slot, kind, ranges, length);
     for (size_t i = 0; i < answer.done; i++)
         answers[i] = livevec_proved_value(slot, kind, ranges[i].lo, ranges[i].hi).values;
-    leave(&slot->busy_);
     return answer;
 }

@@ -6,10 +6,10 @@ AT_ONE(uint32_t, AS_NUMBER, watch, (livevec_queries *slot, const char *name, siz
        slot, (slot, name, name_length, kind, lo, hi))
 AT_ONE(uint32_t, AS_NUMBER, unwatch, (livevec_queries *slot, const char *name, size_t name_length), slot && name, slot, (slot, name, name_length))
 OVER_PROVED(livevec_reduced, AS_STRUCT, answer, (livevec_queries *slot, livevec_vector *vector, const char *name, size_t name_length),
-            slot && vector && name, enter_both(&slot->busy_, &vector->busy_), leave_both(&slot->busy_, &vector->busy_),
+            slot && vector && name, enter_both(&slot->busy_, &vector->busy_), LEAVES_BOTH(slot, vector),
             (slot, vector, name, name_length))
 OVER_PROVED(livevec_noted, AS_STRUCT, notes, (livevec_queries *slot, livevec_vector *vector, livevec_note *notes, size_t room),
-            slot && vector && (notes || !room), enter_both(&slot->busy_, &vector->busy_), leave_both(&slot->busy_, &vector->busy_),
+            slot && vector && (notes || !room), enter_both(&slot->busy_, &vector->busy_), LEAVES_BOTH(slot, vector),
             (slot, vector, notes ? notes : &(livevec_note){.kind = 0}, room))
 
 FREED(free_queries, livevec_queries)

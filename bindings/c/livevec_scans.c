@@ -38,10 +38,10 @@ static livevec_scanned judge(livevec_vector *slot, uint32_t lo, uint32_t hi, siz
         answer.refusal = LIVEVEC_BUSY;                                                                         \
         if (!enter(&slot->busy_))                                                                              \
             return answer;                                                                                     \
+        LEAVES(left, slot);                                                                                    \
         answer = judge(slot, lo, hi, length);                                                                  \
         for (uint32_t i = 0; i < answer.length; i++)                                                           \
             buffer[i] = filling;                                                                               \
-        leave(&slot->busy_);                                                                                   \
         return answer;                                                                                         \
     }
 
@@ -54,16 +54,13 @@ FILLED(read, int64_t, livevec_proved_get(slot, lo + i).value)
     static livevec_scanned scan_##name(livevec_vector *slot, uint32_t lo, uint32_t hi, bool inclusive, cell *column,   \
                                        size_t length)                                                                  \
     {                                                                                                                  \
-        livevec_scanned answer = {LIVEVEC_NULL, 0, 0, 0};                                                              \
         cell nowhere;                                                                                                  \
         if (!slot || (!column && length))                                                                              \
-            return answer;                                                                                             \
-        answer.refusal = LIVEVEC_BUSY;                                                                                 \
+            return (livevec_scanned){.refusal = LIVEVEC_NULL};                                                         \
         if (!enter(&slot->busy_))                                                                                      \
-            return answer;                                                                                             \
-        answer = livevec_proved_scan_##name(slot, lo, hi, inclusive, column ? column : &nowhere, length);              \
-        leave(&slot->busy_);                                                                                           \
-        return answer;                                                                                                 \
+            return (livevec_scanned){.refusal = LIVEVEC_BUSY};                                                         \
+        LEAVES(left, slot);                                                                                            \
+        return livevec_proved_scan_##name(slot, lo, hi, inclusive, column ? column : &nowhere, length);                \
     }                                                                                                                  \
     livevec_scanned livevec_scan_inclusive##ending(livevec_vector *slot, uint32_t lo, uint32_t hi, cell *column,       \
                                                   size_t length)                                                       \

@@ -23,8 +23,8 @@ ANSWERED(livevec_series_reduced, series_ask, (livevec_series *slot, uint64_t lo,
         answer.refusal = LIVEVEC_BUSY;                               \
         if (!enter(&slot->busy_))                                    \
             return answer;                                           \
+        LEAVES(left, slot);                                          \
         series_counts counts = livevec_proved_series_counts(slot);   \
-        leave(&slot->busy_);                                         \
         answer.refusal = counts.refusal;                             \
         answer.value = counts.name;                                  \
         return answer;                                               \
@@ -40,28 +40,22 @@ livevec_series_scanned livevec_proved_series_read(livevec_series *slot, uint64_t
 
 livevec_series_pushed livevec_series_push_many(livevec_series *slot, const int64_t *values, size_t length)
 {
-    livevec_series_pushed answer = {.refusal = LIVEVEC_NULL};
     int64_t nowhere = 0;
     if (!slot || (!values && length))
-        return answer;
-    answer.refusal = LIVEVEC_BUSY;
+        return (livevec_series_pushed){.refusal = LIVEVEC_NULL};
     if (!enter(&slot->busy_))
-        return answer;
-    answer = livevec_proved_series_push_all(slot, values ? values : &nowhere, length);
-    leave(&slot->busy_);
-    return answer;
+        return (livevec_series_pushed){.refusal = LIVEVEC_BUSY};
+    LEAVES(left, slot);
+    return livevec_proved_series_push_all(slot, values ? values : &nowhere, length);
 }
 
 livevec_series_scanned livevec_series_read(livevec_series *slot, uint64_t lo, uint64_t hi, int64_t *buffer, size_t length)
 {
-    livevec_series_scanned answer = {.refusal = LIVEVEC_NULL};
     int64_t nowhere;
     if (!slot || (!buffer && length))
-        return answer;
-    answer.refusal = LIVEVEC_BUSY;
+        return (livevec_series_scanned){.refusal = LIVEVEC_NULL};
     if (!enter(&slot->busy_))
-        return answer;
-    answer = livevec_proved_series_read(slot, lo, hi, buffer ? buffer : &nowhere, length);
-    leave(&slot->busy_);
-    return answer;
+        return (livevec_series_scanned){.refusal = LIVEVEC_BUSY};
+    LEAVES(left, slot);
+    return livevec_proved_series_read(slot, lo, hi, buffer ? buffer : &nowhere, length);
 }

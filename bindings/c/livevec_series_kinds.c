@@ -31,10 +31,10 @@ livevec_series_many livevec_series_value_many(livevec_series *slot, uint32_t kin
     answer.refusal = LIVEVEC_BUSY;
     if (!enter(&slot->busy_))
         return answer;
+    LEAVES(left, slot);
     answer = judge_series_ranges(slot, kind, ranges, length);
     for (size_t i = 0; i < answer.done; i++)
         answers[i] = livevec_proved_series_value(slot, kind, ranges[i].lo, ranges[i].hi).values;
-    leave(&slot->busy_);
     return answer;
 }
 
@@ -45,16 +45,13 @@ livevec_series_many livevec_series_value_many(livevec_series *slot, uint32_t kin
     static livevec_series_scanned scan_series_##name(livevec_series *slot, uint64_t lo, uint64_t at, uint64_t hi, bool inclusive,           \
                                                      cell *column, size_t length)                                                           \
     {                                                                                                                                       \
-        livevec_series_scanned answer = {.refusal = LIVEVEC_NULL};                                                                          \
         cell nowhere;                                                                                                                       \
         if (!slot || (!column && length))                                                                                                   \
-            return answer;                                                                                                                  \
-        answer.refusal = LIVEVEC_BUSY;                                                                                                      \
+            return (livevec_series_scanned){.refusal = LIVEVEC_NULL};                                                                       \
         if (!enter(&slot->busy_))                                                                                                           \
-            return answer;                                                                                                                  \
-        answer = livevec_proved_series_scan_##name(slot, lo, at, hi, inclusive, column ? column : &nowhere, length);                        \
-        leave(&slot->busy_);                                                                                                                \
-        return answer;                                                                                                                      \
+            return (livevec_series_scanned){.refusal = LIVEVEC_BUSY};                                                                       \
+        LEAVES(left, slot);                                                                                                                 \
+        return livevec_proved_series_scan_##name(slot, lo, at, hi, inclusive, column ? column : &nowhere, length);                          \
     }                                                                                                                                       \
     livevec_series_scanned livevec_series_scan_inclusive##ending(livevec_series *slot, uint64_t lo, uint64_t at, uint64_t hi, cell *column, \
                                                                  size_t length)                                                             \

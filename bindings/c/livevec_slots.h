@@ -4,12 +4,25 @@
 
 #include "livevec.h"
 
-/* A slot serves one call at a time: it is entered for a call, and a call that finds it entered does nothing. */
+/* Whether this process has one thread alone, as glibc tells since 2.32; elsewhere it isn't known. */
+extern char __libc_single_threaded __attribute__((weak));
+
+/* A slot serves one call at a time: it is entered for a call, and a call that finds it entered does nothing.
+ * One thread marks it by a plain store. glibc takes back that there is one before a second begins, and no call here begins one: so only a
+ * signal's handler comes between look and mark, and its calls end before it returns. The fence keeps a call's reads behind its mark. */
 static inline bool enter(unsigned char *busy)
 {
+    if (&__libc_single_threaded && __libc_single_threaded) {
+        if (__atomic_load_n(busy, __ATOMIC_ACQUIRE))
+            return false;
+        __atomic_store_n(busy, 1, __ATOMIC_RELAXED);
+        __atomic_signal_fence(__ATOMIC_SEQ_CST);
+        return true;
+    }
     return !__atomic_exchange_n(busy, 1, __ATOMIC_ACQUIRE);
 }
 
+/* What a call did stays before this store, for a handler too. */
 static inline void leave(unsigned char *busy)
 {
     __atomic_store_n(busy, 0, __ATOMIC_RELEASE);
@@ -26,37 +39,40 @@ static inline bool enter_both(unsigned char *first, unsigned char *second)
     return false;
 }
 
-static inline void leave_both(unsigned char *first, unsigned char *second)
+static inline void leave_it(unsigned char **busy)
 {
-    leave(second);
-    leave(first);
+    leave(*busy);
 }
 
 /* An answer that has a refusal alone, as a number and as a struct. */
 #define AS_NUMBER(answer, number) (number)
 #define AS_STRUCT(answer, number) ((answer){.refusal = (number)})
 
+/* Leaves a slot where the function ends that has this line: the answer is made in the caller's place then, and isn't copied. */
+#define LEAVES(name, slot) unsigned char *name __attribute__((cleanup(leave_it), unused)) = &slot->busy_
+/* The same of two, the second first. */
+#define LEAVES_BOTH(first, second) LEAVES(left_last, first); LEAVES(left, second)
+
 /* `livevec_NAME` over `livevec_proved_NAME`, an export of crates/livevec_c: what that promises stands in its contract there.
- * `there` says that no pointer is null; `entered` and `left` enter the slots of the call and leave them. */
-#define OVER_PROVED(answer, as, name, parameters, there, entered, left, arguments) \
-    answer livevec_proved_##name parameters;                                       \
-    answer livevec_##name parameters                                               \
-    {                                                                              \
-        if (!(there))                                                              \
-            return as(answer, LIVEVEC_NULL);                                       \
-        if (!entered)                                                              \
-            return as(answer, LIVEVEC_BUSY);                                       \
-        answer told = livevec_proved_##name arguments;                             \
-        left;                                                                      \
-        return told;                                                               \
+ * `there` says that no pointer is null; `entered` enters the slots of the call, and `leaves` leaves them at its end. */
+#define OVER_PROVED(answer, as, name, parameters, there, entered, leaves, arguments) \
+    answer livevec_proved_##name parameters;                                         \
+    answer livevec_##name parameters                                                 \
+    {                                                                                \
+        if (!(there))                                                                \
+            return as(answer, LIVEVEC_NULL);                                         \
+        if (!entered)                                                                \
+            return as(answer, LIVEVEC_BUSY);                                         \
+        leaves;                                                                      \
+        return livevec_proved_##name arguments;                                      \
     }
 
 /* The same at one slot, with a further pointer or not, and at two. */
 #define AT_ONE(answer, as, name, parameters, there, slot, arguments) \
-    OVER_PROVED(answer, as, name, parameters, there, enter(&slot->busy_), leave(&slot->busy_), arguments)
-#define AT_TWO(answer, as, name, parameters, first, second, arguments)                                 \
-    OVER_PROVED(answer, as, name, parameters, first && second, enter_both(&first->busy_, &second->busy_), \
-                leave_both(&first->busy_, &second->busy_), arguments)
+    OVER_PROVED(answer, as, name, parameters, there, enter(&slot->busy_), LEAVES(left, slot), arguments)
+#define AT_TWO(answer, as, name, parameters, first, second, arguments)                                       \
+    OVER_PROVED(answer, as, name, parameters, first && second, enter_both(&first->busy_, &second->busy_),    \
+                LEAVES_BOTH(first, second), arguments)
 
 /* Of what answers by its refusal alone, and of what answers more. */
 #define TOLD(name, parameters, slot, arguments) AT_ONE(uint32_t, AS_NUMBER, name, parameters, slot, slot, arguments)
