@@ -18,7 +18,7 @@ void misuse_of_vectors(void);
 /* The tests of boards and seats. */
 void boards(void);
 
-/* The tests of calls beside one another at one slot. */
+/* The tests of calls beside one another at one slot. They come before all others that begin a thread. */
 void beside(void);
 
 /* The tests of questions by one kind, one or many at once. */

@@ -1,9 +1,13 @@
 /* Calls beside one another at one slot, which owes them an answer each: what was asked for, or LIVEVEC_BUSY with nothing done. */
+#define _XOPEN_SOURCE 700 /* of timers */
 #include "tests.h"
 
 #include <pthread.h>
+#include <signal.h>
+#include <string.h>
+#include <sys/time.h>
 
-enum { THREADS = 4, CALLS = 20000 };
+enum { THREADS = 4, CALLS = 20000, WRITES = 200000, PLACES = 8 };
 
 static livevec_vector shared;
 
@@ -56,8 +60,74 @@ static uint32_t run(void *(*calls)(void *))
     return accepted;
 }
 
+/* One that writes at every second place, and what it wrote there last. */
+struct writer {
+    struct told told;
+    uint32_t calls, edit, lost;
+    int64_t kept[PLACES];
+};
+
+/* The program, and the handler of a signal. */
+static struct writer writers[2];
+
+/* Writes at a writer's next place. What it wrote there before is lost where the answer tells another value. */
+static void write_next(struct writer *w)
+{
+    uint32_t place = w->calls++ % PLACES;
+    livevec_edited e = livevec_write(&shared, 2 * place + (uint32_t)(w - writers), w->calls);
+    if (e.refusal == LIVEVEC_OK) {
+        w->lost += e.edit <= w->edit || e.value != w->kept[place];
+        w->edit = e.edit;
+        w->kept[place] = w->calls;
+    }
+    if (e.refusal != LIVEVEC_NO_MEMORY)
+        count(&w->told, e.refusal);
+}
+
+/* A handler may not call malloc: a write that wants memory is refused it, and does nothing. */
+static void strike(int signal)
+{
+    (void)signal;
+    until_failure = 1;
+    write_next(&writers[1]);
+    until_failure = 0;
+}
+
+/* Writes while a timer's handler writes at the same slot. In the midst of a write the handler is told LIVEVEC_BUSY; the write never is. */
+static void struck(void)
+{
+    static const struct itimerval often = {{0, 50}, {0, 50}}, never;
+    memset(writers, 0, sizeof writers);
+    IS(livevec_new(&shared, 17, 10 * WRITES), 0);
+    for (int i = 0; i < 2 * PLACES; i++)
+        IS(livevec_push(&shared, 0).refusal, 0);
+    IS(sigaction(SIGALRM, &(struct sigaction){.sa_handler = strike}, NULL), 0);
+    IS(setitimer(ITIMER_REAL, &often, NULL), 0);
+    for (int i = 0; i < WRITES; i++)
+        write_next(&writers[0]);
+    IS(setitimer(ITIMER_REAL, &never, NULL), 0);
+    IS(sigaction(SIGALRM, &(struct sigaction){.sa_handler = SIG_IGN}, NULL), 0);
+    IS(writers[0].told.accepted, WRITES);
+    IS(writers[1].told.busy > 0, true);
+    IS(livevec_edits(&shared).value, 2 * PLACES + WRITES + writers[1].told.accepted);
+    IS(livevec_size(&shared).value, 2 * PLACES);
+    int64_t sum = 0;
+    for (uint32_t w = 0; w < 2; w++) {
+        IS(writers[w].told.other, 0);
+        IS(writers[w].lost, 0);
+        for (uint32_t i = 0; i < PLACES; i++) {
+            IS(livevec_get(&shared, 2 * i + w).value, writers[w].kept[i]);
+            sum += writers[w].kept[i];
+        }
+    }
+    IS(livevec_value(&shared, LIVEVEC_SUM, 0, 2 * PLACES).values.sum, sum);
+    IS(livevec_free(&shared), 0);
+}
+
 void beside(void)
 {
+    /* this process has begun no thread so far: its slots are marked otherwise until then */
+    struck();
     IS(livevec_new(&shared, 17, THREADS * CALLS), 0);
     uint32_t pushed = run(push_ones);
     IS(livevec_edits(&shared).value, pushed);
@@ -77,4 +147,5 @@ void beside(void)
     shared.busy_ = 0;
     IS(livevec_edits(&shared).value, pushed);
     IS(livevec_free(&shared), 0);
+    struck();
 }
