@@ -62,9 +62,9 @@ build/liblivevec.a:
 
 so: $(SO)/liblivevec.so ## makes build/liblivevec.so of the archive
 
-$(SO)/liblivevec.so: $(LIB)/liblivevec.a bindings/exports.map
+$(SO)/liblivevec.so: $(LIB)/liblivevec.a bindings/exports.map bindings/c/threads_unknown.c
 	@mkdir -p $(SO)
-	@$(CC) -shared -o $@ -Wl,--whole-archive $< -Wl,--no-whole-archive -Wl,--version-script=bindings/exports.map -Wl,-soname,$(SONAME) -Wl,-z,defs
+	@$(CC) -shared -fPIC -o $@ bindings/c/threads_unknown.c -Wl,--whole-archive $< -Wl,--no-whole-archive -Wl,--version-script=bindings/exports.map -Wl,-soname,$(SONAME) -Wl,-z,defs
 	@ln -sf liblivevec.so $(SO)/$(SONAME)
 
 test-c: build/liblivevec.a ## tests the library for C, also under sanitizers and valgrind
