@@ -25,7 +25,7 @@ use Rattle.lv_bodies.specs.Tables.{automaton_operations}
 use Rattle.lv_bodies.specs.TableLaws.{fold_of-automaton}
 use Rattle.lv_bodies.specs.Six.{SixSummary, face_of, six_operations_by}
 use Rattle.lv_bodies.specs.declared.affine.AffineMap.{AffineMap}
-use Rattle.livevec_c.specs.Answers.{high_half, low_half, spread}
+use Rattle.livevec_c.specs.Answers.{high_half, low_half, spread, word_of}
 use Rattle.livevec_c.specs.CellLaws.{values_alike}
 use Rattle.livevec_c.specs.Cells.{values_cell}
 use Rattle.livevec_c.specs.Plainly.{AreValues}
@@ -115,7 +115,7 @@ folds_plain table xs =
     let maps = fold_of-maps xs in
     record {
       sum = fold_of-sum xs;
-      any = ap is_some (fold_of-least xs);
+      any = ap (λ x. word_of (is_some x)) (fold_of-least xs);
       least = ap (λ x. unwrap_or x (pos 0)) (fold_of-least xs);
       greatest = ap (λ x. unwrap_or x (pos 0)) (fold_of-greatest xs);
       best_low = ap (λ x. low_half (unwrap_or x (pos 0))) (fold_of-best xs);

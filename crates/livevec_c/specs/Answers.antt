@@ -1,5 +1,5 @@
 -- What the answers of the library are for C.
-use Rattle.std.specs.Prelude.{ℕ, ℤ, pos, true, false, ◌^◌, Option, Some, None, Result, Ok, Err, ok_or, List, length, slice_get, replicate, unwrap_or, is_some, option_map}
+use Rattle.std.specs.Prelude.{ℕ, ℤ, pos, Bool, true, false, ◌^◌, Option, Some, None, Result, Ok, Err, ok_or, List, length, slice_get, replicate, unwrap_or, is_some, option_map}
 use Rattle.std.specs.Int.{int_rem_euclid, int_div_euclid}
 use Rattle.std.specs.Int.RustNames.{unsigned_abs}
 use Rattle.lv_geometry.specs.Numbers.{number_of}
@@ -17,7 +17,7 @@ use Rattle.livevec_c.specs.declared.jobs.Delivered.{Delivered}
 use Rattle.livevec_c.specs.declared.jobs.Vetted.{Vetted}
 use Rattle.livevec_c.specs.declared.results.Edited.{Edited}
 use Rattle.livevec_c.specs.declared.results.Element.{Element}
-use Rattle.livevec_c.specs.declared.results.PlainValues.{PlainValues}
+use Rattle.livevec_c.specs.declared.values.PlainValues.{PlainValues}
 use Rattle.livevec_c.specs.declared.results.Reduced.{Reduced}
 use Rattle.livevec_c.specs.declared.results.Verdict.{Verdict}
 
@@ -76,6 +76,11 @@ low_half x = unsigned_abs (int_rem_euclid x (pos (2 ^ 64)))
 abbrev pub high_half : ℤ → ℤ
 high_half x = int_div_euclid x (pos (2 ^ 64))
 
+-- a `bool` of C and the bytes behind it, as one word
+abbrev pub word_of : Bool → ℕ
+word_of true = 1
+word_of false = 0
+
 -- the six summaries of some elements as their plain values; 0 stands for those that an empty list has not
 abbrev pub spread : SixSummary → PlainValues
 spread s = record {
@@ -87,12 +92,12 @@ spread s = record {
   affine_a = s.1.1.1.1.0.a;
   affine_b = s.1.1.1.1.0.b;
   automaton = s.1.1.1.1.1;
-  any = is_some s.1.0;
+  any = word_of (is_some s.1.0);
 }
 
 -- no values
 abbrev pub valueless : PlainValues
-valueless = record { sum = 0; least = pos 0; greatest = pos 0; best_low = 0; best_high = pos 0; affine_a = 0; affine_b = 0; automaton = replicate 8 0; any = false }
+valueless = record { sum = 0; least = pos 0; greatest = pos 0; best_low = 0; best_high = pos 0; affine_a = 0; affine_b = 0; automaton = replicate 8 0; any = word_of false }
 
 -- a reduction that was refused
 abbrev pub unreduced : ℕ → ℕ → Reduced

@@ -1,7 +1,7 @@
 -- Equal parts make equal cells.
 use Rattle.std.specs.Prelude.{◌≡◌, ℕ, ℤ, List}
 use Rattle.std.proofs.Common.{ap, ◌∙◌}
-use Rattle.livevec_c.specs.declared.results.PlainValues.{PlainValues}
+use Rattle.livevec_c.specs.declared.values.PlainValues.{PlainValues}
 use Rattle.livevec_c.specs.Cells.{map_cell, values_cell}
 use Rattle.livevec_c.specs.Plainly.{AreValues}
 

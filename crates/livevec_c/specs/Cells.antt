@@ -5,8 +5,8 @@ use Rattle.lv_bodies.specs.Plain.{plain_affine, plain_automaton, plain_best, pla
 use Rattle.livevec_c.specs.declared.cells.MapCell.{MapCell}
 use Rattle.livevec_c.specs.declared.cells.StatesCell.{StatesCell}
 use Rattle.livevec_c.specs.declared.cells.TotalCell.{TotalCell}
-use Rattle.livevec_c.specs.declared.results.PlainValues.{PlainValues}
-use Rattle.livevec_c.specs.Answers.{high_half, low_half}
+use Rattle.livevec_c.specs.declared.values.PlainValues.{PlainValues}
+use Rattle.livevec_c.specs.Answers.{high_half, low_half, word_of}
 
 -- the cell of some elements, by each kind: their plain value, 0 where they have none
 abbrev pub least_cell : List ℤ → ℤ
@@ -44,7 +44,7 @@ values_cell table xs = record {
   affine_a = (affine_cell xs).a;
   affine_b = (affine_cell xs).b;
   automaton = plain_automaton table xs;
-  any = is_some (plain_least xs);
+  any = word_of (is_some (plain_least xs));
 }
 
 -- the column of a scan: for each element the cell of all up to it, with it or without it

@@ -6,8 +6,8 @@ use Rattle.lv_bodies.specs.declared.kinds.Shown.{Shown}
 use Rattle.lv_bodies.specs.declared.kinds.Shown.TheVariants as shown
 use Rattle.lv_transcript.specs.declared.claimed.Claimed.{Claimed}
 use Rattle.lv_transcript.specs.Transcript.{AreInOrder}
+use Rattle.livevec_c.specs.declared.claims.GivenValues.{GivenValues}
 use Rattle.livevec_c.specs.declared.claims.Recorded.{Recorded}
-use Rattle.livevec_c.specs.declared.results.PlainValues.{PlainValues}
 use Rattle.livevec_c.specs.Kinds.{kind_at}
 
 -- the number of 128 bits whose low 64 bits and whose others these are
@@ -18,8 +18,8 @@ whole_of low high = high *ℤ pos (2 ^ 64) +ℤ pos low
 abbrev pub where_any : {A : Type 0} → Bool → A → Option A
 where_any any x = if any then Some x else None
 
--- the value of a kind among plain values
-abbrev pub shown_in : Kind → PlainValues → Shown
+-- the value of a kind among the plain values that C gives
+abbrev pub shown_in : Kind → GivenValues → Shown
 shown_in kind.Sum values = shown.Sum values.sum
 shown_in kind.Least values = shown.Least (where_any values.any values.least)
 shown_in kind.Greatest values = shown.Greatest (where_any values.any values.greatest)

@@ -5,15 +5,15 @@ use Rattle.lv_bodies.specs.Automata.{table_of}
 use Rattle.lv_reduce.specs.Answer.{slice_of}
 use Rattle.livevec_c.specs.declared.objects.Object.{Object}
 use Rattle.livevec_c.specs.declared.objects.Object.TheVariants.{Vector}
-use Rattle.livevec_c.specs.declared.results.PlainValues.{PlainValues}
+use Rattle.livevec_c.specs.declared.values.PlainValues.{PlainValues}
 use Rattle.livevec_c.specs.declared.results.Reduced.{Reduced}
-use Rattle.livevec_c.specs.Answers.{high_half, low_half}
+use Rattle.livevec_c.specs.Answers.{high_half, low_half, word_of}
 use Rattle.livevec_c.specs.Behind.{State}
 
 -- the plain values of a list; 0 stands for those that an empty list has not
 pub record AreValues (table : List (List ℕ)) (xs : List ℤ) (values : PlainValues) : Type 0 where
   pub sum : values.sum ≡ plain_sum xs
-  pub any : values.any ≡ is_some (plain_least xs)
+  pub any : values.any ≡ word_of (is_some (plain_least xs))
   pub least : values.least ≡ unwrap_or (plain_least xs) (pos 0)
   pub greatest : values.greatest ≡ unwrap_or (plain_greatest xs) (pos 0)
   pub best_low : values.best_low ≡ low_half (unwrap_or (plain_best xs) (pos 0))

@@ -13,10 +13,10 @@ use Rattle.livevec_c.specs.declared.objects.Object.TheVariants.{Seat}
 use Rattle.livevec_c.specs.declared.results.Count.{Count}
 use Rattle.livevec_c.specs.declared.results.Edited.{Edited}
 use Rattle.livevec_c.specs.declared.results.Element.{Element}
-use Rattle.livevec_c.specs.declared.results.PlainValues.{PlainValues}
+use Rattle.livevec_c.specs.declared.values.PlainValues.{PlainValues}
 use Rattle.livevec_c.specs.declared.results.Reduced.{Reduced}
 use Rattle.livevec_c.specs.declared.results.Renewed.{Renewed}
-use Rattle.livevec_c.specs.Answers.{detail_of, edited_by, element_by, high_half, low_half, no_element, received, unedited, unreduced, valueless}
+use Rattle.livevec_c.specs.Answers.{detail_of, edited_by, element_by, high_half, low_half, no_element, received, unedited, unreduced, valueless, word_of}
 use Rattle.livevec_c.specs.Behind.{no_count}
 use Rattle.livevec_c.specs.Kinds.{sat_at}
 
@@ -38,12 +38,12 @@ count_for _ = no_count
 
 -- the value of a kind among the plain values; whether there is an element is told beside it
 abbrev pub values_for : Bool → Shown → PlainValues
-values_for any (shown.Sum s) = record valueless { sum = s; any = any }
-values_for any (shown.Least x) = record valueless { least = unwrap_or x (pos 0); any = any }
-values_for any (shown.Greatest x) = record valueless { greatest = unwrap_or x (pos 0); any = any }
-values_for any (shown.Best x) = record valueless { best_low = low_half (unwrap_or x (pos 0)); best_high = high_half (unwrap_or x (pos 0)); any = any }
-values_for any (shown.Affine a b) = record valueless { affine_a = a; affine_b = b; any = any }
-values_for any (shown.Automaton states) = record valueless { automaton = states; any = any }
+values_for any (shown.Sum s) = record valueless { sum = s; any = word_of any }
+values_for any (shown.Least x) = record valueless { least = unwrap_or x (pos 0); any = word_of any }
+values_for any (shown.Greatest x) = record valueless { greatest = unwrap_or x (pos 0); any = word_of any }
+values_for any (shown.Best x) = record valueless { best_low = low_half (unwrap_or x (pos 0)); best_high = high_half (unwrap_or x (pos 0)); any = word_of any }
+values_for any (shown.Affine a b) = record valueless { affine_a = a; affine_b = b; any = word_of any }
+values_for any (shown.Automaton states) = record valueless { automaton = states; any = word_of any }
 
 abbrev pub reduced_for : Bool → Option (Said Shown) → Reduced
 reduced_for any (Some (said.Answered answer)) = record { refusal = 0; detail = 0; edit = answer.edit; cells = answer.cells_read; summaries = answer.summaries_read; values = values_for any answer.value }

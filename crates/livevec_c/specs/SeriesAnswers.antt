@@ -7,7 +7,7 @@ use Rattle.lv_series.specs.declared.receipts.LongReceipt.{LongReceipt}
 use Rattle.lv_series.specs.declared.receipts.LongReceipt.TheVariants.{Pushed, Popped, Written, Expired, Swapped, Truncated}
 use Rattle.lv_series.specs.declared.refusals.LongRefusal.{LongRefusal}
 use Rattle.lv_series.specs.declared.refusals.LongRefusal.TheVariants.{OutOfRange}
-use Rattle.livevec_c.specs.declared.results.PlainValues.{PlainValues}
+use Rattle.livevec_c.specs.declared.values.PlainValues.{PlainValues}
 use Rattle.livevec_c.specs.declared.series_results.Refused.{Refused}
 use Rattle.livevec_c.specs.declared.series_results.SeriesEdited.{SeriesEdited}
 use Rattle.livevec_c.specs.declared.series_results.SeriesElement.{SeriesElement}

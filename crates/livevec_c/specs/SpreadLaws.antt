@@ -9,7 +9,7 @@ use Rattle.lv_bodies.specs.declared.kinds.Kind.TheVariants.{Sum, Least, Greatest
 use Rattle.lv_bodies.specs.declared.kinds.Shown.{Shown}
 use Rattle.lv_bodies.specs.declared.kinds.Shown.TheVariants as shown
 use Rattle.lv_bodies.proofs.SixFolds.{face_of-fold}
-use Rattle.livevec_c.specs.Answers.{high_half, low_half, spread}
+use Rattle.livevec_c.specs.Answers.{high_half, low_half, spread, word_of}
 use Rattle.livevec_c.specs.Plainly.{AreValues}
 
 -- what is in a shown value, by its kind
@@ -41,7 +41,7 @@ spread-plain table xs can =
     let at : (kind : Kind) → face_of kind s ≡ plain_value_with table kind xs = λ kind. face_of-fold table kind s xs can refl in
     record {
       sum = ap sum_in (at Sum);
-      any = ap (λ v. is_some (number_in v)) (at Least);
+      any = ap (λ v. word_of (is_some (number_in v))) (at Least);
       least = ap (λ v. unwrap_or (number_in v) (pos 0)) (at Least);
       greatest = ap (λ v. unwrap_or (number_in v) (pos 0)) (at Greatest);
       best_low = ap (λ v. low_half (unwrap_or (number_in v) (pos 0))) (at Best);

@@ -3,7 +3,7 @@ ghost use Rattle.std.specs.Prelude.{◌≡◌, ℕ, ℤ, List};
 ghost use Rattle.lv_bodies.specs.Automata.{table_of};
 ghost use Rattle.lv_bodies.specs.Body.{CanFold, fold_of};
 
-use crate::results::{PlainValues, plain_values, total_halves};
+use crate::values::{PlainValues, plain_values, total_halves};
 use lv_bodies::{
     Affine, AffineMap, Automaton, Best, Body, Greatest, Least, RunTotals, SixByTable, SixSummary,
     Sum,

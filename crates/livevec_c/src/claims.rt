@@ -3,7 +3,7 @@ ghost use Rattle.std.specs.Prelude.{◌≡◌, ◌+ℤ◌, ◌*ℤ◌, ◌^◌, 
 ghost use Rattle.livevec_c.specs.Claims.{ClaimsAre, ClaimsInOrder, claimed_of, made_list, shown_in, whole_of};
 
 use crate::boards::kind_of;
-use crate::results::{BAD_KIND, NO_MEMORY, PlainValues};
+use crate::results::{BAD_KIND, NO_MEMORY};
 use lv_bodies::{Kind, Shown};
 use lv_buffers::are_in_order;
 use lv_transcript::Claimed;
@@ -11,6 +11,21 @@ use std::alloc::Global;
 
 /// The number for recorded answers that don't rise by their edits.
 pub const NOT_IN_ORDER: u32 = 115;
+
+/// The plain values that C gives, in the layout of those that it is given. What stands behind `any` isn't read.
+#[repr(C)]
+#[derive(Clone, Copy)]
+pub struct GivenValues {
+    pub sum: u64,
+    pub least: i64,
+    pub greatest: i64,
+    pub best_low: u64,
+    pub best_high: i64,
+    pub affine_a: u32,
+    pub affine_b: u32,
+    pub automaton: [u8; 8],
+    pub any: bool,
+}
 
 /// A reduction as it was answered: by which kind, over which range, at which edit, and the values, of which those of the kind count.
 #[repr(C)]
@@ -20,7 +35,7 @@ pub struct Recorded {
     pub kind: u32,
     pub lo: u32,
     pub hi: u32,
-    pub values: PlainValues,
+    pub values: GivenValues,
 }
 
 // The number of 128 bits whose low and high half these are.
@@ -31,7 +46,7 @@ fn whole(low: u64, high: i64) -> i128
 }
 
 // The value of a kind among plain values.
-fn shown_in(kind: Kind, values: &PlainValues) -> Shown
+fn shown_in(kind: Kind, values: &GivenValues) -> Shown
     ensures { result ≡ shown_in kind values.now }
 {
     match kind {

@@ -7,8 +7,8 @@ ghost use Rattle.livevec_c.specs.Columns.{filled_behind, scanned_behind};
 
 use crate::cells::{MapCell, StatesCell, TotalCell};
 use crate::columns::{Scanned, scan_held};
-use crate::results::PlainValues;
 use crate::slots::Slot;
+use crate::values::PlainValues;
 use lv_bodies::{Affine, Automaton, Best, Greatest, Kind, Least, SixByTable, Sum};
 use std::alloc::Global;
 

@@ -52,6 +52,7 @@ mod subtrees;
 mod summaries;
 mod transcript_audits;
 mod transcripts;
+mod values;
 mod vectors;
 mod verdicts;
 mod writes;

@@ -1,10 +1,10 @@
 //! The cell of each kind, and that of all six, among the plain values of all six.
 ghost use Rattle.std.specs.Prelude.{◌≡◌, ℕ, ℤ, List};
 ghost use Rattle.livevec_c.specs.Cells.{values_cell};
-ghost use Rattle.livevec_c.specs.declared.results.PlainValues.{PlainValues};
+ghost use Rattle.livevec_c.specs.declared.values.PlainValues.{PlainValues};
 
 use crate::cells::{Celled, MapCell, StatesCell, TotalCell};
-use crate::results::PlainValues;
+use crate::values::PlainValues;
 use lv_bodies::{Affine, Automaton, Best, Greatest, Least, SixByTable, Sum};
 
 /// A body whose cell is found among the plain values of all six.

@@ -8,8 +8,9 @@ ghost use Rattle.livevec_c.specs.declared.places_found.Wanted.TheVariants as wan
 use crate::kind_vectors::KindVector;
 use crate::objects::Object;
 use crate::only::may_ask;
-use crate::results::{BAD_KIND, NO_HANDLE, detail, halves};
+use crate::results::{BAD_KIND, NO_HANDLE, detail};
 use crate::slots::{Slot, put, take};
+use crate::values::halves;
 use lv_bodies::Kind;
 use lv_geometry::Refusal;
 use lv_where::{Placed, Run};

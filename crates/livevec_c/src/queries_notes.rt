@@ -4,8 +4,8 @@ ghost use Rattle.livevec_c.specs.Queried.{NotesInto, NotesOne, PutsNote, has_som
 
 use crate::only::number_of;
 use crate::questions::Question;
-use crate::results::PlainValues;
 use crate::said::shown_values;
+use crate::values::PlainValues;
 use lv_bodies::Shown;
 use lv_standing::Name;
 

@@ -1,12 +1,12 @@
 //! What the calls answer, in the layouts of the header, and the words that make them.
-ghost use Rattle.std.specs.Prelude.{◌≡◌, pos, option_map, unwrap_or};
-ghost use Rattle.livevec_c.specs.Answers.{detail_of, edited_by, element_by, high_half, low_half, reduced_by, spread, unreduced, valueless};
+ghost use Rattle.std.specs.Prelude.{◌≡◌, pos};
+ghost use Rattle.livevec_c.specs.Answers.{detail_of, edited_by, element_by, reduced_by, unreduced};
 
-use lv_bodies::{RunTotals, SixSummary};
+use crate::values::{PlainValues, no_values, plain_values};
+use lv_bodies::SixSummary;
 use lv_edits::Receipt;
 use lv_geometry::Refusal;
 use lv_reduce::Answer;
-use lv_shards::Each;
 
 /// The number for want of memory, as the library has it.
 pub const NO_MEMORY: u32 = 6;
@@ -92,21 +92,6 @@ pub struct Taken {
     pub held: u64,
     pub stale: u64,
     pub strangers: u64,
-}
-
-/// The plain values of a list of elements, by each of the six kinds.
-#[repr(C)]
-#[derive(Clone, Copy)]
-pub struct PlainValues {
-    pub sum: u64,
-    pub least: i64,
-    pub greatest: i64,
-    pub best_low: u64,
-    pub best_high: i64,
-    pub affine_a: u32,
-    pub affine_b: u32,
-    pub automaton: [u8; 8],
-    pub any: bool,
 }
 
 /// What a reduction answers.
@@ -200,72 +185,6 @@ pub fn element_answer(answer: Result<i64, Refusal>) -> Element
             detail: detail(refusal),
             value: 0,
         },
-    }
-}
-
-/// The low and the high 64 bits of a number of 128 bits.
-pub fn halves(x: i128) -> (u64, i64)
-    ensures low { result.0 ≡ low_half x }
-    ensures high { result.1 ≡ high_half x }
-{
-    let wide = 1 << 64;
-    (
-        x.rem_euclid(wide).cast_unsigned() as u64,
-        x.div_euclid(wide) as i64,
-    )
-}
-
-/// The low and the high half of a total, 0 where there is none.
-pub fn total_halves(totals: Option<RunTotals>) -> (u64, i64)
-    ensures low { result.0 ≡ low_half (unwrap_or (option_map (λ r. r.best) totals) (pos 0)) }
-    ensures high { result.1 ≡ high_half (unwrap_or (option_map (λ r. r.best) totals) (pos 0)) }
-{
-    match totals {
-        None => (0, 0),
-        Some(totals) => halves(totals.best),
-    }
-}
-
-/// The six summaries of some elements, laid out for C.
-pub fn plain_values(summary: SixSummary) -> PlainValues
-    ensures { result ≡ spread summary }
-{
-    each_values(summary.each())
-}
-
-/// The same, where the six are apart.
-pub fn each_values(each: Each) -> PlainValues
-    ensures { result ≡ spread each }
-{
-    let (sum, (least, (greatest, (best, (affine, automaton))))) = each;
-    let (best_low, best_high) = total_halves(best);
-    PlainValues {
-        sum,
-        least: least.unwrap_or(0),
-        greatest: greatest.unwrap_or(0),
-        best_low,
-        best_high,
-        affine_a: affine.a,
-        affine_b: affine.b,
-        automaton,
-        any: least.is_some(),
-    }
-}
-
-/// The values where there are none.
-pub fn no_values() -> PlainValues
-    ensures { result ≡ valueless }
-{
-    PlainValues {
-        sum: 0,
-        least: 0,
-        greatest: 0,
-        best_low: 0,
-        best_high: 0,
-        affine_a: 0,
-        affine_b: 0,
-        automaton: [0; 8],
-        any: false,
     }
 }
 

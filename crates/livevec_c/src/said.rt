@@ -4,9 +4,10 @@ ghost use Rattle.livevec_c.specs.Seats.{count_for, edited_for, element_for, redu
 
 use crate::reads::{count_answer, missing, uncounted};
 use crate::results::{
-    Count, Edited, Element, NO_HANDLE, PlainValues, Reduced, Renewed, detail, edit_answer,
-    element_answer, halves, no_values, not_edited, not_reduced,
+    Count, Edited, Element, NO_HANDLE, Reduced, Renewed, detail, edit_answer, element_answer,
+    not_edited, not_reduced,
 };
+use crate::values::{PlainValues, halves, no_values};
 use lv_bodies::Shown;
 use lv_machine::Said;
 
@@ -47,7 +48,7 @@ pub fn shown_values(any: bool, shown: Shown) -> PlainValues
     ensures { result ≡ values_for any shown }
 {
     let mut values = no_values();
-    values.any = any;
+    values.any = any as u64;
     match shown {
         Shown::Sum(sum) => values.sum = sum,
         Shown::Least(least) => values.least = least.unwrap_or(0),

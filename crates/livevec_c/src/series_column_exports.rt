@@ -5,10 +5,10 @@ ghost use Rattle.livevec_c.specs.Cells.{affine_cell, automaton_cell, best_cell, 
 ghost use Rattle.livevec_c.specs.SeriesPieces.{column_behind, scanned_behind};
 
 use crate::cells::{MapCell, StatesCell, TotalCell};
-use crate::results::PlainValues;
 use crate::series_columns::scan_held;
 use crate::series_results::SeriesScanned;
 use crate::slots::Slot;
+use crate::values::PlainValues;
 use lv_bodies::{Affine, Automaton, Best, Greatest, Least, SixByTable, Sum};
 use std::alloc::Global;
 

@@ -12,10 +12,10 @@ ghost use Rattle.livevec_c.specs.SeriesPieces.{cell_up_to, column_behind, object
 use crate::long_series::Series;
 use crate::objects::Object;
 use crate::picked::Picked;
-use crate::results::plain_values;
 use crate::series_pieces::{element_at, piece_answer, range_refusal};
 use crate::series_results::{SeriesScanned, not_held, not_scanned, refusal_answer};
 use crate::slots::{Slot, put, take};
+use crate::values::plain_values;
 use lv_bodies::{Body, LongBody, SixByTable, SixSummary};
 use lv_series::LongRefusal;
 use std::alloc::Global;

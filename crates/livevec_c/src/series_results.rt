@@ -2,7 +2,8 @@
 ghost use Rattle.std.specs.Prelude.{◌≡◌};
 ghost use Rattle.livevec_c.specs.SeriesAnswers.{granted, long_edited, long_element, long_reduced, refused_by, unedited_by, unelement, unheld, unreduced_by, unscanned_by};
 
-use crate::results::{NO_HANDLE, PlainValues, no_values, plain_values};
+use crate::results::NO_HANDLE;
+use crate::values::{PlainValues, no_values, plain_values};
 use lv_bodies::SixSummary;
 use lv_series::{LongAnswer, LongReceipt, LongRefusal};
 

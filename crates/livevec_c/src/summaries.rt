@@ -7,8 +7,9 @@ ghost use Rattle.livevec_c.specs.Summed.{Extends, ExtendsRead, IsEmptyBy, Joins,
 
 use crate::lifetimes::Table;
 use crate::objects::Object;
-use crate::results::{BAD_KIND, BAD_TABLE, NO_HANDLE, PlainValues, detail, each_values, no_values};
+use crate::results::{BAD_KIND, BAD_TABLE, NO_HANDLE, detail};
 use crate::slots::{Slot, put, take};
+use crate::values::{PlainValues, each_values, no_values};
 use lv_bodies::{Automaton, Kind, SixByTable};
 use lv_live::Live;
 use lv_shards::{JoinRefusal, ReadRefusal, SUMMARY_BYTES, ShardSummary};
