@@ -26,7 +26,7 @@ use Rattle.lv_live.specs.State.{LiveState}
 use Rattle.lv_kinds.specs.Kinds.{AreFolds, AreKept, HaveRoomFor, KeepsAlike, KindsState}
 use Rattle.lv_kinds.specs.NodeRows.{HasSameValues, NodeRowsState}
 use Rattle.lv_kinds.proofs.LastLaws.{IsSumOfRange-alike}
-use Rattle.livevec_c.specs.KindVectors.{IsKindVector, IsSizeAfter, before_last}
+use Rattle.livevec_c.specs.KindVectors.{IsKindVector, before_last, most_after}
 
 -- rows that have the same values are folds alike
 folds_alike : {S : Type 0} (o : Operations S) (es : List Edit) (bit : ℕ) (flags more : NodeRowsState ℕ) (rows longer : NodeRowsState S) → HasSameValues flags more → HasSameValues rows longer → AreFolds o es flags bit rows → AreFolds o es more bit longer
@@ -70,32 +70,32 @@ room_for_fewer s size fewer fits room = record {
 }
 
 -- the list after a possible edit is no longer than what room is made for
-size_possible : (xs ys : List ℤ) (e : Edit) (size room : ℕ) → applied xs e ≡ Some ys → size ≡ length xs → IsSizeAfter size e room → length ys ≤ room
-size_possible xs ys (Push x) size room made is after = omega (arith, ap length (same_Some _ _ made), length_push xs x, is, after)
-size_possible xs ys Pop size room made is after = omega (arith, ap length (cond_some _ _ _ made).1, length-take (length xs - 1) xs, is, after)
-size_possible xs ys (Write i x) size room made is after = omega (arith, ap length (cond_some _ _ _ made).1, length-set xs i x, is, after)
-size_possible xs ys (Reserve n) size room made is after = omega (arith, ap length (same_Some _ _ made), is, after)
-size_possible xs ys (Swap i j) size room made is after = omega (arith, ap length (cond_some _ _ _ made).1, length-swap xs i j, is, after)
-size_possible xs ys (Truncate n) size room made is after = omega (arith, ap length (cond_some _ _ _ made).1, length-take n xs, is, after)
+size_possible : (xs ys : List ℤ) (e : Edit) (size : ℕ) → applied xs e ≡ Some ys → size ≡ length xs → length ys ≤ most_after size e
+size_possible xs ys (Push x) size made is = omega (arith, ap length (same_Some _ _ made), length_push xs x, is)
+size_possible xs ys Pop size made is = omega (arith, ap length (cond_some _ _ _ made).1, length-take (length xs - 1) xs, is)
+size_possible xs ys (Write i x) size made is = omega (arith, ap length (cond_some _ _ _ made).1, length-set xs i x, is)
+size_possible xs ys (Reserve n) size made is = omega (arith, ap length (same_Some _ _ made), is)
+size_possible xs ys (Swap i j) size made is = omega (arith, ap length (cond_some _ _ _ made).1, length-swap xs i j, is)
+size_possible xs ys (Truncate n) size made is = omega (arith, ap length (cond_some _ _ _ made).1, length-take n xs, is)
 
 -- so it is after an edit that is accepted
-pub size_fits : (h : History) (e : Edit) (size room : ℕ) → IsLegalInLimits h → verdict_of h.limits h.journal e ≡ None → size ≡ length (list_of h.journal) → IsSizeAfter size e room → length (list_of (h.journal ++ e ∷ [])) ≤ room
-size_fits h e size room legal free is after =
+pub size_fits : (h : History) (e : Edit) (size : ℕ) → IsLegalInLimits h → verdict_of h.limits h.journal e ≡ None → size ≡ length (list_of h.journal) → length (list_of (h.journal ++ e ∷ [])) ≤ most_after size e
+size_fits h e size legal free is =
     let next = accepted_is_possible h.limits h.journal e free in
     let made = list_of-snoc h.journal e next.0 legal.legal next.1 in
-    let fits = size_possible (list_of h.journal) next.0 e size room next.1 is after in
+    let fits = size_possible (list_of h.journal) next.0 e size next.1 is in
     omega (arith, ap length made.1, fits)
 
 -- and a vector may have so many elements
-pub room_is_allowed : (h : History) (e : Edit) (size room : ℕ) → IsLegalInLimits h → verdict_of h.limits h.journal e ≡ None → size ≡ length (list_of h.journal) → IsSizeAfter size e room → room ≤ 1048568
-room_is_allowed h (Push x) size room legal free is after =
+pub room_is_allowed : (h : History) (e : Edit) (size : ℕ) → IsLegalInLimits h → verdict_of h.limits h.journal e ≡ None → size ≡ length (list_of h.journal) → most_after size e ≤ 1048568
+room_is_allowed h (Push x) size legal free is =
     let full = unrefused_push h.limits (list_of h.journal) x (not_refused h.limits h.journal (Push x) free).1 in
-    omega (arith, full, is, after, legal.size, capacity_of_most h.limits.buckets legal.allowed.few_buckets)
-room_is_allowed h Pop size room legal free is after = omega (arith, is, after, legal.few)
-room_is_allowed h (Write i x) size room legal free is after = omega (arith, is, after, legal.few)
-room_is_allowed h (Reserve n) size room legal free is after = omega (arith, is, after, legal.few)
-room_is_allowed h (Swap i j) size room legal free is after = omega (arith, is, after, legal.few)
-room_is_allowed h (Truncate n) size room legal free is after = omega (arith, is, after, legal.few)
+    omega (arith, full, is, legal.size, capacity_of_most h.limits.buckets legal.allowed.few_buckets)
+room_is_allowed h Pop size legal free is = omega (arith, is, legal.few)
+room_is_allowed h (Write i x) size legal free is = omega (arith, is, legal.few)
+room_is_allowed h (Reserve n) size legal free is = omega (arith, is, legal.few)
+room_is_allowed h (Swap i j) size legal free is = omega (arith, is, legal.few)
+room_is_allowed h (Truncate n) size legal free is = omega (arith, is, legal.few)
 
 -- a history with one more edit was that history before it
 pub before_edit : (h new : History) (e : Edit) → new ≡ with_edit h e → before_last new ≡ h

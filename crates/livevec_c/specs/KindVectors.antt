@@ -15,10 +15,10 @@ pub record IsKindVector (limits : Bounds) (live : LiveState SixByTable SixSummar
   pub limits_are : limits ≡ live.history.limits
   pub kept : AreKept (table_of live.body.automaton) live.history.journal kinds
 
--- a push makes one element more, and no other edit makes more
-abbrev pub IsSizeAfter : ℕ → Edit → ℕ → Type 0
-IsSizeAfter size (Push x) room = room ≡ size + 1
-IsSizeAfter size other room = room ≡ size
+-- how many elements there may be after an edit: a push makes one more, and no other edit makes more
+abbrev pub most_after : ℕ → Edit → ℕ
+most_after size (Push x) = size + 1
+most_after size other = size
 
 -- a history before its last edit
 abbrev pub before_last : History → History

@@ -23,15 +23,15 @@ use std::alloc::{AllocError, Global};
 pub fn kind_of(number: u32) -> Option<Kind>
     ensures { result ≡ kind_at number }
 {
-    let kinds = [
-        Kind::Sum,
-        Kind::Least,
-        Kind::Greatest,
-        Kind::Best,
-        Kind::Affine,
-        Kind::Automaton,
-    ];
-    kinds.get(number as usize).copied()
+    match number {
+        0 => Some(Kind::Sum),
+        1 => Some(Kind::Least),
+        2 => Some(Kind::Greatest),
+        3 => Some(Kind::Best),
+        4 => Some(Kind::Affine),
+        5 => Some(Kind::Automaton),
+        _ => None,
+    }
 }
 
 // A new board of a kind.

@@ -10,7 +10,7 @@ use crate::objects::Object;
 use crate::only::may_ask;
 use crate::results::{BAD_KIND, NO_HANDLE, Reduced, detail, not_reduced};
 use crate::said::shown_values;
-use crate::slots::{Slot, put, take};
+use crate::slots::{Slot, is_full, put, take_full};
 use lv_bodies::Kind;
 use std::alloc::Global;
 
@@ -81,12 +81,11 @@ pub extern "C" fn livevec_proved_value(
     let Some(kind) = kind_of(kind) else {
         return not_reduced(BAD_KIND, 0);
     };
-    match take(alloc, slot) {
-        None => not_reduced(NO_HANDLE, 0),
-        Some(mut held) => {
-            let answer = value_of_object(&mut held, kind, lo, hi);
-            put(slot, held);
-            answer
-        }
+    if !is_full(slot) {
+        return not_reduced(NO_HANDLE, 0);
     }
+    let mut held = take_full(alloc, slot);
+    let answer = value_of_object(&mut held, kind, lo, hi);
+    put(slot, held);
+    answer
 }

@@ -1,12 +1,12 @@
 //! An edit of a live vector, and of what is kept beside it by one kind.
-ghost use Rattle.std.specs.Prelude.{◌≡◌, ◌≤◌, None, length};
+ghost use Rattle.std.specs.Prelude.{◌≡◌, ◌≤◌, None, length, IfErr, OnOk};
 ghost use Rattle.lv_bodies.specs.Automata.{table_of};
 ghost use Rattle.lv_edits.specs.History.{History, list_of, with_edit};
 ghost use Rattle.lv_edits.specs.Kept.{IsLegalInLimits};
 ghost use Rattle.lv_edits.specs.Verdict.{Answers, receipt_of, verdict_of};
 ghost use Rattle.lv_live.specs.State.{SameRefresh};
-ghost use Rattle.lv_kinds.specs.Kinds.{AreKept, HaveRoomFor};
-ghost use Rattle.livevec_c.specs.KindVectors.{IsSizeAfter};
+ghost use Rattle.lv_kinds.specs.Kinds.{AreKept, HaveRoomFor, KeepsAlike};
+ghost use Rattle.livevec_c.specs.KindVectors.{most_after};
 
 use lv_bodies::SixByTable;
 use lv_edits::{Edit, Receipt};
@@ -14,18 +14,23 @@ use lv_geometry::Refusal;
 use lv_kinds::Kinds;
 use lv_live::Live;
 
-// How many elements there must be room for after an edit of a vector of this size.
-fn size_after(edit: &Edit, size: u32) -> u32
-    requires { size ≤ 1048568 }
-    ensures { IsSizeAfter size edit.now result }
+// Makes room for all that may be asked after an edit of a vector of this size, for which there is room: a push alone needs more.
+#[inline(always)]
+fn make_room_for(kinds: &mut Kinds, edit: &Edit, size: u32) -> Result<(), Refusal>
+    requires room { HaveRoomFor kinds.old size }
+    requires few { most_after size edit.now ≤ 1048568 }
+    ensures alike { KeepsAlike kinds.old kinds.new }
+    ensures ok { OnOk result (HaveRoomFor kinds.new (most_after size edit.now)) }
+    ensures err { IfErr result (λ refusal. refusal ≡ Refusal.NoMemory) }
 {
     match edit {
-        Edit::Push(_) => size + 1,
-        _ => size,
+        Edit::Push(_) => kinds.make_room(size + 1),
+        _ => Ok(()),
     }
 }
 
 // Has what is kept by kind follow the edit that a vector, which was of this size, has just made, and which was answered so.
+#[inline(always)]
 fn follow_edit(
     live: &Live<SixByTable>,
     kinds: &mut Kinds,
@@ -48,6 +53,7 @@ fn follow_edit(
 
 /// Makes an edit that the verdict allows, and has what is kept by kind follow it. Room for what may be asked after it is made before
 /// anything changes.
+#[inline(always)]
 pub fn make_beside(
     live: &mut Live<SixByTable>,
     kinds: &mut Kinds,
@@ -62,8 +68,7 @@ pub fn make_beside(
 {
     live.keeps();
     let size = live.size();
-    let room = size_after(&edit, size);
-    match kinds.make_room(room) {
+    match make_room_for(kinds, &edit, size) {
         Err(refusal) => Err(refusal),
         Ok(()) => match live.make(edit) {
             Err(refusal) => Err(refusal),

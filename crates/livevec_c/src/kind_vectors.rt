@@ -89,6 +89,7 @@ impl KindVector {
     }
 
     /// Makes an edit. Refused as `verdict` says, else with `NoMemory`, and nothing has changed then.
+    #[inline(always)]
     pub fn apply(&mut self, edit: Edit) -> Result<Receipt, Refusal>
         ensures answer { Answers self.old.history edit result self.new.history }
         ensures limits { IsLegalInLimits self.new.history }

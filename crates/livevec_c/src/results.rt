@@ -142,6 +142,8 @@ pub fn not_edited(refusal: u32, detail: u32) -> Edited
 }
 
 /// What an edit answers for C.
+// Inlined: where the edit is known, so is its receipt's variant.
+#[inline(always)]
 pub fn edit_answer(answer: Result<Receipt, Refusal>) -> Edited
     ensures { result ≡ edited_by answer }
 {

@@ -1,5 +1,5 @@
 //! The slot that C holds.
-ghost use Rattle.std.specs.Prelude.{◌≡◌, Option, Some, None, option_map, is_some};
+ghost use Rattle.std.specs.Prelude.{◌≡◌, Option, IsSome, Some, None, option_map, is_some};
 
 use crate::objects::Object;
 use crate::raw::Raw;
@@ -36,15 +36,32 @@ impl Slot {
 }
 
 /// Takes what a slot holds, and leaves it empty.
+#[inline(always)]
 pub fn take(alloc: Global, slot: &mut Slot) -> Option<Box<Object>>
     ensures taken { slot.old.raw.inner ≡ option_map (λ b. b.value) result }
     ensures left { slot.new.raw.inner ≡ None }
 {
-    let Slot { full, raw } = mem::replace(slot, Slot::empty(alloc));
-    if full { Some(raw.into_box()) } else { None }
+    if is_full(slot) {
+        Some(take_full(alloc, slot))
+    } else {
+        None
+    }
+}
+
+/// Takes what a full slot holds, and leaves it empty.
+// Inlined: where a caller asked first whether it is full, no choice between two pointers is left.
+#[inline(always)]
+pub fn take_full(alloc: Global, slot: &mut Slot) -> Box<Object>
+    requires full { IsSome slot.old.raw.inner }
+    ensures taken { slot.old.raw.inner ≡ Some result.value }
+    ensures left { slot.new.raw.inner ≡ None }
+{
+    let Slot { full: _, raw } = mem::replace(slot, Slot::empty(alloc));
+    raw.into_box()
 }
 
 /// Puts a box into a slot that is empty.
+#[inline(always)]
 pub fn put(slot: &mut Slot, b: Box<Object>)
     ensures { slot.new.raw.inner ≡ Some b.value }
 {
@@ -52,6 +69,7 @@ pub fn put(slot: &mut Slot, b: Box<Object>)
 }
 
 /// Whether a slot holds something.
+#[inline(always)]
 pub fn is_full(slot: &mut Slot) -> bool
     ensures full { result ≡ is_some slot.old.raw.inner }
     ensures same { slot.new.raw.inner ≡ slot.old.raw.inner }

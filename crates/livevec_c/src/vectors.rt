@@ -6,7 +6,7 @@ ghost use Rattle.livevec_c.specs.Behind.{Edits, EditsObject};
 
 use crate::objects::Object;
 use crate::results::{Edited, NO_HANDLE, edit_answer};
-use crate::slots::{Slot, put, take};
+use crate::slots::{Slot, is_full, put, take_full};
 use lv_edits::Edit;
 use std::alloc::Global;
 
@@ -23,7 +23,8 @@ fn not_held() -> Edited
     }
 }
 
-// An edit of an object.
+// An edit of an object. Inlined, as what it calls is: so each export is left with its own kind of edit.
+#[inline(always)]
 fn edit_object(object: &mut Object, edit: Edit) -> Edited
     ensures { EditsObject edit result object.old object.new }
 {
@@ -34,17 +35,17 @@ fn edit_object(object: &mut Object, edit: Edit) -> Edited
 }
 
 // An edit of what lies behind a slot.
+#[inline(always)]
 fn edit_held(alloc: Global, slot: &mut Slot, edit: Edit) -> Edited
     ensures { Edits edit result slot.old.raw.inner slot.new.raw.inner }
 {
-    match take(alloc, slot) {
-        None => not_held(),
-        Some(mut held) => {
-            let answer = edit_object(&mut held, edit);
-            put(slot, held);
-            answer
-        }
+    if !is_full(slot) {
+        return not_held();
     }
+    let mut held = take_full(alloc, slot);
+    let answer = edit_object(&mut held, edit);
+    put(slot, held);
+    answer
 }
 
 /// Puts an element at the end.

@@ -4,12 +4,16 @@ use Rattle.lv_bodies.specs.Automata.{table_of}
 use Rattle.lv_edits.specs.History.{list_of, with_edit}
 use Rattle.lv_edits.specs.Kept.{IsLegalInLimits}
 use Rattle.lv_edits.specs.Verdict.{receipt_of, verdict_of}
-use Rattle.lv_kinds.specs.Kinds.{AreKept}
+use Rattle.lv_kinds.specs.Kinds.{AreKept, HaveRoomFor}
+use Rattle.livevec_c.specs.KindVectors.{most_after}
 use Rattle.livevec_c.proofs.KindVectorLaws.{before_edit, kept_alike, kept_of_same, room_for_fewer, room_is_allowed, size_fits}
 use Rattle.livevec_c.proofs.edits_beside.make_beside.Goals as goal
 
-pub make_room-requires : goal.make_room-requires
-make_room-requires c = room_is_allowed c.args.live.now.history c.args.edit c.size-size.result c.size_after-room.result c.keeps.ensures.limits c.requires.free c.size-size.ensures c.size_after-room.ensures
+pub make_room_for-requires : goal.make_room_for-requires
+make_room_for-requires c = record {
+  room = subst (HaveRoomFor c.args.kinds.now) (sym c.size-size.ensures) c.requires.kept.room;
+  few = room_is_allowed c.args.live.now.history c.args.edit c.size-size.result c.keeps.ensures.limits c.requires.free c.size-size.ensures;
+}
 
 pub follow_edit-requires : goal.follow_edit-requires
 follow_edit-requires c =
@@ -17,12 +21,12 @@ follow_edit-requires c =
     let new = c.make.new.self in
     let e = c.args.edit in
     let size = c.size-size.result in
-    let room = c.size_after-room.result in
-    let kinds = c.make_room.new.self in
+    let room = most_after size e in
+    let kinds = c.make_room_for.new.kinds in
     let journal = c.in-Ok-make.ensures.answer.journal in
-    let fits = size_fits old.history e size room c.keeps.ensures.limits c.requires.free c.size-size.ensures c.size_after-room.ensures in
+    let fits = size_fits old.history e size c.keeps.ensures.limits c.requires.free c.size-size.ensures in
     let long : length (list_of new.history.journal) ≤ room = subst (λ h. length (list_of h.journal) ≤ room) (sym journal) fits in
-    let kept : AreKept (table_of old.body.automaton) old.history.journal kinds = kept_alike (table_of old.body.automaton) old.history.journal c.args.kinds.now kinds c.make_room.ensures.alike c.requires.kept in
+    let kept : AreKept (table_of old.body.automaton) old.history.journal kinds = kept_alike (table_of old.body.automaton) old.history.journal c.args.kinds.now kinds c.make_room_for.ensures.alike c.requires.kept in
     let is = sym (before_edit old.history new.history e journal) in
     let kept_now : AreKept (table_of new.body.automaton) old.history.journal kinds = subst (λ b. AreKept (table_of b.automaton) old.history.journal kinds) (sym c.in-Ok-make.ensures.refresh.body) kept in
     let asked = room_for_fewer kinds room (length (list_of new.history.journal)) long c.in-Ok.ensures.ok in (
@@ -39,6 +43,6 @@ follow_edit-requires c =
 pub returns-in-Err-make-clause-kept : goal.returns-in-Err-make-clause-kept
 returns-in-Err-make-clause-kept c =
     let old = c.args.live.now in
-    let kinds = c.make_room.new.self in
-    let kept = kept_alike (table_of old.body.automaton) old.history.journal c.args.kinds.now kinds c.make_room.ensures.alike c.requires.kept in
+    let kinds = c.make_room_for.new.kinds in
+    let kept = kept_alike (table_of old.body.automaton) old.history.journal c.args.kinds.now kinds c.make_room_for.ensures.alike c.requires.kept in
     kept_of_same old c.make.new.self kinds c.in-Err-make.ensures.refresh.body c.in-Err-make.ensures.answer.same kept
