@@ -1,6 +1,7 @@
 //! An edit of a live vector, and of what is kept beside it by one kind.
 ghost use Rattle.std.specs.Prelude.{◌≡◌, ◌≤◌, None, length, IfErr, OnOk};
 ghost use Rattle.lv_bodies.specs.Automata.{table_of};
+ghost use Rattle.lv_edits.specs.declared.edit.Edit.{Edit as AnEdit};
 ghost use Rattle.lv_edits.specs.History.{History, list_of, with_edit};
 ghost use Rattle.lv_edits.specs.Kept.{IsLegalInLimits};
 ghost use Rattle.lv_edits.specs.Verdict.{Answers, receipt_of, verdict_of};
@@ -77,5 +78,32 @@ pub fn make_beside(
                 Ok(receipt)
             }
         },
+    }
+}
+
+/// Overwrites an element of a live vector, completed at once, and has what is kept by kind follow it. No room is wanted for that but in
+/// the journal.
+#[inline(always)]
+pub fn overwrite_beside(
+    live: &mut Live<SixByTable>,
+    kinds: &mut Kinds,
+    index: u32,
+    value: i64,
+) -> Result<Receipt, Refusal>
+    requires kept { AreKept (table_of live.old.body.automaton) live.old.history.journal kinds.old }
+    ensures answer { Answers live.old.history (AnEdit.Write index value) result live.new.history }
+    ensures limits { IsLegalInLimits live.new.history }
+    ensures refresh { SameRefresh live.old live.new }
+    ensures kept { AreKept (table_of live.new.body.automaton) live.new.history.journal kinds.new }
+{
+    live.keeps();
+    let size = live.size();
+    match live.write_through(index, value) {
+        Err(refusal) => Err(refusal),
+        Ok(receipt) => {
+            let edit = Edit::Write { index, value };
+            follow_edit(live, kinds, &edit, &receipt, size);
+            Ok(receipt)
+        }
     }
 }

@@ -19,7 +19,7 @@ ghost use Rattle.lv_live.specs.Turns.{TakesTurns};
 ghost use Rattle.lv_kinds.specs.Asked.{IsKindAnswer};
 ghost use Rattle.lv_where.specs.Where.{IsEndReached, IsPlaceOfBest, IsPlaceOfGreatest, IsPlaceOfLeast};
 
-use crate::edits_beside::make_beside;
+use crate::edits_beside::{make_beside, overwrite_beside};
 use crate::pushes::push_beside;
 use crate::writes::write_beside;
 use lv_bodies::{Automaton, Kind, SixByTable, SixSummary};
@@ -97,6 +97,9 @@ impl KindVector {
     {
         // So that it is known to be within its limits where it is refused too.
         self.live.keeps();
+        if let Edit::Write { index, value } = edit {
+            return overwrite_beside(&mut self.live, &mut self.kinds, index, value);
+        }
         match self.live.verdict(&edit) {
             Some(refusal) => Err(refusal),
             None => make_beside(&mut self.live, &mut self.kinds, edit),
