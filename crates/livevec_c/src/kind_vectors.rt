@@ -3,6 +3,7 @@ ghost use Rattle.std.specs.Prelude.{◌≡◌, ◌↔◌, ◌≤◌, ◌<◌, Is
 ghost use Rattle.lv_geometry.specs.declared.nodes.Node.{Node};
 ghost use Rattle.lv_bodies.specs.Automata.{table_of};
 ghost use Rattle.lv_bodies.specs.Six.{six_operations_by};
+ghost use Rattle.lv_edits.specs.declared.edit.Edit.{Edit as AnEdit};
 ghost use Rattle.lv_edits.specs.Batches.{AnswersEdits, writes_at};
 ghost use Rattle.lv_edits.specs.History.{list_of};
 ghost use Rattle.lv_edits.specs.Kept.{IsLegalInLimits};
@@ -89,7 +90,6 @@ impl KindVector {
     }
 
     /// Makes an edit. Refused as `verdict` says, else with `NoMemory`, and nothing has changed then.
-    #[inline(always)]
     pub fn apply(&mut self, edit: Edit) -> Result<Receipt, Refusal>
         ensures answer { Answers self.old.history edit result self.new.history }
         ensures limits { IsLegalInLimits self.new.history }
@@ -97,13 +97,20 @@ impl KindVector {
     {
         // So that it is known to be within its limits where it is refused too.
         self.live.keeps();
-        if let Edit::Write { index, value } = edit {
-            return overwrite_beside(&mut self.live, &mut self.kinds, index, value);
-        }
         match self.live.verdict(&edit) {
             Some(refusal) => Err(refusal),
             None => make_beside(&mut self.live, &mut self.kinds, edit),
         }
+    }
+
+    /// Overwrites the element at an index, and completes that at once. Refused as `apply` refuses it.
+    #[inline(always)]
+    pub fn write(&mut self, index: u32, value: i64) -> Result<Receipt, Refusal>
+        ensures answer { Answers self.old.history (AnEdit.Write index value) result self.new.history }
+        ensures limits { IsLegalInLimits self.new.history }
+        ensures refresh { SameRefresh self.old self.new }
+    {
+        overwrite_beside(&mut self.live, &mut self.kinds, index, value)
     }
 
     /// Pushes values in order, all of them or none, and tells the number of the last edit. Refused as the first push that would be

@@ -23,13 +23,24 @@ fn not_held() -> Edited
     }
 }
 
-// An edit of an object. Inlined, as what it calls is: so each export is left with its own kind of edit.
+// An edit of an object.
 #[inline(always)]
 fn edit_object(object: &mut Object, edit: Edit) -> Edited
     ensures { EditsObject edit result object.old object.new }
 {
     match object {
         Object::Vector(vector, _) => edit_answer(vector.apply(edit)),
+        _ => not_held(),
+    }
+}
+
+// A write at an object. It and what it calls have one caller each, so that all is inlined.
+#[inline(always)]
+fn write_object(object: &mut Object, index: u32, value: i64) -> Edited
+    ensures { EditsObject (asked.Write index value) result object.old object.new }
+{
+    match object {
+        Object::Vector(vector, _) => edit_answer(vector.write(index, value)),
         _ => not_held(),
     }
 }
@@ -74,7 +85,13 @@ pub extern "C" fn livevec_proved_write(
 ) -> Edited
     ensures { Edits (asked.Write index value) result slot.old.raw.inner slot.new.raw.inner }
 {
-    edit_held(alloc, slot, Edit::Write { index, value })
+    if !is_full(slot) {
+        return not_held();
+    }
+    let mut held = take_full(alloc, slot);
+    let answer = write_object(&mut held, index, value);
+    put(slot, held);
+    answer
 }
 
 /// Makes room for so many elements in all.
