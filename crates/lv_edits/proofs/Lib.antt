@@ -5,8 +5,8 @@ pub mod HistoryLaws
 pub mod HoldsLaws
 pub mod HoldsPushes
 pub mod HoldsWrites
+mod LogWalks
 pub mod TouchLaws
 pub mod PushLaws
 pub mod RunLaws
 pub mod Slices
-mod Walks

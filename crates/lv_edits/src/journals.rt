@@ -3,7 +3,7 @@ ghost use Rattle.std.specs.Prelude.{◌≡◌, ℕ, ◌+◌, ◌-◌, ◌<◌, �
 ghost use Rattle.lv_edits.specs.declared.edit.Edit.{Edit as AnEdit};
 
 use crate::edit::Edit;
-use crate::trace::Trace;
+use crate::logs::Log;
 use std::alloc::{AllocError, Global};
 use std::marker::Model;
 
@@ -72,15 +72,15 @@ impl Kept {
 #[derive(Drop)]
 pub struct Erased {
     count: u32,
-    trace: Trace,
+    trace: Log<Edit>,
 }
 
 impl Model for Erased {
     ghost Value = { List AnEdit };
 
-    ghost view = { λ a. a.trace.edits };
+    ghost view = { λ a. a.trace.items };
 
-    ghost invariant = { λ a. a.count ≡ length a.trace.edits };
+    ghost invariant = { λ a. a.count ≡ length a.trace.items };
 }
 
 impl Journal for Erased {
@@ -91,7 +91,7 @@ impl Journal for Erased {
     fn empty(_alloc: Global) -> Erased {
         Erased {
             count: 0,
-            trace: Trace::new(),
+            trace: Log::new(),
         }
     }
 

@@ -8,13 +8,14 @@
 mod edit;
 mod edits;
 mod journals;
+mod logs;
 mod making;
 mod pushing;
 mod receipt;
-mod trace;
 mod writing;
 
 pub use edit::Edit;
 pub use edits::Edits;
 pub use journals::{Erased, Journal, Kept};
+pub use logs::Log;
 pub use receipt::Receipt;

@@ -12,6 +12,7 @@ mod conversation;
 mod fault;
 pub mod grammar;
 mod lines;
+mod named_replies;
 mod numbers;
 mod outbox;
 mod printing;
@@ -26,6 +27,7 @@ pub use command::{Command, Line};
 pub use conversation::converse;
 pub use fault::Fault;
 pub use lines::{is_comment, read_line, without_cr};
+pub use named_replies::{put_named, put_note, put_unwatched, put_watching};
 pub use numbers::number;
 pub use outbox::Outbox;
 pub use printing::{COMMAND, print_command, put_command};
@@ -34,5 +36,5 @@ pub use replies::{
     put_size, put_value,
 };
 pub use responder::Responder;
-pub use sender::{HELD, put, put_element, put_number, put_wide, write_whole};
+pub use sender::{HELD, put, put_element, put_name, put_number, put_wide, write_whole};
 pub use words::{kind_name, next_word, scan_name};

@@ -8,7 +8,7 @@ ghost use Rattle.lv_lines.specs.Grammar.{line_of};
 ghost use Rattle.lv_lines.specs.Printed.{verb_of, arguments_of, range_words, printed, IsCommand};
 
 use crate::command::{Command, Line};
-use crate::sender::{put, put_element, put_number};
+use crate::sender::{put, put_element, put_name, put_number};
 use crate::words::{kind_name, scan_name};
 use lv_bodies::Kind;
 use lv_edits::Edit;
@@ -88,7 +88,8 @@ fn put_name_word(held: &mut Vec<u8>, name: Name)
     ensures len { vec_len held.new ≤ vec_len held.old + 17 }
     ensures room { KeepsRoom held.old held.new }
 {
-    put_word(held, name.as_bytes());
+    put(held, b" ");
+    put_name(held, name);
 }
 
 fn put_number_word(held: &mut Vec<u8>, n: u32)

@@ -2,10 +2,12 @@
 ghost use Rattle.std.specs.Prelude.{◌≡◌, ◌+◌, ◌≤◌, [], ◌++◌, length, IsOk, OnOk, OnErr, IfErr, vec_len};
 ghost use Rattle.std.specs.Io.KnownBytes.{Appends};
 ghost use Rattle.std.specs.Fmt.{decimal, signed_decimal};
+ghost use Rattle.lv_standing.specs.Names.{IsName};
 ghost use Rattle.lv_lines.specs.Output.{HasRoom, KeepsRoom, Writes, WritesFront};
 
 use crate::fault::Fault;
 use itoa::Buffer;
+use lv_standing::Name;
 use std::io::Write;
 
 /// How many bytes of replies the buffer of a conversation has room for.
@@ -42,6 +44,17 @@ pub fn put(held: &mut Vec<u8>, bytes: &[u8])
     let Ok(()) = held.extend_from_slice(bytes) else {
         unreachable!();
     };
+}
+
+/// Puts the bytes of a name, of which there are at most 16, after what is held.
+pub fn put_name(held: &mut Vec<u8>, name: Name)
+    requires { HasRoom held.old 16 }
+    ensures text { held.new.items ≡ held.old.items ++ name }
+    ensures named { IsName name }
+    ensures len { vec_len held.new ≤ vec_len held.old + 16 }
+    ensures room { KeepsRoom held.old held.new }
+{
+    put(held, name.as_bytes());
 }
 
 /// Puts a number in plain decimal after what is held.

@@ -5,7 +5,6 @@ pub mod EditLaws
 pub mod EveryRunLaws
 pub mod HonestSteps
 pub mod LiveLaws
-mod LogWalks
 pub mod OneOutcomeLaws
 pub mod PlayLaws
 pub mod PushedLaws

@@ -1,4 +1,4 @@
-// What is delivered to a node, made anew from what stands here.
+//! What is delivered to a node, made anew from what stands here.
 ghost use Rattle.std.specs.Prelude.{◌≡◌, ◌*◌, true};
 ghost use Rattle.lv_geometry.specs.Nodes.{is_below};
 ghost use Rattle.lv_bodies.specs.Body.{fold_of};
@@ -33,23 +33,9 @@ pub fn deliver_anew<B: Body, J: Journal>(
     ensures after { AfterDelivery table.old table.new node version (fold_of (B.operations body.now) (elements_under history.now.journal node)) result }
     ensures hears { ClaimsHear claims.old claims.new node result }
 {
-    let accepted = delivery(table, node, version);
+    let accepted = table.delivery(node, version);
     if let Accepted::Installed = accepted {
         refresh_node(claims, history, table, body, node, version);
     }
     accepted
-}
-
-// What would become of a summary of a version that is delivered to a node.
-fn delivery<S: Copy>(table: &Summaries<S>, node: Node, version: u32) -> Accepted
-    ensures { result ≡ delivery_in table.now node version }
-{
-    let now = table.touched(node);
-    if !table.whole(node) || now != version {
-        return Accepted::Stale { now };
-    }
-    if table.fresh(node) {
-        return Accepted::Held;
-    }
-    Accepted::Installed
 }

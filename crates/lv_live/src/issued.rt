@@ -2,8 +2,8 @@
 ghost use Rattle.std.specs.Prelude.{◌≡◌, ◌+◌, ◌-◌, ◌<◌, ◌≤◌, None, [], ◌∷◌, ◌++◌, nat_eq, length, option_map, slice_get, OnOk, IfErr, if◌then◌else◌};
 ghost use Rattle.lv_live.specs.State.{job_at, node_and_version};
 
-use crate::logs::Log;
 use lv_bodies::Body;
+use lv_edits::Log;
 use lv_geometry::{Node, Refusal};
 use lv_refresh::Job;
 use std::alloc::Global;

@@ -11,7 +11,6 @@ mod events;
 mod following;
 mod issued;
 mod live;
-mod logs;
 mod playing;
 mod pushing;
 mod replies;

@@ -9,7 +9,6 @@ use Rattle.std.proofs.lemmas.Option.{get_or_from_slice_get, slice_get_read, slic
 use Rattle.lv_machine.specs.declared.actors.Actor.{Actor}
 use Rattle.lv_machine.specs.History.{descriptor_of}
 use Rattle.lv_machine.specs.Machine.{idle}
-use Rattle.lv_machine.specs.Words.{descriptor}
 
 -- the item of a list with another at a place
 pub set_same : {X : Type 0} (xs : List X) (a : ℕ) (x y : X) → slice_get (slice_set xs a x) a ≡ Some y → y ≡ x
@@ -43,13 +42,9 @@ first_written n m first long =
     let next : n ≡ suc m = omega arith in
     subst (λ k. slice_set (replicate k 0) 0 first ≡ first ∷ replicate m 0) (sym next) refl
 
-pub first_descriptor : descriptor_of [] ≡ 268369920
-unfolding descriptor_of descriptor
-first_descriptor = refl
-
 -- one idle actor more
-pub idle_more : {S : Type 0} (n : ℕ) (xs new : List (Actor S)) → xs ≡ replicate n idle → new ≡ xs ++ record { look = 268369920; task = None } ∷ [] → new ≡ replicate (n + 1) idle
-idle_more n xs new are is =
-    is ∙ ap (λ ys. ys ++ record { look = 268369920; task = None } ∷ []) are
-    ∙ ap (λ l. replicate n idle ++ record { look = l; task = None } ∷ []) (sym first_descriptor)
+pub idle_more : {S : Type 0} (n look : ℕ) (xs new : List (Actor S)) → look ≡ descriptor_of [] → xs ≡ replicate n idle → new ≡ xs ++ record { look = look; task = None } ∷ [] → new ≡ replicate (n + 1) idle
+idle_more n look xs new first are is =
+    is ∙ ap (λ ys. ys ++ record { look = look; task = None } ∷ []) are
+    ∙ ap (λ l. replicate n idle ++ record { look = l; task = None } ∷ []) first
     ∙ sym (replicate_next n idle)

@@ -19,6 +19,7 @@ mod outcomes;
 mod packing;
 mod refreshes;
 mod schedules;
+mod start;
 mod steps;
 mod tasks;
 mod verdicts;
@@ -36,4 +37,5 @@ pub use packing::{
     version_in,
 };
 pub use schedules::every_event_is_one_move;
+pub use start::{first_descriptor, first_words};
 pub use verdicts::refused_by_size;

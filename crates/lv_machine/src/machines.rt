@@ -1,17 +1,16 @@
 //! The machine: its words and actors, and what each event makes of them.
-ghost use Rattle.std.specs.Prelude.{◌≡◌, ◌+◌, ◌*◌, ◌<◌, ◌≤◌, [], ◌∷◌, length, replicate, slice_get, slice_set, Some, None, IfOk, IfErr, OnOk, OnErr, if◌then◌else◌};
+ghost use Rattle.std.specs.Prelude.{◌≡◌, ◌+◌, ◌*◌, ◌<◌, ◌≤◌, [], length, replicate, slice_get, slice_set, Some, None, IfOk, IfErr, OnOk, OnErr, if◌then◌else◌};
 ghost use Rattle.lv_edits.specs.Verdict.{IsRefusal};
-ghost use Rattle.lv_machine.specs.History.{descriptor_of};
 ghost use Rattle.lv_machine.specs.Calls.{task_block, goal_block, goal_of, is_short, outcome_of, task_after};
 ghost use Rattle.lv_machine.specs.Machine.{begins, block_refreshed, called, first_state, gone_on, idle, machine_run, machine_step, setting_refusal, stepped};
 ghost use Rattle.lv_machine.specs.Progress.{IsGoal};
-ghost use Rattle.lv_machine.specs.Terms.{blocks_of};
 
 use crate::actors::Actor;
 use crate::advances::advance;
 use crate::events::{Call, Event};
 use crate::outcomes::{Outcome, Said};
 use crate::packing::fits_short;
+use crate::start::{first_descriptor, first_words};
 use crate::steps::take_step;
 use crate::tasks::{Advance, Goal, Task};
 use lv_bodies::Parted;
@@ -19,9 +18,6 @@ use lv_edits::Edit;
 use lv_geometry::{Limits, Refusal};
 use std::alloc::{AllocError, Global};
 use std::marker::Model;
-
-// The descriptor before the first edit.
-const FIRST_DESCRIPTOR: u64 = 0x0fff_0000;
 
 /// The lock-free form as a plain value: words, and calls under way. Its actors have the numbers from 0 on.
 #[derive(Drop)]
@@ -55,7 +51,7 @@ impl<B: Parted> Machine<B> {
         if limits.buckets() > 9 || actors == 0 || actors > 8 {
             return Err(Refusal::BadLimits);
         }
-        let Ok(words) = first_words(alloc, limits) else {
+        let Ok(words) = first_words(alloc, limits.capacity()) else {
             return Err(Refusal::NoMemory);
         };
         let Ok(actors) = idle_actors(alloc, actors) else {
@@ -200,15 +196,6 @@ fn goal_block(goal: Goal) -> Option<u32>
     }
 }
 
-// The words of an empty vector.
-fn first_words(alloc: Global, limits: Limits) -> Result<Vec<u64>, AllocError>
-    ensures { IfOk result (λ words. words.items ≡ descriptor_of [] ∷ replicate (16 * blocks_of limits) 0) }
-{
-    let mut words = vec![in alloc; 0u64; 1 + 2 * limits.capacity() as usize]?;
-    words[0] = FIRST_DESCRIPTOR;
-    Ok(words)
-}
-
 // So many actors at the start.
 fn idle_actors<S: Copy>(alloc: Global, count: u32) -> Result<Vec<Actor<S>>, AllocError>
     ensures { IfOk result (λ actors. actors.items ≡ replicate count idle) }
@@ -216,7 +203,7 @@ fn idle_actors<S: Copy>(alloc: Global, count: u32) -> Result<Vec<Actor<S>>, Allo
     let mut actors = Vec::with_capacity(alloc, count as usize)?;
     for _number in 0..count {
         actors.push_reserved(Actor {
-            look: FIRST_DESCRIPTOR,
+            look: first_descriptor(),
             task: None,
         });
     }

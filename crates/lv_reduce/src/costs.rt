@@ -1,4 +1,4 @@
-// What a reduction reads, counted without reading it: whole blocks that are not fresh are counted at once.
+//! What a reduction reads, counted without reading it: whole blocks that are not fresh are counted at once.
 ghost use Rattle.std.specs.Prelude.{◌≡◌, ◌⊎◌, ◌+◌, ◌%◌, ◌<◌, ◌≤◌, None, IfOk, IfErr, OnOk};
 ghost use Rattle.lv_summary.specs.Table.{fresh_in};
 ghost use Rattle.lv_reduce.specs.Answer.{range_refusal};

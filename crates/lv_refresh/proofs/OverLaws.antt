@@ -6,9 +6,9 @@ use Rattle.std.proofs.lemmas.Bool.{cases_eq, cases_lt, eq-eqb, eqb-true, le-ltb,
 use Rattle.std.proofs.lemmas.List.{get_or-replicate, get_or-set_other, get_or-set_same, get_or-append_right, get_or_append_left, get_or_past, length-append, length-replicate, length-set, take_all}
 use Rattle.std.proofs.lemmas.Nat.{and_le_l}
 use Rattle.std.proofs.lemmas.Nat.Bits.{bit_at-trailing_zeros, bit_at-zero, bit_at_set_same}
-use Rattle.lv_refresh.specs.Inner.{AreFewMarks, AreMarks, AreOver}
+use Rattle.lv_refresh.specs.Inner.{AreMarks, AreOver}
 use Rattle.lv_refresh.specs.Marks.{is_marked}
-use Rattle.lv_refresh.proofs.MarkLaws.{is_marked-clear, is_marked-set, least_marked, least_of_word, unmarked_word}
+use Rattle.lv_refresh.proofs.MarkLaws.{is_marked-clear, is_marked-set, least_marked, unmarked_word}
 
 -- whether a word has a mark, by the word
 some_word : (words : List ℕ) (k word : ℕ) → get_or words k 0 ≡ word → not (nat_eq (get_or words k 0) 0) ≡ not (nat_eq word 0)
@@ -140,8 +140,16 @@ some_before word mask some =
     let most : bit_and word mask ≤ word = and_le_l word mask in
     omega arith
 
--- one word has its bits as marks: setting one marks its number
-word_set : (over k : ℕ) → k < 64 → (j : ℕ) → is_marked (bit_or over (1 * 2 ^ k % 2 ^ 64) ∷ []) j ≡ nat_eq j k || is_marked (over ∷ []) j
+-- one word has its bits as marks: none where it is 0
+pub word_empty : (j : ℕ) → is_marked (0 ∷ []) j ≡ false
+word_empty j =
+    unmarked_word (0 ∷ []) j (elim (cases_lt (j / 64) 1) [
+      | inl first ↦ ap (λ k. get_or (0 ∷ []) k 0) (let at : j / 64 ≡ 0 = omega arith in at)
+      | inr past ↦ get_or_past (0 ∷ []) (j / 64) 0 past
+    ])
+
+-- setting one marks its number
+pub word_set : (over k : ℕ) → k < 64 → (j : ℕ) → is_marked (bit_or over (1 * 2 ^ k % 2 ^ 64) ∷ []) j ≡ nat_eq j k || is_marked (over ∷ []) j
 word_set over k small j =
     let at : k / 64 ≡ 0 = omega arith in
     let bit : k % 64 ≡ k = omega arith in
@@ -150,8 +158,8 @@ word_set over k small j =
     ∙ ap (λ place. is_marked (set (over ∷ []) place (bit_or over (1 * 2 ^ (k % 64) % 2 ^ 64))) j) (sym at)
     ∙ all
 
--- clearing one takes the mark of its number away
-word_clear : (over k : ℕ) → k < 64 → (j : ℕ) → is_marked (bit_and over (bit_not w64 (1 * 2 ^ k % 2 ^ 64)) ∷ []) j ≡ not (nat_eq j k) && is_marked (over ∷ []) j
+-- and clearing one takes the mark of its number away
+pub word_clear : (over k : ℕ) → k < 64 → (j : ℕ) → is_marked (bit_and over (bit_not w64 (1 * 2 ^ k % 2 ^ 64)) ∷ []) j ≡ not (nat_eq j k) && is_marked (over ∷ []) j
 word_clear over k small j =
     let at : k / 64 ≡ 0 = omega arith in
     let bit : k % 64 ≡ k = omega arith in
@@ -159,44 +167,6 @@ word_clear over k small j =
     ap (λ b. is_marked (set (over ∷ []) 0 (bit_and over (bit_not w64 (1 * 2 ^ b % 2 ^ 64)))) j) (sym bit)
     ∙ ap (λ place. is_marked (set (over ∷ []) place (bit_and over (bit_not w64 (1 * 2 ^ (k % 64) % 2 ^ 64)))) j) (sym at)
     ∙ all
-
-module _ (words : List ℕ) (over : ℕ) (few : AreFewMarks words over) where
-  -- few marks are kept as they must be when a number is marked
-  pub AreFewMarks-set : (i w : ℕ) → i / 64 < length words → AreFewMarks (set words (i / 64) (bit_or w (1 * 2 ^ (i % 64) % 2 ^ 64))) (bit_or over (1 * 2 ^ (i / 64) % 2 ^ 64))
-  AreFewMarks-set i w inside =
-      let word = bit_or w (1 * 2 ^ (i % 64) % 2 ^ 64) in
-      let small : i / 64 < 64 = omega (arith, few.few) in
-      record {
-        few = omega (arith, length-set words (i / 64) word, few.few);
-        over_is = AreOver-set (over ∷ []) words few.over_is (bit_or over (1 * 2 ^ (i / 64) % 2 ^ 64) ∷ []) (i / 64) word inside (marked_word w (i % 64) (omega arith)) (word_set over (i / 64) small);
-      }
-
-  -- when a mark is taken away and its word has no other
-  pub AreFewMarks-clear : (i word : ℕ) → i / 64 < length words → word ≡ 0 → AreFewMarks (set words (i / 64) word) (bit_and over (bit_not w64 (1 * 2 ^ (i / 64) % 2 ^ 64)))
-  AreFewMarks-clear i word inside none =
-      let small : i / 64 < 64 = omega (arith, few.few) in
-      record {
-        few = omega (arith, length-set words (i / 64) word, few.few);
-        over_is = AreOver-clear (over ∷ []) words few.over_is (bit_and over (bit_not w64 (1 * 2 ^ (i / 64) % 2 ^ 64)) ∷ []) (i / 64) word inside none (word_clear over (i / 64) small);
-      }
-
-  -- and when its word has others
-  pub AreFewMarks-keep : (i w mask : ℕ) → i / 64 < length words → w ≡ get_or words (i / 64) 0 → bit_and w mask ≢ 0 → AreFewMarks (set words (i / 64) (bit_and w mask)) over
-  AreFewMarks-keep i w mask inside is some =
-      record {
-        few = omega (arith, length-set words (i / 64) (bit_and w mask), few.few);
-        over_is = AreOver-keep (over ∷ []) words few.over_is (i / 64) (bit_and w mask) inside (λ none. some_before w mask some (is ∙ none)) some;
-      }
-
-  -- the lowest bit of the word over others is a word's
-  pub lowest_inside : 0 < over → over < 2 ^ 64 → trailing_zeros w64 over < length words
-  lowest_inside some small = marked_inside (over ∷ []) words (trailing_zeros w64 over) few.over_is (least_of_word over some small).0
-
-  -- and that word has the least mark
-  pub least_few : 0 < over → over < 2 ^ 64 → (word : ℕ) → word ≡ get_or words (trailing_zeros w64 over) 0 → word < 2 ^ 64 → IsLeast words (trailing_zeros w64 over * 64 + trailing_zeros w64 word)
-  least_few some small word here fits =
-      let least = least_of_word over some small in
-      least_below (over ∷ []) words few.over_is (trailing_zeros w64 over) word least.0 least.1 here fits
 
 module _ (words over : List ℕ) (marks : AreMarks words over) where
   -- marks are kept as they must be when a number is marked

@@ -21,11 +21,6 @@ use Rattle.lv_refresh.specs.Record.{is_version}
 abbrev pub AreOver : List ℕ → List ℕ → Type 0
 AreOver over words = (k : ℕ) → is_marked over k ≡ not (nat_eq (slice_index words k) 0)
 
--- one word has a mark for each of some words that has one, so there are at most 64 of them
-pub record AreFewMarks (words : List ℕ) (over : ℕ) : Type 0 where
-  pub few : length words ≤ 64
-  pub over_is : AreOver (over ∷ []) words
-
 -- there are words with room for a mark for each of some words that has one, and few enough words for numbers below 131,072
 pub record AreMarks (words over : List ℕ) : Type 0 where
   pub few : length words ≤ 2048

@@ -6,6 +6,8 @@ ghost use Rattle.lv_refresh.specs.Marks.{is_marked};
 ghost use Rattle.lv_refresh.specs.Record.{is_version};
 
 use crate::marks::Marks;
+use crate::one_word::OneWord;
+use crate::upper::Upper;
 use lv_geometry::Refusal;
 use lv_summary::LateRows;
 use std::alloc::Global;
@@ -16,7 +18,8 @@ use std::marker::Model;
 #[derive(Drop)]
 pub struct Level {
     claimed: LateRows<u32>,
-    hints: Marks,
+    // Three levels of words.
+    hints: Marks<Marks<OneWord>>,
 }
 
 impl Model for Level {

@@ -9,13 +9,14 @@
 mod claims;
 mod computing;
 mod contents;
-mod few_marks;
 mod gathering;
 mod jobs;
 mod level;
 mod marks;
+mod one_word;
 mod outcomes;
 mod subtrees;
+mod upper;
 mod wants;
 
 pub use claims::Claims;

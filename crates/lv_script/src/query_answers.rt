@@ -8,9 +8,9 @@ ghost use Rattle.lv_lines.specs.Output.{HasRoom, KeepsRoom};
 ghost use Rattle.lv_script.specs.Script.{TellsUnwatch, TellsWatch, named_answer_text};
 ghost use Rattle.lv_script.specs.Scripted.{state_of};
 
-use crate::watch_replies::{ROOM, put_named, put_unwatched, put_watching};
+use crate::watch_replies::ROOM;
 use lv_bodies::{Kind, Six};
-use lv_lines::put_refusal;
+use lv_lines::{put_named, put_refusal, put_unwatched, put_watching};
 use lv_standing::{Name, Standing};
 
 /// Registers a query.
@@ -55,7 +55,7 @@ pub fn put_named_answer(standing: &Standing, name: Name, held: &mut Vec<u8>)
     ensures room { KeepsRoom held.old held.new }
 {
     match standing.answer(name) {
-        Ok(answered) => put_named(held, answered.edit, name, answered.value),
+        Ok(answered) => put_named(held, answered.edit.into(), name, answered.value),
         Err(refusal) => put_refusal(held, refusal),
     }
 }

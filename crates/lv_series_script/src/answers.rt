@@ -11,14 +11,11 @@ ghost use Rattle.lv_series_script.specs.LongTexts.{first_text, long_element_text
 use crate::long_commands::{LongCommand, Span};
 use crate::queries::{find, forget, register, tell};
 use crate::scans::{LongScanned, put_scan, range_refusal};
-use crate::texts::{
-    put_answer, put_first, put_named, put_receipt, put_refused, put_size, put_unwatched, put_value,
-    put_watching,
-};
+use crate::texts::{put_answer, put_first, put_receipt, put_refused, put_size, put_value};
 use crate::watched::Watched;
 use lv_bodies::{Kind, Six, face};
 use lv_geometry::Refusal;
-use lv_lines::{Fault, LINE, Outbox};
+use lv_lines::{Fault, LINE, Outbox, put_named, put_unwatched, put_watching};
 use lv_series::{LongEdit, LongReceipt, LongRefusal, Series};
 use lv_standing::Name;
 use std::io::Write;

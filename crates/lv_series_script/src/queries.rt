@@ -8,12 +8,11 @@ ghost use Rattle.lv_series_script.specs.Inside.{HasValue, IsCurrent, brought_up,
 ghost use Rattle.lv_series_script.specs.LongQueries.{long_answer, long_query_of, long_watch_refusal, name_refusal, unknown, without_long};
 
 use crate::long_commands::Span;
-use crate::texts::put_note;
 use crate::values::value_of;
 use crate::watched::Watched;
 use lv_bodies::{Kind, Six};
 use lv_geometry::Refusal;
-use lv_lines::LINE;
+use lv_lines::{LINE, put_note};
 use lv_series::Series;
 use lv_standing::Name;
 

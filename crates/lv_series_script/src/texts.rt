@@ -3,13 +3,12 @@ ghost use Rattle.std.specs.Prelude.{◌≡◌, ◌+◌, ◌≤◌, ◌++◌, cod
 ghost use Rattle.std.specs.Fmt.{signed_decimal};
 ghost use Rattle.lv_series.specs.declared.receipts.LongReceipt.TheVariants as receipt;
 ghost use Rattle.lv_lines.specs.Output.{HasRoom, KeepsRoom};
-ghost use Rattle.lv_lines.specs.Texts.{answer_text, named_text, note_text, reply_line, scan_head, size_text, unwatched_text, value_text, watching_text};
+ghost use Rattle.lv_lines.specs.Texts.{answer_text, reply_line, scan_head, size_text, value_text};
 ghost use Rattle.lv_series_script.specs.LongTexts.{first_text, long_element_text, long_receipt_text, refused_by};
 
 use lv_bodies::{Kind, Shown};
 use lv_lines::{LINE, kind_name, put, put_element, put_number, put_shown, scan_name};
 use lv_series::{LongReceipt, LongRefusal};
-use lv_standing::Name;
 
 /// A refusal, by its number.
 pub fn put_refused(held: &mut Vec<u8>, number: u32)
@@ -168,65 +167,4 @@ pub fn put_head(held: &mut Vec<u8>, edit: u64, inclusive: bool, kind: Kind, coun
     put(held, b" ");
     put_number(held, count);
     put(held, b"\n");
-}
-
-/// That a query stands under the name from now on.
-pub fn put_watching(held: &mut Vec<u8>, name: Name)
-    requires { HasRoom held.old LINE }
-    ensures text { held.new.items ≡ held.old.items ++ watching_text name }
-    ensures room { KeepsRoom held.old held.new }
-{
-    put(held, b"watching ");
-    put_name(held, name);
-    put(held, b"\n");
-}
-
-/// That no query stands under the name any more.
-pub fn put_unwatched(held: &mut Vec<u8>, name: Name)
-    requires { HasRoom held.old LINE }
-    ensures text { held.new.items ≡ held.old.items ++ unwatched_text name }
-    ensures room { KeepsRoom held.old held.new }
-{
-    put(held, b"unwatched ");
-    put_name(held, name);
-    put(held, b"\n");
-}
-
-/// The answer of the query under the name, at an edit.
-pub fn put_named(held: &mut Vec<u8>, edit: u64, name: Name, value: Shown)
-    requires { HasRoom held.old LINE }
-    ensures text { held.new.items ≡ held.old.items ++ named_text edit name value }
-    ensures room { KeepsRoom held.old held.new }
-{
-    put(held, b"at ");
-    put_number(held, edit);
-    put(held, b" ");
-    put_name(held, name);
-    put(held, b" ");
-    put_shown(held, value);
-    put(held, b"\n");
-}
-
-/// That an edit changed the answer of the query under the name, to this value.
-pub fn put_note(held: &mut Vec<u8>, name: Name, value: Shown)
-    requires { HasRoom held.old LINE }
-    ensures text { held.new.items ≡ held.old.items ++ note_text name value }
-    ensures len { vec_len held.new ≤ vec_len held.old + LINE }
-    ensures room { KeepsRoom held.old held.new }
-{
-    put(held, b"note ");
-    put_name(held, name);
-    put(held, b" ");
-    put_shown(held, value);
-    put(held, b"\n");
-}
-
-// The bytes of a name, of which there are at most 16.
-fn put_name(held: &mut Vec<u8>, name: Name)
-    requires { HasRoom held.old 16 }
-    ensures text { held.new.items ≡ held.old.items ++ name }
-    ensures len { vec_len held.new ≤ vec_len held.old + 16 }
-    ensures room { KeepsRoom held.old held.new }
-{
-    put(held, name.as_bytes());
 }

@@ -9,8 +9,23 @@ use crate::accepted::Accepted;
 use crate::level::Level;
 use lv_geometry::{Levels, Node};
 
-/// Delivers a summary of a version to the table of six levels and a size. It is kept where the node is whole, was touched last
-/// by the edit of that number, and has no summary of that version yet.
+/// What would become of a summary of a version that is delivered to the table of six levels and a size. It is installed where the
+/// node is whole, was touched last by the edit of that number, and has no summary of that version yet.
+pub fn delivery<S: Copy>(levels: &Levels<Level<S>>, size: u32, node: Node, version: u32) -> Accepted
+    requires { IsSound (table_of size levels.now) }
+    ensures { result ≡ delivery_in (table_of size levels.now) node version }
+{
+    let now = last_touch(levels, size, node);
+    if !node.is_whole(size) || now != version {
+        return Accepted::Stale { now };
+    }
+    if is_fresh(levels, size, node) {
+        return Accepted::Held;
+    }
+    Accepted::Installed
+}
+
+/// Delivers a summary of a version, and tells what became of it.
 pub fn deliver<S: Copy>(
     levels: &mut Levels<Level<S>>,
     size: u32,
@@ -23,15 +38,11 @@ pub fn deliver<S: Copy>(
     ensures answer { result ≡ delivery_in (table_of size levels.old) node version }
     ensures after { AfterDelivery (table_of size levels.old) (table_of size levels.new) node version s result }
 {
-    let now = last_touch(levels, size, node);
-    if !node.is_whole(size) || now != version {
-        return Accepted::Stale { now };
+    let accepted = delivery(levels, size, node, version);
+    if let Accepted::Installed = accepted {
+        keep(levels, size, node, version, s);
     }
-    if is_fresh(levels, size, node) {
-        return Accepted::Held;
-    }
-    keep(levels, size, node, version, s);
-    Accepted::Installed
+    accepted
 }
 
 // Keeps a summary of a version for a whole node. The size only tells which nodes are whole.

@@ -8,7 +8,7 @@ ghost use Rattle.lv_summary.specs.Changes.{AfterDelivery, AnswersAlike, HasSize,
 ghost use Rattle.lv_summary.specs.Table.{blocks_in, computed_in, delivery_in, entry_in, fresh_in, kept_in, known_entry_in, touched_in, whole_in};
 
 use crate::accepted::Accepted;
-use crate::delivery::{deliver, is_fresh, last_touch, level_of, whole_level};
+use crate::delivery::{deliver, delivery, is_fresh, last_touch, level_of, whole_level};
 use crate::level::Level;
 use lv_geometry::{Levels, Node, Refusal, rows_of};
 use std::alloc::Global;
@@ -216,8 +216,15 @@ impl<S: Copy> Summaries<S> {
         if stamp == 0 { None } else { Some(stamp - 1) }
     }
 
-    /// Delivers a summary of a version. It is kept where the node is whole, was touched last by the edit of that
-    /// number, and has no summary of that version yet.
+    /// What would become of a summary of a version that is delivered to a node. It is installed where the node is whole, was touched
+    /// last by the edit of that number, and has no summary of that version yet.
+    pub fn delivery(&self, node: Node, version: u32) -> Accepted
+        ensures { result ≡ delivery_in self.now node version }
+    {
+        delivery(&self.levels, self.size, node, version)
+    }
+
+    /// Delivers a summary of a version to a node, and tells what became of it.
     pub fn install(&mut self, node: Node, version: u32, s: S) -> Accepted
         ensures answer { result ≡ delivery_in self.old node version }
         ensures after { AfterDelivery self.old self.new node version s result }

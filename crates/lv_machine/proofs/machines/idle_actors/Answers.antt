@@ -9,7 +9,7 @@ loop-number-preserved g c =
     let i = c.loop-number.invariant in
     let pushed = c.push_reserved.ensures in
     record {
-      items = idle_more c.loop-number._number c.loop-number.actors.items _ i.items pushed.items;
+      items = idle_more c.loop-number._number c.first_descriptor.result c.loop-number.actors.items _ c.first_descriptor.ensures i.items pushed.items;
       room = omega (arith, i.room, pushed.len, pushed.capacity, c.loop-number-test.true);
     }
 

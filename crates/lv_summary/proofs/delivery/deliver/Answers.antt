@@ -1,14 +1,8 @@
--- Proof of `deliver`: delivers a summary of a version to the table of six levels and a size.
-use Rattle.std.proofs.Common.{sym, ◌∙◌}
-use Rattle.std.proofs.lemmas.Bool.{cond-false, cond-true}
+-- Proof of `deliver`: delivers a summary of a version, and tells what became of it.
+use Rattle.std.proofs.Common.{sym}
 use Rattle.lv_summary.specs.Inner.{table_of}
-use Rattle.lv_summary.proofs.TableLaws.{delivery_in-current}
+use Rattle.lv_summary.proofs.ChildLaws.{due_version}
 use Rattle.lv_summary.proofs.delivery.deliver.Goals as goal
 
-pub returns-then-is_fresh-clause-answer : goal.returns-then-is_fresh-clause-answer
-returns-then-is_fresh-clause-answer g c =
-    sym (delivery_in-current (table_of c.args.size c.args.levels.now) c.args.node c.args.version (sym c.is_whole.ensures ∙ c.if-not-is_whole.false) (sym c.last_touch-now.ensures.value ∙ c.if-now-version.false) ∙ cond-true _ _ _ (sym c.is_fresh.ensures ∙ c.if-is_fresh.true))
-
-pub returns-clause-answer : goal.returns-clause-answer
-returns-clause-answer g c =
-    sym (delivery_in-current (table_of c.args.size c.args.levels.now) c.args.node c.args.version (sym c.is_whole.ensures ∙ c.if-not-is_whole.false) (sym c.last_touch-now.ensures.value ∙ c.if-now-version.false) ∙ cond-false _ _ _ (sym c.is_fresh.ensures ∙ c.if-is_fresh.false))
+pub keep-requires-clause-version : goal.keep-requires-clause-version
+keep-requires-clause-version g c = due_version (table_of c.args.size c.args.levels.now) c.args.node c.args.version c.requires (sym c.in-Installed.ensures)

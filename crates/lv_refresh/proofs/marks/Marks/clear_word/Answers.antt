@@ -5,8 +5,8 @@ use Rattle.lv_refresh.proofs.OverLaws.{AreMarks-clear}
 use Rattle.lv_refresh.proofs.marks.Marks.clear_word.Goals as goal
 
 pub invariant_of-self : goal.invariant_of-self
-invariant_of-self c =
-    AreMarks-clear c.self.inside.words.items c.self.inside.over.words c.self.invariant c.clear.new.self.words c.args.word 0 (rw (← c.self.view_is) at c.requires) refl c.clear.ensures.room c.clear.ensures.marks
+invariant_of-self g c =
+    AreMarks-clear c.self.inside.words.items (g.U.Upper.words c.self.inside.over) c.self.invariant (g.U.Upper.words c.clear.new.self) c.args.word 0 (rw (← c.self.view_is) at c.requires) refl c.clear.ensures.room c.clear.ensures.marks
 
 pub returns-clause-marks : goal.returns-clause-marks
-returns-clause-marks c = λ j. rw (← c.self.view_is) (is_marked-cleared c.self.inside.words.items c.args.word j (rw (← c.self.view_is) at c.requires))
+returns-clause-marks g c = λ j. rw (← c.self.view_is) (is_marked-cleared c.self.inside.words.items c.args.word j (rw (← c.self.view_is) at c.requires))

@@ -1,6 +1,0 @@
--- A trace owns nothing, so threads may share it.
-use denote.Param.Send.{IsSync, owning_send, part_keyless}
-use Rattle.lv_edits.specs.contracts.trace.Trace.{the_row, the_type}
-
-pub sync : IsSync the_row
-sync = record { shared = λ d b o κ q. part_keyless the_row (owning_send the_type tt (λ d. tt) (λ k x w. tt)) q d b o }

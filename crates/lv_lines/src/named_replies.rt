@@ -1,0 +1,60 @@
+//! The replies about standing queries, and their notes.
+ghost use Rattle.std.specs.Prelude.{◌≡◌, ◌+◌, ◌≤◌, ◌++◌, vec_len};
+ghost use Rattle.lv_lines.specs.Output.{HasRoom, KeepsRoom};
+ghost use Rattle.lv_lines.specs.Texts.{named_text, note_text, unwatched_text, watching_text};
+
+use crate::replies::{LINE, put_shown};
+use crate::sender::{put, put_name, put_number};
+use lv_bodies::Shown;
+use lv_standing::Name;
+
+/// That a query stands under the name from now on.
+pub fn put_watching(held: &mut Vec<u8>, name: Name)
+    requires { HasRoom held.old LINE }
+    ensures text { held.new.items ≡ held.old.items ++ watching_text name }
+    ensures room { KeepsRoom held.old held.new }
+{
+    put(held, b"watching ");
+    put_name(held, name);
+    put(held, b"\n");
+}
+
+/// That no query stands under the name any more.
+pub fn put_unwatched(held: &mut Vec<u8>, name: Name)
+    requires { HasRoom held.old LINE }
+    ensures text { held.new.items ≡ held.old.items ++ unwatched_text name }
+    ensures room { KeepsRoom held.old held.new }
+{
+    put(held, b"unwatched ");
+    put_name(held, name);
+    put(held, b"\n");
+}
+
+/// The answer of the query under the name, at an edit.
+pub fn put_named(held: &mut Vec<u8>, edit: u64, name: Name, value: Shown)
+    requires { HasRoom held.old LINE }
+    ensures text { held.new.items ≡ held.old.items ++ named_text edit name value }
+    ensures room { KeepsRoom held.old held.new }
+{
+    put(held, b"at ");
+    put_number(held, edit);
+    put(held, b" ");
+    put_name(held, name);
+    put(held, b" ");
+    put_shown(held, value);
+    put(held, b"\n");
+}
+
+/// That an edit changed the answer of the query under the name, to this value.
+pub fn put_note(held: &mut Vec<u8>, name: Name, value: Shown)
+    requires { HasRoom held.old LINE }
+    ensures text { held.new.items ≡ held.old.items ++ note_text name value }
+    ensures len { vec_len held.new ≤ vec_len held.old + LINE }
+    ensures room { KeepsRoom held.old held.new }
+{
+    put(held, b"note ");
+    put_name(held, name);
+    put(held, b" ");
+    put_shown(held, value);
+    put(held, b"\n");
+}
