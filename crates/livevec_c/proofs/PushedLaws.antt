@@ -1,5 +1,5 @@
 -- Many pushes at once, beside what is kept by kind.
-use Rattle.std.proofs.Common.{◌≡◌, ℕ, ℤ, ◌+◌, ◌≤◌, None, Some, Result, Ok, Err, List, [], ◌∷◌, length, refl, sym, ap, subst, ◌∙◌, arith}
+use Rattle.std.proofs.Common.{◌≡◌, ℕ, ℤ, ◌+◌, ◌≤◌, None, Result, Ok, Err, List, [], ◌∷◌, length, refl, ap, ◌∙◌, arith}
 use Rattle.std.specs.Prelude.{IfOk}
 use Rattle.lv_geometry.specs.declared.refusals.Refusal.{Refusal}
 use Rattle.lv_geometry.proofs.Capacities.{capacity_of_most}
@@ -9,7 +9,6 @@ use Rattle.lv_edits.specs.History.{History, list_of, with_edit}
 use Rattle.lv_edits.specs.Kept.{IsLegalInLimits}
 use Rattle.lv_edits.specs.Pushes.{AnswersAll, verdict_of_pushes, with_pushes}
 use Rattle.lv_edits.proofs.PushLaws.{keeps_limits, made_by_pushes}
-use Rattle.lv_kinds.specs.Kinds.{ArePushesOf}
 
 -- accepted pushes are no more than the last edit's number
 pub no_more_pushes : (h new : History) (xs : List ℤ) (r : Result ℕ Refusal) → AnswersAll h xs r new → IfOk r (λ edit. length xs ≤ edit)
@@ -21,10 +20,6 @@ pub pushes_are_few : (h : History) (xs : List ℤ) → IsLegalInLimits h → ver
 pushes_are_few h xs legal free =
     let made = made_by_pushes h xs (keeps_limits h legal) free in
     omega (arith, made.size, made.kept.size, ap (λ b. capacity_of b.buckets) made.limits, capacity_of_most h.limits.buckets legal.allowed.few_buckets)
-
--- which pushes what is kept by kind hears of
-pub are_pushes : (h : History) (xs : List ℤ) (first count : ℕ) → IsLegalInLimits h → first ≡ length (list_of h.journal) → count ≡ length xs → ArePushesOf h xs first count
-are_pushes h xs first count legal first_is count_is = record { legal = legal.legal; first_is = sym first_is; count_is = sym count_is }
 
 -- pushes leave the limits
 limits_pushed : (h : History) (xs : List ℤ) → (with_pushes h xs).limits ≡ h.limits

@@ -8,12 +8,12 @@ use Rattle.lv_edits.specs.declared.edit.Edit.{Edit}
 use Rattle.lv_edits.specs.declared.edit.Edit.TheVariants.{Push}
 use Rattle.lv_edits.specs.History.{History}
 use Rattle.lv_live.specs.State.{LiveState}
-use Rattle.lv_kinds.specs.Kinds.{AreKept, KindsState}
+use Rattle.lv_kinds.specs.Kinds.{AreReady, KindsState}
 
--- the limits are the live vector's, and what is kept by kind is true of its elements
+-- the limits are the live vector's, what is kept by kind is right for it, and there is room for all that it may be asked
 pub record IsKindVector (limits : Bounds) (live : LiveState SixByTable SixSummary) (kinds : KindsState) : Type 0 where
   pub limits_are : limits ≡ live.history.limits
-  pub kept : AreKept (table_of live.body.automaton) live.history.journal kinds
+  pub kept : AreReady (table_of live.body.automaton) live.history.journal kinds
 
 -- how many elements there may be after an edit: a push makes one more, and no other edit makes more
 abbrev pub most_after : ℕ → Edit → ℕ

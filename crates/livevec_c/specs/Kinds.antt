@@ -23,6 +23,15 @@ use Rattle.livevec_c.specs.declared.kind_seats.KindSeat.TheVariants as seats
 abbrev pub kind_at : ℕ → Option Kind
 kind_at number = slice_get (kind.Sum ∷ kind.Least ∷ kind.Greatest ∷ kind.Best ∷ kind.Affine ∷ kind.Automaton ∷ []) number
 
+-- the number of a kind
+abbrev pub number_of_kind : Kind → ℕ
+number_of_kind kind.Sum = 0
+number_of_kind kind.Least = 1
+number_of_kind kind.Greatest = 2
+number_of_kind kind.Best = 3
+number_of_kind kind.Affine = 4
+number_of_kind kind.Automaton = 5
+
 -- how the folds of a kind's blocks are kept
 abbrev pub kept_as : {S : Type 0} → ℕ → (S → List ℕ) → Operations S → Folding
 kept_as count parts operations = folds {B = Unit {0}} count parts (λ _. operations) tt

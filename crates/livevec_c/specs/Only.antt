@@ -1,10 +1,10 @@
 -- By which kinds a vector may be asked that is of one kind, or of all six.
 use Rattle.std.specs.Prelude.{Bool, true, false, Option, Some, None, nat_eq}
 use Rattle.lv_bodies.specs.declared.kinds.Kind.{Kind}
-use Rattle.lv_kinds.specs.Kinds.{bit_of}
+use Rattle.livevec_c.specs.Kinds.{number_of_kind}
 
 -- by each kind, and by all six at once, where it is of all; else by its own alone
 abbrev pub is_asked_by : Option Kind → Option Kind → Bool
 is_asked_by None asked = true
 is_asked_by (Some only) None = false
-is_asked_by (Some only) (Some kind) = nat_eq (bit_of only) (bit_of kind)
+is_asked_by (Some only) (Some kind) = nat_eq (number_of_kind only) (number_of_kind kind)

@@ -8,7 +8,6 @@ use Rattle.lv_bodies.specs.Plain.{plain_value_with}
 use Rattle.lv_bodies.specs.declared.kinds.Kind.{Kind}
 use Rattle.lv_bodies.specs.declared.kinds.Shown.{Shown}
 use Rattle.lv_edits.specs.History.{list_of}
-use Rattle.lv_kinds.specs.Kinds.{bit_of}
 use Rattle.lv_standing.specs.Names.{is_name}
 use Rattle.livevec_c.specs.declared.objects.Object.{Object}
 use Rattle.livevec_c.specs.declared.objects.Object.TheVariants.{Queries, Vector}
@@ -18,7 +17,7 @@ use Rattle.livevec_c.specs.declared.questions.Question.{Question}
 use Rattle.livevec_c.specs.declared.results.Reduced.{Reduced}
 use Rattle.livevec_c.specs.Answers.{unreduced}
 use Rattle.livevec_c.specs.Behind.{State}
-use Rattle.livevec_c.specs.Kinds.{kind_at}
+use Rattle.livevec_c.specs.Kinds.{kind_at, number_of_kind}
 use Rattle.livevec_c.specs.Only.{is_asked_by}
 use Rattle.livevec_c.specs.Queries.{QueriesState, place_of, question_refusal, with_question, without_place}
 use Rattle.livevec_c.specs.Seats.{values_for}
@@ -146,7 +145,7 @@ name_for name = name ++ replicate (17 - length name) 0
 
 -- the note of a value, by a vector of this size after this edit
 abbrev pub note_of : ℕ → ℕ → Question → Shown → Note
-note_of edit size q value = record { name = name_for q.name; kind = bit_of q.kind; edit = edit; values = values_for (has_some size q) value }
+note_of edit size q value = record { name = name_for q.name; kind = number_of_kind q.kind; edit = edit; values = values_for (has_some size q) value }
 
 -- the notes of some values: one for each question, in order, whose value is another than it was told, with that value
 abbrev pub AreNotesOf : ℕ → ℕ → List Question → List Shown → List Shown → List Note → Type 0

@@ -1,6 +1,5 @@
 //! Scans of a range, written into a column of the caller's: how one is laid, and when it is refused.
-ghost use Rattle.std.specs.Prelude.{◌≡◌, ◌+◌, ◌-◌, ◌<◌, ◌≤◌, ◌++◌, None, Some, drop, length, map, take};
-ghost use Rattle.std.specs.List.{slice_range};
+ghost use Rattle.std.specs.Prelude.{◌≡◌, ◌+◌, ◌-◌, ◌≤◌, ◌++◌, None, Some, drop, length, map, take};
 ghost use Rattle.lv_edits.specs.History.{list_of};
 ghost use Rattle.lv_reduce.specs.Answer.{scan_of, slice_of};
 ghost use Rattle.lv_reduce.specs.Running.{CanGoOn, reached, scan_from};
@@ -14,7 +13,7 @@ use crate::slots::{Slot, put, take};
 use lv_bodies::{Kind, SixByTable, fold_more};
 use lv_edits::Edits;
 use lv_live::Live;
-use lv_reduce::refusal_of;
+use lv_reduce::{refusal_of, run_at};
 use std::alloc::Global;
 
 /// What a scan answers.
@@ -37,24 +36,6 @@ fn not_scanned(refusal: u32, detail: u32) -> Scanned
         edit: 0,
         length: 0,
     }
-}
-
-// Elements from index `at` on, before `hi`, one at least: a run of them where they lie, or the one at `at` alone, which is put into
-// `cell`, where the last edit's write of it isn't in its place yet.
-#[inline(always)]
-fn run_at<'a>(history: &'a Edits, at: u32, hi: u32, cell: &'a mut [i64; 1]) -> &'a [i64]
-    requires order { at < hi }
-    requires inside { hi ≤ length (list_of history.now.journal) }
-    ensures elements { result.now ≡ slice_range (list_of history.now.journal) at (at + length result.now) }
-    ensures some { 0 < length result.now }
-    ensures few { at + length result.now ≤ hi }
-{
-    let run = history.stretch(at, hi);
-    if run.is_empty() {
-        *cell = [history.read(at)];
-        return &cell[..];
-    }
-    run
 }
 
 // Puts the cells of the scan of some elements, from what stands before them, into a column from a place on. Gives what they lead to.

@@ -6,7 +6,7 @@ ghost use Rattle.lv_edits.specs.History.{History, list_of, with_edit};
 ghost use Rattle.lv_edits.specs.Kept.{IsLegalInLimits};
 ghost use Rattle.lv_edits.specs.Verdict.{Answers, receipt_of, verdict_of};
 ghost use Rattle.lv_live.specs.State.{SameRefresh};
-ghost use Rattle.lv_kinds.specs.Kinds.{AreKept, HaveRoomFor, KeepsAlike};
+ghost use Rattle.lv_kinds.specs.Kinds.{AreKept, AreReady, HaveRoomFor, KeepsAlike};
 ghost use Rattle.livevec_c.specs.KindVectors.{most_after};
 
 use lv_bodies::SixByTable;
@@ -30,26 +30,19 @@ fn make_room_for(kinds: &mut Kinds, edit: &Edit, size: u32) -> Result<(), Refusa
     }
 }
 
-// Has what is kept by kind follow the edit that a vector, which was of this size, has just made, and which was answered so.
+// Has what is kept by kind follow the edit that a vector has just made, and which was answered so.
 #[inline(always)]
-fn follow_edit(
-    live: &Live<SixByTable>,
-    kinds: &mut Kinds,
-    edit: &Edit,
-    receipt: &Receipt,
-    size: u32,
-)
+fn follow_edit(live: &Live<SixByTable>, kinds: &mut Kinds, edit: &Edit, receipt: &Receipt)
     ghost before: { History }
     requires legal { IsLegalInLimits before }
     requires accepted { verdict_of before.limits before.journal edit.now ≡ None }
-    requires size { size ≡ length (list_of before.journal) }
     requires made { live.now.history ≡ with_edit before edit.now }
     requires answered { receipt.now ≡ receipt_of before.journal edit.now }
     requires room { HaveRoomFor kinds.old (length (list_of live.now.history.journal)) }
     requires kept { AreKept (table_of live.now.body.automaton) before.journal kinds.old }
-    ensures { AreKept (table_of live.now.body.automaton) live.now.history.journal kinds.new }
+    ensures { AreReady (table_of live.now.body.automaton) live.now.history.journal kinds.new }
 {
-    kinds.follow_made(edit, receipt, size);
+    kinds.follow_made(edit, receipt);
 }
 
 /// Makes an edit that the verdict allows, and has what is kept by kind follow it. Room for what may be asked after it is made before
@@ -61,11 +54,11 @@ pub fn make_beside(
     edit: Edit,
 ) -> Result<Receipt, Refusal>
     requires free { verdict_of live.old.history.limits live.old.history.journal edit ≡ None }
-    requires kept { AreKept (table_of live.old.body.automaton) live.old.history.journal kinds.old }
+    requires kept { AreReady (table_of live.old.body.automaton) live.old.history.journal kinds.old }
     ensures answer { Answers live.old.history edit result live.new.history }
     ensures limits { IsLegalInLimits live.new.history }
     ensures refresh { SameRefresh live.old live.new }
-    ensures kept { AreKept (table_of live.new.body.automaton) live.new.history.journal kinds.new }
+    ensures kept { AreReady (table_of live.new.body.automaton) live.new.history.journal kinds.new }
 {
     live.keeps();
     let size = live.size();
@@ -74,7 +67,7 @@ pub fn make_beside(
         Ok(()) => match live.make(edit) {
             Err(refusal) => Err(refusal),
             Ok(receipt) => {
-                follow_edit(live, kinds, &edit, &receipt, size);
+                follow_edit(live, kinds, &edit, &receipt);
                 Ok(receipt)
             }
         },
@@ -90,19 +83,18 @@ pub fn overwrite_beside(
     index: u32,
     value: i64,
 ) -> Result<Receipt, Refusal>
-    requires kept { AreKept (table_of live.old.body.automaton) live.old.history.journal kinds.old }
+    requires kept { AreReady (table_of live.old.body.automaton) live.old.history.journal kinds.old }
     ensures answer { Answers live.old.history (AnEdit.Write index value) result live.new.history }
     ensures limits { IsLegalInLimits live.new.history }
     ensures refresh { SameRefresh live.old live.new }
-    ensures kept { AreKept (table_of live.new.body.automaton) live.new.history.journal kinds.new }
+    ensures kept { AreReady (table_of live.new.body.automaton) live.new.history.journal kinds.new }
 {
     live.keeps();
-    let size = live.size();
     match live.write_through(index, value) {
         Err(refusal) => Err(refusal),
         Ok(receipt) => {
             let edit = Edit::Write { index, value };
-            follow_edit(live, kinds, &edit, &receipt, size);
+            follow_edit(live, kinds, &edit, &receipt);
             Ok(receipt)
         }
     }

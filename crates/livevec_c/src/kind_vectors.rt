@@ -69,7 +69,7 @@ impl KindVector {
         KindVector {
             limits,
             live: Live::new(alloc, limits, SixByTable { automaton }),
-            kinds: Kinds::new(alloc),
+            kinds: Kinds::new(alloc, automaton),
         }
     }
 
@@ -134,8 +134,8 @@ impl KindVector {
         write_beside(&mut self.live, &mut self.kinds, indices, values)
     }
 
-    /// The summary by a kind of the elements from index `lo` up to `hi`, with the number of the last edit. What is computed for it is
-    /// kept by that kind alone. Refused with `BadRange`, then `OutOfRange`. Takes no memory.
+    /// The summary by a kind of the elements from index `lo` up to `hi`, with the number of the last edit. That kind alone follows the
+    /// edits that it hasn't followed yet. Refused with `BadRange`, then `OutOfRange`. Takes no memory.
     #[inline(always)]
     pub fn value(&mut self, kind: Kind, lo: u32, hi: u32) -> Result<KindAnswer, Refusal>
         ensures ok { IfOk result (λ answer. IsKindAnswer (table_of self.old.body.automaton) self.old.history.journal kind lo hi answer) }
@@ -144,20 +144,17 @@ impl KindVector {
         ensures same { self.new ≡ self.old }
     {
         self.live.keeps();
-        let automaton = self.live.body().automaton;
-        self.kinds.ask(self.live.view(), &automaton, kind, lo, hi)
+        self.kinds.ask(self.live.view().cells, kind, lo, hi)
     }
 
-    /// The first of the least elements of a range, and where it stands; none of an empty range. Keeps and is refused as `value`.
+    /// The first of the least elements of a range, and where it stands; none of an empty range. Asked and refused as `value`.
     pub fn first_least(&mut self, lo: u32, hi: u32) -> Result<Option<Placed>, Refusal>
         ensures ok { IfOk result (λ place. IsPlaceOfLeast (list_of self.old.history.journal) lo hi place) }
         ensures granted { IfOk result (λ _. range_refusal self.old.history.journal lo hi ≡ None) }
         ensures err { IfErr result (λ refusal. range_refusal self.old.history.journal lo hi ≡ Some refusal) }
         ensures same { self.new ≡ self.old }
     {
-        self.live.keeps();
-        let automaton = self.live.body().automaton;
-        lv_where::first_least(self.live.view(), &automaton, &mut self.kinds, lo, hi)
+        lv_where::first_least(self.live.view().cells, &mut self.kinds, lo, hi)
     }
 
     /// The first of the greatest elements, the same way.
@@ -167,33 +164,27 @@ impl KindVector {
         ensures err { IfErr result (λ refusal. range_refusal self.old.history.journal lo hi ≡ Some refusal) }
         ensures same { self.new ≡ self.old }
     {
-        self.live.keeps();
-        let automaton = self.live.body().automaton;
-        lv_where::first_greatest(self.live.view(), &automaton, &mut self.kinds, lo, hi)
+        lv_where::first_greatest(self.live.view().cells, &mut self.kinds, lo, hi)
     }
 
-    /// The best run of a range: of several the one that ends first, and of those the shortest. Keeps and is refused as `value`.
+    /// The best run of a range: of several the one that ends first, and of those the shortest. Asked and refused as `value`.
     pub fn best_run(&mut self, lo: u32, hi: u32) -> Result<Option<Run>, Refusal>
         ensures ok { IfOk result (λ place. IsPlaceOfBest (list_of self.old.history.journal) lo hi place) }
         ensures granted { IfOk result (λ _. range_refusal self.old.history.journal lo hi ≡ None) }
         ensures err { IfErr result (λ refusal. range_refusal self.old.history.journal lo hi ≡ Some refusal) }
         ensures same { self.new ≡ self.old }
     {
-        self.live.keeps();
-        let automaton = self.live.body().automaton;
-        lv_where::best_run(self.live.view(), &automaton, &mut self.kinds, lo, hi)
+        lv_where::best_run(self.live.view().cells, &mut self.kinds, lo, hi)
     }
 
-    /// The least end up to which the elements from index `lo` on add up to `sum`, or none. Keeps and is refused as `value`.
+    /// The least end up to which the elements from index `lo` on add up to `sum`, or none. Asked and refused as `value`.
     pub fn reaches(&mut self, lo: u32, hi: u32, sum: i128) -> Result<Option<u32>, Refusal>
         ensures ok { IfOk result (λ place. IsEndReached (list_of self.old.history.journal) lo hi sum place) }
         ensures granted { IfOk result (λ _. range_refusal self.old.history.journal lo hi ≡ None) }
         ensures err { IfErr result (λ refusal. range_refusal self.old.history.journal lo hi ≡ Some refusal) }
         ensures same { self.new ≡ self.old }
     {
-        self.live.keeps();
-        let automaton = self.live.body().automaton;
-        lv_where::reaches(self.live.view(), &automaton, &mut self.kinds, lo, hi, sum)
+        lv_where::reaches(self.live.view().cells, &mut self.kinds, lo, hi, sum)
     }
 
     /// The summary by all six kinds, which are kept beside what is delivered. Refused as `value` is. Takes no memory.

@@ -1,13 +1,13 @@
 //! A vector of one kind: by which kinds it may be asked.
 ghost use Rattle.std.specs.Prelude.{◌≡◌, nat_eq};
-ghost use Rattle.lv_kinds.specs.Kinds.{bit_of};
+ghost use Rattle.livevec_c.specs.Kinds.{number_of_kind};
 ghost use Rattle.livevec_c.specs.Only.{is_asked_by};
 
 use lv_bodies::Kind;
 
 /// The number of a kind.
 pub fn number_of(kind: Kind) -> u32
-    ensures { result ≡ bit_of kind }
+    ensures { result ≡ number_of_kind kind }
 {
     match kind {
         Kind::Sum => 0,
@@ -21,7 +21,7 @@ pub fn number_of(kind: Kind) -> u32
 
 // Whether two kinds are one.
 fn is_same(kind: Kind, other: Kind) -> bool
-    ensures { result ≡ nat_eq (bit_of kind) (bit_of other) }
+    ensures { result ≡ nat_eq (number_of_kind kind) (number_of_kind other) }
 {
     number_of(kind) == number_of(other)
 }

@@ -4,7 +4,7 @@ ghost use Rattle.lv_bodies.specs.Automata.{table_of};
 ghost use Rattle.lv_edits.specs.Kept.{IsLegalInLimits};
 ghost use Rattle.lv_edits.specs.Pushes.{AnswersAll};
 ghost use Rattle.lv_live.specs.State.{SameRefresh};
-ghost use Rattle.lv_kinds.specs.Kinds.{AreKept};
+ghost use Rattle.lv_kinds.specs.Kinds.{AreReady};
 ghost use Rattle.livevec_c.specs.Pushed.{Pushes, PushesObject, pushed_by, unpushed};
 
 use crate::objects::Object;
@@ -33,11 +33,11 @@ pub fn push_beside(
     kinds: &mut Kinds,
     values: &[i64],
 ) -> Result<u32, Refusal>
-    requires kept { AreKept (table_of live.old.body.automaton) live.old.history.journal kinds.old }
+    requires kept { AreReady (table_of live.old.body.automaton) live.old.history.journal kinds.old }
     ensures answer { AnswersAll live.old.history values.now result live.new.history }
     ensures limits { IsLegalInLimits live.new.history }
     ensures refresh { SameRefresh live.old live.new }
-    ensures kept { AreKept (table_of live.new.body.automaton) live.new.history.journal kinds.new }
+    ensures kept { AreReady (table_of live.new.body.automaton) live.new.history.journal kinds.new }
 {
     live.keeps();
     if let Some(refusal) = live.verdict_of_pushes(values) {
@@ -50,7 +50,7 @@ pub fn push_beside(
         Ok(()) => match live.push_all(values) {
             Err(refusal) => Err(refusal),
             Ok(edit) => {
-                kinds.follow_pushes(first, count);
+                kinds.forget_sum();
                 Ok(edit)
             }
         },

@@ -4,7 +4,7 @@ ghost use Rattle.lv_bodies.specs.Automata.{table_of};
 ghost use Rattle.lv_edits.specs.Batches.{AnswersEdits, writes_at};
 ghost use Rattle.lv_edits.specs.Kept.{IsLegalInLimits};
 ghost use Rattle.lv_live.specs.State.{SameRefresh};
-ghost use Rattle.lv_kinds.specs.Kinds.{AreKept};
+ghost use Rattle.lv_kinds.specs.Kinds.{AreReady};
 ghost use Rattle.livevec_c.specs.Written.{Writes, WritesObject, WritesVector, place_refused, unwritten};
 
 use crate::kind_vectors::KindVector;
@@ -36,17 +36,17 @@ pub fn write_beside(
     values: &[i64],
 ) -> Result<u32, Refusal>
     requires paired { length indices.now ≡ length values.now }
-    requires kept { AreKept (table_of live.old.body.automaton) live.old.history.journal kinds.old }
+    requires kept { AreReady (table_of live.old.body.automaton) live.old.history.journal kinds.old }
     ensures answer { AnswersEdits live.old.history (writes_at indices.now values.now) result live.new.history }
     ensures limits { IsLegalInLimits live.new.history }
     ensures refresh { SameRefresh live.old live.new }
-    ensures kept { AreKept (table_of live.new.body.automaton) live.new.history.journal kinds.new }
+    ensures kept { AreReady (table_of live.new.body.automaton) live.new.history.journal kinds.new }
 {
     live.keeps();
     match live.write_all(indices, values) {
         Err(refusal) => Err(refusal),
         Ok(edit) => {
-            kinds.follow_writes(indices);
+            kinds.forget_sum();
             Ok(edit)
         }
     }

@@ -1,5 +1,7 @@
 -- Names the files of lemmas of `lv_bodies`.
 pub mod Entries
+pub mod HalfFolds
+pub mod MoreFolds
 pub mod PairFolds
 pub mod RunSums
 pub mod SixFolds

@@ -1,16 +1,16 @@
 -- The laws of the least and the greatest, and that their folds are the plain ones.
-use Rattle.std.specs.Prelude.{◌≡◌, ℤ, Some, List, [], ◌∷◌, refl}
+use Rattle.std.specs.Prelude.{true, false, cond, int_lt, ◌≡◌, ◌⊎◌, ℤ, pos, negsuc, ◌-◌, ◌^◌, Some, List, [], ◌∷◌, refl}
 use Rattle.std.specs.Int.{int_min, int_max}
 use Rattle.std.specs.List.{reduce}
-use Rattle.std.proofs.Common.{arith, ap}
+use Rattle.std.proofs.Common.{arith, ap, sym, subst, inl, inr}
 use Rattle.std.proofs.lemmas.Int.{ints, clamps}
 use Rattle.std.proofs.lemmas.List.Folds.{fold_along}
 use Rattle.lv_geometry.specs.Elements.{IsElement}
 use Rattle.lv_bodies.specs.Body.{BodyLaws, fold_of}
 use Rattle.lv_bodies.specs.Plain.{plain_least, plain_greatest}
-use Rattle.lv_bodies.specs.Optional.{join_of_both, optional_operations}
+use Rattle.lv_bodies.specs.Optional.{join_of_both}
 use Rattle.lv_bodies.specs.OptionalLaws.{optional_laws}
-use Rattle.lv_bodies.specs.Extremes.{IsExtreme, least_operations, greatest_operations}
+use Rattle.lv_bodies.specs.Extremes.{OrderLaws, IsExtreme, IsBareExtreme, extreme_operations, bare_operations, least_operations, greatest_operations}
 
 -- of three the smaller of the first two or of the last two may be taken first
 pub int_min_assoc : (x y z : ℤ) → int_min (int_min x y) z ≡ int_min x (int_min y z)
@@ -20,34 +20,68 @@ int_min_assoc x y z = omega (arith, ints, clamps)
 pub int_max_assoc : (x y z : ℤ) → int_max (int_max x y) z ≡ int_max x (int_max y z)
 int_max_assoc x y z = omega (arith, ints, clamps)
 
--- the smaller of two elements is an element
-min_element : (x y : ℤ) → IsElement x → IsElement y → IsElement (int_min x y)
-min_element x y p q = omega (arith, ints, clamps)
+-- one of two is one of them
+int_min_one_of : (x y : ℤ) → (int_min x y ≡ x) ⊎ (int_min x y ≡ y)
+int_min_one_of x y = elim (int_lt y x) as (λ b. (cond b y x ≡ x) ⊎ (cond b y x ≡ y)) [ true ↦ inr refl | false ↦ inl refl ]
 
--- the greater of two elements is an element
-max_element : (x y : ℤ) → IsElement x → IsElement y → IsElement (int_max x y)
-max_element x y p q = omega (arith, ints, clamps)
+int_max_one_of : (x y : ℤ) → (int_max x y ≡ x) ⊎ (int_max x y ≡ y)
+int_max_one_of x y = elim (int_lt y x) as (λ b. (cond b x y ≡ x) ⊎ (cond b x y ≡ y)) [ true ↦ inl refl | false ↦ inr refl ]
+
+-- the order by which the smaller comes first
+pub upward : OrderLaws int_min (pos (2 ^ 63 - 1))
+upward = record {
+  one_of = int_min_one_of;
+  associative = int_min_assoc;
+  last_element = omega (arith, ints);
+  before_last = λ x p. omega (arith, ints, clamps);
+  after_any = λ x p. omega (arith, ints, clamps);
+}
+
+-- the order by which the greater comes first
+pub downward : OrderLaws int_max (negsuc (2 ^ 63 - 1))
+downward = record {
+  one_of = int_max_one_of;
+  associative = int_max_assoc;
+  last_element = omega (arith, ints);
+  before_last = λ x p. omega (arith, ints, clamps);
+  after_any = λ x p. omega (arith, ints, clamps);
+}
+
+module _ (first : ℤ → ℤ → ℤ) (last : ℤ) (order : OrderLaws first last) where
+  -- what holds of two elements holds of the one that comes first
+  pub first_holds : (P : ℤ → Type 0) (x y : ℤ) → P x → P y → P (first x y)
+  first_holds P x y p q = elim (order.one_of x y) [ inl e ↦ subst P (sym e) p | inr e ↦ subst P (sym e) q ]
+
+  -- the first of all meets the laws of a body
+  pub extreme_laws : BodyLaws (extreme_operations first) IsExtreme
+  extreme_laws = optional_laws (λ x. x) first (λ x n. IsElement x) record {
+    lift_within = λ x p. p;
+    join_within = λ x y n m p q few. first_holds IsElement x y p q;
+    more_within = λ x n m h p. p;
+    associative = order.associative;
+  }
+
+  -- and so does its bare form
+  pub bare_laws : BodyLaws (bare_operations first last) IsBareExtreme
+  bare_laws = record {
+    identity_within = order.last_element;
+    lift_within = λ x p. p;
+    join_within = λ x y n m p q few. first_holds IsElement x y p q;
+    left_identity = λ x n p few. order.after_any x p;
+    right_identity = λ x n p few. order.before_last x p;
+    associative = λ x y z n m k p q r few. order.associative x y z;
+  }
 
 -- the least meets the laws of a body
 pub least_laws : BodyLaws least_operations IsExtreme
-least_laws = optional_laws (λ x. x) int_min (λ x n. IsElement x) record {
-  lift_within = λ x p. p;
-  join_within = λ x y n m p q few. min_element x y p q;
-  more_within = λ x n m h p. p;
-  associative = int_min_assoc;
-}
+least_laws = extreme_laws int_min _ upward
 
 -- the greatest meets the laws of a body
 pub greatest_laws : BodyLaws greatest_operations IsExtreme
-greatest_laws = optional_laws (λ x. x) int_max (λ x n. IsElement x) record {
-  lift_within = λ x p. p;
-  join_within = λ x y n m p q few. max_element x y p q;
-  more_within = λ x n m h p. p;
-  associative = int_max_assoc;
-}
+greatest_laws = extreme_laws int_max _ downward
 
 -- the fold by a choice between two elements is that choice among all
-fold_of-choice : (choose : ℤ → ℤ → ℤ) (xs : List ℤ) → fold_of (optional_operations (λ x. x) choose) xs ≡ reduce choose xs
+pub fold_of-choice : (choose : ℤ → ℤ → ℤ) (xs : List ℤ) → fold_of (extreme_operations choose) xs ≡ reduce choose xs
 fold_of-choice choose [] = refl
 fold_of-choice choose (x ∷ xs) =
     fold_along (λ s y. join_of_both choose s (Some y)) choose (λ s z. s ≡ Some z)

@@ -1,6 +1,7 @@
 -- Names the files of definitions of `lv_bodies`.
 pub mod Automata
 pub mod BestLaws
+pub mod BareLaws
 pub mod Body
 pub mod ElementLaws
 pub mod EqualLaws
@@ -22,6 +23,7 @@ pub mod PlainLaws
 pub mod RemainderLaws
 pub mod TotalsLaws
 pub mod RunTotals
+pub mod RunLaws
 pub mod Scan
 pub mod ShortLaws
 pub mod Six

@@ -21,6 +21,12 @@ pub record CanJoinLong {S : Type 0} (within : S → ℕ → Type 0) (s t : S) : 
   pub right_within : within t right
   pub few : left + right ≤ 2 ^ 62
 
+-- a summary may take one more element
+pub record CanGrowLong {S : Type 0} (within : S → ℕ → Type 0) (s : S) : Type 0 where
+  pub count : ℕ
+  pub count_within : within s count
+  pub few : count + 1 ≤ 2 ^ 62
+
 -- elements that a long fold may go over: at most 2 ^ 62, and each of 64 bits
 pub record CanFoldLong (xs : List ℤ) : Type 0 where
   pub few : length xs ≤ 2 ^ 62

@@ -1,5 +1,6 @@
 -- What follows from the laws for up to 2 ^ 62 elements, and which bodies meet them.
 use Rattle.std.specs.Prelude.{◌≡◌, ℕ, ℤ, ◌+◌, ◌^◌, ◌≤◌, Option, Some, None, List, [], ◌∷◌, ◌++◌, length, fold, All, IsTrue, refl}
+use Rattle.std.specs.Int.{int_min, int_max}
 use Rattle.std.proofs.Common.{sym, ap, ◌∙◌, subst, arith, length-append}
 use Rattle.std.proofs.Math.Seq.{take-append_seam, drop-append_seam}
 use Rattle.std.proofs.lemmas.List.Elements.{All-head, All-tail, All-take, All-drop}
@@ -8,14 +9,14 @@ use Rattle.lv_geometry.specs.Elements.{IsElement}
 use Rattle.lv_bodies.specs.AffineLaws.{affine_laws}
 use Rattle.lv_bodies.specs.AffineMaps.{affine_operations, IsAffineMap}
 use Rattle.lv_bodies.specs.Body.{BodyLaws, CanJoin, Operations, fold_of}
-use Rattle.lv_bodies.specs.ExtremeLaws.{greatest_laws, least_laws}
-use Rattle.lv_bodies.specs.Extremes.{IsExtreme, greatest_operations, least_operations}
-use Rattle.lv_bodies.specs.Long.{CanFoldLong, CanJoinLong, FoldsWithin, JoinsLong, LongLaws}
+use Rattle.lv_bodies.specs.ExtremeLaws.{bare_laws, downward, extreme_laws, upward}
+use Rattle.lv_bodies.specs.Extremes.{IsBareExtreme, IsExtreme, OrderLaws, bare_operations, extreme_operations, greatest_operations, least_operations}
+use Rattle.lv_bodies.specs.Long.{CanJoinLong, FoldsWithin, JoinsLong, LongLaws}
 use Rattle.lv_bodies.specs.Optional.{join_of_both}
 use Rattle.lv_bodies.specs.PairLaws.{same_pairs}
 use Rattle.lv_bodies.specs.Pairs.{IsPairWithin, pair_operations}
 use Rattle.lv_bodies.specs.Plain.{program_table}
-use Rattle.lv_bodies.specs.RunTotals.{AreTotalsOf, IsBest, best_operations, join_totals}
+use Rattle.lv_bodies.specs.RunTotals.{IsBest, best_operations, join_totals}
 use Rattle.lv_bodies.specs.Six.{six_operations, six_operations_by, six_within}
 use Rattle.lv_bodies.specs.SumLaws.{sum_laws}
 use Rattle.lv_bodies.specs.Sums.{IsSum, sum_operations}
@@ -108,13 +109,21 @@ any_extreme (Some x) n m h = h
 pub sum_long : LongLaws sum_operations IsSum
 sum_long = any_number_laws sum_operations IsSum sum_laws (λ s n m h. h)
 
+-- the first of all by an order
+pub extreme_long : (first : ℤ → ℤ → ℤ) (last : ℤ) → OrderLaws first last → LongLaws (extreme_operations first) IsExtreme
+extreme_long first last order = any_number_laws (extreme_operations first) IsExtreme (extreme_laws first last order) any_extreme
+
+-- and its bare form
+pub bare_long : (first : ℤ → ℤ → ℤ) (last : ℤ) → OrderLaws first last → LongLaws (bare_operations first last) IsBareExtreme
+bare_long first last order = any_number_laws (bare_operations first last) IsBareExtreme (bare_laws first last order) (λ x n m h. h)
+
 -- the least
 pub least_long : LongLaws least_operations IsExtreme
-least_long = any_number_laws least_operations IsExtreme least_laws any_extreme
+least_long = extreme_long int_min _ upward
 
 -- the greatest
 pub greatest_long : LongLaws greatest_operations IsExtreme
-greatest_long = any_number_laws greatest_operations IsExtreme greatest_laws any_extreme
+greatest_long = extreme_long int_max _ downward
 
 -- the affine map
 pub affine_long : LongLaws affine_operations IsAffineMap

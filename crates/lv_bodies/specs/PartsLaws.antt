@@ -1,9 +1,8 @@
 -- That the summary of eight short elements is the whole of its parts.
 use Rattle.std.specs.Prelude.{◌≡◌, ℕ, ℤ, pos, ◌*◌, ◌/◌, ◌%◌, ◌^◌, ◌<◌, ◌≤◌, IsTrue, Some, None, List, [], ◌∷◌, length, All, slice_index}
-use Rattle.std.specs.Int.{int_min, int_max}
 use Rattle.std.specs.Option.{unwrap_or}
 use Rattle.std.proofs.Common.{arith, ap, sym, ◌∙◌, refl, zero, suc}
-use Rattle.std.proofs.lemmas.Int.{ints, clamps}
+use Rattle.std.proofs.lemmas.Int.{ints}
 use Rattle.std.proofs.lemmas.Nat.{mod_below}
 use Rattle.std.proofs.lemmas.List.{get_or_past}
 use Rattle.std.proofs.lemmas.List.Elements.{All-nil, All-cons}
@@ -14,8 +13,8 @@ use Rattle.lv_bodies.specs.Plain.{remainder, total}
 use Rattle.lv_bodies.specs.RemainderLaws.{remainder_below}
 use Rattle.lv_bodies.specs.Sums.{sum_operations}
 use Rattle.lv_bodies.specs.SumLaws.{fold_of-sum}
-use Rattle.lv_bodies.specs.Optional.{optional_operations}
-use Rattle.lv_bodies.specs.Extremes.{least_operations, greatest_operations}
+use Rattle.lv_bodies.specs.Extremes.{OrderLaws, extreme_operations}
+use Rattle.lv_bodies.specs.ExtremeLaws.{first_holds}
 use Rattle.lv_bodies.specs.RunTotals.{totals_of, join_totals, best_operations}
 use Rattle.lv_bodies.specs.TotalsLaws.{same_runs}
 use Rattle.lv_bodies.specs.AffineMaps.{affine_operations, IsAffineMap}
@@ -82,20 +81,12 @@ low_below x = remainder_below x (2 ^ 32) (omega arith)
 pub extreme-are_parts : AreParts 1 extreme_parts
 extreme-are_parts = one_part (λ s. low_32 (unwrap_or s (pos 0))) (λ s. low_below (unwrap_or s (pos 0)))
 
--- the choice among eight short elements is the whole of its part
-extreme-has_parts : (choose : ℤ → ℤ → ℤ) → ((x y : ℤ) → IsShort x → IsShort y → IsShort (choose x y)) → HasParts extreme_parts extreme_of_parts (optional_operations (λ x. x) choose)
-extreme-has_parts choose stays xs eight short =
-    let (x, is, kept) = kept_of_eight (λ x. x) choose (λ x n. IsShort x) (λ x h. h) (λ x n y p q. stays x y p q) xs eight short in
+-- the first of eight short elements is the whole of its part
+pub extreme-has_parts : (first : ℤ → ℤ → ℤ) (last : ℤ) → OrderLaws first last → HasParts extreme_parts extreme_of_parts (extreme_operations first)
+extreme-has_parts first last order xs eight short =
+    let (x, is, kept) = kept_of_eight (λ x. x) first (λ x n. IsShort x) (λ x h. h) (λ x n y p q. first_holds first last order IsShort x y p q) xs eight short in
     let near : IsNear x 8 = omega (arith, ints) in
     ap (λ s. extreme_of_parts (extreme_parts s)) is ∙ ap Some (widened-low x near) ∙ sym is
-
--- the least of eight short elements is the whole of its part
-pub least-has_parts : HasParts extreme_parts extreme_of_parts least_operations
-least-has_parts = extreme-has_parts int_min (λ x y p q. omega (arith, ints, clamps))
-
--- the greatest of eight short elements is the whole of its part
-pub greatest-has_parts : HasParts extreme_parts extreme_of_parts greatest_operations
-greatest-has_parts = extreme-has_parts int_max (λ x y p q. omega (arith, ints, clamps))
 
 -- a best run has four parts
 pub best-are_parts : AreParts 4 best_parts

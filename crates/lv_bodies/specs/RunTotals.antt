@@ -1,5 +1,5 @@
 -- The operations of the best run: what is kept of some neighbours, so that the greatest total is found.
-use Rattle.std.specs.Prelude.{ℕ, ℤ, ◌*◌, ◌^◌, ◌≤◌, ◌+ℤ◌, Option}
+use Rattle.std.specs.Prelude.{ℕ, ℤ, pos, negsuc, ◌-◌, ◌*◌, ◌^◌, ◌<◌, ◌≤◌, ◌+ℤ◌, ◌≤ℤ◌, Option}
 use Rattle.std.specs.Int.{int_max}
 use Rattle.std.specs.Int.RustNames.{unsigned_abs}
 use Rattle.lv_bodies.specs.Body.{Operations}
@@ -37,3 +37,42 @@ pub record AreTotalsOf (r : RunTotals) (n : ℕ) : Type 0 where
 -- none, or within that of n elements
 abbrev pub IsBest : Option RunTotals → ℕ → Type 0
 IsBest = IsWithinIfSome AreTotalsOf
+
+-- the total of a run of no elements, where a total has to be there: lower than any of elements can be, by so much that it never counts
+abbrev pub no_run : ℤ
+no_run = negsuc (2 ^ 120 - 1)
+
+-- the bare form of the best run: no elements have a total of 0, and no run
+abbrev pub runs_operations : Operations RunTotals
+runs_operations = record {
+  identity = record { total = pos 0; prefix = no_run; suffix = no_run; best = no_run };
+  lift = totals_of;
+  join = join_totals;
+}
+
+-- a total of a run of n elements, or of no run
+pub record IsRunTotalOf (n : ℕ) (x : ℤ) : Type 0 where
+  pub low : no_run ≤ℤ x
+  pub high : x ≤ℤ pos (n * 2 ^ 63)
+
+-- y is not so far below x that no run would count beside it
+abbrev pub CountsBeside : ℤ → ℤ → Type 0
+CountsBeside x y = (x +ℤ no_run) ≤ℤ y
+
+-- all four are within those of n elements, and no run beside them would count
+pub record AreRuns (r : RunTotals) (n : ℕ) : Type 0 where
+  pub total : IsTotalOf n r.total
+  pub prefix : IsRunTotalOf n r.prefix
+  pub suffix : IsRunTotalOf n r.suffix
+  pub best : IsRunTotalOf n r.best
+  pub prefix_counts : CountsBeside r.total r.prefix
+  pub suffix_counts : CountsBeside r.total r.suffix
+  pub best_of_prefix : CountsBeside r.prefix r.best
+  pub best_of_suffix : CountsBeside r.suffix r.best
+
+-- numbers so small that any two of them add up to one of 128 bits
+pub record AreSmall (r : RunTotals) : Type 0 where
+  pub total : unsigned_abs r.total < 2 ^ 126
+  pub prefix : unsigned_abs r.prefix < 2 ^ 126
+  pub suffix : unsigned_abs r.suffix < 2 ^ 126
+  pub best : unsigned_abs r.best < 2 ^ 126

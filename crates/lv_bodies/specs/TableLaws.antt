@@ -82,7 +82,7 @@ automaton_laws table valid = record {
 }
 
 -- what a column has for a state is the table's entry, also past its end
-column_at : (table : List (List ℕ)) (c s : ℕ) → slice_index (map (λ row. slice_index row c) table) s ≡ slice_index (slice_index_or table s []) c
+pub column_at : (table : List (List ℕ)) (c s : ℕ) → slice_index (map (λ row. slice_index row c) table) s ≡ slice_index (slice_index_or table s []) c
 column_at [] c s = refl
 column_at (row ∷ rows) c zero = refl
 column_at (row ∷ rows) c (suc s) = column_at rows c s

@@ -83,7 +83,7 @@ runs_associative r s t =
     (best_assoc r.best s.best t.best r.suffix s.prefix s.suffix s.total t.prefix)
 
 -- a total of n elements and one of m add up to one of n + m, or of more
-added : (n m k : ℕ) (x y : ℤ) → n + m ≤ k → IsTotalOf n x → IsTotalOf m y → IsTotalOf k (x +ℤ y)
+pub added : (n m k : ℕ) (x y : ℤ) → n + m ≤ k → IsTotalOf n x → IsTotalOf m y → IsTotalOf k (x +ℤ y)
 added n m k x y h p q = omega (arith, ints)
 
 -- the greater of two totals of n elements is one of them

@@ -106,6 +106,45 @@ fn follow(first: [u8; 8], second: [u8; 8]) -> [u8; 8]
     reached
 }
 
+impl Automaton {
+    ghost use Rattle.lv_bodies.specs.Tables.{automaton_operations};
+    ghost use Rattle.lv_bodies.specs.Automata.{table_of};
+
+    /// The states reached by a row, and from there by one element.
+    #[inline(always)]
+    pub(crate) fn step(&self, states: [u8; 8], x: i64) -> [u8; 8]
+        requires { All (λ q. q < 8) states }
+        ensures { let o = automaton_operations (table_of self.now) in result ≡ o.join states (o.lift x) }
+    {
+        follow_table(&self.table, states, (x.cast_unsigned() % 4) as usize)
+    }
+}
+
+/// The states that the table has for those of a row, by a remainder.
+#[inline(always)]
+fn follow_table(table: &[[u8; 4]; 8], states: [u8; 8], remainder: usize) -> [u8; 8]
+    requires states { All (λ q. q < 8) states }
+    requires remainder { remainder < 4 }
+    ensures { result ≡ join_state_maps states (map (λ row. slice_index row remainder) table.now) }
+{
+    let mut reached = [0; 8];
+    for q in 0..8 {
+        reached[q] = entry(table, states[q], remainder);
+    }
+    reached
+}
+
+/// The state that the table has for another one, by a remainder.
+#[tactic(auto, using(crate::specs::TableLaws::column_at))]
+#[inline(always)]
+fn entry(table: &[[u8; 4]; 8], state: u8, remainder: usize) -> u8
+    requires state { state < 8 }
+    requires remainder { remainder < 4 }
+    ensures { result ≡ slice_index (map (λ row. slice_index row remainder) table.now) state }
+{
+    table[usize::from(state)][remainder]
+}
+
 impl Body for Automaton {
     ghost use Rattle.std.proofs.Common.{ap};
     ghost use Rattle.lv_bodies.specs.Automata.{table_of};

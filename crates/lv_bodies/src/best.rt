@@ -20,12 +20,11 @@ pub struct RunTotals {
 }
 
 impl RunTotals {
-    ghost use Rattle.lv_bodies.specs.Long.{CanJoinLong};
-    ghost use Rattle.lv_bodies.specs.RunTotals.{totals_of, join_totals, AreTotalsOf};
+    ghost use Rattle.lv_bodies.specs.RunTotals.{totals_of, join_totals, runs_operations, AreSmall};
 
     /// The run of one element.
     #[inline(always)]
-    fn of(x: i64) -> RunTotals
+    pub(crate) fn of(x: i64) -> RunTotals
         ensures { result ≡ totals_of x }
     {
         let x = i128::from(x);
@@ -37,10 +36,24 @@ impl RunTotals {
         }
     }
 
+    /// The run of no elements: a total of 0, and no run.
+    #[inline(always)]
+    pub(crate) fn of_none() -> RunTotals
+        ensures { result ≡ runs_operations.identity }
+    {
+        RunTotals {
+            total: 0,
+            prefix: NO_RUN,
+            suffix: NO_RUN,
+            best: NO_RUN,
+        }
+    }
+
     /// The run of neighbours and of those after them.
     #[inline(always)]
     pub(crate) fn join(self, next: RunTotals) -> RunTotals
-        requires { CanJoinLong AreTotalsOf self next }
+        requires left { AreSmall self }
+        requires right { AreSmall next }
         ensures { result ≡ join_totals self next }
     {
         RunTotals {
@@ -50,7 +63,28 @@ impl RunTotals {
             best: self.best.max(next.best).max(self.suffix + next.prefix),
         }
     }
+
+    /// The run of neighbours and of one element after them.
+    #[inline(always)]
+    pub(crate) fn push(self, x: i64) -> RunTotals
+        requires { AreSmall self }
+        ensures { result ≡ join_totals self (totals_of x) }
+    {
+        let x = i128::from(x);
+        let total = self.total + x;
+        // A run that ends here goes on from what was there before, or begins anew where that was below 0.
+        let suffix = self.suffix.max(0) + x;
+        RunTotals {
+            total,
+            prefix: self.prefix.max(total),
+            suffix,
+            best: self.best.max(suffix),
+        }
+    }
 }
+
+/// The total of a run of no elements: lower than any of elements can be, by so much that it never counts.
+const NO_RUN: i128 = -(1 << 120);
 
 /// The greatest total of at least one neighbour, if there is one.
 #[derive(Clone, Copy, Debug, PartialEq, Eq)]

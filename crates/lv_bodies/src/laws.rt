@@ -1,6 +1,9 @@
 //! What holds of the plain values and of the bodies' folds, each as a function of no effect that promises it.
-ghost use Rattle.std.specs.Prelude.{◌≡◌, ℤ, List};
+ghost use Rattle.std.specs.Prelude.{◌≡◌, ◌<◌, ℤ, Some, List, length};
 ghost use Rattle.lv_bodies.specs.Body.{fold_of};
+ghost use Rattle.lv_bodies.specs.Extremes.{least_operations, greatest_operations, lowest_operations, highest_operations};
+ghost use Rattle.lv_bodies.specs.Long.{CanFoldLong};
+ghost use Rattle.lv_bodies.specs.RunTotals.{best_operations, runs_operations};
 ghost use Rattle.lv_bodies.specs.Parts.{HasParts};
 ghost use Rattle.lv_bodies.specs.Plain.{plain_least, plain_greatest, plain_best, IsPlainLeast, IsPlainGreatest, IsPlainBest};
 
@@ -30,4 +33,11 @@ pub fn pair_folds_apart<A: Body, B: Body>()
 /// The fold of eight elements of 16 bits is the whole of its parts.
 pub fn eight_come_back_from_parts<B: Parted>()
     ensures { (b : B) → HasParts B.parts_of B.whole_of (B.operations b) }
+{}
+
+/// Where there are elements, the folds of the bare bodies are what is inside the folds that may be missing.
+pub fn bare_folds_are_inside()
+    ensures lowest { (xs : List ℤ) → 0 < length xs → CanFoldLong xs → Some (fold_of lowest_operations xs) ≡ fold_of least_operations xs }
+    ensures highest { (xs : List ℤ) → 0 < length xs → CanFoldLong xs → Some (fold_of highest_operations xs) ≡ fold_of greatest_operations xs }
+    ensures runs { (xs : List ℤ) → 0 < length xs → CanFoldLong xs → Some (fold_of runs_operations xs) ≡ fold_of best_operations xs }
 {}

@@ -7,34 +7,43 @@
 
 mod affine;
 mod automata;
+mod bare;
 mod best;
 mod bodies;
+mod extremes;
+mod first_halves;
 mod folds;
-mod greatest;
+mod halves;
 mod kinds;
 mod laws;
-mod least;
 mod long;
+mod long_folds;
+mod orders;
 mod pairs;
 mod parts;
+mod runs;
 mod singles;
 mod sixes;
 mod sums;
 
 pub use affine::{Affine, AffineMap};
 pub use automata::Automaton;
+pub use bare::{BareExtreme, Highest, Lowest};
 pub use best::{Best, RunTotals};
 pub use bodies::Body;
+pub use extremes::{Extreme, Greatest, Least};
 pub use folds::{fold_more, fold_slice};
-pub use greatest::Greatest;
 pub use kinds::{Kind, Shown};
 pub use laws::{
-    best_is_the_best_run, eight_come_back_from_parts, extremes_are_reached_bounds, pair_folds_apart,
+    bare_folds_are_inside, best_is_the_best_run, eight_come_back_from_parts,
+    extremes_are_reached_bounds, pair_folds_apart,
 };
-pub use least::Least;
 pub use long::{LongBody, long_laws};
+pub use long_folds::fold_long;
+pub use orders::{Downward, Order, Upward};
 pub use pairs::Pair;
 pub use parts::Parted;
+pub use runs::Runs;
 pub use singles::Single;
 pub use sixes::{Six, SixByTable, SixPairs, SixSummary, face};
 pub use sums::Sum;

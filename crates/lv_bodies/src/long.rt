@@ -1,13 +1,14 @@
 //! Bodies whose summaries may be those of up to 2^62 elements.
-ghost use Rattle.std.specs.Prelude.{◌≡◌};
-ghost use Rattle.lv_bodies.specs.Long.{CanJoinLong, LongLaws};
+ghost use Rattle.std.specs.Prelude.{◌≡◌, true, length};
+ghost use Rattle.lv_bodies.specs.Body.{fold_of};
+ghost use Rattle.lv_bodies.specs.Long.{CanJoinLong, CanGrowLong, LongLaws};
 
 use crate::affine::{Affine, AffineMap};
 use crate::automata::Automaton;
 use crate::best::{Best, RunTotals};
 use crate::bodies::Body;
-use crate::greatest::Greatest;
-use crate::least::Least;
+use crate::extremes::{Greatest, Least};
+use crate::halves::fold_by_halves;
 use crate::pairs::Pair;
 use crate::sixes::{Six, SixByTable, SixSummary, by_program};
 use crate::sums::Sum;
@@ -18,6 +19,37 @@ pub trait LongBody: Body {
     fn combine_long(&self, a: Self::S, b: Self::S) -> Self::S
         requires { CanJoinLong (Self.is_within self.now) a b }
         ensures { result ≡ (Self.operations self.now).join a b };
+
+    /// The summary of the elements of `s`, then of one more: at most 2^62 together.
+    #[inline(always)]
+    fn extend_long(&self, s: Self::S, x: i64) -> Self::S
+        requires { CanGrowLong (Self.is_within self.now) s }
+        ensures { let o = Self.operations self.now in result ≡ o.join s (o.lift x) }
+    {
+        self.combine_long(s, self.lift(x))
+    }
+
+    /// The fold of eight elements.
+    #[inline(always)]
+    fn fold_eight(&self, xs: &[i64]) -> Self::S
+        requires { length xs.now ≡ 8 }
+        ensures fold { result ≡ fold_of (Self.operations self.now) xs.now }
+        ensures within { Self.is_within self.now result 8 }
+    {
+        let mut sum = self.identity();
+        for i in 0..8 {
+            sum = self.extend_long(sum, xs[i]);
+        }
+        sum
+    }
+
+    /// Whether two summaries are surely equal. Where it says no, they may be equal too.
+    #[inline(always)]
+    fn is_surely(a: Self::S, b: Self::S) -> bool
+        ensures { result ≡ true → a ≡ b }
+    {
+        a == b
+    }
 
     ghost long: { (b : Self) → LongLaws (Self.operations b) (Self.is_within b) };
 }
@@ -36,29 +68,18 @@ impl LongBody for Sum {
         self.combine(a, b)
     }
 
+    #[inline(always)]
+    fn fold_eight(&self, xs: &[i64]) -> u64 {
+        fold_by_halves(self, xs)
+    }
+
+    // Equal sums of different elements are rare.
+    #[inline(always)]
+    fn is_surely(_a: u64, _b: u64) -> bool {
+        false
+    }
+
     ghost long = { λ _. sum_long };
-}
-
-impl LongBody for Least {
-    ghost use Rattle.lv_bodies.specs.LongLaws.{least_long};
-
-    #[inline(always)]
-    fn combine_long(&self, a: Option<i64>, b: Option<i64>) -> Option<i64> {
-        self.combine(a, b)
-    }
-
-    ghost long = { λ _. least_long };
-}
-
-impl LongBody for Greatest {
-    ghost use Rattle.lv_bodies.specs.LongLaws.{greatest_long};
-
-    #[inline(always)]
-    fn combine_long(&self, a: Option<i64>, b: Option<i64>) -> Option<i64> {
-        self.combine(a, b)
-    }
-
-    ghost long = { λ _. greatest_long };
 }
 
 impl LongBody for Best {
@@ -73,6 +94,20 @@ impl LongBody for Best {
         }
     }
 
+    #[inline(always)]
+    fn extend_long(&self, s: Option<RunTotals>, x: i64) -> Option<RunTotals> {
+        match s {
+            Some(run) => Some(run.push(x)),
+            None => Some(RunTotals::of(x)),
+        }
+    }
+
+    // Equal totals of different elements are rare.
+    #[inline(always)]
+    fn is_surely(_a: Option<RunTotals>, _b: Option<RunTotals>) -> bool {
+        false
+    }
+
     ghost long = { λ _. best_long };
 }
 
@@ -84,6 +119,11 @@ impl LongBody for Affine {
         self.combine(a, b)
     }
 
+    #[inline(always)]
+    fn fold_eight(&self, xs: &[i64]) -> AffineMap {
+        fold_by_halves(self, xs)
+    }
+
     ghost long = { λ _. affine_long };
 }
 
@@ -93,6 +133,11 @@ impl LongBody for Automaton {
     #[inline(always)]
     fn combine_long(&self, a: [u8; 8], b: [u8; 8]) -> [u8; 8] {
         self.combine(a, b)
+    }
+
+    #[inline(always)]
+    fn extend_long(&self, s: [u8; 8], x: i64) -> [u8; 8] {
+        self.step(s, x)
     }
 
     ghost long = { λ a. automaton_long a.table a.valid };
@@ -107,6 +152,19 @@ impl<A: LongBody, B: LongBody> LongBody for Pair<A, B> {
             self.first.combine_long(a.0, b.0),
             self.second.combine_long(a.1, b.1),
         )
+    }
+
+    #[inline(always)]
+    fn extend_long(&self, s: (A::S, B::S), x: i64) -> (A::S, B::S) {
+        (
+            self.first.extend_long(s.0, x),
+            self.second.extend_long(s.1, x),
+        )
+    }
+
+    #[inline(always)]
+    fn is_surely(a: (A::S, B::S), b: (A::S, B::S)) -> bool {
+        A::is_surely(a.0, b.0) && B::is_surely(a.1, b.1)
     }
 
     ghost long = { λ p. pair_long _ _ _ _ (A.long p.first) (B.long p.second) };

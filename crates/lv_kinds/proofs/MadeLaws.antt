@@ -8,7 +8,7 @@ use Rattle.lv_edits.specs.History.{History, list_of}
 use Rattle.lv_edits.specs.Kept.{IsLegalInLimits}
 use Rattle.lv_edits.specs.Verdict.{receipt_of, verdict_of}
 use Rattle.lv_edits.proofs.HistoryLaws.{not_refused, unrefused_write}
-use Rattle.lv_kinds.specs.Renewals.{IsWriteOver}
+use Rattle.lv_tree.specs.LastSum.{IsWriteOver}
 
 -- the element that stood where a write was answered so
 element_before : Receipt → ℤ

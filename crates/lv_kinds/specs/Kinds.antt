@@ -1,95 +1,103 @@
--- What a vector keeps of what it was asked, by kind.
-use Rattle.std.specs.Prelude.{◌≡◌, ℕ, ℤ, ◌*◌, ◌≤◌, Bool, true, Option, Some, List, length, nat_eq}
-use Rattle.std.specs.Int.{bit_at}
-use Rattle.lv_geometry.specs.declared.nodes.Node.{Node}
-use Rattle.lv_bodies.specs.Body.{Operations, fold_of}
+-- What a vector keeps of what it was asked, by kind: a tree a kind, which follows the vector's edits at questions.
+use Rattle.std.specs.Prelude.{◌≡◌, ◌≢◌, ◌⊎◌, ℕ, ℤ, ◌+◌, ◌*◌, ◌/◌, ◌<◌, ◌≤◌, List, length}
 use Rattle.lv_bodies.specs.AffineMaps.{affine_operations}
-use Rattle.lv_bodies.specs.Extremes.{greatest_operations, least_operations}
-use Rattle.lv_bodies.specs.RunTotals.{best_operations}
+use Rattle.lv_bodies.specs.Extremes.{highest_operations, lowest_operations}
+use Rattle.lv_bodies.specs.RunTotals.{runs_operations}
 use Rattle.lv_bodies.specs.Sums.{sum_operations}
 use Rattle.lv_bodies.specs.Tables.{automaton_operations}
+use Rattle.lv_bodies.specs.declared.affine.Affine.{Affine}
 use Rattle.lv_bodies.specs.declared.affine.AffineMap.{AffineMap}
+use Rattle.lv_bodies.specs.declared.automata.Automaton.{Automaton}
+use Rattle.lv_bodies.specs.declared.bare.BareExtreme.{BareExtreme}
 use Rattle.lv_bodies.specs.declared.best.RunTotals.{RunTotals}
 use Rattle.lv_bodies.specs.declared.kinds.Kind.{Kind}
 use Rattle.lv_bodies.specs.declared.kinds.Kind.TheVariants as kind
+use Rattle.lv_bodies.specs.declared.orders.Downward.{Downward}
+use Rattle.lv_bodies.specs.declared.orders.Upward.{Upward}
+use Rattle.lv_bodies.specs.declared.runs.Runs.{Runs}
+use Rattle.lv_bodies.specs.declared.sums.Sum.{Sum}
 use Rattle.lv_edits.specs.declared.edit.Edit.{Edit}
-use Rattle.lv_edits.specs.History.{History, list_of, replayed}
-use Rattle.lv_edits.specs.Touch.{elements_under, is_whole}
-use Rattle.lv_kinds.specs.declared.last_sum.LastSum.{LastSum}
-use Rattle.lv_kinds.specs.LastSum.{IsSumOfRange}
-use Rattle.lv_kinds.specs.NodeRows.{HasSameValues, NodeRowsState, value_at}
+use Rattle.lv_edits.specs.History.{list_of}
+use Rattle.lv_tree.specs.Follows.{Following, IsLate}
+use Rattle.lv_tree.specs.LastSum.{IsSumOfRange}
+use Rattle.lv_tree.specs.declared.last_sum.LastSum.{LastSum}
 
--- the byte of each node, the summaries of each kind, and the sum that was answered last
+-- the automaton's table; for how many blocks of eight elements there is room; the sum told last; and the tree of each kind, whose
+-- rows are bare for the least, the greatest and the best run
 pub record KindsState : Type 0 where
-  pub flags : NodeRowsState ℕ
-  pub sums : NodeRowsState ℕ
-  pub least : NodeRowsState (Option ℤ)
-  pub greatest : NodeRowsState (Option ℤ)
-  pub best : NodeRowsState (Option RunTotals)
-  pub maps : NodeRowsState AffineMap
-  pub states : NodeRowsState (List ℕ)
+  pub table : List (List ℕ)
+  pub room : ℕ
   pub last : LastSum
+  pub sums : Following Sum ℕ
+  pub least : Following (BareExtreme Upward) ℤ
+  pub greatest : Following (BareExtreme Downward) ℤ
+  pub best : Following Runs RunTotals
+  pub maps : Following Affine AffineMap
+  pub states : Following Automaton (List ℕ)
 
--- the bit of a kind
-abbrev pub bit_of : Kind → ℕ
-bit_of kind.Sum = 0
-bit_of kind.Least = 1
-bit_of kind.Greatest = 2
-bit_of kind.Best = 3
-bit_of kind.Affine = 4
-bit_of kind.Automaton = 5
+-- how many edits a kind has followed
+abbrev pub followed_by : KindsState → Kind → ℕ
+followed_by s kind.Sum = s.sums.seen
+followed_by s kind.Least = s.least.seen
+followed_by s kind.Greatest = s.greatest.seen
+followed_by s kind.Best = s.best.seen
+followed_by s kind.Affine = s.maps.seen
+followed_by s kind.Automaton = s.states.seen
 
--- whether a bit of a node's byte is set
-abbrev pub is_flagged : NodeRowsState ℕ → ℕ → Node → Bool
-is_flagged flags bit n = nat_eq (bit_at (value_at flags n) bit) 1
+-- of how many blocks it has a leaf
+abbrev pub blocks_of : KindsState → Kind → ℕ
+blocks_of s kind.Sum = length s.sums.sums
+blocks_of s kind.Least = length s.least.sums
+blocks_of s kind.Greatest = length s.greatest.sums
+blocks_of s kind.Best = length s.best.sums
+blocks_of s kind.Affine = length s.maps.sums
+blocks_of s kind.Automaton = length s.states.sums
 
--- whether the summary of a node by a kind is kept
-abbrev pub is_kept_by : KindsState → Kind → Node → Bool
-is_kept_by s k n = is_flagged s.flags (bit_of k) n
-
--- a set bit of a whole node says that its row is the fold of the node's elements
-abbrev pub AreFolds : {S : Type 0} → Operations S → List Edit → NodeRowsState ℕ → ℕ → NodeRowsState S → Type 0
-AreFolds o edits flags bit rows = (n : Node) → is_whole edits n ≡ true → is_flagged flags bit n ≡ true → value_at rows n ≡ fold_of o (elements_under edits n)
-
--- so it is by each kind, the automaton's by its table
-pub record AreAllFolds (table : List (List ℕ)) (edits : List Edit) (s : KindsState) : Type 0 where
-  pub sums : AreFolds sum_operations edits s.flags 0 s.sums
-  pub least : AreFolds least_operations edits s.flags 1 s.least
-  pub greatest : AreFolds greatest_operations edits s.flags 2 s.greatest
-  pub best : AreFolds best_operations edits s.flags 3 s.best
-  pub maps : AreFolds affine_operations edits s.flags 4 s.maps
-  pub states : AreFolds (automaton_operations table) edits s.flags 5 s.states
-
--- there is memory for all whole nodes of so many elements
-pub record HaveRoomFor (s : KindsState) (size : ℕ) : Type 0 where
-  pub flags : size ≤ 8 * s.flags.blocks
-  pub sums : size ≤ 8 * s.sums.blocks
-  pub least : size ≤ 8 * s.least.blocks
-  pub greatest : size ≤ 8 * s.greatest.blocks
-  pub best : size ≤ 8 * s.best.blocks
-  pub maps : size ≤ 8 * s.maps.blocks
-  pub states : size ≤ 8 * s.states.blocks
-
--- what is kept for a vector with these edits is true of them, and there is room for all that can be asked
+-- what is kept is right for a vector with these edits, and by this table: each kind follows them, and the sum told last is that of its
+-- range
 pub record AreKept (table : List (List ℕ)) (edits : List Edit) (s : KindsState) : Type 0 where
-  pub blank : s.flags.blank ≡ 0
-  pub folds : AreAllFolds table edits s
+  pub table_is : s.table ≡ table
+  pub last : IsSumOfRange edits s.last
+  pub sums : IsLate sum_operations edits s.sums
+  pub least : IsLate lowest_operations edits s.least
+  pub greatest : IsLate highest_operations edits s.greatest
+  pub best : IsLate runs_operations edits s.best
+  pub maps : IsLate affine_operations edits s.maps
+  pub states : IsLate (automaton_operations s.table) edits s.states
+
+-- there is memory for all that can be asked of so many elements
+pub record HaveRoomFor (s : KindsState) (size : ℕ) : Type 0 where
+  pub room : size < 8 * s.room + 8
+
+-- what is kept is right for a vector with these edits, and there is room for all that can be asked of it
+pub record AreReady (table : List (List ℕ)) (edits : List Edit) (s : KindsState) : Type 0 where
+  pub kept : AreKept table edits s
   pub room : HaveRoomFor s (length (list_of edits))
-  pub last : IsSumOfRange edits (is_kept_by s kind.Sum) s.last
 
--- the same is kept, and there is room for no less
+-- no kind follows more or less, and there is room for no less
+pub record LeavesAll (old new : KindsState) : Type 0 where
+  pub table : new.table ≡ old.table
+  pub followed : (k : Kind) → followed_by new k ≡ followed_by old k
+  pub blocks : (k : Kind) → blocks_of new k ≡ blocks_of old k
+  pub room : (size : ℕ) → HaveRoomFor old size → HaveRoomFor new size
+
+-- the same of all kinds but one
+pub record LeavesOthers (kind : Kind) (old new : KindsState) : Type 0 where
+  pub table : new.table ≡ old.table
+  pub followed : (k : Kind) → k ≢ kind → followed_by new k ≡ followed_by old k
+  pub blocks : (k : Kind) → k ≢ kind → blocks_of new k ≡ blocks_of old k
+  pub room : (size : ℕ) → HaveRoomFor old size → HaveRoomFor new size
+
+-- so it is where room is made, and what is kept is right for whatever it was right for
 pub record KeepsAlike (old new : KindsState) : Type 0 where
-  pub flags : HasSameValues old.flags new.flags
-  pub sums : HasSameValues old.sums new.sums
-  pub least : HasSameValues old.least new.least
-  pub greatest : HasSameValues old.greatest new.greatest
-  pub best : HasSameValues old.best new.best
-  pub maps : HasSameValues old.maps new.maps
-  pub states : HasSameValues old.states new.states
-  pub last : new.last ≡ old.last
+  pub leaves : LeavesAll old new
+  pub kept : (table : List (List ℕ)) (edits : List Edit) → AreKept table edits old → AreKept table edits new
 
--- so many values are pushed to a history that is legal, the first at this index
-pub record ArePushesOf (h : History) (xs : List ℤ) (first count : ℕ) : Type 0 where
-  pub legal : replayed h.journal ≡ Some (list_of h.journal)
-  pub first_is : length (list_of h.journal) ≡ first
-  pub count_is : length xs ≡ count
+-- a range is answered without the kind's tree: it is short, or its sum was told last
+abbrev pub IsNear : Kind → ℕ → ℕ → KindsState → Type 0
+IsNear k lo hi s = (hi ≤ lo + 64) ⊎ ((k ≡ kind.Sum) × (s.last.lo ≡ lo) × (s.last.hi ≡ hi))
+
+-- a kind has followed all edits, and has a leaf of each whole block before an index
+pub record IsCaughtUp (edits : List Edit) (kind : Kind) (hi : ℕ) (s : KindsState) : Type 0 where
+  pub followed : followed_by s kind ≡ length edits
+  pub blocks : hi / 8 ≤ blocks_of s kind

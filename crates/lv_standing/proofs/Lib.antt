@@ -4,3 +4,4 @@ pub mod KeptNames
 pub mod NoteLaws
 pub mod RangeLaws
 mod RoomLaws
+mod UnaskedLaws

@@ -1,7 +1,6 @@
 -- What a vector with standing queries holds.
-use Rattle.std.specs.Prelude.{◌≡◌, ◌≤◌, ℕ, ℤ, true, false, List, length, map}
+use Rattle.std.specs.Prelude.{◌≡◌, ◌≢◌, ◌≤◌, ℕ, All, List, length, map}
 use Rattle.std.specs.List.{AllByRecursion, slice_range}
-use Rattle.lv_geometry.specs.declared.nodes.Node.{Node}
 use Rattle.lv_bodies.specs.declared.kinds.Kind.{Kind}
 use Rattle.lv_bodies.specs.declared.sixes.Six.{Six}
 use Rattle.lv_bodies.specs.Plain.{program_table}
@@ -9,10 +8,9 @@ use Rattle.lv_bodies.specs.Six.{SixSummary}
 use Rattle.lv_edits.specs.declared.edit.Edit.{Edit}
 use Rattle.lv_edits.specs.History.{list_of}
 use Rattle.lv_edits.specs.Kept.{IsLegalInLimits}
-use Rattle.lv_edits.specs.Touch.{touches}
 use Rattle.lv_live.specs.State.{LiveState}
 use Rattle.lv_kinds.specs.declared.kind_summaries.KindSummary.{KindSummary}
-use Rattle.lv_kinds.specs.Kinds.{AreKept, KindsState, is_kept_by}
+use Rattle.lv_kinds.specs.Kinds.{AreReady, HaveRoomFor, KindsState, blocks_of, followed_by}
 use Rattle.lv_kinds.specs.KindSummaries.{kind_of, summary_of}
 use Rattle.lv_standing.specs.declared.watches.Watch.{Watch}
 use Rattle.lv_standing.specs.Queries.{Query}
@@ -39,18 +37,21 @@ summary_at edits watch = summary_of (kind_of watch.summary) (slice_range (list_o
 abbrev pub IsCurrent : List Edit → List ℕ × Watch → Type 0
 IsCurrent edits entry = entry.1.summary ≡ summary_at edits entry.1
 
--- each summary that was kept by its kind still is
-abbrev pub StillKept : KindsState → KindsState → Type 0
-StillKept old new = (k : Kind) (n : Node) → is_kept_by old k n ≡ true → is_kept_by new k n ≡ true
+-- no query is of a kind
+abbrev pub IsUnasked : List Query → Kind → Type 0
+IsUnasked queries k = All (λ q. q.kind ≢ k) queries
 
--- so is each whose node an edit of a list doesn't touch
-abbrev pub KeptUntouched : List ℤ → Edit → KindsState → KindsState → Type 0
-KeptUntouched xs edit old new = (k : Kind) (n : Node) → touches xs edit n ≡ false → is_kept_by old k n ≡ true → is_kept_by new k n ≡ true
+-- kinds that no query is of follow no more and no fewer edits than before, and there is room for no less
+pub record LeavesUnasked (queries : List Query) (old new : KindsState) : Type 0 where
+  pub table : new.table ≡ old.table
+  pub followed : (k : Kind) → IsUnasked queries k → followed_by new k ≡ followed_by old k
+  pub blocks : (k : Kind) → IsUnasked queries k → blocks_of new k ≡ blocks_of old k
+  pub room : (size : ℕ) → HaveRoomFor old size → HaveRoomFor new size
 
--- the vector is within its limits, there are at most 64 queries, each watch keeps the summary of its range at the last edit, and
--- what is kept by kind is true of the vector
+-- the vector is within its limits, there are at most 64 queries, each watch keeps the summary of its range at the last edit, what is
+-- kept by kind is right for the vector, and there is room for all that it may be asked
 pub record IsStanding (live : LiveState Six SixSummary) (entries : List (List ℕ × Watch)) (kinds : KindsState) : Type 0 where
   pub limits : IsLegalInLimits live.history
   pub few : length entries ≤ 64
   pub current : AllByRecursion (IsCurrent live.history.journal) entries
-  pub kept : AreKept program_table live.history.journal kinds
+  pub kept : AreReady program_table live.history.journal kinds

@@ -2,8 +2,8 @@
 //!
 //! The model is the live vector's state and the list of the queries, in the order of their registration. Each answer is the
 //! plain value of the elements that the query's range has at the last edit, and an edit's notes are those of the queries, in
-//! order, whose answer it changed. Each query keeps the summary of its range by its own kind, so that a push costs it one join;
-//! and what a question or a query computes is kept by its own kind, until an edit touches it.
+//! order, whose answer it changed. Each query keeps the summary of its range by its own kind, so that a push costs it one join.
+//! What is kept by kind follows the edits at questions: an edit costs a kind something only where a query of that kind is asked after it.
 //! It parses no text and starts no thread.
 #![tactic(auto)]
 

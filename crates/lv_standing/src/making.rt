@@ -1,12 +1,11 @@
 //! How an edit is made, and told to what is kept by kind.
 ghost use Rattle.std.specs.Prelude.{◌≡◌, ◌≤◌, None, IfErr, OnOk};
 ghost use Rattle.lv_bodies.specs.Plain.{program_table};
-ghost use Rattle.lv_edits.specs.History.{History, list_of};
+ghost use Rattle.lv_edits.specs.History.{History};
 ghost use Rattle.lv_edits.specs.Kept.{IsLegalInLimits};
 ghost use Rattle.lv_edits.specs.Verdict.{Answers, verdict_of};
 ghost use Rattle.lv_live.specs.State.{SameRefresh};
-ghost use Rattle.lv_kinds.specs.Kinds.{AreKept, HaveRoomFor, KeepsAlike};
-ghost use Rattle.lv_standing.specs.Standings.{KeptUntouched};
+ghost use Rattle.lv_kinds.specs.Kinds.{AreReady, HaveRoomFor, KeepsAlike, LeavesAll};
 
 use crate::changes::size_after;
 use lv_bodies::Six;
@@ -22,19 +21,19 @@ pub fn make(live: &mut Live<Six>, kinds: &mut Kinds, edit: Edit) -> Result<Recei
     requires history { live.old.history ≡ before }
     requires limits { IsLegalInLimits before }
     requires verdict { verdict_of before.limits before.journal edit ≡ None }
-    requires kept { AreKept program_table before.journal kinds.old }
+    requires kept { AreReady program_table before.journal kinds.old }
     ensures answer { Answers before edit result live.new.history }
     ensures limits { IsLegalInLimits live.new.history }
     ensures refresh { SameRefresh live.old live.new }
-    ensures kept { AreKept program_table live.new.history.journal kinds.new }
-    ensures remembers { KeptUntouched (list_of before.journal) edit kinds.old kinds.new }
+    ensures kept { AreReady program_table live.new.history.journal kinds.new }
+    ensures leaves { LeavesAll kinds.old kinds.new }
 {
     let size = live.size();
     let Ok(()) = make_room(kinds, size, size_after(&edit, size)) else {
         return Err(Refusal::NoMemory);
     };
     let receipt = live.make(edit)?;
-    kinds.follow_made(&edit, &receipt, size);
+    kinds.follow_made(&edit, &receipt);
     Ok(receipt)
 }
 

@@ -2,7 +2,6 @@
 ghost use Rattle.std.specs.Prelude.{◌≡◌, ◌↔◌, ◌⊎◌, ◌+◌, ◌<◌, ◌≤◌, None, Some, IsTrue, IsSome, IfSome, IfOk, IfErr, OnOk, OnErr, List, [], ◌∷◌, ◌++◌, length, option_map};
 ghost use Rattle.lv_geometry.specs.declared.nodes.Node.{Node};
 ghost use Rattle.lv_bodies.specs.Six.{six_operations};
-ghost use Rattle.lv_edits.specs.History.{list_of};
 ghost use Rattle.lv_edits.specs.Kept.{IsLegalInLimits};
 ghost use Rattle.lv_edits.specs.Verdict.{Accepts, IsRefusal, Refuses};
 ghost use Rattle.lv_summary.specs.Changes.{OnlyLearns};
@@ -16,8 +15,8 @@ ghost use Rattle.lv_live.specs.Kept.{IsWorld};
 ghost use Rattle.lv_live.specs.State.{HasClaim, HasDelivery, HasNoClaims, SameLive, SameRefresh, node_and_version, recorded, with_issued};
 ghost use Rattle.lv_live.specs.Step.{Step, accepted_reply, numbered_reply};
 ghost use Rattle.lv_live.specs.declared.events.Event.TheVariants as event;
-ghost use Rattle.lv_kinds.specs.Kinds.{is_kept_by};
-ghost use Rattle.lv_standing.specs.Standings.{KeptUntouched, StillKept};
+ghost use Rattle.lv_kinds.specs.Kinds.{IsCaughtUp, IsNear, LeavesOthers};
+ghost use Rattle.lv_standing.specs.Standings.{LeavesUnasked};
 ghost use Rattle.lv_standing.specs.Queries.{AreNotes, Query, query_of, watch_answer, watch_refusal, without_query, IsValue};
 
 use crate::asking::ask_inside;
@@ -28,7 +27,7 @@ use crate::notes::{Answered, Note};
 use crate::values::{SHORT, asked, folded};
 use crate::watches::{Watch, count_asked, tell};
 use indexmap::IndexMap;
-use lv_bodies::{Body, Kind, Six, SixSummary};
+use lv_bodies::{Automaton, Body, Kind, Six, SixSummary};
 use lv_edits::{Edit, Receipt};
 use lv_geometry::{Limits, Node, Refusal};
 use lv_kinds::Kinds;
@@ -69,19 +68,19 @@ impl Standing {
         Standing {
             live: Live::new(alloc, limits, Six),
             watches: IndexMap::new(alloc),
-            kinds: Kinds::new(alloc),
+            kinds: Kinds::new(alloc, Automaton::program()),
         }
     }
 
     /// Registers a query. Refused with `BadRange`, `NameTaken`, `TooMany`, then `NoMemory`. The range may reach past the end:
-    /// what of it exists is asked, by the query's kind, and what is computed for it is kept by that kind.
+    /// what of it exists is asked, by the query's kind, and no other kind follows more edits for it.
     pub fn watch(&mut self, name: Name, kind: Kind, lo: u32, hi: u32) -> Result<(), Refusal>
         ensures ok { OnOk result ((watch_refusal self.old.queries name lo hi ≡ None)
             × (self.new.queries ≡ self.old.queries ++ record { name = name; kind = kind; lo = lo; hi = hi } ∷ [])) }
         ensures err { IfErr result (λ refusal. IsRefusal (watch_refusal self.old.queries name lo hi) refusal) }
         ensures unchanged { OnErr result (self.new.queries ≡ self.old.queries) }
         ensures live { self.new.live ≡ self.old.live }
-        ensures remembers { StillKept self.old.kinds self.new.kinds }
+        ensures others { LeavesOthers kind self.old.kinds self.new.kinds }
     {
         if lo > hi {
             return Err(Refusal::BadRange);
@@ -133,7 +132,7 @@ impl Standing {
 
     /// Makes an edit, and tells of each query whose answer it changed, in order of registration, with the answer after. Refused
     /// as the vector's verdict says, then with `NoMemory`: the room for the notes, and for what may be kept by kind, is made before
-    /// the edit. What is kept by kind of a node that the edit doesn't touch stays.
+    /// the edit. A kind follows it at once only where a query of that kind has to be asked.
     pub fn edit(&mut self, alloc: Global, edit: Edit) -> Result<(Receipt, Vec<Note>), Refusal>
         ensures ok { IfOk result (λ told. Accepts self.old.live.history edit told.0 self.new.live.history) }
         ensures err { IfErr result (λ refusal. Refuses self.old.live.history edit refusal self.new.live.history) }
@@ -142,7 +141,7 @@ impl Standing {
         ensures limits { IsLegalInLimits self.new.live.history }
         ensures refresh { SameRefresh self.old.live self.new.live }
         ensures queries { self.new.queries ≡ self.old.queries }
-        ensures remembers { IfOk result (λ _. KeptUntouched (list_of self.old.live.history.journal) edit self.old.kinds self.new.kinds) }
+        ensures others { LeavesUnasked self.old.queries self.old.kinds self.new.kinds }
     {
         if let Some(refusal) = self.live.verdict(&edit) {
             return Err(refusal);
@@ -180,8 +179,8 @@ impl Standing {
     }
 
     /// The value of a kind over the elements from index `lo` up to `hi`. A short range is folded by that kind alone, where its
-    /// elements lie; of a longer one what is computed is kept by that kind, until an edit touches it. Refused with `BadRange`, then
-    /// `OutOfRange`. Takes no memory.
+    /// elements lie; for a longer one the kind follows all edits that it hasn't followed yet, and what it keeps is asked. Refused with
+    /// `BadRange`, then `OutOfRange`. Takes no memory.
     pub fn value(&mut self, kind: Kind, lo: u32, hi: u32) -> Result<Answered, Refusal>
         ensures ok { IfOk result (λ answered. IsValue self.old.live.history.journal kind lo hi answered) }
         ensures err { IfErr result (λ refusal. range_refusal self.old.live.history.journal lo hi ≡ Some refusal) }
@@ -190,8 +189,8 @@ impl Standing {
         ensures queries { self.new.queries ≡ self.old.queries }
         ensures limits { IsLegalInLimits self.new.live.history }
         ensures same { self.new.live ≡ self.old.live }
-        ensures remembers { StillKept self.old.kinds self.new.kinds }
-        ensures known { IfOk result (λ _. (hi ≤ lo + 64) ⊎ AreTopsKnown (is_kept_by self.new.kinds kind) lo hi) }
+        ensures others { LeavesOthers kind self.old.kinds self.new.kinds }
+        ensures caught_up { IfOk result (λ _. IsNear kind lo hi self.old.kinds ⊎ IsCaughtUp self.old.live.history.journal kind hi self.new.kinds) }
     {
         if hi.saturating_sub(lo) <= SHORT {
             return folded(&self.live, kind, lo, hi);

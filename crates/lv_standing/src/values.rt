@@ -1,12 +1,10 @@
 //! The value of one kind over a range.
-ghost use Rattle.std.specs.Prelude.{◌≡◌, Some, IfOk, IfErr};
+ghost use Rattle.std.specs.Prelude.{◌≡◌, ◌⊎◌, Some, IfOk, IfErr};
 ghost use Rattle.lv_bodies.specs.Plain.{program_table};
 ghost use Rattle.lv_edits.specs.Kept.{IsLegalInLimits};
 ghost use Rattle.lv_reduce.specs.Answer.{range_refusal};
-ghost use Rattle.lv_reduce.specs.Asked.{AreTopsKnown};
-ghost use Rattle.lv_kinds.specs.Kinds.{AreKept, is_kept_by};
+ghost use Rattle.lv_kinds.specs.Kinds.{AreReady, IsCaughtUp, IsNear, LeavesOthers};
 ghost use Rattle.lv_standing.specs.Queries.{IsShown, IsValue};
-ghost use Rattle.lv_standing.specs.Standings.{StillKept};
 
 use crate::asking::ask_by_kind;
 use crate::notes::Answered;
@@ -50,7 +48,8 @@ fn folded_by<K: Single>(live: &Live<Six>, body: &K, lo: u32, hi: u32) -> Result<
     }
 }
 
-/// The value of a kind over a range; what is computed for it is kept by that kind. Refused with `BadRange`, then `OutOfRange`.
+/// The value of a kind over a range, which that kind has followed up to the last edit then, unless the range is short. Refused with
+/// `BadRange`, then `OutOfRange`.
 #[inline(never)]
 pub fn asked(
     live: &Live<Six>,
@@ -60,12 +59,12 @@ pub fn asked(
     hi: u32,
 ) -> Result<Answered, Refusal>
     requires limits { IsLegalInLimits live.now.history }
-    requires kept { AreKept program_table live.now.history.journal kinds.old }
+    requires kept { AreReady program_table live.now.history.journal kinds.old }
     ensures ok { IfOk result (λ answered. IsValue live.now.history.journal kind lo hi answered) }
     ensures err { IfErr result (λ refusal. range_refusal live.now.history.journal lo hi ≡ Some refusal) }
-    ensures kept { AreKept program_table live.now.history.journal kinds.new }
-    ensures remembers { StillKept kinds.old kinds.new }
-    ensures known { IfOk result (λ _. AreTopsKnown (is_kept_by kinds.new kind) lo hi) }
+    ensures kept { AreReady program_table live.now.history.journal kinds.new }
+    ensures others { LeavesOthers kind kinds.old kinds.new }
+    ensures caught_up { IfOk result (λ _. IsNear kind lo hi kinds.old ⊎ IsCaughtUp live.now.history.journal kind hi kinds.new) }
 {
     match kind {
         Kind::Sum => asked_by(live, kinds, Kind::Sum, lo, hi),
@@ -87,12 +86,12 @@ fn asked_by(
     hi: u32,
 ) -> Result<Answered, Refusal>
     requires limits { IsLegalInLimits live.now.history }
-    requires kept { AreKept program_table live.now.history.journal kinds.old }
+    requires kept { AreReady program_table live.now.history.journal kinds.old }
     ensures ok { IfOk result (λ answered. IsValue live.now.history.journal kind lo hi answered) }
     ensures err { IfErr result (λ refusal. range_refusal live.now.history.journal lo hi ≡ Some refusal) }
-    ensures kept { AreKept program_table live.now.history.journal kinds.new }
-    ensures remembers { StillKept kinds.old kinds.new }
-    ensures known { IfOk result (λ _. AreTopsKnown (is_kept_by kinds.new kind) lo hi) }
+    ensures kept { AreReady program_table live.now.history.journal kinds.new }
+    ensures others { LeavesOthers kind kinds.old kinds.new }
+    ensures caught_up { IfOk result (λ _. IsNear kind lo hi kinds.old ⊎ IsCaughtUp live.now.history.journal kind hi kinds.new) }
 {
     let answer = ask_by_kind(live, kinds, kind, lo, hi)?;
     Ok(Answered {

@@ -7,11 +7,11 @@ ghost use Rattle.lv_bodies.specs.Plain.{program_table};
 ghost use Rattle.lv_edits.specs.declared.edit.Edit.{Edit as Change};
 ghost use Rattle.lv_edits.specs.History.{list_of};
 ghost use Rattle.lv_edits.specs.Kept.{IsLegalInLimits};
-ghost use Rattle.lv_kinds.specs.Kinds.{AreKept};
+ghost use Rattle.lv_kinds.specs.Kinds.{AreReady, LeavesOthers};
 ghost use Rattle.lv_kinds.specs.KindSummaries.{kind_of, summary_of};
 ghost use Rattle.lv_standing.specs.Queries.{AreNotes};
 ghost use Rattle.lv_standing.specs.Inner.{AreTold, AtIndex, IsAlike, IsNoted, IsPushed, IsToldAt, SameElsewhere, asked, has_changed, has_index, has_written, refreshed};
-ghost use Rattle.lv_standing.specs.Standings.{IsCurrent, StillKept, queries_of, summary_at};
+ghost use Rattle.lv_standing.specs.Standings.{IsCurrent, LeavesUnasked, queries_of, summary_at};
 
 use crate::asking::ask_inside;
 use crate::changes::Changed;
@@ -120,12 +120,12 @@ fn told_or_asked(
     i: usize,
     watch: &Watch,
 ) -> KindSummary
-    requires kept { AreKept program_table live.now.history.journal kinds.old }
+    requires kept { AreReady program_table live.now.history.journal kinds.old }
     requires within { i ≤ index_map_len watches.now }
     requires told { AreTold live.now.history.journal watches.now.entries i }
     ensures value { result ≡ summary_at live.now.history.journal watch.now }
-    ensures kept { AreKept program_table live.now.history.journal kinds.new }
-    ensures remembers { StillKept kinds.old kinds.new }
+    ensures kept { AreReady program_table live.now.history.journal kinds.new }
+    ensures others { LeavesOthers (kind_of watch.now.summary) kinds.old kinds.new }
 {
     match told_before(live, watches, i, watch) {
         Some(summary) => summary,
@@ -145,14 +145,14 @@ fn summary_after(
 ) -> KindSummary
     ghost before: { List ℤ }
     requires limits { IsLegalInLimits live.now.history }
-    requires kept { AreKept program_table live.now.history.journal kinds.old }
+    requires kept { AreReady program_table live.now.history.journal kinds.old }
     requires current { watch.now.summary ≡ summary_of (kind_of watch.now.summary) before }
     requires pushed { IfSome pushed (λ x. slice_range (list_of live.now.history.journal) watch.now.lo watch.now.hi ≡ before ++ x ∷ []) }
     requires within { i ≤ index_map_len watches.now }
     requires told { AreTold live.now.history.journal watches.now.entries i }
     ensures value { result ≡ summary_at live.now.history.journal watch.now }
-    ensures kept { AreKept program_table live.now.history.journal kinds.new }
-    ensures remembers { StillKept kinds.old kinds.new }
+    ensures kept { AreReady program_table live.now.history.journal kinds.new }
+    ensures others { LeavesOthers (kind_of watch.now.summary) kinds.old kinds.new }
 {
     match pushed {
         Some(x) => watch.summary.with_last(x),
@@ -194,7 +194,7 @@ fn tell_one(
 )
     ghost old: { List Change }
     requires limits { IsLegalInLimits live.now.history }
-    requires kept { AreKept program_table live.now.history.journal kinds.old }
+    requires kept { AreReady program_table live.now.history.journal kinds.old }
     requires before { CanFold (list_of old) }
     requires elsewhere { SameElsewhere changed old live.now.history.journal }
     requires pushed { IfSome pushed (IsPushed changed old live.now.history.journal) }
@@ -204,8 +204,8 @@ fn tell_one(
     requires told { AreTold live.now.history.journal watches.old.entries i }
     ensures told { AtIndex watches.old.entries i (IsToldAt changed old live.now.history.journal watches.old.entries watches.new.entries i notes.old.items notes.new.items) }
     ensures capacity { vec_capacity notes.new ≡ vec_capacity notes.old }
-    ensures kept { AreKept program_table live.now.history.journal kinds.new }
-    ensures remembers { StillKept kinds.old kinds.new }
+    ensures kept { AreReady program_table live.now.history.journal kinds.new }
+    ensures others { AtIndex watches.old.entries i (λ e. LeavesOthers (kind_of e.1.summary) kinds.old kinds.new) }
 {
     let (name, watch) = watch_at(watches, i);
     if !watch.has_changed(changed) {
@@ -229,7 +229,7 @@ pub fn tell(
 )
     ghost old: { List Change }
     requires limits { IsLegalInLimits live.now.history }
-    requires kept { AreKept program_table live.now.history.journal kinds.old }
+    requires kept { AreReady program_table live.now.history.journal kinds.old }
     requires before { CanFold (list_of old) }
     requires elsewhere { SameElsewhere changed old live.now.history.journal }
     requires pushed { IfSome pushed (IsPushed changed old live.now.history.journal) }
@@ -238,8 +238,8 @@ pub fn tell(
     requires room { length (asked changed watches.old.entries) ≤ vec_capacity notes.old }
     ensures entries { watches.new.entries ≡ map (refreshed live.now.history.journal) watches.old.entries }
     ensures notes { AreNotes old live.now.history.journal (queries_of watches.old.entries) notes.new.items }
-    ensures kept { AreKept program_table live.now.history.journal kinds.new }
-    ensures remembers { StillKept kinds.old kinds.new }
+    ensures kept { AreReady program_table live.now.history.journal kinds.new }
+    ensures others { LeavesUnasked (queries_of watches.old.entries) kinds.old kinds.new }
 {
     for i in 0..watches.len() {
         tell_one(live, kinds, watches, i, changed, pushed, notes);

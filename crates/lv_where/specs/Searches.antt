@@ -1,16 +1,9 @@
 -- What a search from one end of a range finds.
-use Rattle.std.specs.Prelude.{◌≡◌, ℕ, ℤ, ◌+◌, ◌-◌, ◌<◌, ◌≤◌, true, Option, Some, None, List, slice_range}
-use Rattle.lv_geometry.specs.declared.nodes.Node.{Node}
-use Rattle.lv_bodies.specs.declared.kinds.Kind.{Kind}
+use Rattle.std.specs.Prelude.{◌≡◌, ℕ, ℤ, ◌+◌, ◌-◌, ◌<◌, ◌≤◌, Option, Some, None, List, slice_range}
 use Rattle.lv_kinds.specs.KindSummaries.{summary_by}
-use Rattle.lv_kinds.specs.Kinds.{KindsState, is_kept_by}
 use Rattle.lv_kinds.specs.declared.kind_summaries.KindSummary.{KindSummary}
 use Rattle.lv_where.specs.Sought.{Misses, kind_for}
 use Rattle.lv_where.specs.declared.sought.Sought.{Sought}
-
--- each summary that was kept by its kind still is
-abbrev pub StillKept : KindsState → KindsState → Type 0
-StillKept old new = (k : Kind) (n : Node) → is_kept_by old k n ≡ true → is_kept_by new k n ≡ true
 
 -- the least end of a range from lo on that has what is sought: one element less has nothing of it
 pub record IsFirstEnd (sought : Sought) (xs : List ℤ) (lo hi end : ℕ) : Type 0 where

@@ -1,21 +1,19 @@
 //! Where in a range something stands.
 ghost use Rattle.std.specs.Prelude.{◌≡◌, ◌-◌, ◌<◌, ◌≤◌, None, Some, IfErr, IfOk, length};
-ghost use Rattle.lv_bodies.specs.Automata.{table_of};
-ghost use Rattle.lv_bodies.specs.Six.{six_operations_by};
+ghost use Rattle.lv_bodies.specs.declared.kinds.Kind.TheVariants as kind;
 ghost use Rattle.lv_edits.specs.History.{list_of};
 ghost use Rattle.lv_edits.specs.Kept.{IsLegalInLimits};
-ghost use Rattle.lv_known.specs.Agrees.{Agrees};
 ghost use Rattle.lv_reduce.specs.Answer.{range_refusal};
-ghost use Rattle.lv_kinds.specs.Kinds.{AreKept};
-ghost use Rattle.lv_where.specs.Searches.{StillKept};
+ghost use Rattle.lv_kinds.specs.Kinds.{AreReady, LeavesOthers};
 ghost use Rattle.lv_where.specs.Where.{IsEndReached, IsPlaceOfBest, IsPlaceOfGreatest, IsPlaceOfLeast};
 
 use crate::searching::{first_end, last_start, summary};
 use crate::sought::{Sought, best_of, greatest_of, least_of};
-use lv_bodies::{Automaton, Kind, SixSummary};
+use lv_bodies::Kind;
+use lv_edits::Edits;
 use lv_geometry::Refusal;
 use lv_kinds::Kinds;
-use lv_reduce::{View, refusal_of};
+use lv_reduce::refusal_of;
 
 /// An element, and the index at which it stands.
 #[derive(Clone, Copy, Debug, PartialEq, Eq)]
@@ -45,152 +43,120 @@ pub struct Run {
     pub sum: i128,
 }
 
-/// The first of the least elements from index `lo` up to `hi`, and where it stands; none where there are no elements. What is computed
-/// for it is kept by the kind of the least. Refused with `BadRange`, then `OutOfRange`. Takes no memory.
+/// The first of the least elements from index `lo` up to `hi`, and where it stands; none where there are no elements. It is
+/// asked of the kind of the least. Refused with `BadRange`, then `OutOfRange`. Takes no memory.
 pub fn first_least(
-    view: View<'_, SixSummary>,
-    automaton: &Automaton,
+    cells: &Edits,
     kinds: &mut Kinds,
     lo: u32,
     hi: u32,
 ) -> Result<Option<Placed>, Refusal>
-    requires agrees { Agrees (six_operations_by (table_of automaton.now)) view.cells.now.journal view.table.now }
-    requires kept { AreKept (table_of automaton.now) view.cells.now.journal kinds.old }
-    ensures ok { IfOk result (λ place. IsPlaceOfLeast (list_of view.entry.cells.now.journal) lo hi place) }
-    ensures granted { IfOk result (λ _. range_refusal view.entry.cells.now.journal lo hi ≡ None) }
-    ensures err { IfErr result (λ refusal. range_refusal view.entry.cells.now.journal lo hi ≡ Some refusal) }
-    ensures kept { AreKept (table_of automaton.now) view.entry.cells.now.journal kinds.new }
-    ensures remembers { StillKept kinds.old kinds.new }
+    requires ready { AreReady kinds.old.table cells.now.journal kinds.old }
+    ensures ok { IfOk result (λ place. IsPlaceOfLeast (list_of cells.now.journal) lo hi place) }
+    ensures granted { IfOk result (λ _. range_refusal cells.now.journal lo hi ≡ None) }
+    ensures err { IfErr result (λ refusal. range_refusal cells.now.journal lo hi ≡ Some refusal) }
+    ensures ready { AreReady kinds.old.table cells.now.journal kinds.new }
+    ensures others { LeavesOthers kind.Least kinds.old kinds.new }
 {
-    if let Some(refusal) = refusal_of(view.cells, lo, hi) {
+    if let Some(refusal) = refusal_of(cells, lo, hi) {
         return Err(refusal);
     }
-    Ok(least_inside(view, automaton, kinds, lo, hi))
+    Ok(least_inside(cells, kinds, lo, hi))
 }
 
 // The same of a range that there is.
-fn least_inside(
-    view: View<'_, SixSummary>,
-    automaton: &Automaton,
-    kinds: &mut Kinds,
-    lo: u32,
-    hi: u32,
-) -> Option<Placed>
-    requires agrees { Agrees (six_operations_by (table_of automaton.now)) view.cells.now.journal view.table.now }
-    requires kept { AreKept (table_of automaton.now) view.cells.now.journal kinds.old }
-    requires limits { IsLegalInLimits view.cells.now }
+fn least_inside(cells: &Edits, kinds: &mut Kinds, lo: u32, hi: u32) -> Option<Placed>
+    requires ready { AreReady kinds.old.table cells.now.journal kinds.old }
+    requires limits { IsLegalInLimits cells.now }
     requires order { lo ≤ hi }
-    requires inside { hi ≤ length (list_of view.cells.now.journal) }
-    ensures place { IsPlaceOfLeast (list_of view.entry.cells.now.journal) lo hi result }
-    ensures kept { AreKept (table_of automaton.now) view.entry.cells.now.journal kinds.new }
-    ensures remembers { StillKept kinds.old kinds.new }
+    requires inside { hi ≤ length (list_of cells.now.journal) }
+    ensures place { IsPlaceOfLeast (list_of cells.now.journal) lo hi result }
+    ensures ready { AreReady kinds.old.table cells.now.journal kinds.new }
+    ensures others { LeavesOthers kind.Least kinds.old kinds.new }
 {
-    let Some(least) = least_of(summary(view, automaton, kinds, Kind::Least, lo, hi)) else {
+    let Some(least) = least_of(summary(cells, kinds, Kind::Least, lo, hi)) else {
         return None;
     };
-    match first_end(view, automaton, kinds, Sought::AtMost(least), lo, hi) {
+    match first_end(cells, kinds, Sought::AtMost(least), lo, hi) {
         Some(end) => Some(Placed::before(end, least)),
         None => unreachable!(),
     }
 }
 
-/// The first of the greatest elements, and where it stands; none where there are no elements. Keeps what it computes by the kind of the
-/// greatest, and is refused as `first_least` is. Takes no memory.
+/// The first of the greatest elements, and where it stands; none where there are no elements. It is asked of the kind of the
+/// greatest, and refused as `first_least` is. Takes no memory.
 pub fn first_greatest(
-    view: View<'_, SixSummary>,
-    automaton: &Automaton,
+    cells: &Edits,
     kinds: &mut Kinds,
     lo: u32,
     hi: u32,
 ) -> Result<Option<Placed>, Refusal>
-    requires agrees { Agrees (six_operations_by (table_of automaton.now)) view.cells.now.journal view.table.now }
-    requires kept { AreKept (table_of automaton.now) view.cells.now.journal kinds.old }
-    ensures ok { IfOk result (λ place. IsPlaceOfGreatest (list_of view.entry.cells.now.journal) lo hi place) }
-    ensures granted { IfOk result (λ _. range_refusal view.entry.cells.now.journal lo hi ≡ None) }
-    ensures err { IfErr result (λ refusal. range_refusal view.entry.cells.now.journal lo hi ≡ Some refusal) }
-    ensures kept { AreKept (table_of automaton.now) view.entry.cells.now.journal kinds.new }
-    ensures remembers { StillKept kinds.old kinds.new }
+    requires ready { AreReady kinds.old.table cells.now.journal kinds.old }
+    ensures ok { IfOk result (λ place. IsPlaceOfGreatest (list_of cells.now.journal) lo hi place) }
+    ensures granted { IfOk result (λ _. range_refusal cells.now.journal lo hi ≡ None) }
+    ensures err { IfErr result (λ refusal. range_refusal cells.now.journal lo hi ≡ Some refusal) }
+    ensures ready { AreReady kinds.old.table cells.now.journal kinds.new }
+    ensures others { LeavesOthers kind.Greatest kinds.old kinds.new }
 {
-    if let Some(refusal) = refusal_of(view.cells, lo, hi) {
+    if let Some(refusal) = refusal_of(cells, lo, hi) {
         return Err(refusal);
     }
-    Ok(greatest_inside(view, automaton, kinds, lo, hi))
+    Ok(greatest_inside(cells, kinds, lo, hi))
 }
 
 // The same of a range that there is.
-fn greatest_inside(
-    view: View<'_, SixSummary>,
-    automaton: &Automaton,
-    kinds: &mut Kinds,
-    lo: u32,
-    hi: u32,
-) -> Option<Placed>
-    requires agrees { Agrees (six_operations_by (table_of automaton.now)) view.cells.now.journal view.table.now }
-    requires kept { AreKept (table_of automaton.now) view.cells.now.journal kinds.old }
-    requires limits { IsLegalInLimits view.cells.now }
+fn greatest_inside(cells: &Edits, kinds: &mut Kinds, lo: u32, hi: u32) -> Option<Placed>
+    requires ready { AreReady kinds.old.table cells.now.journal kinds.old }
+    requires limits { IsLegalInLimits cells.now }
     requires order { lo ≤ hi }
-    requires inside { hi ≤ length (list_of view.cells.now.journal) }
-    ensures place { IsPlaceOfGreatest (list_of view.entry.cells.now.journal) lo hi result }
-    ensures kept { AreKept (table_of automaton.now) view.entry.cells.now.journal kinds.new }
-    ensures remembers { StillKept kinds.old kinds.new }
+    requires inside { hi ≤ length (list_of cells.now.journal) }
+    ensures place { IsPlaceOfGreatest (list_of cells.now.journal) lo hi result }
+    ensures ready { AreReady kinds.old.table cells.now.journal kinds.new }
+    ensures others { LeavesOthers kind.Greatest kinds.old kinds.new }
 {
-    let Some(greatest) = greatest_of(summary(view, automaton, kinds, Kind::Greatest, lo, hi)) else {
+    let Some(greatest) = greatest_of(summary(cells, kinds, Kind::Greatest, lo, hi)) else {
         return None;
     };
-    match first_end(view, automaton, kinds, Sought::AtLeast(greatest), lo, hi) {
+    match first_end(cells, kinds, Sought::AtLeast(greatest), lo, hi) {
         Some(end) => Some(Placed::before(end, greatest)),
         None => unreachable!(),
     }
 }
 
 /// The best run from index `lo` up to `hi`: elements side by side, one at least, that add up to the most. Of several it is the one that
-/// ends first, and of those the shortest. There is none where there are no elements. Keeps what it computes by the kind of the best run,
-/// and is refused as `first_least` is. Takes no memory.
-pub fn best_run(
-    view: View<'_, SixSummary>,
-    automaton: &Automaton,
-    kinds: &mut Kinds,
-    lo: u32,
-    hi: u32,
-) -> Result<Option<Run>, Refusal>
-    requires agrees { Agrees (six_operations_by (table_of automaton.now)) view.cells.now.journal view.table.now }
-    requires kept { AreKept (table_of automaton.now) view.cells.now.journal kinds.old }
-    ensures ok { IfOk result (λ place. IsPlaceOfBest (list_of view.entry.cells.now.journal) lo hi place) }
-    ensures granted { IfOk result (λ _. range_refusal view.entry.cells.now.journal lo hi ≡ None) }
-    ensures err { IfErr result (λ refusal. range_refusal view.entry.cells.now.journal lo hi ≡ Some refusal) }
-    ensures kept { AreKept (table_of automaton.now) view.entry.cells.now.journal kinds.new }
-    ensures remembers { StillKept kinds.old kinds.new }
+/// ends first, and of those the shortest. There is none where there are no elements. It is asked of the kind of the best run,
+/// and refused as `first_least` is. Takes no memory.
+pub fn best_run(cells: &Edits, kinds: &mut Kinds, lo: u32, hi: u32) -> Result<Option<Run>, Refusal>
+    requires ready { AreReady kinds.old.table cells.now.journal kinds.old }
+    ensures ok { IfOk result (λ place. IsPlaceOfBest (list_of cells.now.journal) lo hi place) }
+    ensures granted { IfOk result (λ _. range_refusal cells.now.journal lo hi ≡ None) }
+    ensures err { IfErr result (λ refusal. range_refusal cells.now.journal lo hi ≡ Some refusal) }
+    ensures ready { AreReady kinds.old.table cells.now.journal kinds.new }
+    ensures others { LeavesOthers kind.Best kinds.old kinds.new }
 {
-    if let Some(refusal) = refusal_of(view.cells, lo, hi) {
+    if let Some(refusal) = refusal_of(cells, lo, hi) {
         return Err(refusal);
     }
-    Ok(best_inside(view, automaton, kinds, lo, hi))
+    Ok(best_inside(cells, kinds, lo, hi))
 }
 
 // The same of a range that there is.
-fn best_inside(
-    view: View<'_, SixSummary>,
-    automaton: &Automaton,
-    kinds: &mut Kinds,
-    lo: u32,
-    hi: u32,
-) -> Option<Run>
-    requires agrees { Agrees (six_operations_by (table_of automaton.now)) view.cells.now.journal view.table.now }
-    requires kept { AreKept (table_of automaton.now) view.cells.now.journal kinds.old }
-    requires limits { IsLegalInLimits view.cells.now }
+fn best_inside(cells: &Edits, kinds: &mut Kinds, lo: u32, hi: u32) -> Option<Run>
+    requires ready { AreReady kinds.old.table cells.now.journal kinds.old }
+    requires limits { IsLegalInLimits cells.now }
     requires order { lo ≤ hi }
-    requires inside { hi ≤ length (list_of view.cells.now.journal) }
-    ensures place { IsPlaceOfBest (list_of view.entry.cells.now.journal) lo hi result }
-    ensures kept { AreKept (table_of automaton.now) view.entry.cells.now.journal kinds.new }
-    ensures remembers { StillKept kinds.old kinds.new }
+    requires inside { hi ≤ length (list_of cells.now.journal) }
+    ensures place { IsPlaceOfBest (list_of cells.now.journal) lo hi result }
+    ensures ready { AreReady kinds.old.table cells.now.journal kinds.new }
+    ensures others { LeavesOthers kind.Best kinds.old kinds.new }
 {
-    let best = best_of(summary(view, automaton, kinds, Kind::Best, lo, hi));
+    let best = best_of(summary(cells, kinds, Kind::Best, lo, hi));
     let Some(totals) = best else {
         return None;
     };
     let sum = totals.best;
-    match first_end(view, automaton, kinds, Sought::Run(sum), lo, hi) {
-        Some(to) => match last_start(view, automaton, kinds, Sought::Run(sum), lo, to) {
+    match first_end(cells, kinds, Sought::Run(sum), lo, hi) {
+        Some(to) => match last_start(cells, kinds, Sought::Run(sum), lo, to) {
             Some(from) => Some(Run { from, to, sum }),
             None => unreachable!(),
         },
@@ -199,49 +165,39 @@ fn best_inside(
 }
 
 /// The least end, from `lo` to `hi`, up to which the elements from index `lo` on add up to `sum` at least, or none. Elements may be
-/// negative, and no sum wraps. Keeps what it computes by the kind of the best run, and is refused as `first_least` is. Takes no memory.
+/// negative, and no sum wraps. It is asked of the kind of the best run, and refused as `first_least` is. Takes no memory.
 pub fn reaches(
-    view: View<'_, SixSummary>,
-    automaton: &Automaton,
+    cells: &Edits,
     kinds: &mut Kinds,
     lo: u32,
     hi: u32,
     sum: i128,
 ) -> Result<Option<u32>, Refusal>
-    requires agrees { Agrees (six_operations_by (table_of automaton.now)) view.cells.now.journal view.table.now }
-    requires kept { AreKept (table_of automaton.now) view.cells.now.journal kinds.old }
-    ensures ok { IfOk result (λ place. IsEndReached (list_of view.entry.cells.now.journal) lo hi sum place) }
-    ensures granted { IfOk result (λ _. range_refusal view.entry.cells.now.journal lo hi ≡ None) }
-    ensures err { IfErr result (λ refusal. range_refusal view.entry.cells.now.journal lo hi ≡ Some refusal) }
-    ensures kept { AreKept (table_of automaton.now) view.entry.cells.now.journal kinds.new }
-    ensures remembers { StillKept kinds.old kinds.new }
+    requires ready { AreReady kinds.old.table cells.now.journal kinds.old }
+    ensures ok { IfOk result (λ place. IsEndReached (list_of cells.now.journal) lo hi sum place) }
+    ensures granted { IfOk result (λ _. range_refusal cells.now.journal lo hi ≡ None) }
+    ensures err { IfErr result (λ refusal. range_refusal cells.now.journal lo hi ≡ Some refusal) }
+    ensures ready { AreReady kinds.old.table cells.now.journal kinds.new }
+    ensures others { LeavesOthers kind.Best kinds.old kinds.new }
 {
-    if let Some(refusal) = refusal_of(view.cells, lo, hi) {
+    if let Some(refusal) = refusal_of(cells, lo, hi) {
         return Err(refusal);
     }
-    Ok(end_inside(view, automaton, kinds, lo, hi, sum))
+    Ok(end_inside(cells, kinds, lo, hi, sum))
 }
 
 // The same of a range that there is.
-fn end_inside(
-    view: View<'_, SixSummary>,
-    automaton: &Automaton,
-    kinds: &mut Kinds,
-    lo: u32,
-    hi: u32,
-    sum: i128,
-) -> Option<u32>
-    requires agrees { Agrees (six_operations_by (table_of automaton.now)) view.cells.now.journal view.table.now }
-    requires kept { AreKept (table_of automaton.now) view.cells.now.journal kinds.old }
-    requires limits { IsLegalInLimits view.cells.now }
+fn end_inside(cells: &Edits, kinds: &mut Kinds, lo: u32, hi: u32, sum: i128) -> Option<u32>
+    requires ready { AreReady kinds.old.table cells.now.journal kinds.old }
+    requires limits { IsLegalInLimits cells.now }
     requires order { lo ≤ hi }
-    requires inside { hi ≤ length (list_of view.cells.now.journal) }
-    ensures place { IsEndReached (list_of view.entry.cells.now.journal) lo hi sum result }
-    ensures kept { AreKept (table_of automaton.now) view.entry.cells.now.journal kinds.new }
-    ensures remembers { StillKept kinds.old kinds.new }
+    requires inside { hi ≤ length (list_of cells.now.journal) }
+    ensures place { IsEndReached (list_of cells.now.journal) lo hi sum result }
+    ensures ready { AreReady kinds.old.table cells.now.journal kinds.new }
+    ensures others { LeavesOthers kind.Best kinds.old kinds.new }
 {
     if sum <= 0 {
         return Some(lo);
     }
-    first_end(view, automaton, kinds, Sought::Beginning(sum), lo, hi)
+    first_end(cells, kinds, Sought::Beginning(sum), lo, hi)
 }

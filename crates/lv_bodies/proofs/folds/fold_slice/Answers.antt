@@ -1,11 +1,11 @@
 -- Proof of `fold_slice`: the left fold of a slice, where it lies.
-use Rattle.std.proofs.Common.{◌≡◌, ℕ, ℤ, pos, ◌+◌, ◌<◌, List, length, rules, arith, take, All, slice_index_or, ap, sym, subst, ◌∙◌, w64}
+use Rattle.std.proofs.Common.{◌≡◌, pos, rules, arith, take, All, slice_index_or, ap, sym, subst, ◌∙◌, w64}
 use Rattle.std.proofs.lemmas.Int.{to_z-of_z}
 use Rattle.std.proofs.lemmas.List.{take_all}
 use Rattle.std.proofs.lemmas.List.Elements.{All-more, All-nil}
-use Rattle.std.proofs.lemmas.List.Sums.{fold_more}
 use Rattle.lv_geometry.specs.Elements.{IsElement}
-use Rattle.lv_bodies.specs.Body.{Operations, fold_of}
+use Rattle.lv_bodies.specs.Body.{fold_of}
+use Rattle.lv_bodies.proofs.MoreFolds.{one_more}
 use Rattle.lv_bodies.proofs.folds.fold_slice.Given.{Over}
 use Rattle.lv_bodies.proofs.folds.fold_slice.Goals as goal
 
@@ -24,11 +24,6 @@ fold_more-sum-requires-after_bounds g c κs within = record {
   count_within = c.loop-x.invariant.within;
   few = omega (arith, c.requires, c.loop-x-test.true);
 }
-
--- the fold of one element more
-one_more : {S : Type 0} (o : Operations S) (xs : List ℤ) (i : ℕ) (s t : S) (x : ℤ) → i < length xs → s ≡ fold_of o (take i xs) → x ≡ slice_index_or xs i (pos 0) → t ≡ o.join s (o.lift x) → t ≡ fold_of o (take (i + 1) xs)
-one_more o xs i s t x within so_far is joined =
-    rw (joined, so_far, is) (sym (fold_more (λ r y. o.join r (o.lift y)) o.identity xs i (pos 0) within))
 
 pub loop-x-preserved : goal.loop-x-preserved
 loop-x-preserved g c =

@@ -3,9 +3,10 @@ use Rattle.std.proofs.Common.{◌≡◌, ◌∙◌, ◌++◌, ◌∷◌, [], ap,
 use Rattle.lv_bodies.specs.Plain.{program_table}
 use Rattle.lv_edits.specs.History.{History, list_of, with_edit}
 use Rattle.lv_edits.specs.Verdict.{receipt_of}
-use Rattle.lv_kinds.specs.Kinds.{HaveRoomFor}
+use Rattle.lv_kinds.specs.Kinds.{AreReady, HaveRoomFor, KeepsAlike, KindsState}
+use Rattle.lv_kinds.proofs.KeptLaws.{AreReady-alike, LeavesAll-trans}
 use Rattle.lv_standing.specs.Inner.{size_after}
-use Rattle.lv_standing.proofs.RoomLaws.{AreKept-alike, kept_alike, size_by_edit}
+use Rattle.lv_standing.proofs.RoomLaws.{size_by_edit}
 use Rattle.lv_standing.proofs.making.make.Goals as goal
 
 pub make_room-requires : goal.make_room-requires
@@ -19,18 +20,31 @@ make_room-requires g c =
 
 pub follow_made-requires : goal.follow_made-requires
 follow_made-requires g c =
-    let size : c.size-size.result ≡ length (list_of g.before.journal) = c.size-size.ensures ∙ ap (λ (h : History). length (list_of h.journal)) c.requires.0 in
-    let after : c.size_after.result ≡ size_after (length (list_of g.before.journal)) c.args.edit = c.size_after.ensures ∙ ap (λ n. size_after n c.args.edit) size in
-    let long = after ∙ sym (size_by_edit g.before c.args.edit c.requires.1.0 c.requires.1.1.0).0 in
-    let answered = c.in_ok-receipt.ensures.answer.receipt_is ∙ ap (λ (h : History). receipt_of h.journal c.args.edit) c.requires.0 in
-    (c.requires.1.0, (c.requires.1.1.0, (answered, (size, subst (HaveRoomFor c.make_room.new.kinds) long c.in-Ok.ensures.ok))))
+    (c.requires.1.0, (c.requires.1.1.0, c.in_ok-receipt.ensures.answer.receipt_is ∙ ap (λ (h : History). receipt_of h.journal c.args.edit) c.requires.0))
+
+-- room may have been made, and else nothing has changed
+ready : (old now : History) (kinds new : KindsState) → now ≡ old → AreReady program_table old.journal kinds → KeepsAlike kinds new → AreReady program_table now.journal new
+ready old now kinds new same was alike = subst (λ h. AreReady program_table h.journal new) (sym same) (AreReady-alike program_table old.journal kinds new was alike)
+
+pub returns-in_default-clause-kept : goal.returns-in_default-clause-kept
+returns-in_default-clause-kept g c =
+    ready g.before c.args.live.now.history c.args.kinds.now c.make_room.new.kinds c.requires.0 c.requires.1.1.1 c.make_room.ensures.alike
+
+pub returns-in_err-receipt-clause-kept : goal.returns-in_err-receipt-clause-kept
+returns-in_err-receipt-clause-kept g c =
+    let same = c.in_err-receipt.ensures.answer.same ∙ c.requires.0 in
+    ready g.before c.make.new.self.history c.args.kinds.now c.make_room.new.kinds same c.requires.1.1.1 c.make_room.ensures.alike
 
 pub returns-clause-kept : goal.returns-clause-kept
 returns-clause-kept g c =
+    let size : c.size-size.result ≡ length (list_of g.before.journal) = c.size-size.ensures ∙ ap (λ (h : History). length (list_of h.journal)) c.requires.0 in
+    let after : c.size_after.result ≡ size_after (length (list_of g.before.journal)) c.args.edit = c.size_after.ensures ∙ ap (λ n. size_after n c.args.edit) size in
+    let long = after ∙ sym (size_by_edit g.before c.args.edit c.requires.1.0 c.requires.1.1.0).0 in
     let grown : c.make.new.self.history.journal ≡ g.before.journal ++ c.args.edit ∷ [] = ap (λ (h : History). h.journal) (c.in_ok-receipt.ensures.answer.journal ∙ ap (λ h. with_edit h c.args.edit) c.requires.0) in
-    rw grown (c.follow_made.ensures.kept program_table (AreKept-alike program_table g.before.journal c.args.kinds.now c.make_room.new.kinds c.in-Ok.ensures.alike c.requires.1.1.1))
+    rw grown (record {
+      kept = c.follow_made.ensures.kept program_table (c.in-Ok.ensures.alike.kept program_table g.before.journal c.requires.1.1.1.kept);
+      room = c.follow_made.ensures.leaves.room _ (subst (HaveRoomFor c.make_room.new.kinds) long c.in-Ok.ensures.ok);
+    })
 
-pub returns-clause-remembers : goal.returns-clause-remembers
-returns-clause-remembers g c k n away was =
-    let there = AreKept-alike program_table g.before.journal c.args.kinds.now c.make_room.new.kinds c.in-Ok.ensures.alike c.requires.1.1.1 in
-    c.follow_made.ensures.remembers program_table there k n away ∙ kept_alike c.args.kinds.now c.make_room.new.kinds k n c.in-Ok.ensures.alike ∙ was
+pub returns-clause-leaves : goal.returns-clause-leaves
+returns-clause-leaves g c = LeavesAll-trans c.args.kinds.now c.make_room.new.kinds c.follow_made.new.self c.in-Ok.ensures.alike.leaves c.follow_made.ensures.leaves

@@ -5,6 +5,7 @@ use Rattle.lv_standing.specs.Standings.{IsCurrent}
 use Rattle.lv_geometry.proofs.Ranges.{there_is}
 use Rattle.lv_standing.proofs.EntryLaws.{all_at, asked_more, rest_is}
 use Rattle.lv_standing.proofs.NoteLaws.{are_told, as_before, as_long, told_entries, told_notes, told_room}
+use Rattle.lv_standing.proofs.UnaskedLaws.{LeavesUnasked-next}
 use Rattle.lv_standing.proofs.watches.tell.Goals as goal
 
 pub tell_one-requires : goal.tell_one-requires
@@ -49,7 +50,7 @@ loop-i-preserved g c =
     let told = c.tell_one.ensures.told there.0 (kept ∙ there.1) in
     record {
       kept = c.tell_one.ensures.kept;
-      remembers = λ k n was. c.tell_one.ensures.remembers k n (c.loop-i.invariant.remembers k n was);
+      others = LeavesUnasked-next all c.loop-i.i there.0 c.args.kinds.now c.loop-i.kinds c.tell_one.new.kinds there.1 c.loop-i.invariant.others (c.tell_one.ensures.others there.0 (kept ∙ there.1));
       entries = told_entries g.old new c.args.changed all c.loop-i.watches.entries c.tell_one.new.watches.entries c.loop-i.i c.loop-i.notes.items c.tell_one.new.notes.items there.0 there.1 inside c.loop-i.invariant.entries told;
       notes = told_notes g.old new c.args.changed all c.loop-i.watches.entries c.tell_one.new.watches.entries c.loop-i.i c.loop-i.notes.items c.tell_one.new.notes.items there.0 there.1 inside c.loop-i.invariant.entries told c.loop-i.invariant.notes;
       room = told_room g.old new c.args.changed all c.loop-i.watches.entries c.tell_one.new.watches.entries c.loop-i.i c.loop-i.notes.items c.tell_one.new.notes.items there.0 there.1 inside c.loop-i.invariant.entries told (vec_capacity c.tell_one.new.notes)

@@ -2,6 +2,9 @@
 use Rattle.std.proofs.Common.{◌≡◌, ◌∙◌, Some, false, true, arith, rules, subst, sym}
 use Rattle.lv_edits.specs.History.{list_of}
 use Rattle.lv_known.proofs.FoldableLaws.{part_can_fold}
+use Rattle.lv_kinds.specs.Kinds.{LeavesOthers}
+use Rattle.lv_kinds.specs.KindSummaries.{kind_of}
+use Rattle.lv_kinds.proofs.KeptLaws.{LeavesOthers-same}
 use Rattle.lv_standing.specs.Inner.{IsToldAt, has_changed}
 use Rattle.lv_standing.proofs.NoteLaws.{told_change, told_nothing}
 use Rattle.lv_standing.proofs.RangeLaws.{pushed_inside, range_can_fold}
@@ -33,6 +36,16 @@ returns-then-not-has_changed-clause-told g c = λ e at.
     subst (IsToldAt c.args.changed g.old c.args.live.now.history.journal c.args.watches.now.entries c.args.watches.now.entries c.args.i c.args.notes.now.items c.args.notes.now.items) same
     (told_nothing g.old c.args.live.now.history.journal c.args.changed c.args.watches.now.entries c.args.i c.args.notes.now.items here c.watch_at-name.ensures apart c.requires.1.1.1.0
     (c.requires.1.1.1.1.1.1.0 here c.watch_at-name.ensures))
+
+pub returns-then-not-has_changed-clause-others : goal.returns-then-not-has_changed-clause-others
+returns-then-not-has_changed-clause-others g c = λ e at. LeavesOthers-same (kind_of e.1.summary) c.args.kinds.now
+
+pub returns-clause-others : goal.returns-clause-others
+returns-clause-others g c = λ e at.
+    let here = c.watch_at-name.result in
+    let found : Some here ≡ Some e = sym c.watch_at-name.ensures ∙ at in
+    let same : here ≡ e = cc in
+    subst (λ e. LeavesOthers (kind_of e.1.summary) c.args.kinds.now c.summary_after-summary.new.kinds) same c.summary_after-summary.ensures.others
 
 pub returns-clause-told : goal.returns-clause-told
 returns-clause-told g c = λ e at.

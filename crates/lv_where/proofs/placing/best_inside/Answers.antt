@@ -2,38 +2,39 @@
 use Rattle.std.proofs.Common.{FitsSigned, None, Some, of_z, refl, rules, slice_range, subst, sym, to_z, ◌∙◌}
 use Rattle.std.specs.Int.{w128}
 use Rattle.std.proofs.lemmas.Int.{to_z-of_z}
-use Rattle.lv_bodies.specs.Automata.{table_of}
 use Rattle.lv_bodies.specs.Plain.{IsPlainBest}
+use Rattle.lv_bodies.specs.declared.kinds.Kind.TheVariants as kind
 use Rattle.lv_edits.specs.History.{list_of}
+use Rattle.lv_kinds.proofs.KeptLaws.{LeavesOthers-trans}
 use Rattle.lv_where.proofs.PlaceLaws.{best_is_met, best_stands, empty_range}
 use Rattle.lv_where.proofs.SoughtLaws.{best_told}
 use Rattle.lv_where.proofs.placing.best_inside.Goals as goal
 
 pub returns-in_default-clause-place : goal.returns-in_default-clause-place
 returns-in_default-clause-place c =
-    let xs = list_of c.args.view.cells.now.journal in
-    let is = best_told (table_of c.args.automaton.now) (slice_range xs c.args.lo c.args.hi) c.summary.result None (sym c.in_default.is ∙ c.best_of-best.ensures) c.summary.ensures.value in
+    let xs = list_of c.args.cells.now.journal in
+    let is = best_told c.args.kinds.now.table (slice_range xs c.args.lo c.args.hi) c.summary.result None (sym c.in_default.is ∙ c.best_of-best.ensures) c.summary.ensures.value in
     empty_range xs c.args.lo c.args.hi c.requires.order c.requires.inside (is.none.0 refl)
 
 pub unreachable-requires-in-None : goal.unreachable-requires-in-None
 unreachable-requires-in-None c =
-    let xs = list_of c.args.view.cells.now.journal in
+    let xs = list_of c.args.cells.now.journal in
     let ys = slice_range xs c.args.lo c.args.hi in
     let sum = to_z w128 (of_z w128 c.in-Some.totals.best) in
     let fits : FitsSigned w128 c.in-Some.totals.best = search rules in
-    let told = best_told (table_of c.args.automaton.now) ys c.summary.result (Some c.in-Some.totals) (sym c.in-Some.is ∙ c.best_of-best.ensures) c.summary.ensures.value in
+    let told = best_told c.args.kinds.now.table ys c.summary.result (Some c.in-Some.totals) (sym c.in-Some.is ∙ c.best_of-best.ensures) c.summary.ensures.value in
     let is = subst (λ best. IsPlainBest ys (Some best)) (sym (to_z-of_z w128 c.in-Some.totals.best fits)) told in
     best_is_met xs c.args.lo c.args.hi c.requires.order c.requires.inside sum is c.in-None.ensures.finds
 
 pub returns-clause-place : goal.returns-clause-place
 returns-clause-place c =
-    let xs = list_of c.args.view.cells.now.journal in
+    let xs = list_of c.args.cells.now.journal in
     let ys = slice_range xs c.args.lo c.args.hi in
     let sum = to_z w128 (of_z w128 c.in-Some.totals.best) in
     let fits : FitsSigned w128 c.in-Some.totals.best = search rules in
-    let told = best_told (table_of c.args.automaton.now) ys c.summary.result (Some c.in-Some.totals) (sym c.in-Some.is ∙ c.best_of-best.ensures) c.summary.ensures.value in
+    let told = best_told c.args.kinds.now.table ys c.summary.result (Some c.in-Some.totals) (sym c.in-Some.is ∙ c.best_of-best.ensures) c.summary.ensures.value in
     let is = subst (λ best. IsPlainBest ys (Some best)) (sym (to_z-of_z w128 c.in-Some.totals.best fits)) told in
     best_stands xs c.args.lo c.args.hi c.requires.inside sum c.in-Some-first_end.to c.in-Some-last_start.from c.in-Some-first_end.ensures.finds c.in-Some-last_start.ensures.finds is
 
-pub returns-clause-remembers : goal.returns-clause-remembers
-returns-clause-remembers c = λ k n known. c.last_start.ensures.remembers k n (c.first_end.ensures.remembers k n (c.summary.ensures.remembers k n known))
+pub returns-clause-others : goal.returns-clause-others
+returns-clause-others c = LeavesOthers-trans kind.Best c.args.kinds.now c.first_end.new.kinds c.last_start.new.kinds (LeavesOthers-trans kind.Best c.args.kinds.now c.summary.new.kinds c.first_end.new.kinds c.summary.ensures.others c.first_end.ensures.others) c.last_start.ensures.others

@@ -11,7 +11,7 @@ use Rattle.lv_where.proofs.placing.end_inside.Goals as goal
 
 pub returns-clause-place : goal.returns-clause-place
 returns-clause-place c =
-    let xs = list_of c.args.view.cells.now.journal in
+    let xs = list_of c.args.cells.now.journal in
     let is = to_z-of_z w128 c.args.sum c.ranges.sum in
     let finds = subst (λ sum. FindsEnd (Beginning sum) xs c.args.lo c.args.hi c.first_end.result) is c.first_end.ensures.finds in
     let some = subst (λ sum. pos 0 <ℤ sum) is (not_most (to_z w128 (of_z w128 c.args.sum)) (pos 0) c.if-sum-le0.false) in

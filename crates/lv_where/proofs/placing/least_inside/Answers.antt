@@ -1,8 +1,9 @@
 -- Proof of `least_inside`.
 use Rattle.std.proofs.Common.{FitsSigned, None, Some, ap, of_z, refl, rules, slice_range, subst, sym, to_z, w64, ◌∙◌}
 use Rattle.std.proofs.lemmas.Int.{to_z-of_z}
-use Rattle.lv_bodies.specs.Automata.{table_of}
+use Rattle.lv_bodies.specs.declared.kinds.Kind.TheVariants as kind
 use Rattle.lv_edits.specs.History.{list_of}
+use Rattle.lv_kinds.proofs.KeptLaws.{LeavesOthers-trans}
 use Rattle.lv_where.specs.declared.placing.Placed.{Placed}
 use Rattle.lv_where.specs.Where.{IsFirstLeast}
 use Rattle.lv_where.proofs.PlaceLaws.{empty_range, least_is_met, least_stands}
@@ -11,28 +12,28 @@ use Rattle.lv_where.proofs.placing.least_inside.Goals as goal
 
 pub returns-in_default-clause-place : goal.returns-in_default-clause-place
 returns-in_default-clause-place c =
-    let xs = list_of c.args.view.cells.now.journal in
-    let is = least_told (table_of c.args.automaton.now) (slice_range xs c.args.lo c.args.hi) c.summary.result None (sym c.in_default.is ∙ c.least_of.ensures) c.summary.ensures.value in
+    let xs = list_of c.args.cells.now.journal in
+    let is = least_told c.args.kinds.now.table (slice_range xs c.args.lo c.args.hi) c.summary.result None (sym c.in_default.is ∙ c.least_of.ensures) c.summary.ensures.value in
     empty_range xs c.args.lo c.args.hi c.requires.order c.requires.inside (is.none.0 refl)
 
 pub unreachable-requires : goal.unreachable-requires
 unreachable-requires c =
-    let xs = list_of c.args.view.cells.now.journal in
+    let xs = list_of c.args.cells.now.journal in
     let value = to_z w64 (of_z w64 c.in-Some.least) in
     let fits : FitsSigned w64 c.in-Some.least = search rules in
     let told = ap Some (to_z-of_z w64 c.in-Some.least fits) ∙ sym c.in-Some.is ∙ c.least_of.ensures in
-    let is = least_told (table_of c.args.automaton.now) (slice_range xs c.args.lo c.args.hi) c.summary.result (Some value) told c.summary.ensures.value in
+    let is = least_told c.args.kinds.now.table (slice_range xs c.args.lo c.args.hi) c.summary.result (Some value) told c.summary.ensures.value in
     least_is_met xs c.args.lo c.args.hi c.requires.order c.requires.inside value is c.in-None.ensures.finds
 
 pub returns-clause-place : goal.returns-clause-place
 returns-clause-place c =
-    let xs = list_of c.args.view.cells.now.journal in
+    let xs = list_of c.args.cells.now.journal in
     let value = to_z w64 (of_z w64 c.in-Some.least) in
     let fits : FitsSigned w64 c.in-Some.least = search rules in
     let told = ap Some (to_z-of_z w64 c.in-Some.least fits) ∙ sym c.in-Some.is ∙ c.least_of.ensures in
-    let is = least_told (table_of c.args.automaton.now) (slice_range xs c.args.lo c.args.hi) c.summary.result (Some value) told c.summary.ensures.value in
+    let is = least_told c.args.kinds.now.table (slice_range xs c.args.lo c.args.hi) c.summary.result (Some value) told c.summary.ensures.value in
     subst (λ (p : Placed). IsFirstLeast xs c.args.lo c.args.hi p.index p.value) (sym c.before-in-Some-first_end.ensures)
     (least_stands xs c.args.lo c.args.hi c.requires.order c.requires.inside value c.in-Some-first_end.end is c.in-Some-first_end.ensures.finds)
 
-pub returns-clause-remembers : goal.returns-clause-remembers
-returns-clause-remembers c = λ k n known. c.first_end.ensures.remembers k n (c.summary.ensures.remembers k n known)
+pub returns-clause-others : goal.returns-clause-others
+returns-clause-others c = LeavesOthers-trans kind.Least c.args.kinds.now c.summary.new.kinds c.first_end.new.kinds c.summary.ensures.others c.first_end.ensures.others

@@ -1,5 +1,6 @@
 -- Proof of `KindVector::first_greatest`: the first of the greatest elements, the same way.
+use Rattle.lv_kinds.proofs.KeptLaws.{AreReady-by}
 use Rattle.livevec_c.proofs.kind_vectors.KindVector.first_greatest.Goals as goal
 
-pub first_greatest-requires-clause-agrees : goal.first_greatest-requires-clause-agrees
-first_greatest-requires-clause-agrees c = rw c.body.ensures (rw c.view.ensures.cells (rw c.view.ensures.table c.keeps.ensures.agrees))
+pub first_greatest-requires : goal.first_greatest-requires
+first_greatest-requires c = rw c.view.ensures.cells (record { ready = AreReady-by _ c.self.inside.live.history.journal c.self.inside.kinds c.self.invariant.kept })

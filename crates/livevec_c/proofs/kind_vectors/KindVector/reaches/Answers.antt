@@ -1,5 +1,6 @@
 -- Proof of `KindVector::reaches`: the least end up to which the elements from index `lo` on add up to `sum`, or none.
+use Rattle.lv_kinds.proofs.KeptLaws.{AreReady-by}
 use Rattle.livevec_c.proofs.kind_vectors.KindVector.reaches.Goals as goal
 
-pub reaches-requires-clause-agrees : goal.reaches-requires-clause-agrees
-reaches-requires-clause-agrees c = rw c.body.ensures (rw c.view.ensures.cells (rw c.view.ensures.table c.keeps.ensures.agrees))
+pub reaches-requires : goal.reaches-requires
+reaches-requires c = rw c.view.ensures.cells (record { ready = AreReady-by _ c.self.inside.live.history.journal c.self.inside.kinds c.self.invariant.kept })

@@ -12,6 +12,7 @@ use Rattle.lv_standing.specs.Standings.{IsCurrent, queries_of, query_at}
 use Rattle.lv_standing.proofs.EntryLaws.{all_refreshed, queries_refreshed}
 use Rattle.lv_standing.proofs.NoteLaws.{before_last, few_notes}
 use Rattle.lv_standing.proofs.RangeLaws.{edit_elsewhere, push_is_last}
+use Rattle.lv_standing.proofs.UnaskedLaws.{LeavesUnasked-after}
 use Rattle.lv_standing.proofs.standing.Standing.edit.Goals as goal
 
 -- a history with one more edit, without that edit
@@ -80,5 +81,6 @@ returns-clause-few c =
 pub returns-clause-queries : goal.returns-clause-queries
 returns-clause-queries c = rw (← c.self.view_is) (ap queries_of c.tell.ensures.entries ∙ queries_refreshed c.make.new.live.history.journal c.self.inside.watches.entries)
 
-pub returns-clause-remembers : goal.returns-clause-remembers
-returns-clause-remembers c = rw (← c.self.view_is) (λ k n apart was. c.tell.ensures.remembers k n (c.make.ensures.remembers k n apart was))
+pub returns-clause-others : goal.returns-clause-others
+returns-clause-others c =
+    rw (← c.self.view_is) (LeavesUnasked-after (queries_of c.self.inside.watches.entries) c.self.inside.kinds c.make.new.kinds c.tell.new.kinds c.make.ensures.leaves c.tell.ensures.others)

@@ -1,0 +1,15 @@
+-- What the loop keeps in `fold_long`: the left fold of a slice, of at most 2 ^ 62 elements.
+use Rattle.std.proofs.Common.{◌≡◌, take, All}
+use Rattle.lv_geometry.specs.Elements.{IsElement}
+use Rattle.lv_bodies.specs.Body.{fold_of}
+use Rattle.lv_bodies.proofs.long_folds.fold_long.Given as goal
+
+-- the fold of what was read so far, each of it of 64 bits
+abbrev pub invariant-loop-x : goal.invariant-loop-x
+invariant-loop-x g l =
+    let body = l.body in
+    record {
+      so_far : l.sum ≡ fold_of (g.B.Body.operations body) (take l.x-index l.xs);
+      within : g.B.Body.is_within body l.sum l.x-index;
+      elements : All IsElement (take l.x-index l.xs);
+    }

@@ -1,0 +1,22 @@
+-- Names the files of lemmas of `lv_tree`.
+pub mod Before
+pub mod Between
+pub mod Ends
+pub mod FollowLaws
+pub mod Found
+pub mod Glue
+pub mod Groups
+pub mod InOrder
+pub mod Kept
+pub mod Larger
+pub mod LastLaws
+pub mod LeafLaws
+pub mod Nodes
+pub mod RangeLaws
+pub mod Runs
+pub mod Seen
+pub mod StepLaws
+pub mod Stops
+pub mod SumLaws
+pub mod Turning
+pub mod Written

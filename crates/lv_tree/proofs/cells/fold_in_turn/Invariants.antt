@@ -1,0 +1,12 @@
+-- What the loop keeps in `fold_in_turn`: the fold of the elements so far.
+use Rattle.std.proofs.Common.{◌≡◌, ◌-◌, ◌≤◌, slice_range}
+use Rattle.lv_bodies.specs.Body.{fold_of}
+use Rattle.lv_edits.specs.History.{list_of}
+use Rattle.lv_tree.proofs.cells.fold_in_turn.Given as goal
+
+abbrev pub invariant-loop-i : goal.invariant-loop-i
+invariant-loop-i g l = record {
+  so_far : l.sum ≡ fold_of (g.B.Body.operations l.body) (slice_range (list_of l.cells.journal) l.lo l.i);
+  within : g.B.Body.is_within l.body l.sum (l.i - l.lo);
+  low : l.lo ≤ l.i;
+}

@@ -1,0 +1,32 @@
+//! Trees over summaries in order, of which any range is folded in few steps.
+//!
+//! `FoldTree` joins in at most two joins for each doubling of a range, for every body. `Prefixes` is for sums alone, whose ranges
+//! are the difference of two prefixes. The model of each is the summary of each leaf in order. Leaves are added and cut at the end
+//! and replaced; a `FoldTree` also drops them at the front, where the others keep their numbers, and finds the leaf with which a
+//! test on joins becomes true. How nodes lie is the crate's own affair.
+//!
+//! A `Late` tree lies over the blocks of a vector and follows its journal at questions: an edit tells it nothing. `LastSum` is the sum that
+//! was told last.
+#![tactic(auto)]
+
+mod blocks;
+mod cells;
+mod find;
+mod folds;
+mod joins;
+mod last_sum;
+mod late;
+mod leaves;
+mod prefixes;
+mod renewals;
+mod rooms;
+mod rows;
+mod tree;
+mod trees;
+
+pub use find::Test;
+pub use last_sum::LastSum;
+pub use late::Late;
+pub use prefixes::Prefixes;
+pub use tree::Tree;
+pub use trees::FoldTree;
