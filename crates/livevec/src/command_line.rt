@@ -203,7 +203,7 @@ fn body<'a>(alloc: Global) -> Arg<'a> {
 fn files<'a>(alloc: Global, most: usize) -> Arg<'a> {
     Arg::new(alloc, "files")
         .value_name("FILE")
-        .help("A session's lines; its replies are written to FILE.out")
+        .help("The lines of a session; the replies are written to FILE.out")
         .required(true)
         .action(ArgAction::Append)
         .num_args(1..=most)
@@ -220,7 +220,7 @@ fn file<'a>(alloc: Global, name: &'static str, says: &'static str) -> Arg<'a> {
 fn front<'a>(alloc: Global) -> Arg<'a> {
     Arg::new(alloc, "front")
         .value_name("FILE")
-        .help("A transcript, or a front of one")
+        .help("A transcript, or a prefix of one")
         .required(true)
 }
 

@@ -5,68 +5,70 @@ pub const VERSION: &str = "0.3.0 (logic dac8208d650f15bf)";
 
 /// What the program is.
 pub const ABOUT: &str =
-    "A growable vector of 64-bit numbers whose range reductions stay current while it is edited";
+    "A growable vector of 64-bit integers whose range reductions stay current while it is edited";
 
-/// What its statuses mean.
+/// What its exit codes mean.
 pub const STATUSES: &str = "\
-Statuses:
-  0  done; of an audit: yes, or a front
-  1  a fault, shown on standard error as `livevec: fault N`, with what failed in the next line;
-     of an audit: no or bad
-  2  a usage fault, told on standard error
-  3  what reads standard output has ended, as `head` does; nothing is told
-Faults: 6 no memory, 13 a read failed or a file can't be opened, 14 a write failed or an output can't be made
+Exit codes:
+  0  success; for `audit`: yes, or a valid prefix
+  1  a fault, reported on standard error as `livevec: fault N`; the next line says what failed.
+     For `audit`: no or bad
+  2  a usage error, reported on standard error
+  3  whatever reads standard output has ended, as `head` does; nothing is reported
+Faults: 6 out of memory; 13 a read failed or a file can't be opened; 14 a write failed or an output can't be made
 
-Names of files are UTF-8: a link with such a name leads to a file with another. Standard input and output
-that are set not to block are waited for.";
+File names must be UTF-8; for a file with another name make a link with such a name. If standard input
+or output is non-blocking, the program waits for it.";
 
 /// What `run` does.
-pub const RUN: &str = "Answers a script: reads lines from standard input, writes the reply to each";
+pub const RUN: &str =
+    "Answers a script: reads lines from standard input and writes the reply to each";
 
 /// The lines of a script and their replies.
 pub const LINES: &str = "\
-Lines (a reply each; N, I, J, LO and HI are numbers, X an element, HI is excluded):
+Lines and their replies (N, I, J, LO and HI are numbers, X is an element, and HI is excluded):
   push X              edit E at I
   pop                 edit E value X
   write I X           edit E was X
   reserve N           edit E capacity C
-  swap I J            edit E now X Y: the elements that stand at I and at J now
-  truncate N          edit E dropped D: the first N elements are kept, D were dropped
+  swap I J            edit E now X Y: X is now at I, and Y at J
+  truncate N          edit E dropped D: the first N elements are kept, and D were dropped
   settle              settled
   get I               value X
   size                size N edit E
   capacity            capacity C
   reduce KIND LO HI   at E KIND VALUE
-  inc KIND LO HI      at E inc KIND N, then N lines `= VALUE`: each with its own element
-  exc KIND LO HI      at E exc KIND N, then N lines `= VALUE`: each without it
+  inc KIND LO HI      at E inc KIND N, then N lines `= VALUE`: running values, each with its own element
+  exc KIND LO HI      at E exc KIND N, then N lines `= VALUE`: running values, each without it
   cost LO HI          cells C summaries S: what a reduction of the range reads
-  claim               job K node L M version V, or idle
-  deliver K           installed, held or stale NOW
-  forget              forgotten
+  claim               job K node L M version V, or idle: a task that precomputes a part of the tree
+  deliver K           installed, held or stale NOW: what became of the result of task K
+  forget              forgotten: all claims
   watch NAME KIND LO HI, unwatch NAME, answer NAME
                       watching NAME, unwatched NAME, at E NAME VALUE
 
-KIND is sum, least, greatest, best, affine or automaton; E is the number of the last edit.
-After an edit comes `note NAME VALUE` for each watched query whose answer it changed.
-Blank lines and lines that begin with # say nothing.
+KIND is sum, least (minimum), greatest (maximum), best (maximum subarray sum), affine (composition of
+affine maps) or automaton (composition of an automaton's transitions). E is the number of the last
+update. After an update there is a line `note NAME VALUE` for each watched query whose answer changed.
+Blank lines and lines that begin with # have no reply.
 
-A line that can't be obeyed is answered `refused N`, and changes nothing:
-   1 Worn: the limit of edits is reached     7 BadRange: LO above HI
-   2 Empty: nothing to pop                  10 NameTaken
+If a line is rejected the reply is `refused N`, and nothing changes:
+   1 Worn: the limit of updates is reached   7 BadRange: LO is above HI
+   2 Empty: there is nothing to pop         10 NameTaken
    3 OutOfRange: past the end               11 NoSuchName
-   4 TooLarge: a reserve above the limit    12 TooMany: 64 names
-   5 Full: as many elements as may be       19 NoJob: no job of that number
-   6 NoMemory; also of a claim past --jobs
-Any other line is answered `bad N`, N the line's number.
+   4 TooLarge: a reserve above the limit    12 TooMany: there are 64 names
+   5 Full: the limit of elements            19 NoJob: no task has this number
+   6 NoMemory: out of memory; also a claim past --jobs
+The reply to any other line is `bad N`, where N is the line's number.
 
-With --series the lines are about a series: indices go up to 2^62, and there is no limit but memory.
-  expire I            edit E first I: the elements before index I go, the others keep their indices
+With --series the lines are about an unbounded vector, whose indices go up to 2^62:
+  expire I            edit E first I: the elements before index I are dropped, the others keep their indices
   first               first I edit E
   watch NAME KIND last N
                       watching NAME: the last N elements
-A size is the index behind the last element. Refused 3 is also what lies before the first that is kept; of a
-query's range what is kept is asked. The lines reserve, capacity, settle, cost, claim, deliver and forget are
-bad.";
+A size is the index behind the last element. Error 3 is also for an index before the first one that is
+kept. A query's range has the elements that are kept. The lines reserve, capacity, settle, cost, claim,
+deliver and forget are bad.";
 
 /// What `serve` does.
 pub const SERVE: &str =
@@ -74,109 +76,113 @@ pub const SERVE: &str =
 
 /// The lines of a session, and its files.
 pub const SESSIONS: &str = "\
-1 to 16 files, each named once, none of them another's FILE.out. The sessions share one vector.
-Each knows the lines push, pop, write, reserve, swap, truncate, reduce, inc and exc, as `livevec run
---help` tells them; any other is answered `bad N`.
+Give 1 to 16 files, each once, and none of them another's FILE.out. The sessions share one vector.
+They know the lines push, pop, write, reserve, swap, truncate, reduce, inc and exc; `livevec run
+--help` explains these. The reply to any other line is `bad N`.
 
-Workers sleep while there is nothing to do, and end with the last session. A turn that finds no job
-counts too: for long sessions give workers more of them.
+Workers precompute parts of the tree. They sleep while there is nothing to do, and end with the last
+session. A turn that finds no task counts too, so give workers more turns for long sessions.
 
-Each FILE and its FILE.out are opened, in order, before a thread starts; the first that fails is the
-fault, and every file stays as it was. No FILE.out is emptied before all are open. One that is a
-link, or another name of a file that is read or written here, standard streams included, is a usage
-fault. The transcript goes to standard output: the journal, then each answered
-reduction in the order of edits; `livevec audit` says yes to it. Where a session ends with a fault
-none is written.
+Each FILE and its FILE.out are opened in order before a thread starts. The first one that can't be
+opened is the fault, and then no file has changed. No FILE.out is emptied before all are open. It is a
+usage error if a FILE.out is a link, or another name of a file that is read or written here, standard
+streams included.
 
-With --transcript each accepted edit and each answered reduction is written to its FILE too, before the
-reply to it is written, in the order of time and in whole lines. FILE is opened after the others, and
-emptied last. Whenever `serve` is killed, `livevec audit --front` says how much is there, and `livevec
-restore` goes on from it; at a good end its last line is `end`. With --sync it is on the disk by then.
-That FILE can't be written is a fault at the end.
+The transcript goes to standard output: the updates, then each answered reduction in the order of
+updates. `livevec audit` accepts it. If a session ends with a fault, no transcript is written.
 
-With --watch FILE, up to 4 times, a subscriber is told beside the sessions. Lines of FILE are `watch NAME KIND
-LO HI`, at most 64, blank ones and comments; a line that is wrong is a fault, told by its number before a
-session begins. Of each name whose answer changed since it was told last, `at E NAME VALUE` goes to FILE.out as
-it comes: VALUE is the answer at edit E. Edits may be skipped; at the end each name's answer is as told. Before its
-first note a name counts as told its answer of no elements. FILE and FILE.out are opened behind those of the
-sessions, as they are. That FILE.out can't be written ends its subscriber alone, and is a fault at the end.
+With --transcript FILE each accepted update and each answered reduction is also written to FILE, before
+its reply is written, in real order and in complete lines. FILE is opened after the others and emptied
+last. If `serve` is killed, `livevec audit --front` says how much is there, and `livevec restore`
+continues from it. At a good end its last line is `end`. With --sync it is on the disk before the
+reply. If FILE can't be written, that is a fault at the end.
 
-With --answers N each session keeps at most N answers for the transcript: past that a `reduce` is
-`refused 6`. Where memory gives out, lines are `refused 6` too, and the transcript is whole.
+With --watch FILE, up to 4 times, a subscriber runs next to the sessions. FILE has at most 64 lines
+`watch NAME KIND LO HI`, blank lines and comments. A wrong line is a fault, which names the line before
+a session begins. Whenever the answer of a name differs from the last one reported, `at E NAME VALUE`
+is written to FILE.out: VALUE is the answer after update E. Updates may be skipped; at the end each
+answer has been reported. Before its first report a name counts as reported for an empty vector. FILE
+and FILE.out are opened after those of the sessions, by the same rules. If FILE.out can't be written,
+only its subscriber ends, and that is a fault at the end.
 
-There is no way to end the sessions by a signal: --transcript is what survives one.";
+With --answers N each session keeps at most N answers for the transcript. The reply to a `reduce` past
+that is `refused 6`. If memory runs out, lines are rejected with `refused 6` too, and the transcript is
+complete.
+
+No signal ends the sessions in an orderly way: only --transcript survives one.";
 
 /// What `restore` does.
 pub const RESTORE: &str =
-    "Plays the transcript FILE, or a front of one, then answers a script as `run` does";
+    "Replays the transcript FILE, or a prefix of one, then answers a script as `run` does";
 
-/// What a front is, and what is refused.
+/// What a prefix of a transcript is, and what is rejected.
 pub const RESTORED: &str = "\
-FILE is a transcript, or as much of one as was written: whole lines from the first on, edits and answers
-also in the order of time; what stands behind the last line end doesn't count. Its edits are made anew, and
-those of the script are numbered after them. Where a line of FILE is false or misspelt, that is the
-fault, and nothing is answered. FILE is read alone: no output may go there.";
+FILE is a transcript, or as much of one as was written: complete lines from the first on, in which
+updates and answers may be in real order. Whatever follows the last line end doesn't count. Its updates
+are replayed, and those of the script are numbered after them. If a line of FILE is false or misspelt,
+that is the fault, and nothing is answered. FILE is only read: no output may go there.";
 
 /// What `board` does.
 pub const BOARD: &str =
-    "Holds sessions at a lock-free board: answers each file's lines in a thread of its own, one try a line";
+    "Serves sessions on a lock-free board: answers each file's lines in a thread of its own, one try a line";
 
 /// The lines of a session at a board, and its files.
 pub const TRIES: &str = "\
-1 to 8 files, each named once, none of them another's FILE.out. The sessions share one vector of
-16-bit elements, with no lock: none ever waits for another.
+Give 1 to 8 files, each once, and none of them another's FILE.out. The sessions share one vector of
+16-bit elements without a lock: none ever waits for another.
 
-Lines (a reply each; I, B, LO and HI are numbers, X an element, HI is excluded, KIND is that of --body):
+Lines and their replies (I, B, LO and HI are numbers, X is an element, HI is excluded, and KIND is that
+of --body):
   push X              edit E at I
   pop                 edit E value X
   write I X           edit E was X
   get I               value X
   size                size N edit E
   reduce KIND LO HI   at E KIND VALUE
-  refresh B           fresh B version V: the summary of block B, the elements 8 * B to 8 * B + 7, is made;
-                      a reduction over the block then reads it in place of the eight elements
-Blank lines and lines that begin with # say nothing. Any other line is answered `bad N`, N the line's
-number.
+  refresh B           fresh B version V: the value of block B, the elements 8 * B to 8 * B + 7, is stored;
+                      a reduction over the block then reads it instead of the eight elements
+Blank lines and lines that begin with # have no reply. The reply to any other line is `bad N`, where N
+is the line's number.
 
-A line that can't be obeyed is answered `refused N`, and leaves the elements as they are:
-   1 Worn: the limit of edits is reached     5 Full: as many elements as may be
-   2 Empty: nothing to pop                   7 BadRange: LO above HI
-   3 OutOfRange: past the end; of refresh,  16 TooWide: the element has more than 16 bits
-     the block has not all its elements
-  17 Contended: another session's edit came between the look at the vector and the exchange, and
-     nothing was changed: try the line again if you still want it
-  18 Overtaken: a word of another session's later edit was met: look again, by trying the line again
-The other sessions may have changed what a line that is tried again finds.
+If a line is rejected the reply is `refused N`, and the elements stay as they are:
+   1 Worn: the limit of updates is reached   5 Full: the limit of elements
+   2 Empty: there is nothing to pop          7 BadRange: LO is above HI
+   3 OutOfRange: past the end; for refresh: 16 TooWide: the element doesn't fit 16 bits
+     the block doesn't have all its elements
+  17 Contended: another session's update came first, between this line's snapshot of the vector and its
+     compare-and-swap. Nothing was changed; try the line again if you still want it.
+  18 Overtaken: a word of another session's later update was read. Try the line again.
+If you try a line again, other sessions may have changed the vector in the meantime.
 
-Each FILE and its FILE.out are opened, in order, before a thread starts; the first that fails is the
-fault, and every file stays as it was. No FILE.out is emptied before all are open. One that is a
-link, or another name of a file that is read or written here, standard streams included, is a usage
-fault. Of several sessions' faults the first file's is told.";
+Each FILE and its FILE.out are opened in order before a thread starts. The first one that can't be
+opened is the fault, and then no file has changed. No FILE.out is emptied before all are open. It is a
+usage error if a FILE.out is a link, or another name of a file that is read or written here, standard
+streams included. If several sessions have faults, the first file's is reported.";
 
 /// What `schedule` does.
 pub const SCHEDULE: &str =
-    "Plays the lock-free machine one atomic step at a time, by a schedule on standard input";
+    "Plays the lock-free algorithm one atomic step at a time, by a schedule on standard input";
 
 /// The lines of a schedule, their replies, and the steps of each call.
 pub const EVENTS: &str = "\
-The machine is a vector of 16-bit elements that several actors use at once, with no lock. An actor
-has at most one call under way. Nothing happens but what a line says.
+The machine is a vector of 16-bit elements that several threads (actors) use at once without a lock.
+An actor has at most one call at a time. Nothing happens but what a line says.
 
-Lines (A is an actor, counted from 0; X an element; I, B, LO and HI are numbers, HI is excluded):
+Lines (A is an actor, counted from 0; X is an element; I, B, LO and HI are numbers, and HI is excluded):
   call A push X      call A pop       call A write I X
   call A get I       call A size      call A reduce LO HI
-  call A refresh B   makes the summary of block B, the elements 8 * B to 8 * B + 7
-  step A             the next step of A's call
-Blank lines and lines that begin with # say nothing.
+  call A refresh B   stores the value of block B, the elements 8 * B to 8 * B + 7
+  step A             makes the next step of A's call
+Blank lines and lines that begin with # have no reply.
 
 Replies:
-  started A          the call has begun: its steps are to come
+  started A          the call has begun, and its steps follow
   step A             the step is done, and the call goes on
   done A REPLY       the call has ended with REPLY: edit E at I, edit E value X, edit E was X, value X,
                      size N edit E, at E sum VALUE, fresh B version V or refused N
-  refused 20         nothing happened: there is no actor A, a step has no call, or a call comes
-                     while another is under way
-  bad N              line N says nothing known
+  refused 20         nothing happened: there is no actor A, a step comes without a call, or a call comes
+                     while another one is running
+  bad N              line N is none of the lines above
 
 Steps of each call, in order; each is one atomic operation on one word:
   push               look, help, exchange
@@ -184,35 +190,36 @@ Steps of each call, in order; each is one atomic operation on one word:
   get                look, help, load the cell
   size               look
   reduce             look, help; then from LO on, for each block of eight that begins there and ends
-                     by HI: load its mark, load its part, and its eight cells if the part is not
-                     fresh; where no such block begins: load the cell
+                     by HI: load its mark and its part, and its eight cells if the part has another
+                     version; if no such block begins there: load the cell
   refresh            look, help, load the mark, load the eight cells, install the part
 
-  look               loads the descriptor: the number of the last edit, the size, and that edit's
+  look               loads the descriptor: the number of the last update, the size, and that update's
                      write, which may not be in its cell yet
-  help               two steps where the look has such a write: help the cell (put the element there),
-                     then help the mark (note the edit's number for the block); else none
-  exchange           puts the descriptor of the next edit in place of the look, if it is there still
-  load, install      read a word; put a part with its version, unless a later one is there
+  help               two steps if the look has such a write: help the cell (put the element there),
+                     then help the mark (record the update's number for the block); otherwise none
+  exchange           replaces the look by the next descriptor, if it is still there (compare-and-swap)
+  load, install      reads a word; stores a part with its version, unless a later one is there
 
-A cell, a mark and a part carry a version, the number of the edit that they are of.
+A cell, a mark and a part carry a version: the number of the update that they are of.
 
-A call is refused
-  16 TooWide         before its first step: the element has more than 16 bits
-   7 BadRange        before its first step: LO above HI
+A call fails
+  16 TooWide         before its first step: the element doesn't fit 16 bits
+   7 BadRange        before its first step: LO is above HI
    1 2 3 5           at its look, as `livevec run --help` says
-  17 Contended       at its exchange: another edit came after the look; call again
-  18 Overtaken       at a cell or a mark of a later edit than its look: a reader was overtaken
-and 20 NotNow is above.";
+  17 Contended       at its exchange: another update came after the look; call again
+  18 Overtaken       at a cell or a mark of a later update than its look
+20 NotNow is explained above.";
 
 /// What `audit` does.
-pub const AUDIT: &str = "Says whether a transcript on standard input is sound";
+pub const AUDIT: &str = "Checks whether a transcript on standard input is valid, by replaying it";
 
 /// What its verdicts mean.
 pub const VERDICTS: &str = "\
-Writes `yes` (status 0), `no N` where line N is false, or `bad N` where it is not of the form of a
-transcript (status 1).
+Writes `yes` (exit code 0), `no N` if line N is false, or `bad N` if line N doesn't have the form of a
+line of a transcript (exit code 1).
 
-With --front it writes `front N edits M answers` (status 0) of as much of a transcript as was written: whole
-lines from the first on. An answer may stand before edits that are later than its own. What stands
-behind the last line end doesn't count. A line that is false or misspelt is told as above.";
+With --front it writes `front N edits M answers` (exit code 0) for as much of a transcript as was
+written: complete lines from the first on. An answer may come before updates that are later than its
+own. Whatever follows the last line end doesn't count. A line that is false or misspelt is reported as
+above.";

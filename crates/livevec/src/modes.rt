@@ -14,7 +14,7 @@ pub struct Number {
 
 const BUCKETS: Number = Number {
     name: "buckets",
-    says: "At most how many buckets, 1 to 17: N hold 8 * (2^N - 1) elements",
+    says: "The limit of buckets, 1 to 17: N hold 8 * (2^N - 1) elements",
     least: 1,
     most: 17,
     usual: "17",
@@ -22,7 +22,7 @@ const BUCKETS: Number = Number {
 
 const FEW_BUCKETS: Number = Number {
     name: "buckets",
-    says: "At most how many buckets, 1 to 9: N hold 8 * (2^N - 1) elements",
+    says: "The limit of buckets, 1 to 9: N hold 8 * (2^N - 1) elements",
     least: 1,
     most: 9,
     usual: "9",
@@ -30,7 +30,7 @@ const FEW_BUCKETS: Number = Number {
 
 const EDITS: Number = Number {
     name: "edits",
-    says: "At most how many edits, 1 to 16777215",
+    says: "The limit of updates, 1 to 16777215",
     least: 1,
     most: 16_777_215,
     usual: "16777215",
@@ -38,7 +38,7 @@ const EDITS: Number = Number {
 
 const JOBS: Number = Number {
     name: "jobs",
-    says: "At most how many jobs are claimed, 0 to 4294967295, which no script comes to",
+    says: "The limit of tasks that are claimed, 0 to 4294967295, which no script reaches",
     least: 0,
     most: 4_294_967_295,
     usual: "4294967295",
@@ -46,7 +46,7 @@ const JOBS: Number = Number {
 
 const ACTORS: Number = Number {
     name: "actors",
-    says: "How many actors there are, 1 to 8, with the numbers from 0 on",
+    says: "The number of threads (actors), 1 to 8; they are counted from 0",
     least: 1,
     most: 8,
     usual: "2",
@@ -54,7 +54,7 @@ const ACTORS: Number = Number {
 
 const WORKERS: Number = Number {
     name: "workers",
-    says: "How many workers refresh the vector beside the sessions, 0 to 8",
+    says: "The number of threads that precompute for the sessions, 0 to 8",
     least: 0,
     most: 8,
     usual: "1",
@@ -62,7 +62,7 @@ const WORKERS: Number = Number {
 
 const TURNS: Number = Number {
     name: "turns",
-    says: "How many turns each worker takes, a claim each, 0 to 1000000",
+    says: "The number of turns of each worker, one claim each, 0 to 1000000",
     least: 0,
     most: 1_000_000,
     usual: "1000",
@@ -70,7 +70,7 @@ const TURNS: Number = Number {
 
 const ANSWERS: Number = Number {
     name: "answers",
-    says: "At most how many answers each session keeps for the transcript, 0 to 100000000",
+    says: "The limit of answers that each session keeps for the transcript, 0 to 100000000",
     least: 0,
     most: 100_000_000,
     usual: "100000000",
@@ -120,7 +120,7 @@ pub const RUN: Mode = Mode {
         Argument::Number(JOBS),
         Argument::FlagWithout(
             "series",
-            "Answers on a series: see below",
+            "Answers a script on a series, an unbounded vector: see below",
             &["buckets", "edits", "jobs"],
         ),
     ],
@@ -139,12 +139,12 @@ pub const SERVE: Mode = Mode {
         Argument::Number(EDITS),
         Argument::File(
             "transcript",
-            "Writes edits and answers there as they come, in the order of time",
+            "Writes updates and answers there as they come, in real order",
         ),
-        Argument::Flag("sync", "Flushes what --transcript writes to the disk"),
+        Argument::Flag("sync", "Flushes to the disk what --transcript writes"),
         Argument::Several(
             "watch",
-            "A file of queries: notes of their answers are written to FILE.out; up to 4 times",
+            "A file of queries, whose answers are written to FILE.out as they change; up to 4 times",
         ),
         Argument::Files(16),
     ],
@@ -190,6 +190,6 @@ pub const AUDIT: Mode = Mode {
     after_help: help::VERDICTS,
     arguments: &[Argument::Flag(
         "front",
-        "Audits a front: as much of a transcript as was written, in the order of time",
+        "Checks a prefix: as much of a transcript as was written, in real order",
     )],
 };

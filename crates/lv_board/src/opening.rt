@@ -1,7 +1,6 @@
 //! Makes a board, and its seats.
 ghost use Rattle.std.specs.Prelude.{◌≡◌, ◌<◌, ◌≤◌, ◌⊎◌, ℕ, [], ◌∷◌, ◌++◌, ◌+◌, ◌-◌, ◌*◌, replicate, map, length, IfOk, IfErr, OnOk, vec_len, vec_capacity};
 ghost use Rattle.lv_machine.specs.Layout.{count_of};
-ghost use Rattle.lv_machine.specs.History.{descriptor_of};
 ghost use Rattle.lv_board.specs.Opening.{AreDealt, IsBasisOf, IsOpeningRefusal, MayOpen};
 ghost use Rattle.lv_board.specs.Ordered.{AreInOrder};
 ghost use Rattle.lv_board.specs.TableRule.{dealer_from};
@@ -14,20 +13,10 @@ use crate::board::Board;
 use crate::bodies::BoardBody;
 use crate::plays::Deal;
 use crate::seats::Seat;
-use crate::words::first_descriptor;
+use crate::words::{first_descriptor, first_words};
 use atomic_table::{Seat as Token, Table};
 use lv_geometry::{Limits, Refusal, capacity};
 use std::alloc::{AllocError, Global};
-
-// The words at the start: the descriptor of no edits, and zeros.
-fn first_words(alloc: Global, count: usize) -> Result<Vec<u64>, AllocError>
-    requires { 1 ≤ count }
-    ensures { IfOk result (λ v. v.items ≡ descriptor_of [] ∷ replicate (count - 1) 0) }
-{
-    let mut words = vec![in alloc; 0; count]?;
-    words[0] = first_descriptor();
-    Ok(words)
-}
 
 // A board with no edits, and the token that deals its seats.
 fn lay<B: BoardBody>(
@@ -37,8 +26,7 @@ fn lay<B: BoardBody>(
     requires { IsBasis terms }
     ensures { IfOk result (λ r. (r.0.terms ≡ terms) × (r.1.table_id ≡ r.0.table.shared.table_id) × (r.1.me ≡ (dealer_from terms 0, []))) }
 {
-    let count = 1 + 2 * capacity(terms.buckets) as usize;
-    let words = first_words(alloc, count)?;
+    let words = first_words(alloc, capacity(terms.buckets))?;
     let (table, dealer) = Table::of_words(alloc, words.as_slice(), &terms)?;
     Ok((Board { terms, table }, dealer))
 }

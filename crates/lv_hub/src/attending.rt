@@ -1,4 +1,4 @@
-// Workers that sleep where there is nothing to do.
+//! Workers that sleep where there is nothing to do.
 ghost use Rattle.std.specs.Prelude.{◌≡◌, ◌+◌, ◌≤◌};
 
 use crate::gates::Gate;

@@ -1,4 +1,4 @@
-// A desk whose edits are listed in a history.
+//! A desk whose edits are listed in a history.
 ghost use Rattle.std.specs.Prelude.{◌≡◌, ◌<◌, ◌≤◌, Some, [], drop, length, option_map, take, IfOk, IfErr, IfSome, OnErr, vec_capacity};
 ghost use mathlib.Core.List.{IsPrefix};
 ghost use Rattle.lv_edits.specs.Verdict.{Answers};

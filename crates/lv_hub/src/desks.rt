@@ -1,4 +1,4 @@
-// What a hub answers, with no lock: a live vector, and the book that counts its edits.
+//! What a hub answers, with no lock: a live vector, and the book that counts its edits.
 ghost use Rattle.std.specs.Prelude.{◌≡◌, ◌<◌, None, Some, option_map, [], length, IfOk, IfErr, IfSome, OnErr};
 ghost use Rattle.lv_geometry.specs.declared.nodes.Node.{Node};
 ghost use Rattle.lv_edits.specs.Verdict.{Answers};

@@ -1,4 +1,4 @@
-// What a subscriber tells last.
+//! What a subscriber tells last.
 ghost use Rattle.std.specs.Prelude.{◌≡◌, ◌≤◌, length, map, vec_capacity};
 ghost use Rattle.lv_edits.specs.Kept.{IsLegalInLimits};
 ghost use Rattle.lv_live.specs.State.{SameLive};

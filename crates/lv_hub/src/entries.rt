@@ -1,4 +1,4 @@
-// An entry of the history.
+//! An entry of the history.
 use lv_edits::Edit;
 
 /// What a book lists: an edit, the permit by which it was added, and the one that takes its place. It exists in the proofs alone.

@@ -1,4 +1,4 @@
-// The history of a hub: its edits in one list, to which only its head adds.
+//! The history of a hub: its edits in one list, to which only its head adds.
 ghost use Rattle.std.specs.Prelude.{◌≡◌, ◌<◌, ◌^◌, ◌++◌, ◌∷◌, ◌⊎◌, [], length};
 ghost use mathlib.Core.List.{IsPrefix};
 ghost use Rattle.logbook.specs.Pages.{may_write};

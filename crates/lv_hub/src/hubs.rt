@@ -1,4 +1,4 @@
-// The hub: a lock round a desk, and one call of the desk for each of the hub's.
+//! The hub: a lock round a desk, and one call of the desk for each of the hub's.
 ghost use Rattle.std.specs.Prelude.{◌≡◌, ◌↔◌, ◌<◌, ◌≤◌, true, false, [], drop, length, take, Err, Some, vec_capacity};
 ghost use mathlib.Core.List.{IsPrefix};
 ghost use Rattle.lv_transcript.specs.Transcript.{AreAccepted, greatest};

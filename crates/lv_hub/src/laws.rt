@@ -1,4 +1,4 @@
-// What holds of all sessions together.
+//! What holds of all sessions together.
 ghost use Rattle.std.specs.Prelude.{◌↔◌, ℕ, List};
 ghost use mathlib.Core.List.{IsPrefix};
 ghost use Rattle.lv_edits.specs.declared.edit.Edit.{Edit};

@@ -1,4 +1,4 @@
-// What the hub's lock holds: the desk, and who sleeps beside it.
+//! What the hub's lock holds: the desk, and who sleeps beside it.
 ghost use Rattle.std.specs.Prelude.{◌≡◌, ◌&&◌, if◌then◌else◌, false, true, is_ok, length, nat_eq, nat_lt, not};
 ghost use mathlib.Core.List.{IsPrefix};
 ghost use Rattle.lv_geometry.specs.declared.nodes.Node.{Node};

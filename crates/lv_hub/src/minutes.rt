@@ -1,4 +1,4 @@
-// The minutes of a hub: its edits and its sessions' answers, written in the order of time.
+//! The minutes of a hub: its edits and its sessions' answers, written in the order of time.
 ghost use Rattle.std.specs.Prelude.{◌≡◌, [], All, IfErr, IfOk, IfSome, List, Option, ℕ};
 ghost use mathlib.Core.List.{IsPrefix};
 ghost use Rattle.lv_edits.specs.Kept.{CarriesElement};

@@ -1,4 +1,4 @@
-// Which hub it is: its ledger, its limits, its history and its body.
+//! Which hub it is: its ledger, its limits, its history and its body.
 ghost use Rattle.std.specs.Prelude.{None, Option};
 ghost use Rattle.lv_geometry.specs.Bounds.{Bounds};
 ghost use Rattle.lv_hub.specs.Growing.{Beginning};

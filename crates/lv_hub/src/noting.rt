@@ -1,4 +1,4 @@
-// What of the answers to questions is told, and room for it.
+//! What of the answers to questions is told, and room for it.
 ghost use Rattle.std.specs.Prelude.{◌≡◌, ◌+◌, ◌≤◌, OnOk, length, vec_capacity, vec_len};
 ghost use Rattle.lv_hub.specs.Notes.{AreNotesOf};
 ghost use Rattle.lv_hub.specs.Noting.{NotesOne};

@@ -1,4 +1,4 @@
-// Questions by a name, and why one is refused.
+//! Questions by a name, and why one is refused.
 ghost use Rattle.std.specs.Prelude.{◌≡◌, []};
 ghost use Rattle.lv_hub.specs.Notes.{answer_to, question_refusal};
 

@@ -1,4 +1,4 @@
-// Sessions on a hub whose minutes are kept.
+//! Sessions on a hub whose minutes are kept.
 ghost use Rattle.std.specs.Prelude.{◌≡◌, ◌≤◌, ℕ, All, IfErr, IfOk, IfSome, List, [], OnOk, vec_len};
 ghost use mathlib.Core.List.{IsPrefix};
 ghost use Rattle.lv_edits.specs.declared.edit.Edit.{Edit};

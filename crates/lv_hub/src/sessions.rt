@@ -1,4 +1,4 @@
-// Sessions on a hub: lines that are read, and replies that are written.
+//! Sessions on a hub: lines that are read, and replies that are written.
 ghost use Rattle.std.specs.Prelude.{◌≡◌, ◌+◌, ◌≤◌, ◌++◌, ℕ, All, List, [], Ok, Err, MatchResult, OnOk, OnErr, IfOk, IfErr, vec_len, vec_capacity};
 ghost use mathlib.Core.List.{IsPrefix};
 ghost use Rattle.lv_lines.specs.Replies.{Conversed};

@@ -1,4 +1,4 @@
-// A thread's part of a hub.
+//! A thread's part of a hub.
 ghost use Rattle.std.specs.Prelude.{◌≡◌, ◌+◌, ◌%◌, ◌^◌, ◌<◌, ◌≤◌, length};
 ghost use mathlib.Core.List.{IsPrefix};
 ghost use Rattle.lv_hub.specs.Counting.{AreTogether, ShareState, having_seen};

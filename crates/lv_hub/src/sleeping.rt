@@ -1,4 +1,4 @@
-// How workers and subscribers wait at a hub, and what wakes them.
+//! How workers and subscribers wait at a hub, and what wakes them.
 use crate::hubs::Hub;
 use crate::locked_state::LockedState;
 use crate::naming::WithBody;

@@ -32,7 +32,7 @@ pub struct Subscriber<N: WithBody<Six>> {
     share: Share<N>,
     questions: Vec<Question>,
     told: Vec<Shown>,
-    // LockedState for answers, and for the last notes.
+    // Room for answers, and for the last notes.
     values: Vec<Shown>,
     notes: Vec<Note>,
     pause: Duration,

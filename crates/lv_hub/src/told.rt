@@ -1,4 +1,4 @@
-// What a subscriber is told.
+//! What a subscriber is told.
 use lv_standing::Note;
 
 /// What a subscriber is told: an edit, and notes of the names whose answer there is another than it was told before.

@@ -1,4 +1,4 @@
-// What a worker did.
+//! What a worker did.
 ghost use Rattle.std.specs.Prelude.{◌≡◌, ◌+◌, ◌^◌, ◌<◌};
 ghost use Rattle.lv_hub.specs.Work.{noted};
 

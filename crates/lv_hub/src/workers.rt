@@ -1,4 +1,4 @@
-// Workers for a number of turns.
+//! Workers for a number of turns.
 ghost use Rattle.std.specs.Prelude.{◌≡◌, ◌+◌, ◌^◌, ◌<◌, ◌≤◌};
 
 use crate::gates::Gate;

@@ -1,4 +1,4 @@
-// What the clauses of this crate come to, in plain words.
+//! What the clauses of this crate come to, in plain words.
 ghost use Rattle.std.specs.Prelude.{List, map};
 ghost use mathlib.Core.List.{IsPrefix};
 ghost use Rattle.lv_edits.specs.declared.edit.Edit.{Edit};

@@ -1,4 +1,4 @@
-// Subscribers that have ended, and what they tell last.
+//! Subscribers that have ended, and what they tell last.
 
 ghost use Rattle.std.specs.Prelude.{◌≡◌, ◌≤◌, IfOk, [], map, vec_capacity, vec_len};
 ghost use Rattle.lv_edits.specs.Kept.{IsLegalInLimits};

@@ -1,14 +1,13 @@
-// The lines of what a subscriber is told.
+//! The lines of what a subscriber is told.
 
-ghost use Rattle.std.specs.Prelude.{◌≡◌, ◌+◌, ◌≤◌, ◌++◌, [], false, IfErr, IfOk, OnOk, vec_len};
-ghost use Rattle.lv_lines.specs.Output.{HasRoom, KeepsRoom, Puts, PutsFront, SamePlaces};
+ghost use Rattle.std.specs.Prelude.{◌≡◌, [], false, IfErr, IfOk, OnOk};
+ghost use Rattle.lv_lines.specs.Output.{Puts, PutsFront, SamePlaces};
 ghost use Rattle.lv_lines.specs.Texts.{named_text};
 ghost use Rattle.lv_watchers.specs.Noticing.{WritesMore, notes_at, told_text};
 
-use lv_bodies::Shown;
 use lv_hub::Told;
-use lv_lines::{Fault, HELD, LINE, Outbox, put, put_number, put_shown};
-use lv_standing::{Name, Note};
+use lv_lines::{Fault, HELD, LINE, Outbox, put_named};
+use lv_standing::Note;
 use std::alloc::{AllocError, Global};
 use std::io::Write;
 use std::marker::Model;
@@ -103,31 +102,6 @@ fn put_one<W: Write>(edit: u32, note: &Note, outbox: &mut Outbox<'_, W>) -> Resu
     ensures fault { IfErr result (λ fault. PutsFront W.contents outbox.old outbox.new []) }
 {
     outbox.make_room(LINE)?;
-    put_line(outbox.held, edit, note.name, note.value);
+    put_named(outbox.held, edit.into(), note.name, note.value);
     Ok(())
-}
-
-// The line of a name and its value at an edit.
-fn put_line(held: &mut Vec<u8>, edit: u32, name: Name, value: Shown)
-    requires { HasRoom held.old LINE }
-    ensures text { held.new.items ≡ held.old.items ++ named_text edit name value }
-    ensures room { KeepsRoom held.old held.new }
-{
-    put(held, b"at ");
-    put_number(held, edit.into());
-    put(held, b" ");
-    put_name(held, name);
-    put(held, b" ");
-    put_shown(held, value);
-    put(held, b"\n");
-}
-
-// The bytes of a name, of which there are at most 16.
-fn put_name(held: &mut Vec<u8>, name: Name)
-    requires { HasRoom held.old 16 }
-    ensures text { held.new.items ≡ held.old.items ++ name }
-    ensures len { vec_len held.new ≤ vec_len held.old + 16 }
-    ensures room { KeepsRoom held.old held.new }
-{
-    put(held, name.as_bytes());
 }

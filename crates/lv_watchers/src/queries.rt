@@ -1,4 +1,4 @@
-// The file of a subscriber: what its lines ask.
+//! The file of a subscriber: what its lines ask.
 
 ghost use Rattle.std.specs.Prelude.{◌≡◌, None, Some};
 ghost use Rattle.lv_watchers.specs.Asking.{AskStep, Asked, Asks, Finds, ReadsQuestions, Takes, TakesUnless};

@@ -1,4 +1,4 @@
-// Subscribers beside sessions: what each is told goes to its file.
+//! Subscribers beside sessions: what each is told goes to its file.
 
 ghost use Rattle.std.specs.Prelude.{◌≡◌, ◌+◌, ◌≤◌, IfErr, IfOk, None, OnOk, [], map, vec_len};
 ghost use Rattle.lv_watchers.specs.Asking.{IsRefusedFor, refusal_behind, refusal_of_all};
