@@ -42,9 +42,9 @@ test: ## the gate: proofs, wrong bodies, tests, rows, examples, pages; with CRAT
 ifeq ($(CRATE),)
 	@tools/check_pages
 	@tools/timed test "proves all crates, tries the wrong bodies, runs tests and examples" "18 to 60 min at first, 5 where nothing has changed" tools/gate
-	@tools/tried gate
+	@tools/tried gate --built
 	@tools/timed soak_memory "refuses each request for memory in turn" "under 2 min" tools/soak_memory
-	@tools/timed examples "runs rows, examples and the pieces of README.md" "some 2 min" examples/check
+	@tools/timed examples "runs rows, examples and the programs on pages" "some 2 min, 2 more at first" examples/check
 	@tools/timed fits "compiles the bench's programs, whether they fit" "some 3 min" bench/check
 else
 	@tools/timed test-$(CRATE) "proves $(CRATE) and what lies below it, tries their wrong bodies" "1 to 30 min, by how high the crate stands" tools/gate $(CRATE)
@@ -115,12 +115,13 @@ uninstall: whole-paths ## takes away what was installed below PREFIX
 		for folder in "$$lib/pkgconfig" "$$lib" "$$top/include" "$$top/bin" "$$top"; do rmdir "$$folder" 2> /dev/null || true; done; \
 	fi
 
-wrong: ## tries the wrong bodies that stand outside the gate, of CRATE=.. or of all
+wrong: ## tries the wrong bodies outside the gate, those of CRATE=.. or all
 	@tools/timed wrong-tests-$(CRATE) "tries wrong bodies that a test refuses" "1 to 10 min" tools/tried tests $(CRATE)
-	@tools/timed wrong-$(CRATE) "tries wrong bodies, a crate at a time" "1 to 60 min a crate" tools/tried wrong $(CRATE)
+	@tools/timed wrong-$(CRATE) "tries wrong bodies, those of a crate together" "1 to 60 min" tools/tried more $(CRATE)
 
-plant: ## looks for wrong bodies that contracts let through, of CRATE=.. or of all
-	@tools/timed plant-$(CRATE) "plants wrong bodies, a crate at a time" "up to 60 min a crate" tools/tried plant $(CRATE)
+plant: ## looks for wrong bodies that the contracts of CRATE=.. let through
+	@[ -d "crates/$(CRATE)/src" ] && [ -n "$(CRATE)" ] || { echo "usage: make plant CRATE=NAME, with NAME one of" $$(ls crates) >&2; exit 2; }
+	@cd crates/$(CRATE) && ../../tools/timed plant-$(CRATE) "looks for wrong bodies that the contracts of $(CRATE) let through" "up to 60 min" rt plant --max 2000 --minutes 60
 
 soak: ## hard use: millions of lines, many threads, strange bytes, kills, refused memory
 	@tools/timed soak "tries hard use, part by part" "5 to 13 min, once its programs are proved" tools/soak
