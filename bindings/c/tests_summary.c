@@ -1,4 +1,4 @@
-/* Summaries that travel: their joins beside a plain loop over the same elements, their bytes by the places that docs/formats.md gives
+/* Summaries that travel: their joins beside a plain loop over the same elements, their bytes by the places that docs/engines.md gives
  * them, and what is refused. */
 #include "tests.h"
 #include "tests_plain.h"

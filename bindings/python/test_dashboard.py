@@ -2,16 +2,25 @@
 from __future__ import annotations
 
 import concurrent.futures
+import contextlib
+import os
 import random
+import socket
+import subprocess
+import sys
+import tempfile
 import threading
 import time
 import unittest
 
+from livevec_dashboard.connections import Connections, holder_of
 from livevec_dashboard.lines import Lines
 from livevec_dashboard.server import MOST_BODY, Bounds, Server
 from livevec_dashboard.store import Store
-from viewers import SECONDS, Client, ask, dashboard
+from viewers import HERE, SECONDS, Client, ask, dashboard
 
+# a title for the terminal's window, then what changes the direction of text, a colour and a new line
+EVIL = "a\x1b]0;owned\x07\u202e\u2066\u200f\x9b31m\nb"
 LAST = {"charts": [{"name": "a", "last": 1000, "columns": 500}], "watches": []}
 
 
@@ -84,10 +93,144 @@ class Serving(unittest.TestCase):
                 other.close()
             self.assertEqual(viewer.until(lambda page: "a" in page.charts).charts["a"]["now"], "1")
 
-    def serving(self, patience):
+    def test_pages_from_elsewhere_take_no_seats(self):
+        with dashboard() as (pipe, url):
+            viewer = self.client(url)
+            for site in ("cross-site", "same-site"):
+                # as a browser asks for a picture: without an origin
+                self.assertEqual({ask(viewer.host, "GET", "/events", Sec_Fetch_Site=site, Sec_Fetch_Mode="no-cors", Sec_Fetch_Dest="image") for _ in range(40)}, {403})
+                self.assertEqual(viewer.look(LAST, Sec_Fetch_Site=site), 403)
+                # a link to the page may stand anywhere
+                self.assertEqual(ask(viewer.host, "GET", "/", Sec_Fetch_Site=site, Sec_Fetch_Mode="navigate"), 200)
+            self.assertEqual([ask(viewer.host, "GET", "/events", Sec_Fetch_Site=site) for site in ("same-origin", "none")], [200, 200])
+            self.assertEqual([ask(viewer.host, "GET", "/events", Origin=origin) for origin in ("null", "http://evil.example", f"https://{viewer.host}")], [403] * 3)
+            self.assertEqual(ask(viewer.host, "GET", "/events", Origin=f"http://{viewer.host}", Sec_Fetch_Site="same-origin"), 200)
+            self.assertEqual(viewer.look(LAST, Sec_Fetch_Site="same-origin"), 204)
+
+    def test_it_serves_the_address_that_it_was_told_and_no_name_of_others(self):
+        for host in ("127.0.0.1", "127.0.0.2", "localhost", "LOCALHOST"):
+            with dashboard("--host", host) as (_, url):
+                viewer = self.client(url)
+                port = viewer.host.split(":")[1]
+                self.assertEqual(url.split(":")[1], "//" + ("127.0.0.1" if host.lower() == "localhost" else host))
+                for name, status in ((viewer.host, 200), (f"{host}:{port}", 200), (host, 200), (f"localhost:{port}", 200), (f"evil.example:{port}", 403), (f"{host}.evil.example", 403)):
+                    self.assertEqual(ask(viewer.host, "GET", "/", Host=name), status, name)
+
+    def slow(self, server_host, text=b"GET /events HTTP/1.1\r\nHost: "):
+        """A connection whose request has begun, and is not at its end."""
+        name, port = server_host.split(":")
+        made = socket.create_connection((name, int(port)), SECONDS)
+        self.addCleanup(made.close)
+        made.sendall(text)
+        return made
+
+    def test_who_sends_slowly_shuts_nobody_out(self):
+        with dashboard() as (pipe, url):
+            viewer = self.client(url)
+            self.write(pipe, b"a 1\n")
+            slow = [self.slow(viewer.host) for _ in range(150)]
+            for _ in range(3):
+                for it in slow:
+                    with contextlib.suppress(OSError):
+                        it.sendall(b"x")
+                self.assertEqual(ask(viewer.host, "GET", "/"), 200)
+                self.assertEqual(self.client(url).look(LAST), 204)
+            self.assertEqual(viewer.look(LAST), 204)
+            self.assertEqual(viewer.until(lambda page: "a" in page.charts).charts["a"]["now"], "1")
+
+    def test_a_whole_request_has_a_deadline(self):
+        server, _ = self.serving(60, request=0.5)
+        host = server.url.split("/")[2]
+        viewer, began, ended = self.client(server.url), time.monotonic(), {}
+        slow = [self.slow(host), self.slow(host, b""), self.slow(host, f"POST /view?{viewer.key} HTTP/1.1\r\nHost: {host}\r\nContent-Type: application/json\r\nContent-Length: 999\r\n\r\n".encode())]
+        while len(ended) < len(slow) and time.monotonic() < began + SECONDS:
+            time.sleep(0.05)
+            for it in set(slow) - set(ended):
+                try:
+                    it.sendall(b"x")
+                    it.settimeout(0)
+                    if it.recv(1) == b"":
+                        ended[it] = time.monotonic() - began
+                except BlockingIOError:
+                    it.settimeout(SECONDS)
+                except OSError:
+                    ended[it] = time.monotonic() - began
+        self.assertEqual(len(ended), 3)
+        self.assertGreater(min(ended.values()), 0.4)
+        self.assertLess(max(ended.values()), 10)
+        self.assertEqual(ask(host, "GET", "/"), 200)
+        self.assertEqual(viewer.look(LAST), 204)
+        # a thread that has answered ends soon
+        while len(server.connections) > 1 and time.monotonic() < began + SECONDS:
+            time.sleep(0.01)
+        self.assertEqual(len(server.connections), 1)
+
+    def test_a_header_that_is_too_long_is_cut_off(self):
+        server, _ = self.serving(60)
+        host = server.url.split("/")[2]
+        for count, answer in ((1, b"HTTP/1.0 200 OK\r\n"), (20, b"")):
+            header = f"GET / HTTP/1.1\r\nHost: {host}\r\n".encode() + (b"X-Some: " + b"y" * 60_000 + b"\r\n") * count + b"\r\n"
+            told = b""
+            with contextlib.suppress(ConnectionError):
+                told = self.slow(host, header).makefile("rb").readline()
+            self.assertEqual(told, answer)
+
+    def test_an_address_has_so_many_connections(self):
+        bounds, pairs = Bounds(connections=20, of_this_machine=8, of_another=5), [socket.socketpair() for _ in range(60)]
+        for one in pairs:
+            self.addCleanup(one[0].close)
+            self.addCleanup(one[1].close)
+        some, open_ones = iter(pairs), Connections(bounds)
+
+        def come(address, heard=True):
+            mine, theirs = next(some)
+            theirs.settimeout(0)
+            admitted = open_ones.admit(mine, address)
+            if admitted and heard:
+                open_ones.heard(mine)
+            return admitted, mine, theirs
+
+        first = come("10.0.0.1", heard=False)
+        self.assertEqual([come("10.0.0.1")[0] for _ in range(6)], [True] * 5 + [False])
+        # the sixth took the place of the first, whose request never came
+        self.assertEqual(first[2].recv(1), b"")
+        self.assertEqual([come(address)[0] for address in ("127.0.0.1", "127.0.0.2", "::1", "::ffff:127.9.9.9") * 2 + ("127.0.0.1",)], [True] * 8 + [False])
+        self.assertEqual([come(f"2001:db8::{number:x}")[0] for number in range(6)], [True] * 5 + [False])
+        waiting = come("10.0.0.2", heard=False)
+        self.assertEqual((len(open_ones), come("10.0.0.3")[0], come("10.0.0.4")[0]), (19, True, True))
+        self.assertEqual((len(open_ones), waiting[2].recv(1), come("10.0.0.5")[0]), (20, b"", False))
+        open_ones.ended(waiting[1])
+        self.assertEqual(len(open_ones), 20)
+        self.assertEqual([holder_of(it) for it in ("10.0.0.1", "::ffff:10.0.0.1", "fe80::1%lo", "2001:db8::5")], ["10.0.0.1", "10.0.0.1", "fe80::/64", "2001:db8::/64"])
+
+    def printed(self, *arguments):
+        """What the command writes in the terminal up to the first line that isn't its usage."""
+        told = subprocess.Popen([sys.executable, "-m", "livevec_dashboard", *arguments, "--port", "0"], cwd=HERE, stdin=subprocess.DEVNULL, stderr=subprocess.PIPE)
+        try:
+            lines = []
+            while not lines or lines[-1] and not lines[-1].startswith(b"livevec-dashboard: "):
+                lines.append(told.stderr.readline())
+            return b"".join(lines).decode()
+        finally:
+            told.kill()
+            told.wait(SECONDS)
+            told.stderr.close()
+
+    def test_what_it_prints_moves_no_terminal(self):
+        shown = "a\\x1b]0;owned\\x07\\u202e\\u2066\\u200f\\x9b31m\\nb"
+        with tempfile.TemporaryDirectory() as folder:
+            file = os.path.join(folder, EVIL)
+            with open(file, "wb"):
+                pass
+            for arguments in ((file,), ("-", "--title", EVIL), ("-", "--host", EVIL), ("-", EVIL), ("-", "--format", EVIL), ("-", "--scale", EVIL)):
+                text = self.printed(*arguments)
+                self.assertTrue(text.replace("\n", "").isprintable(), text)
+                self.assertIn(shown, text)
+
+    def serving(self, patience, **bounds):
         """A server in this process, and its store."""
         store = Store()
-        server = Server("127.0.0.1", 0, store, bounds=Bounds(patience=patience))
+        server = Server("127.0.0.1", 0, store, bounds=Bounds(patience=patience, **bounds))
         threading.Thread(target=server.serve_forever, daemon=True).start()
         self.addCleanup(server.server_close)
         self.addCleanup(server.shutdown)

@@ -10,10 +10,12 @@ import tempfile
 import threading
 import time
 import unittest
+from datetime import datetime, timezone
 
 from livevec_dashboard.lines import MOST_LINE, Lines
 from livevec_dashboard.store import Store
 from livevec_dashboard.stream import Feed, followed
+from livevec_dashboard.times import NO_TIME, time_of
 from livevec_dashboard.views import spelt
 from viewers import HERE, SECONDS
 
@@ -72,6 +74,42 @@ class Stream(unittest.TestCase):
         self.assertEqual(told(b"a 9223372036854775.807\na 9223372036854775.808\na 1e9999\na 1e-9999\n", scale=1000), ({"a": [2**63 - 1, 0]}, {"outside 64 bits": 2}))
         self.assertEqual([spelt(value, 3) for value in (0, 5, -5, 12345, -12345, 2**63)], ["0.000", "0.005", "-0.005", "12.345", "-12.345", "9223372036854775.808"])
 
+    def test_a_number_is_rounded_once_and_a_half_to_even(self):
+        for text, number in [("1.4" + "9" * 80, 1), ("-1.4" + "9" * 80, -1), ("0.5", 0), ("1.5", 2), ("2.5", 2), ("-2.5", -2), ("2.5" + "0" * 80 + "1", 3),
+                             ("0.4" + "9" * 4000, 0), ("0.5" + "0" * 4000 + "1", 1), ("149999999999999999999999999999999999999999999999999999999999999999999e-68", 1),
+                             ("9223372036854775807.4" + "9" * 80, 2**63 - 1)]:
+            self.assertEqual(told(f"a {text}\n".encode(), scale=1), ({"a": [number]}, {}), text[:30])
+            self.assertEqual(told(f'{{"a": {text}}}\n'.encode(), scale=1), ({"a": [number]}, {}), text[:30])
+        self.assertEqual(told(b"a 0.0014" + b"9" * 80 + b"\n", scale=1000), ({"a": [1]}, {}))
+        self.assertEqual(told(b"a 9223372036854775807.5\n", scale=1), ({}, {"outside 64 bits": 1}))
+
+    def test_times_are_those_that_a_line_says(self):
+        start = datetime(2026, 11, 27, 21, 30, tzinfo=timezone.utc)
+        moment = round(start.timestamp())
+        for value in (moment, moment * 1000, moment * 10**6, moment * 10**9, str(moment), f"{moment}.0009", "2026-11-27T21:30:00Z", "2026-11-27 23:30:00.0+02:00",
+                      "2026-11-27T16:00:00-0530", start.astimezone().strftime("%Y-%m-%d %H:%M")):
+            self.assertEqual(time_of(value), moment * 1000, value)
+        self.assertEqual(time_of("2026-11-27T21:30:00.123456Z"), moment * 1000 + 123)
+        for value in (35, -moment, 20261127213000, "12:00", "2026-13-01", "2026-11-27T25:00Z", "now", "", "1e9", True, None, 1.5, [], 10**4000, "9" * 4000):
+            self.assertIsNone(time_of(value), value)
+
+    def test_each_form_that_has_times_takes_them_with_its_samples(self):
+        for text, how in ((b'{"time": 1700000000, "cpu": 3, "disk": 9}\n{"timestamp": "2023-11-14T22:13:21Z", "cpu": 4}\n{"cpu": 5}\n', {}),
+                          (b'{"name": "cpu", "value": 3, "time": 1700000000}\n{"name": "disk", "value": 9, "time": 1700000000}\n'
+                           b'{"name": "cpu", "value": 4, "time": 1700000001.0}\n{"name": "cpu", "value": 5}\n', {}),
+                          (b"time,cpu,disk\n1700000000,3,9\n1700000001,4,\n,5,\n", {}), (b"name,at,value\ncpu,1700000000,3\ndisk,1700000000,9\ncpu,1700000001,4\ncpu,,5\n", {"times": ["at"]})):
+            read = Lines(lambda name: True, **how).take(text)
+            self.assertEqual((read.samples, read.times, read.bad), ({"cpu": [3, 4, 5], "disk": [9]}, {"cpu": [1700000000000, 1700000001000], "disk": [1700000000000]}, {}), text)
+        self.assertEqual(Lines(lambda name: True).take(b'{"cpu": 1}\n{"cpu": 2, "time": 1700000000}\n').times, {"cpu": [NO_TIME, 1700000000000]})
+        # what says no time is a name as before, and so is a column that was asked for by its name
+        self.assertEqual(told(b'{"time": 35, "cpu": 3}\n'), ({"time": [35], "cpu": [3]}, {}))
+        self.assertEqual(told(b"time,cpu\n1700000000,3\n", columns=["time"]), ({"time": [1700000000]}, {}))
+        self.assertEqual(told(b"time,cpu\n12:00,3\n"), ({"cpu": [3]}, {"not a number": 1}))
+
+    def test_a_bad_line_is_told_without_what_a_screen_acts_on(self):
+        lines = Lines(lambda name: True)
+        self.assertEqual(lines.take("good 1\nbad\x1b[31m\u202e\u05d0\n".encode()).last_bad, "bad\\x1b[31m\\u202e\u05d0")
+
     def test_columns_leave_others_out(self):
         self.assertEqual(told(b"time,cpu\n12:00,3\n12:01,4\n", columns=["cpu"]), ({"cpu": [3, 4]}, {}))
         self.assertEqual(told(b'{"time": "12:00", "cpu": 3}', columns=["cpu"]), ({"cpu": [3]}, {}))
@@ -95,6 +133,21 @@ class Stream(unittest.TestCase):
         status = store.status()
         self.assertEqual((store.names, status.reasons, status.lines, status.samples), (["name0", "name1", "name2"], {"more names than there is room for": 999_997}, 1_000_001, 4))
         self.assertEqual(store.series["name0"].answer(0, 2).total, 3)
+
+    def test_a_new_name_costs_as_much_among_many_as_among_few(self):
+        def seconds(count):
+            store = Store(most_names=count)
+            lines, text = Lines(store.admit), b"".join(b"name%d 1\n" % number for number in range(count))
+            began = time.process_time()
+            for at in range(0, len(text), 1 << 16):
+                store.take(lines.take(text[at:at + (1 << 16)]))
+            took = time.process_time() - began
+            self.assertEqual(len(store.names), count)
+            return took
+
+        seconds(500)
+        # eight times as many take some eight times as long, and 64 times where each looks at all others
+        self.assertLess(min(seconds(4_000) for _ in range(3)), 24 * min(seconds(500) for _ in range(3)))
 
 
 class Following(unittest.TestCase):

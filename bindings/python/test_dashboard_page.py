@@ -38,10 +38,10 @@ def lines_of(samples):
 
 
 def shown(values):
-    """The numbers of a range as the page writes them."""
+    """The numbers of a range as the page writes them: the best run only where it is another number than the sum and the greatest."""
     thousandths = (2_000 * sum(values) + len(values)) // (2 * len(values))
-    return {"sum": f"{sum(values):,}", "mean": f"{thousandths // 1000:,}.{thousandths % 1000:03}", "least": f"{min(values):,}", "greatest": f"{max(values):,}",
-            "best": f"{best(values):,}"}
+    run = {} if best(values) in (sum(values), max(values)) else {"best run": f"{best(values):,}"}
+    return {"sum": f"{sum(values):,}", "mean": f"{thousandths // 1000:,}.{thousandths % 1000:03}", "least": f"{min(values):,}", "greatest": f"{max(values):,}", **run}
 
 
 CARD = "[...document.querySelectorAll('.card')].find(card => card.querySelector('h2').textContent === {name!r})"
@@ -59,9 +59,9 @@ class InABrowser(unittest.TestCase):
         return CARD.format(name=name)
 
     def numbers(self, tab, name):
-        """What a card's numbers are, and after which edits."""
-        pairs = tab.run(f"[...{self.card(name)}.querySelectorAll('.numbers dd')].map(it => [it.children[0].textContent, it.children[1].textContent])")
-        return dict(zip(("sum", "mean", "least", "greatest", "best"), (pair[0] for pair in pairs))), {pair[1] for pair in pairs}
+        """What numbers a card shows, and after which edits."""
+        pairs = tab.run(f"[...{self.card(name)}.querySelectorAll('.numbers > div:not([hidden])')].map(it => [...it.children].map(it => it.textContent))")
+        return dict(pairs), re.findall("edit [0-9,]+", tab.run(f"{self.card(name)}.innerText"))
 
     def middle(self, tab, name):
         """Where the chart of a card is: left, right and middle height."""
@@ -86,7 +86,7 @@ class InABrowser(unittest.TestCase):
                 self.press(tab, last)
                 for name in NAMES:
                     self.edited(tab, name, each, last)
-                    self.assertEqual(self.numbers(tab, name), (shown(samples[name][-last:]), {f"edit {each:,}"}))
+                    self.assertEqual(self.numbers(tab, name), (shown(samples[name][-last:]), [f"edit {each:,}"]))
             self.press(tab, 10_000)
             self.choose_by_mouse(tab, samples)
             self.watch_by_keyboard(tab)
@@ -204,6 +204,57 @@ class InABrowser(unittest.TestCase):
             self.assertEqual(tab.complaints(), [])
             tab.close()
 
+    def test_the_best_run_is_shown_where_it_says_something(self):
+        with dashboard("--scale", "10") as (pipe, url):
+            tab, values = self.browser.open(url), []
+            for some, run in (((1,), None), ((-5, -7), None), ((20, -3, 25), "4.2"), ((100,), "14.2"), ((-200, 900), None), ((3,), "90.3")):
+                values += some
+                pipe.write(b"".join(b"a %s\n" % f"{value / 10}".encode() for value in some))
+                pipe.flush()
+                self.edited(tab, "a", len(values), 1000)
+                self.assertEqual((self.numbers(tab, "a")[0].get("best run"), self.numbers(tab, "a")[1]), (run, [f"edit {len(values)}"]))
+            # a mean that ends in a half is rounded once, also where the scale is taken off it
+            values += [1, 2] * 8 + [1] * 17
+            pipe.write(b"a 0.1\na 0.2\n" * 8 + b"a 0.1\n" * 17)
+            pipe.flush()
+            self.edited(tab, "a", len(values), 1000)
+            self.assertEqual(tab.run("[mean(1.0625), mean(-0.5), mean(12), mean(null), mean(2 ** 60)]"), ["0.1063", "-0.0500", "1.2000", "beyond 64 bits", "115,292,150,460,684,697.6"])
+            self.assertEqual(tab.complaints(), [])
+            tab.close()
+
+    def test_the_axis_has_the_times_of_the_feed(self):
+        start = 1_764_280_800
+        with dashboard() as (pipe, url):
+            tab = self.browser.open(url, 1240, 800)
+            tab.call("Emulation.setTimezoneOverride", timezoneId="Asia/Kolkata")
+            pipe.write(b"".join(b'{"a": %d, "b": %d, "time": %d}\n{"c": 7}\n' % (number % 90, number, start + 2 * number) for number in range(1_600)))
+            pipe.flush()
+            self.edited(tab, "a", 1_600, 1000)
+            # 22:00 of the 27th in Greenwich is 3:30 of the 28th there; sample 600 was taken 1,200 seconds later
+            self.assertEqual(self.ticks(tab, "a"), ["03:50:00", "03:58:20", "04:06:40", "04:15:00", "04:23:18"])
+            self.assertEqual(tab.run(f"{self.card('a')}.querySelector('.lo').textContent"), "600, 2025-11-28")
+            self.assertTrue(tab.run(f"{self.card('c')}.querySelector('.times').hidden"))
+            self.assertEqual(tab.run(f"{self.card('c')}.querySelector('.lo').textContent"), "600")
+            tab.run(f"{self.card('a')}.querySelector('.plot').focus()")
+            tab.key("ArrowRight", 39)
+            self.assertRegex(tab.run(f"{self.card('a')}.querySelector('.readout').textContent"), r"^1,59\d–1,599, 04:23:1\d: least ")
+            tab.run(f"{self.card('a')}.querySelector('details').open = true")
+            row = tab.until(f"(() => {{ const row = {self.card('a')}.querySelector('tbody tr:last-child'); return row && [...row.children].map(it => it.textContent); }})()")
+            self.assertEqual((row[0].split("–")[0], row[1], len(row), self.numbers(tab, "a")[1]), ("600", "03:50:00", 5, ["edit 1,600"]))
+            self.assertEqual(tab.run("[timeText(0, 5), timeText(0, 86400000), timeText(0, 1e10)]"), ["05:30:00.000", "01-01 05:30", "1970-01-01"])
+            self.press(tab, 10_000)
+            self.edited(tab, "a", 1_600, 10_000)
+            self.assertEqual(self.ticks(tab, "a"), ["03:30:00", "", "", "", ""])
+            self.assertEqual(tab.run(f"{self.card('a')}.querySelector('.hi').textContent"), "1,600 samples up to 04:23:18")
+            tab.picture(os.path.join(PICTURES, "times.png"))
+            self.assertEqual(tab.complaints(), [])
+            tab.close()
+
+    def ticks(self, tab, name):
+        """The times below a chart, once it is drawn."""
+        tab.run("new Promise(done => requestAnimationFrame(() => requestAnimationFrame(done)))")
+        return tab.run(f"[...{self.card(name)}.querySelectorAll('.times span')].map(it => it.textContent)")
+
     def test_a_feed_that_stops_and_goes_on_and_a_server_that_goes(self):
         with dashboard("--scale", "100") as (pipe, url):
             tab = self.browser.open(url)
@@ -214,7 +265,7 @@ class InABrowser(unittest.TestCase):
             pipe.write(b"a -0.5\n")
             pipe.flush()
             tab.until("document.querySelector('.now').textContent === '-0.50'")
-            self.assertEqual(self.numbers(tab, "a")[0], {"sum": "0.75", "mean": "0.37500", "least": "-0.50", "greatest": "1.25", "best": "1.25"})
+            self.assertEqual(self.numbers(tab, "a")[0], {"sum": "0.75", "mean": "0.37500", "least": "-0.50", "greatest": "1.25"})
             pipe.close()
             tab.until("document.getElementById('state').textContent === 'the stream has ended'")
         tab.until("document.getElementById('state').textContent.startsWith('connection lost')")

@@ -1,15 +1,20 @@
 """The dashboard's vectors, and what viewers of them are told, beside plain Python over the same numbers."""
 from __future__ import annotations
 
+import os
 import random
+import tempfile
+import threading
+import time
 import unittest
 from array import array
 
 from livevec_dashboard.lines import Lines
 from livevec_dashboard.store import MOST_ELEMENTS, Series, Store
+from livevec_dashboard.stream import Feed
 from livevec_dashboard.views import BadView, Viewer, view_of
 from plain import best
-from viewers import Page
+from viewers import SECONDS, Page
 
 
 class Vectors(unittest.TestCase):
@@ -60,6 +65,50 @@ class Vectors(unittest.TestCase):
         many = Series()
         many.take(array("q", [2**63 - 1] * 1000), keep=1000, room=1000)
         self.assertEqual((many.answer(0, 1000).total, many.answer(0, 1000).best), (None, 1000 * (2**63 - 1)))
+        # one great number among many is found in halves of halves
+        one = Series()
+        one.take(array("q", [1] * 300_000 + [2**63 - 1] + [1] * 300_000), keep=700_000, room=700_000)
+        self.assertEqual(one.answer(0, 600_001).total, 600_000 + 2**63 - 1)
+
+    def test_columns_are_plain_however_many_are_asked_at_once(self):
+        chance, series = random.Random(6), Series()
+        plain = [chance.choice((2**63 - 1, -(2**63), 2**61, 5, -7, 0)) for _ in range(3_000)]
+        series.take(array("q", plain), keep=2_000, room=2_500)
+        for count, longest in ((1, 3_000), (8, 50), (9, 4), (400, 64), (400, 65), (9, 2_000)):
+            ranges = []
+            for _ in range(count):
+                lo = chance.randrange(series.first, series.end)
+                ranges.append((lo, min(lo + chance.randrange(1, longest + 1), series.end)))
+            for (lo, hi), column in zip(ranges, series.columns(ranges)()):
+                part = plain[lo:hi]
+                self.assertEqual(column[:2], (min(part), max(part)))
+                # by two splits the sum of four is found, if they are split evenly
+                self.assertIn(column.total, (sum(part),) if hi - lo <= 3 else (sum(part), None))
+
+    def test_names_that_grow_fewer_samples_each_have_room_for_all(self):
+        chance, store = random.Random(7), Store(keep=300, most_samples=2_000)
+        lines = Lines(store.admit)
+        plain = {}
+        for _ in range(3_000):
+            name = f"n{min(chance.randrange(200), chance.randrange(200))}"
+            values = [chance.randrange(100) for _ in range(chance.choice((1, 1, 2, 400)))]
+            plain.setdefault(name, []).extend(values)
+            store.take(lines.take(b"".join(b"%s %d\n" % (name.encode(), value) for value in values)))
+            self.assertLessEqual(sum(series.held for series in store.series.values()), 2_000)
+        for name, values in plain.items():
+            series = store.series[name]
+            self.assertEqual((series.end, series.answer(series.first, series.end).total), (len(values), sum(values[series.first:])))
+            self.assertGreaterEqual(series.held, min(len(values), 8))
+
+    def test_times_stay_with_their_samples_over_renewals(self):
+        series = Series()
+        series.take(array("q", range(10)), keep=20, room=30)
+        self.assertEqual((series.has_times, series.time(3)), (False, None))
+        for number in range(10, 100, 5):
+            series.take(array("q", range(number, number + 5)), keep=20, room=30, times=[1000 * at for at in range(number, number + 4)])
+        self.assertGreater(series.first, 50)
+        for sample in range(series.first, 100):
+            self.assertEqual(series.time(sample), None if sample % 5 == 4 else 1000 * sample)
 
 
 def plain_columns(values, lo, hi, width):
@@ -117,6 +166,53 @@ class Views(unittest.TestCase):
         self.assertEqual([(it["edit"], it["value"], it["lost"]) for it in page.watches[1]], [(1, "0.5", False), (3, "1.0", False), (4, "1.2", False), (35, None, True)])
         self.assertEqual([(it["edit"], it["value"]) for it in page.watches[2]], [(1, "0.5"), (4, "0.2"), (35, "0.7")])
         self.assertEqual([(it["edit"], it["value"]) for it in page.watches[3]], [(1, None), (3, "0.0000"), (4, "0.1000"), (35, None)])
+
+    def test_a_chart_has_the_times_of_its_ends_and_columns(self):
+        store = Store(keep=40)
+        lines, viewer, page = Lines(store.admit), Viewer(store, 0), Page()
+        viewer.look(view_of({"charts": [{"name": "a", "last": 16, "columns": 10}, {"name": "b", "last": 16, "columns": 10}], "watches": []}))
+        for number in range(200):
+            store.take(lines.take(b'{"a": %d, "time": %d}\n{"b": 1}\n' % (number, 1_700_000_000 + number)))
+            page.take(viewer.frame())
+            chart = page.charts["a"]
+            when = [1_700_000_000_000 + 1000 * sample for sample in range(chart["lo"], chart["hi"])]
+            ticks = [when[at] if at < len(when) else None for at in (0, 4, 8, 12, 15)]
+            self.assertEqual(chart["times"], {"from": when[0], "to": when[-1], "ticks": ticks})
+            for column, (least, _, _, when) in page.columns["a"].items():
+                self.assertEqual(when, 1_700_000_000_000 + 1000 * least, column)
+        self.assertNotIn("times", page.charts["b"])
+        self.assertEqual({len(column) for column in page.columns["b"].values()}, {3})
+
+    def test_a_viewer_within_its_bounds_leaves_the_feed_most_of_the_time(self):
+        store, text = Store(), b"".join(b"name%d %d\n" % (number % 24, number) for number in range(24_000))
+        viewer, ended = Viewer(store, 0), threading.Event()
+
+        def look():
+            turn = 0
+            while not ended.is_set():
+                # another range each time, so that nothing that was sent stays good
+                turn += 1
+                viewer.look(view_of({"charts": [{"name": f"name{number}", "last": 2_000 - turn % 900, "columns": 2_000} for number in range(24)], "watches": []}))
+                viewer.frame()
+
+        with tempfile.TemporaryDirectory() as folder:
+            path = os.path.join(folder, "feed")
+            with open(path, "wb") as file:
+                file.writelines([text] * 50)
+            feed, viewing = Feed(path, Lines(store.admit), store), threading.Thread(target=look)
+            began = time.monotonic()
+            feed.start()
+            viewing.start()
+            while store.status().lines < 24_000 * 50 and time.monotonic() < began + SECONDS:
+                time.sleep(0.01)
+            worked, took = time.clock_gettime(time.pthread_getcpuclockid(viewing.ident)), time.monotonic() - began
+            ended.set()
+            viewing.join()
+            feed.stop()
+            feed.join()
+        self.assertEqual(store.status().lines, 24_000 * 50)
+        # an eighth of the time, and half of that again for chance; it took more than half of it before it rested
+        self.assertLess(worked, 0.19 * took)
 
     def test_views_out_of_bounds_are_refused(self):
         chart, watch = {"name": "a", "last": 10, "columns": 100}, {"id": 1, "name": "a", "kind": "sum", "lo": 0, "hi": 5}

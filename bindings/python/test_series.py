@@ -107,7 +107,7 @@ class Edits(Twin):
             self.one_edit()
             if turn % 10 == 0:
                 self.look()
-        self.assertEqual(list(self.series), self.all[self.first:])
+        self.assertEqual((list(self.series), list(reversed(self.series))), (self.all[self.first:], self.all[self.first:][::-1]))
         for i in range(self.first, len(self.all)):
             self.assertEqual(self.series[i], self.all[i])
 
@@ -125,6 +125,25 @@ class Edits(Twin):
             self.look()
         self.alike(self.series.ask().values, self.all[self.first:])
         self.assertEqual(self.series.best(self.first, self.first + 50), plain_best(self.all[self.first:self.first + 50]))
+
+    def test_it_is_gone_through_from_either_end_after_expiry(self):
+        series = Series([10, 20, 30, 40])
+        series.expire(1)
+        self.assertEqual((list(series), list(reversed(series)), 10 in series), ([20, 30, 40], [40, 30, 20], False))
+        series.expire(4)
+        self.assertEqual((list(series), list(reversed(series))), ([], []))
+        # over blocks that are read at once, and their ends
+        for count in (1023, 1024, 1025, 5000):
+            series = Series(range(count + 700))
+            series.expire(700)
+            self.assertEqual((list(series), list(reversed(series))), (list(range(700, count + 700)), list(range(count + 699, 699, -1))))
+        for way in (iter, reversed):
+            seen = []
+            with self.assertRaises(RuntimeError):
+                for value in way(series):
+                    seen.append(value)
+                    series.expire(701)
+            self.assertEqual(len(seen), 1)
 
     def test_ends(self):
         series = Series([4, -6])

@@ -150,6 +150,38 @@ class Threads(unittest.TestCase):
         self.assertGreater(len(told), 1)
         self.assertEqual(last, {name: value_of(kind, rows[lo:hi]) for name, (kind, lo, hi) in names.items()})
 
+    def test_it_is_gone_through_as_it_was_after_one_edit(self):
+        shared, ended = SharedVector(Vector(range(3000))), threading.Event()
+
+        def edit():
+            while not ended.is_set():
+                shared.truncate(0)
+                shared.extend([len(shared)] * 3000)
+                shared.extend(range(7))
+
+        join = beside(edit)
+        try:
+            for way in (iter, reversed):
+                for _ in range(100):
+                    elements = list(way(shared))
+                    if way is reversed:
+                        elements.reverse()
+                    self.assertIn(elements, ([], list(range(3000)), [0] * 3000, [0] * 3000 + list(range(7))))
+        finally:
+            ended.set()
+            join()
+        # it is a copy, so edits neither change it nor break it off
+        elements = list(shared)
+        through, back = iter(shared), reversed(shared)
+        shared.truncate(0)
+        self.assertEqual((list(through), list(back), list(shared)), (elements, elements[::-1], []))
+        with shared.locked():
+            for way in (iter, reversed):
+                self.assertRaises(livevec.Busy, way, shared)
+        shared.close()
+        for way in (iter, reversed):
+            self.assertRaises(livevec.Closed, way, shared)
+
     def test_a_subscriber_looks_sleeps_and_has_the_last_notes(self):
         shared = SharedVector(Vector([4, 5]))
         alerts, late = shared.subscribe(watching()), shared.subscribe(watching("least"))

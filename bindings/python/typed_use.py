@@ -65,7 +65,7 @@ def series(readings: Series) -> int:
     least: Optional[int] = readings.least(index)
     every: array[int] = readings.to_array()
     piece: Scan = readings.scan_inclusive(0, index, at=0, most=100)
-    readings += [first, dropped, *readings]
+    readings += [first, dropped, *readings, *reversed(readings)]
     readings.extend(every)
     try:
         many: int = readings.read_into(memoryview(every), index)

@@ -137,12 +137,20 @@ class Series(_SeriesKinds):
         return _kept(_read(self._at, lo, hi, ctypes.byref(_address(view)) if len(view) else None, len(view))).length
 
     def __iter__(self) -> Iterator[int]:
-        """The elements in order. Raises RuntimeError where the series is edited meanwhile."""
-        changes, size = self._changes, self.size
-        for lo in range(self.first, size, _AT_ONCE):
+        """The elements in order. Raises RuntimeError if the series is edited meanwhile."""
+        first, size = self.first, self.size
+        return self._through(self._changes, ((lo, min(lo + _AT_ONCE, size)) for lo in range(first, size, _AT_ONCE)), iter)
+
+    def __reversed__(self) -> Iterator[int]:
+        """The elements from the last one on. Raises RuntimeError if the series is edited meanwhile."""
+        first, size = self.first, self.size
+        return self._through(self._changes, ((max(hi - _AT_ONCE, first), hi) for hi in range(size, first, -_AT_ONCE)), reversed)
+
+    def _through(self, changes: int, parts: Iterable[tuple[int, int]], order: Callable[[array[int]], Iterator[int]]) -> Iterator[int]:
+        for lo, hi in parts:
             if self._changes != changes:
                 break
-            for value in self.to_array(lo, min(lo + _AT_ONCE, size)):
+            for value in order(self.to_array(lo, hi)):
                 if self._changes != changes:
                     break
                 yield value

@@ -76,6 +76,14 @@ class SharedVector(_SharedEdits):
         place = operator.index(index)
         return self._read(lambda vector: vector[place])
 
+    def __iter__(self) -> Iterator[int]:
+        """The elements in order, all after one edit: they are copied once, under the lock."""
+        return iter(self._read(lambda vector: vector.to_array()))
+
+    def __reversed__(self) -> Iterator[int]:
+        """The elements from the last one on, all after one edit: they are copied once, under the lock."""
+        return reversed(self._read(lambda vector: vector.to_array()))
+
     def sum(self, lo: int = 0, hi: Optional[int] = None) -> int:
         """As `Vector.sum`."""
         total = self.value(Kind.SUM, lo, hi)

@@ -6,10 +6,13 @@ Each name of the stream has a `livevec.Vector` of its samples. Each number on th
 
 | Module | What it does |
 |---|---|
-| `lines` | bytes into names and whole numbers |
+| `lines` | bytes into names and whole numbers; `numbers` and `times` read their texts |
 | `stream` | standard input, or a file that is followed |
 | `store` | the vectors, their renewal, and their answers |
 | `views` | what a viewer looks at, and what of it has changed |
-| `server` | the page, the events and the bounds of requests |
+| `pace` | how much viewers may compute while the feed has more to read |
+| `server` | the page, the events and what a request must be like |
+| `connections` | how many connections there may be, and how long a request may take |
+| `texts` | texts from outside, made fit to be shown |
 | `page.html` | the page; `page.css` is its look, `page_state.js`, `page_charts.js`, `page_choices.js` are its script |
 """

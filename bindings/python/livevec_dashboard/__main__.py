@@ -5,35 +5,41 @@ import argparse
 import os
 import sys
 import webbrowser
-from typing import Optional, Sequence
+from typing import NoReturn, Optional, Sequence
+
+from .texts import shown
 
 try:
     from .lines import SHAPES, Lines
     from .server import Server
     from .store import Store
     from .stream import Feed
+    from .times import FIELDS
 except ImportError as error:
     # most of all where there is no liblivevec.so, and it says what to do
-    sys.exit(f"livevec-dashboard: {error}")
+    sys.exit(shown(f"livevec-dashboard: {error}"))
 
 PORT = 8765
 
 _ABOUT = """Live charts of a stream of numbers, in a browser.
 
 The stream's lines are `name value`, JSON objects ({"name": "cpu", "value": 3} or {"cpu": 3, "disk": 9}), or CSV under a header
-(with columns `name` and `value`, or one column a name). Values are whole numbers of 64 bits; --scale takes decimals."""
+(with columns `name` and `value`, or one column a name). Values are whole numbers of 64 bits; --scale takes decimals. Charts show the time that a
+field or column `time` or `timestamp` says: ISO 8601, or a number of seconds to nanoseconds since 1970."""
 
 
 def main(arguments: Optional[Sequence[str]] = None) -> int:
     said = _parser().parse_args(arguments)
     store = Store(keep=said.keep, most_names=said.names, most_samples=said.samples)
-    lines = Lines(store.admit, shape=said.format, scale=said.scale, columns=said.columns.split(",") if said.columns else ())
-    title = said.title or ("standard input" if said.feed == "-" else os.path.basename(said.feed))
+    lines = Lines(store.admit, shape=said.format, scale=said.scale, columns=said.columns.split(",") if said.columns else (),
+                  times=(said.time,) if said.time else FIELDS)
+    title = shown(said.title or ("standard input" if said.feed == "-" else os.path.basename(said.feed)))
     digits = len(str(said.scale)) - 1 if said.scale else 0
     try:
         server = _serving(said.host, said.port, store, title, digits)
-    except (OSError, ValueError) as error:
-        print(f"livevec-dashboard: {said.host}: {error}", file=sys.stderr)
+    except (OSError, TypeError, ValueError) as error:
+        # Python raises a TypeError of what can be no host's name
+        print(shown(f"livevec-dashboard: {said.host}: {error}"), file=sys.stderr)
         return 1
     feed = Feed(said.feed, lines, store)
     feed.start()
@@ -58,16 +64,24 @@ def _serving(host: str, port: Optional[int], store: Store, title: str, digits: i
         return Server(host, 0, store, title=title, digits=digits)
 
 
+class _Parser(argparse.ArgumentParser):
+    """A parser whose complaints are fit for a terminal, for an argument may be the name of any file."""
+
+    def error(self, message: str) -> NoReturn:
+        super().error(shown(message))
+
+
 def _parser() -> argparse.ArgumentParser:
-    parser = argparse.ArgumentParser("livevec-dashboard", description=_ABOUT, formatter_class=argparse.RawDescriptionHelpFormatter)
+    parser = _Parser("livevec-dashboard", description=_ABOUT, formatter_class=argparse.RawDescriptionHelpFormatter)
     add = parser.add_argument
     add("feed", metavar="FILE|-", help="a file, which is followed like `tail -F`, or - for standard input")
     add("--format", choices=SHAPES, help="the lines' form; else the first line tells")
     add("--scale", type=_scale, metavar="N", help="multiply each value by N, a power of ten to 1000000000, and round it; the page divides again")
     add("--columns", metavar="A,B", help="of CSV columns and JSON fields take only these")
+    add("--time", metavar="NAME", help="the CSV column or JSON field that has a line's time (time or timestamp)")
     add("--keep", type=_from_to(1, 1_000_000), default=1_000_000, metavar="N", help="samples of a name that are held at least (1000000)")
     add("--samples", type=_from_to(1_000, 1_000_000_000), default=10_000_000, metavar="N",
-        help="samples that all names hold together, 50 bytes each (10000000); where they are short each name has an equal share")
+        help="samples that all names hold together, 50 bytes each (10000000); where they are short each name has an equal share, two at least")
     add("--names", type=_from_to(1, 100_000), default=1_000, metavar="N", help="names that are taken; lines of others are bad (1000)")
     add("--title", metavar="TEXT", help="what the page calls the stream (the file's name)")
     add("--host", default="127.0.0.1", help="the address to serve at (127.0.0.1, which only this machine reaches)")

@@ -6,10 +6,12 @@ Lines that are none of these are counted by their reason, and never stop the str
 from __future__ import annotations
 
 import csv
-import decimal
 import json
-import re
-from typing import Callable, Iterable, NamedTuple, Optional, Union
+from typing import Any, Callable, Iterable, NamedTuple, Optional, Union
+
+from .numbers import Bad, Decimal, is_number, of_json, whole, within
+from .texts import shown
+from .times import FIELDS, NO_TIME, time_of
 
 MOST_LINE = 4096
 """A longer line, in bytes, is bad; no more of it than this is ever held."""
@@ -17,65 +19,34 @@ MOST_NAME = 200
 """A longer name, in characters, is bad."""
 SHAPES = ("plain", "json", "csv")
 
-_LEAST, _MOST = -(1 << 63), (1 << 63) - 1
-_WHOLE = re.compile(rb"[+-]?[0-9]+\Z")
-_DECIMAL = re.compile(rb"[+-]?(?:[0-9]+\.?[0-9]*|\.[0-9]+)(?:[eE][+-]?[0-9]{1,4})?\Z")
-# enough digits for 64 bits before the point and for what decides the rounding after it
-_EXACT = decimal.Context(prec=60, rounding=decimal.ROUND_HALF_EVEN)
-
-
-class Bad(ValueError):
-    """Why a line is bad: one of a few fixed texts, so that they can be counted."""
-
-
-class _Decimal(str):
-    """The text of a number with a point or an exponent in a JSON line."""
-
-
-def whole(text: bytes, scale: Optional[int]) -> int:
-    """The number that a text spells, times the scale, rounded to the nearest whole number. Without a scale a decimal is Bad."""
-    if text.isdigit() or _WHOLE.match(text):
-        return _within(int(text) * (scale or 1))
-    if not _DECIMAL.match(text):
-        raise Bad("not a number")
-    if scale is None:
-        raise Bad("a decimal, and no --scale")
-    return _within(_rounded(decimal.Decimal(text.decode()), scale))
-
-
-def _within(number: int) -> int:
-    if not _LEAST <= number <= _MOST:
-        raise Bad("outside 64 bits")
-    return number
-
-
-def _rounded(value: decimal.Decimal, scale: int) -> int:
-    # before it is written out in full: an exponent may ask for thousands of digits
-    if value and value.adjusted() > 20:
-        raise Bad("outside 64 bits")
-    return int(_EXACT.multiply(value, decimal.Decimal(scale)).to_integral_value(context=_EXACT))
-
 
 class Told(NamedTuple):
-    """What some bytes of a stream held: the samples of each name in order, how many lines, and the bad ones among them."""
+    """What some bytes of a stream held: the samples of each name in order, how many lines, and the bad ones among them.
+
+    `times` has those of the samples, in the same order, for each name that came with any; those that lack at the end came without."""
 
     samples: dict[str, list[int]]
     lines: int
     bad: dict[str, int]
     last_bad: str
+    times: dict[str, list[int]] = {}
 
 
 class Lines:
     """Takes a stream's bytes as they come, cut anywhere.
 
     `admit` is asked once whether a name may be taken. `scale` multiplies each value. Of CSV columns and of the fields of JSON objects only those
-    in `columns` are looked at, if any are given.
+    in `columns` are looked at, if any are given, and the one of `times` that says when a line's samples were taken.
     """
 
-    def __init__(self, admit: Callable[[str], bool], *, shape: Optional[str] = None, scale: Optional[int] = None, columns: Iterable[str] = ()) -> None:
+    def __init__(self, admit: Callable[[str], bool], *, shape: Optional[str] = None, scale: Optional[int] = None, columns: Iterable[str] = (),
+                 times: Iterable[str] = FIELDS) -> None:
         self._admit, self._said, self._scale, self._columns = admit, shape, scale, frozenset(columns)
-        self._pending: dict[bytes, list[int]] = {}
+        self._clocks = tuple(name for name in times if name not in self._columns)
         self._names: dict[bytes, str] = {}
+        # of the bytes that are being read, and only the names that they have
+        self._pending: dict[bytes, list[int]] = {}
+        self._times: dict[bytes, list[int]] = {}
         self._bad: dict[str, int] = {}
         self._last_bad = ""
         self.restart()
@@ -118,10 +89,9 @@ class Lines:
             for line in lines[at:]:
                 self._one(line)
         samples = {self._names[raw]: values for raw, values in self._pending.items() if values}
-        for raw in self._pending:
-            self._pending[raw] = []
-        told = Told(samples, len(lines), self._bad, self._last_bad)
-        self._bad = {}
+        told = Told(samples, len(lines), self._bad, self._last_bad, {self._names[raw]: times for raw, times in self._times.items()})
+        self._pending.clear()
+        self._times, self._bad = {}, {}
         return told
 
     def _plain(self, lines: list[bytes]) -> None:
@@ -160,7 +130,7 @@ class Lines:
         if line.startswith(b"{"):
             return "json"
         last = line.rsplit(None, 1)[-1]
-        if last != line and _DECIMAL.match(last):
+        if last != line and is_number(last):
             return "plain"
         if b"," in line:
             return "csv"
@@ -179,13 +149,14 @@ class Lines:
             raise Bad("not JSON") from None
         if not isinstance(read, dict):
             raise Bad("not a JSON object")
+        when = self._when(read)
         if "name" in read and "value" in read:
             if not isinstance(read["name"], str):
                 raise Bad("a name that is not text")
             read = {read["name"]: read["value"]}
         elif self._columns:
             read = {name: value for name, value in read.items() if name in self._columns}
-        self._several([(name.encode("utf-8", "surrogatepass"), _spelt(value)) for name, value in read.items()])
+        self._several([(name.encode("utf-8", "surrogatepass"), of_json(value)) for name, value in read.items()], when)
 
     def _one_csv(self, line: bytes) -> None:
         try:
@@ -201,28 +172,43 @@ class Lines:
 
     def _row(self, row: dict[str, str]) -> None:
         """A row of CSV by its columns. An empty cell is no sample."""
+        when = self._when(row)
         if "name" in row and "value" in row:
             row = {row["name"]: row["value"]}
         elif self._columns:
             row = {name: cell for name, cell in row.items() if name in self._columns}
-        self._several([(name.encode(), cell.encode()) for name, cell in row.items() if cell])
+        self._several([(name.encode(), cell.encode()) for name, cell in row.items() if cell], when)
 
-    def _several(self, fields: list[tuple[bytes, Union[int, bytes]]]) -> None:
+    def _when(self, fields: dict[str, Any]) -> Optional[int]:
+        """The time that a line's fields say, which is taken from among them. What says none is a field as others are."""
+        for name in self._clocks:
+            if name in fields:
+                when = time_of(fields[name])
+                if when is not None:
+                    del fields[name]
+                    return when
+        return None
+
+    def _several(self, fields: list[tuple[bytes, Union[int, bytes]]], when: Optional[int]) -> None:
         """The samples of one line. Those that are good are taken, also where others are bad."""
         why: Optional[Bad] = None
         for raw, value in fields:
             try:
-                self._sample(raw, _within(value * (self._scale or 1)) if isinstance(value, int) else whole(value, self._scale))
+                self._sample(raw, within(value * (self._scale or 1)) if isinstance(value, int) else whole(value, self._scale), when)
             except Bad as bad:
                 why = bad
         if why is not None:
             raise why
 
-    def _sample(self, raw: bytes, value: int) -> None:
-        if raw not in self._pending:
+    def _sample(self, raw: bytes, value: int, when: Optional[int] = None) -> None:
+        if raw not in self._names:
             self._names[raw] = self._named(raw)
-            self._pending[raw] = []
-        self._pending[raw].append(value)
+        values = self._pending.setdefault(raw, [])
+        values.append(value)
+        if when is not None:
+            times = self._times.setdefault(raw, [])
+            times.extend([NO_TIME] * (len(values) - 1 - len(times)))
+            times.append(when)
 
     def _named(self, raw: bytes) -> str:
         """A name that was not seen before, as text. What is refused is not remembered, so strangers cost no memory."""
@@ -241,18 +227,11 @@ class Lines:
     def _count(self, bad: Bad, line: bytes) -> None:
         why = str(bad)
         self._bad[why] = self._bad.get(why, 0) + 1
-        self._last_bad = line[:80].decode("utf-8", "replace")
+        self._last_bad = shown(line[:80].decode("utf-8", "replace"))
 
 
 def _no_number(text: str) -> None:
     raise ValueError(text)
 
 
-_JSON = json.JSONDecoder(parse_float=_Decimal, parse_constant=_no_number)
-
-
-def _spelt(value: object) -> Union[int, bytes]:
-    """A JSON value as a number, or as the text of one. True, false, null, texts, lists and objects spell none."""
-    if type(value) is int:
-        return value
-    return value.encode() if isinstance(value, _Decimal) else b"none"
+_JSON = json.JSONDecoder(parse_float=Decimal, parse_constant=_no_number)

@@ -3,7 +3,7 @@
 
 function makeCard(name) {
   const root = byId('card').content.firstElementChild.cloneNode(true), find = selector => root.querySelector(selector);
-  const card = { name, root, plot: find('.plot'), canvas: find('canvas'), now: find('.now'), top: find('.top'), bottom: find('.bottom'), lo: find('.lo'), hi: find('.hi'),
+  const card = { name, root, plot: find('.plot'), canvas: find('canvas'), now: find('.now'), at: find('.at'), times: find('.times'), top: find('.top'), bottom: find('.bottom'), lo: find('.lo'), hi: find('.hi'),
     readout: find('.readout'), kind: find('select'), range: find('input'), zoom: find('.zoom'), follow: find('.follow'), error: find('.error'), table: find('table'),
     details: find('details'), numbers: {}, told: null, columns: new Map(), cursor: null, chosen: null, anchor: null, tabled: 0 };
   find('h2').textContent = name;
@@ -12,11 +12,10 @@ function makeCard(name) {
   card.range.setAttribute('aria-label', `Range of ${name} to watch`);
   find('.scroll').setAttribute('aria-label', `Table of ${name}`);
   for (const [kind, label] of Object.entries(KINDS)) {
-    const value = element('span', '–', 'number'), at = element('small', ' '), pair = element('div'), holds = element('dd');
-    holds.append(value, at);
-    pair.append(element('dt', label), holds);
+    const value = element('dd', '–', 'number'), pair = element('div');
+    pair.append(element('dt', label), value);
     find('.numbers').append(pair);
-    card.numbers[kind] = { value, at };
+    card.numbers[kind] = { value, pair };
   }
   card.details.addEventListener('toggle', () => tabulate(card, true));
   card.plot.addEventListener('keydown', event => onKey(card, event));
@@ -47,15 +46,20 @@ function takeChart(told) {
   const first = Math.floor(told.lo / told.width);
   for (const number of card.columns.keys()) if (number < first) card.columns.delete(number);
   card.now.textContent = told.now === null ? '' : grouped(told.now);
-  card.now.title = `at edit ${count(told.end)}`;
-  for (const [kind, { value, at }] of Object.entries(card.numbers)) {
+  for (const [kind, { value }] of Object.entries(card.numbers)) {
     value.textContent = told.numbers[kind] === null ? (told.lo < told.hi ? 'beyond 64 bits' : '–') : grouped(told.numbers[kind]);
-    at.textContent = 'edit ' + count(told.edit);
   }
+  // where it is the sum or the greatest, the best run says nothing new
+  card.numbers.best.pair.hidden = [told.numbers.sum, told.numbers.greatest].includes(told.numbers.best);
+  card.at.textContent = `at edit ${count(told.edit)}`;
+  card.root.classList.toggle('timed', !!told.times);
   card.lo.textContent = count(told.start);
   card.hi.textContent = `${count(told.end)} samples`;
   if (told.start + told.length < told.end) card.hi.textContent = `${count(told.start + told.length)} of ${card.hi.textContent}`;
   if (card.told.start < told.first) card.lo.textContent += ` (held from ${count(told.first)})`;
+  if (told.times && told.times.from !== null) card.lo.textContent += `, ${dayOf(told.times.from)}`;
+  // a chart that is not full yet has no tick at its last sample
+  if (told.times && told.times.to !== null && told.hi < told.start + told.length) card.hi.textContent += ` up to ${timeOf(told, told.times.to)}`;
   if (card.cursor !== null) point(card, card.cursor < told.lo ? null : card.cursor);
   redraw(card);
   tabulate(card, false);
@@ -76,6 +80,29 @@ matchMedia('(prefers-color-scheme: dark)').addEventListener('change', () => { re
 
 /** The samples of a column that the chart shows, from and up to. */
 const samplesOf = (told, number) => [Math.max(number * told.width, told.lo), Math.min((number + 1) * told.width, told.hi)];
+
+/** A time of a chart as text, as exactly as its span wants it; nothing where there is no time. */
+function timeOf(told, time) {
+  const { from, to } = told.times;
+  return time === null ? '' : timeText(time, from === null || to === null ? 0 : Math.abs(to - from));
+}
+
+/** When the first sample of a column was taken, as text. */
+const timeOfColumn = (told, column) => told.times ? timeOf(told, column[4] ?? null) : '';
+
+/** The times below a chart, at equal distances. It gives how many parts they make of it. */
+function drawTimes(card, wide) {
+  const { told, times } = card;
+  times.hidden = !told.times;
+  if (!told.times) return 0;
+  const texts = told.times.ticks.map(time => timeOf(told, time)), fits = texts.join('').length * 7 < wide;
+  times.replaceChildren(...texts.filter((_, at) => fits || at % 2 === 0).map((text, at, all) => {
+    const tick = element('span', text);
+    tick.style.left = `${100 * at / (all.length - 1)}%`;
+    return tick;
+  }));
+  return times.childElementCount - 1;
+}
 
 function draw(card) {
   const { canvas, told } = card, wide = card.plot.clientWidth, high = card.plot.clientHeight, ratio = devicePixelRatio || 1;
@@ -98,6 +125,7 @@ function draw(card) {
   pen.lineWidth = 1;
   pen.beginPath();
   for (let at = 0; at <= 4; at++) { const line = Math.round(margin + at * (high - 2 * margin) / 4) + .5; pen.moveTo(0, line); pen.lineTo(wide, line); }
+  for (let at = 1, parts = drawTimes(card, wide); at < parts; at++) { const line = Math.round(wide * at / parts) + .5; pen.moveTo(line, 0); pen.lineTo(line, high); }
   pen.stroke();
   if (card.chosen) {
     pen.fillStyle = colours.chosen;
@@ -149,8 +177,9 @@ function tabulate(card, now) {
   card.tabled = performance.now();
   const points = [...card.columns.values()].sort((a, b) => a[0] - b[0]), step = Math.max(Math.ceil(points.length / ROWS), 1), rows = [];
   for (let at = 0; at < points.length; at += step) rows.push(rowOf(told, points.slice(at, at + step)));
+  card.table.querySelector('.when').hidden = !told.times;
   card.table.tBodies[0].replaceChildren(...rows.reverse());
-  card.table.caption.textContent = `${card.name}, samples ${count(told.lo)} to ${count(told.hi)}, at edit ${count(told.edit)}, the latest first`;
+  card.table.caption.textContent = `${card.name}, samples ${count(told.lo)} to ${count(told.hi)}, the latest first`;
 }
 
 function rowOf(told, points) {
@@ -159,7 +188,7 @@ function rowOf(told, points) {
   const total = points.reduce((sum, point) => { const [lo, hi] = samplesOf(told, point[0]); return point[3] === null || sum === null ? null : sum + point[3] * (hi - lo); }, 0);
   const row = element('tr'), head = element('th', to - from === 1 ? count(from) : `${count(from)}–${count(to - 1)}`);
   head.scope = 'row';
-  row.append(head, element('td', scaled(pick(1, (b, a) => b < a))), element('td', mean(total === null ? null : total / (to - from))), element('td', scaled(pick(2, (b, a) => b > a))));
+  row.append(head, ...(told.times ? [element('td', timeOfColumn(told, points[0]))] : []), element('td', scaled(pick(1, (b, a) => b < a))), element('td', mean(total === null ? null : total / (to - from))), element('td', scaled(pick(2, (b, a) => b > a))));
   return row;
 }
 

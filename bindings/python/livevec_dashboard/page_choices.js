@@ -37,9 +37,9 @@ function point(card, sample) {
   const column = sample === null || !card.told ? null : card.columns.get(Math.floor(sample / card.told.width));
   let text = '';
   if (column) {
-    const [from, to] = samplesOf(card.told, column[0]);
-    text = to - from === 1 ? `sample ${count(from)}: ${scaled(column[1])}`
-      : `${count(from)}–${count(to - 1)}: least ${scaled(column[1])}, mean ${mean(column[3])}, greatest ${scaled(column[2])}`;
+    const [from, to] = samplesOf(card.told, column[0]), time = timeOfColumn(card.told, column), when = time && `, ${time}`;
+    text = to - from === 1 ? `sample ${count(from)}${when}: ${scaled(column[1])}`
+      : `${count(from)}–${count(to - 1)}${when}: least ${scaled(column[1])}, mean ${mean(column[3])}, greatest ${scaled(column[2])}`;
   }
   // the same text again would be read aloud again
   if (card.readout.textContent !== text) card.readout.textContent = text;

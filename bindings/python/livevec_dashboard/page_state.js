@@ -19,7 +19,25 @@ function scaled(value) {
   const bare = text.replace('-', '').padStart(digits + 1, '0');
   return grouped((text[0] === '-' ? '-' : '') + bare.slice(0, -digits) + '.' + bare.slice(-digits));
 }
-const mean = value => value === null ? 'beyond 64 bits' : grouped((value / 10 ** state.digits).toFixed(state.digits + (Math.abs(value) < 1e12 ? 3 : 0)));
+/** A mean, rounded once: before the scale is taken off it, which only moves the point. */
+function mean(value) {
+  if (value === null) return 'beyond 64 bits';
+  const [before, after] = value.toFixed(Math.abs(value) < 1e12 ? 3 : 0).split('.');
+  return scaled(before) + (after ? (state.digits ? '' : '.') + after : '');
+}
+
+// --- Times, in milliseconds since 1970, by the reader's clock and calendar ---
+
+const SECOND = 1000, DAY = 86400 * SECOND;
+const padded = (number, digits = 2) => String(number).padStart(digits, '0');
+const dayOf = time => { const at = new Date(time); return `${padded(at.getFullYear(), 4)}-${padded(at.getMonth() + 1)}-${padded(at.getDate())}`; };
+/** A time as exactly as a chart that spans so many milliseconds wants it. */
+function timeText(time, span) {
+  const at = new Date(time), minutes = `${padded(at.getHours())}:${padded(at.getMinutes())}`;
+  if (span >= 60 * DAY) return dayOf(time);
+  if (span >= DAY) return `${dayOf(time).slice(-5)} ${minutes}`;
+  return `${minutes}:${padded(at.getSeconds())}${span < 10 * SECOND ? '.' + padded(at.getMilliseconds(), 3) : ''}`;
+}
 
 // --- What stands in the address, so that a page that is loaded again shows the same ---
 
@@ -121,7 +139,8 @@ function listen() {
 
 function take(frame) {
   if (frame.stream) takeStream(frame.stream);
-  if (frame.names) { state.names.push(...frame.names); arrange(); }
+  // one by one: a call takes no more arguments than some ten thousand
+  if (frame.names) { for (const name of frame.names) state.names.push(name); arrange(); }
   for (const chart of frame.charts || []) takeChart(chart);
   for (const told of frame.watches || []) takeWatch(told);
   document.dispatchEvent(new CustomEvent('frame', { detail: frame }));

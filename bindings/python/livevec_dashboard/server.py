@@ -13,6 +13,7 @@ from __future__ import annotations
 import base64
 import hashlib
 import http.server
+import io
 import ipaddress
 import json
 import os
@@ -23,29 +24,23 @@ import socketserver
 import sys
 import threading
 import time
-from typing import Any, NamedTuple, Optional
+import traceback
+from typing import Any, Optional
 
+from .connections import MOST_BODY, Bounds, Connections, Incoming
 from .store import Store
+from .texts import shown
 from .views import BadView, Viewer, view_of
 
 FRAME = 0.1
 """So many seconds lie between two frames of a viewer at least, unless it looks elsewhere."""
 BEAT = 5.0
 """After so many seconds without a frame a viewer is told that the server is there."""
-MOST_BODY = 1 << 16
 MOST_LOOKS = 20
 """A viewer may change its view so often in a second; as many at once."""
 _BACKLOG = 1 << 16
 """So many bytes the system holds for a viewer that does not read. What it has not taken is not followed by older states, but by the latest."""
 _LOCAL = {"localhost", "127.0.0.1", "[::1]"}
-
-
-class Bounds(NamedTuple):
-    """How much a server takes: viewers, connections at once, and the seconds in which a frame is to be taken, or a part of a request to come."""
-
-    viewers: int = 32
-    connections: int = 96
-    patience: float = 20.0
 
 
 class _Guest:
@@ -78,14 +73,16 @@ class Server(http.server.ThreadingHTTPServer):
         self.page, self.policy = _page()
         self.guests: dict[str, _Guest] = {}
         self.seating = threading.Lock()
-        self._room = threading.BoundedSemaphore(bounds.connections)
+        self.connections = Connections(bounds)
         super().__init__((host, port), Handler)
-        self.local = ipaddress.ip_address(str(self.server_address[0])).is_loopback
+        bound = str(self.server_address[0])
+        self.hosts = {*_LOCAL, _in_url(host.lower()), _in_url(bound)} if ipaddress.ip_address(bound).is_loopback else None
+        """What a request may name as its host; any name where other machines reach this server."""
 
     @property
     def url(self) -> str:
         host, port = map(str, self.server_address[:2])
-        return f"http://{f'[{host}]' if ':' in host else host}:{port}/"
+        return f"http://{_in_url(host)}:{port}/"
 
     def server_bind(self) -> None:
         # the server above would ask for this machine's name too, which may take seconds
@@ -94,21 +91,19 @@ class Server(http.server.ThreadingHTTPServer):
 
     def process_request(self, request: Any, client_address: Any) -> None:
         """Gives a connection its thread, or closes it where there are too many."""
-        if not self._room.acquire(blocking=False):
-            self.shutdown_request(request)
-            return
-        super().process_request(request, client_address)
+        if self.connections.admit(request, client_address[0]):
+            super().process_request(request, client_address)
+        else:
+            super().shutdown_request(request)
 
-    def process_request_thread(self, request: Any, client_address: Any) -> None:
-        try:
-            super().process_request_thread(request, client_address)
-        finally:
-            self._room.release()
+    def shutdown_request(self, request: Any) -> None:
+        self.connections.ended(request)
+        super().shutdown_request(request)
 
     def handle_error(self, request: Any, client_address: Any) -> None:
         """A viewer that goes away in the middle is nothing to speak of; all else is told."""
         if not isinstance(sys.exc_info()[1], OSError):
-            super().handle_error(request, client_address)
+            print(*map(shown, traceback.format_exc().splitlines()), sep="\n", file=sys.stderr)
 
     def seated(self) -> Optional[str]:
         """The key of a new viewer, if there is room for one."""
@@ -132,6 +127,8 @@ class Handler(http.server.BaseHTTPRequestHandler):
     def setup(self) -> None:
         super().setup()
         self.connection.settimeout(self.server.bounds.patience)
+        self.rfile.close()
+        self.rfile = io.BufferedReader(Incoming(self.connection, self.server.bounds.request))
 
     def version_string(self) -> str:
         return "livevec-dashboard"
@@ -144,17 +141,19 @@ class Handler(http.server.BaseHTTPRequestHandler):
             self._text(403, "this host name is not served")
         elif self.path == "/":
             self._reply(200, self.server.page, "text/html; charset=utf-8", {"Content-Security-Policy": self.server.policy})
-        elif self.path == "/events":
-            self._events()
-        else:
+        elif self.path != "/events":
             self._text(404, "there is only the page, at /")
+        elif not self._from_page():
+            self._text(403, "a page of this server is wanted")
+        else:
+            self._events()
 
     def do_POST(self) -> None:
         path, _, key = self.path.partition("?")
         with self.server.seating:
             guest = self.server.guests.get(key)
         length = self.headers.get("Content-Length", "")
-        if not self._from_here() or self.headers.get_content_type() != "application/json":
+        if not self._from_here() or not self._from_page() or self.headers.get_content_type() != "application/json":
             self._text(403, "a page of this server is wanted")
         elif path != "/view" or guest is None:
             self._text(404, "there is no such viewer")
@@ -166,19 +165,29 @@ class Handler(http.server.BaseHTTPRequestHandler):
             self._look(guest, self.rfile.read(int(length)))
 
     def _look(self, guest: _Guest, body: bytes) -> None:
+        wrong = ""
         try:
             guest.viewer.look(view_of(json.loads(body)))
         except (BadView, ValueError, RecursionError) as error:
-            self._text(400, str(error) if isinstance(error, BadView) else "JSON is wanted")
+            wrong = str(error) if isinstance(error, BadView) else "JSON is wanted"
+        # this thread has done nothing else
+        self.server.store.pace.rest(time.thread_time())
+        if wrong:
+            self._text(400, wrong)
         else:
             self._reply(204, b"", "text/plain")
 
     def _from_here(self) -> bool:
-        """Whether a request is for this server, and none that a page from elsewhere makes by way of a browser of this machine."""
-        host = self.headers.get("Host", "")
-        origin = self.headers.get("Origin")
-        name = re.sub(r":[0-9]+\Z", "", host)
-        return (name in _LOCAL or not self.server.local) and origin in (None, f"http://{host}")
+        """Whether a request names this server, and was made by no script from elsewhere."""
+        host = self.headers.get("Host", "").lower()
+        is_named = self.server.hosts is None or re.sub(r":[0-9]+\Z", "", host) in self.server.hosts
+        return is_named and self.headers.get("Origin") in (None, f"http://{host}")
+
+    def _from_page(self) -> bool:
+        """Whether a request was made by the page of this server, by somebody who typed its address, or by what is no browser.
+
+        A page from elsewhere may have a browser ask for what it calls a picture, without an origin. Browsers say then that it comes from elsewhere."""
+        return self.headers.get("Sec-Fetch-Site", "none") in ("same-origin", "none")
 
     def _events(self) -> None:
         """Sends frames until the viewer is gone, or takes nothing for too long."""
@@ -203,10 +212,10 @@ class Handler(http.server.BaseHTTPRequestHandler):
             with changing:
                 changing.wait_for(lambda: self.server.store.version != seen or viewer.looked.is_set(), BEAT)
                 seen = self.server.store.version
-            frame = viewer.frame()
-            if frame:
+            sent = 0
+            for sent, frame in enumerate(viewer.frames(), start=1):
                 self._send("message", frame)
-            elif time.monotonic() - began >= BEAT:
+            if not sent and time.monotonic() - began >= BEAT:
                 self._send("beat", {})
             viewer.looked.wait(FRAME)
 
@@ -221,10 +230,16 @@ class Handler(http.server.BaseHTTPRequestHandler):
         self.wfile.write(body)
 
     def _head(self, status: int, kind: str, headers: dict[str, str]) -> None:
+        self.server.connections.heard(self.request)
         self.send_response(status)
         for name, value in {"Content-Type": kind, "Cache-Control": "no-store", "X-Content-Type-Options": "nosniff", **headers}.items():
             self.send_header(name, value)
         self.end_headers()
+
+
+def _in_url(host: str) -> str:
+    """An address as it is written in a URL."""
+    return f"[{host}]" if ":" in host else host
 
 
 # what stands in the page's style and script, in the order in which a browser reads it

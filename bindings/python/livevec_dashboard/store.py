@@ -7,16 +7,25 @@ from __future__ import annotations
 
 import threading
 from array import array
-from typing import NamedTuple, Optional
+from typing import Callable, NamedTuple, Optional, Sequence
 
-from livevec import Values, Vector
+from livevec import Vector
 
 from .lines import Told
+from .pace import Pace
+from .times import NO_TIME
 
 MOST_ELEMENTS = 1_048_568
 """A vector has room for so many. They are pushed and never popped, so its edits (16,777,215 at most) don't run out before its room."""
 
 _SPLITS = 64
+_SPLITS_OF_COLUMN = 2
+_FEW = 8
+_MANY = 150
+"""One call for many ranges lets other threads run, and then waits until it may go on, with the store's lock. For fewer ranges there is a call each."""
+_NARROW = 64
+"""More columns than a few, of so many samples at most, are computed from a copy of the samples, without a lock. Of wider ones stored aggregates answer
+sooner."""
 
 
 class Answer(NamedTuple):
@@ -33,7 +42,7 @@ class Answer(NamedTuple):
 
 
 class Column(NamedTuple):
-    """What a chart shows of the samples that stand in one column of it; `total` as in Answer."""
+    """What a chart shows of the samples in one column of it; `total` as in Answer."""
 
     least: int
     greatest: int
@@ -45,73 +54,112 @@ class Series:
 
     def __init__(self) -> None:
         self._vector = Vector()
+        # of the samples that are held, from the first on; those that lack at its end came without a time
+        self._times = array("q")
         self.first = 0
         """The first sample that is held."""
+        self.held = 0
+        """How many are held."""
 
     @property
     def end(self) -> int:
         """How many samples there were; also the number of the last edit."""
-        return self.first + len(self._vector)
+        return self.first + self.held
 
     @property
-    def held(self) -> int:
-        return len(self._vector)
+    def has_times(self) -> bool:
+        """Whether any of the samples that are held came with a time."""
+        return len(self._times) > 0
 
-    def take(self, values: array[int], keep: int, room: int) -> None:
+    def take(self, values: array[int], keep: int, room: int, times: Sequence[int] = ()) -> None:
         """Pushes samples. Where that would make more than `room`, the vector is renewed from the last `keep` of them first."""
         at = 0
         while at < len(values):
-            free = room - len(self._vector)
+            free = room - self.held
             if free <= 0:
                 self.renew(keep)
-                free = room - len(self._vector)
-            self._vector.extend(values[at:at + free])
+                free = room - self.held
+            part, before = values[at:at + free], self.held
+            self._vector.extend(part)
+            self.held += len(part)
+            if len(times) > at:
+                self._times.extend(array("q", [NO_TIME]) * (before - len(self._times)))
+                self._times.extend(times[at:at + free])
             at += free
 
     def renew(self, keep: int) -> None:
         """A new vector of the last `keep` samples takes the place of the old one."""
-        dropped = max(len(self._vector) - keep, 0)
+        dropped = max(self.held - keep, 0)
         renewed = Vector(self._vector.to_array(dropped))
         self._vector.close()
         self._vector = renewed
+        del self._times[:dropped]
         self.first += dropped
+        self.held -= dropped
 
     def last(self) -> Optional[int]:
-        return self._vector[-1] if self._vector else None
+        return self._vector[-1] if self.held else None
+
+    def time(self, sample: int) -> Optional[int]:
+        """When a sample that is held was taken, where the stream said it."""
+        at = sample - self.first
+        when = self._times[at] if at < len(self._times) else NO_TIME
+        return None if when == NO_TIME else when
 
     def answer(self, lo: int, hi: int) -> Answer:
         """The values of a range of samples, both ends of which are held."""
-        told = self._vector.ask(lo - self.first, hi - self.first)
-        total = _whole_sum(self._vector, lo - self.first, hi - self.first, told.values, [_SPLITS])
-        return Answer(self.first + told.edit, lo, hi, total, told.values.least, told.values.greatest, told.values.best)
+        start, stop = lo - self.first, hi - self.first
+        vector, edit = self._vector, self.first + self._vector.edits
+        if lo == hi:
+            return Answer(edit, lo, hi, 0, None, None, None)
+        (column,) = self._columns([(start, stop)], _SPLITS)
+        return Answer(edit, lo, hi, column.total, column.least, column.greatest, vector.best(start, stop))
 
-    def column(self, lo: int, hi: int) -> Column:
-        """The same of a range that is not empty, for a chart."""
-        values = self._vector.ask(lo - self.first, hi - self.first).values
-        assert values.least is not None and values.greatest is not None
-        return Column(values.least, values.greatest, _whole_sum(self._vector, lo - self.first, hi - self.first, values, [2]))
+    def columns(self, ranges: Sequence[tuple[int, int]]) -> Callable[[], list[Column]]:
+        """The same of the columns of a chart, none of which is empty. What it gives computes them, and needs no lock for that."""
+        if len(ranges) > _FEW and max(hi - lo for lo, hi in ranges) <= _NARROW:
+            start = min(lo for lo, _ in ranges)
+            copied = self._vector.to_array(start - self.first, max(hi for _, hi in ranges) - self.first)
+            return lambda: [_column_of(copied[lo - start:hi - start]) for lo, hi in ranges]
+        found = self._columns([(lo - self.first, hi - self.first) for lo, hi in ranges], _SPLITS_OF_COLUMN)
+        return lambda: found
+
+    def _columns(self, ranges: list[tuple[int, int]], splits: int) -> list[Column]:
+        """What the vector answers for ranges. Its sums are modulo 2**64. Where that may not be the sum, the range is asked in halves, and these again,
+        until the sums of all parts fit; where so many splits of the range aren't enough its sum is None."""
+        found = self._values(ranges)
+        totals: list[Optional[int]] = [0] * len(ranges)
+        left = [splits] * len(ranges)
+        parts = [(at, lo, hi, values) for at, ((lo, hi), values) in enumerate(zip(ranges, found))]
+        while parts:
+            unsure: list[tuple[int, int, int]] = []
+            for at, lo, hi, (total, least, greatest) in parts:
+                known = totals[at]
+                if known is None:
+                    continue
+                if (hi - lo) * max(-least, greatest) < 1 << 63:
+                    totals[at] = known + total
+                elif hi - lo == 1:
+                    totals[at] = known + least
+                elif left[at] == 0:
+                    totals[at] = None
+                else:
+                    left[at] -= 1
+                    unsure += [(at, lo, (lo + hi) // 2), (at, (lo + hi) // 2, hi)]
+            halves = self._values([(lo, hi) for _, lo, hi in unsure])
+            parts = [(*half, values) for half, values in zip(unsure, halves)]
+        return [Column(least, greatest, total) for (_, least, greatest), total in zip(found, totals)]
+
+    def _values(self, ranges: list[tuple[int, int]]) -> list[tuple[int, int, int]]:
+        """The sum modulo 2**64, the least and the greatest of each range, none of which is empty."""
+        vector = self._vector
+        if len(ranges) < _MANY:
+            return [(vector.sum(*it), vector.least(*it), vector.greatest(*it)) for it in ranges]  # type: ignore[misc]
+        return list(zip(*(vector.value_many(kind, ranges) for kind in ("sum", "least", "greatest"))))  # type: ignore[arg-type]
 
 
-def _whole_sum(vector: Vector, lo: int, hi: int, values: Values, splits: list[int]) -> Optional[int]:
-    """The sum of a range, whose values were answered, as a number without bounds, though theirs is modulo 2**64: in parts whose sums surely fit.
-
-    None where so many splits are not enough. That takes many numbers near the ends of 64 bits."""
-    if values.least is None or values.greatest is None:
-        return 0
-    if (hi - lo) * max(-values.least, values.greatest) < 1 << 63:
-        return values.sum
-    if hi - lo == 1:
-        return values.least
-    if splits[0] == 0:
-        return None
-    splits[0] -= 1
-    total = 0
-    for start, stop in ((lo, (lo + hi) // 2), ((lo + hi) // 2, hi)):
-        part = _whole_sum(vector, start, stop, vector.ask(start, stop).values, splits)
-        if part is None:
-            return None
-        total += part
-    return total
+def _column_of(samples: array[int]) -> Column:
+    return Column(min(samples), max(samples), sum(samples))
 
 
 class Status(NamedTuple):
@@ -128,17 +176,19 @@ class Status(NamedTuple):
 class Store:
     """All names. `keep` samples of each are held at least, as long as there are not more than `most_samples` in all; then each name has an equal share.
 
-    The lock `changing` is held by whoever reads or edits a series; it wakes those who wait for a change.
+    The lock `changing` is held by whoever reads or edits a series; it wakes those who wait for a change. `pace` leaves the feed most of the time.
     """
 
     def __init__(self, *, keep: int = 1_000_000, most_names: int = 1_000, most_samples: int = 10_000_000) -> None:
         self._keep, self._most_names, self._most_samples = keep, most_names, most_samples
         self.changing = threading.Condition()
+        self.pace = Pace()
         self.names: list[str] = []
         """In order of their first samples."""
         self.series: dict[str, Series] = {}
         self.version = 0
         """Grows by each change."""
+        self._held = 0
         self._state, self._lines, self._samples, self._last_bad = "starting", 0, 0, ""
         self._reasons: dict[str, int] = {}
 
@@ -149,19 +199,17 @@ class Store:
                 return False
             try:
                 self.series[name] = Series()
-                self.names.append(name)
-                self._share_out()
             except MemoryError:
-                # those that could not be cut go on with more than their share
-                pass
-            return name in self.series
+                return False
+            self.names.append(name)
+            return True
 
     def take(self, told: Told) -> None:
         """The samples of some lines, each name's at once."""
         with self.changing:
             keep, room = self._share()
             for name, values in told.samples.items():
-                self.series[name].take(array("q", values), keep, room)
+                self._push(self.series[name], array("q", values), keep, room, told.times.get(name, ()))
                 self._samples += len(values)
             self._lines += told.lines
             for why, count in told.bad.items():
@@ -187,11 +235,28 @@ class Store:
         """How many samples of a name are kept when its vector is renewed, and how many it may hold before."""
         share = self._most_samples // max(len(self.names), 1)
         keep = max(min(self._keep, share * 4 // 5), 1)
-        return keep, min(keep + keep // 4 + 1, MOST_ELEMENTS)
+        return keep, max(min(keep + keep // 4 + 1, share, MOST_ELEMENTS), keep + 1)
 
-    def _share_out(self) -> None:
-        """Cuts the series that hold more than their share, which a new name has made less."""
+    def _push(self, series: Series, values: array[int], keep: int, room: int, times: Sequence[int]) -> None:
+        """Samples of a name, and room for them: there may be too many of all names only where some hold more than the share that they have now."""
+        before = series.held
+        try:
+            series.take(values, keep, room, times)
+        finally:
+            self._held += series.held - before
+        if self._held > max(self._most_samples, 2 * len(self.names)):
+            self._cut()
+
+    def _cut(self) -> None:
+        """Cuts the series that hold more than their share, which new names have made less. It is all of them to look at, and at least a fifth of such
+        a share is free afterwards, so this happens seldom."""
         keep, room = self._share()
         for series in self.series.values():
             if series.held > room:
-                series.renew(keep)
+                before = series.held
+                try:
+                    series.renew(keep)
+                except MemoryError:
+                    # it goes on with more than its share
+                    return
+                self._held += series.held - before

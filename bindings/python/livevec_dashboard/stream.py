@@ -2,6 +2,7 @@
 from __future__ import annotations
 
 import os
+import select
 import stat
 import threading
 from typing import Callable, Iterator, Optional
@@ -33,11 +34,18 @@ class Feed(threading.Thread):
             self.store.says(f"ended: {error.strerror}")
         else:
             self.store.says("ended")
+        finally:
+            self._waits()
+
+    def _waits(self) -> None:
+        """There is nothing to read at the moment."""
+        self.store.pace.feed_has_more = False
 
     def _read(self) -> None:
         self.store.says("reading")
-        blocks: Iterator[Optional[bytes]] = _rest(0) if self.path == "-" else followed(self.path, self._ended, self.store.says)
+        blocks: Iterator[Optional[bytes]] = _rest(0, self._waits) if self.path == "-" else followed(self.path, self._ended, self.store.says, self._waits)
         for block in blocks:
+            self.store.pace.feed_has_more = True
             if block is None:
                 self._keep(self.lines.end())
                 self.lines.restart()
@@ -57,25 +65,26 @@ class Feed(threading.Thread):
             self._short = True
 
 
-def followed(path: str, ended: threading.Event, says: Callable[[str], None]) -> Iterator[Optional[bytes]]:
-    """The bytes of a file from its start on, for ever. None stands where another file begins under the name, or the same one anew.
+def followed(path: str, ended: threading.Event, says: Callable[[str], None], waits: Callable[[], None] = lambda: None) -> Iterator[Optional[bytes]]:
+    """The bytes of a file from its start on, for ever. None comes where another file begins under the name, or the same one anew.
 
-    `says` is told in a word or two what the file is up to."""
+    `says` is called with a word or two for what the file is up to, and `waits` before a time without bytes."""
     file: Optional[int] = None
     at = 0
     while not ended.is_set():
         if file is None:
             file, at = _opened(path, says), 0
             if file is None:
+                waits()
                 ended.wait(POLL)
                 continue
-        block = os.read(file, BLOCK)
+        block = _block(file, waits)
         if block:
             at += len(block)
             yield block
         elif _replaced(file, path):
             # the writer may have gone on between our last read and the renaming
-            yield from _rest(file)
+            yield from _rest(file, waits)
             os.close(file)
             file = None
             yield None
@@ -83,18 +92,26 @@ def followed(path: str, ended: threading.Event, says: Callable[[str], None]) -> 
             at = os.lseek(file, 0, os.SEEK_SET)
             yield None
         else:
+            waits()
             ended.wait(POLL)
     if file is not None:
         os.close(file)
 
 
-def _rest(file: int) -> Iterator[bytes]:
+def _rest(file: int, waits: Callable[[], None]) -> Iterator[bytes]:
     """What is read of a file up to its end; standard input is file 0."""
     while True:
-        block = os.read(file, BLOCK)
+        block = _block(file, waits)
         if not block:
             return
         yield block
+
+
+def _block(file: int, waits: Callable[[], None]) -> bytes:
+    """The next bytes of a file, none at its end."""
+    if not select.select([file], [], [], 0)[0]:
+        waits()
+    return os.read(file, BLOCK)
 
 
 def _opened(path: str, says: Callable[[str], None]) -> Optional[int]:

@@ -6,13 +6,15 @@ columns at the two ends of a range that moves are asked again.
 from __future__ import annotations
 
 import threading
-from typing import Any, NamedTuple, Optional
+from typing import Any, Iterator, NamedTuple, Optional
 
-from .store import MOST_ELEMENTS, Answer, Series, Status, Store
+from .pace import Work
+from .store import MOST_ELEMENTS, Answer, Column, Series, Status, Store
 
 MOST_CHARTS, MOST_COLUMNS, MOST_WATCHES = 24, 2_000, 32
 KINDS = ("sum", "mean", "least", "greatest", "best")
 _MOST_SAMPLE = 1 << 53
+_TICKS = 4
 
 
 class BadView(ValueError):
@@ -76,7 +78,7 @@ class _Shown(NamedTuple):
 
 
 class Viewer:
-    """A page that is open. `frame` is called by the one thread that sends to it, `look` by those that hear from it."""
+    """A page that is open. `frames` is called by the one thread that sends to it, `look` by those that hear from it."""
 
     def __init__(self, store: Store, digits: int) -> None:
         self._store, self._digits = store, digits
@@ -85,6 +87,7 @@ class Viewer:
         self._status: Optional[Status] = None
         self._shown: dict[str, _Shown] = {}
         self._told: dict[Watch, Any] = {}
+        self._work = Work(store.pace)
         self.looked = threading.Event()
         """Set where the view is another one since the last frame."""
 
@@ -95,16 +98,37 @@ class Viewer:
             self.looked.set()
             self._store.changing.notify_all()
 
-    def frame(self) -> dict[str, Any]:
-        """What has changed since the last frame, as it is now. Nothing that came between is kept for a viewer that is slow."""
+    def frames(self) -> Iterator[dict[str, Any]]:
+        """What has changed since the last ones: how the stream does, then a frame a chart, then the standing queries, each as it is when it is made.
+
+        Nothing that came between is kept for a viewer that is slow. One thread makes them and sends them, and sleeps in between for the feed's sake."""
         self.looked.clear()
-        view, made = self._view, {}
-        made.update(self._stream())
+        self._work.begin()
+        view = self._view
         self._shown = {name: shown for name, shown in self._shown.items() if any(chart.name == name for chart in view.charts)}
         self._told = {watch: told for watch, told in self._told.items() if watch in view.watches}
-        charts = [it for it in map(self._chart, view.charts) if it]
-        watches = [it for it in map(self._watch, view.watches) if it]
-        return {**made, **({"charts": charts} if charts else {}), **({"watches": watches} if watches else {})}
+        stream = self._stream()
+        if stream:
+            yield stream
+        for chart in view.charts:
+            shown = self._chart(chart)
+            if shown:
+                yield {"charts": [shown]}
+            self._work.pause()
+        watches = []
+        for watch in view.watches:
+            watches += [it for it in (self._watch(watch),) if it]
+            self._work.pause()
+        if watches:
+            yield {"watches": watches}
+        self._work.pause()
+
+    def frame(self) -> dict[str, Any]:
+        """The same as one."""
+        made: dict[str, Any] = {}
+        for frame in self.frames():
+            made.update({**frame, **({"charts": made.get("charts", []) + frame["charts"]} if "charts" in frame else {})})
+        return made
 
     def _stream(self) -> dict[str, Any]:
         made: dict[str, Any] = {}
@@ -125,17 +149,19 @@ class Viewer:
             if series is None:
                 return None
             lo, hi = chart.span.within(series)
-            width = width_of(chart.span.length(series), chart.columns)
+            start, length = chart.span.lo if chart.span.last is None else max(lo, hi - chart.span.last), chart.span.length(series)
+            width = width_of(length, chart.columns)
             before, now = self._shown.get(chart.name), _Shown(chart, width, lo, hi)
             if before == now:
                 return None
             self._shown[chart.name] = now
             anew, numbers = changed_columns(before, now)
-            columns = [_column(series, number, now) for number in numbers]
-            made = {"name": chart.name, "lo": lo, "hi": hi, "start": chart.span.lo if chart.span.last is None else max(lo, hi - chart.span.last),
-                    "length": chart.span.length(series), "first": series.first, "end": series.end, "width": width, "anew": anew, "columns": columns}
+            ranges = [(max(number * width, lo), min((number + 1) * width, hi)) for number in numbers]
+            columns, when = series.columns(ranges), [series.time(lo) for lo, _ in ranges] if series.has_times else None
+            made = {"name": chart.name, "lo": lo, "hi": hi, "start": start, "length": length, "first": series.first, "end": series.end, "width": width,
+                    "anew": anew, **_times(series, now, start, length)}
             answer, last = series.answer(lo, hi), series.last()
-        return {**made, "edit": answer.edit, "now": spelt(last, self._digits), "numbers": {kind: self._value(answer, kind) for kind in KINDS}}
+        return {**made, "columns": _columns(numbers, ranges, columns(), when), "edit": answer.edit, "now": spelt(last, self._digits), "numbers": {kind: self._value(answer, kind) for kind in KINDS}}
 
     def _watch(self, watch: Watch) -> Optional[dict[str, Any]]:
         with self._store.changing:
@@ -180,11 +206,24 @@ def changed_columns(before: Optional[_Shown], now: _Shown) -> tuple[bool, list[i
     return False, ([first] if now.lo != before.lo and first not in changed else []) + list(changed)
 
 
-def _column(series: Series, number: int, shown: _Shown) -> list[Any]:
-    """A column as the page takes it: its number, the least, the greatest and the mean, which is None where the sum is not known."""
-    lo, hi = max(number * shown.width, shown.lo), min((number + 1) * shown.width, shown.hi)
-    column = series.column(lo, hi)
-    return [number, _exact(column.least), _exact(column.greatest), None if column.total is None else column.total / (hi - lo)]
+def _columns(numbers: list[int], ranges: list[tuple[int, int]], columns: list[Column], when: Optional[list[Optional[int]]]) -> list[list[Any]]:
+    """Columns as the page takes them: the number, the least, the greatest and the mean, which is None where the sum is not known. Where the stream
+    has times, that of the first sample follows, or None."""
+    made: list[list[Any]] = [[number, _exact(column.least), _exact(column.greatest), None if column.total is None else column.total / (hi - lo)]
+                             for number, (lo, hi), column in zip(numbers, ranges, columns)]
+    if when is not None:
+        for shown, time in zip(made, when):
+            shown.append(time)
+    return made
+
+
+def _times(series: Series, shown: _Shown, start: int, length: int) -> dict[str, Any]:
+    """The times of a chart's first and last sample, and of those at its quarters, where the stream has times; None where a sample has none."""
+    if not series.has_times or shown.lo == shown.hi:
+        return {}
+    ticks = [*(start + length * part // _TICKS for part in range(_TICKS)), start + length - 1]
+    return {"times": {"from": series.time(shown.lo), "to": series.time(shown.hi - 1),
+                      "ticks": [series.time(at) if shown.lo <= at < shown.hi else None for at in ticks]}}
 
 
 def _exact(value: int) -> Any:
