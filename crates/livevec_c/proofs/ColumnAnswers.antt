@@ -8,8 +8,9 @@ use Rattle.lv_bodies.specs.Body.{CanFold, Operations, fold_of}
 use Rattle.lv_edits.specs.History.{list_of}
 use Rattle.lv_edits.specs.Kept.{IsLegalInLimits}
 use Rattle.lv_edits.proofs.Slices.{length-slice_range}
+use Rattle.lv_edits.specs.Ranges.{range_refusal, slice_of}
 use Rattle.lv_known.proofs.FoldableLaws.{can_fold, part_can_fold}
-use Rattle.lv_reduce.specs.Answer.{range_refusal, scan_of, slice_of}
+use Rattle.lv_reduce.specs.Answer.{scan_of}
 use Rattle.livevec_c.specs.Behind.{State}
 use Rattle.livevec_c.specs.Cells.{column_of}
 use Rattle.livevec_c.specs.Columns.{column_after, filled}

@@ -12,10 +12,10 @@ use Rattle.lv_bodies.specs.declared.kinds.Kind.TheVariants.{Sum, Least, Greatest
 use Rattle.lv_bodies.specs.declared.kinds.Shown.{Shown}
 use Rattle.lv_bodies.proofs.SixFolds.{face_of-fold}
 use Rattle.lv_edits.specs.Kept.{IsLegalInLimits}
-use Rattle.lv_reduce.specs.Answer.{range_refusal, slice_of}
-use Rattle.lv_kinds.specs.declared.kinds.KindAnswer.{KindAnswer}
-use Rattle.lv_kinds.specs.Asked.{IsKindAnswer}
-use Rattle.lv_kinds.specs.KindSummaries.{part_of, shown_of}
+use Rattle.lv_edits.specs.Ranges.{range_refusal, slice_of}
+use Rattle.lv_tree.specs.declared.kinds.KindAnswer.{KindAnswer}
+use Rattle.lv_tree.specs.Asked.{IsKindAnswer}
+use Rattle.lv_tree.specs.KindSummaries.{part_of, shown_of}
 use Rattle.livevec_c.specs.declared.results.Reduced.{Reduced}
 use Rattle.livevec_c.specs.Answers.{detail_of, unreduced}
 use Rattle.livevec_c.specs.Behind.{State}

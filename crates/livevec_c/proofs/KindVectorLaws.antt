@@ -17,7 +17,7 @@ use Rattle.lv_edits.specs.Kept.{IsLegalInLimits}
 use Rattle.lv_edits.specs.Verdict.{verdict_of}
 use Rattle.lv_edits.proofs.HistoryLaws.{accepted_is_possible, list_of-snoc, not_refused, unrefused_push}
 use Rattle.lv_live.specs.State.{LiveState}
-use Rattle.lv_kinds.specs.Kinds.{AreReady, KindsState}
+use Rattle.lv_tree.specs.Kinds.{AreReady, KindsState}
 use Rattle.livevec_c.specs.KindVectors.{IsKindVector, before_last, most_after}
 
 -- the list after a possible edit is no longer than what room is made for

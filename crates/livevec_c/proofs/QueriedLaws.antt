@@ -9,10 +9,10 @@ use Rattle.lv_bodies.specs.declared.kinds.Shown.{Shown}
 use Rattle.lv_bodies.proofs.SixFolds.{face_of-fold}
 use Rattle.lv_edits.specs.History.{list_of}
 use Rattle.lv_edits.specs.Kept.{IsLegalInLimits}
-use Rattle.lv_reduce.specs.Answer.{slice_of}
-use Rattle.lv_kinds.specs.declared.kinds.KindAnswer.{KindAnswer}
-use Rattle.lv_kinds.specs.Asked.{IsKindAnswer}
-use Rattle.lv_kinds.specs.KindSummaries.{shown_of}
+use Rattle.lv_edits.specs.Ranges.{slice_of}
+use Rattle.lv_tree.specs.declared.kinds.KindAnswer.{KindAnswer}
+use Rattle.lv_tree.specs.Asked.{IsKindAnswer}
+use Rattle.lv_tree.specs.KindSummaries.{shown_of}
 use Rattle.lv_standing.proofs.RangeLaws.{range_cut}
 use Rattle.livevec_c.specs.declared.questions.Question.{Question}
 use Rattle.livevec_c.specs.Behind.{State}

@@ -10,8 +10,9 @@ use Rattle.lv_edits.specs.declared.receipt.Receipt.{Receipt}
 use Rattle.lv_edits.specs.Capacity.{capacity_after}
 use Rattle.lv_edits.specs.History.{list_of}
 use Rattle.lv_edits.specs.Verdict.{Answers, element_at, verdict_of}
+use Rattle.lv_edits.specs.Ranges.{range_refusal}
 use Rattle.lv_reduce.specs.declared.reductions.Answer.{Answer}
-use Rattle.lv_reduce.specs.Answer.{IsAnswer, range_refusal}
+use Rattle.lv_reduce.specs.Answer.{IsAnswer}
 use Rattle.lv_live.specs.Step.{Reduces as ReducesAt}
 use Rattle.lv_edits.specs.Kept.{IsLegalInLimits}
 use Rattle.lv_live.specs.State.{LiveState, recorded, SameLive, SameRefresh}

@@ -4,7 +4,7 @@ use Rattle.lv_geometry.specs.Numbers.{number_of}
 use Rattle.lv_geometry.specs.declared.refusals.Refusal.{Refusal}
 use Rattle.lv_bodies.specs.Automata.{table_of}
 use Rattle.lv_bodies.specs.declared.kinds.Kind.{Kind}
-use Rattle.lv_reduce.specs.Answer.{range_refusal, slice_of}
+use Rattle.lv_edits.specs.Ranges.{range_refusal, slice_of}
 use Rattle.livevec_c.specs.declared.columns.Scanned.{Scanned}
 use Rattle.livevec_c.specs.declared.objects.Object.{Object}
 use Rattle.livevec_c.specs.declared.objects.Object.TheVariants.{Vector}

@@ -5,7 +5,7 @@ use Rattle.lv_geometry.specs.declared.refusals.Refusal.{Refusal}
 use Rattle.lv_bodies.specs.declared.kinds.Kind.{Kind}
 use Rattle.lv_bodies.specs.declared.kinds.Kind.TheVariants as kinds
 use Rattle.lv_edits.specs.History.{list_of}
-use Rattle.lv_reduce.specs.Answer.{range_refusal}
+use Rattle.lv_edits.specs.Ranges.{range_refusal}
 use Rattle.lv_where.specs.Where.{IsEndReached, IsPlaceOfBest, IsPlaceOfGreatest, IsPlaceOfLeast}
 use Rattle.lv_where.specs.declared.placing.Placed.{Placed}
 use Rattle.lv_where.specs.declared.placing.Run.{Run}

@@ -8,7 +8,7 @@ use Rattle.lv_edits.specs.declared.edit.Edit.{Edit}
 use Rattle.lv_edits.specs.declared.edit.Edit.TheVariants.{Push}
 use Rattle.lv_edits.specs.History.{History}
 use Rattle.lv_live.specs.State.{LiveState}
-use Rattle.lv_kinds.specs.Kinds.{AreReady, KindsState}
+use Rattle.lv_tree.specs.Kinds.{AreReady, KindsState}
 
 -- the limits are the live vector's, what is kept by kind is right for it, and there is room for all that it may be asked
 pub record IsKindVector (limits : Bounds) (live : LiveState SixByTable SixSummary) (kinds : KindsState) : Type 0 where

@@ -4,7 +4,7 @@ use Rattle.lv_geometry.specs.Numbers.{number_of}
 use Rattle.lv_geometry.specs.declared.refusals.Refusal.{Refusal}
 use Rattle.lv_bodies.specs.Automata.{table_of}
 use Rattle.lv_bodies.specs.declared.kinds.Kind.{Kind}
-use Rattle.lv_reduce.specs.Answer.{range_refusal, slice_of}
+use Rattle.lv_edits.specs.Ranges.{range_refusal, slice_of}
 use Rattle.lv_shards.specs.Bytes.{bytes_of, version_of}
 use Rattle.lv_shards.specs.Summaries.{IsPossible, IsSummaryOf, Summary, empty_of, join_of, leads_of, rows_of}
 use Rattle.lv_shards.specs.declared.refusals.JoinRefusal.{JoinRefusal}

@@ -6,7 +6,7 @@ use Rattle.lv_bodies.specs.Automata.{table_of}
 use Rattle.lv_bodies.specs.Plain.{plain_value_with}
 use Rattle.lv_bodies.specs.declared.kinds.Kind.{Kind}
 use Rattle.lv_bodies.specs.declared.kinds.Shown.{Shown}
-use Rattle.lv_reduce.specs.Answer.{range_refusal, slice_of}
+use Rattle.lv_edits.specs.Ranges.{range_refusal, slice_of}
 use Rattle.livevec_c.specs.declared.objects.Object.{Object}
 use Rattle.livevec_c.specs.declared.objects.Object.TheVariants.{Vector}
 use Rattle.livevec_c.specs.declared.results.Reduced.{Reduced}

@@ -1,7 +1,8 @@
 //! Scans of a range, written into a column of the caller's: how one is laid, and when it is refused.
 ghost use Rattle.std.specs.Prelude.{◌≡◌, ◌+◌, ◌-◌, ◌≤◌, ◌++◌, None, Some, drop, length, map, take};
 ghost use Rattle.lv_edits.specs.History.{list_of};
-ghost use Rattle.lv_reduce.specs.Answer.{scan_of, slice_of};
+ghost use Rattle.lv_edits.specs.Ranges.{slice_of};
+ghost use Rattle.lv_reduce.specs.Answer.{scan_of};
 ghost use Rattle.lv_reduce.specs.Running.{CanGoOn, reached, scan_from};
 ghost use Rattle.livevec_c.specs.Columns.{filled, filled_asked, filled_behind, object_filled, object_scanned, scanned, scanned_asked, scanned_behind, unscanned};
 
@@ -11,9 +12,9 @@ use crate::only::may_ask;
 use crate::results::{BAD_KIND, NO_HANDLE, SHORT_BUFFER, detail};
 use crate::slots::{Slot, put, take};
 use lv_bodies::{Kind, SixByTable, fold_more};
-use lv_edits::Edits;
+use lv_edits::{Edits, refusal_of};
 use lv_live::Live;
-use lv_reduce::{refusal_of, run_at};
+use lv_reduce::run_at;
 use std::alloc::Global;
 
 /// What a scan answers.

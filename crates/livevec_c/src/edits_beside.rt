@@ -6,14 +6,14 @@ ghost use Rattle.lv_edits.specs.History.{History, list_of, with_edit};
 ghost use Rattle.lv_edits.specs.Kept.{IsLegalInLimits};
 ghost use Rattle.lv_edits.specs.Verdict.{Answers, receipt_of, verdict_of};
 ghost use Rattle.lv_live.specs.State.{SameRefresh};
-ghost use Rattle.lv_kinds.specs.Kinds.{AreKept, AreReady, HaveRoomFor, KeepsAlike};
+ghost use Rattle.lv_tree.specs.Kinds.{AreKept, AreReady, HaveRoomFor, KeepsAlike};
 ghost use Rattle.livevec_c.specs.KindVectors.{most_after};
 
 use lv_bodies::SixByTable;
 use lv_edits::{Edit, Receipt};
 use lv_geometry::Refusal;
-use lv_kinds::Kinds;
 use lv_live::Live;
+use lv_tree::Kinds;
 
 // Makes room for all that may be asked after an edit of a vector of this size, for which there is room: a push alone needs more.
 #[inline(always)]

@@ -4,7 +4,7 @@ ghost use Rattle.lv_bodies.specs.Automata.{table_of};
 ghost use Rattle.lv_edits.specs.Kept.{IsLegalInLimits};
 ghost use Rattle.lv_edits.specs.Pushes.{AnswersAll};
 ghost use Rattle.lv_live.specs.State.{SameRefresh};
-ghost use Rattle.lv_kinds.specs.Kinds.{AreReady};
+ghost use Rattle.lv_tree.specs.Kinds.{AreReady};
 ghost use Rattle.livevec_c.specs.Pushed.{Pushes, PushesObject, pushed_by, unpushed};
 
 use crate::objects::Object;
@@ -12,8 +12,8 @@ use crate::results::{NO_HANDLE, detail};
 use crate::slots::{Slot, put, take};
 use lv_bodies::SixByTable;
 use lv_geometry::Refusal;
-use lv_kinds::Kinds;
 use lv_live::Live;
+use lv_tree::Kinds;
 use std::alloc::Global;
 
 /// What many pushes answer.

@@ -1,7 +1,7 @@
 //! Summaries that travel, which C has as their bytes.
 ghost use Rattle.std.specs.Prelude.{◌≡◌, Ok, take, min};
 ghost use Rattle.lv_bodies.specs.Plain.{program_table};
-ghost use Rattle.lv_reduce.specs.Answer.{range_refusal};
+ghost use Rattle.lv_edits.specs.Ranges.{range_refusal};
 ghost use Rattle.lv_shards.specs.Summaries.{empty_of, leads_of};
 ghost use Rattle.livevec_c.specs.Summed.{Extends, ExtendsRead, IsEmptyBy, Joins, JoinsWith, OpensBytes, Reads, Sums, SumsBy, SumsObject, SumsRange, joined_answer, opened_by, summarised, unread, unsummarised};
 

@@ -4,7 +4,7 @@ ghost use Rattle.lv_bodies.specs.Automata.{table_of};
 ghost use Rattle.lv_edits.specs.Batches.{AnswersEdits, writes_at};
 ghost use Rattle.lv_edits.specs.Kept.{IsLegalInLimits};
 ghost use Rattle.lv_live.specs.State.{SameRefresh};
-ghost use Rattle.lv_kinds.specs.Kinds.{AreReady};
+ghost use Rattle.lv_tree.specs.Kinds.{AreReady};
 ghost use Rattle.livevec_c.specs.Written.{Writes, WritesObject, WritesVector, place_refused, unwritten};
 
 use crate::kind_vectors::KindVector;
@@ -13,8 +13,8 @@ use crate::results::{NO_HANDLE, SHORT_BUFFER, detail};
 use crate::slots::{Slot, put, take};
 use lv_bodies::SixByTable;
 use lv_geometry::Refusal;
-use lv_kinds::Kinds;
 use lv_live::Live;
+use lv_tree::Kinds;
 use std::alloc::Global;
 
 /// What many writes answer.

@@ -20,8 +20,8 @@ use Rattle.lv_edits.specs.declared.receipt.Receipt.{Receipt}
 use Rattle.lv_edits.specs.History.{list_of}
 use Rattle.lv_edits.specs.Touch.{is_whole}
 use Rattle.lv_edits.specs.Verdict.{element_at, receipt_of, verdict_of}
+use Rattle.lv_edits.specs.Ranges.{range_refusal, slice_of}
 use Rattle.lv_reduce.specs.declared.reductions.Answer.{Answer}
-use Rattle.lv_reduce.specs.Answer.{range_refusal, slice_of}
 use Rattle.lv_machine.specs.declared.entries.Entry.{Entry}
 use Rattle.lv_machine.specs.declared.events.Call.{Call}
 use Rattle.lv_machine.specs.declared.events.Call.TheVariants as call

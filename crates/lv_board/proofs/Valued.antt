@@ -5,11 +5,11 @@ use Rattle.std.proofs.lemmas.List.Elements.{All-take, All-drop}
 use Rattle.lv_geometry.specs.Elements.{IsElement}
 use Rattle.lv_bodies.specs.declared.kinds.Shown.{Shown}
 use Rattle.lv_bodies.specs.Body.{CanFold, fold_of, Operations}
+use Rattle.lv_edits.specs.Ranges.{slice_of}
 use Rattle.lv_machine.specs.declared.entries.Entry.{Entry}
 use Rattle.lv_machine.specs.History.{edits_of, elements_of, IsLegalHistory}
 use Rattle.lv_machine.specs.Terms.{AreTerms, Terms}
 use Rattle.lv_machine.proofs.HistoryLaws.{legal_within}
-use Rattle.lv_reduce.specs.Answer.{slice_of}
 use Rattle.lv_reduce.specs.declared.reductions.Answer.{Answer}
 use Rattle.lv_board.specs.Calls.{IsRangeAnswer}
 

@@ -15,7 +15,7 @@ use Rattle.lv_edits.specs.declared.edit.Edit.{Edit}
 use Rattle.lv_edits.specs.History.{list_of}
 use Rattle.lv_edits.specs.Touch.{elements_under, is_whole}
 use Rattle.lv_edits.proofs.TouchLaws.{elements_under-length}
-use Rattle.lv_reduce.specs.Answer.{range_refusal}
+use Rattle.lv_edits.specs.Ranges.{range_refusal}
 use Rattle.lv_reduce.proofs.PieceLaws.{slice-joined, slice-within, slices_can_join}
 use Rattle.lv_reduce.proofs.ScanLaws.{fold_of-slice-more}
 use Rattle.lv_machine.specs.declared.entries.Entry.{Entry}

@@ -7,13 +7,13 @@ use Rattle.lv_edits.specs.declared.edit.Edit.TheVariants.{Pop, Write}
 use Rattle.lv_edits.specs.declared.receipt.Receipt.{Receipt}
 use Rattle.lv_edits.specs.Touch.{elements_under, is_whole}
 use Rattle.lv_edits.specs.Verdict.{element_at, receipt_of, verdict_of}
+use Rattle.lv_edits.specs.Ranges.{range_refusal, slice_of}
 use Rattle.lv_machine.specs.declared.entries.Entry.{Entry}
 use Rattle.lv_machine.specs.declared.outcomes.Read.{Read}
 use Rattle.lv_machine.specs.declared.outcomes.Refreshed.{Refreshed}
 use Rattle.lv_machine.specs.Layout.{part_place}
 use Rattle.lv_machine.specs.Shows.{block, mark_of}
 use Rattle.lv_machine.specs.Words.{part_word}
-use Rattle.lv_reduce.specs.Answer.{range_refusal, slice_of}
 use Rattle.lv_reduce.specs.declared.reductions.Answer.{Answer}
 use Rattle.lv_machine.specs.History.{edits_of, elements_of, Ends, IsLegalHistory, own}
 use Rattle.lv_machine.specs.Terms.{Terms}

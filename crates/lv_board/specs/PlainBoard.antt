@@ -10,6 +10,7 @@ use Rattle.lv_edits.specs.declared.edit.Edit.{Edit}
 use Rattle.lv_edits.specs.declared.edit.Edit.TheVariants as edit
 use Rattle.lv_edits.specs.Touch.{is_whole}
 use Rattle.lv_edits.specs.Verdict.{element_at, receipt_of, verdict_of}
+use Rattle.lv_edits.specs.Ranges.{range_refusal, slice_of}
 use Rattle.lv_machine.specs.declared.entries.Entry.{Entry}
 use Rattle.lv_machine.specs.declared.events.Call.{Call}
 use Rattle.lv_machine.specs.declared.events.Call.TheVariants.{Push, Pop, Write, Get, Size, Reduce, Refresh}
@@ -17,7 +18,6 @@ use Rattle.lv_machine.specs.History.{edits_of, elements_of, Ends, own}
 use Rattle.lv_machine.specs.Calls.{is_short}
 use Rattle.lv_machine.specs.Shows.{block, mark_of}
 use Rattle.lv_lines.specs.Texts.{answer_text, bad_text, element_text, fresh_text, receipt_text, refused_text, size_text}
-use Rattle.lv_reduce.specs.Answer.{range_refusal, slice_of}
 use Rattle.lv_script.specs.declared.board_lines.BoardLine.{BoardLine}
 use Rattle.lv_script.specs.declared.board_lines.BoardLine.TheVariants.{Nothing, Bad, Do}
 use Rattle.lv_script.specs.BoardLine.{board_line_of}

@@ -5,5 +5,6 @@ pub mod History
 pub mod Inner
 pub mod Kept
 pub mod Pushes
+pub mod Ranges
 pub mod Touch
 pub mod Verdict

@@ -11,6 +11,7 @@ mod journals;
 mod logs;
 mod making;
 mod pushing;
+mod ranges;
 mod receipt;
 mod writing;
 
@@ -18,4 +19,5 @@ pub use edit::Edit;
 pub use edits::Edits;
 pub use journals::{Erased, Journal, Kept};
 pub use logs::Log;
+pub use ranges::refusal_of;
 pub use receipt::Receipt;

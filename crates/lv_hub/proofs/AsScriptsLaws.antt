@@ -6,7 +6,7 @@ use Rattle.lv_geometry.specs.Bounds.{Bounds}
 use Rattle.lv_geometry.specs.declared.refusals.Refusal.{Refusal}
 use Rattle.lv_edits.specs.declared.edit.Edit.{Edit}
 use Rattle.lv_edits.specs.Verdict.{receipt_of, verdict_of}
-use Rattle.lv_reduce.specs.Answer.{range_refusal}
+use Rattle.lv_edits.specs.Ranges.{range_refusal}
 use Rattle.lv_lines.specs.declared.command.Command.{Command}
 use Rattle.lv_lines.specs.declared.command.Command.TheVariants as command
 use Rattle.lv_lines.specs.declared.command.Line.{Line}

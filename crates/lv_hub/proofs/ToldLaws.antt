@@ -10,13 +10,14 @@ use Rattle.lv_edits.specs.declared.receipt.Receipt.{Receipt}
 use Rattle.lv_edits.specs.History.{History}
 use Rattle.lv_edits.specs.Kept.{IsLegalInLimits}
 use Rattle.lv_edits.specs.Verdict.{Answers}
+use Rattle.lv_edits.specs.Ranges.{range_refusal}
 use Rattle.lv_summary.specs.declared.accepted.Accepted.{Accepted}
 use Rattle.lv_refresh.specs.Carried.{Carried}
 use Rattle.lv_refresh.specs.Claim.{IsNextJob}
 use Rattle.lv_refresh.specs.Honesty.{IsHonest}
 use Rattle.lv_refresh.specs.Record.{Record, is_fresh}
 use Rattle.lv_reduce.specs.declared.reductions.Answer.{Answer}
-use Rattle.lv_reduce.specs.Answer.{IsAnswer, IsScanRefusal, range_refusal}
+use Rattle.lv_reduce.specs.Answer.{IsAnswer, IsScanRefusal}
 use Rattle.lv_reduce.specs.Cost.{IsCost}
 use Rattle.lv_reduce.specs.Stretch.{IsStretch, StretchState}
 use Rattle.lv_live.specs.Kept.{IsLive}

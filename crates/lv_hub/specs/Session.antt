@@ -6,7 +6,7 @@ use Rattle.lv_bodies.specs.declared.kinds.Kind.{Kind}
 use Rattle.lv_bodies.specs.Plain.{plain_value}
 use Rattle.lv_edits.specs.declared.edit.Edit.{Edit}
 use Rattle.lv_edits.specs.Kept.{IsLegalInLimits}
-use Rattle.lv_reduce.specs.Answer.{slice_of}
+use Rattle.lv_edits.specs.Ranges.{slice_of}
 use Rattle.lv_lines.specs.declared.command.Command.TheVariants.{Reduce}
 use Rattle.lv_lines.specs.declared.command.Line.{Line}
 use Rattle.lv_lines.specs.declared.command.Line.TheVariants.{Do}

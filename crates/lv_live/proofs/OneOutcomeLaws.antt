@@ -11,11 +11,11 @@ use Rattle.lv_edits.specs.declared.edit.Edit.{Edit}
 use Rattle.lv_edits.specs.declared.receipt.Receipt.{Receipt}
 use Rattle.lv_edits.specs.Touch.{touched_by}
 use Rattle.lv_edits.specs.Verdict.{IsRefusal, verdict_of}
+use Rattle.lv_edits.specs.Ranges.{range_refusal}
 use Rattle.lv_refresh.specs.Claim.{Before, IsNextJob, wants_job}
 use Rattle.lv_refresh.specs.Record.{Record, SameRecord}
 use Rattle.lv_reduce.specs.declared.reductions.Answer.{Answer}
 use Rattle.lv_reduce.specs.declared.scans.Scan.{Scan}
-use Rattle.lv_reduce.specs.Answer.{range_refusal}
 use Rattle.lv_live.specs.declared.events.Event.{Event}
 use Rattle.lv_live.specs.declared.events.Event.TheVariants as event
 use Rattle.lv_live.specs.declared.replies.Reply.{Reply}

@@ -3,13 +3,14 @@ use Rattle.std.proofs.Common.{◌≡◌, ℕ, Some, Result, Ok, Err, IfOk, IfErr
 use Rattle.lv_geometry.specs.declared.refusals.Refusal.{Refusal}
 use Rattle.lv_bodies.specs.Body.{Operations}
 use Rattle.lv_edits.specs.declared.edit.Edit.{Edit}
+use Rattle.lv_edits.specs.Ranges.{range_refusal}
 use Rattle.lv_known.specs.Agrees.{Agrees}
 use Rattle.lv_summary.specs.Table.{Table, fresh_in}
 use Rattle.lv_refresh.specs.ClaimTable.{ClaimTable, record_of}
 use Rattle.lv_refresh.specs.Record.{is_fresh}
 use Rattle.lv_reduce.specs.declared.costs.Reads.{Reads}
 use Rattle.lv_reduce.specs.declared.reductions.Answer.{Answer}
-use Rattle.lv_reduce.specs.Answer.{IsAnswer, range_refusal}
+use Rattle.lv_reduce.specs.Answer.{IsAnswer}
 use Rattle.lv_reduce.specs.Cost.{IsCost, IsFew}
 use Rattle.lv_refresh.proofs.RecordLaws.{fresh_agrees}
 use Rattle.lv_live.specs.Step.{Costs, Reduces}

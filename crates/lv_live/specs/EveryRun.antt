@@ -6,9 +6,10 @@ use Rattle.lv_bodies.specs.Body.{Operations}
 use Rattle.lv_edits.specs.declared.edit.Edit.{Edit}
 use Rattle.lv_edits.specs.declared.receipt.Receipt.{Receipt}
 use Rattle.lv_edits.specs.Verdict.{receipt_of}
+use Rattle.lv_edits.specs.Ranges.{slice_of}
 use Rattle.lv_reduce.specs.declared.reductions.Answer.{Answer}
 use Rattle.lv_reduce.specs.declared.scans.Scan.{Scan}
-use Rattle.lv_reduce.specs.Answer.{IsAnswer, IsScan, scan_of, slice_of}
+use Rattle.lv_reduce.specs.Answer.{IsAnswer, IsScan, scan_of}
 use Rattle.lv_live.specs.declared.events.Event.{Event}
 use Rattle.lv_live.specs.declared.events.Event.TheVariants as event
 use Rattle.lv_live.specs.declared.replies.Reply.{Reply}

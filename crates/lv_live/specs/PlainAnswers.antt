@@ -6,7 +6,8 @@ use Rattle.lv_geometry.specs.declared.refusals.Refusal.TheVariants.{NoMemory}
 use Rattle.lv_bodies.specs.Body.{Operations, fold_of}
 use Rattle.lv_edits.specs.declared.edit.Edit.{Edit}
 use Rattle.lv_edits.specs.Verdict.{receipt_of, verdict_of}
-use Rattle.lv_reduce.specs.Answer.{range_refusal, scan_of, slice_of}
+use Rattle.lv_edits.specs.Ranges.{range_refusal, slice_of}
+use Rattle.lv_reduce.specs.Answer.{scan_of}
 use Rattle.lv_live.specs.declared.events.Event.{Event}
 use Rattle.lv_live.specs.declared.events.Event.TheVariants as event
 use Rattle.lv_live.specs.declared.replies.Reply.{Reply}

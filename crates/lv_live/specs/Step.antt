@@ -11,13 +11,14 @@ use Rattle.lv_edits.specs.Verdict.{receipt_of, verdict_of, IsRefusal}
 use Rattle.lv_summary.specs.declared.accepted.Accepted.{Accepted}
 use Rattle.lv_summary.specs.declared.accepted.Accepted.TheVariants.{Held, Installed, Stale}
 use Rattle.lv_geometry.specs.Nodes.{same_node}
+use Rattle.lv_edits.specs.Ranges.{range_refusal, slice_of}
 use Rattle.lv_refresh.specs.Claim.{IsNextJob}
 use Rattle.lv_refresh.specs.Delivery.{delivery_of}
 use Rattle.lv_refresh.specs.Record.{Record, SameRecord, is_fresh}
 use Rattle.lv_reduce.specs.declared.costs.Reads.{Reads}
 use Rattle.lv_reduce.specs.declared.reductions.Answer.{Answer}
 use Rattle.lv_reduce.specs.declared.scans.Scan.{Scan}
-use Rattle.lv_reduce.specs.Answer.{IsAnswer, IsScan, IsScanRefusal, range_refusal, scan_of, slice_of}
+use Rattle.lv_reduce.specs.Answer.{IsAnswer, IsScan, IsScanRefusal, scan_of}
 use Rattle.lv_reduce.specs.Cost.{IsCost}
 use Rattle.lv_live.specs.declared.events.Event.{Event}
 use Rattle.lv_live.specs.declared.events.Event.TheVariants as event

@@ -10,7 +10,7 @@ use Rattle.lv_bodies.specs.Body.{Operations, fold_of}
 use Rattle.lv_edits.specs.declared.edit.Edit.{Edit}
 use Rattle.lv_edits.specs.declared.edit.Edit.TheVariants.{Push, Pop, Write, Reserve, Swap, Truncate}
 use Rattle.lv_edits.specs.declared.receipt.Receipt.TheVariants.{Pushed, Popped, Written}
-use Rattle.lv_reduce.specs.Answer.{range_refusal}
+use Rattle.lv_edits.specs.Ranges.{range_refusal}
 use Rattle.lv_reduce.proofs.PieceLaws.{slice-nothing}
 use Rattle.lv_reduce.proofs.ScanLaws.{fold_of-slice-more}
 use Rattle.lv_machine.specs.declared.entries.Entry.{Entry}

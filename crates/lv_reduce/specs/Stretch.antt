@@ -1,7 +1,7 @@
 -- A range of a vector, copied.
 use Rattle.std.specs.Prelude.{◌≡◌, ℕ, ℤ, None, List, length}
 use Rattle.lv_edits.specs.declared.edit.Edit.{Edit}
-use Rattle.lv_reduce.specs.Answer.{range_refusal, slice_of}
+use Rattle.lv_edits.specs.Ranges.{range_refusal, slice_of}
 
 -- the body that is to fold the elements, the number of the last edit, and the elements
 pub record StretchState (B : Type 0) : Type 0 where

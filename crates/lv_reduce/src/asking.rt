@@ -1,16 +1,16 @@
 //! A reduction that keeps what it computes.
 ghost use Rattle.std.specs.Prelude.{◌≡◌, ◌+◌, ◌*◌, ◌≤◌, true, false, length, IfOk, IfErr, OnErr};
 ghost use Rattle.lv_edits.specs.History.{list_of};
+ghost use Rattle.lv_edits.specs.Ranges.{range_refusal};
 ghost use Rattle.lv_known.specs.Agrees.{Agrees};
 ghost use Rattle.lv_summary.specs.Changes.{OnlyLearns};
 ghost use Rattle.lv_summary.specs.Table.{known_in, whole_in};
-ghost use Rattle.lv_reduce.specs.Answer.{IsAnswer, range_refusal};
+ghost use Rattle.lv_reduce.specs.Answer.{IsAnswer};
 ghost use Rattle.lv_reduce.specs.Asked.{AreTopsKnown, IsFewAsked, Knows};
 
 use crate::reductions::{Answer, Known, greatest_level, join};
-use crate::views::refusal_of;
 use lv_bodies::{Body, fold_more, fold_slice};
-use lv_edits::{Edits, Journal};
+use lv_edits::{Edits, Journal, refusal_of};
 use lv_geometry::{Node, Refusal, width};
 use lv_summary::Summaries;
 

@@ -1,11 +1,12 @@
 //! What a reduction reads, counted without reading it: whole blocks that are not fresh are counted at once.
 ghost use Rattle.std.specs.Prelude.{◌≡◌, ◌⊎◌, ◌+◌, ◌%◌, ◌<◌, ◌≤◌, None, IfOk, IfErr, OnOk};
+ghost use Rattle.lv_edits.specs.Ranges.{range_refusal};
 ghost use Rattle.lv_summary.specs.Table.{fresh_in};
-ghost use Rattle.lv_reduce.specs.Answer.{range_refusal};
 ghost use Rattle.lv_reduce.specs.Cost.{IsCost};
 
 use crate::reductions::{greatest_fresh, greatest_level};
-use crate::views::{View, refusal_of};
+use crate::views::View;
+use lv_edits::refusal_of;
 use lv_geometry::{Refusal, width};
 use lv_summary::Summaries;
 

@@ -1,11 +1,11 @@
 //! The fold of a range by any body, from the elements alone.
 ghost use Rattle.std.specs.Prelude.{◌≡◌, Some, IfOk, IfErr};
-ghost use Rattle.lv_reduce.specs.Answer.{IsAnswerPair, range_refusal};
+ghost use Rattle.lv_edits.specs.Ranges.{range_refusal};
+ghost use Rattle.lv_reduce.specs.Answer.{IsAnswerPair};
 
 use crate::rows::{Row, fold_range};
-use crate::views::refusal_of;
 use lv_bodies::Body;
-use lv_edits::Edits;
+use lv_edits::{Edits, refusal_of};
 use lv_geometry::Refusal;
 
 /// The fold of the elements from index `lo` up to `hi` by any body, with the number of the last edit. It folds the elements where

@@ -26,4 +26,4 @@ pub use reductions::{Answer, greatest_level, join, reduce};
 pub use scans::{Scan, scan_exclusive, scan_inclusive};
 pub use stretches::Stretch;
 pub use values::Values;
-pub use views::{View, refusal_of, run_at};
+pub use views::{View, run_at};

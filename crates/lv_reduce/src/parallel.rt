@@ -2,7 +2,8 @@
 ghost use Rattle.std.specs.Prelude.{◌≡◌, ◌^◌, ◌≤◌, length, IfOk, IfErr};
 ghost use Rattle.lv_bodies.specs.Scan.{exclusive_scan, inclusive_scan};
 ghost use Rattle.lv_edits.specs.History.{list_of};
-ghost use Rattle.lv_reduce.specs.Answer.{IsScan, IsScanRefusal, IsAnswerPair, scan_of, slice_of};
+ghost use Rattle.lv_edits.specs.Ranges.{slice_of};
+ghost use Rattle.lv_reduce.specs.Answer.{IsScan, IsScanRefusal, IsAnswerPair, scan_of};
 
 mod halves;
 mod slices;
@@ -11,10 +12,10 @@ mod twos;
 use crate::rows::{Part, Row};
 use crate::scans::{Scan, running_folds};
 use crate::values::Values;
-use crate::views::{View, refusal_of, run_at};
+use crate::views::{View, run_at};
 use halves::{LEAST_FOLD, LEAST_SCAN, fold_halved, parts_for};
 use lv_bodies::Body;
-use lv_edits::Edits;
+use lv_edits::{Edits, refusal_of};
 use lv_geometry::Refusal;
 pub use slices::scan_alone;
 use slices::{scan_part, scan_slice};

@@ -1,15 +1,16 @@
 //! A reduction: from fresh summaries, and from cells where there are none.
 ghost use Rattle.std.specs.Prelude.{◌≡◌, ⊤, ◌+◌, ◌-◌, ◌*◌, ◌/◌, ◌%◌, ◌^◌, ◌<◌, ◌≤◌, ℕ, length, true, false, IfOk, IfErr, IfSome, IfNone};
 ghost use Rattle.lv_bodies.specs.Body.{CanJoin};
+ghost use Rattle.lv_edits.specs.Ranges.{range_refusal};
 ghost use Rattle.lv_known.specs.Agrees.{Agrees};
 ghost use Rattle.lv_summary.specs.Table.{fresh_in};
-ghost use Rattle.lv_reduce.specs.Answer.{IsAnswer, range_refusal};
+ghost use Rattle.lv_reduce.specs.Answer.{IsAnswer};
 ghost use Rattle.lv_reduce.specs.Cost.{IsCost, IsFew};
 ghost use Rattle.lv_reduce.specs.Pieces.{Fits, IsGreatestFresh, NoneFresh};
 
-use crate::views::{View, refusal_of};
+use crate::views::View;
 use lv_bodies::{Body, fold_more};
-use lv_edits::Journal;
+use lv_edits::{Journal, refusal_of};
 use lv_geometry::{Node, Refusal, width};
 use lv_summary::Summaries;
 use std::alloc::AllocError;

@@ -3,7 +3,7 @@ ghost use Rattle.std.specs.Prelude.{◌≡◌, ◌+◌, ◌≤◌, ◌^◌, ℕ,
 ghost use Rattle.std.specs.List.{slice_range};
 ghost use Rattle.lv_bodies.specs.Body.{CanFold, fold_of};
 ghost use Rattle.lv_edits.specs.History.{list_of};
-ghost use Rattle.lv_reduce.specs.Answer.{slice_of};
+ghost use Rattle.lv_edits.specs.Ranges.{slice_of};
 ghost use Rattle.lv_reduce.specs.Running.{CanGoOn, reached};
 ghost use Rattle.lv_reduce.specs.Rows.{elements_in};
 

@@ -1,12 +1,14 @@
 //! Both scans of a range, by one thread.
 ghost use Rattle.std.specs.Prelude.{◌≡◌, ◌+◌, ◌<◌, ◌≤◌, [], ◌∷◌, ◌++◌, length, vec_len, vec_capacity, IfOk, IfErr, if◌then◌else◌};
 ghost use Rattle.lv_bodies.specs.Scan.{exclusive_scan, inclusive_scan};
-ghost use Rattle.lv_reduce.specs.Answer.{IsScan, IsScanRefusal, scan_of, slice_of};
+ghost use Rattle.lv_edits.specs.Ranges.{slice_of};
+ghost use Rattle.lv_reduce.specs.Answer.{IsScan, IsScanRefusal, scan_of};
 ghost use Rattle.lv_reduce.specs.Running.{CanGoOn, reached, scan_from};
 
 use crate::values::Values;
-use crate::views::{View, refusal_of, run_at};
+use crate::views::{View, run_at};
 use lv_bodies::{Body, fold_more};
+use lv_edits::refusal_of;
 use lv_geometry::Refusal;
 use std::alloc::Global;
 

@@ -3,7 +3,7 @@ ghost use Rattle.std.specs.Prelude.{◌≡◌, ⊤, ◌+◌, ◌<◌, ◌≤◌,
 ghost use Rattle.std.specs.List.{slice_range};
 ghost use Rattle.lv_edits.specs.History.{list_of};
 ghost use Rattle.lv_edits.specs.Kept.{IsLegalInLimits};
-ghost use Rattle.lv_reduce.specs.Answer.{range_refusal};
+ghost use Rattle.lv_edits.specs.Ranges.{range_refusal};
 
 use lv_edits::{Edits, Journal, Kept};
 use lv_geometry::Refusal;
@@ -30,23 +30,6 @@ impl<'a, S, J: Journal> Clone for View<'a, S, J> {
 }
 
 impl<'a, S, J: Journal> Copy for View<'a, S, J> {}
-
-// Why a range is refused, or nothing.
-pub fn refusal_of<J: Journal>(history: &Edits<J>, lo: u32, hi: u32) -> Option<Refusal>
-    ensures value { result ≡ range_refusal history.now.journal lo hi }
-    ensures limits { IsLegalInLimits history.now }
-    ensures order { IfNone result (lo ≤ hi) }
-    ensures inside { IfNone result (hi ≤ length (list_of history.now.journal)) }
-{
-    let size = history.size();
-    if hi < lo {
-        Some(Refusal::BadRange)
-    } else if size < hi {
-        Some(Refusal::OutOfRange { size })
-    } else {
-        None
-    }
-}
 
 /// Elements from index `at` on, before `hi`, one at least: a run of them where they lie, or the one at `at` alone, which is put into
 /// `cell`, where the last edit's write of it isn't in its place yet.

@@ -16,11 +16,11 @@ use Rattle.lv_edits.specs.History.{History, list_of}
 use Rattle.lv_edits.specs.Kept.{IsLegalInLimits}
 use Rattle.lv_geometry.specs.Elements.{IsElement}
 use Rattle.lv_edits.specs.Verdict.{Accepts, Refuses}
+use Rattle.lv_edits.specs.Ranges.{range_refusal, slice_of}
 use Rattle.lv_summary.specs.declared.accepted.Accepted.{Accepted}
 use Rattle.lv_refresh.specs.Carried.{Carried}
 use Rattle.lv_reduce.specs.declared.costs.Reads.{Reads}
 use Rattle.lv_reduce.specs.declared.reductions.Answer.{Answer}
-use Rattle.lv_reduce.specs.Answer.{range_refusal, slice_of}
 use Rattle.lv_live.specs.declared.events.Event.TheVariants as event
 use Rattle.lv_live.specs.declared.replies.Reply.TheVariants as reply
 use Rattle.lv_live.specs.State.{HasNoClaims, SameLive, SameRefresh, recorded, with_issued}

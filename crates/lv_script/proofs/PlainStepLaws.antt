@@ -15,8 +15,8 @@ use Rattle.lv_bodies.specs.Six.{SixSummary, six_operations}
 use Rattle.lv_edits.specs.declared.edit.Edit.{Edit}
 use Rattle.lv_edits.specs.declared.receipt.Receipt.{Receipt}
 use Rattle.lv_edits.specs.History.{list_of}
+use Rattle.lv_edits.specs.Ranges.{range_refusal}
 use Rattle.lv_reduce.specs.declared.reductions.Answer.{Answer}
-use Rattle.lv_reduce.specs.Answer.{range_refusal}
 use Rattle.lv_live.specs.declared.events.Event.{Event}
 use Rattle.lv_live.specs.declared.events.Event.TheVariants as event
 use Rattle.lv_live.specs.Step.{EditStep, Reduces, job_of, reduction_reply}

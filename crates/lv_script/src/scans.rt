@@ -7,7 +7,7 @@ ghost use Rattle.lv_refresh.specs.Carried.{Carried};
 ghost use Rattle.lv_bodies.specs.Body.{CanFold, fold_of};
 ghost use Rattle.lv_bodies.specs.Six.{SixSummary};
 ghost use Rattle.lv_bodies.specs.declared.sixes.Six.{Six};
-ghost use Rattle.lv_reduce.specs.Answer.{range_refusal, slice_of};
+ghost use Rattle.lv_edits.specs.Ranges.{range_refusal, slice_of};
 ghost use Rattle.lv_lines.specs.Output.{HasRoom, Puts, PutsFront, SamePlaces};
 ghost use Rattle.lv_lines.specs.Texts.{scan_text, values_text};
 ghost use Rattle.lv_script.specs.PlainScript.{scan_by};

@@ -20,10 +20,10 @@ use Rattle.lv_standing.specs.declared.changes.Changed.{Changed}
 use Rattle.lv_standing.specs.declared.watches.Watch.{Watch}
 use Rattle.lv_standing.specs.Queries.{Query, name_refusal, query_of, watch_refusal, without_query}
 use Rattle.lv_standing.specs.Inner.{asked, has_changed, refreshed}
-use Rattle.lv_kinds.specs.KindSummaries.{kind_of}
+use Rattle.lv_tree.specs.KindSummaries.{kind_of}
 use Rattle.lv_standing.specs.Standings.{IsCurrent, queries_of, query_at}
 use Rattle.lv_standing.proofs.KeptNames.{same_name}
-use Rattle.lv_kinds.proofs.KindLaws.{kind_of_part, summary_is_current}
+use Rattle.lv_tree.proofs.KindLaws.{kind_of_part, summary_is_current}
 
 -- a test says yes or no
 either_way : (b : Bool) → (b ≡ true) ⊎ (b ≡ false)

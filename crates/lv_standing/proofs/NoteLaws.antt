@@ -10,12 +10,12 @@ use Rattle.lv_standing.specs.declared.notes.Note.{Note}
 use Rattle.lv_standing.specs.declared.changes.Changed.{Changed}
 use Rattle.lv_standing.specs.declared.watches.Watch.{Watch}
 use Rattle.lv_standing.specs.Queries.{AreNotes, Query, watch_answer}
-use Rattle.lv_kinds.specs.declared.kind_summaries.KindSummary.{KindSummary}
+use Rattle.lv_tree.specs.declared.kind_summaries.KindSummary.{KindSummary}
 use Rattle.lv_standing.specs.Inner.{AreTold, IsNoted, IsToldAt, SameElsewhere, asked, has_changed, refreshed}
-use Rattle.lv_kinds.specs.KindSummaries.{kind_of, shown_of, summary_of}
+use Rattle.lv_tree.specs.KindSummaries.{kind_of, shown_of, summary_of}
 use Rattle.lv_standing.specs.Standings.{IsCurrent, queries_of, query_at, summary_at}
 use Rattle.lv_geometry.proofs.Ranges.{there_is}
-use Rattle.lv_kinds.proofs.KindLaws.{shown_is_plain}
+use Rattle.lv_tree.proofs.KindLaws.{shown_is_plain}
 use Rattle.lv_standing.proofs.EntryLaws.{all_at, all_refreshed, asked_more, at_front, at_seam, front_is, rest_is, set_at_seam, set_same}
 
 module _ (old new : List Edit) where

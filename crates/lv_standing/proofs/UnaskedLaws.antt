@@ -5,8 +5,8 @@ use Rattle.std.specs.Option.{option_map}
 use Rattle.std.proofs.lemmas.List.Elements.{All-get_or}
 use Rattle.std.proofs.lemmas.Option.{get_or_from_slice_get, slice_get-map, slice_get_within}
 use Rattle.lv_bodies.specs.declared.kinds.Kind.{Kind}
-use Rattle.lv_kinds.specs.Kinds.{KindsState, LeavesAll, LeavesOthers}
-use Rattle.lv_kinds.specs.KindSummaries.{kind_of}
+use Rattle.lv_tree.specs.Kinds.{KindsState, LeavesAll, LeavesOthers}
+use Rattle.lv_tree.specs.KindSummaries.{kind_of}
 use Rattle.lv_standing.specs.declared.watches.Watch.{Watch}
 use Rattle.lv_standing.specs.Queries.{Query}
 use Rattle.lv_standing.specs.Standings.{IsUnasked, LeavesUnasked, queries_of, query_at}

@@ -10,7 +10,7 @@ use Rattle.lv_edits.specs.Touch.{indices_written}
 use Rattle.lv_live.specs.declared.following.Touched.{Touched}
 use Rattle.lv_live.specs.declared.following.Touched.TheVariants.{Nothing, One, Two}
 use Rattle.lv_live.specs.Follows.{indices_in}
-use Rattle.lv_kinds.specs.KindSummaries.{kind_of}
+use Rattle.lv_tree.specs.KindSummaries.{kind_of}
 use Rattle.lv_standing.specs.declared.changes.Changed.{Changed}
 use Rattle.lv_standing.specs.declared.watches.Watch.{Watch}
 use Rattle.lv_standing.specs.declared.notes.Note.{Note}

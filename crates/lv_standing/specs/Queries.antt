@@ -9,7 +9,7 @@ use Rattle.lv_bodies.specs.declared.kinds.Shown.{Shown}
 use Rattle.lv_bodies.specs.Plain.{plain_value}
 use Rattle.lv_edits.specs.declared.edit.Edit.{Edit}
 use Rattle.lv_edits.specs.History.{list_of}
-use Rattle.lv_reduce.specs.Answer.{range_refusal, slice_of}
+use Rattle.lv_edits.specs.Ranges.{range_refusal, slice_of}
 use Rattle.lv_standing.specs.declared.notes.Answered.{Answered}
 use Rattle.lv_standing.specs.declared.notes.Note.{Note}
 

@@ -9,9 +9,9 @@ use Rattle.lv_edits.specs.declared.edit.Edit.{Edit}
 use Rattle.lv_edits.specs.History.{list_of}
 use Rattle.lv_edits.specs.Kept.{IsLegalInLimits}
 use Rattle.lv_live.specs.State.{LiveState}
-use Rattle.lv_kinds.specs.declared.kind_summaries.KindSummary.{KindSummary}
-use Rattle.lv_kinds.specs.Kinds.{AreReady, HaveRoomFor, KindsState, blocks_of, followed_by}
-use Rattle.lv_kinds.specs.KindSummaries.{kind_of, summary_of}
+use Rattle.lv_tree.specs.declared.kind_summaries.KindSummary.{KindSummary}
+use Rattle.lv_tree.specs.Kinds.{AreReady, HaveRoomFor, KindsState, blocks_of, followed_by}
+use Rattle.lv_tree.specs.KindSummaries.{kind_of, summary_of}
 use Rattle.lv_standing.specs.declared.watches.Watch.{Watch}
 use Rattle.lv_standing.specs.Queries.{Query}
 

@@ -3,15 +3,15 @@ ghost use Rattle.std.specs.Prelude.{◌≡◌, ◌⊎◌, Some, IfOk, IfErr};
 ghost use Rattle.std.specs.List.{slice_range};
 ghost use Rattle.lv_bodies.specs.Plain.{program_table};
 ghost use Rattle.lv_edits.specs.History.{list_of};
-ghost use Rattle.lv_reduce.specs.Answer.{range_refusal};
-ghost use Rattle.lv_kinds.specs.Asked.{IsKindAnswer};
-ghost use Rattle.lv_kinds.specs.Kinds.{AreReady, IsCaughtUp, IsNear, LeavesOthers};
-ghost use Rattle.lv_kinds.specs.KindSummaries.{summary_of};
+ghost use Rattle.lv_edits.specs.Ranges.{range_refusal};
+ghost use Rattle.lv_tree.specs.Asked.{IsKindAnswer};
+ghost use Rattle.lv_tree.specs.Kinds.{AreReady, IsCaughtUp, IsNear, LeavesOthers};
+ghost use Rattle.lv_tree.specs.KindSummaries.{summary_of};
 
 use lv_bodies::{Kind, Six};
 use lv_geometry::Refusal;
-use lv_kinds::{KindAnswer, KindSummary, Kinds};
 use lv_live::Live;
+use lv_tree::{KindAnswer, KindSummary, Kinds};
 
 /// The summary by a kind of the elements from index `lo` up to `hi`, which that kind has followed up to the last edit then, unless the
 /// range is short. Refused with `BadRange`, then `OutOfRange`. Takes no memory.

@@ -5,14 +5,14 @@ ghost use Rattle.lv_edits.specs.History.{History};
 ghost use Rattle.lv_edits.specs.Kept.{IsLegalInLimits};
 ghost use Rattle.lv_edits.specs.Verdict.{Answers, verdict_of};
 ghost use Rattle.lv_live.specs.State.{SameRefresh};
-ghost use Rattle.lv_kinds.specs.Kinds.{AreReady, HaveRoomFor, KeepsAlike, LeavesAll};
+ghost use Rattle.lv_tree.specs.Kinds.{AreReady, HaveRoomFor, KeepsAlike, LeavesAll};
 
 use crate::changes::size_after;
 use lv_bodies::Six;
 use lv_edits::{Edit, Receipt};
 use lv_geometry::Refusal;
-use lv_kinds::Kinds;
 use lv_live::Live;
+use lv_tree::Kinds;
 
 /// Makes an edit that a vector's verdict allows, and tells what is kept by kind of it. Refused with `NoMemory`: the room for what may
 /// be kept is made before the edit.

@@ -2,16 +2,16 @@
 ghost use Rattle.std.specs.Prelude.{◌≡◌, ◌⊎◌, Some, IfOk, IfErr};
 ghost use Rattle.lv_bodies.specs.Plain.{program_table};
 ghost use Rattle.lv_edits.specs.Kept.{IsLegalInLimits};
-ghost use Rattle.lv_reduce.specs.Answer.{range_refusal};
-ghost use Rattle.lv_kinds.specs.Kinds.{AreReady, IsCaughtUp, IsNear, LeavesOthers};
+ghost use Rattle.lv_edits.specs.Ranges.{range_refusal};
+ghost use Rattle.lv_tree.specs.Kinds.{AreReady, IsCaughtUp, IsNear, LeavesOthers};
 ghost use Rattle.lv_standing.specs.Queries.{IsShown, IsValue};
 
 use crate::asking::ask_by_kind;
 use crate::notes::Answered;
 use lv_bodies::{Affine, Automaton, Best, Greatest, Kind, Least, Single, Six, Sum};
 use lv_geometry::Refusal;
-use lv_kinds::Kinds;
 use lv_live::Live;
+use lv_tree::Kinds;
 
 /// A range of at most so many elements is folded by the one kind, where they lie. That takes no longer than to look its summaries
 /// up, and far less than to compute them for all six.

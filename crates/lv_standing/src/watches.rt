@@ -7,8 +7,8 @@ ghost use Rattle.lv_bodies.specs.Plain.{program_table};
 ghost use Rattle.lv_edits.specs.declared.edit.Edit.{Edit as Change};
 ghost use Rattle.lv_edits.specs.History.{list_of};
 ghost use Rattle.lv_edits.specs.Kept.{IsLegalInLimits};
-ghost use Rattle.lv_kinds.specs.Kinds.{AreReady, LeavesOthers};
-ghost use Rattle.lv_kinds.specs.KindSummaries.{kind_of, summary_of};
+ghost use Rattle.lv_tree.specs.Kinds.{AreReady, LeavesOthers};
+ghost use Rattle.lv_tree.specs.KindSummaries.{kind_of, summary_of};
 ghost use Rattle.lv_standing.specs.Queries.{AreNotes};
 ghost use Rattle.lv_standing.specs.Inner.{AreTold, AtIndex, IsAlike, IsNoted, IsPushed, IsToldAt, SameElsewhere, asked, has_changed, has_index, has_written, refreshed};
 ghost use Rattle.lv_standing.specs.Standings.{IsCurrent, LeavesUnasked, queries_of, summary_at};
@@ -19,8 +19,8 @@ use crate::names::Name;
 use crate::notes::Note;
 use indexmap::IndexMap;
 use lv_bodies::{Shown, Six};
-use lv_kinds::{KindSummary, Kinds};
 use lv_live::{Live, Touched};
+use lv_tree::{KindSummary, Kinds};
 
 /// The range of a standing query, and the summary by its kind of the elements that the range has at the last edit.
 #[derive(Clone, Copy)]

@@ -1,4 +1,5 @@
 -- Names the files of lemmas of `lv_tree`.
+mod AnswerLaws
 pub mod Before
 pub mod Between
 pub mod Ends
@@ -8,9 +9,12 @@ pub mod Glue
 pub mod Groups
 pub mod InOrder
 pub mod Kept
+pub mod KeptLaws
+pub mod KindLaws
 pub mod Larger
 pub mod LastLaws
 pub mod LeafLaws
+mod MadeLaws
 pub mod Nodes
 pub mod RangeLaws
 pub mod Runs
@@ -18,5 +22,6 @@ pub mod Seen
 pub mod StepLaws
 pub mod Stops
 pub mod SumLaws
+mod ToldLaws
 pub mod Turning
 pub mod Written

@@ -12,6 +12,7 @@ pub use Rattle.lv_geometry.specs.Bounds
 pub use Rattle.lv_bodies.specs.declared.kinds.Shown
 pub use Rattle.lv_edits.specs.declared.edit.Edit
 pub use Rattle.lv_edits.specs.History
+pub use Rattle.lv_edits.specs.Ranges
 pub use Rattle.lv_standing.specs.declared.notes.Note
 pub use Rattle.lv_standing.specs.Queries
 pub use Rattle.lv_hub.specs.declared.questions.Question

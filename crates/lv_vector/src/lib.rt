@@ -13,7 +13,6 @@ pub use lv_bodies::{
 };
 pub use lv_edits::{Edit, Receipt};
 pub use lv_geometry::{Limits, Node, Refusal};
-pub use lv_kinds::{KindAnswer, Kinds};
 pub use lv_live::{
     Batch, BatchOutcome, Batched, Live, answers_are_plain, refresh_changes_no_answer,
     refusals_change_nothing,
@@ -22,4 +21,5 @@ pub use lv_reduce::{Answer, Reads, Scan};
 pub use lv_refresh::{Job, Outcome, SubtreeJob, SubtreeOutcome};
 pub use lv_standing::{Answered, Name, Note, Standing};
 pub use lv_summary::Accepted;
+pub use lv_tree::{KindAnswer, Kinds};
 pub use lv_where::{Placed, Run, best_run, first_greatest, first_least, reaches};

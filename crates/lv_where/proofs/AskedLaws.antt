@@ -1,10 +1,10 @@
 -- What a search knows of the questions that it has asked so far.
 use Rattle.std.proofs.Common.{◌≡◌, ℕ, ℤ, List, ap, subst, ◌∙◌}
 use Rattle.lv_bodies.specs.declared.kinds.Kind.{Kind}
-use Rattle.lv_kinds.specs.Kinds.{KindsState, LeavesOthers}
-use Rattle.lv_kinds.specs.KindSummaries.{summary_by}
-use Rattle.lv_kinds.specs.declared.kind_summaries.KindSummary.{KindSummary}
-use Rattle.lv_kinds.proofs.KeptLaws.{LeavesOthers-trans}
+use Rattle.lv_tree.specs.Kinds.{KindsState, LeavesOthers}
+use Rattle.lv_tree.specs.KindSummaries.{summary_by}
+use Rattle.lv_tree.specs.declared.kind_summaries.KindSummary.{KindSummary}
+use Rattle.lv_tree.proofs.KeptLaws.{LeavesOthers-trans}
 use Rattle.lv_where.specs.Sought.{kind_for}
 use Rattle.lv_where.specs.declared.sought.Sought.{Sought}
 

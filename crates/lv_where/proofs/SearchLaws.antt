@@ -2,8 +2,8 @@
 use Rattle.std.specs.Prelude.{◌≡◌, ℕ, ℤ, ◌+◌, ◌-◌, ◌<◌, ◌≤◌, true, false, Some, None, List, [], take, drop, slice_range}
 use Rattle.std.proofs.Common.{ap, sym, subst, ◌∙◌, arith}
 use Rattle.lv_bodies.specs.declared.kinds.Kind.{Kind}
-use Rattle.lv_kinds.specs.KindSummaries.{summary_by}
-use Rattle.lv_kinds.specs.declared.kind_summaries.KindSummary.{KindSummary}
+use Rattle.lv_tree.specs.KindSummaries.{summary_by}
+use Rattle.lv_tree.specs.declared.kind_summaries.KindSummary.{KindSummary}
 use Rattle.lv_where.specs.Searches.{FindsEnd, FindsStart, SearchesLeft, SearchesRight}
 use Rattle.lv_where.specs.Sought.{Misses, is_met, kind_for, nothing_for}
 use Rattle.lv_where.specs.declared.sought.Sought.{Sought}

@@ -17,10 +17,10 @@ use Rattle.lv_bodies.specs.TotalsLaws.{best_laws}
 use Rattle.lv_bodies.specs.declared.best.RunTotals.{RunTotals}
 use Rattle.lv_bodies.specs.declared.kinds.Kind.TheVariants as kind
 use Rattle.lv_reduce.proofs.PieceLaws.{slice-joined, slices_can_join}
-use Rattle.lv_kinds.specs.KindSummaries.{summary_by}
-use Rattle.lv_kinds.specs.OfSixLaws.{best-part, greatest-part, least-part}
-use Rattle.lv_kinds.specs.declared.kind_summaries.KindSummary.{KindSummary}
-use Rattle.lv_kinds.specs.declared.kind_summaries.KindSummary.TheVariants as kept
+use Rattle.lv_tree.specs.KindSummaries.{summary_by}
+use Rattle.lv_tree.specs.OfSixLaws.{best-part, greatest-part, least-part}
+use Rattle.lv_tree.specs.declared.kind_summaries.KindSummary.{KindSummary}
+use Rattle.lv_tree.specs.declared.kind_summaries.KindSummary.TheVariants as kept
 use Rattle.lv_where.specs.Sought.{CanJoinSummaries, Misses, best_in, greatest_in, is_met, joined_of, kind_for, least_in, nothing_for}
 use Rattle.lv_where.specs.declared.sought.Sought.{Sought}
 use Rattle.lv_where.specs.declared.sought.Sought.TheVariants.{AtMost, AtLeast, Run, Beginning}

@@ -1,7 +1,7 @@
 -- What a search from one end of a range finds.
 use Rattle.std.specs.Prelude.{◌≡◌, ℕ, ℤ, ◌+◌, ◌-◌, ◌<◌, ◌≤◌, Option, Some, None, List, slice_range}
-use Rattle.lv_kinds.specs.KindSummaries.{summary_by}
-use Rattle.lv_kinds.specs.declared.kind_summaries.KindSummary.{KindSummary}
+use Rattle.lv_tree.specs.KindSummaries.{summary_by}
+use Rattle.lv_tree.specs.declared.kind_summaries.KindSummary.{KindSummary}
 use Rattle.lv_where.specs.Sought.{Misses, kind_for}
 use Rattle.lv_where.specs.declared.sought.Sought.{Sought}
 

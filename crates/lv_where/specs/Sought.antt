@@ -8,8 +8,8 @@ use Rattle.lv_bodies.specs.RunTotals.{IsBest, best_operations}
 use Rattle.lv_bodies.specs.declared.best.RunTotals.{RunTotals}
 use Rattle.lv_bodies.specs.declared.kinds.Kind.{Kind}
 use Rattle.lv_bodies.specs.declared.kinds.Kind.TheVariants as kind
-use Rattle.lv_kinds.specs.declared.kind_summaries.KindSummary.{KindSummary}
-use Rattle.lv_kinds.specs.declared.kind_summaries.KindSummary.TheVariants.{Least, Greatest, Best}
+use Rattle.lv_tree.specs.declared.kind_summaries.KindSummary.{KindSummary}
+use Rattle.lv_tree.specs.declared.kind_summaries.KindSummary.TheVariants.{Least, Greatest, Best}
 use Rattle.lv_where.specs.declared.sought.Sought.{Sought}
 use Rattle.lv_where.specs.declared.sought.Sought.TheVariants.{AtMost, AtLeast, Run, Beginning}
 

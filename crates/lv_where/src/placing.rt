@@ -3,8 +3,8 @@ ghost use Rattle.std.specs.Prelude.{◌≡◌, ◌-◌, ◌<◌, ◌≤◌, None
 ghost use Rattle.lv_bodies.specs.declared.kinds.Kind.TheVariants as kind;
 ghost use Rattle.lv_edits.specs.History.{list_of};
 ghost use Rattle.lv_edits.specs.Kept.{IsLegalInLimits};
-ghost use Rattle.lv_reduce.specs.Answer.{range_refusal};
-ghost use Rattle.lv_kinds.specs.Kinds.{AreReady, LeavesOthers};
+ghost use Rattle.lv_edits.specs.Ranges.{range_refusal};
+ghost use Rattle.lv_tree.specs.Kinds.{AreReady, LeavesOthers};
 ghost use Rattle.lv_where.specs.Where.{IsEndReached, IsPlaceOfBest, IsPlaceOfGreatest, IsPlaceOfLeast};
 
 use crate::searching::{first_end, last_start, summary};
@@ -12,8 +12,8 @@ use crate::sought::{Sought, best_of, greatest_of, least_of};
 use lv_bodies::Kind;
 use lv_edits::Edits;
 use lv_geometry::Refusal;
-use lv_kinds::Kinds;
 use lv_reduce::refusal_of;
+use lv_tree::Kinds;
 
 /// An element, and the index at which it stands.
 #[derive(Clone, Copy, Debug, PartialEq, Eq)]

@@ -2,9 +2,9 @@
 ghost use Rattle.std.specs.Prelude.{◌≡◌, ◌-◌, ◌^◌, ◌<◌, ◌≤◌, length};
 ghost use Rattle.lv_edits.specs.History.{list_of};
 ghost use Rattle.lv_edits.specs.Kept.{IsLegalInLimits};
-ghost use Rattle.lv_reduce.specs.Answer.{slice_of};
-ghost use Rattle.lv_kinds.specs.Kinds.{AreReady, LeavesOthers};
-ghost use Rattle.lv_kinds.specs.KindSummaries.{summary_by};
+ghost use Rattle.lv_edits.specs.Ranges.{slice_of};
+ghost use Rattle.lv_tree.specs.Kinds.{AreReady, LeavesOthers};
+ghost use Rattle.lv_tree.specs.KindSummaries.{summary_by};
 ghost use Rattle.lv_where.specs.Searches.{FindsEnd, FindsStart};
 ghost use Rattle.lv_where.specs.Sought.{kind_for};
 
@@ -12,8 +12,8 @@ use crate::sought::{Sought, joined};
 use lv_bodies::Kind;
 use lv_edits::Edits;
 use lv_geometry::width;
-use lv_kinds::{KindSummary, Kinds};
 use lv_reduce::greatest_level;
+use lv_tree::{KindSummary, Kinds};
 
 /// The summary by a kind of a range that there is.
 pub fn summary(cells: &Edits, kinds: &mut Kinds, kind: Kind, lo: u32, hi: u32) -> KindSummary

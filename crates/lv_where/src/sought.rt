@@ -3,7 +3,7 @@ ghost use Rattle.std.specs.Prelude.{◌≡◌};
 ghost use Rattle.lv_where.specs.Sought.{CanJoinSummaries, best_in, greatest_in, is_met, joined_of, kind_for, least_in, nothing_for};
 
 use lv_bodies::{Best, Body, Greatest, Kind, Least, RunTotals};
-use lv_kinds::KindSummary;
+use lv_tree::KindSummary;
 
 /// What some elements side by side may have.
 #[derive(Clone, Copy)]

@@ -4,7 +4,7 @@
 
 ghost use Rattle.std.specs.Prelude.{◌≡◌, IfOk};
 ghost use Rattle.lv_vector.specs.Plain.{plain_sum};
-ghost use Rattle.lv_vector.specs.Answer.{slice_of};
+ghost use Rattle.lv_vector.specs.Ranges.{slice_of};
 
 use lv_vector::{Answer, Edit, Limits, Live, Refusal, Sum};
 use std::{fmt, io};

@@ -1,10 +1,11 @@
 //! Questions to a live vector: folds and running folds of a range, and what they cost.
 ghost use Rattle.std.specs.Prelude.{◌≡◌, Some, IfOk, OnErr, IfErr, true, false};
+ghost use Rattle.lv_edits.specs.Ranges.{range_refusal};
 ghost use Rattle.lv_refresh.specs.Record.{is_fresh};
 ghost use Rattle.lv_known.specs.Agrees.{Agrees};
 ghost use Rattle.lv_summary.specs.Changes.{OnlyLearns};
 ghost use Rattle.lv_summary.specs.Table.{known_in};
-ghost use Rattle.lv_reduce.specs.Answer.{IsAnswer, IsScanRefusal, IsAnswerPair, range_refusal};
+ghost use Rattle.lv_reduce.specs.Answer.{IsAnswer, IsScanRefusal, IsAnswerPair};
 ghost use Rattle.lv_reduce.specs.Asked.{AreTopsKnown, IsFewAsked};
 ghost use Rattle.lv_reduce.specs.Cost.{IsFew};
 ghost use Rattle.lv_reduce.specs.Stretch.{IsStretch};

@@ -4,7 +4,8 @@ ghost use Rattle.std.specs.List.{slice_range};
 ghost use Rattle.std.specs.Thread.{IsSync, IsSend};
 ghost use Rattle.lv_bodies.specs.Body.{CanFold, CanJoin, fold_of};
 ghost use Rattle.lv_edits.specs.History.{list_of};
-ghost use Rattle.lv_reduce.specs.Answer.{scan_of, slice_of};
+ghost use Rattle.lv_edits.specs.Ranges.{slice_of};
+ghost use Rattle.lv_reduce.specs.Answer.{scan_of};
 ghost use Rattle.lv_reduce.specs.Rows.{IsPart, elements_in, elements_of};
 
 use crate::parallel::halves::cut;

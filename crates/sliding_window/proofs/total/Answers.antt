@@ -5,7 +5,7 @@ use Rattle.lv_vector.specs.Plain.{plain_sum}
 use Rattle.lv_vector.specs.SumLaws.{fold_of-sum}
 use Rattle.lv_vector.specs.Sums.{sum_operations}
 use Rattle.lv_vector.specs.Record.{Record}
-use Rattle.lv_vector.specs.Answer.{slice_of}
+use Rattle.lv_vector.specs.Ranges.{slice_of}
 use Rattle.lv_vector.specs.AnswerType.{Answer}
 use Rattle.lv_vector.specs.State.{recorded}
 use Rattle.lv_vector.specs.Step.{Reduces}

@@ -2,8 +2,9 @@
 use Rattle.std.proofs.Common.{◌≡◌, ◌+◌, ◌-◌, ◌++◌, length, map, take, refl, sym, ap, ◌∙◌, arith}
 use Rattle.std.proofs.lemmas.List.{map-append, take_all}
 use Rattle.lv_edits.specs.History.{list_of}
+use Rattle.lv_edits.specs.Ranges.{slice_of}
 use Rattle.lv_known.proofs.FoldableLaws.{can_fold}
-use Rattle.lv_reduce.specs.Answer.{scan_of, slice_of}
+use Rattle.lv_reduce.specs.Answer.{scan_of}
 use Rattle.lv_reduce.specs.Running.{scan_from}
 use Rattle.lv_reduce.proofs.PieceLaws.{slice_can_go_on, slice_range-run, slice_scanned}
 use Rattle.livevec_c.proofs.columns.lay_range.Goals as goal

@@ -1,7 +1,8 @@
 -- What the loop keeps in `lay_range`: puts the cells of one of the two scans of a range into a column of as many places, by runs of elements that lie side by side.
 use Rattle.std.proofs.Common.{◌-◌, ◌≡◌, ◌≤◌, length, map, take}
 use Rattle.lv_bodies.specs.Body.{fold_of}
-use Rattle.lv_reduce.specs.Answer.{scan_of, slice_of}
+use Rattle.lv_edits.specs.Ranges.{slice_of}
+use Rattle.lv_reduce.specs.Answer.{scan_of}
 use Rattle.livevec_c.proofs.columns.lay_range.Given as goal
 
 -- the cells of the scan of what was read so far, and what it leads to

@@ -4,7 +4,8 @@ use Rattle.std.specs.Prelude.{None}
 use Rattle.lv_bodies.specs.Automata.{table_of}
 use Rattle.lv_edits.specs.History.{list_of}
 use Rattle.lv_edits.specs.Kept.{IsLegalInLimits}
-use Rattle.lv_reduce.specs.Answer.{range_refusal, scan_of, slice_of}
+use Rattle.lv_edits.specs.Ranges.{range_refusal, slice_of}
+use Rattle.lv_reduce.specs.Answer.{scan_of}
 use Rattle.livevec_c.proofs.ColumnAnswers.{filled_column}
 use Rattle.livevec_c.proofs.columns.scan_live.Goals as goal
 

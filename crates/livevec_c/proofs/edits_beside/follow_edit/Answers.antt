@@ -1,7 +1,7 @@
 -- Proof of `follow_edit`: has what is kept by kind follow the edit that a vector has just made, and which was answered so.
 use Rattle.std.proofs.Common.{subst, sym}
 use Rattle.lv_bodies.specs.Automata.{table_of}
-use Rattle.lv_kinds.specs.Kinds.{AreKept}
+use Rattle.lv_tree.specs.Kinds.{AreKept}
 use Rattle.livevec_c.proofs.edits_beside.follow_edit.Goals as goal
 
 pub returns : goal.returns

@@ -4,8 +4,8 @@ use Rattle.lv_bodies.specs.Automata.{table_of}
 use Rattle.lv_edits.specs.History.{list_of, with_edit}
 use Rattle.lv_edits.specs.Kept.{IsLegalInLimits}
 use Rattle.lv_edits.specs.Verdict.{receipt_of, verdict_of}
-use Rattle.lv_kinds.specs.Kinds.{AreKept, HaveRoomFor}
-use Rattle.lv_kinds.proofs.KeptLaws.{AreReady-alike, HaveRoomFor-fewer}
+use Rattle.lv_tree.specs.Kinds.{AreKept, HaveRoomFor}
+use Rattle.lv_tree.proofs.KeptLaws.{AreReady-alike, HaveRoomFor-fewer}
 use Rattle.livevec_c.specs.KindVectors.{most_after}
 use Rattle.livevec_c.proofs.KindVectorLaws.{before_edit, ready_of_same, room_is_allowed, size_fits}
 use Rattle.livevec_c.proofs.edits_beside.make_beside.Goals as goal

@@ -6,8 +6,8 @@ use Rattle.lv_edits.specs.declared.edit.Edit.TheVariants.{Write}
 use Rattle.lv_edits.specs.History.{list_of, with_edit}
 use Rattle.lv_edits.specs.Kept.{IsLegalInLimits}
 use Rattle.lv_edits.specs.Verdict.{receipt_of, verdict_of}
-use Rattle.lv_kinds.specs.Kinds.{AreKept}
-use Rattle.lv_kinds.proofs.KeptLaws.{HaveRoomFor-fewer}
+use Rattle.lv_tree.specs.Kinds.{AreKept}
+use Rattle.lv_tree.proofs.KeptLaws.{HaveRoomFor-fewer}
 use Rattle.livevec_c.proofs.KindVectorLaws.{before_edit, ready_of_same, size_fits}
 use Rattle.livevec_c.proofs.edits_beside.overwrite_beside.Goals as goal
 

@@ -5,8 +5,8 @@ use Rattle.lv_edits.specs.declared.edit.Edit.TheVariants.{Push}
 use Rattle.lv_edits.specs.History.{list_of}
 use Rattle.lv_edits.specs.Pushes.{verdict_of_pushes}
 use Rattle.lv_edits.proofs.PushLaws.{keeps_limits, made_by_pushes}
-use Rattle.lv_kinds.specs.Kinds.{AreKept, AreReady, HaveRoomFor}
-use Rattle.lv_kinds.proofs.KeptLaws.{AreReady-alike}
+use Rattle.lv_tree.specs.Kinds.{AreKept, AreReady, HaveRoomFor}
+use Rattle.lv_tree.proofs.KeptLaws.{AreReady-alike}
 use Rattle.livevec_c.proofs.KindVectorLaws.{ready_of_same}
 use Rattle.livevec_c.proofs.PushedLaws.{pushes_are_few}
 use Rattle.livevec_c.proofs.pushes.push_beside.Goals as goal

@@ -3,7 +3,7 @@ use Rattle.std.proofs.Common.{◌≡◌, ◌++◌, ap, length, subst, sym, ◌�
 use Rattle.lv_bodies.specs.Automata.{table_of}
 use Rattle.lv_edits.specs.Batches.{writes_at}
 use Rattle.lv_edits.specs.History.{list_of}
-use Rattle.lv_kinds.specs.Kinds.{AreKept, AreReady, HaveRoomFor}
+use Rattle.lv_tree.specs.Kinds.{AreKept, AreReady, HaveRoomFor}
 use Rattle.lv_live.proofs.WrittenLaws.{overwritten, writes_inside}
 use Rattle.livevec_c.proofs.KindVectorLaws.{journal-edits, ready_of_same}
 use Rattle.livevec_c.proofs.writes.write_beside.Goals as goal

@@ -1,6 +1,6 @@
 -- What the loop keeps in `copy_range`: the elements of a range, copied out of the vector, with room made at once.
 use Rattle.std.proofs.Common.{◌≡◌, ◌-◌, ◌≤◌, vec_capacity, vec_len}
-use Rattle.lv_reduce.specs.Answer.{slice_of}
+use Rattle.lv_edits.specs.Ranges.{slice_of}
 use Rattle.lv_reduce.proofs.parallel.copy_range.Given as goal
 
 -- what was read so far, with room for the rest

@@ -1,8 +1,8 @@
 -- What the loop keeps in `reduce`: the fold of the elements from index `lo` up to `hi`, `hi` excluded.
 use Rattle.std.proofs.Common.{◌≡◌, ◌-◌}
 use Rattle.lv_bodies.specs.Body.{fold_of}
+use Rattle.lv_edits.specs.Ranges.{slice_of}
 use Rattle.lv_summary.specs.Table.{fresh_in}
-use Rattle.lv_reduce.specs.Answer.{slice_of}
 use Rattle.lv_reduce.proofs.WalkLaws.{IsWalk}
 use Rattle.lv_reduce.proofs.reductions.reduce.Given as goal
 

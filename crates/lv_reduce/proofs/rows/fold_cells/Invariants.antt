@@ -1,7 +1,7 @@
 -- What the loop keeps in `fold_cells`: the fold of a range of a vector, by runs of elements that lie side by side.
 use Rattle.std.proofs.Common.{◌≡◌, ◌-◌, ◌≤◌}
 use Rattle.lv_bodies.specs.Body.{fold_of}
-use Rattle.lv_reduce.specs.Answer.{slice_of}
+use Rattle.lv_edits.specs.Ranges.{slice_of}
 use Rattle.lv_reduce.proofs.rows.fold_cells.Given as goal
 
 -- the fold of what was read so far

@@ -1,7 +1,8 @@
 -- What the loop keeps in `running_folds`: the folds of the beginnings of a range: each with the element at its end, or each without it.
 use Rattle.std.proofs.Common.{◌≡◌, ◌-◌, ◌≤◌, vec_capacity, vec_len}
 use Rattle.lv_bodies.specs.Body.{fold_of}
-use Rattle.lv_reduce.specs.Answer.{scan_of, slice_of}
+use Rattle.lv_edits.specs.Ranges.{slice_of}
+use Rattle.lv_reduce.specs.Answer.{scan_of}
 use Rattle.lv_reduce.proofs.scans.running_folds.Given as goal
 
 -- the scan and the fold of what was read so far, with room for the rest

@@ -1,7 +1,7 @@
 -- Proof of `answer`: answers a command.
 use Rattle.lv_bodies.specs.Six.{six_operations}
+use Rattle.lv_edits.specs.Ranges.{range_refusal}
 use Rattle.lv_live.proofs.WorldLaws.{world_settle}
-use Rattle.lv_reduce.specs.Answer.{range_refusal}
 use Rattle.lv_lines.proofs.OutputLemmas.{Writes-put}
 use Rattle.lv_script.specs.Script.{reduced_text}
 use Rattle.lv_script.proofs.EventLaws.{tells_still}

@@ -2,7 +2,7 @@
 use Rattle.std.proofs.Common.{◌∙◌, length, sym}
 use Rattle.std.proofs.lemmas.Result.{IfErr-weaker, err_from_is_err_and, on_ok_weaker}
 use Rattle.lv_edits.specs.History.{list_of}
-use Rattle.lv_reduce.specs.Answer.{slice_of}
+use Rattle.lv_edits.specs.Ranges.{slice_of}
 use Rattle.lv_lines.specs.Texts.{scan_text}
 use Rattle.lv_lines.proofs.OutputLemmas.{WritesFront-after, WritesFront-longer, Writes-trans}
 use Rattle.lv_script.specs.Script.{plain_scan}

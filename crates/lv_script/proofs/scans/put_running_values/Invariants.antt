@@ -1,7 +1,7 @@
 -- What the loop keeps in `put_running_values`: what a body shows of the running fold at each element of a range, each on a line of its own.
 use Rattle.std.proofs.Common.{◌≡◌, ◌-◌, length}
 use Rattle.lv_bodies.specs.Body.{fold_of}
-use Rattle.lv_reduce.specs.Answer.{slice_of}
+use Rattle.lv_edits.specs.Ranges.{slice_of}
 use Rattle.lv_lines.specs.Output.{Puts, SamePlaces}
 use Rattle.lv_script.proofs.ScanLemmas.{value_at, values_up_to}
 use Rattle.lv_script.proofs.scans.put_running_values.Given as goal

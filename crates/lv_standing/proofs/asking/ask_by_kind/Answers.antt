@@ -2,8 +2,8 @@
 use Rattle.std.proofs.Common.{subst}
 use Rattle.std.specs.Prelude.{IfOk}
 use Rattle.lv_bodies.specs.Plain.{program_table}
-use Rattle.lv_kinds.specs.Asked.{IsKindAnswer}
-use Rattle.lv_kinds.proofs.KeptLaws.{AreKept-by, AreReady-asked}
+use Rattle.lv_tree.specs.Asked.{IsKindAnswer}
+use Rattle.lv_tree.proofs.KeptLaws.{AreKept-by, AreReady-asked}
 use Rattle.lv_standing.proofs.asking.ask_by_kind.Goals as goal
 
 pub ask-requires-clause-kept : goal.ask-requires-clause-kept

@@ -1,7 +1,7 @@
 -- Proof of `ask_inside`: the summary by a kind of what exists of a range.
 use Rattle.std.proofs.Common.{◌∙◌, ap, arith}
 use Rattle.lv_edits.specs.History.{list_of}
-use Rattle.lv_kinds.specs.KindSummaries.{summary_of}
+use Rattle.lv_tree.specs.KindSummaries.{summary_of}
 use Rattle.lv_standing.proofs.RangeLaws.{range_cut}
 use Rattle.lv_standing.proofs.asking.ask_inside.Goals as goal
 

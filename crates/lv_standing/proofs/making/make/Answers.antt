@@ -3,8 +3,8 @@ use Rattle.std.proofs.Common.{◌≡◌, ◌∙◌, ◌++◌, ◌∷◌, [], ap,
 use Rattle.lv_bodies.specs.Plain.{program_table}
 use Rattle.lv_edits.specs.History.{History, list_of, with_edit}
 use Rattle.lv_edits.specs.Verdict.{receipt_of}
-use Rattle.lv_kinds.specs.Kinds.{AreReady, HaveRoomFor, KeepsAlike, KindsState}
-use Rattle.lv_kinds.proofs.KeptLaws.{AreReady-alike, LeavesAll-trans}
+use Rattle.lv_tree.specs.Kinds.{AreReady, HaveRoomFor, KeepsAlike, KindsState}
+use Rattle.lv_tree.proofs.KeptLaws.{AreReady-alike, LeavesAll-trans}
 use Rattle.lv_standing.specs.Inner.{size_after}
 use Rattle.lv_standing.proofs.RoomLaws.{size_by_edit}
 use Rattle.lv_standing.proofs.making.make.Goals as goal

@@ -1,5 +1,5 @@
 -- Proof of `make_room`: makes memory for all that can be asked of so many elements, where there are more of them than before.
-use Rattle.lv_kinds.proofs.KeptLaws.{HaveRoomFor-fewer, KeepsAlike-same}
+use Rattle.lv_tree.proofs.KeptLaws.{HaveRoomFor-fewer, KeepsAlike-same}
 use Rattle.lv_standing.proofs.making.make_room.Goals as goal
 
 pub returns-then-after-size-clause-alike : goal.returns-then-after-size-clause-alike

@@ -1,8 +1,8 @@
 -- Proof of `asked_by`: the value of a kind over a range, made anew for each kind, so that no summary of another kind is moved.
 use Rattle.std.proofs.Common.{ap, ◌∙◌}
-use Rattle.lv_kinds.specs.KindSummaries.{shown_of}
-use Rattle.lv_kinds.proofs.KindLaws.{shown_is_plain}
-use Rattle.lv_reduce.specs.Answer.{slice_of}
+use Rattle.lv_edits.specs.Ranges.{slice_of}
+use Rattle.lv_tree.specs.KindSummaries.{shown_of}
+use Rattle.lv_tree.proofs.KindLaws.{shown_is_plain}
 use Rattle.lv_standing.proofs.RangeLaws.{range_can_fold}
 use Rattle.lv_standing.proofs.values.asked_by.Goals as goal
 

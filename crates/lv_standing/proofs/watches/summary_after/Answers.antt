@@ -3,8 +3,8 @@ use Rattle.std.proofs.Common.{◌≡◌, ◌∙◌, ◌++◌, ◌∷◌, [], IfS
 use Rattle.std.proofs.lemmas.Int.{to_z-of_z}
 use Rattle.lv_bodies.specs.Body.{CanFold}
 use Rattle.lv_edits.specs.History.{list_of}
-use Rattle.lv_kinds.specs.KindSummaries.{kind_of, summary_of}
-use Rattle.lv_kinds.proofs.KindLaws.{last_is_element}
+use Rattle.lv_tree.specs.KindSummaries.{kind_of, summary_of}
+use Rattle.lv_tree.proofs.KindLaws.{last_is_element}
 use Rattle.lv_standing.proofs.RangeLaws.{range_can_fold}
 use Rattle.lv_standing.proofs.watches.summary_after.Goals as goal
 

@@ -1,7 +1,7 @@
 -- What the loop keeps in `tell`: brings each query up to an edit whose range has an index that the edit changed.
 use Rattle.std.proofs.Common.{◌≡◌, ◌+◌, ◌≤◌, ◌++◌, length, map, take, drop, vec_capacity}
 use Rattle.lv_bodies.specs.Plain.{program_table}
-use Rattle.lv_kinds.specs.Kinds.{AreReady}
+use Rattle.lv_tree.specs.Kinds.{AreReady}
 use Rattle.lv_standing.specs.Queries.{AreNotes}
 use Rattle.lv_standing.specs.Inner.{asked, refreshed}
 use Rattle.lv_standing.specs.Standings.{LeavesUnasked, queries_of}

@@ -2,9 +2,9 @@
 use Rattle.std.proofs.Common.{◌≡◌, ◌∙◌, Some, false, true, arith, rules, subst, sym}
 use Rattle.lv_edits.specs.History.{list_of}
 use Rattle.lv_known.proofs.FoldableLaws.{part_can_fold}
-use Rattle.lv_kinds.specs.Kinds.{LeavesOthers}
-use Rattle.lv_kinds.specs.KindSummaries.{kind_of}
-use Rattle.lv_kinds.proofs.KeptLaws.{LeavesOthers-same}
+use Rattle.lv_tree.specs.Kinds.{LeavesOthers}
+use Rattle.lv_tree.specs.KindSummaries.{kind_of}
+use Rattle.lv_tree.proofs.KeptLaws.{LeavesOthers-same}
 use Rattle.lv_standing.specs.Inner.{IsToldAt, has_changed}
 use Rattle.lv_standing.proofs.NoteLaws.{told_change, told_nothing}
 use Rattle.lv_standing.proofs.RangeLaws.{pushed_inside, range_can_fold}

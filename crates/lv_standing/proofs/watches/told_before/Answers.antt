@@ -2,7 +2,7 @@
 use Rattle.std.proofs.Common.{◌≡◌, ◌∙◌, ◌<◌, List, ap, slice_range}
 use Rattle.lv_edits.specs.declared.edit.Edit.{Edit}
 use Rattle.lv_edits.specs.History.{list_of}
-use Rattle.lv_kinds.specs.KindSummaries.{kind_of, summary_of}
+use Rattle.lv_tree.specs.KindSummaries.{kind_of, summary_of}
 use Rattle.lv_standing.specs.declared.watches.Watch.{Watch}
 use Rattle.lv_standing.specs.Inner.{IsAlike}
 use Rattle.lv_standing.specs.Standings.{summary_at}

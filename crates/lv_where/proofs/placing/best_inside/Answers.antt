@@ -5,7 +5,7 @@ use Rattle.std.proofs.lemmas.Int.{to_z-of_z}
 use Rattle.lv_bodies.specs.Plain.{IsPlainBest}
 use Rattle.lv_bodies.specs.declared.kinds.Kind.TheVariants as kind
 use Rattle.lv_edits.specs.History.{list_of}
-use Rattle.lv_kinds.proofs.KeptLaws.{LeavesOthers-trans}
+use Rattle.lv_tree.proofs.KeptLaws.{LeavesOthers-trans}
 use Rattle.lv_where.proofs.PlaceLaws.{best_is_met, best_stands, empty_range}
 use Rattle.lv_where.proofs.SoughtLaws.{best_told}
 use Rattle.lv_where.proofs.placing.best_inside.Goals as goal

@@ -3,7 +3,7 @@ use Rattle.std.proofs.Common.{FitsSigned, None, Some, ap, of_z, refl, rules, sli
 use Rattle.std.proofs.lemmas.Int.{to_z-of_z}
 use Rattle.lv_bodies.specs.declared.kinds.Kind.TheVariants as kind
 use Rattle.lv_edits.specs.History.{list_of}
-use Rattle.lv_kinds.proofs.KeptLaws.{LeavesOthers-trans}
+use Rattle.lv_tree.proofs.KeptLaws.{LeavesOthers-trans}
 use Rattle.lv_where.specs.declared.placing.Placed.{Placed}
 use Rattle.lv_where.specs.Where.{IsFirstGreatest}
 use Rattle.lv_where.proofs.PlaceLaws.{empty_range, greatest_is_met, greatest_stands}

@@ -3,7 +3,7 @@ use Rattle.std.proofs.Common.{◌+◌, ◌<◌, ◌≤◌, arith, length, slice_
 use Rattle.lv_geometry.proofs.NodeLaws.{some_width}
 use Rattle.lv_edits.specs.History.{list_of}
 use Rattle.lv_known.proofs.FoldableLaws.{can_fold}
-use Rattle.lv_kinds.proofs.KeptLaws.{AreReady-still}
+use Rattle.lv_tree.proofs.KeptLaws.{AreReady-still}
 use Rattle.lv_where.proofs.AskedLaws.{asked_next, told_by}
 use Rattle.lv_where.proofs.SearchLaws.{by_kind, finds_end, goes_right, turns_right}
 use Rattle.lv_where.proofs.SoughtLaws.{joined_is, summaries_can_join}

@@ -1,7 +1,7 @@
 -- What the loop keeps in `first_end`: the least end of a range from `lo` on that has what is sought, or none.
 use Rattle.std.proofs.Common.{◌-◌}
 use Rattle.lv_edits.specs.History.{list_of}
-use Rattle.lv_kinds.specs.Kinds.{AreReady, LeavesOthers}
+use Rattle.lv_tree.specs.Kinds.{AreReady, LeavesOthers}
 use Rattle.lv_where.specs.Sought.{kind_for}
 use Rattle.lv_where.specs.Searches.{SearchesRight}
 use Rattle.lv_where.proofs.searching.first_end.Given as goal

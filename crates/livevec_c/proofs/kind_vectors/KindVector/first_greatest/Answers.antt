@@ -1,5 +1,5 @@
 -- Proof of `KindVector::first_greatest`: the first of the greatest elements, the same way.
-use Rattle.lv_kinds.proofs.KeptLaws.{AreReady-by}
+use Rattle.lv_tree.proofs.KeptLaws.{AreReady-by}
 use Rattle.livevec_c.proofs.kind_vectors.KindVector.first_greatest.Goals as goal
 
 pub first_greatest-requires : goal.first_greatest-requires

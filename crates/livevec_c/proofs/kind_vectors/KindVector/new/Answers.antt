@@ -1,8 +1,8 @@
 -- Proof of `KindVector::new`: an empty vector, for which nothing is claimed and nothing kept.
 use Rattle.std.proofs.Common.{[], ap, subst, sym}
 use Rattle.lv_bodies.specs.Automata.{table_of}
-use Rattle.lv_kinds.specs.Kinds.{AreKept, AreReady}
-use Rattle.lv_kinds.proofs.KeptLaws.{AreReady-new}
+use Rattle.lv_tree.specs.Kinds.{AreKept, AreReady}
+use Rattle.lv_tree.proofs.KeptLaws.{AreReady-new}
 use Rattle.livevec_c.proofs.kind_vectors.KindVector.new.Goals as goal
 
 pub invariant_of-result : goal.invariant_of-result

@@ -1,7 +1,8 @@
 -- What the loop keeps in `push_cells`: pushes one of the two scans of a range of a vector, by runs of elements that lie side by side.
 use Rattle.std.proofs.Common.{◌≡◌, ◌-◌, ◌≤◌, vec_capacity, vec_len}
 use Rattle.lv_bodies.specs.Body.{fold_of}
-use Rattle.lv_reduce.specs.Answer.{scan_of, slice_of}
+use Rattle.lv_edits.specs.Ranges.{slice_of}
+use Rattle.lv_reduce.specs.Answer.{scan_of}
 use Rattle.lv_reduce.proofs.parallel.twos.push_cells.Given as goal
 
 -- the scan and the fold of what was read so far, with room for the rest

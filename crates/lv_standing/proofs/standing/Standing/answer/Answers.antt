@@ -1,8 +1,8 @@
 -- Proof of `Standing::answer`: what a query answers at the last edit.
 use Rattle.std.proofs.Common.{◌∙◌, ap, sym, refl, slice_range}
 use Rattle.lv_edits.specs.History.{list_of}
-use Rattle.lv_kinds.specs.KindSummaries.{kind_of, shown_of}
-use Rattle.lv_kinds.proofs.KindLaws.{shown_is_plain}
+use Rattle.lv_tree.specs.KindSummaries.{kind_of, shown_of}
+use Rattle.lv_tree.proofs.KindLaws.{shown_is_plain}
 use Rattle.lv_standing.proofs.RangeLaws.{range_can_fold}
 use Rattle.lv_standing.proofs.EntryLaws.{current_found, query_by, query_missing, query_there}
 use Rattle.lv_standing.proofs.standing.Standing.answer.Goals as goal

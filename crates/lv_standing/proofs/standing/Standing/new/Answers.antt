@@ -1,8 +1,8 @@
 -- Proof of `Standing::new`: an empty vector, and no queries.
 use Rattle.std.proofs.Common.{[], arith, subst}
 use Rattle.lv_bodies.specs.Plain.{program_table}
-use Rattle.lv_kinds.specs.Kinds.{AreKept}
-use Rattle.lv_kinds.proofs.KeptLaws.{AreReady-new}
+use Rattle.lv_tree.specs.Kinds.{AreKept}
+use Rattle.lv_tree.proofs.KeptLaws.{AreReady-new}
 use Rattle.lv_standing.proofs.standing.Standing.new.Goals as goal
 
 pub invariant_of-result : goal.invariant_of-result

@@ -1,6 +1,6 @@
 -- Proof of `Standing::value`: the value of a kind over the elements from index `lo` up to `hi`.
 use Rattle.std.proofs.Common.{◌≤◌, ◌+◌, Result, Ok, Err, IfOk, arith, inl}
-use Rattle.lv_kinds.proofs.KeptLaws.{near_short}
+use Rattle.lv_tree.proofs.KeptLaws.{near_short}
 use Rattle.lv_standing.proofs.standing.Standing.value.Goals as goal
 
 -- a fact holds where a call answers

@@ -8,8 +8,8 @@ use Rattle.lv_edits.specs.History.{list_of}
 use Rattle.std.specs.Str.{bytes_eq}
 use Rattle.indexmap.proofs.CallerLemmas.{insert_entry-new}
 use Rattle.lv_standing.specs.Standings.{IsCurrent, queries_of, query_at}
-use Rattle.lv_kinds.specs.KindSummaries.{kind_of}
-use Rattle.lv_kinds.proofs.KindLaws.{kind_of_part, part_is_current}
+use Rattle.lv_tree.specs.KindSummaries.{kind_of}
+use Rattle.lv_tree.proofs.KindLaws.{kind_of_part, part_is_current}
 use Rattle.lv_standing.proofs.EntryLaws.{all_added, not_found, refused_many, refused_not, refused_taken}
 use Rattle.lv_standing.proofs.standing.Standing.watch.Goals as goal
 

@@ -1,8 +1,0 @@
--- Proof of `Runs::tell`: where there are elements, their fold is their summary.
-use Rattle.std.proofs.Common.{ap, ◌∙◌}
-use Rattle.lv_kinds.specs.declared.kind_summaries.KindSummary.TheVariants.{Best}
-use Rattle.lv_kinds.proofs.ToldLaws.{best_told}
-use Rattle.lv_kinds.proofs.of_kind.RunsOfKind.tell.Goals as goal
-
-pub returns : goal.returns
-returns c body table xs fits elements some fold = ap Best c.then_some.ensures ∙ best_told table xs c.args.some c.args.s elements some fold

@@ -1,0 +1,114 @@
+-- What is left alone stays so over several steps, and room for some elements is room for fewer.
+use Rattle.std.proofs.Common.{◌≡◌, ℕ, ◌+◌, ◌≤◌, ◌++◌, List, [], ap, inl, length, refl, subst, sym, ◌∙◌, arith}
+use Rattle.lv_bodies.specs.declared.kinds.Kind.{Kind}
+use Rattle.lv_edits.specs.declared.edit.Edit.{Edit}
+use Rattle.lv_bodies.specs.AffineMaps.{affine_operations}
+use Rattle.lv_bodies.specs.Extremes.{highest_operations, lowest_operations}
+use Rattle.lv_bodies.specs.RunTotals.{runs_operations}
+use Rattle.lv_bodies.specs.Sums.{sum_operations}
+use Rattle.lv_bodies.specs.Tables.{automaton_operations}
+use Rattle.lv_edits.proofs.HistoryLaws.{list_of_replayed, replayed-nil}
+use Rattle.lv_tree.specs.Follows.{IsLate}
+use Rattle.lv_tree.specs.LastSum.{IsSumOfRange}
+use Rattle.lv_tree.specs.declared.last_sum.LastSum.{LastSum}
+use Rattle.lv_tree.proofs.FollowLaws.{late_edits}
+use Rattle.lv_tree.specs.Kinds.{AreKept, AreReady, HaveRoomFor, IsNear, KeepsAlike, KindsState, LeavesAll, LeavesOthers}
+
+-- room for some elements is room for fewer
+pub HaveRoomFor-fewer : (s : KindsState) (size fewer : ℕ) → fewer ≤ size → HaveRoomFor s size → HaveRoomFor s fewer
+HaveRoomFor-fewer s size fewer less room = record { room = omega (arith, room.room) }
+
+-- a vector without elements needs none
+pub AreReady-new : (table : List (List ℕ)) (s : KindsState) → AreKept table [] s → AreReady table [] s
+AreReady-new table s kept = record { kept = kept; room = record { room = omega (arith, ap length (list_of_replayed [] [] replayed-nil)) } }
+
+-- a short range is near
+pub near_short : (k : Kind) (lo hi : ℕ) (s : KindsState) → hi ≤ lo + 64 → IsNear k lo hi s
+near_short k lo hi s short = inl short
+
+-- what is kept is kept by the table that is there
+pub AreKept-by : (table : List (List ℕ)) (edits : List Edit) (s : KindsState) → AreKept table edits s → AreKept s.table edits s
+AreKept-by table edits s kept = subst (λ t. AreKept t edits s) (sym kept.table_is) kept
+
+-- so is what is ready
+pub AreReady-by : (table : List (List ℕ)) (edits : List Edit) (s : KindsState) → AreReady table edits s → AreReady s.table edits s
+AreReady-by table edits s ready = record { kept = AreKept-by table edits s ready.kept; room = ready.room }
+
+-- what is ready by the table that there is now is ready by that of the beginning
+pub AreReady-still : (table : List (List ℕ)) (edits : List Edit) (mid new : KindsState) → mid.table ≡ table → AreReady mid.table edits new → AreReady table edits new
+AreReady-still table edits mid new same ready = subst (λ t. AreReady t edits new) same ready
+
+-- after a question all is as ready as before it
+pub AreReady-asked : (table : List (List ℕ)) (edits : List Edit) (kind : Kind) (old new : KindsState) → AreReady table edits old → LeavesOthers kind old new → AreKept old.table edits new → AreReady table edits new
+AreReady-asked table edits kind old new ready leaves kept = record {
+  kept = subst (λ t. AreKept t edits new) ready.kept.table_is kept;
+  room = leaves.room _ ready.room;
+}
+
+-- so it is once room is made
+pub AreReady-alike : (table : List (List ℕ)) (edits : List Edit) (old new : KindsState) → AreReady table edits old → KeepsAlike old new → AreReady table edits new
+AreReady-alike table edits old new ready alike = record {
+  kept = alike.kept table edits ready.kept;
+  room = alike.leaves.room _ ready.room;
+}
+
+-- nothing changes where nothing is done
+pub LeavesAll-same : (s : KindsState) → LeavesAll s s
+LeavesAll-same s = record { table = refl; followed = λ k. refl; blocks = λ k. refl; room = λ size room. room }
+
+pub LeavesOthers-same : (kind : Kind) (s : KindsState) → LeavesOthers kind s s
+LeavesOthers-same kind s = record { table = refl; followed = λ k apart. refl; blocks = λ k apart. refl; room = λ size room. room }
+
+pub KeepsAlike-same : (s : KindsState) → KeepsAlike s s
+KeepsAlike-same s = record { leaves = LeavesAll-same s; kept = λ table edits kept. kept }
+
+-- two steps leave what each of them does
+pub LeavesAll-trans : (old mid new : KindsState) → LeavesAll old mid → LeavesAll mid new → LeavesAll old new
+LeavesAll-trans old mid new first second = record {
+  table = second.table ∙ first.table;
+  followed = λ k. second.followed k ∙ first.followed k;
+  blocks = λ k. second.blocks k ∙ first.blocks k;
+  room = λ size room. second.room size (first.room size room);
+}
+
+pub LeavesOthers-trans : (kind : Kind) (old mid new : KindsState) → LeavesOthers kind old mid → LeavesOthers kind mid new → LeavesOthers kind old new
+LeavesOthers-trans kind old mid new first second = record {
+  table = second.table ∙ first.table;
+  followed = λ k apart. second.followed k apart ∙ first.followed k apart;
+  blocks = λ k apart. second.blocks k apart ∙ first.blocks k apart;
+  room = λ size room. second.room size (first.room size room);
+}
+
+-- the trees are the same, and the table and the room
+pub record SameTrees (old new : KindsState) : Type 0 where
+  pub table : new.table ≡ old.table
+  pub room : new.room ≡ old.room
+  pub sums : new.sums ≡ old.sums
+  pub least : new.least ≡ old.least
+  pub greatest : new.greatest ≡ old.greatest
+  pub best : new.best ≡ old.best
+  pub maps : new.maps ≡ old.maps
+  pub states : new.states ≡ old.states
+
+-- so what is kept is right after any edits, if the sum that was told last is
+pub kept_by_edits : (table : List (List ℕ)) (edits more : List Edit) (old new : KindsState) → SameTrees old new → IsSumOfRange (edits ++ more) new.last → AreKept table edits old → AreKept table (edits ++ more) new
+kept_by_edits table edits more old new same last kept = record {
+  table_is = same.table ∙ kept.table_is;
+  last = last;
+  sums = subst (IsLate sum_operations (edits ++ more)) (sym same.sums) (late_edits sum_operations edits more old.sums kept.sums);
+  least = subst (IsLate lowest_operations (edits ++ more)) (sym same.least) (late_edits lowest_operations edits more old.least kept.least);
+  greatest = subst (IsLate highest_operations (edits ++ more)) (sym same.greatest) (late_edits highest_operations edits more old.greatest kept.greatest);
+  best = subst (IsLate runs_operations (edits ++ more)) (sym same.best) (late_edits runs_operations edits more old.best kept.best);
+  maps = subst (IsLate affine_operations (edits ++ more)) (sym same.maps) (late_edits affine_operations edits more old.maps kept.maps);
+  states = subst (λ t. IsLate (automaton_operations t) (edits ++ more) new.states) (sym same.table)
+      (subst (IsLate (automaton_operations old.table) (edits ++ more)) (sym same.states) (late_edits (automaton_operations old.table) edits more old.states kept.states));
+}
+
+-- the same where the sum alone is another
+pub kept_after : (table : List (List ℕ)) (edits more : List Edit) (view old : KindsState) (last : LastSum) → view ≡ old → IsSumOfRange (edits ++ more) last → AreKept table edits old → AreKept table (edits ++ more) (record view { last = last })
+kept_after table edits more view old last same is kept =
+    kept_by_edits table edits more view (record view { last = last }) (record { table = refl; room = refl; sums = refl; least = refl; greatest = refl; best = refl; maps = refl; states = refl }) is (subst (AreKept table edits) (sym same) kept)
+
+-- the sum that was told last
+pub last_of : (table : List (List ℕ)) (edits : List Edit) (view old : KindsState) → view ≡ old → AreKept table edits old → IsSumOfRange edits view.last
+last_of table edits view old same kept = subst (λ (s : KindsState). IsSumOfRange edits s.last) (sym same) kept.last
