@@ -14,11 +14,12 @@ fn main() {
         Some("reductions") => show_reductions(),
         Some("questions") => show_questions(),
         Some("refreshes") => show_refreshes(),
+        Some("searches") => show_searches(),
         Some("parallels") => {
             show_wholes::<Sum>("sum");
             show_wholes::<Best>("best");
         }
-        _ => panic!("folds, reductions, questions, refreshes or parallels"),
+        _ => panic!("folds, reductions, questions, refreshes, searches or parallels"),
     }
 }
 
@@ -159,6 +160,40 @@ fn show_folded<S: Summary + Into<Shown>>(kind: &str, size: usize) {
         black_box(&elements);
         1
     });
+}
+
+// Searches from either end of a random range, by descent of a tree: of the first and the last element that is at least so great, and of the end
+// at which a sum is reached. What is looked for is likely to be one element to a million off.
+fn show_searches() {
+    for size in [1_000, 30_000, 1_048_560] {
+        let elements = elements(size);
+        let greatest = Tree::<Greatest>::new(&elements);
+        let great = |far: u32| (1i64 << 55) - ((1i64 << 55) >> far);
+        show_search(&format!("first at least {size}"), size, |lo, hi, far| {
+            let end = greatest.find_end(lo, |most| most.0 >= great(far))?;
+            (end <= hi).then(|| end as u32 - 1)
+        });
+        show_search(&format!("last at least {size}"), size, |lo, hi, far| {
+            let start = greatest.find_start(hi, |most| most.0 >= great(far))?;
+            (lo <= start).then_some(start as u32)
+        });
+        let totals = Tree::<Best>::new(&elements);
+        show_search(&format!("end of a sum {size}"), size, |lo, hi, far| {
+            let end = totals.find_end(lo, |run| run.is_some_and(|run| run.prefix >= 1i128 << (54 + far / 2)))?;
+            (end <= hi).then_some(end as u32)
+        });
+    }
+}
+
+// Shows one search. An empty range has nothing.
+fn show_search(label: &str, size: usize, find: impl Fn(usize, usize, u32) -> Option<u32>) {
+    let mut last = None;
+    show(&format!("tree {label}"), 10_000, 4, |number| {
+        let (lo, hi) = range(number, size);
+        let found = if lo < hi { find(lo, hi, pick(other(other(other(number))), 20) as u32) } else { None };
+        u64::from(std::mem::replace(&mut last, found) == found)
+    });
+    println!("answers: {label} {last:?}");
 }
 
 // Writes to a tree, which refreshes all that a write makes stale.
