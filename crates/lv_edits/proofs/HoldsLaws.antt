@@ -1,8 +1,8 @@
 -- A store that holds what a journal leaves: what it tells of the history, and that it goes on to hold it through each kind of edit.
-use Rattle.std.proofs.Common.{◌≡◌, ℕ, ℤ, pos, ◌+◌, ◌-◌, ◌<◌, ◌≤◌, max, All, Some, None, Option, Result, List, [], ◌∷◌, ◌++◌, length, take, slice_set, get_or, inl, inr, Bool, true, false, nat_eq, if◌then◌else◌, refl, sym, ap, subst, ◌∙◌, arith}
+use Rattle.std.proofs.Common.{◌≡◌, ℕ, ℤ, pos, ◌+◌, ◌-◌, ◌<◌, ◌≤◌, max, All, Some, None, Option, Result, List, [], ◌∷◌, ◌++◌, length, take, slice_set, get_or, inl, inr, Bool, true, false, nat_eq, if◌then◌else◌, refl, sym, ap, subst, ◌∙◌, arith, lit≤, true≢false}
 use Rattle.std.specs.Prelude.{◌≢◌, IfSome, IsErrAnd, IsSomeAnd}
-use Rattle.std.specs.List.{swap}
-use Rattle.std.proofs.lemmas.Bool.{cases_Bool, cond-false, cond-true, eqb-false, eqb-true}
+use Rattle.std.specs.List.{Contains, swap}
+use Rattle.std.proofs.lemmas.Bool.{cases_Bool, cond-false, cond-true, eqb-false, eqb-true, or_cases}
 use Rattle.std.proofs.lemmas.List.{length_push, length-set, length-take, set-set}
 use Rattle.std.proofs.lemmas.List.Edits.{length-swap, swap_is}
 use Rattle.std.proofs.lemmas.List.Elements.{All-get_or}
@@ -13,16 +13,17 @@ use Rattle.lv_geometry.specs.Elements.{IsElement}
 use Rattle.lv_geometry.specs.declared.refusals.Refusal.{Refusal}
 use Rattle.lv_geometry.specs.declared.refusals.Refusal.TheVariants.{NoMemory}
 use Rattle.lv_store.specs.Inner.{IsStore}
-use Rattle.lv_store.specs.State.{AreAlike, StoreState, announced, elements_of, empty_store, value_in}
+use Rattle.lv_store.specs.State.{AreAlike, StoreState, announced, are_at, elements_of, empty_store, value_in, writes_of}
 use Rattle.lv_store.proofs.ElementsLaws.{elements-popped, elements-pushed, elements-rewritten, elements-unwritten, elements-written, elements_alike, get_or-elements, length-elements}
 use Rattle.lv_geometry.proofs.Capacities.{capacity_of_mono}
 use Rattle.lv_edits.specs.declared.edit.Edit.{Edit}
 use Rattle.lv_edits.specs.declared.edit.Edit.TheVariants.{Push, Pop, Write, Reserve, Swap, Truncate}
 use Rattle.lv_edits.specs.declared.receipt.Receipt.{Receipt}
 use Rattle.lv_edits.specs.Capacity.{capacity_after, reserved_by}
-use Rattle.lv_edits.specs.History.{applied, list_of}
-use Rattle.lv_edits.specs.Inner.{AreNeeded, HoldsReplay, write_at_second}
+use Rattle.lv_edits.specs.History.{History, applied, list_of}
+use Rattle.lv_edits.specs.Inner.{AreNeeded, HoldsReplay, history_of, write_at_second}
 use Rattle.lv_edits.specs.Kept.{CarriesElement, IsLegalInLimits}
+use Rattle.lv_edits.specs.Touch.{LastWroteAt, indices_written}
 use Rattle.lv_edits.specs.Verdict.{Answers, refused_on, verdict_of}
 use Rattle.lv_edits.proofs.CapacityLaws.{AreNeeded-empty, AreNeeded-snoc, capacity_after_needed, fewest_within}
 use Rattle.lv_edits.proofs.HistoryLaws.{IsLegalInLimits-empty, IsLegalInLimits-snoc, applied_pop, applied_swap, applied_truncate, applied_write, list_of-snoc, list_of_replayed, not_refused, replayed-nil, unrefused_pop, unrefused_push, unrefused_reserve, unrefused_swap, unrefused_truncate, unrefused_write}
@@ -46,6 +47,14 @@ pub fits_held : (s : StoreState) (journal : List Edit) (i : ℕ) → HoldsReplay
 fits_held s journal i held inside =
     subst IsElement (get_or-elements s i (pos 0) inside) (All-get_or IsElement (elements_of s) i (pos 0) (omega (arith, length-elements s)) (subst (All IsElement) (sym held.items) held.kept.elements))
 
+-- nothing is pending at an index where nothing is pending
+pub none_pending : (s : StoreState) (journal : List Edit) → s.descriptor.pending ≡ None → (i : ℕ) → are_at i s.descriptor.pending ≡ true → LastWroteAt journal i
+none_pending s journal settled i there = absurd (true≢false (sym there ∙ ap (are_at i) settled))
+
+-- where a write is pending, the last edit wrote
+pub wrote_last : (s : StoreState) (journal : List Edit) (h : History) (i : ℕ) → HoldsReplay s journal → history_of s journal ≡ h → are_at i s.descriptor.pending ≡ true → LastWroteAt h.journal i
+wrote_last s journal h i held is there = rw (← is) (held.pending i there)
+
 -- no edits are held by an empty store
 pub HoldsReplay-empty : (limits : Bounds) → IsStore (empty_store limits) → HoldsReplay (empty_store limits) []
 HoldsReplay-empty limits sound = record {
@@ -54,16 +63,18 @@ HoldsReplay-empty limits sound = record {
   items = sym (list_of_replayed [] [] replayed-nil);
   needed = AreNeeded-empty;
   edit = refl;
+  pending = none_pending (empty_store limits) [] refl;
 }
 
--- a store that reads alike, with the same buckets, holds the same
-pub HoldsReplay-alike : (s t : StoreState) (journal : List Edit) → HoldsReplay s journal → AreAlike s t → t.buckets ≡ s.buckets → IsStore t → HoldsReplay t journal
-HoldsReplay-alike s t journal held alike buckets sound = record {
+-- a store that reads alike, with the same buckets and nothing pending, holds the same
+pub HoldsReplay-alike : (s t : StoreState) (journal : List Edit) → HoldsReplay s journal → AreAlike s t → t.buckets ≡ s.buckets → t.descriptor.pending ≡ None → IsStore t → HoldsReplay t journal
+HoldsReplay-alike s t journal held alike buckets settled sound = record {
   sound = sound;
   kept = rw alike.limits held.kept;
   items = elements_alike s t alike ∙ held.items;
   needed = rw buckets held.needed;
   edit = alike.edit ∙ held.edit;
+  pending = none_pending t journal settled;
 }
 
 -- and tells the same of the history
@@ -104,15 +115,34 @@ needed_held s journal e ys n more held made asks opens =
     let fewest = fewest_within n s.limits.buckets asks.within in
     subst (AreNeeded (journal ++ e ∷ [])) (sym (opens fewest.0 fewest.2)) (AreNeeded-snoc journal e s.buckets fewest.0 n held.needed fewest.2 (omega (arith, asks.no_more)) (omega (arith, asks.no_less)))
 
+-- where an edit announces no write, none is at an index
+wrote_none : (indices : List ℕ) (k : ℕ) → are_at k (writes_of None None) ≡ true → Contains indices k
+wrote_none indices k there = absurd (true≢false (sym there))
+
+-- where it announces one, that is at its index
+wrote_one : (i at : ℕ) (x : ℤ) → i ≡ at → (k : ℕ) → are_at k (writes_of (Some (i, x)) None) ≡ true → Contains (at ∷ []) k
+wrote_one i at x is k there = (0, lit≤ tt, sym is ∙ eqb-true i k there)
+
+-- where a swap announces one or two, they are at its indices
+wrote_both : (i j k : ℕ) (x y : ℤ) (one : Bool) → are_at k (writes_of (Some (i, y)) (if one then None else Some (j, x))) ≡ true → Contains (i ∷ j ∷ []) k
+wrote_both i j k x y true there = (0, lit≤ tt, eqb-true i k there)
+wrote_both i j k x y false there =
+    elim (or_cases (nat_eq j k) (nat_eq i k) there) [
+      | inl second ↦ (1, lit≤ tt, eqb-true j k second)
+      | inr first ↦ (0, lit≤ tt, eqb-true i k first)
+    ]
+
 -- an edit that is announced to a store that reads alike, with the cells open that it asks for, is held
-HoldsReplay-announced : (s m : StoreState) (journal : List Edit) (e : Edit) (ys : List ℤ) (n : ℕ) (first second : Option (ℕ × ℤ)) (size : ℕ) → HoldsReplay s journal → verdict_of s.limits journal e ≡ None → applied (elements_of s) e ≡ Some ys → CarriesElement e → Asks s e ys n → AreAlike s m → ((k : ℕ) → AreFewest n k → m.buckets ≡ max s.buckets k) → IsStore (announced m first second size) → elements_of (announced m first second size) ≡ ys → HoldsReplay (announced m first second size) (journal ++ e ∷ [])
-HoldsReplay-announced s m journal e ys n first second size held free made carried asks alike opens sound elements =
+HoldsReplay-announced : (s m : StoreState) (journal : List Edit) (e : Edit) (ys : List ℤ) (n : ℕ) (first second : Option (ℕ × ℤ)) (size : ℕ) → HoldsReplay s journal → verdict_of s.limits journal e ≡ None → applied (elements_of s) e ≡ Some ys → CarriesElement e → Asks s e ys n → AreAlike s m → ((k : ℕ) → AreFewest n k → m.buckets ≡ max s.buckets k) → IsStore (announced m first second size) → elements_of (announced m first second size) ≡ ys
+    → ((i : ℕ) → are_at i (writes_of first second) ≡ true → Contains (indices_written (list_of journal) e) i) → HoldsReplay (announced m first second size) (journal ++ e ∷ [])
+HoldsReplay-announced s m journal e ys n first second size held free made carried asks alike opens sound elements wrote =
     record {
       sound = sound;
       kept = rw alike.limits (IsLegalInLimits-snoc record { limits = s.limits; journal = journal } e held.kept free carried);
       items = elements ∙ sym (list_held s journal e ys held made);
       needed = needed_held s journal e ys n m.buckets held made asks opens;
       edit = omega (arith, alike.edit, held.edit, length_push journal e);
+      pending = λ i there. record { before = journal; last = e; all = refl; there = wrote i there };
     }
 
 -- an accepted push has room within the limits
@@ -131,7 +161,7 @@ push_held s m journal x i at held free fits alike settled opens sound =
       no_more = omega arith;
       no_less = omega arith;
       within = omega (arith, push_fits s journal x held free);
-    } alike opens sound elements
+    } alike opens sound elements (wrote_one i (length (list_of journal)) x (at ∙ size_held s journal held))
 
 -- there is an element where a pop is accepted
 pub pop_fits : (s : StoreState) (journal : List Edit) → HoldsReplay s journal → verdict_of s.limits journal Pop ≡ None → 1 ≤ s.descriptor.size
@@ -148,7 +178,7 @@ pop_held s m journal last at held free alike settled opens sound =
       no_more = omega arith;
       no_less = omega (arith, length-take (length (elements_of s) - 1) (elements_of s), held.sound.size);
       within = omega arith;
-    } alike opens sound elements
+    } alike opens sound elements (wrote_none [])
 
 -- the index of an accepted write is that of an element
 pub write_fits : (s : StoreState) (journal : List Edit) (i : ℕ) (x : ℤ) → HoldsReplay s journal → verdict_of s.limits journal (Write i x) ≡ None → i < s.descriptor.size
@@ -164,7 +194,7 @@ write_held s m journal i x size at held free fits alike settled opens sound =
       no_more = omega arith;
       no_less = omega (arith, length-set (elements_of s) i x, length-elements s, held.sound.size);
       within = omega arith;
-    } alike opens sound elements
+    } alike opens sound elements (wrote_one i i x refl)
 
 -- what an accepted reserve asks for is within the limits
 pub reserve_fits : (s : StoreState) (journal : List Edit) (n : ℕ) → HoldsReplay s journal → verdict_of s.limits journal (Reserve n) ≡ None → n ≤ capacity_of s.limits.buckets
@@ -179,7 +209,7 @@ reserve_held s m journal n size at held free alike settled opens sound =
       no_more = omega arith;
       no_less = omega (arith, length-elements s, held.sound.size);
       within = reserve_fits s journal n held free;
-    } alike opens sound elements
+    } alike opens sound elements (wrote_none [])
 
 -- the indices of an accepted swap are those of elements
 pub swap_fits : (s : StoreState) (journal : List Edit) (i j : ℕ) → HoldsReplay s journal → verdict_of s.limits journal (Swap i j) ≡ None → (i < s.descriptor.size) × (j < s.descriptor.size)
@@ -234,7 +264,7 @@ swap_held s m journal i j x y size at before after held free alike settled opens
       no_more = omega arith;
       no_less = omega (arith, length-swap (elements_of s) i j, length-elements s, held.sound.size);
       within = omega arith;
-    } alike opens sound elements
+    } alike opens sound elements (λ k there. wrote_both i j k x y (nat_eq i j) there)
 
 -- an accepted truncate keeps no more elements than there are
 pub truncate_fits : (s : StoreState) (journal : List Edit) (n : ℕ) → HoldsReplay s journal → verdict_of s.limits journal (Truncate n) ≡ None → n ≤ s.descriptor.size
@@ -250,4 +280,4 @@ truncate_held s m journal n held free alike settled opens sound =
       no_more = omega arith;
       no_less = omega (arith, length-take n (elements_of s), length-elements s, held.sound.size);
       within = omega arith;
-    } alike opens sound elements
+    } alike opens sound elements (wrote_none [])

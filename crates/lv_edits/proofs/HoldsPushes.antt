@@ -18,7 +18,7 @@ use Rattle.lv_edits.specs.Inner.{AreNeeded, HoldsReplay, history_of}
 use Rattle.lv_edits.specs.Kept.{IsLegalInLimits}
 use Rattle.lv_edits.specs.Pushes.{AnswersAll, verdict_of_pushes, with_pushes}
 use Rattle.lv_edits.proofs.CapacityLaws.{fewest_within}
-use Rattle.lv_edits.proofs.HoldsLaws.{size_held}
+use Rattle.lv_edits.proofs.HoldsLaws.{none_pending, size_held}
 use Rattle.lv_edits.proofs.PushLaws.{AreNeeded-pushes, IsLegalInLimits-pushes, MadeByPushes, keeps_limits, made_by_pushes}
 
 -- what is refused for want of memory alone leaves the history as it was, where the store reads alike
@@ -59,6 +59,7 @@ pushes_held s m journal xs held free fits alike settled opens sound room =
       items = has.elements ∙ ap (λ ys. ys ++ xs) (elements_alike s m alike ∙ held.items) ∙ sym made.list;
       needed = subst (AreNeeded (with_pushes h xs).journal) (sym buckets) (AreNeeded-pushes h xs s.buckets fewest.0 (keeps_limits h held.kept) free held.needed (subst (λ n. AreFewest n fewest.0) count fewest.2));
       edit = ap (λ u. u.descriptor.edit) is ∙ ap (λ n. n + length xs) (alike.edit ∙ held.edit) ∙ sym made.edits;
+      pending = none_pending t _ (ap (λ u. u.descriptor.pending) is);
     }
 
 -- a history is told by its fields

@@ -59,4 +59,4 @@ write_held_through s m journal i x held free is fits sound =
     let next = announced m (Some (i, x)) None m.descriptor.size in
     let next_sound = IsStore-announced m i x allows.edit allows.index fits sound in
     let (alike, buckets, pending) = settled_alike next next_sound in
-    HoldsReplay-alike next (settled next) _ (write_held_settled s m journal i x m.descriptor.size held free is refl fits next_sound) alike buckets (IsStore-completed next next.descriptor.pending refl next_sound)
+    HoldsReplay-alike next (settled next) _ (write_held_settled s m journal i x m.descriptor.size held free is refl fits next_sound) alike buckets pending (IsStore-completed next next.descriptor.pending refl next_sound)

@@ -1,12 +1,13 @@
 -- What the fields of `Edits` keep.
-use Rattle.std.specs.Prelude.{◌≡◌, ℕ, ℤ, Option, Some, None, max, List, length, nat_eq, if◌then◌else◌}
+use Rattle.std.specs.Prelude.{◌≡◌, ℕ, ℤ, Option, Some, None, true, max, List, length, nat_eq, if◌then◌else◌}
 use Rattle.lv_geometry.specs.Cells.{AreFewest}
 use Rattle.lv_store.specs.Inner.{IsStore}
-use Rattle.lv_store.specs.State.{StoreState, elements_of}
+use Rattle.lv_store.specs.State.{StoreState, are_at, elements_of}
 use Rattle.lv_edits.specs.declared.edit.Edit.{Edit}
 use Rattle.lv_edits.specs.Capacity.{longest, most_reserved}
 use Rattle.lv_edits.specs.History.{History, list_of}
 use Rattle.lv_edits.specs.Kept.{IsLegalInLimits}
+use Rattle.lv_edits.specs.Touch.{LastWroteAt}
 
 -- so many buckets are needed, and no fewer, for all that the list ever had and all that was ever reserved
 abbrev pub AreNeeded : List Edit → ℕ → Type 0
@@ -21,10 +22,11 @@ abbrev pub history_of : StoreState → List Edit → History
 history_of store journal = record { limits = store.limits; journal = journal }
 
 -- a store holds what a journal leaves: the journal is legal in the store's limits, its list is the store's elements, so many buckets
--- are open as are needed, and its last edit is the store's
+-- are open as are needed, its last edit is the store's, and a write is pending only where that edit wrote
 pub record HoldsReplay (store : StoreState) (journal : List Edit) : Type 0 where
   pub sound : IsStore store
   pub kept : IsLegalInLimits record { limits = store.limits; journal = journal }
   pub items : elements_of store ≡ list_of journal
   pub needed : AreNeeded journal store.buckets
   pub edit : store.descriptor.edit ≡ length journal
+  pub pending : (i : ℕ) → are_at i store.descriptor.pending ≡ true → LastWroteAt journal i

@@ -1,6 +1,6 @@
--- Which edits touch a node, and when a node is whole.
-use Rattle.std.specs.Prelude.{ℕ, ℤ, ◌+◌, ◌*◌, ◌^◌, Bool, false, ◌&&◌, List, [], ◌∷◌, length, take, drop, fold, slice_get, if◌then◌else◌}
-use Rattle.std.specs.List.{list_any, range_with_len}
+-- Where edits write, which of them touch a node, and when a node is whole.
+use Rattle.std.specs.Prelude.{◌≡◌, ℕ, ℤ, ◌+◌, ◌*◌, ◌^◌, Bool, false, ◌&&◌, List, [], ◌∷◌, ◌++◌, length, take, drop, fold, slice_get, if◌then◌else◌}
+use Rattle.std.specs.List.{Contains, list_any, range_with_len}
 use Rattle.std.specs.Option.{option_map_or}
 use Rattle.lv_geometry.specs.declared.nodes.Node.{Node}
 use Rattle.lv_geometry.specs.Nodes.{covers, is_below, is_node}
@@ -17,6 +17,13 @@ indices_written xs (Write i x) = i ∷ []
 indices_written xs (Reserve n) = []
 indices_written xs (Swap i j) = i ∷ j ∷ []
 indices_written xs (Truncate n) = []
+
+-- the last of some edits wrote at an index
+pub record LastWroteAt (edits : List Edit) (i : ℕ) : Type 0 where
+  pub before : List Edit
+  pub last : Edit
+  pub all : edits ≡ before ++ last ∷ []
+  pub there : Contains (indices_written (list_of before) last) i
 
 -- whether an edit on a list touches a node: it writes at an index of the node
 abbrev pub touches : List ℤ → Edit → Node → Bool

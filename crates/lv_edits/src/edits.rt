@@ -4,6 +4,7 @@ ghost use Rattle.std.specs.List.{slice_index_or, slice_range};
 ghost use Rattle.lv_edits.specs.Capacity.{capacity_after, IsCapacityAfter};
 ghost use Rattle.lv_edits.specs.History.{History, list_of};
 ghost use Rattle.lv_edits.specs.Kept.{IsLegalInLimits};
+ghost use Rattle.lv_edits.specs.Touch.{LastWroteAt};
 ghost use Rattle.lv_edits.specs.Verdict.{Answers, element_at, verdict_of};
 
 mod batches;
@@ -218,11 +219,13 @@ impl<J: Journal> Edits<J> {
 
     /// Elements from index `from` on, before `to`, lent where they lie: as many as lie side by side with no write pending among them.
     /// There are none only where the last edit's write at `from` isn't in its cell yet: then `read` tells the element.
+    #[tactic(auto, using(crate::proofs::HoldsLaws::wrote_last))]
     pub fn stretch(&self, from: u32, to: u32) -> &[i64]
         requires order { from < to }
         requires inside { to ≤ length (list_of self.now.journal) }
         ensures elements { result.now ≡ slice_range (list_of self.now.journal) from (from + length result.now) }
         ensures few { from + length result.now ≤ to }
+        ensures some { length result.now ≡ 0 → LastWroteAt self.now.journal from }
         ensures limits { IsLegalInLimits self.now }
     {
         self.store.stretch(from, to)

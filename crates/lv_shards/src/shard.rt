@@ -1,5 +1,5 @@
 //! The summary of a shard.
-ghost use Rattle.std.specs.Prelude.{◌≡◌, ◌++◌, ◌^◌, ◌<◌, ◌≤◌, ℤ, List, [], ℕ, IfOk, IfSome, IsSome, length, Option};
+ghost use Rattle.std.specs.Prelude.{◌≡◌, ◌++◌, ◌^◌, ◌<◌, ◌≤◌, ℤ, List, [], ℕ, IfOk, IfSome, IsSome, length, None, Option};
 ghost use Rattle.lv_bodies.specs.Automata.{table_of};
 ghost use Rattle.lv_shards.specs.Reading.{six_of};
 ghost use Rattle.lv_shards.specs.Summaries.{AreLeads, IsFold, IsPossible, IsSummaryOf, empty_of, join_of, leads_of};
@@ -70,10 +70,11 @@ impl ShardSummary {
         }
     }
 
-    /// The summary of some elements where they lie.
+    /// The summary of some elements where they lie. It tells no edit.
     pub fn of_slice(automaton: Automaton, xs: &[i64]) -> ShardSummary
         requires { length xs.now ≤ 2 ^ 20 }
-        ensures { IsSummaryOf (table_of automaton) xs.now result }
+        ensures summary { IsSummaryOf (table_of automaton) xs.now result }
+        ensures edit { result.edit ≡ None }
     {
         let six = fold_slice(&SixByTable { automaton }, xs);
         ShardSummary {

@@ -11,7 +11,7 @@ make_room-requires-clause-few g c = reserve_fits _ _ c.args.cells c.requires.hel
 pub returns-in_err-make_room-clause-held : goal.returns-in_err-make_room-clause-held
 returns-in_err-make_room-clause-held g c =
     let e = c.in_err-make_room.ensures in
-    rw e.journal (HoldsReplay-alike _ _ _ c.requires.held e.alike e.closed e.sound)
+    rw e.journal (HoldsReplay-alike _ _ _ c.requires.held e.alike e.closed e.settled e.sound)
 
 pub returns-in_err-make_room-clause-answer : goal.returns-in_err-make_room-clause-answer
 returns-in_err-make_room-clause-answer g c =

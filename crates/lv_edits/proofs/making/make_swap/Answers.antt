@@ -15,7 +15,7 @@ read-after-requires g c = omega (arith, (swap_fits _ _ c.args.first c.args.secon
 pub returns-in_err-make_room-clause-held : goal.returns-in_err-make_room-clause-held
 returns-in_err-make_room-clause-held g c =
     let e = c.in_err-make_room.ensures in
-    rw e.journal (HoldsReplay-alike _ _ _ c.requires.held e.alike e.closed e.sound)
+    rw e.journal (HoldsReplay-alike _ _ _ c.requires.held e.alike e.closed e.settled e.sound)
 
 pub returns-in_err-make_room-clause-answer : goal.returns-in_err-make_room-clause-answer
 returns-in_err-make_room-clause-answer g c =

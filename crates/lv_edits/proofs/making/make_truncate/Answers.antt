@@ -7,7 +7,7 @@ use Rattle.lv_edits.proofs.making.make_truncate.Goals as goal
 pub returns-in_err-make_room-clause-held : goal.returns-in_err-make_room-clause-held
 returns-in_err-make_room-clause-held g c =
     let e = c.in_err-make_room.ensures in
-    rw e.journal (HoldsReplay-alike _ _ _ c.requires.held e.alike e.closed e.sound)
+    rw e.journal (HoldsReplay-alike _ _ _ c.requires.held e.alike e.closed e.settled e.sound)
 
 pub returns-in_err-make_room-clause-answer : goal.returns-in_err-make_room-clause-answer
 returns-in_err-make_room-clause-answer g c =

@@ -11,7 +11,7 @@ use Rattle.lv_edits.proofs.writing.make_writes.Goals as goal
 pub returns-in_err-make_room-clause-held : goal.returns-in_err-make_room-clause-held
 returns-in_err-make_room-clause-held g c =
     let e = c.in_err-make_room.ensures in
-    rw e.journal (HoldsReplay-alike _ _ _ c.requires.held e.alike e.closed e.sound)
+    rw e.journal (HoldsReplay-alike _ _ _ c.requires.held e.alike e.closed e.settled e.sound)
 
 pub returns-in_err-make_room-clause-answer : goal.returns-in_err-make_room-clause-answer
 returns-in_err-make_room-clause-answer g c =
@@ -22,7 +22,7 @@ pub write_each-requires-clause-held : goal.write_each-requires-clause-held
 write_each-requires-clause-held g c =
     let e = c.in_ok-make_room.ensures in
     let none : c.make_room.new.store.buckets ≡ c.args.store.now.buckets = e.buckets 0 fewest_of_none ∙ omega arith in
-    rw e.journal (HoldsReplay-alike _ _ _ c.requires.held e.alike none e.sound)
+    rw e.journal (HoldsReplay-alike _ _ _ c.requires.held e.alike none e.settled e.sound)
 
 pub write_each-requires-clause-free : goal.write_each-requires-clause-free
 write_each-requires-clause-free g c =

@@ -8,4 +8,4 @@ invariant_of-self g c =
     let held = c.self.invariant in
     let settled = settled_alike c.self.inside.store held.sound in
     rw c.settle.ensures.state
-    (HoldsReplay-alike _ _ (g.J.Journal.noted c.self.inside.journal) held settled.0 settled.1 (rw c.settle.ensures.state at c.settle.ensures.sound))
+    (HoldsReplay-alike _ _ (g.J.Journal.noted c.self.inside.journal) held settled.0 settled.1 settled.2 (rw c.settle.ensures.state at c.settle.ensures.sound))
