@@ -13,15 +13,27 @@ use Rattle.lv_lines.specs.Texts.{shown_text}
 use Rattle.lv_transcript.specs.declared.auditor.Stage.{Stage}
 use Rattle.lv_transcript.specs.declared.auditor.Stage.TheVariants.{Start, Edits, AnswersFollow, End, No, Bad, NoMemory}
 use Rattle.lv_transcript.specs.declared.transcript_lines.Question.{Question}
-use Rattle.lv_transcript.specs.Transcript.{edit_line, greatest, end_line, IsEdit}
-use Rattle.lv_transcript.specs.Auditing.{AuditState, AnswerLineBecomes, EditBecomes, Becomes, IsAnswered, IsQuestion, MayEnd, Takes, TakesAnswer, TakesEdit, TakesLater, question_of, text_of}
+use Rattle.lv_transcript.specs.Transcript.{edit_line, greatest, end_line, BeginsAnswer, HasEditForm, IsEdit}
+use Rattle.lv_transcript.specs.Auditing.{AuditState, AnswerLineBecomes, EditBecomes, Becomes, HasLaterForm, IsAnswered, IsFaultOf, IsQuestion, MayCome, MayEnd, Takes, TakesAnswer, TakesEdit, TakesLater, question_of, text_of}
 use Rattle.lv_transcript.proofs.ReadTranscripts.{line_of-edit_line, question_in-text_of}
 
--- what follows where the lines that may be taken are the same
-pub Becomes-same : (n : ℕ) (line : List ℕ) (P Q : AuditState → Type 0) (new : AuditState) → ((next : AuditState) → P next → Q next) → ((next : AuditState) → Q next → P next) → Becomes n line P new → Becomes n line Q new
-Becomes-same n line P Q new to back (inl taken) = inl (to new taken)
-Becomes-same n line P Q new to back (inr (inl found)) = inr (inl (found.0, λ next taken. found.1 next (back next taken)))
-Becomes-same n line P Q new to back (inr (inr none)) = inr (inr none)
+-- a fault is the same where the right forms are
+fault_same : (n : ℕ) (F G : Type 0) (stage : Stage) → (F → G) → (G → F) → IsFaultOf n F stage → IsFaultOf n G stage
+fault_same n F G (No k) to back fault = (fault.0, to fault.1)
+fault_same n F G (Bad k) to back fault = (fault.0, λ form. fault.1 (back form))
+fault_same n F G NoMemory to back fault = fault
+fault_same n F G Start to back fault = fault
+fault_same n F G Edits to back fault = fault
+fault_same n F G AnswersFollow to back fault = fault
+fault_same n F G End to back fault = fault
+
+-- what follows where the right forms, and the lines that may be taken, are the same
+pub Becomes-same : (n : ℕ) (F G : Type 0) (P Q : AuditState → Type 0) (new : AuditState) → (F → G) → (G → F) → ((next : AuditState) → P next → Q next) → ((next : AuditState) → Q next → P next)
+    → Becomes n F P new → Becomes n G Q new
+Becomes-same n F G P Q new form form_back to back (inl taken) = inl (to new taken)
+Becomes-same n F G P Q new form form_back to back (inr (inl found)) =
+    inr (inl (fault_same n F G new.stage form form_back found.0, λ next taken. found.1 next (back next taken)))
+Becomes-same n F G P Q new form form_back to back (inr (inr none)) = inr (inr none)
 
 -- ---- edits
 
@@ -49,7 +61,7 @@ no_edit_later old next line e is (inr t) = eqb-false 106 101 refl (sym (begins_w
 -- what became of an edit is what became of its line
 pub Becomes-edit : (number : ℕ) (old : AuditState) (line : List ℕ) (e : Edit) (stage : Stage) (journal : List Edit) → old.stage ≡ Edits → IsEdit e → line ≡ edit_line e
     → EditBecomes number old.journal e stage journal
-    → Becomes number line (λ new. TakesEdit old line new ⊎ TakesLater old line new) record old { stage = stage; journal = journal }
+    → Becomes number (HasEditForm line ⊎ HasLaterForm old line) (λ new. TakesEdit old line new ⊎ TakesLater old line new) record old { stage = stage; journal = journal }
 Becomes-edit number old line e Edits journal at fits is ends =
     inl (inl record {
       edit = e;
@@ -112,9 +124,23 @@ not_taken old next line value q fits is wrong (inr t) = not_last q value line is
 disordered : (last edit : ℕ) → edit < last → last ≤ edit → ⊥
 disordered last edit before after = absurd (omega arith)
 
+-- what an answer that begins so asks
+abbrev pub asked_by : {last : ℕ} {line : List ℕ} → BeginsAnswer last line → Question
+asked_by b = record { edit = b.edit; kind = b.kind; lo = b.lo; hi = b.hi }
+
+pub asked_fits : {last : ℕ} {line : List ℕ} (b : BeginsAnswer last line) → IsQuestion (asked_by b)
+asked_fits b = record { edit = b.fits.0; lo = b.fits.1; hi = b.fits.2 }
+
+-- a line that begins with a question before the last one has no form that may come after the edits
+not_in_order : (old : AuditState) (line value : List ℕ) (q : Question) → IsQuestion q → line ≡ text_of q ++ value → q.edit < old.last → HasLaterForm old line → ⊥
+not_in_order old line value q fits is before (at, inl b) =
+    let same : asked_by b ≡ q = same_question line b.value value (asked_by b) q (asked_fits b) fits b.text is in
+    disordered old.last q.edit before (subst (λ (n : ℕ). old.last ≤ n) (ap (λ asked. asked.edit) same) b.order)
+not_in_order old line value q fits is before (at, inr last) = not_last q value line is last
+
 -- what became of an answer is what became of its line
 pub Becomes-answer : (number : ℕ) (old : AuditState) (line value : List ℕ) (q : Question) (stage : Stage) (reached : ℕ) → MayEnd old.stage → IsQuestion q → line ≡ text_of q ++ value
-    → AnswerLineBecomes number old.journal old.last q value stage reached → Becomes number line (TakesLater old line) record old { stage = stage; last = reached }
+    → AnswerLineBecomes number old.journal old.last q value stage reached → Becomes number (HasLaterForm old line) (TakesLater old line) record old { stage = stage; last = reached }
 Becomes-answer number old line value q AnswersFollow reached at fits is ends =
     let answer = ends.0.answer in
     inl (inl record {
@@ -127,9 +153,15 @@ Becomes-answer number old line value q AnswersFollow reached at fits is ends =
       next = ap (λ (n : ℕ). record old { stage = AnswersFollow; last = n }) ends.1;
     })
 Becomes-answer number old line value q (No n) reached at fits is ends =
-    inr (inl ((ends.0, inr (q.edit, q.kind, q.lo, q.hi, value, is)), λ next taken. not_taken old next line value q fits is ends.2 taken))
+    inr (inl (
+      (ends.0, (at, inl record { edit = q.edit; kind = q.kind; lo = q.lo; hi = q.hi; value = value; fits = (fits.edit, fits.lo, fits.hi); text = is; order = ends.1 })),
+      λ next taken. not_taken old next line value q fits is ends.2 taken,
+    ))
 Becomes-answer number old line value q (Bad n) reached at fits is ends =
-    inr (inl (ends.0, λ next taken. not_taken old next line value q fits is (λ answered. disordered old.last q.edit ends.1 answered.order) taken))
+    inr (inl (
+      (ends.0, λ form. not_in_order old line value q fits is ends.1 form),
+      λ next taken. not_taken old next line value q fits is (λ answered. disordered old.last q.edit ends.1 answered.order) taken,
+    ))
 Becomes-answer number old line value q NoMemory reached at fits is ends = inr (inr refl)
 Becomes-answer number old line value q Start reached at fits is ends = absurd ends
 Becomes-answer number old line value q Edits reached at fits is ends = absurd ends
@@ -140,22 +172,37 @@ pub none_later : (old next : AuditState) (line : List ℕ) → line ≢ end_line
 none_later old next line other none (inl t) = none (question_of t.answer) (shown_text t.answer.value) t.fits t.text
 none_later old next line other none (inr t) = other t.text
 
+-- nor does it have a form that may come after them
+pub no_form_later : (old : AuditState) (line : List ℕ) → line ≢ end_line → ((q : Question) (value : List ℕ) → IsQuestion q → line ≢ text_of q ++ value) → HasLaterForm old line → ⊥
+no_form_later old line other none (at, inl b) = none (asked_by b) b.value (asked_fits b) b.text
+no_form_later old line other none (at, inr last) = other last
+
 -- ---- at their stages
 
 -- where edits may stand
-pub Becomes-at_edits : (n : ℕ) (old new : AuditState) (line : List ℕ) → old.stage ≡ Edits → length line ≤ 120 → Becomes n line (λ next. TakesEdit old line next ⊎ TakesLater old line next) new → Becomes n line (Takes old line) new
+pub Becomes-at_edits : (n : ℕ) (old new : AuditState) (line : List ℕ) → old.stage ≡ Edits → length line ≤ 120 → Becomes n (HasEditForm line ⊎ HasLaterForm old line) (λ next. TakesEdit old line next ⊎ TakesLater old line next) new → Becomes n (MayCome old line) (Takes old line) new
 Becomes-at_edits n old new line at short =
-    Becomes-same n line (λ next. TakesEdit old line next ⊎ TakesLater old line next) (Takes old line) new (λ next taken. (short, inr taken))
+    Becomes-same n (HasEditForm line ⊎ HasLaterForm old line) (MayCome old line) (λ next. TakesEdit old line next ⊎ TakesLater old line next) (Takes old line) new
+    (λ form. elim form [ inl edit ↦ (short, inr (inl (at, edit))) | inr later ↦ (short, inr (inr later)) ])
+    (λ may. elim may.1 [ inl first ↦ absurd (cc (at, first.0)) | inr (inl edit) ↦ inl edit.1 | inr (inr later) ↦ inr later ])
+    (λ next taken. (short, inr taken))
     (λ next taken. elim taken.1 [ inl t ↦ absurd (cc (at, t.at)) | inr t ↦ t ])
 
 -- where answers may stand
-pub Becomes-at_answers : (n : ℕ) (old new : AuditState) (line : List ℕ) → old.stage ≡ AnswersFollow → length line ≤ 120 → Becomes n line (TakesLater old line) new → Becomes n line (Takes old line) new
+pub Becomes-at_answers : (n : ℕ) (old new : AuditState) (line : List ℕ) → old.stage ≡ AnswersFollow → length line ≤ 120 → Becomes n (HasLaterForm old line) (TakesLater old line) new → Becomes n (MayCome old line) (Takes old line) new
 Becomes-at_answers n old new line at short =
-    Becomes-same n line (TakesLater old line) (Takes old line) new (λ next taken. (short, inr (inr taken)))
+    Becomes-same n (HasLaterForm old line) (MayCome old line) (TakesLater old line) (Takes old line) new
+    (λ later. (short, inr (inr later)))
+    (λ may. elim may.1 [ inl first ↦ absurd (cc (at, first.0)) | inr (inl edit) ↦ absurd (cc (at, edit.0)) | inr (inr later) ↦ later ])
+    (λ next taken. (short, inr (inr taken)))
     (λ next taken. elim taken.1 [ inl t ↦ absurd (cc (at, t.at)) | inr (inl t) ↦ absurd (cc (at, t.at)) | inr (inr t) ↦ t ])
 
 -- a line that is not that of an edit is one after the edits, or none
-pub Becomes-no_edit : (n : ℕ) (old new : AuditState) (line : List ℕ) → ((e : Edit) → IsEdit e → line ≢ edit_line e) → Becomes n line (TakesLater old line) new → Becomes n line (λ next. TakesEdit old line next ⊎ TakesLater old line next) new
+pub Becomes-no_edit : (n : ℕ) (old new : AuditState) (line : List ℕ) → ((e : Edit) → IsEdit e → line ≢ edit_line e) → Becomes n (HasLaterForm old line) (TakesLater old line) new
+    → Becomes n (HasEditForm line ⊎ HasLaterForm old line) (λ next. TakesEdit old line next ⊎ TakesLater old line next) new
 Becomes-no_edit n old new line none =
-    Becomes-same n line (TakesLater old line) (λ next. TakesEdit old line next ⊎ TakesLater old line next) new (λ next taken. inr taken)
+    Becomes-same n (HasLaterForm old line) (HasEditForm line ⊎ HasLaterForm old line) (TakesLater old line) (λ next. TakesEdit old line next ⊎ TakesLater old line next) new
+    (λ later. inr later)
+    (λ form. elim form [ inl edit ↦ absurd (none edit.0 edit.1 edit.2) | inr later ↦ later ])
+    (λ next taken. inr taken)
     (λ next taken. elim taken [ inl t ↦ absurd (none t.edit t.fits t.text) | inr t ↦ t ])

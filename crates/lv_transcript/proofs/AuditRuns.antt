@@ -6,8 +6,7 @@ use Rattle.lv_lines.specs.Texts.{shown_text}
 use Rattle.lv_lines.specs.Replies.{Answered}
 use Rattle.lv_transcript.specs.declared.auditor.Stage.{Stage}
 use Rattle.lv_transcript.specs.declared.auditor.Stage.TheVariants.{Start, Edits, AnswersFollow, End, No, Bad, NoMemory}
-use Rattle.lv_transcript.specs.Transcript.{HasForm}
-use Rattle.lv_transcript.specs.Auditing.{AuditState, AuditStep, IsFaultOf, MayEnd, Takes, TakesEdit, TakesFirst, TakesLater, is_fault, is_stopped, question_of}
+use Rattle.lv_transcript.specs.Auditing.{AuditState, AuditStep, CountedState, CountedStep, IsFaultOf, MayCome, MayEnd, Takes, TakesEdit, TakesFirst, TakesLater, is_fault, is_stopped, question_of}
 use Rattle.lv_transcript.proofs.AuditLines.{edit_line-injective, no_edit_later, not_last, same_question}
 
 -- ---- one line
@@ -56,15 +55,6 @@ same_way old a b line (inr (inr p)) (inr (inr q)) = same_later old a b line p q
 
 -- ---- many lines
 
--- among lines that are numbered from n, that of this number has the form of an edit or of an answer
-pub record IsNamed (lines : List (List ℕ)) (number n : ℕ) : Type 0 where
-  pub front : List (List ℕ)
-  pub line : List ℕ
-  pub rest : List (List ℕ)
-  pub all : lines ≡ front ++ line ∷ rest
-  pub number_is : number ≡ n + length front
-  pub form : HasForm line
-
 -- from one state to another the lines are taken
 abbrev pub Runs : AuditState → List (List ℕ) → AuditState → Type 0
 Runs old [] new = new ≡ old
@@ -88,14 +78,14 @@ stays old n (line ∷ lines) text new stopped a =
     ]
 
 -- a fault of a line is one
-pub fault_of_line : (n : ℕ) (line : List ℕ) (stage : Stage) → IsFaultOf n line stage → is_fault stage ≡ true
-fault_of_line n line (No k) fault = refl
-fault_of_line n line (Bad k) fault = refl
-fault_of_line n line NoMemory fault = absurd fault
-fault_of_line n line Start fault = absurd fault
-fault_of_line n line Edits fault = absurd fault
-fault_of_line n line AnswersFollow fault = absurd fault
-fault_of_line n line End fault = absurd fault
+pub fault_of_line : (n : ℕ) (Form : Type 0) (stage : Stage) → IsFaultOf n Form stage → is_fault stage ≡ true
+fault_of_line n Form (No k) fault = refl
+fault_of_line n Form (Bad k) fault = refl
+fault_of_line n Form NoMemory fault = absurd fault
+fault_of_line n Form Start fault = absurd fault
+fault_of_line n Form Edits fault = absurd fault
+fault_of_line n Form AnswersFollow fault = absurd fault
+fault_of_line n Form End fault = absurd fault
 
 -- a fault stops it
 pub fault_stops : (stage : Stage) → is_fault stage ≡ true → is_stopped stage ≡ true
@@ -107,21 +97,21 @@ fault_stops Edits fault = fault
 fault_stops AnswersFollow fault = fault
 fault_stops End fault = fault
 
--- one that has stopped does not end
-stopped_never_ends : (old : AuditState) (n : ℕ) (lines : List (List ℕ)) (text : List ℕ) (new : AuditState) → is_stopped old.stage ≡ true → Answered AuditStep old n lines text new → new.stage ≡ End → ⊥
-stopped_never_ends old n lines text new stopped a end =
-    true≢false (sym stopped ∙ ap (λ s. is_stopped s.stage) (sym (stays old n lines text new stopped a)) ∙ ap is_stopped end)
+-- one that has stopped does not go on
+stopped_for_good : (old : AuditState) (n : ℕ) (lines : List (List ℕ)) (text : List ℕ) (new : AuditState) → is_stopped old.stage ≡ true → Answered AuditStep old n lines text new → is_stopped new.stage ≡ false → ⊥
+stopped_for_good old n lines text new stopped a goes_on =
+    true≢false (sym stopped ∙ ap (λ s. is_stopped s.stage) (sym (stays old n lines text new stopped a)) ∙ goes_on)
 
--- where it comes to the end, all lines were taken
-pub taken_to_end : (old : AuditState) (n : ℕ) (lines : List (List ℕ)) (text : List ℕ) (new : AuditState) → Answered AuditStep old n lines text new → new.stage ≡ End → Runs old lines new
+-- where it has not stopped in the end, all lines were taken
+pub all_taken : (old : AuditState) (n : ℕ) (lines : List (List ℕ)) (text : List ℕ) (new : AuditState) → Answered AuditStep old n lines text new → is_stopped new.stage ≡ false → Runs old lines new
 unfolding AuditStep
-taken_to_end old n [] text new a end = a.1
-taken_to_end old n (line ∷ lines) text new a end =
-    let never = λ (stopped : is_stopped a.2.stage ≡ true). stopped_never_ends a.2 (n + 1) lines a.1 new stopped a.4 end in
+all_taken old n [] text new a goes_on = a.1
+all_taken old n (line ∷ lines) text new a goes_on =
+    let never = λ (stopped : is_stopped a.2.stage ≡ true). stopped_for_good a.2 (n + 1) lines a.1 new stopped a.4 goes_on in
     elim a.3.1 [
       | inl still ↦ absurd (never (ap (λ s. is_stopped s.stage) still.1 ∙ still.0))
-      | inr (goes, inl taken) ↦ (a.2, taken, taken_to_end a.2 (n + 1) lines a.1 new a.4 end)
-      | inr (goes, inr (inl found)) ↦ absurd (never (fault_stops a.2.stage (fault_of_line n line a.2.stage found.0)))
+      | inr (goes, inl taken) ↦ (a.2, taken, all_taken a.2 (n + 1) lines a.1 new a.4 goes_on)
+      | inr (goes, inr (inl found)) ↦ absurd (never (fault_stops a.2.stage (fault_of_line n (MayCome old line) a.2.stage found.0)))
       | inr (goes, inr (inr none)) ↦ absurd (never (ap is_stopped none))
     ]
 
@@ -140,42 +130,84 @@ taken_or_none old n (line ∷ lines) text new end a runs =
           inr (ap (λ s. s.stage) (stays a.2 (n + 1) lines a.1 new (ap is_stopped none) a.4) ∙ none)
     ]
 
--- a line that is taken leads to no fault
-pub taken_is_none : (old new : AuditState) (line : List ℕ) (k : ℕ) → Takes old line new → new.stage ≡ No k → ⊥
-taken_is_none old new line k taken at =
-    elim taken.1 as (λ _. ⊥) [
-      | inl t ↦ absurd (cc (ap (λ s. s.stage) t.next, at))
-      | inr (inl t) ↦ absurd (cc (ap (λ s. s.stage) t.next, t.at, at))
-      | inr (inr (inl t)) ↦ absurd (cc (ap (λ s. s.stage) t.next, at))
-      | inr (inr (inr t)) ↦ absurd (cc (ap (λ s. s.stage) t.next, at))
-    ]
+-- a line was found that is not taken: those before it were
+pub record IsFound (old : AuditState) (n : ℕ) (lines : List (List ℕ)) (stage : Stage) : Type 0 where
+  pub front : List (List ℕ)
+  pub line : List ℕ
+  pub rest : List (List ℕ)
+  pub mid : AuditState
+  pub all : lines ≡ front ++ line ∷ rest
+  pub runs : Runs old front mid
+  pub fault : IsFaultOf (n + length front) (MayCome mid line) stage
+  pub untaken : (next : AuditState) → Takes mid line next → ⊥
 
--- the line that a fault names as false, where there is one more before it
-pub one_more : (lines : List (List ℕ)) (line : List ℕ) (k n : ℕ) → IsNamed lines k (n + 1) → IsNamed (line ∷ lines) k n
-one_more lines line k n named = record {
-  front = line ∷ named.front;
-  line = named.line;
-  rest = named.rest;
-  all = ap (λ (ls : List (List ℕ)). line ∷ ls) named.all;
-  number_is = omega (arith, named.number_is);
-  form = named.form;
+-- one line more before it
+found_later : (old mid : AuditState) (n : ℕ) (line : List ℕ) (lines : List (List ℕ)) (stage : Stage) → Takes old line mid → IsFound mid (n + 1) lines stage → IsFound old n (line ∷ lines) stage
+found_later old mid n line lines stage taken later = record {
+  front = line ∷ later.front;
+  line = later.line;
+  rest = later.rest;
+  mid = later.mid;
+  all = ap (λ (ls : List (List ℕ)). line ∷ ls) later.all;
+  runs = (mid, taken, later.runs);
+  fault = subst (λ (k : ℕ). IsFaultOf k (MayCome later.mid later.line) stage) (omega arith) later.fault;
+  untaken = later.untaken;
 }
 
--- where it has found a line false, that has the right form
-pub named_false : (old : AuditState) (n : ℕ) (lines : List (List ℕ)) (text : List ℕ) (new : AuditState) (k : ℕ) → Answered AuditStep old n lines text new → (old.stage ≡ No k → ⊥)
-    → new.stage ≡ No k → IsNamed lines k n
-unfolding AuditStep
-named_false old n [] text new k a other at = absurd (other (ap (λ s. s.stage) (sym a.1) ∙ at))
-named_false old n (line ∷ lines) text new k a other at =
-    elim a.3.1 [
-      | inl still ↦ one_more lines line k n (named_false a.2 (n + 1) lines a.1 new k a.4 (λ is. other (ap (λ s. s.stage) (sym still.1) ∙ is)) at)
-      | inr (goes, inl taken) ↦ one_more lines line k n (named_false a.2 (n + 1) lines a.1 new k a.4 (taken_is_none old a.2 line k taken) at)
-      | inr (goes, inr (inl found)) ↦
-          let same : new ≡ a.2 = stays a.2 (n + 1) lines a.1 new (fault_stops a.2.stage (fault_of_line n line a.2.stage found.0)) a.4 in
-          let fault : IsFaultOf n line (No k) = subst (IsFaultOf n line) (ap (λ s. s.stage) (sym same) ∙ at) found.0 in
-          record { front = []; line = line; rest = lines; all = refl; number_is = omega (arith, fault.0); form = fault.1 }
-      | inr (goes, inr (inr none)) ↦ absurd (cc (none, ap (λ s. s.stage) (stays a.2 (n + 1) lines a.1 new (ap is_stopped none) a.4), at))
+-- a line that is taken leads to no fault
+pub taken_no_fault : (old new : AuditState) (line : List ℕ) → Takes old line new → is_fault new.stage ≡ false
+taken_no_fault old new line taken =
+    elim taken.1 [
+      | inl t ↦ ap (λ s. is_fault s.stage) t.next
+      | inr (inl t) ↦ ap (λ s. is_fault s.stage) t.next ∙ ap is_fault t.at
+      | inr (inr (inl t)) ↦ ap (λ s. is_fault s.stage) t.next
+      | inr (inr (inr t)) ↦ ap (λ s. is_fault s.stage) t.next
     ]
+
+-- where an audit has come to a fault, it found a line
+pub fault_found : (old : AuditState) (n : ℕ) (lines : List (List ℕ)) (text : List ℕ) (new : AuditState) → Answered AuditStep old n lines text new → is_fault old.stage ≡ false → is_fault new.stage ≡ true
+    → IsFound old n lines new.stage
+unfolding AuditStep
+fault_found old n [] text new a none fault = absurd (true≢false (sym fault ∙ ap (λ s. is_fault s.stage) a.1 ∙ none))
+fault_found old n (line ∷ lines) text new a none fault =
+    elim a.3.1 [
+      | inl still ↦
+          let same : new ≡ old = stays a.2 (n + 1) lines a.1 new (ap (λ s. is_stopped s.stage) still.1 ∙ still.0) a.4 ∙ still.1 in
+          absurd (true≢false (sym fault ∙ ap (λ s. is_fault s.stage) same ∙ none))
+      | inr (goes, inl taken) ↦
+          found_later old a.2 n line lines new.stage taken (fault_found a.2 (n + 1) lines a.1 new a.4 (taken_no_fault old a.2 line taken) fault)
+      | inr (goes, inr (inl found)) ↦
+          let same : new ≡ a.2 = stays a.2 (n + 1) lines a.1 new (fault_stops a.2.stage (fault_of_line n (MayCome old line) a.2.stage found.0)) a.4 in
+          record {
+            front = [];
+            line = line;
+            rest = lines;
+            mid = old;
+            all = refl;
+            runs = refl;
+            fault = subst (λ (k : ℕ). IsFaultOf k (MayCome old line) new.stage) (omega arith) (subst (IsFaultOf n (MayCome old line)) (ap (λ s. s.stage) (sym same)) found.0);
+            untaken = found.1;
+          }
+      | inr (goes, inr (inr memory)) ↦
+          let same : new ≡ a.2 = stays a.2 (n + 1) lines a.1 new (ap is_stopped memory) a.4 in
+          absurd (true≢false (sym fault ∙ ap (λ s. is_fault s.stage) same ∙ ap is_fault memory))
+    ]
+
+-- ---- lines that are counted
+
+-- an audit that counts its lines is one
+pub not_counted : (old : CountedState) (n : ℕ) (lines : List (List ℕ)) (text : List ℕ) (new : CountedState) → Answered CountedStep old n lines text new → Answered AuditStep old.audit n lines text new.audit
+unfolding AuditStep CountedStep
+not_counted old n [] text new a = (a.0, ap (λ (s : CountedState). s.audit) a.1)
+not_counted old n (line ∷ lines) text new a = (a.0, a.1, a.2.audit, (a.3.0, a.3.2), not_counted a.2 (n + 1) lines a.1 new a.4, a.5)
+
+-- and has counted them
+pub counted : (old : CountedState) (n : ℕ) (lines : List (List ℕ)) (text : List ℕ) (new : CountedState) → Answered CountedStep old n lines text new → old.lines + 1 ≡ n → new.lines + 1 ≡ n + length lines
+unfolding CountedStep
+counted old n [] text new a first = omega (arith, first, ap (λ (s : CountedState). s.lines) a.1)
+counted old n (line ∷ lines) text new a first =
+    let next : a.2.lines + 1 ≡ n + 1 = ap (λ (k : ℕ). k + 1) a.3.1 in
+    omega (arith, counted a.2 (n + 1) lines a.1 new a.4 next)
 
 -- each line that is taken is short
 pub runs_short : (old new : AuditState) (lines : List (List ℕ)) → Runs old lines new → All (λ line. length line ≤ 120) lines

@@ -1,9 +1,8 @@
 -- An audit of a front tells exactly the fronts, with what they count.
-use Rattle.std.proofs.Common.{◌≡◌, ℕ, ◌+◌, ◌-◌, ◌≤◌, true, false, List, [], ◌∷◌, ◌++◌, length, take, map, All, Option, Result, Ok, Err, MatchResult, refl, sym, ap, ◌∙◌, subst, inl, inr, arith, append-nil, true≢false}
+use Rattle.std.proofs.Common.{◌≡◌, ℕ, ◌+◌, ◌-◌, true, false, List, [], ◌∷◌, ◌++◌, length, take, map, Option, Result, Ok, Err, MatchResult, refl, sym, ap, ◌∙◌, subst, inl, inr, arith, append-nil, true≢false}
 use Rattle.std.specs.Io.KnownBytes.{Appends, IsAtEnd}
 use Rattle.std.proofs.KnownBytes.{Appends-nil}
 use Rattle.std.proofs.lemmas.List.{length-append, length-map}
-use Rattle.std.proofs.lemmas.List.Elements.{All-nil, All-cons}
 use Rattle.lv_edits.specs.declared.edit.Edit.{Edit}
 use Rattle.lv_edits.specs.History.{History}
 use Rattle.lv_lines.specs.declared.fault.Fault.{Fault}
@@ -22,7 +21,8 @@ use Rattle.lv_transcript.specs.Transcript.{end_line, greatest, AreAccepted}
 use Rattle.lv_transcript.specs.Auditing.{AuditState, is_fault, is_stopped, start_state, state_of}
 use Rattle.lv_transcript.specs.FrontSteps.{FrontState, FrontStep, IsFoundAt, front_at, front_start, open_again, reopened}
 use Rattle.lv_transcript.specs.Fronts.{Entry, FrontAudited, FrontFound, IsFront, IsNoFront, IsRightOfFront, ReadsFront, answers_in, edits_in, entry_line, front_text}
-use Rattle.lv_transcript.proofs.FrontRuns.{FrontRuns, front_counted, front_named, front_taken, front_taken_or_none}
+use Rattle.lv_transcript.proofs.FrontRuns.{FrontRuns, IsFrontFound, front_counted, front_fault_found, front_taken, front_taken_or_none}
+use Rattle.lv_transcript.proofs.FrontFaults.{bad_in_front, false_in_front, front_runs_short}
 use Rattle.lv_transcript.proofs.FrontEntries.{AreTaken, entries_counted, front_lines_of, accepted_in_place, front_taken_whole, sound_in_place, taken_from_start}
 use Rattle.lv_transcript.proofs.TranscriptBytes.{first_of_short, short_of_first}
 
@@ -32,11 +32,6 @@ pub reopened_so : (mid stage : Stage) (before edits : History) (last reached : �
 reopened_so mid stage before edits last reached opened same still = λ i. record { stage = opened i; journal = (same i).journal; last = still i }
 
 -- ---- the verdict
-
--- each line that is taken is short
-front_runs_short : (old new : AuditState) (lines : List (List ℕ)) → FrontRuns old lines new → All (λ line. length line ≤ 120) lines
-front_runs_short old new [] runs = All-nil (λ line. length line ≤ 120)
-front_runs_short old new (line ∷ lines) runs = All-cons (λ line. length line ≤ 120) line lines runs.1.0 (front_runs_short _ new lines runs.2)
 
 -- where a fault was found, the bytes are no front
 no_front : (seen text : List ℕ) (new : FrontState) → Answered FrontStep front_start 1 (map (take 121) (whole_lines_of seen)) text new → is_fault new.audit.stage ≡ true → IsNoFront seen
@@ -141,6 +136,13 @@ front_found seen text new verdict a going told =
     let is = told_at new.audit lines t new.lines verdict new.audit.stage count refl going told in
     told_right seen new.audit.journal t.entries verdict is record { lines = front_lines_of new.audit lines t; all_true = t.all_true } t.journal_is
 
+-- the fault that an audit has come to
+found_at : (seen text : List ℕ) (new : FrontState) → Answered FrontStep front_start 1 (map (take 121) (whole_lines_of seen)) text new → (stage : Stage) → new.audit.stage ≡ stage → is_fault stage ≡ true
+    → IsFrontFound start_state 1 (map (take 121) (whole_lines_of seen)) stage
+found_at seen text new a stage at fault =
+    subst (λ (s : Stage). IsFrontFound start_state 1 (map (take 121) (whole_lines_of seen)) s) at
+    (front_fault_found front_start 1 (map (take 121) (whole_lines_of seen)) text new a refl (ap is_fault at ∙ fault))
+
 -- the verdict of the stage that an audit came to is right
 right_at : (seen text : List ℕ) (new : FrontState) (verdict : FrontVerdict) (stage : Stage) → new.audit.stage ≡ stage → Answered FrontStep front_start 1 (map (take 121) (whole_lines_of seen)) text new
     → IsFoundAt new.audit.stage new.lines (length new.audit.journal) verdict → IsRightOfFront seen new.audit.journal verdict
@@ -150,12 +152,12 @@ right_at seen text new verdict AnswersFollow at a told = front_found seen text n
 right_at seen text new verdict End at a told = front_found seen text new verdict a (ap is_stopped at) told
 right_at seen text new verdict (stages.No n) at a told =
     let is : verdict ≡ verdicts.No n = subst (λ (s : Stage). IsFoundAt s new.lines (length new.audit.journal) verdict) at told in
-    let named = front_named front_start 1 (map (take 121) (whole_lines_of seen)) text new n a (λ start. absurd (cc start)) at in
     subst (IsRightOfFront seen new.audit.journal) (sym is)
-    (no_front seen text new a (ap is_fault at), record { front = named.front; line = named.line; rest = named.rest; all = named.all; number_is = named.number_is; form = named.form })
+    (no_front seen text new a (ap is_fault at), false_in_front (whole_lines_of seen) n (found_at seen text new a (stages.No n) at refl))
 right_at seen text new verdict (stages.Bad n) at a told =
     let is : verdict ≡ verdicts.Bad n = subst (λ (s : Stage). IsFoundAt s new.lines (length new.audit.journal) verdict) at told in
-    subst (IsRightOfFront seen new.audit.journal) (sym is) (no_front seen text new a (ap is_fault at))
+    subst (IsRightOfFront seen new.audit.journal) (sym is)
+    (no_front seen text new a (ap is_fault at), bad_in_front (whole_lines_of seen) n (found_at seen text new a (stages.Bad n) at refl))
 right_at seen text new verdict NoMemory at a told =
     absurd (subst (λ (s : Stage). IsFoundAt s new.lines (length new.audit.journal) verdict) at told)
 

@@ -1,5 +1,5 @@
 -- The lines of a front are those of entries that are true in the order of time, and in the order of a transcript they are sound.
-use Rattle.std.proofs.Common.{◌≡◌, ◌⊎◌, ℕ, ◌+◌, ◌≤◌, List, [], ◌∷◌, ◌++◌, length, get_or, take, drop, map, slice_range, All, None, refl, sym, ap, ◌∙◌, subst, inl, inr, arith, append_assoc, append-nil, lit≤}
+use Rattle.std.proofs.Common.{◌≡◌, ◌⊎◌, ℕ, ◌+◌, ◌≤◌, List, [], ◌∷◌, ◌++◌, length, get_or, take, drop, map, fold, slice_range, All, None, refl, sym, ap, ◌∙◌, subst, inl, inr, arith, append_assoc, append-nil, lit≤}
 use Rattle.std.proofs.lemmas.List.{length-append, take-append-le, take_all}
 use Rattle.std.proofs.lemmas.List.Elements.{All-nil, All-cons, All-append}
 use Rattle.lv_bodies.specs.Plain.{plain_value}
@@ -9,16 +9,19 @@ use Rattle.lv_edits.specs.Kept.{CarriesElement}
 use Rattle.lv_edits.specs.Verdict.{verdict_of}
 use Rattle.lv_transcript.specs.declared.auditor.Stage.TheVariants.{Start, Edits, AnswersFollow, End}
 use Rattle.lv_transcript.specs.declared.claimed.Claimed.{Claimed}
-use Rattle.lv_transcript.specs.Transcript.{answer_line, edit_line, end_line, first_line, greatest, transcript_text, AreAccepted, AreAcceptedAfter, IsEdit, IsSoundTranscript, IsTrueAnswer}
+use Rattle.lv_transcript.specs.Transcript.{answer_line, edit_line, end_line, first_line, greatest, last_edit, transcript_text, AreAccepted, AreAcceptedAfter, IsEdit, IsSoundTranscript, IsTrueAnswer}
 use Rattle.lv_transcript.specs.Auditing.{AuditState, Takes, start_state}
 use Rattle.lv_transcript.specs.FrontSteps.{open_again, reopened}
 use Rattle.lv_transcript.specs.Fronts.{AreEntryLines, AreFrontLines, AreTrueAfter, Entry, answers_in, edits_in, entry_line}
 use Rattle.lv_transcript.proofs.TakenLines.{RiseFrom}
-use Rattle.lv_transcript.proofs.AuditedTranscripts.{carries_of_fits}
 use Rattle.lv_transcript.proofs.FrontRuns.{FrontRuns}
-use Rattle.lv_transcript.proofs.SoundTranscripts.{IsWithin, accepted_fits, beginnings_within, in_order_of_rise, line_of_edit, plain_answer, within_none}
+use Rattle.lv_transcript.proofs.SoundTranscripts.{IsWithin, accepted_fits, accepted_more, carries_of_fits, beginnings_within, in_order_of_rise, line_of_edit, plain_answer, within_none}
 
 -- ---- from lines that are taken to entries
+
+-- the edit of the last answer among some entries, or the one before them
+abbrev pub last_of : ℕ → List Entry → ℕ
+last_of last entries = fold (λ (edit : ℕ) (answer : Claimed). answer.edit) last (answers_in entries)
 
 -- lines that are taken behind the first one: those of entries, and perhaps the last
 pub record AreEntries (old new : AuditState) (lines : List (List ℕ)) : Type 0 where
@@ -26,6 +29,7 @@ pub record AreEntries (old new : AuditState) (lines : List (List ℕ)) : Type 0 
   pub ends : ((new.stage ≡ Edits) × (lines ≡ map entry_line entries)) ⊎ ((new.stage ≡ End) × (lines ≡ map entry_line entries ++ end_line ∷ []))
   pub all_true : AreTrueAfter old.journal old.last entries
   pub journal_is : new.journal ≡ old.journal ++ edits_in entries
+  pub last_is : new.last ≡ last_of old.last entries
 
 -- no line is taken after the last
 none_behind_end : (old new : AuditState) (lines : List (List ℕ)) → old.stage ≡ End → FrontRuns old lines new → (lines ≡ []) × (new ≡ old)
@@ -41,8 +45,8 @@ none_behind_end old new (line ∷ lines) at runs =
 -- one entry more, before others
 with_entry : (old next new : AuditState) (line : List ℕ) (lines : List (List ℕ)) (entry : Entry) → line ≡ entry_line entry → (rest : AreEntries next new lines)
     → (AreTrueAfter next.journal next.last rest.entries → AreTrueAfter old.journal old.last (entry ∷ rest.entries)) → next.journal ++ edits_in rest.entries ≡ old.journal ++ edits_in (entry ∷ rest.entries)
-    → AreEntries old new (line ∷ lines)
-with_entry old next new line lines entry is rest holds joined = record {
+    → last_of next.last rest.entries ≡ last_of old.last (entry ∷ rest.entries) → AreEntries old new (line ∷ lines)
+with_entry old next new line lines entry is rest holds joined follows = record {
   entries = entry ∷ rest.entries;
   ends =
       elim rest.ends [
@@ -51,6 +55,7 @@ with_entry old next new line lines entry is rest holds joined = record {
       ];
   all_true = holds rest.all_true;
   journal_is = rest.journal_is ∙ joined;
+  last_is = rest.last_is ∙ follows;
 }
 
 -- lines that are taken where edits may stand are such
@@ -60,6 +65,7 @@ entries_of old new [] at runs = record {
   ends = inl (ap (λ (s : AuditState). s.stage) runs ∙ at, refl);
   all_true = tt;
   journal_is = ap (λ (s : AuditState). s.journal) runs ∙ sym (append-nil old.journal);
+  last_is = ap (λ (s : AuditState). s.last) runs;
 }
 entries_of old new (line ∷ lines) at runs =
     elim runs.1.1 [
@@ -69,11 +75,11 @@ entries_of old new (line ∷ lines) at runs =
           let there : reopened runs.0 ≡ next =
           ap reopened t.next ∙ ap (λ stage. record { stage = open_again stage; journal = old.journal ++ t.edit ∷ []; last = old.last }) at in
           let rest : AreEntries next new lines = entries_of next new lines refl (subst (λ (s : AuditState). FrontRuns s lines new) there runs.2) in
-          with_entry old next new line lines (inl t.edit) t.text rest (λ holds. (carries_of_fits t.edit t.fits, t.verdict, holds)) (append_assoc old.journal (t.edit ∷ []) (edits_in rest.entries))
+          with_entry old next new line lines (inl t.edit) t.text rest (λ holds. (carries_of_fits t.edit t.fits, t.verdict, holds)) (append_assoc old.journal (t.edit ∷ []) (edits_in rest.entries)) refl
       | inr (inr (inl t)) ↦
           let next : AuditState = record { stage = Edits; journal = old.journal; last = t.answer.edit } in
           let rest : AreEntries next new lines = entries_of next new lines refl (subst (λ (s : AuditState). FrontRuns s lines new) (ap reopened t.next) runs.2) in
-          with_entry old next new line lines (inr t.answer) t.text rest (λ holds. (t.order, t.holds, holds)) refl
+          with_entry old next new line lines (inr t.answer) t.text rest (λ holds. (t.order, t.holds, holds)) refl refl
       | inr (inr (inr t)) ↦
           let ended : AuditState = record old { stage = End } in
           let last = none_behind_end ended new lines refl (subst (λ (s : AuditState). FrontRuns s lines new) (ap reopened t.next) runs.2) in
@@ -82,6 +88,7 @@ entries_of old new (line ∷ lines) at runs =
             ends = inr (ap (λ (s : AuditState). s.stage) last.1, ap (λ (l : List ℕ). l ∷ lines) t.text ∙ ap (λ (ls : List (List ℕ)). end_line ∷ ls) last.0);
             all_true = tt;
             journal_is = ap (λ (s : AuditState). s.journal) last.1 ∙ sym (append-nil old.journal);
+            last_is = ap (λ (s : AuditState). s.last) last.1;
           }
     ]
 
@@ -94,6 +101,7 @@ pub record AreTaken (new : AuditState) (lines : List (List ℕ)) : Type 0 where
       ⊎ ((new.stage ≡ End) × (lines ≡ first_line ∷ (map entry_line entries ++ end_line ∷ [])))
   pub all_true : AreTrueAfter [] 0 entries
   pub journal_is : new.journal ≡ edits_in entries
+  pub last_is : new.last ≡ last_edit (answers_in entries)
 
 pub taken_from_start : (new : AuditState) (lines : List (List ℕ)) → FrontRuns start_state lines new → AreTaken new lines
 taken_from_start new [] runs = record {
@@ -101,6 +109,7 @@ taken_from_start new [] runs = record {
   ends = inl (ap (λ (s : AuditState). s.stage) runs, refl, refl);
   all_true = tt;
   journal_is = ap (λ (s : AuditState). s.journal) runs;
+  last_is = ap (λ (s : AuditState). s.last) runs;
 }
 taken_from_start new (line ∷ lines) runs =
     elim runs.1.1 [
@@ -116,6 +125,7 @@ taken_from_start new (line ∷ lines) runs =
                 ];
             all_true = rest.all_true;
             journal_is = rest.journal_is;
+            last_is = rest.last_is;
           }
       | inr (inl t) ↦ absurd (cc (t.at))
       | inr (inr (inl t)) ↦ elim t.at [ inl e ↦ absurd (cc (e)) | inr e ↦ absurd (cc (e)) ]
@@ -217,12 +227,6 @@ pub record RunsOn (old : AuditState) (lines : List (List ℕ)) : Type 0 where
 -- one line, and then the others
 one_taken : (old mid : AuditState) (line : List ℕ) (lines : List (List ℕ)) → Takes old line mid → RunsOn (reopened mid) lines → RunsOn old (line ∷ lines)
 one_taken old mid line lines taken rest = record { end = rest.end; runs = (mid, taken, rest.runs); at = rest.at }
-
--- one edit more is accepted behind those that are
-accepted_more : (before edits : List Edit) (e : Edit) → AreAcceptedAfter greatest before edits → verdict_of greatest (before ++ edits) e ≡ None → AreAcceptedAfter greatest before (edits ++ e ∷ [])
-accepted_more before [] e accepted free = (subst (λ (js : List Edit). verdict_of greatest js e ≡ None) (append-nil before) free, tt)
-accepted_more before (first ∷ edits) e accepted free =
-    (accepted.0, accepted_more (before ++ first ∷ []) edits e accepted.1 (subst (λ (js : List Edit). verdict_of greatest js e ≡ None) (sym (append_assoc before (first ∷ []) edits)) free))
 
 -- edits that a vector has accepted
 pub record AreBefore (before : List Edit) : Type 0 where

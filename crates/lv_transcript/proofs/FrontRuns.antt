@@ -1,11 +1,11 @@
 -- What an audit of the lines of a front comes to, line by line.
-use Rattle.std.proofs.Common.{◌≡◌, ◌⊎◌, ℕ, ◌+◌, true, false, List, [], ◌∷◌, length, refl, sym, ap, ◌∙◌, subst, inl, inr, arith, true≢false}
+use Rattle.std.proofs.Common.{◌≡◌, ◌⊎◌, ℕ, ◌+◌, true, false, List, [], ◌∷◌, ◌++◌, length, refl, sym, ap, ◌∙◌, subst, inl, inr, arith, true≢false}
 use Rattle.lv_lines.specs.Replies.{Answered}
 use Rattle.lv_transcript.specs.declared.auditor.Stage.{Stage}
 use Rattle.lv_transcript.specs.declared.auditor.Stage.TheVariants.{Start, Edits, AnswersFollow, End, No, Bad, NoMemory}
-use Rattle.lv_transcript.specs.Auditing.{AuditState, IsFaultOf, Takes, is_stopped}
+use Rattle.lv_transcript.specs.Auditing.{AuditState, IsFaultOf, MayCome, Takes, is_fault, is_stopped}
 use Rattle.lv_transcript.specs.FrontSteps.{FrontState, FrontStep, open_again, reopened}
-use Rattle.lv_transcript.proofs.AuditRuns.{IsNamed, fault_of_line, fault_stops, one_more, same_way, stopped_takes_none, taken_is_none}
+use Rattle.lv_transcript.proofs.AuditRuns.{fault_of_line, fault_stops, same_way, stopped_takes_none, taken_no_fault}
 
 -- from one state to another the lines are taken, and behind an answer an edit may come
 abbrev pub FrontRuns : AuditState → List (List ℕ) → AuditState → Type 0
@@ -55,7 +55,7 @@ front_taken old n (line ∷ lines) text new a goes_on =
       | inl still ↦ absurd (never (ap (λ (s : AuditState). is_stopped s.stage) still.1 ∙ still.0))
       | inr (goes, inl taken) ↦
           (mid, taken, subst (λ (s : AuditState). FrontRuns s lines new.audit) a.3.4 (front_taken a.2 (n + 1) lines a.1 new a.4 goes_on))
-      | inr (goes, inr (inl found)) ↦ absurd (never (fault_stops mid.stage (fault_of_line n line mid.stage found.0)))
+      | inr (goes, inr (inl found)) ↦ absurd (never (fault_stops mid.stage (fault_of_line n (MayCome old.audit line) mid.stage found.0)))
       | inr (goes, inr (inr none)) ↦ absurd (never (ap is_stopped none))
     ]
 
@@ -78,37 +78,76 @@ front_taken_or_none old n (line ∷ lines) text new end a runs =
           inr (ap (λ (s : AuditState). s.stage) (front_stays a.2 (n + 1) lines a.1 new (ap is_stopped at) a.4) ∙ at)
     ]
 
--- a line that was found false was so before
-open_again_no : (k : ℕ) (stage : Stage) → open_again stage ≡ No k → stage ≡ No k
-open_again_no k (No n) is = is
-open_again_no k (Bad n) is = is
-open_again_no k NoMemory is = is
-open_again_no k Start is = is
-open_again_no k End is = is
-open_again_no k Edits is = is
-open_again_no k AnswersFollow is = absurd (cc is)
+-- a line was found that is not taken: those before it were
+pub record IsFrontFound (old : AuditState) (n : ℕ) (lines : List (List ℕ)) (stage : Stage) : Type 0 where
+  pub front : List (List ℕ)
+  pub line : List ℕ
+  pub rest : List (List ℕ)
+  pub mid : AuditState
+  pub all : lines ≡ front ++ line ∷ rest
+  pub runs : FrontRuns old front mid
+  pub fault : IsFaultOf (n + length front) (MayCome mid line) stage
+  pub untaken : (next : AuditState) → Takes mid line next → ⊥
 
--- where it has found a line false, that has the right form
-pub front_named : (old : FrontState) (n : ℕ) (lines : List (List ℕ)) (text : List ℕ) (new : FrontState) (k : ℕ) → Answered FrontStep old n lines text new → (old.audit.stage ≡ No k → ⊥)
-    → new.audit.stage ≡ No k → IsNamed lines k n
+-- one line more before it
+found_behind : (old mid : AuditState) (n : ℕ) (line : List ℕ) (lines : List (List ℕ)) (stage : Stage) → Takes old line mid → IsFrontFound (reopened mid) (n + 1) lines stage
+    → IsFrontFound old n (line ∷ lines) stage
+found_behind old mid n line lines stage taken later = record {
+  front = line ∷ later.front;
+  line = later.line;
+  rest = later.rest;
+  mid = later.mid;
+  all = ap (λ (ls : List (List ℕ)). line ∷ ls) later.all;
+  runs = (mid, taken, later.runs);
+  fault = subst (λ (k : ℕ). IsFaultOf k (MayCome later.mid later.line) stage) (omega arith) later.fault;
+  untaken = later.untaken;
+}
+
+-- an audit that is opened again has come to no fault by that
+open_again_fault : (stage : Stage) → is_fault (open_again stage) ≡ is_fault stage
+open_again_fault (No n) = refl
+open_again_fault (Bad n) = refl
+open_again_fault NoMemory = refl
+open_again_fault Start = refl
+open_again_fault Edits = refl
+open_again_fault AnswersFollow = refl
+open_again_fault End = refl
+
+-- where it has come to a fault, it found a line
+pub front_fault_found : (old : FrontState) (n : ℕ) (lines : List (List ℕ)) (text : List ℕ) (new : FrontState) → Answered FrontStep old n lines text new → is_fault old.audit.stage ≡ false
+    → is_fault new.audit.stage ≡ true → IsFrontFound old.audit n lines new.audit.stage
 unfolding FrontStep
-front_named old n [] text new k a other at = absurd (other (ap (λ s. s.audit.stage) (sym a.1) ∙ at))
-front_named old n (line ∷ lines) text new k a other at =
+front_fault_found old n [] text new a none fault = absurd (true≢false (sym fault ∙ ap (λ s. is_fault s.audit.stage) a.1 ∙ none))
+front_fault_found old n (line ∷ lines) text new a none fault =
     let mid : AuditState = a.3.2 in
-    let before = λ (is : a.2.audit.stage ≡ No k). open_again_no k mid.stage (ap (λ (s : AuditState). s.stage) (sym a.3.4) ∙ is) in
     elim a.3.3 [
-      | inl still ↦ one_more lines line k n (front_named a.2 (n + 1) lines a.1 new k a.4 (λ is. other (ap (λ (s : AuditState). s.stage) (sym still.1) ∙ before is)) at)
-      | inr (goes, inl taken) ↦ one_more lines line k n (front_named a.2 (n + 1) lines a.1 new k a.4 (λ is. taken_is_none old.audit mid line k taken (before is)) at)
+      | inl still ↦
+          let same : a.2.audit ≡ old.audit = a.3.4 ∙ ap reopened still.1 ∙ reopened_stopped old.audit still.0 in
+          let end : new.audit ≡ old.audit = front_stays a.2 (n + 1) lines a.1 new (ap (λ (s : AuditState). is_stopped s.stage) same ∙ still.0) a.4 ∙ same in
+          absurd (true≢false (sym fault ∙ ap (λ (s : AuditState). is_fault s.stage) end ∙ none))
+      | inr (goes, inl taken) ↦
+          let goes_on : is_fault a.2.audit.stage ≡ false = ap (λ (s : AuditState). is_fault s.stage) a.3.4 ∙ open_again_fault mid.stage ∙ taken_no_fault old.audit mid line taken in
+          found_behind old.audit mid n line lines new.audit.stage taken
+          (subst (λ (s : AuditState). IsFrontFound s (n + 1) lines new.audit.stage) a.3.4 (front_fault_found a.2 (n + 1) lines a.1 new a.4 goes_on fault))
       | inr (goes, inr (inl found)) ↦
-          let stopped : is_stopped mid.stage ≡ true = fault_stops mid.stage (fault_of_line n line mid.stage found.0) in
+          let stopped : is_stopped mid.stage ≡ true = fault_stops mid.stage (fault_of_line n (MayCome old.audit line) mid.stage found.0) in
           let same : a.2.audit ≡ mid = a.3.4 ∙ reopened_stopped mid stopped in
-          let there : is_stopped a.2.audit.stage ≡ true = ap (λ (s : AuditState). is_stopped s.stage) same ∙ stopped in
-          let end : new.audit ≡ mid = front_stays a.2 (n + 1) lines a.1 new there a.4 ∙ same in
-          let fault : IsFaultOf n line (No k) = subst (IsFaultOf n line) (ap (λ (s : AuditState). s.stage) (sym end) ∙ at) found.0 in
-          record { front = []; line = line; rest = lines; all = refl; number_is = omega (arith, fault.0); form = fault.1 }
-      | inr (goes, inr (inr none)) ↦
-          let there : a.2.audit.stage ≡ NoMemory = ap (λ (s : AuditState). s.stage) a.3.4 ∙ ap open_again none in
-          absurd (cc (there, ap (λ (s : AuditState). s.stage) (front_stays a.2 (n + 1) lines a.1 new (ap is_stopped there) a.4), at))
+          let end : new.audit ≡ mid = front_stays a.2 (n + 1) lines a.1 new (ap (λ (s : AuditState). is_stopped s.stage) same ∙ stopped) a.4 ∙ same in
+          record {
+            front = [];
+            line = line;
+            rest = lines;
+            mid = old.audit;
+            all = refl;
+            runs = refl;
+            fault = subst (λ (k : ℕ). IsFaultOf k (MayCome old.audit line) new.audit.stage) (omega arith)
+                (subst (IsFaultOf n (MayCome old.audit line)) (ap (λ (s : AuditState). s.stage) (sym end)) found.0);
+            untaken = found.1;
+          }
+      | inr (goes, inr (inr memory)) ↦
+          let there : a.2.audit.stage ≡ NoMemory = ap (λ (s : AuditState). s.stage) a.3.4 ∙ ap open_again memory in
+          let end : new.audit ≡ a.2.audit = front_stays a.2 (n + 1) lines a.1 new (ap is_stopped there) a.4 in
+          absurd (true≢false (sym fault ∙ ap (λ (s : AuditState). is_fault s.stage) end ∙ ap is_fault there))
     ]
 
 -- lines are counted

@@ -8,11 +8,13 @@ pub mod TakenLines
 pub mod ShownTexts
 pub mod SoundTranscripts
 pub mod TranscriptBytes
+pub mod FirstFaults
 pub mod AuditedTranscripts
 pub mod ReplayLemmas
 pub mod BlockLaws
 pub mod KeptLaws
 pub mod FrontRuns
 pub mod FrontEntries
+pub mod FrontFaults
 pub mod FrontAudits
 pub mod ScribedFronts

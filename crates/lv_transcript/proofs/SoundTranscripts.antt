@@ -58,6 +58,21 @@ accepted_fits journal (Swap i j) within free carried =
 accepted_fits journal (Truncate n) within free carried =
     omega (arith, within.few, unrefused_truncate greatest (list_of journal) n (not_refused greatest journal (Truncate n) free).1)
 
+-- an edit whose numbers have their bits carries an element
+pub carries_of_fits : (e : Edit) → IsEdit e → CarriesElement e
+carries_of_fits (Push x) fits = fits
+carries_of_fits Pop fits = tt
+carries_of_fits (Write i x) fits = fits.1
+carries_of_fits (Reserve n) fits = tt
+carries_of_fits (Swap i j) fits = tt
+carries_of_fits (Truncate n) fits = tt
+
+-- one edit more is accepted behind those that are
+pub accepted_more : (before edits : List Edit) (e : Edit) → AreAcceptedAfter greatest before edits → verdict_of greatest (before ++ edits) e ≡ None → AreAcceptedAfter greatest before (edits ++ e ∷ [])
+accepted_more before [] e accepted free = (subst (λ (js : List Edit). verdict_of greatest js e ≡ None) (append-nil before) free, tt)
+accepted_more before (first ∷ edits) e accepted free =
+    (accepted.0, accepted_more (before ++ first ∷ []) edits e accepted.1 (subst (λ (js : List Edit). verdict_of greatest js e ≡ None) (sym (append_assoc before (first ∷ []) edits)) free))
+
 -- each beginning of accepted edits is within the limits
 pub beginnings_within : (before edits : List Edit) (k : ℕ) → IsWithin before → AreAcceptedAfter greatest before edits → All CarriesElement edits → IsWithin (before ++ take k edits)
 beginnings_within before edits zero within accepted carry = rw (append-nil before) within

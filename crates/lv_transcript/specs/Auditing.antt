@@ -1,5 +1,5 @@
 -- How a transcript is audited: what a line is read as, and how far the lines so far lead.
-use Rattle.std.specs.Prelude.{◌≡◌, ◌⊎◌, ℕ, ◌^◌, ◌<◌, ◌≤◌, Bool, true, false, List, [], ◌∷◌, ◌++◌, length, take, slice_range, ℤ, Option, Some, None}
+use Rattle.std.specs.Prelude.{◌≡◌, ◌⊎◌, ℕ, ◌+◌, ◌^◌, ◌<◌, ◌≤◌, Bool, true, false, List, [], ◌∷◌, ◌++◌, length, take, slice_range, ℤ, Option, Some, None}
 use Rattle.lv_bodies.specs.declared.kinds.Kind.{Kind}
 use Rattle.lv_bodies.specs.Plain.{plain_value}
 use Rattle.lv_edits.specs.declared.edit.Edit.{Edit}
@@ -14,7 +14,7 @@ use Rattle.lv_transcript.specs.declared.transcript_lines.Question.{Question}
 use Rattle.lv_transcript.specs.declared.claimed.Claimed.{Claimed}
 use Rattle.lv_transcript.specs.declared.auditor.Verdict.{Verdict}
 use Rattle.lv_transcript.specs.declared.auditor.Verdict.TheVariants as verdicts
-use Rattle.lv_transcript.specs.Transcript.{answer_line, edit_line, first_line, greatest, end_line, question_text, HasForm, IsEdit, IsTrueAnswer}
+use Rattle.lv_transcript.specs.Transcript.{answer_line, edit_line, first_line, greatest, end_line, question_text, BeginsAnswer, HasEditForm, IsEdit, IsTrueAnswer}
 
 -- ---- a question: what an answer asks
 
@@ -148,20 +148,30 @@ TakesLater old line new = TakesAnswer old line new ⊎ TakesLast old line new
 abbrev pub Takes : AuditState → List ℕ → AuditState → Type 0
 Takes old line new = (length line ≤ 120) × (TakesFirst old line new ⊎ TakesEdit old line new ⊎ TakesLater old line new)
 
--- a fault names the line of this number; where that is false it has the right form
-abbrev pub IsFaultOf : ℕ → List ℕ → Stage → Type 0
-IsFaultOf number line (stages.No n) = (n ≡ number) × HasForm line
-IsFaultOf number line (stages.Bad n) = n ≡ number
-IsFaultOf number line _ = ⊥
+-- a line that comes after the edits has the form of an answer in order, or is the last
+abbrev pub HasLaterForm : AuditState → List ℕ → Type 0
+HasLaterForm old line = MayEnd old.stage × (BeginsAnswer old.last line ⊎ (line ≡ end_line))
 
--- line n was taken; or it cannot be, and that is found; or there was no memory
-abbrev pub Becomes : ℕ → List ℕ → (AuditState → Type 0) → AuditState → Type 0
-Becomes n line Next new = Next new ⊎ (IsFaultOf n line new.stage × ((next : AuditState) → Next next → ⊥)) ⊎ (new.stage ≡ stages.NoMemory)
+-- a line of at most 120 bytes has a form that may come next
+abbrev pub MayCome : AuditState → List ℕ → Type 0
+MayCome old line =
+    (length line ≤ 120)
+    × (((old.stage ≡ stages.Start) × (line ≡ first_line)) ⊎ ((old.stage ≡ stages.Edits) × HasEditForm line) ⊎ HasLaterForm old line)
+
+-- a fault names the line of this number: as false where it has the right form, and as bad where it doesn't
+abbrev pub IsFaultOf : ℕ → Type 0 → Stage → Type 0
+IsFaultOf number Form (stages.No n) = (n ≡ number) × Form
+IsFaultOf number Form (stages.Bad n) = (n ≡ number) × (Form → ⊥)
+IsFaultOf number Form _ = ⊥
+
+-- line n was taken; or it cannot be, and that is found, by its form; or there was no memory
+abbrev pub Becomes : ℕ → Type 0 → (AuditState → Type 0) → AuditState → Type 0
+Becomes n Form Next new = Next new ⊎ (IsFaultOf n Form new.stage × ((next : AuditState) → Next next → ⊥)) ⊎ (new.stage ≡ stages.NoMemory)
 
 -- line n of an audit: nothing changes once it has stopped
 abbrev pub Audits : AuditState → ℕ → List ℕ → AuditState → Type 0
 Audits old n line new =
-    ((is_stopped old.stage ≡ true) × (new ≡ old)) ⊎ ((is_stopped old.stage ≡ false) × Becomes n line (Takes old line) new)
+    ((is_stopped old.stage ≡ true) × (new ≡ old)) ⊎ ((is_stopped old.stage ≡ false) × Becomes n (MayCome old line) (Takes old line) new)
 
 -- what became of line n, which should be the first
 abbrev pub FirstBecomes : ℕ → List ℕ → Stage → Type 0
@@ -191,14 +201,27 @@ AnswerBecomes number xs question value (stages.No n) = (n ≡ number) × (IsAnsw
 AnswerBecomes number xs question value stages.NoMemory = Unit {0}
 AnswerBecomes number xs question value _ = ⊥
 
--- the verdict of an audit that has come to this stage: of one that hasn't come to the end it is bad
-abbrev pub IsVerdictAt : Stage → Verdict → Type 0
-IsVerdictAt stages.End verdict = verdict ≡ verdicts.Yes
-IsVerdictAt (stages.No n) verdict = verdict ≡ verdicts.No n
-IsVerdictAt (stages.Bad n) verdict = verdict ≡ verdicts.Bad n
-IsVerdictAt stages.NoMemory verdict = ⊥
-IsVerdictAt _ verdict = (n : ℕ) × (verdict ≡ verdicts.Bad n)
+-- the verdict of an audit that has come to this stage after so many lines: where it hasn't come to the end, the next line is missing
+abbrev pub IsVerdictAt : Stage → ℕ → Verdict → Type 0
+IsVerdictAt stages.End lines verdict = verdict ≡ verdicts.Yes
+IsVerdictAt (stages.No n) lines verdict = verdict ≡ verdicts.No n
+IsVerdictAt (stages.Bad n) lines verdict = verdict ≡ verdicts.Bad n
+IsVerdictAt stages.NoMemory lines verdict = ⊥
+IsVerdictAt _ lines verdict = (n : ℕ) × (verdict ≡ verdicts.Bad n) × (lines + 1 < 2 ^ 32 → n ≡ lines + 1)
 
 -- an audit answers its lines by nothing
 unfoldable pub AuditStep : AuditState → ℕ → List ℕ → List ℕ → AuditState → Type 0
 AuditStep old n line text new = (text ≡ []) × Audits old n line new
+
+-- an audit, and how many lines there were
+pub record CountedState : Type 0 where
+  pub audit : AuditState
+  pub lines : ℕ
+
+-- such a state, by an auditor's stage, edits and last answer, and the number of the last line
+abbrev pub counted_at : Stage → History → ℕ → ℕ → CountedState
+counted_at stage edits last lines = record { audit = state_of stage edits last; lines = lines }
+
+-- it answers its lines by nothing, and counts them
+unfoldable pub CountedStep : CountedState → ℕ → List ℕ → List ℕ → CountedState → Type 0
+CountedStep old n line text new = (text ≡ []) × (new.lines ≡ n) × Audits old.audit n line new.audit

@@ -1,6 +1,6 @@
 -- Fronts of transcripts: edits and answers in the order of time, as far as they were written; and their audit.
 use Rattle.std.proofs.Common.{inl, inr}
-use Rattle.std.specs.Prelude.{◌≡◌, ◌⊎◌, ℕ, ◌+◌, ◌-◌, ◌^◌, ◌≤◌, None, List, [], ◌∷◌, ◌++◌, length, take, map, codes, decimal, Option, Result, Ok, Err}
+use Rattle.std.specs.Prelude.{◌≡◌, ◌⊎◌, ℕ, ◌+◌, ◌^◌, ◌≤◌, None, List, [], ◌∷◌, ◌++◌, length, map, codes, decimal, Option, Result, Ok, Err}
 use Rattle.std.specs.Io.KnownBytes.{Appends, Consumes}
 use Rattle.lv_edits.specs.declared.edit.Edit.{Edit}
 use Rattle.lv_edits.specs.Kept.{CarriesElement}
@@ -15,7 +15,7 @@ use Rattle.lv_transcript.specs.declared.claimed.Claimed.{Claimed}
 use Rattle.lv_transcript.specs.declared.fronts.FrontVerdict.{FrontVerdict}
 use Rattle.lv_transcript.specs.declared.fronts.FrontVerdict.TheVariants as verdicts
 use Rattle.lv_transcript.specs.declared.fronts.FoundFront.{FoundFront}
-use Rattle.lv_transcript.specs.Transcript.{answer_line, edit_line, end_line, first_line, greatest, transcript_text, AreAccepted, HasFormAt, IsSoundTranscript, IsTrueAnswer, IsWhole}
+use Rattle.lv_transcript.specs.Transcript.{answer_line, edit_line, end_line, first_line, greatest, last_edit, transcript_text, AreAccepted, BeginsAnswer, HasEditForm, IsSoundTranscript, IsTrueAnswer, IsWhole}
 
 -- ---- what a front is
 
@@ -84,12 +84,52 @@ pub record FrontFound (bytes : List ℕ) (journal : List Edit) (edits answers : 
 abbrev pub IsNoFront : List ℕ → Type 0
 IsNoFront bytes = (entries : List Entry) → IsFront bytes entries → ⊥
 
--- a verdict on bytes, and the edits that were read, are right: they are a front with so many edits and answers; or they are none, and `no` names a
--- line of the right form, of which the first 121 bytes are looked at (that the line of `bad` is the first that isn't is not said here)
+-- no front has these lines
+abbrev pub AreNoFront : List (List ℕ) → Type 0
+AreNoFront lines = (entries : List Entry) → AreTrueAfter [] 0 entries → AreFrontLines entries lines → ⊥
+
+-- a line of at most 120 bytes has the form of an edit, or that of an answer, in order behind these entries
+abbrev pub HasEntryForm : List Entry → List ℕ → Type 0
+HasEntryForm entries line = (length line ≤ 120) × (HasEditForm line ⊎ BeginsAnswer (last_edit (answers_in entries)) line)
+
+-- a line may follow these lines of a front, as far as its form goes: as the first line; or behind that and these entries, as that of an edit or of an
+-- answer, or as the last
+abbrev pub MayFollow : List (List ℕ) → List Entry → List ℕ → Type 0
+MayFollow front entries line =
+    ((front ≡ []) × (line ≡ first_line))
+    ⊎ ((front ≡ first_line ∷ map entry_line entries) × (HasEntryForm entries line ⊎ (line ≡ end_line)))
+
+-- line n of some lines is the first fault, and false: those before it are the first line and those of true entries; it has the form of an edit or of an
+-- answer that may stand there; and with it they are no front's
+pub record IsFalseInFront (lines : List (List ℕ)) (n : ℕ) : Type 0 where
+  pub entries : List Entry
+  pub line : List ℕ
+  pub rest : List (List ℕ)
+  pub all : lines ≡ first_line ∷ map entry_line entries ++ line ∷ rest
+  pub number_is : n ≡ 2 + length entries
+  pub all_true : AreTrueAfter [] 0 entries
+  pub form : HasEntryForm entries line
+  pub no_front : AreNoFront (first_line ∷ map entry_line entries ++ line ∷ [])
+
+-- line n of some lines is the first fault, and not of a form that may stand there: those before it are a front's, and with it they are no front's
+pub record IsBadInFront (lines : List (List ℕ)) (n : ℕ) : Type 0 where
+  pub entries : List Entry
+  pub front : List (List ℕ)
+  pub line : List ℕ
+  pub rest : List (List ℕ)
+  pub all : lines ≡ front ++ line ∷ rest
+  pub number_is : n ≡ 1 + length front
+  pub begun : AreFrontLines entries front
+  pub all_true : AreTrueAfter [] 0 entries
+  pub form : MayFollow front entries line → ⊥
+  pub no_front : AreNoFront (front ++ line ∷ [])
+
+-- a verdict on bytes, and the edits that were read, are right: they are a front with so many edits and answers; or they are none, and the verdict names
+-- the first fault
 abbrev pub IsRightOfFront : List ℕ → List Edit → FrontVerdict → Type 0
 IsRightOfFront bytes journal (verdicts.Front edits answers) = FrontFound bytes journal edits answers
-IsRightOfFront bytes journal (verdicts.No n) = IsNoFront bytes × HasFormAt (map (take 121) (whole_lines_of bytes)) n
-IsRightOfFront bytes journal (verdicts.Bad n) = IsNoFront bytes
+IsRightOfFront bytes journal (verdicts.No n) = IsNoFront bytes × IsFalseInFront (whole_lines_of bytes) n
+IsRightOfFront bytes journal (verdicts.Bad n) = IsNoFront bytes × IsBadInFront (whole_lines_of bytes) n
 
 -- how the reading of a front ended, by the bytes that were seen: a right verdict on the whole input; or a read failed, the input is too
 -- long, or there was no memory. (What the lines are answered goes nowhere: that this fails is not excluded here)

@@ -1,5 +1,5 @@
 -- Transcripts: a journal of edits, and reductions that were answered, as text; and when such a text is sound.
-use Rattle.std.specs.Prelude.{◌≡◌, ◌⊎◌, ◌↔◌, ℕ, ◌+◌, ◌^◌, ◌≤◌, None, List, [], ◌∷◌, ◌++◌, length, take, map, All, slice_range, codes, decimal, Option, Result, Ok, Err}
+use Rattle.std.specs.Prelude.{◌≡◌, ◌≢◌, ◌⊎◌, ◌↔◌, ℕ, ◌+◌, ◌^◌, ◌<◌, ◌≤◌, None, List, [], ◌∷◌, ◌++◌, length, take, map, fold, All, slice_range, codes, decimal, Option, Result, Ok, Err}
 use Rattle.std.specs.List.{flat_map}
 use Rattle.std.specs.List.Sorted.{IsNonDecreasingBy}
 use Rattle.std.specs.Io.KnownBytes.{Appends, Consumes, IsAtEnd}
@@ -108,28 +108,93 @@ verdict_text Yes = reply_line (codes "yes")
 verdict_text (No n) = reply_line (codes "no " ++ decimal n)
 verdict_text (Bad n) = bad_text n
 
--- a line has the form of an edit, or begins as an answer does, with any value behind that
-abbrev pub HasForm : List ℕ → Type 0
-HasForm line =
-    ((edit : Edit) × IsEdit edit × (line ≡ edit_line edit))
-    ⊎ ((edit : ℕ) × (kind : Kind) × (lo : ℕ) × (hi : ℕ) × (value : List ℕ) × (line ≡ question_text edit kind lo hi ++ value))
+-- a line has the form of an edit
+abbrev pub HasEditForm : List ℕ → Type 0
+HasEditForm line = (edit : Edit) × IsEdit edit × (line ≡ edit_line edit)
 
--- the line of this number among some lines has the form of an edit or of an answer
-pub record HasFormAt (lines : List (List ℕ)) (number : ℕ) : Type 0 where
-  pub front : List (List ℕ)
+-- a line begins as that of an answer does, whose edit is not before this one, with any value behind that
+pub record BeginsAnswer (last : ℕ) (line : List ℕ) : Type 0 where
+  pub edit : ℕ
+  pub kind : Kind
+  pub lo : ℕ
+  pub hi : ℕ
+  pub value : List ℕ
+  pub fits : (edit < 2 ^ 32) × (lo < 2 ^ 32) × (hi < 2 ^ 32)
+  pub text : line ≡ question_text edit kind lo hi ++ value
+  pub order : last ≤ edit
+
+-- edits that are accepted where they come, and true answers in order
+pub record AreSound (edits : List Edit) (answers : List Claimed) : Type 0 where
+  pub elements : All CarriesElement edits
+  pub accepted : AreAccepted greatest edits
+  pub order : AreInOrder answers
+  pub all_true : All (IsTrueAnswer edits) answers
+
+-- the lines of a transcript before its last
+abbrev pub lines_before_last : List Edit → List Claimed → List (List ℕ)
+lines_before_last edits answers = first_line ∷ [] ++ map edit_line edits ++ map answer_line answers
+
+-- no sound transcript begins with these lines
+abbrev pub NoneBegins : List (List ℕ) → Type 0
+NoneBegins lines = (edits : List Edit) (answers : List Claimed) (rest : List (List ℕ)) → AreSound edits answers → lines ++ rest ≢ transcript_lines edits answers
+
+-- the edit of the last of some answers, 0 where there is none
+abbrev pub last_edit : List Claimed → ℕ
+last_edit answers = fold (λ edit answer. answer.edit) 0 answers
+
+-- a line of at most 120 bytes has the form of an edit, and comes before all answers; or it has that of an answer, in order behind these
+abbrev pub HasFormBehind : List Claimed → List ℕ → Type 0
+HasFormBehind answers line = (length line ≤ 120) × (((answers ≡ []) × HasEditForm line) ⊎ BeginsAnswer (last_edit answers) line)
+
+-- a line may stand behind these lines, as far as its form goes: as the first line; or behind that and these edits and answers, as that of an
+-- edit or of an answer, or as the last
+abbrev pub MayStand : List (List ℕ) → List Edit → List Claimed → List ℕ → Type 0
+MayStand front edits answers line =
+    ((front ≡ []) × (line ≡ first_line))
+    ⊎ ((front ≡ lines_before_last edits answers) × (HasFormBehind answers line ⊎ (line ≡ end_line)))
+
+-- line n of some lines is the first fault, and false: those before it are the first line and those of sound edits and answers; it has the form of an
+-- edit or of an answer that may stand there; and no sound transcript begins with these lines and it
+pub record IsFalseAt (lines : List (List ℕ)) (n : ℕ) : Type 0 where
+  pub edits : List Edit
+  pub answers : List Claimed
   pub line : List ℕ
   pub rest : List (List ℕ)
-  pub all : lines ≡ front ++ line ∷ rest
-  pub number_is : number ≡ 1 + length front
-  pub form : HasForm line
+  pub all : lines ≡ lines_before_last edits answers ++ line ∷ rest
+  pub number_is : n ≡ 1 + length (lines_before_last edits answers)
+  pub sound : AreSound edits answers
+  pub form : HasFormBehind answers line
+  pub none_begins : NoneBegins (lines_before_last edits answers ++ line ∷ [])
 
--- what a verdict tells of the line that it names: `no` names one of the right form, of which the first 121 bytes are looked at
+-- lines of a transcript with these edits and answers: none, or all before the last, or all
+abbrev pub AreBegun : List Edit → List Claimed → List (List ℕ) → Type 0
+AreBegun edits answers lines = (lines ≡ []) ⊎ (lines ≡ lines_before_last edits answers) ⊎ (lines ≡ transcript_lines edits answers)
+
+-- what follows these lines is bad: nothing does, and they don't end with the last line of a transcript; or a line follows that may not stand there for
+-- its form, and no sound transcript begins with them and it
+abbrev pub IsBadNext : List (List ℕ) → List Edit → List Claimed → List (List ℕ) → Type 0
+IsBadNext front edits answers [] = front ≢ transcript_lines edits answers
+IsBadNext front edits answers (line ∷ rest) = (MayStand front edits answers line → ⊥) × NoneBegins (front ++ line ∷ [])
+
+-- line n of some lines is the first fault, and missing or not of a form that may stand there: those before it begin a sound transcript
+pub record IsBadAt (lines : List (List ℕ)) (n : ℕ) : Type 0 where
+  pub edits : List Edit
+  pub answers : List Claimed
+  pub front : List (List ℕ)
+  pub rest : List (List ℕ)
+  pub all : lines ≡ front ++ rest
+  pub number_is : n ≡ 1 + length front
+  pub sound : AreSound edits answers
+  pub begun : AreBegun edits answers front
+  pub bad : IsBadNext front edits answers rest
+
+-- what a verdict tells of the line that it names: that is the first fault, and false or not of the right form
 abbrev pub NamesRight : List ℕ → Verdict → Type 0
-NamesRight bytes (No n) = HasFormAt (map (take 121) (lines_of bytes)) n
-NamesRight bytes _ = Unit {0}
+NamesRight bytes Yes = Unit {0}
+NamesRight bytes (No n) = IsFalseAt (lines_of bytes) n
+NamesRight bytes (Bad n) = IsBadAt (lines_of bytes) n
 
--- a verdict on bytes is right: it is yes exactly where they are a sound transcript, and `no` names a line of the right form (that the
--- line of `bad` is the first that isn't is not said here)
+-- a verdict on bytes is right: it is yes exactly where they are a sound transcript, and else names the first fault
 abbrev pub IsRight : List ℕ → Verdict → Type 0
 IsRight bytes verdict = ((verdict ≡ Yes) ↔ IsSoundTranscript bytes) × NamesRight bytes verdict
 

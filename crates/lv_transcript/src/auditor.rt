@@ -4,10 +4,10 @@ ghost use Rattle.lv_lines.specs.Output.{HasRoom};
 ghost use Rattle.lv_lines.specs.Texts.{shown_text};
 ghost use Rattle.lv_edits.specs.History.{list_of};
 ghost use Rattle.lv_lines.specs.declared.replies.TheConstants.{LINE};
-ghost use Rattle.lv_transcript.specs.Auditing.{AnswerBecomes, AuditState, start_state, state_of, Audits, AuditStep, AnswerLineBecomes, EditBecomes, Becomes, FirstBecomes, IsVerdictAt, MayEnd, Takes, TakesEdit, TakesLater};
+ghost use Rattle.lv_transcript.specs.Auditing.{AnswerBecomes, CountedState, counted_at, start_state, state_of, Audits, CountedStep, AnswerLineBecomes, EditBecomes, Becomes, FirstBecomes, HasLaterForm, IsVerdictAt, MayCome, MayEnd, Takes, TakesEdit, TakesLater};
 ghost use Rattle.lv_transcript.specs.Blocks.{AreKept};
 ghost use Rattle.lv_transcript.specs.FrontSteps.{open_again};
-ghost use Rattle.lv_transcript.specs.Transcript.{greatest, verdict_text, Audited};
+ghost use Rattle.lv_transcript.specs.Transcript.{greatest, verdict_text, Audited, HasEditForm};
 
 use crate::plain_ranges::Replay;
 use crate::transcript_lines::{Question, read_answer, read_edit};
@@ -96,7 +96,7 @@ pub(crate) enum Stage {
 #[derive(Drop)]
 pub(crate) struct Auditor {
     pub(crate) stage: Stage,
-    lines: u32,
+    pub(crate) lines: u32,
     // All edits so far, and the list after those up to the last answer.
     pub(crate) edits: Edits,
     pub(crate) replay: Replay,
@@ -112,11 +112,11 @@ pub(crate) struct Auditor {
 }
 
 impl Responder for Auditor {
-    ghost State = { AuditState };
+    ghost State = { CountedState };
 
-    ghost state = { λ a. state_of a.stage a.edits a.replay.edit };
+    ghost state = { λ a. counted_at a.stage a.edits a.replay.edit a.lines };
 
-    ghost step = { AuditStep };
+    ghost step = { CountedStep };
 
     fn respond<W: Write>(
         &mut self,
@@ -132,7 +132,8 @@ impl Responder for Auditor {
 impl Auditor {
     // Before the first line.
     pub(crate) fn new(alloc: Global) -> Result<Auditor, AllocError>
-        ensures { IfOk result (λ a. state_of a.stage a.edits a.replay.edit ≡ start_state) }
+        ensures state { IfOk result (λ a. state_of a.stage a.edits a.replay.edit ≡ start_state) }
+        ensures lines { IfOk result (λ a. a.lines ≡ 0) }
     {
         Ok(Auditor {
             stage: Stage::Start,
@@ -145,7 +146,7 @@ impl Auditor {
 
     // What was found, once all lines were read.
     fn verdict(&self) -> Result<Verdict, Fault>
-        ensures { MatchResult result (IsVerdictAt self.now.stage) (λ fault. fault ≡ Fault.NoMemory) }
+        ensures { MatchResult result (IsVerdictAt self.now.stage self.now.lines) (λ fault. fault ≡ Fault.NoMemory) }
     {
         match self.stage {
             Stage::Start | Stage::Edits | Stage::AnswersFollow => {
@@ -160,15 +161,16 @@ impl Auditor {
 
     // Takes a line, or finds the first fault.
     pub(crate) fn take_line(&mut self, number: u32, line: &[u8])
-        ensures { Audits (state_of self.old.stage self.old.edits self.old.replay.edit) number line.now (state_of self.new.stage self.new.edits self.new.replay.edit) }
+        ensures line { Audits (state_of self.old.stage self.old.edits self.old.replay.edit) number line.now (state_of self.new.stage self.new.edits self.new.replay.edit) }
+        ensures lines { self.new.lines ≡ number }
     {
-        self.lines = number;
         match self.stage {
             Stage::No(_) | Stage::Bad(_) | Stage::NoMemory => {}
             Stage::Start | Stage::Edits | Stage::AnswersFollow | Stage::End => {
                 self.stage = self.next_stage(number, line);
             }
         }
+        self.lines = number;
     }
 
     // Lets an edit come behind an answer.
@@ -184,7 +186,8 @@ impl Auditor {
 
     // The stage behind a line.
     fn next_stage(&mut self, number: u32, line: &[u8]) -> Stage
-        ensures { Becomes number line.now (Takes (state_of self.old.stage self.old.edits self.old.replay.edit) line.now) (state_of result self.new.edits self.new.replay.edit) }
+        ensures { Becomes number (MayCome (state_of self.old.stage self.old.edits self.old.replay.edit) line.now)
+            (Takes (state_of self.old.stage self.old.edits self.old.replay.edit) line.now) (state_of result self.new.edits self.new.replay.edit) }
     {
         if line.len() > 120 {
             return Stage::Bad(number);
@@ -200,7 +203,8 @@ impl Auditor {
     // The stage behind a line that may be that of an edit.
     fn edit_or_later(&mut self, number: u32, line: &[u8]) -> Stage
         requires { self.old.stage ≡ Stage.Edits }
-        ensures { Becomes number line.now (λ new. TakesEdit (state_of self.old.stage self.old.edits self.old.replay.edit) line.now new
+        ensures { Becomes number (HasEditForm line.now ⊎ HasLaterForm (state_of self.old.stage self.old.edits self.old.replay.edit) line.now)
+            (λ new. TakesEdit (state_of self.old.stage self.old.edits self.old.replay.edit) line.now new
             ⊎ TakesLater (state_of self.old.stage self.old.edits self.old.replay.edit) line.now new) (state_of result self.new.edits self.new.replay.edit) }
     {
         match read_edit(line, &mut self.text) {
@@ -226,7 +230,8 @@ impl Auditor {
     // The stage behind a line that is not that of an edit.
     fn answer_or_last(&mut self, number: u32, line: &[u8]) -> Stage
         requires { MayEnd self.old.stage }
-        ensures { Becomes number line.now (TakesLater (state_of self.old.stage self.old.edits self.old.replay.edit) line.now) (state_of result self.new.edits self.new.replay.edit) }
+        ensures { Becomes number (HasLaterForm (state_of self.old.stage self.old.edits self.old.replay.edit) line.now)
+            (TakesLater (state_of self.old.stage self.old.edits self.old.replay.edit) line.now) (state_of result self.new.edits self.new.replay.edit) }
     {
         if line == b"end".as_slice() {
             return Stage::End;

@@ -1,7 +1,7 @@
 -- Proof of `audit`: audits a transcript: reads it to its end, and writes the verdict as a line.
 use Rattle.std.proofs.Common.{List, ℕ, ◌++◌, ap, ◌∙◌}
 use Rattle.std.proofs.lemmas.Result.{err_from_is_err_and}
-use Rattle.lv_transcript.specs.Auditing.{state_of}
+use Rattle.lv_transcript.specs.Auditing.{counted_at}
 use Rattle.lv_transcript.specs.Transcript.{verdict_text}
 use Rattle.lv_transcript.proofs.AuditedTranscripts.{Audited-stopped, Audited-starved, Audited-sent, Audited-unsent}
 use Rattle.lv_transcript.proofs.auditor.audit.Goals as goal
@@ -12,7 +12,7 @@ returns-in_err-converse g c =
     let old = c.in-Ok.auditor in
     let new = c.converse.new.responder in
     rw (p.1, p.2)
-    (Audited-stopped (state_of old.stage old.edits old.replay.edit) (state_of new.stage new.edits new.replay.edit) _ (Unit {0}) _ c.in_err-converse.ensures)
+    (Audited-stopped (counted_at old.stage old.edits old.replay.edit old.lines) (counted_at new.stage new.edits new.replay.edit new.lines) _ (Unit {0}) _ c.in_err-converse.ensures)
 
 pub returns-in_err-verdict : goal.returns-in_err-verdict
 returns-in_err-verdict g c =
@@ -20,7 +20,7 @@ returns-in_err-verdict g c =
     let old = c.in-Ok.auditor in
     let new = c.converse.new.responder in
     rw (p.1, p.2, c.in_err-verdict.ensures)
-    (Audited-starved (state_of old.stage old.edits old.replay.edit) (state_of new.stage new.edits new.replay.edit) _ _ c.in_ok-converse.ensures)
+    (Audited-starved (counted_at old.stage old.edits old.replay.edit old.lines) (counted_at new.stage new.edits new.replay.edit new.lines) _ _ c.in_ok-converse.ensures)
 
 pub returns-in_err-write_whole : goal.returns-in_err-write_whole
 returns-in_err-write_whole g c =
@@ -31,7 +31,7 @@ returns-in_err-write_whole g c =
     let put = c.put_verdict.ensures ∙ ap (λ (xs : List ℕ). xs ++ verdict_text verdict) c.in-Ok-with_capacity.ensures.items in
     let fails = rw c.as_slice.ensures.value at c.in_err-write_whole.ensures.fault in
     rw (p.1, p.2, fails.0)
-    (Audited-unsent (state_of old.stage old.edits old.replay.edit) (state_of new.stage new.edits new.replay.edit) _ _ verdict _ _ c.in-Ok.ensures c.in_ok-converse.ensures c.in_ok-verdict.ensures put fails.1)
+    (Audited-unsent (counted_at old.stage old.edits old.replay.edit old.lines) (counted_at new.stage new.edits new.replay.edit new.lines) _ _ verdict _ _ c.in-Ok.ensures.state c.in-Ok.ensures.lines c.in_ok-converse.ensures c.in_ok-verdict.ensures put fails.1)
 
 pub returns : goal.returns
 returns g c =
@@ -39,4 +39,4 @@ returns g c =
     let new = c.converse.new.responder in
     let verdict = c.in_ok-verdict.verdict in
     let put = c.put_verdict.ensures ∙ ap (λ (xs : List ℕ). xs ++ verdict_text verdict) c.in-Ok-with_capacity.ensures.items in
-    Audited-sent (state_of old.stage old.edits old.replay.edit) (state_of new.stage new.edits new.replay.edit) _ _ verdict _ _ c.in-Ok.ensures c.in_ok-converse.ensures c.in_ok-verdict.ensures put (rw c.as_slice.ensures.value at c.in_ok-write_whole.ensures.ok)
+    Audited-sent (counted_at old.stage old.edits old.replay.edit old.lines) (counted_at new.stage new.edits new.replay.edit new.lines) _ _ verdict _ _ c.in-Ok.ensures.state c.in-Ok.ensures.lines c.in_ok-converse.ensures c.in_ok-verdict.ensures put (rw c.as_slice.ensures.value at c.in_ok-write_whole.ensures.ok)

@@ -8,7 +8,7 @@ use Rattle.lv_lines.specs.declared.fault.Fault.{Fault}
 use Rattle.lv_transcript.specs.declared.claimed.Claimed.{Claimed}
 use Rattle.lv_transcript.specs.Joined.{by_edit, in_a_row}
 use Rattle.lv_transcript.specs.Transcript.{AreAccepted, IsEdit, IsSoundTranscript, IsTrueAnswer, greatest, transcript_text}
-use Rattle.lv_transcript.proofs.AuditedTranscripts.{carries_of_fits}
+use Rattle.lv_transcript.proofs.SoundTranscripts.{carries_of_fits}
 use Rattle.lv_transcript.proofs.JoinedAnswers.{by_edit_order, by_edit_permutes}
 use Rattle.lv_transcript.proofs.transcripts.write_joined_transcript.Goals as goal
 

@@ -2,7 +2,7 @@
 use Rattle.std.proofs.Common.{refl, inl, inr, sym, ◌∙◌}
 use Rattle.std.specs.Cmp.Lexicographic.{other_text}
 use Rattle.lv_transcript.specs.Auditing.{state_of}
-use Rattle.lv_transcript.proofs.AuditLines.{Becomes-answer, none_later}
+use Rattle.lv_transcript.proofs.AuditLines.{Becomes-answer, no_form_later, none_later}
 use Rattle.lv_transcript.proofs.auditor.Auditor.answer_or_last.Goals as goal
 
 pub returns-in-Some : goal.returns-in-Some
@@ -19,4 +19,4 @@ returns-in-None c =
     let self = c.args.self.now in
     let old = state_of self.stage self.edits self.replay.edit in
     let other = other_text c.args.line.now c.as_slice.result.now c.if-eq.ensures in
-    inr (inl (refl, λ next taken. none_later old next c.args.line.now (λ last. other (last ∙ sym c.as_slice.ensures)) c.in-None.ensures.answer taken))
+    inr (inl ((refl, λ form. no_form_later old c.args.line.now (λ last. other (last ∙ sym c.as_slice.ensures)) c.in-None.ensures.answer form), λ next taken. none_later old next c.args.line.now (λ last. other (last ∙ sym c.as_slice.ensures)) c.in-None.ensures.answer taken))

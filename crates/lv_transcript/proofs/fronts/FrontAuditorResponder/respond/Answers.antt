@@ -13,6 +13,6 @@ returns-clause-ok g c =
     let opened = c.reopen.ensures in
     record {
       reply = [];
-      answered = (refl, refl, state_of mid.stage mid.edits mid.replay.edit, c.take_line.ensures, reopened_so mid.stage c.reopen.new.self.stage mid.edits c.reopen.new.self.edits mid.replay.edit c.reopen.new.self.replay.edit opened.stage opened.edits (λ i. (opened.replay i).edit));
+      answered = (refl, refl, state_of mid.stage mid.edits mid.replay.edit, c.take_line.ensures.line, reopened_so mid.stage c.reopen.new.self.stage mid.edits c.reopen.new.self.edits mid.replay.edit c.reopen.new.self.replay.edit opened.stage opened.edits (λ i. (opened.replay i).edit));
       written = Writes-nil _ _;
     }
