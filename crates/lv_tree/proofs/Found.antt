@@ -2,6 +2,7 @@
 use Rattle.std.proofs.Common.{◌≡◌, ℕ, Bool, true, false, ◌+◌, ◌-◌, ◌≤◌, List, length, drop, sym, ap, ◌∙◌, subst, arith}
 use Rattle.std.proofs.lemmas.List.{length-drop, length-take, take-take}
 use Rattle.lv_bodies.specs.Body.{Operations}
+use Rattle.std.specs.List.{slice_range}
 use Rattle.lv_tree.specs.Folds.{Leaves, leaf_range}
 use Rattle.lv_tree.specs.Parts.{AreBefore, AreInOrder, joined_on, run_of}
 use Rattle.lv_tree.specs.Tests.{HasNoLastTurn, HasNoTurn, IsLastTurn, IsNotYet, IsTurn, TurnsWith}
@@ -77,3 +78,35 @@ module _ {B S : Type 0} (of_body : B → Operations S) (now : Leaves B S) (body 
       subst (λ (n : Leaves B S). HasNoLastTurn (of_body n.body) test start (leaf_range n.first n.sums from to)) is
       (subst (HasNoLastTurn (of_body body) test start) (sym (range_lies xs first lo hi from to a b begin end inside))
       (λ some. ap (λ l. test ((of_body body).join (joined_on (of_body body) (of_body body).identity (run_of l a (b - a))) start)) (sym same) ∙ none (omega (arith, some, length-take (b - a) (drop a xs)))))
+
+-- the leaves between two places as they lie
+places_lie : {S : Type 0} (xs : List S) (lo hi from to a b : ℕ) → from + lo ≡ a → to + lo ≡ b → b ≤ hi → slice_range (run_of xs lo (hi - lo)) from to ≡ run_of xs a (b - a)
+places_lie xs lo hi from to a b start end inside =
+    let place : from ≡ a - lo = omega (arith, start) in
+    let count : to - from ≡ b - a = omega (arith, start, end) in
+    ap (run_of (run_of xs lo (hi - lo)) from) count ∙ ap (λ k. run_of (run_of xs lo (hi - lo)) k (b - a)) place ∙ run_inside xs lo hi a b (omega (arith, start)) inside
+
+-- the same of leaves by their places
+module _ {B S : Type 0} (of_body : B → Operations S) (now : Leaves B S) (body : B) (first room lo hi : ℕ) (xs : List S) (is : seen_of body first room lo hi xs ≡ now) (from to a b : ℕ) (begin : from + lo ≡ a) (end : to + lo ≡ b) (inside : b ≤ hi) (ys : List S) (same : ys ≡ xs) where
+  pub turn_folds : (start : S) → AreInOrder (of_body now.body) start (slice_range now.sums from to) → AreInOrder (of_body body) start (run_of ys a (b - a))
+  turn_folds start folds =
+      subst (λ l. AreInOrder (of_body body) start (run_of l a (b - a))) (sym same)
+      (subst (AreInOrder (of_body body) start) (places_lie xs lo hi from to a b begin end inside)
+      (subst (λ (n : Leaves B S). AreInOrder (of_body n.body) start (slice_range n.sums from to)) (sym is) folds))
+
+  pub turn_tests : (test : S → Bool) (start : S) (says : Bool) → test (joined_on (of_body body) start (run_of ys a (b - a))) ≡ says → test (joined_on (of_body now.body) start (slice_range now.sums from to)) ≡ says
+  turn_tests test start says tested =
+      subst (λ (n : Leaves B S). test (joined_on (of_body n.body) start (slice_range n.sums from to)) ≡ says) is
+      (ap (λ l. test (joined_on (of_body body) start l)) (places_lie xs lo hi from to a b begin end inside ∙ ap (λ l. run_of l a (b - a)) (sym same)) ∙ tested)
+
+  -- the same from the last leaf down
+  pub turn_back_folds : (start : S) → AreBefore (of_body now.body) (slice_range now.sums from to) start → AreBefore (of_body body) (run_of ys a (b - a)) start
+  turn_back_folds start folds =
+      subst (λ l. AreBefore (of_body body) (run_of l a (b - a)) start) (sym same)
+      (subst (λ l. AreBefore (of_body body) l start) (places_lie xs lo hi from to a b begin end inside)
+      (subst (λ (n : Leaves B S). AreBefore (of_body n.body) (slice_range n.sums from to) start) (sym is) folds))
+
+  pub turn_back_tests : (test : S → Bool) (start : S) (says : Bool) → test ((of_body body).join (joined_on (of_body body) (of_body body).identity (run_of ys a (b - a))) start) ≡ says → test ((of_body now.body).join (joined_on (of_body now.body) (of_body now.body).identity (slice_range now.sums from to)) start) ≡ says
+  turn_back_tests test start says tested =
+      subst (λ (n : Leaves B S). test ((of_body n.body).join (joined_on (of_body n.body) (of_body n.body).identity (slice_range n.sums from to)) start) ≡ says) is
+      (ap (λ l. test ((of_body body).join (joined_on (of_body body) (of_body body).identity l) start)) (places_lie xs lo hi from to a b begin end inside ∙ ap (λ l. run_of l a (b - a)) (sym same)) ∙ tested)

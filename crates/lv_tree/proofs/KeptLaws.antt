@@ -1,18 +1,20 @@
 -- What is left alone stays so over several steps, and room for some elements is room for fewer.
-use Rattle.std.proofs.Common.{◌≡◌, ℕ, ◌+◌, ◌≤◌, ◌++◌, List, [], ap, inl, length, refl, subst, sym, ◌∙◌, arith}
+use Rattle.std.proofs.Common.{◌≡◌, ℕ, ◌+◌, ◌≤◌, ◌++◌, List, [], ap, inl, inr, length, refl, subst, sym, ◌∙◌, arith}
 use Rattle.lv_bodies.specs.declared.kinds.Kind.{Kind}
+use Rattle.lv_bodies.specs.declared.kinds.Kind.TheVariants as kind
 use Rattle.lv_edits.specs.declared.edit.Edit.{Edit}
 use Rattle.lv_bodies.specs.AffineMaps.{affine_operations}
 use Rattle.lv_bodies.specs.Extremes.{highest_operations, lowest_operations}
 use Rattle.lv_bodies.specs.RunTotals.{runs_operations}
 use Rattle.lv_bodies.specs.Sums.{sum_operations}
+use Rattle.lv_bodies.specs.declared.sums.Sum.{Sum}
 use Rattle.lv_bodies.specs.Tables.{automaton_operations}
 use Rattle.lv_edits.proofs.HistoryLaws.{list_of_replayed, replayed-nil}
-use Rattle.lv_tree.specs.Follows.{IsLate}
+use Rattle.lv_tree.specs.Follows.{Following, IsLate}
 use Rattle.lv_tree.specs.LastSum.{IsSumOfRange}
 use Rattle.lv_tree.specs.declared.last_sum.LastSum.{LastSum}
 use Rattle.lv_tree.proofs.FollowLaws.{late_edits}
-use Rattle.lv_tree.specs.Kinds.{AreKept, AreReady, HaveRoomFor, IsNear, KeepsAlike, KindsState, LeavesAll, LeavesOthers}
+use Rattle.lv_tree.specs.Kinds.{AreKept, AreReady, HaveRoomFor, IsLeftOrFollows, IsNear, KeepsAlike, KindsState, LeavesAll, LeavesOrFollows, LeavesOthers}
 
 -- room for some elements is room for fewer
 pub HaveRoomFor-fewer : (s : KindsState) (size fewer : ℕ) → fewer ≤ size → HaveRoomFor s size → HaveRoomFor s fewer
@@ -52,6 +54,13 @@ AreReady-alike table edits old new ready alike = record {
   room = alike.leaves.room _ ready.room;
 }
 
+-- so it is where kinds follow what waited
+pub AreReady-followed : (table : List (List ℕ)) (edits : List Edit) (old new : KindsState) → AreReady table edits old → AreKept old.table edits new → LeavesOrFollows edits old new → AreReady table edits new
+AreReady-followed table edits old new ready kept leaves = record {
+  kept = subst (λ t. AreKept t edits new) ready.kept.table_is kept;
+  room = leaves.room _ ready.room;
+}
+
 -- nothing changes where nothing is done
 pub LeavesAll-same : (s : KindsState) → LeavesAll s s
 LeavesAll-same s = record { table = refl; followed = λ k. refl; blocks = λ k. refl; room = λ size room. room }
@@ -61,6 +70,41 @@ LeavesOthers-same kind s = record { table = refl; followed = λ k apart. refl; b
 
 pub KeepsAlike-same : (s : KindsState) → KeepsAlike s s
 KeepsAlike-same s = record { leaves = LeavesAll-same s; kept = λ table edits kept. kept }
+
+-- what leaves all leaves those that don't follow all edits
+pub LeavesOrFollows-all : (edits : List Edit) (old new : KindsState) → LeavesAll old new → LeavesOrFollows edits old new
+LeavesOrFollows-all edits old new leaves = record {
+  table = leaves.table;
+  followed = λ k. inl (leaves.followed k, leaves.blocks k);
+  room = leaves.room;
+}
+
+pub LeavesOrFollows-same : (edits : List Edit) (s : KindsState) → LeavesOrFollows edits s s
+LeavesOrFollows-same edits s = LeavesOrFollows-all edits s s (LeavesAll-same s)
+
+-- each kind but sums has followed so many edits
+pub record HaveSeen (n : ℕ) (s : KindsState) : Type 0 where
+  pub least : s.least.seen ≡ n
+  pub greatest : s.greatest.seen ≡ n
+  pub best : s.best.seen ≡ n
+  pub maps : s.maps.seen ≡ n
+  pub states : s.states.seen ≡ n
+
+followed_all : (edits : List Edit) (old new : KindsState) → new.sums ≡ old.sums → HaveSeen (length edits) new → (k : Kind) → IsLeftOrFollows edits k old new
+followed_all edits old new sums seen kind.Sum = inl (ap (λ (s : Following Sum ℕ). s.seen) sums, ap (λ (s : Following Sum ℕ). length s.sums) sums)
+followed_all edits old new sums seen kind.Least = inr seen.least
+followed_all edits old new sums seen kind.Greatest = inr seen.greatest
+followed_all edits old new sums seen kind.Best = inr seen.best
+followed_all edits old new sums seen kind.Affine = inr seen.maps
+followed_all edits old new sums seen kind.Automaton = inr seen.states
+
+-- so it is where each of them follows all edits
+pub LeavesOrFollows-followed : (edits : List Edit) (old new : KindsState) → new.table ≡ old.table → new.room ≡ old.room → new.sums ≡ old.sums → HaveSeen (length edits) new → LeavesOrFollows edits old new
+LeavesOrFollows-followed edits old new table room sums seen = record {
+  table = table;
+  followed = followed_all edits old new sums seen;
+  room = λ size has. record { room = omega (arith, has.room, room) };
+}
 
 -- two steps leave what each of them does
 pub LeavesAll-trans : (old mid new : KindsState) → LeavesAll old mid → LeavesAll mid new → LeavesAll old new

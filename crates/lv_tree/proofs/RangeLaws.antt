@@ -18,7 +18,7 @@ use Rattle.lv_tree.specs.Follows.{FollowsAll, FollowsBy, Stands, block_of}
 use Rattle.lv_tree.proofs.LeafLaws.{blocks_fold}
 
 -- the first so many blocks of a list
-abbrev blocks_of : ℕ → List ℤ → List (List ℤ)
+abbrev pub blocks_of : ℕ → List ℤ → List (List ℤ)
 blocks_of zero xs = []
 blocks_of (suc n) xs = take 8 xs ∷ blocks_of n (drop 8 xs)
 
@@ -56,7 +56,7 @@ blocks_of-end_to_end (suc n) xs =
     ap (λ l. take 8 xs ++ l) (blocks_of-end_to_end n (drop 8 xs)) ∙ sym (take-add 8 (8 * n) xs) ∙ ap (λ k. take k xs) far
 
 -- those from one up to another
-range_of_blocks : (n a b : ℕ) (xs : List ℤ) → a ≤ b → b ≤ n → end_to_end (slice_range (blocks_of n xs) a b) ≡ slice_range xs (8 * a) (8 * b)
+pub range_of_blocks : (n a b : ℕ) (xs : List ℤ) → a ≤ b → b ≤ n → end_to_end (slice_range (blocks_of n xs) a b) ≡ slice_range xs (8 * a) (8 * b)
 range_of_blocks n a b xs order inside =
     let all : 8 * (b - a) ≡ 8 * b - 8 * a = omega arith in
     ap end_to_end (ap (take (b - a)) (blocks_of-back a n xs) ∙ blocks_of-front (b - a) (n - a) (drop (8 * a) xs) (omega arith))
@@ -71,7 +71,7 @@ stands_now es b = record {
 }
 
 -- so the lists of leaves that follow the whole journal are the blocks
-lists_now : {S : Type 0} (o : Operations S) (es : List Edit) (lists : List (List ℤ)) (sums : List S) (size : ℕ) → FollowsBy o es lists sums (length es) size → lists ≡ blocks_of (length sums) (list_of es)
+pub lists_now : {S : Type 0} (o : Operations S) (es : List Edit) (lists : List (List ℤ)) (sums : List S) (size : ℕ) → FollowsBy o es lists sums (length es) size → lists ≡ blocks_of (length sums) (list_of es)
 lists_now o es lists sums size h =
     let n = length sums in
     let count : length lists ≡ n = sym (ap length h.sums_are ∙ length-map lists (fold_of o)) in
@@ -87,14 +87,14 @@ middle_is o es sums s a b h few order inside is =
     ∙ ap (fold_of o) (ap (λ l. end_to_end (slice_range l a b)) (lists_now o es h.lists sums (length (list_of es)) f) ∙ range_of_blocks (length sums) a b (list_of es) order inside)
 
 -- elements that may be folded
-can_fold : (xs : List ℤ) → All IsElement xs → length xs ≤ 2 ^ 61 → (a b : ℕ) → CanFoldLong (slice_range xs a b)
+pub can_fold : (xs : List ℤ) → All IsElement xs → length xs ≤ 2 ^ 61 → (a b : ℕ) → CanFoldLong (slice_range xs a b)
 can_fold xs all few a b = record {
   few = omega (arith, length-take (b - a) (drop a xs), length-drop a xs, few);
   elements = All-take IsElement (b - a) (drop a xs) (All-drop IsElement a xs all);
 }
 
 -- a range is its part up to a place, and that from there on
-range_cut : (xs : List ℤ) (a b c : ℕ) → a ≤ b → b ≤ c → slice_range xs a c ≡ slice_range xs a b ++ slice_range xs b c
+pub range_cut : (xs : List ℤ) (a b c : ℕ) → a ≤ b → b ≤ c → slice_range xs a c ≡ slice_range xs a b ++ slice_range xs b c
 range_cut xs a b c low high =
     let whole : c - a ≡ (b - a) + (c - b) = omega arith in
     let seam : a + (b - a) ≡ b = omega arith in

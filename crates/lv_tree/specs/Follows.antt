@@ -73,6 +73,12 @@ pub record KeepsRoom {B S : Type 0} (old new : Following B S) : Type 0 where
   pub body : new.body ≡ old.body
   pub room : new.room ≡ old.room
 
+-- a tree has followed all edits, with the same body and room
+pub record HasFollowed {B S : Type 0} (o : Operations S) (es : List Edit) (old new : Following B S) : Type 0 where
+  pub late : IsLate o es new
+  pub seen : new.seen ≡ length es
+  pub kept : KeepsRoom old new
+
 -- all is the same, but for the room, which is no less
 pub record KeepsLeaves {B S : Type 0} (old new : Following B S) : Type 0 where
   pub body : new.body ≡ old.body

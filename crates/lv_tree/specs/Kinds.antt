@@ -81,6 +81,16 @@ pub record LeavesAll (old new : KindsState) : Type 0 where
   pub blocks : (k : Kind) → blocks_of new k ≡ blocks_of old k
   pub room : (size : ℕ) → HaveRoomFor old size → HaveRoomFor new size
 
+-- a kind follows no more and no less, or it follows all edits
+abbrev pub IsLeftOrFollows : List Edit → Kind → KindsState → KindsState → Type 0
+IsLeftOrFollows edits k old new = ((followed_by new k ≡ followed_by old k) × (blocks_of new k ≡ blocks_of old k)) ⊎ (followed_by new k ≡ length edits)
+
+-- so does each kind, and there is room for no less
+pub record LeavesOrFollows (edits : List Edit) (old new : KindsState) : Type 0 where
+  pub table : new.table ≡ old.table
+  pub followed : (k : Kind) → IsLeftOrFollows edits k old new
+  pub room : (size : ℕ) → HaveRoomFor old size → HaveRoomFor new size
+
 -- the same of all kinds but one
 pub record LeavesOthers (kind : Kind) (old new : KindsState) : Type 0 where
   pub table : new.table ≡ old.table

@@ -10,4 +10,9 @@ pub mod Nodes
 pub mod OfSixLaws
 pub mod Parts
 pub mod Rows
+pub mod Searches
+pub mod Sought
 pub mod Tests
+pub mod Turns
+pub mod Walks
+pub mod Where

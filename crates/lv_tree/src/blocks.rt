@@ -147,9 +147,9 @@ fn take_in<T: Tree>(tree: &mut T, cells: &Edits, blocks: u32)
     }
 }
 
-// Follows what was edited since.
+/// Follows what was edited since.
 #[inline(always)]
-fn bring_up<T: Tree>(tree: &mut T, cells: &Edits, seen: usize, size: u32)
+pub fn bring_up<T: Tree>(tree: &mut T, cells: &Edits, seen: usize, size: u32)
     requires limits { IsLegalInLimits cells.now }
     requires late { Follows (T.B.operations (T.by tree.old)) cells.now.journal (T.sums tree.old) seen size }
     ensures late { FollowsAll (T.B.operations (T.by tree.old)) cells.now.journal (T.sums tree.new) }
@@ -162,9 +162,9 @@ fn bring_up<T: Tree>(tree: &mut T, cells: &Edits, seen: usize, size: u32)
     catch_up(tree, cells, seen, size);
 }
 
-// Adds the leaves that are missing among the first so many.
+/// Adds the leaves that are missing among the first so many.
 #[inline(always)]
-fn reach<T: Tree>(tree: &mut T, cells: &Edits, blocks: u32)
+pub fn reach<T: Tree>(tree: &mut T, cells: &Edits, blocks: u32)
     requires limits { IsLegalInLimits cells.now }
     requires whole { 8 * blocks ≤ length (list_of cells.now.journal) }
     requires room { blocks ≤ T.room tree.old }
@@ -180,9 +180,21 @@ fn reach<T: Tree>(tree: &mut T, cells: &Edits, blocks: u32)
     take_in(tree, cells, blocks);
 }
 
-// The fold of a range of elements, over all of whose blocks there are leaves.
+/// The fold of the elements of the blocks from `from` up to `to`, all of which have leaves.
 #[inline(always)]
-fn fold_range<T: Tree>(tree: &T, cells: &Edits, lo: u32, hi: u32) -> <T::B as Body>::S
+pub fn fold_blocks<T: Tree>(tree: &T, cells: &Edits, from: u32, to: u32) -> <T::B as Body>::S
+    requires limits { IsLegalInLimits cells.now }
+    requires order { from ≤ to }
+    requires blocks { to ≤ length (T.sums tree.now) }
+    requires late { FollowsAll (T.B.operations (T.by tree.now)) cells.now.journal (T.sums tree.now) }
+    ensures { result ≡ fold_of (T.B.operations (T.by tree.now)) (slice_range (list_of cells.now.journal) (8 * from) (8 * to)) }
+{
+    tree.fold(from as usize, to as usize)
+}
+
+/// The fold of a range of at least eight elements, over all of whose blocks there are leaves.
+#[inline(always)]
+pub fn fold_range<T: Tree>(tree: &T, cells: &Edits, lo: u32, hi: u32) -> <T::B as Body>::S
     requires limits { IsLegalInLimits cells.now }
     requires apart { lo + 8 ≤ hi }
     requires inside { hi ≤ length (list_of cells.now.journal) }
@@ -191,33 +203,7 @@ fn fold_range<T: Tree>(tree: &T, cells: &Edits, lo: u32, hi: u32) -> <T::B as Bo
     ensures { result ≡ fold_of (T.B.operations (T.by tree.now)) (slice_range (list_of cells.now.journal) lo hi) }
 {
     let start = lo.div_ceil(8);
-    let middle = tree.fold(start as usize, (hi / 8) as usize);
+    let middle = fold_blocks(tree, cells, start, hi / 8);
     let body = tree.body();
     join_ends(&body, cells, lo, hi, middle)
-}
-
-/// The fold of a range of more than a block, after the leaves were brought up to date.
-#[inline(always)]
-pub fn fold_followed<T: Tree>(
-    tree: &mut T,
-    cells: &Edits,
-    seen: usize,
-    size: u32,
-    lo: u32,
-    hi: u32,
-) -> <T::B as Body>::S
-    requires limits { IsLegalInLimits cells.now }
-    requires apart { lo + 8 ≤ hi }
-    requires inside { hi ≤ length (list_of cells.now.journal) }
-    requires room { hi / 8 ≤ T.room tree.old }
-    requires late { Follows (T.B.operations (T.by tree.old)) cells.now.journal (T.sums tree.old) seen size }
-    ensures value { result ≡ fold_of (T.B.operations (T.by tree.old)) (slice_range (list_of cells.now.journal) lo hi) }
-    ensures late { FollowsAll (T.B.operations (T.by tree.old)) cells.now.journal (T.sums tree.new) }
-    ensures blocks { hi / 8 ≤ length (T.sums tree.new) }
-    ensures by { T.by tree.new ≡ T.by tree.old }
-    ensures room { T.room tree.new ≡ T.room tree.old }
-{
-    bring_up(tree, cells, seen, size);
-    reach(tree, cells, hi / 8);
-    fold_range(tree, cells, lo, hi)
 }

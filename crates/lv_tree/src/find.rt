@@ -17,10 +17,10 @@ pub trait Test<S> {
 
 // A place at which the next node makes a test true, and what is joined up to there.
 #[derive(Clone, Copy)]
-pub struct Turn<S> {
-    pub sum: S,
-    pub node: usize,
-    pub width: usize,
+struct Turn<S> {
+    sum: S,
+    node: usize,
+    width: usize,
 }
 
 // Where the way begins.
@@ -67,7 +67,7 @@ fn joined_with<S: Copy, B: Joins<S>>(body: &B, sum: S, cells: &[S], node: usize,
 }
 
 // From a place at which the next node makes the test true to one at which the next leaf does.
-pub fn descend<S: Copy, B: Joins<S>, T: Test<S>>(
+fn descend<S: Copy, B: Joins<S>, T: Test<S>>(
     body: &B,
     cells: &[S],
     test: &T,
@@ -180,7 +180,7 @@ fn seek_narrower<S: Copy, B: Joins<S>, T: Test<S>>(
 }
 
 // The first place at which the largest node that comes next and lies between two places makes the test true.
-pub fn seek<S: Copy, B: Joins<S>, T: Test<S>>(
+fn seek<S: Copy, B: Joins<S>, T: Test<S>>(
     body: &B,
     cells: &[S],
     test: &T,
@@ -199,5 +199,29 @@ pub fn seek<S: Copy, B: Joins<S>, T: Test<S>>(
     match seek_wider(body, cells, test, start, from, to, down) {
         Ok(turn) => Some(turn),
         Err(place) => seek_narrower(body, cells, test, start, from, to, down, place),
+    }
+}
+
+/// The first place on the way between two at which the next leaf makes a test true.
+pub fn find_turn<S: Copy, B: Joins<S>, T: Test<S>>(
+    body: &B,
+    cells: &[S],
+    test: &T,
+    start: S,
+    from: usize,
+    to: usize,
+    down: bool,
+) -> Option<usize>
+    requires tree { IsTree (B.operations body.now) from to cells.now }
+    requires folds { AreOnWay down (B.operations body.now) start (run_of cells.now from (to - from)) }
+    requires order { from ≤ to }
+    requires inside { to ≤ length cells.now }
+    requires octave { to ≤ 2 * from }
+    requires few { length cells.now ≤ 2 ^ 62 }
+    ensures { MatchOption result (IsNotYet down (B.operations body.now) (T.passes test.now) cells.now start from to (end_of down from to)) (λ at. TurnsWith down (B.operations body.now) (T.passes test.now) cells.now start from to at) }
+{
+    match seek(body, cells, test, start, from, to, down) {
+        None => None,
+        Some(turn) => Some(descend(body, cells, test, start, from, to, down, turn)),
     }
 }

@@ -7,16 +7,24 @@ ghost use Rattle.lv_edits.specs.History.{History, list_of, with_edit};
 ghost use Rattle.lv_edits.specs.Kept.{IsLegalInLimits};
 ghost use Rattle.lv_edits.specs.Verdict.{receipt_of, verdict_of};
 ghost use Rattle.lv_edits.specs.Ranges.{range_refusal};
-ghost use Rattle.lv_tree.specs.Follows.{KeepsLeaves};
+ghost use Rattle.lv_bodies.specs.AffineMaps.{affine_operations};
+ghost use Rattle.lv_bodies.specs.Extremes.{highest_operations, lowest_operations};
+ghost use Rattle.lv_bodies.specs.RunTotals.{runs_operations};
+ghost use Rattle.lv_bodies.specs.Sums.{sum_operations};
+ghost use Rattle.lv_bodies.specs.Tables.{automaton_operations};
+ghost use Rattle.lv_tree.specs.Follows.{HasFollowed, IsLate, KeepsLeaves};
 ghost use Rattle.lv_tree.specs.LastSum.{IsWriteOver};
 ghost use Rattle.lv_tree.specs.Asked.{IsKindAnswer};
-ghost use Rattle.lv_tree.specs.Kinds.{AreKept, HaveRoomFor, IsCaughtUp, IsNear, KeepsAlike, LeavesAll, LeavesOthers};
+ghost use Rattle.lv_tree.specs.Kinds.{AreKept, AreReady, HaveRoomFor, IsCaughtUp, IsNear, KeepsAlike, LeavesAll, LeavesOrFollows, LeavesOthers};
+ghost use Rattle.lv_tree.specs.Searches.{FindsEnd, FindsStart};
+ghost use Rattle.lv_tree.specs.Sought.{kind_for};
 
 use crate::kind_summaries::KindSummary;
 use crate::last_sum::LastSum;
 use crate::late::Late;
 use crate::prefixes::Prefixes;
 use crate::questions::{ask_by, ask_sum};
+use crate::sought::{AtLeast, AtMost, Beginning, Ending, RunOf, Sought};
 use crate::trees::FoldTree;
 use lv_bodies::{Affine, Automaton, Highest, Kind, Lowest, Runs, Sum};
 use lv_edits::{Edit, Edits, Receipt};
@@ -29,6 +37,8 @@ use std::marker::Model;
 pub struct Kinds {
     // Each kind has room for so many blocks.
     room: u32,
+    // At this edit the kinds follow what they haven't yet, though none is asked.
+    due: u32,
     last: LastSum,
     sums: Late<Prefixes>,
     least: Late<FoldTree<Lowest>>,
@@ -65,6 +75,7 @@ impl Kinds {
     {
         Kinds {
             room: 0,
+            due: 0,
             last: LastSum::none(),
             sums: Late::new(alloc, Sum),
             least: Late::new(alloc, Lowest),
@@ -151,6 +162,39 @@ impl Kinds {
         self.last = LastSum::none();
     }
 
+    /// Has the kinds follow the edits that have waited, where these have become many: 64, and one for each 512 elements. So no question has to
+    /// follow more than those. Sums alone wait on: the sum told last has no need of them, and a sum costs little to follow. Who keeps this
+    /// beside a vector calls it behind edits. Takes no memory.
+    #[inline(always)]
+    pub fn follow_waiting(&mut self, cells: &Edits)
+        requires kept { AreKept self.old.table cells.now.journal self.old }
+        ensures kept { AreKept self.old.table cells.now.journal self.new }
+        ensures leaves { LeavesOrFollows cells.now.journal self.old self.new }
+    {
+        if cells.edit() < self.due {
+            return;
+        }
+        self.follow_all(cells);
+    }
+
+    // Each kind but sums follows all edits.
+    #[inline(never)]
+    fn follow_all(&mut self, cells: &Edits)
+        requires kept { AreKept self.old.table cells.now.journal self.old }
+        ensures kept { AreKept self.old.table cells.now.journal self.new }
+        ensures leaves { LeavesOrFollows cells.now.journal self.old self.new }
+    {
+        self.due = due_after(cells);
+        catch_up_each(
+            &mut self.least,
+            &mut self.greatest,
+            &mut self.best,
+            &mut self.maps,
+            &mut self.states,
+            cells,
+        );
+    }
+
     /// The summary by a kind of the elements from index `lo` up to `hi`, with the number of the last edit. The kind follows all edits
     /// first, unless the range is short or its sum was told last. Refused with `BadRange`, then `OutOfRange`: nothing has changed
     /// then. Takes no memory.
@@ -180,6 +224,91 @@ impl Kinds {
             Kind::Automaton => ask_by(&mut self.states, cells, lo, hi),
         }
     }
+
+    /// The end at which the range from index `lo` on comes to have what is sought, at most `hi`, or none. The kind by which it is looked
+    /// for follows all edits first, unless the range is short. Takes no memory.
+    pub(crate) fn find_end(
+        &mut self,
+        cells: &Edits,
+        sought: Sought,
+        lo: u32,
+        hi: u32,
+    ) -> Option<u32>
+        requires ready { AreReady self.old.table cells.now.journal self.old }
+        requires limits { IsLegalInLimits cells.now }
+        requires order { lo ≤ hi }
+        requires inside { hi ≤ length (list_of cells.now.journal) }
+        ensures finds { FindsEnd sought (list_of cells.now.journal) lo hi result }
+        ensures ready { AreReady self.old.table cells.now.journal self.new }
+        ensures others { LeavesOthers (kind_for sought) self.old self.new }
+        ensures caught_up { (hi ≤ lo + 64) ⊎ IsCaughtUp cells.now.journal (kind_for sought) hi self.new }
+    {
+        match sought {
+            Sought::AtMost(bound) => self.least.find_end(cells, lo, hi, &AtMost(bound)),
+            Sought::AtLeast(bound) => self.greatest.find_end(cells, lo, hi, &AtLeast(bound)),
+            Sought::Run(bound) => self.best.find_end(cells, lo, hi, &RunOf(bound)),
+            Sought::Beginning(bound) => self.best.find_end(cells, lo, hi, &Beginning(bound)),
+            Sought::Ending(bound) => self.best.find_end(cells, lo, hi, &Ending(bound)),
+        }
+    }
+
+    /// The start at which the range up to index `hi` comes to have what is sought, at least `lo`, or none.
+    pub(crate) fn find_start(
+        &mut self,
+        cells: &Edits,
+        sought: Sought,
+        lo: u32,
+        hi: u32,
+    ) -> Option<u32>
+        requires ready { AreReady self.old.table cells.now.journal self.old }
+        requires limits { IsLegalInLimits cells.now }
+        requires order { lo ≤ hi }
+        requires inside { hi ≤ length (list_of cells.now.journal) }
+        ensures finds { FindsStart sought (list_of cells.now.journal) lo hi result }
+        ensures ready { AreReady self.old.table cells.now.journal self.new }
+        ensures others { LeavesOthers (kind_for sought) self.old self.new }
+        ensures caught_up { (hi ≤ lo + 64) ⊎ IsCaughtUp cells.now.journal (kind_for sought) hi self.new }
+    {
+        match sought {
+            Sought::AtMost(bound) => self.least.find_start(cells, lo, hi, &AtMost(bound)),
+            Sought::AtLeast(bound) => self.greatest.find_start(cells, lo, hi, &AtLeast(bound)),
+            Sought::Run(bound) => self.best.find_start(cells, lo, hi, &RunOf(bound)),
+            Sought::Beginning(bound) => self.best.find_start(cells, lo, hi, &Beginning(bound)),
+            Sought::Ending(bound) => self.best.find_start(cells, lo, hi, &Ending(bound)),
+        }
+    }
+}
+
+// How many edits the kinds let wait from now on, as the number of the last of them.
+fn due_after(cells: &Edits) -> u32 {
+    cells.edit().saturating_add(64 + cells.size() / 512)
+}
+
+// Each of these trees follows all edits.
+fn catch_up_each(
+    least: &mut Late<FoldTree<Lowest>>,
+    greatest: &mut Late<FoldTree<Highest>>,
+    best: &mut Late<FoldTree<Runs>>,
+    maps: &mut Late<FoldTree<Affine>>,
+    states: &mut Late<FoldTree<Automaton>>,
+    cells: &Edits,
+)
+    requires least { IsLate lowest_operations cells.now.journal least.old }
+    requires greatest { IsLate highest_operations cells.now.journal greatest.old }
+    requires best { IsLate runs_operations cells.now.journal best.old }
+    requires maps { IsLate affine_operations cells.now.journal maps.old }
+    requires states { IsLate (automaton_operations (table_of states.old.body)) cells.now.journal states.old }
+    ensures least { HasFollowed lowest_operations cells.now.journal least.old least.new }
+    ensures greatest { HasFollowed highest_operations cells.now.journal greatest.old greatest.new }
+    ensures best { HasFollowed runs_operations cells.now.journal best.old best.new }
+    ensures maps { HasFollowed affine_operations cells.now.journal maps.old maps.new }
+    ensures states { HasFollowed (automaton_operations (table_of states.old.body)) cells.now.journal states.old states.new }
+{
+    least.catch_up(cells);
+    greatest.catch_up(cells);
+    best.catch_up(cells);
+    maps.catch_up(cells);
+    states.catch_up(cells);
 }
 
 // Makes room for so many blocks in each tree.

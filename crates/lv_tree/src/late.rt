@@ -1,15 +1,19 @@
-//! A tree over the blocks of a vector, and up to which edit it has followed the vector's journal.
-ghost use Rattle.std.specs.Prelude.{◌≡◌, ◌⊎◌, ◌+◌, ◌*◌, ◌≤◌, ◌++◌, [], List, length, IfErr, OnOk};
+//! A tree over the blocks of a vector, and up to which edit it has followed the vector's journal: what a range is asked by it.
+ghost use Rattle.std.specs.Prelude.{◌≡◌, ◌⊎◌, ◌+◌, ◌*◌, ◌≤◌, ◌++◌, [], List, length, IfErr, MatchOption, OnOk};
 ghost use Rattle.std.specs.List.{slice_range};
 ghost use Rattle.lv_bodies.specs.Body.{fold_of};
 ghost use Rattle.lv_edits.specs.declared.edit.Edit.{Edit as AnEdit};
 ghost use Rattle.lv_edits.specs.History.{list_of};
-ghost use Rattle.lv_tree.specs.Follows.{HasRoomFor, IsLate, IsUpTo, KeepsLeaves, KeepsRoom};
+ghost use Rattle.lv_tree.specs.Follows.{FollowsAll, HasRoomFor, IsLate, IsUpTo, KeepsLeaves, KeepsRoom};
+ghost use Rattle.lv_tree.specs.Turns.{HasNoEnd, IsEndAt, IsStartAt};
 
-use crate::blocks::fold_followed;
+use crate::blocks::{bring_up, fold_range, reach};
 use crate::cells::fold_cells;
+use crate::find::Test;
 use crate::tree::Tree;
-use lv_bodies::Body;
+use crate::trees::FoldTree;
+use crate::turns::{end_by_blocks, end_in_turn, start_by_blocks, start_in_turn};
+use lv_bodies::{Body, LongBody};
 use lv_edits::Edits;
 use lv_geometry::Refusal;
 use std::alloc::Global;
@@ -63,6 +67,19 @@ impl<T: Tree> Late<T> {
         self.tree.reserve(blocks as usize)
     }
 
+    /// Follows what was edited since. Takes in no further block, and no memory.
+    pub fn catch_up(&mut self, cells: &Edits)
+        requires late { IsLate (T.B.operations self.old.body) cells.now.journal self.old }
+        ensures late { IsLate (T.B.operations self.old.body) cells.now.journal self.new }
+        ensures seen { self.new.seen ≡ length cells.now.journal }
+        ensures kept { KeepsRoom self.old self.new }
+    {
+        let edit = cells.edit();
+        bring_up(&mut self.tree, cells, self.seen, self.size);
+        self.seen = edit as usize;
+        self.size = cells.size();
+    }
+
     /// The fold of the elements from index `lo` up to `hi`, from left to right. A range of at most 64 is folded where it lies; before any
     /// other the tree follows what was edited since, and takes in the blocks that are missing. There is room for all whole blocks.
     #[inline(always)]
@@ -77,14 +94,92 @@ impl<T: Tree> Late<T> {
         ensures up_to { (hi ≤ lo + 64) ⊎ IsUpTo cells.now.journal hi self.new }
         ensures short { hi ≤ lo + 64 → self.new ≡ self.old }
     {
-        let edit = cells.edit();
+        // By this the history is known to be legal and within its limits.
+        let _edit = cells.edit();
         if hi - lo <= FEW {
             let body = self.tree.body();
             return fold_cells(&body, cells, lo, hi);
         }
-        let value = fold_followed(&mut self.tree, cells, self.seen, self.size, lo, hi);
+        self.follow_to(cells, hi);
+        fold_range(&self.tree, cells, lo, hi)
+    }
+
+    // Follows what was edited since, and takes in the whole blocks before an index.
+    #[inline(always)]
+    fn follow_to(&mut self, cells: &Edits, hi: u32)
+        requires inside { hi ≤ length (list_of cells.now.journal) }
+        requires room { HasRoomFor self.old (length (list_of cells.now.journal)) }
+        requires late { IsLate (T.B.operations self.old.body) cells.now.journal self.old }
+        ensures late { IsLate (T.B.operations self.old.body) cells.now.journal self.new }
+        ensures all { FollowsAll (T.B.operations self.old.body) cells.now.journal self.new.sums }
+        ensures kept { KeepsRoom self.old self.new }
+        ensures up_to { IsUpTo cells.now.journal hi self.new }
+    {
+        let edit = cells.edit();
+        bring_up(&mut self.tree, cells, self.seen, self.size);
+        reach(&mut self.tree, cells, hi / 8);
         self.seen = edit as usize;
         self.size = cells.size();
-        value
+    }
+}
+
+impl<B: LongBody> Late<FoldTree<B>> {
+    /// The least end of the range from index `lo` up to `hi` at which a test on the fold of the elements from `lo` on becomes true, if it
+    /// does. A smaller end passes only where the test is not monotone; one may then pass though none is found. A range of at most 64 is
+    /// walked an element at a time. Before any other the tree follows what was edited since, as in `ask`; the search then takes about four
+    /// joins for each doubling of the range, and reads at most 16 elements. Takes no memory: there is room for all whole blocks.
+    pub fn find_end<T: Test<B::S>>(
+        &mut self,
+        cells: &Edits,
+        lo: u32,
+        hi: u32,
+        test: &T,
+    ) -> Option<u32>
+        requires order { lo ≤ hi }
+        requires inside { hi ≤ length (list_of cells.now.journal) }
+        requires room { HasRoomFor self.old (length (list_of cells.now.journal)) }
+        requires late { IsLate (B.operations self.old.body) cells.now.journal self.old }
+        ensures finds { let o = B.operations self.old.body in let xs = list_of cells.now.journal in
+            MatchOption result (HasNoEnd o (T.passes test.now) xs lo hi) (λ end. IsEndAt o (T.passes test.now) xs lo hi end) }
+        ensures late { IsLate (B.operations self.old.body) cells.now.journal self.new }
+        ensures kept { KeepsRoom self.old self.new }
+        ensures up_to { (hi ≤ lo + 64) ⊎ IsUpTo cells.now.journal hi self.new }
+    {
+        // As in `ask`.
+        let _edit = cells.edit();
+        if hi - lo <= FEW {
+            let body = self.tree.body();
+            return end_in_turn(&body, cells, test, lo, hi);
+        }
+        self.follow_to(cells, hi);
+        end_by_blocks(&self.tree, cells, test, lo, hi)
+    }
+
+    /// The same from the other end: the greatest start of the range at which a test on the fold of the elements up to `hi` becomes true.
+    pub fn find_start<T: Test<B::S>>(
+        &mut self,
+        cells: &Edits,
+        lo: u32,
+        hi: u32,
+        test: &T,
+    ) -> Option<u32>
+        requires order { lo ≤ hi }
+        requires inside { hi ≤ length (list_of cells.now.journal) }
+        requires room { HasRoomFor self.old (length (list_of cells.now.journal)) }
+        requires late { IsLate (B.operations self.old.body) cells.now.journal self.old }
+        ensures finds { let o = B.operations self.old.body in let xs = list_of cells.now.journal in
+            MatchOption result (HasNoEnd o (T.passes test.now) xs lo hi) (λ start. IsStartAt o (T.passes test.now) xs lo hi start) }
+        ensures late { IsLate (B.operations self.old.body) cells.now.journal self.new }
+        ensures kept { KeepsRoom self.old self.new }
+        ensures up_to { (hi ≤ lo + 64) ⊎ IsUpTo cells.now.journal hi self.new }
+    {
+        // As in `ask`.
+        let _edit = cells.edit();
+        if hi - lo <= FEW {
+            let body = self.tree.body();
+            return start_in_turn(&body, cells, test, lo, hi);
+        }
+        self.follow_to(cells, hi);
+        start_by_blocks(&self.tree, cells, test, lo, hi)
     }
 }

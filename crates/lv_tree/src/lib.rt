@@ -5,8 +5,10 @@
 //! and replaced; a `FoldTree` also drops them at the front, where the others keep their numbers, and finds the leaf with which a
 //! test on joins becomes true. How nodes lie is the crate's own affair.
 //!
-//! A `Late` tree lies over the blocks of a vector and follows its journal at questions: an edit tells it nothing. `LastSum` is the sum that
-//! was told last.
+//! A `Late` tree lies over the blocks of a vector and follows its journal at questions: an edit tells it nothing. It folds a range of the
+//! elements, and over a `FoldTree` finds the end or the start of one at which a test on the fold becomes true. `LastSum` is the sum that
+//! was told last. `Kinds` is such a tree a kind. `first_least` and its neighbours search by them where in a range
+//! something stands.
 #![tactic(auto)]
 
 mod blocks;
@@ -20,19 +22,26 @@ mod last_sum;
 mod late;
 mod leaves;
 mod of_kind;
+mod places;
 mod prefixes;
 mod questions;
 mod renewals;
 mod rooms;
 mod rows;
+mod sought;
 mod tree;
 mod trees;
+mod turns;
 
 pub use find::Test;
 pub use kind_summaries::KindSummary;
 pub use kinds::{KindAnswer, Kinds};
 pub use last_sum::LastSum;
 pub use late::Late;
+pub use places::{
+    Bound, Placed, Run, best_run, first_greatest, first_index, first_least, last_index, reaches,
+    reaches_back,
+};
 pub use prefixes::Prefixes;
 pub use tree::Tree;
 pub use trees::FoldTree;

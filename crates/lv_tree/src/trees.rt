@@ -1,12 +1,12 @@
 //! A fold tree.
-ghost use Rattle.std.specs.Prelude.{◌≡◌, ℕ, ℤ, ◌+◌, ◌-◌, ◌^◌, ◌<◌, ◌≤◌, List, [], ◌∷◌, ◌++◌, length, take, drop, slice_set, slice_index_or, OnErr, OnOk, IfErr, IfSome, MatchOption};
+ghost use Rattle.std.specs.Prelude.{◌≡◌, ℕ, ℤ, ◌+◌, ◌-◌, ◌^◌, ◌<◌, ◌≤◌, List, [], ◌∷◌, ◌++◌, length, take, drop, slice_set, slice_index_or, OnErr, OnOk, IfErr, IfSome, MatchOption, false, true};
 ghost use Rattle.lv_bodies.specs.Body.{fold_of};
 ghost use Rattle.lv_tree.specs.Folds.{AreFolds, AreFoldsOf, end_to_end, leaf_range};
-ghost use Rattle.lv_tree.specs.Parts.{AreBefore, AreInOrder};
+ghost use Rattle.lv_tree.specs.Parts.{AreBefore, AreInOrder, joined_on};
 ghost use Rattle.lv_tree.specs.Tests.{HasNoLastTurn, HasNoTurn, IsLastTurn, IsTurn};
 ghost use Rattle.std.specs.List.{slice_range};
 
-use crate::find::{Test, descend, seek};
+use crate::find::{Test, find_turn};
 use crate::folds::fold_between;
 use crate::joins::join_laws;
 use crate::leaves::{add_leaf, set_leaf};
@@ -187,21 +187,9 @@ impl<B: LongBody> FoldTree<B> {
     {
         let a = (from - self.first) as usize + self.lo;
         let b = (to - self.first) as usize + self.lo;
-        match seek(&self.body, self.cells.as_slice(), test, start, a, b, false) {
+        match find_turn(&self.body, self.cells.as_slice(), test, start, a, b, false) {
             None => None,
-            Some(turn) => {
-                let at = descend(
-                    &self.body,
-                    self.cells.as_slice(),
-                    test,
-                    start,
-                    a,
-                    b,
-                    false,
-                    turn,
-                );
-                Some(from + (at - a) as u64)
-            }
+            Some(at) => Some(from + (at - a) as u64),
         }
     }
 
@@ -219,21 +207,59 @@ impl<B: LongBody> FoldTree<B> {
     {
         let a = (from - self.first) as usize + self.lo;
         let b = (to - self.first) as usize + self.lo;
-        match seek(&self.body, self.cells.as_slice(), test, end, a, b, true) {
+        match find_turn(&self.body, self.cells.as_slice(), test, end, a, b, true) {
             None => None,
-            Some(turn) => {
-                let at = descend(
-                    &self.body,
-                    self.cells.as_slice(),
-                    test,
-                    end,
-                    a,
-                    b,
-                    true,
-                    turn,
-                );
-                Some(from + (at - 1 - a) as u64)
-            }
+            Some(at) => Some(from + (at - 1 - a) as u64),
+        }
+    }
+
+    /// The place of the first of the leaves from place `from` up to `to` with which a test on what `start` and the leaves from `from`
+    /// on come to becomes true; `to` where it does not. Takes no memory.
+    pub(crate) fn turn_up<T: Test<B::S>>(
+        &self,
+        from: usize,
+        to: usize,
+        start: B::S,
+        test: &T,
+    ) -> usize
+        requires folds { AreInOrder (B.operations self.now.body) start (slice_range self.now.sums from to) }
+        requires order { from ≤ to }
+        requires last { to ≤ length self.now.sums }
+        ensures low { from ≤ result }
+        ensures high { result ≤ to }
+        ensures before { from < result → T.passes test.now (joined_on (B.operations self.now.body) start (slice_range self.now.sums from result)) ≡ false }
+        ensures after { result < to → T.passes test.now (joined_on (B.operations self.now.body) start (slice_range self.now.sums from (result + 1))) ≡ true }
+    {
+        let a = from + self.lo;
+        let b = to + self.lo;
+        match find_turn(&self.body, self.cells.as_slice(), test, start, a, b, false) {
+            None => to,
+            Some(at) => at - self.lo,
+        }
+    }
+
+    /// The place behind the last of the leaves from place `from` up to `to` with which a test on what the leaves from there on and
+    /// `end` come to becomes true; `from` where it does not. Takes no memory.
+    pub(crate) fn turn_down<T: Test<B::S>>(
+        &self,
+        from: usize,
+        to: usize,
+        end: B::S,
+        test: &T,
+    ) -> usize
+        requires folds { AreBefore (B.operations self.now.body) (slice_range self.now.sums from to) end }
+        requires order { from ≤ to }
+        requires last { to ≤ length self.now.sums }
+        ensures low { from ≤ result }
+        ensures high { result ≤ to }
+        ensures before { let o = B.operations self.now.body in result < to → T.passes test.now (o.join (joined_on o o.identity (slice_range self.now.sums result to)) end) ≡ false }
+        ensures after { let o = B.operations self.now.body in from < result → T.passes test.now (o.join (joined_on o o.identity (slice_range self.now.sums (result - 1) to)) end) ≡ true }
+    {
+        let a = from + self.lo;
+        let b = to + self.lo;
+        match find_turn(&self.body, self.cells.as_slice(), test, end, a, b, true) {
+            None => from,
+            Some(at) => at - self.lo,
         }
     }
 }

@@ -1,0 +1,18 @@
+-- Proof of `start_inside`.
+use Rattle.std.proofs.Common.{◌<ℤ◌, of_z, pos, subst, to_z}
+use Rattle.std.specs.Int.{w128}
+use Rattle.std.proofs.lemmas.Int.{to_z-of_z}
+use Rattle.lv_edits.specs.History.{list_of}
+use Rattle.lv_tree.specs.Searches.{FindsStart}
+use Rattle.lv_tree.specs.declared.sought.Sought.TheVariants.{Ending}
+use Rattle.lv_tree.proofs.PlaceLaws.{start_found}
+use Rattle.lv_tree.proofs.SoughtLaws.{not_most}
+use Rattle.lv_tree.proofs.places.start_inside.Goals as goal
+
+pub returns-clause-place : goal.returns-clause-place
+returns-clause-place c =
+    let xs = list_of c.args.cells.now.journal in
+    let is = to_z-of_z w128 c.args.sum c.ranges.sum in
+    let finds = subst (λ sum. FindsStart (Ending sum) xs c.args.lo c.args.hi c.find_start.result) is c.find_start.ensures.finds in
+    let some = subst (λ sum. pos 0 <ℤ sum) is (not_most (to_z w128 (of_z w128 c.args.sum)) (pos 0) c.if-sum-le0.false) in
+    start_found xs c.args.lo c.args.hi c.requires.order c.requires.inside c.args.sum some c.find_start.result finds
