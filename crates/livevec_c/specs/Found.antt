@@ -6,9 +6,9 @@ use Rattle.lv_bodies.specs.declared.kinds.Kind.{Kind}
 use Rattle.lv_bodies.specs.declared.kinds.Kind.TheVariants as kinds
 use Rattle.lv_edits.specs.History.{list_of}
 use Rattle.lv_edits.specs.Ranges.{range_refusal}
-use Rattle.lv_where.specs.Where.{IsEndReached, IsPlaceOfBest, IsPlaceOfGreatest, IsPlaceOfLeast}
-use Rattle.lv_where.specs.declared.placing.Placed.{Placed}
-use Rattle.lv_where.specs.declared.placing.Run.{Run}
+use Rattle.lv_tree.specs.Where.{IsEndReached, IsPlaceOfBest, IsPlaceOfGreatest, IsPlaceOfLeast}
+use Rattle.lv_tree.specs.declared.places.Placed.{Placed}
+use Rattle.lv_tree.specs.declared.places.Run.{Run}
 use Rattle.livevec_c.specs.declared.objects.Object.{Object}
 use Rattle.livevec_c.specs.declared.objects.Object.TheVariants.{Vector}
 use Rattle.livevec_c.specs.declared.places_found.Found.{Found}

@@ -1,12 +1,9 @@
 -- A live vector, and what it keeps of what it was asked by one kind.
-use Rattle.std.specs.Prelude.{◌≡◌, ℕ, ◌+◌, ◌-◌, length, take}
+use Rattle.std.specs.Prelude.{◌≡◌}
 use Rattle.lv_geometry.specs.Bounds.{Bounds}
 use Rattle.lv_bodies.specs.Automata.{table_of}
 use Rattle.lv_bodies.specs.Six.{SixSummary}
 use Rattle.lv_bodies.specs.declared.sixes.SixByTable.{SixByTable}
-use Rattle.lv_edits.specs.declared.edit.Edit.{Edit}
-use Rattle.lv_edits.specs.declared.edit.Edit.TheVariants.{Push}
-use Rattle.lv_edits.specs.History.{History}
 use Rattle.lv_live.specs.State.{LiveState}
 use Rattle.lv_tree.specs.Kinds.{AreReady, KindsState}
 
@@ -14,12 +11,3 @@ use Rattle.lv_tree.specs.Kinds.{AreReady, KindsState}
 pub record IsKindVector (limits : Bounds) (live : LiveState SixByTable SixSummary) (kinds : KindsState) : Type 0 where
   pub limits_are : limits ≡ live.history.limits
   pub kept : AreReady (table_of live.body.automaton) live.history.journal kinds
-
--- how many elements there may be after an edit: a push makes one more, and no other edit makes more
-abbrev pub most_after : ℕ → Edit → ℕ
-most_after size (Push x) = size + 1
-most_after size other = size
-
--- a history before its last edit
-abbrev pub before_last : History → History
-before_last h = record h { journal = take (length h.journal - 1) h.journal }

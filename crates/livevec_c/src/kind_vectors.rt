@@ -19,20 +19,17 @@ ghost use Rattle.lv_live.specs.State.{HasClaim, HasDelivery, HasNoClaims, SameLi
 ghost use Rattle.lv_live.specs.Subtrees.{CanTake, HasSubtree};
 ghost use Rattle.lv_live.specs.Turns.{TakesTurns};
 ghost use Rattle.lv_tree.specs.Asked.{IsKindAnswer};
-ghost use Rattle.lv_where.specs.Where.{IsEndReached, IsPlaceOfBest, IsPlaceOfGreatest, IsPlaceOfLeast};
+ghost use Rattle.lv_tree.specs.Where.{IsEndReached, IsPlaceOfBest, IsPlaceOfGreatest, IsPlaceOfLeast};
 
-use crate::edits_beside::{make_beside, overwrite_beside};
-use crate::pushes::push_beside;
-use crate::writes::write_beside;
 use lv_bodies::{Automaton, Kind, SixByTable, SixSummary};
 use lv_edits::{Edit, Receipt};
 use lv_geometry::{Limits, Refusal};
 use lv_live::{BatchOutcome, Batched, Live};
 use lv_reduce::Answer;
 use lv_refresh::{Job, Outcome, SubtreeOutcome};
+use lv_standing::{make_beside, push_all_beside, write_all_beside, write_beside};
 use lv_summary::Accepted;
-use lv_tree::{KindAnswer, Kinds};
-use lv_where::{Placed, Run};
+use lv_tree::{KindAnswer, Kinds, Placed, Run};
 use std::alloc::Global;
 use std::marker::Model;
 
@@ -100,7 +97,11 @@ impl KindVector {
         self.live.keeps();
         match self.live.verdict(&edit) {
             Some(refusal) => Err(refusal),
-            None => make_beside(&mut self.live, &mut self.kinds, edit),
+            None => {
+                let answer = make_beside(&mut self.live, &mut self.kinds, edit);
+                self.kinds.follow_waiting(self.live.view().cells);
+                answer
+            }
         }
     }
 
@@ -111,7 +112,9 @@ impl KindVector {
         ensures limits { IsLegalInLimits self.new.history }
         ensures refresh { SameRefresh self.old self.new }
     {
-        overwrite_beside(&mut self.live, &mut self.kinds, index, value)
+        let answer = write_beside(&mut self.live, &mut self.kinds, index, value);
+        self.kinds.follow_waiting(self.live.view().cells);
+        answer
     }
 
     /// Pushes values in order, all of them or none, and tells the number of the last edit. Refused as the first push that would be
@@ -121,7 +124,9 @@ impl KindVector {
         ensures limits { IsLegalInLimits self.new.history }
         ensures refresh { SameRefresh self.old self.new }
     {
-        push_beside(&mut self.live, &mut self.kinds, values)
+        let answer = push_all_beside(&mut self.live, &mut self.kinds, values);
+        self.kinds.follow_waiting(self.live.view().cells);
+        answer
     }
 
     /// Writes values at indices in order, all of them or none. Refused as the first write that would be refused, else with `NoMemory`,
@@ -132,7 +137,9 @@ impl KindVector {
         ensures limits { IsLegalInLimits self.new.history }
         ensures refresh { SameRefresh self.old self.new }
     {
-        write_beside(&mut self.live, &mut self.kinds, indices, values)
+        let answer = write_all_beside(&mut self.live, &mut self.kinds, indices, values);
+        self.kinds.follow_waiting(self.live.view().cells);
+        answer
     }
 
     /// The summary by a kind of the elements from index `lo` up to `hi`, with the number of the last edit. That kind alone follows the
@@ -155,7 +162,7 @@ impl KindVector {
         ensures err { IfErr result (λ refusal. range_refusal self.old.history.journal lo hi ≡ Some refusal) }
         ensures same { self.new ≡ self.old }
     {
-        lv_where::first_least(self.live.view().cells, &mut self.kinds, lo, hi)
+        lv_tree::first_least(self.live.view().cells, &mut self.kinds, lo, hi)
     }
 
     /// The first of the greatest elements, the same way.
@@ -165,7 +172,7 @@ impl KindVector {
         ensures err { IfErr result (λ refusal. range_refusal self.old.history.journal lo hi ≡ Some refusal) }
         ensures same { self.new ≡ self.old }
     {
-        lv_where::first_greatest(self.live.view().cells, &mut self.kinds, lo, hi)
+        lv_tree::first_greatest(self.live.view().cells, &mut self.kinds, lo, hi)
     }
 
     /// The best run of a range: of several the one that ends first, and of those the shortest. Asked and refused as `value`.
@@ -175,7 +182,7 @@ impl KindVector {
         ensures err { IfErr result (λ refusal. range_refusal self.old.history.journal lo hi ≡ Some refusal) }
         ensures same { self.new ≡ self.old }
     {
-        lv_where::best_run(self.live.view().cells, &mut self.kinds, lo, hi)
+        lv_tree::best_run(self.live.view().cells, &mut self.kinds, lo, hi)
     }
 
     /// The least end up to which the elements from index `lo` on add up to `sum`, or none. Asked and refused as `value`.
@@ -185,7 +192,7 @@ impl KindVector {
         ensures err { IfErr result (λ refusal. range_refusal self.old.history.journal lo hi ≡ Some refusal) }
         ensures same { self.new ≡ self.old }
     {
-        lv_where::reaches(self.live.view().cells, &mut self.kinds, lo, hi, sum)
+        lv_tree::reaches(self.live.view().cells, &mut self.kinds, lo, hi, sum)
     }
 
     /// The summary by all six kinds, which are kept beside what is delivered. Refused as `value` is. Takes no memory.

@@ -11,7 +11,6 @@ mod claims;
 mod closed;
 mod column_exports;
 mod columns;
-mod edits_beside;
 mod ended;
 mod frees;
 mod jobs;

@@ -13,7 +13,7 @@ use crate::slots::{Slot, put, take};
 use crate::values::halves;
 use lv_bodies::Kind;
 use lv_geometry::Refusal;
-use lv_where::{Placed, Run};
+use lv_tree::{Placed, Run};
 use std::alloc::Global;
 
 /// What is looked for in a range.

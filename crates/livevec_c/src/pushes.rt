@@ -1,19 +1,11 @@
 //! Many pushes at once.
 ghost use Rattle.std.specs.Prelude.{◌≡◌, ◌≤◌, length, IfOk};
-ghost use Rattle.lv_bodies.specs.Automata.{table_of};
-ghost use Rattle.lv_edits.specs.Kept.{IsLegalInLimits};
-ghost use Rattle.lv_edits.specs.Pushes.{AnswersAll};
-ghost use Rattle.lv_live.specs.State.{SameRefresh};
-ghost use Rattle.lv_tree.specs.Kinds.{AreReady};
 ghost use Rattle.livevec_c.specs.Pushed.{Pushes, PushesObject, pushed_by, unpushed};
 
 use crate::objects::Object;
 use crate::results::{NO_HANDLE, detail};
 use crate::slots::{Slot, put, take};
-use lv_bodies::SixByTable;
 use lv_geometry::Refusal;
-use lv_live::Live;
-use lv_tree::Kinds;
 use std::alloc::Global;
 
 /// What many pushes answer.
@@ -24,37 +16,6 @@ pub struct Pushed {
     pub detail: u32,
     pub edit: u32,
     pub pushed: u32,
-}
-
-/// Pushes values at a live vector, all of them or none, and has what is kept by kind follow. Room for what may be asked after them is
-/// made before anything changes.
-pub fn push_beside(
-    live: &mut Live<SixByTable>,
-    kinds: &mut Kinds,
-    values: &[i64],
-) -> Result<u32, Refusal>
-    requires kept { AreReady (table_of live.old.body.automaton) live.old.history.journal kinds.old }
-    ensures answer { AnswersAll live.old.history values.now result live.new.history }
-    ensures limits { IsLegalInLimits live.new.history }
-    ensures refresh { SameRefresh live.old live.new }
-    ensures kept { AreReady (table_of live.new.body.automaton) live.new.history.journal kinds.new }
-{
-    live.keeps();
-    if let Some(refusal) = live.verdict_of_pushes(values) {
-        return Err(refusal);
-    }
-    let first = live.size();
-    let count = values.len() as u32;
-    match kinds.make_room(first + count) {
-        Err(refusal) => Err(refusal),
-        Ok(()) => match live.push_all(values) {
-            Err(refusal) => Err(refusal),
-            Ok(edit) => {
-                kinds.forget_sum();
-                Ok(edit)
-            }
-        },
-    }
 }
 
 // What pushes answer where they are refused.

@@ -1,20 +1,12 @@
 //! Many writes at once.
 ghost use Rattle.std.specs.Prelude.{◌≡◌, ℤ, List, length};
-ghost use Rattle.lv_bodies.specs.Automata.{table_of};
-ghost use Rattle.lv_edits.specs.Batches.{AnswersEdits, writes_at};
-ghost use Rattle.lv_edits.specs.Kept.{IsLegalInLimits};
-ghost use Rattle.lv_live.specs.State.{SameRefresh};
-ghost use Rattle.lv_tree.specs.Kinds.{AreReady};
+ghost use Rattle.lv_edits.specs.Batches.{writes_at};
 ghost use Rattle.livevec_c.specs.Written.{Writes, WritesObject, WritesVector, place_refused, unwritten};
 
 use crate::kind_vectors::KindVector;
 use crate::objects::Object;
 use crate::results::{NO_HANDLE, SHORT_BUFFER, detail};
 use crate::slots::{Slot, put, take};
-use lv_bodies::SixByTable;
-use lv_geometry::Refusal;
-use lv_live::Live;
-use lv_tree::Kinds;
 use std::alloc::Global;
 
 /// What many writes answer.
@@ -26,30 +18,6 @@ pub struct Many {
     pub edit: u32,
     pub done: usize,
     pub place: usize,
-}
-
-/// Writes values at indices of a live vector, all of them or none, and has what is kept by kind follow.
-pub fn write_beside(
-    live: &mut Live<SixByTable>,
-    kinds: &mut Kinds,
-    indices: &[u32],
-    values: &[i64],
-) -> Result<u32, Refusal>
-    requires paired { length indices.now ≡ length values.now }
-    requires kept { AreReady (table_of live.old.body.automaton) live.old.history.journal kinds.old }
-    ensures answer { AnswersEdits live.old.history (writes_at indices.now values.now) result live.new.history }
-    ensures limits { IsLegalInLimits live.new.history }
-    ensures refresh { SameRefresh live.old live.new }
-    ensures kept { AreReady (table_of live.new.body.automaton) live.new.history.journal kinds.new }
-{
-    live.keeps();
-    match live.write_all(indices, values) {
-        Err(refusal) => Err(refusal),
-        Ok(edit) => {
-            kinds.forget_sum();
-            Ok(edit)
-        }
-    }
 }
 
 // Which of writes at indices, one after another, is the first that would be refused, want of memory apart; 0 where none would be.

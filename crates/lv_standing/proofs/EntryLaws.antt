@@ -209,6 +209,10 @@ asked_more changed e entries =
       | inr other ↦ ap (λ b. length (cond b (e ∷ asked changed entries) (asked changed entries))) other ∙ (let n : length (asked changed entries) ≡ 0 + length (asked changed entries) = omega arith in n) ∙ sym (ap (λ b. length (cond b (e ∷ []) []) + length (asked changed entries)) other)
     ]
 
+-- an entry whose range has an index that changed is one that is asked
+pub asked_one : (changed : Changed) (e : List ℕ × Watch) → has_changed e.1.lo e.1.hi changed ≡ true → length (asked changed (e ∷ [])) ≡ 1
+asked_one changed e inside = ap (λ b. length (cond b (e ∷ []) [])) inside
+
 -- how many are asked up to after an index
 pub asked_up_to : (changed : Changed) (entries : List (List ℕ × Watch)) (i : ℕ) (e : List ℕ × Watch) (b : Bool) → slice_get entries i ≡ Some e → has_changed e.1.lo e.1.hi changed ≡ b
     → length (asked changed (take (i + 1) entries)) ≡ length (asked changed (take i entries)) + cond b 1 0

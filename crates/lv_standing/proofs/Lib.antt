@@ -1,4 +1,6 @@
 -- Names the files of lemmas of `lv_standing`.
+pub mod BesideLaws
+pub mod EditLaws
 pub mod EntryLaws
 pub mod KeptNames
 pub mod NoteLaws

@@ -1,6 +1,8 @@
 -- The notes of an edit, one query after another.
-use Rattle.std.proofs.Common.{◌≡◌, ℕ, ◌+◌, ◌-◌, ◌<◌, ◌≤◌, Some, true, false, cond, slice_range, slice_get, take, drop, map, append_assoc, length-append, length-drop, List, [], ◌∷◌, ◌++◌, length, refl, ap, sym, subst, ◌∙◌, inl, inr, arith}
-use Rattle.std.proofs.lemmas.List.{append-nil, length-map, length-take-le, map-append, take_at}
+use Rattle.std.proofs.Common.{◌≡◌, ℕ, ◌+◌, ◌<◌, ◌≤◌, Some, true, false, slice_range, slice_get, take, drop, map, append_assoc, length-append, length-drop, List, [], ◌∷◌, ◌++◌, length, refl, ap, sym, subst, ◌∙◌, inl, inr, arith}
+use Rattle.std.specs.List.{AllByRecursion}
+use Rattle.std.proofs.lemmas.Bool.{cases_Bool}
+use Rattle.std.proofs.lemmas.List.{append-nil, length-map, length-take-le, map-append}
 use Rattle.indexmap.specs.IndexMap.{set_value_at}
 use Rattle.lv_bodies.specs.Body.{CanFold}
 use Rattle.lv_bodies.specs.Plain.{plain_value}
@@ -11,12 +13,12 @@ use Rattle.lv_standing.specs.declared.changes.Changed.{Changed}
 use Rattle.lv_standing.specs.declared.watches.Watch.{Watch}
 use Rattle.lv_standing.specs.Queries.{AreNotes, Query, watch_answer}
 use Rattle.lv_tree.specs.declared.kind_summaries.KindSummary.{KindSummary}
-use Rattle.lv_standing.specs.Inner.{AreTold, IsNoted, IsToldAt, SameElsewhere, asked, has_changed, refreshed}
+use Rattle.lv_standing.specs.Inner.{AddsNotes, AreTold, IsKeptAs, IsNoted, IsToldAt, SameElsewhere, asked, has_changed, refreshed}
 use Rattle.lv_tree.specs.KindSummaries.{kind_of, shown_of, summary_of}
 use Rattle.lv_standing.specs.Standings.{IsCurrent, queries_of, query_at, summary_at}
 use Rattle.lv_geometry.proofs.Ranges.{there_is}
 use Rattle.lv_tree.proofs.KindLaws.{shown_is_plain}
-use Rattle.lv_standing.proofs.EntryLaws.{all_at, all_refreshed, asked_more, at_front, at_seam, front_is, rest_is, set_at_seam, set_same}
+use Rattle.lv_standing.proofs.EntryLaws.{all_at, all_refreshed, asked_more, asked_one, at_front, at_seam, front_is, rest_is, set_at_seam, set_same}
 
 module _ (old new : List Edit) where
   -- the notes of some queries and those of one more are the notes of all
@@ -35,6 +37,21 @@ module _ (old new : List Edit) where
   few_notes [] notes none = omega (arith, ap length none)
   few_notes (q ∷ queries) notes (inl same) = omega (arith, few_notes queries notes same.1)
   few_notes (q ∷ queries) notes (inr told) = omega (arith, ap length told.2, few_notes queries told.1 told.3)
+
+  -- where no query is asked, each keeps the summary of its range, and nothing is told
+  pub none_told : (changed : Changed) (entries : List (List ℕ × Watch)) → SameElsewhere changed old new → length (asked changed entries) ≡ 0 → AllByRecursion (IsCurrent old) entries
+      → AllByRecursion (IsCurrent new) entries × AreNotes old new (queries_of entries) []
+  none_told changed [] elsewhere none all = (tt, refl)
+  none_told changed (e ∷ entries) elsewhere none all =
+      let counted = asked_more changed e entries in
+      let rest = none_told changed entries elsewhere (omega (arith, none, counted)) all.1 in
+      let k = kind_of e.1.summary in
+      elim (cases_Bool (has_changed e.1.lo e.1.hi changed)) [
+        | inl inside ↦ absurd (omega (arith, none, counted, asked_one changed e inside))
+        | inr apart ↦
+            let same = elsewhere e.1.lo e.1.hi apart in
+            ((all.0 ∙ ap (summary_of k) (sym same), rest.0), inl (ap (plain_value k) same, rest.1))
+      ]
 
   module _ (changed : Changed) (before : List (List ℕ × Watch)) (i : ℕ) (notes : List Note) (e : List ℕ × Watch) (at : slice_get before i ≡ Some e) where
     -- an entry whose range has no index that changed leaves all as it was
@@ -59,26 +76,28 @@ module _ (old new : List Edit) where
       shown_after : shown_of s ≡ watch_answer new (query_at e)
       shown_after = ap shown_of is ∙ shown_is_plain (kind_of e.1.summary) (slice_range (list_of new) e.1.lo e.1.hi) folds
 
-      -- it is one that is asked
-      one_asked : 1 ≤ length (asked changed (e ∷ []))
-      one_asked = let is_one : length (asked changed (e ∷ [])) ≡ 1 = ap (λ b. length (cond b (e ∷ []) [])) inside in omega (arith, is_one)
-
       -- an entry whose range has an index that changed keeps its summary after the edit, and its answer is noted where it is another
-      pub told_change : (after : List (List ℕ × Watch)) → after ≡ set_value_at before i (record e.1 { summary = s }) → IsNoted e.0 (shown_of e.1.summary) (shown_of s) notes more → IsToldAt changed old new before after i notes more e
-      told_change after kept (inl same) = record {
-        told = [];
-        notes_are = same.1 ∙ sym (append-nil notes);
-        are = no_note (query_at e) (sym shown_after ∙ same.0 ∙ shown_before);
-        few = omega arith;
-        entries = kept ∙ ap (λ v. set_value_at before i (record e.1 { summary = v })) is;
-      }
-      told_change after kept (inr other) = record {
-        told = record { name = e.0; value = shown_of s } ∷ [];
-        notes_are = other.1;
-        are = inr ((λ same. other.0 (shown_after ∙ same ∙ sym shown_before)), [], ap (λ v. record { name = e.0; value = v } ∷ []) shown_after, refl);
-        few = omega (arith, one_asked);
-        entries = kept ∙ ap (λ v. set_value_at before i (record e.1 { summary = v })) is;
-      }
+      pub told_change : (after : List (List ℕ × Watch)) → IsKeptAs s before after i notes more e → IsToldAt changed old new before after i notes more e
+      told_change after kept = by kept.noted
+        where
+          entries_are : after ≡ set_value_at before i (refreshed new e).1
+          entries_are = kept.entries ∙ ap (λ v. set_value_at before i (record e.1 { summary = v })) is
+
+          by : IsNoted e.0 (shown_of e.1.summary) (shown_of s) notes more → IsToldAt changed old new before after i notes more e
+          by (inl same) = record {
+            told = [];
+            notes_are = same.1 ∙ sym (append-nil notes);
+            are = no_note (query_at e) (sym shown_after ∙ same.0 ∙ shown_before);
+            few = omega arith;
+            entries = entries_are;
+          }
+          by (inr other) = record {
+            told = record { name = e.0; value = shown_of s } ∷ [];
+            notes_are = other.1;
+            are = inr ((λ same. other.0 (shown_after ∙ same ∙ sym shown_before)), [], ap (λ v. record { name = e.0; value = v } ∷ []) shown_after, refl);
+            few = omega (arith, asked_one changed e inside);
+            entries = entries_are;
+          }
 
   module _ (changed : Changed) (all current after : List (List ℕ × Watch)) (i : ℕ) (notes more : List Note) (e : List ℕ × Watch) (at : slice_get all i ≡ Some e) (inside : i < length all)
       (so_far : current ≡ map (refreshed new) (take i all) ++ drop i all) (told : IsToldAt changed old new current after i notes more e) where
@@ -95,11 +114,14 @@ module _ (old new : List Edit) where
         ∙ ap (λ es. es ++ rest) (sym (ap (map (refreshed new)) (front_is all i e at) ∙ map-append (refreshed new) (take i all) (e ∷ [])))
 
     -- the notes
-    pub told_notes : AreNotes old new (queries_of (take i all)) notes → AreNotes old new (queries_of (take (i + 1) all)) more
-    told_notes before =
+    pub told_notes : (first : List Note) → AddsNotes old new (queries_of (take i all)) first notes → AddsNotes old new (queries_of (take (i + 1) all)) first more
+    told_notes first before =
         let queries : queries_of (take (i + 1) all) ≡ queries_of (take i all) ++ query_at e ∷ [] = ap queries_of (front_is all i e at) ∙ map-append query_at (take i all) (e ∷ []) in
-        subst (λ qs. AreNotes old new qs more) (sym queries)
-        (subst (λ ns. AreNotes old new (queries_of (take i all) ++ query_at e ∷ []) ns) (sym told.notes_are) (notes_more (queries_of (take i all)) notes (query_at e) told.told before told.are))
+        record {
+          told = before.told ++ told.told;
+          more_is = told.notes_are ∙ ap (λ ns. ns ++ told.told) before.more_is ∙ append_assoc first before.told told.told;
+          are = subst (λ qs. AreNotes old new qs (before.told ++ told.told)) (sym queries) (notes_more (queries_of (take i all)) before.told (query_at e) told.told before.are told.are);
+        }
 
     -- and the room
     pub told_room : (capacity : ℕ) → length notes + length (asked changed (drop i all)) ≤ capacity → length more + length (asked changed (drop (i + 1) all)) ≤ capacity
@@ -128,7 +150,3 @@ module _ (new : List Edit) (all current : List (List ℕ × Watch)) (i : ℕ) (i
       let long : length front ≡ i = length-map (take i all) (refreshed new) ∙ length-take-le i all (omega arith) in
       let here = at_front front (drop i all) j (omega (arith, before, long)) in
       all_at (IsCurrent new) front j e (all_refreshed new (take i all)) (sym here ∙ ap (λ es. slice_get es j) (sym so_far) ∙ at)
-
--- all edits but the last
-pub before_last : (edits : List Edit) (edit : Edit) → take (length (edits ++ edit ∷ []) - 1) (edits ++ edit ∷ []) ≡ edits
-before_last edits edit = take_at edits (edit ∷ []) (length (edits ++ edit ∷ []) - 1) (omega (arith, length-append edits (edit ∷ [])))

@@ -1,5 +1,5 @@
 -- Ranges of a list that reach past its end, and what an edit elsewhere leaves of a range.
-use Rattle.std.proofs.Common.{◌≡◌, Option, ℕ, ℤ, pos, ◌+◌, ◌-◌, ◌⊎◌, max, min, eqb, ◌<◌, ◌≤◌, false, true, refl, IfSome, List, [], ◌∷◌, ◌++◌, length, take, drop, slice_range, slice_set, Some, None, ltb, not, ◌&&◌, ◌||◌, sym, ap, ◌∙◌, inl, inr, arith, length-drop, length-append, subst, get_or}
+use Rattle.std.proofs.Common.{◌≡◌, Option, ℕ, ℤ, pos, ◌-◌, ◌⊎◌, max, min, eqb, ◌<◌, ◌≤◌, false, true, refl, IfSome, List, [], ◌∷◌, ◌++◌, length, take, drop, slice_range, slice_set, Some, None, ltb, not, ◌&&◌, ◌||◌, sym, ap, ◌∙◌, inl, inr, arith, length-drop, length-append, subst, get_or}
 use Rattle.std.proofs.lemmas.Bool.{cases_Bool, cases_lt, eqb-true, false≢true, leb-true, lt-leb, lt-ltb, ltb-false, le-ltb, le-leb, or_parts}
 use Rattle.std.proofs.Math.Bool.{or-false}
 use Rattle.std.proofs.lemmas.Option.{cond_some}
@@ -8,7 +8,7 @@ use Rattle.std.proofs.lemmas.List.{drop-append-le, drop_all, length-take-le, set
 use Rattle.lv_bodies.specs.Body.{CanFold}
 use Rattle.lv_edits.specs.declared.edit.Edit.{Edit}
 use Rattle.lv_edits.specs.declared.edit.Edit.TheVariants.{Push, Pop, Write, Reserve, Swap, Truncate}
-use Rattle.lv_edits.specs.History.{History, applied, list_of, replayed}
+use Rattle.lv_edits.specs.History.{History, applied, list_of, replayed, with_edit}
 use Rattle.lv_edits.specs.Kept.{IsLegalInLimits}
 use Rattle.lv_edits.specs.Verdict.{verdict_of}
 use Rattle.lv_edits.proofs.HistoryLaws.{accepted_is_possible, list_of-snoc, swapped}
@@ -18,7 +18,8 @@ use Rattle.lv_live.specs.declared.following.Touched.{Touched}
 use Rattle.lv_live.specs.declared.following.Touched.TheVariants.{Nothing, One, Two}
 use Rattle.lv_live.specs.Follows.{indices_in}
 use Rattle.lv_standing.specs.declared.changes.Changed.{Changed}
-use Rattle.lv_standing.specs.Inner.{IsChangedBy, IsPushed, has_changed, has_index, has_written, pushed_by}
+use Rattle.lv_standing.specs.declared.watches.Watch.{Watch}
+use Rattle.lv_standing.specs.Inner.{IsChangedBy, IsPushed, SameElsewhere, has_changed, has_index, has_written, pushed_by, written_at}
 
 -- a range that starts past the end is empty
 empty_past : {A : Type 0} (xs : List A) (lo hi : ℕ) → length xs ≤ lo → slice_range xs lo hi ≡ []
@@ -146,6 +147,11 @@ undropped : (changed : Changed) (lo hi from to : ℕ) → changed.from ≡ from 
 undropped changed lo hi from to begins ends apart =
     omega (arith, begins, ends, ltb-false (max lo changed.from) (min hi changed.to) (or_parts _ _ apart).1)
 
+-- a write leaves a range without its index
+written_elsewhere : (xs ys : List ℤ) (i : ℕ) (x : ℤ) (changed : Changed) (lo hi : ℕ) → applied xs (Write i x) ≡ Some ys → indices_in changed.written ≡ i ∷ [] → has_changed lo hi changed ≡ false → slice_range ys lo hi ≡ slice_range xs lo hi
+written_elsewhere xs ys i x changed lo hi made written apart =
+    ap (λ zs. slice_range zs lo hi) (sym (cond_some _ _ _ made).1) ∙ set_elsewhere xs i x lo hi (without_index lo hi i (unwritten changed (One i) lo hi written apart))
+
 -- an edit leaves a range without an index that it changes
 applied_elsewhere : (xs ys : List ℤ) (e : Edit) (changed : Changed) (lo hi : ℕ) → applied xs e ≡ Some ys → IsChangedBy xs e changed → has_changed lo hi changed ≡ false → slice_range ys lo hi ≡ slice_range xs lo hi
 applied_elsewhere xs ys (Push x) changed lo hi made is apart =
@@ -154,9 +160,7 @@ applied_elsewhere xs ys (Push x) changed lo hi made is apart =
 applied_elsewhere xs ys Pop changed lo hi made is apart =
     ap (λ zs. slice_range zs lo hi) (sym (cond_some _ _ _ made).1)
     ∙ cut_elsewhere xs (length xs - 1) lo hi (omega arith) (undropped changed lo hi (length xs - 1) (length xs) is.from is.to apart)
-applied_elsewhere xs ys (Write i x) changed lo hi made is apart =
-    let same = (cond_some _ _ _ made).1 in
-    ap (λ zs. slice_range zs lo hi) (sym same) ∙ set_elsewhere xs i x lo hi (without_index lo hi i (unwritten changed (One i) lo hi is.written apart))
+applied_elsewhere xs ys (Write i x) changed lo hi made is apart = written_elsewhere xs ys i x changed lo hi made is.written apart
 applied_elsewhere xs ys (Reserve n) changed lo hi made is apart =
     let same : xs ≡ ys = (cc) in
     ap (λ zs. slice_range zs lo hi) (sym same)
@@ -180,6 +184,15 @@ edit_elsewhere h e changed lo hi legal accepted is apart =
     let possible = accepted_is_possible h.limits h.journal e accepted in
     let next = list_of-snoc h.journal e possible.0 legal possible.1 in
     ap (λ zs. slice_range zs lo hi) next.1 ∙ applied_elsewhere (list_of h.journal) possible.0 e changed lo hi possible.1 is apart
+
+-- an accepted write leaves a range without its index
+pub write_elsewhere : (h new : History) (i : ℕ) (x : ℤ) → replayed h.journal ≡ Some (list_of h.journal) → verdict_of h.limits h.journal (Write i x) ≡ None → new ≡ with_edit h (Write i x) → SameElsewhere (written_at i) h.journal new.journal
+write_elsewhere h new i x legal accepted made = λ lo hi apart.
+    let possible = accepted_is_possible h.limits h.journal (Write i x) accepted in
+    let next = list_of-snoc h.journal (Write i x) possible.0 legal possible.1 in
+    ap (λ (g : History). slice_range (list_of g.journal) lo hi) made
+    ∙ ap (λ zs. slice_range zs lo hi) next.1
+    ∙ written_elsewhere (list_of h.journal) possible.0 i x (written_at i) lo hi possible.1 refl apart
 
 -- one more element at the end is the last of a range that has its index
 pub more_inside : {A : Type 0} (xs : List A) (x : A) (lo hi : ℕ) → has_index lo hi (length xs) ≡ true → slice_range (xs ++ x ∷ []) lo hi ≡ slice_range xs lo hi ++ x ∷ []
@@ -217,3 +230,8 @@ push_is_last h (Write i x) changed legal accepted is = tt
 push_is_last h (Reserve n) changed legal accepted is = tt
 push_is_last h (Swap i j) changed legal accepted is = tt
 push_is_last h (Truncate n) changed legal accepted is = tt
+
+-- the elements that the range of an entry has after some edits, and none where there is no entry
+abbrev pub range_at : List Edit → Option (List ℕ × Watch) → List ℤ
+range_at edits None = []
+range_at edits (Some e) = slice_range (list_of edits) e.1.lo e.1.hi

@@ -1,21 +1,29 @@
 -- What the code of standing queries passes on from one to the next: which indices an edit changed, and what that makes of the entries.
-use Rattle.std.specs.Prelude.{◌≡◌, ◌≢◌, ◌⊎◌, ◌<◌, ◌≤◌, ℕ, ℤ, Bool, ◌&&◌, ◌||◌, max, min, Option, Some, None, true, false, List, [], ◌∷◌, ◌+◌, ◌-◌, length, filter, nat_eq, nat_le, nat_lt, not, ◌++◌, slice_get}
+use Rattle.std.specs.Prelude.{◌≡◌, ◌≢◌, ◌⊎◌, ◌<◌, ◌≤◌, ℕ, ℤ, Bool, ◌&&◌, ◌||◌, max, min, Option, Some, None, true, false, Result, IfOk, OnErr, List, [], ◌∷◌, ◌+◌, ◌-◌, length, filter, nat_eq, nat_le, nat_lt, not, ◌++◌, slice_get}
 use Rattle.std.specs.List.{slice_range}
 use Rattle.indexmap.specs.IndexMap.{set_value_at}
+use Rattle.lv_geometry.specs.declared.refusals.Refusal.{Refusal}
 use Rattle.lv_bodies.specs.declared.kinds.Shown.{Shown}
+use Rattle.lv_bodies.specs.declared.sixes.Six.{Six}
+use Rattle.lv_bodies.specs.Six.{SixSummary}
 use Rattle.lv_edits.specs.declared.edit.Edit.{Edit}
 use Rattle.lv_edits.specs.declared.edit.Edit.TheVariants.{Push, Pop, Write, Reserve, Swap, Truncate}
+use Rattle.lv_edits.specs.declared.receipt.Receipt.{Receipt}
 use Rattle.lv_edits.specs.History.{list_of}
 use Rattle.lv_edits.specs.Touch.{indices_written}
+use Rattle.lv_edits.specs.Verdict.{Answers}
 use Rattle.lv_live.specs.declared.following.Touched.{Touched}
 use Rattle.lv_live.specs.declared.following.Touched.TheVariants.{Nothing, One, Two}
 use Rattle.lv_live.specs.Follows.{indices_in}
-use Rattle.lv_tree.specs.KindSummaries.{kind_of}
+use Rattle.lv_live.specs.State.{LiveState, SameRefresh}
+use Rattle.lv_tree.specs.declared.kind_summaries.KindSummary.{KindSummary}
+use Rattle.lv_tree.specs.Kinds.{KindsState}
+use Rattle.lv_tree.specs.KindSummaries.{kind_of, shown_of}
 use Rattle.lv_standing.specs.declared.changes.Changed.{Changed}
 use Rattle.lv_standing.specs.declared.watches.Watch.{Watch}
 use Rattle.lv_standing.specs.declared.notes.Note.{Note}
-use Rattle.lv_standing.specs.Queries.{AreNotes}
-use Rattle.lv_standing.specs.Standings.{IsCurrent, query_at, summary_at}
+use Rattle.lv_standing.specs.Queries.{AreNotes, Query, TellsNotes}
+use Rattle.lv_standing.specs.Standings.{IsCurrent, IsStanding, LeavesUnasked, queries_of, query_at, summary_at}
 
 -- the entry with the summary after these edits
 abbrev pub refreshed : List Edit → List ℕ × Watch → List ℕ × Watch
@@ -44,6 +52,10 @@ pub record IsChangedBy (xs : List ℤ) (edit : Edit) (changed : Changed) : Type 
   pub written : indices_in changed.written ≡ indices_written xs edit
   pub from : changed.from ≡ size_after (length xs) edit
   pub to : changed.to ≡ length xs
+
+-- what a write at an index changes: that index, and it drops none
+abbrev pub written_at : ℕ → Changed
+written_at i = record { written = One i; from = 0; to = 0 }
 
 -- whether a range has an index
 abbrev pub has_index : ℕ → ℕ → ℕ → Bool
@@ -98,3 +110,25 @@ pub record IsToldAt (changed : Changed) (old new : List Edit) (before after : Li
   pub are : AreNotes old new (query_at e ∷ []) told
   pub few : length told ≤ length (asked changed (e ∷ []))
   pub entries : after ≡ set_value_at before i (refreshed new e).1
+
+-- the entry at an index keeps another summary, and there is a note of its answer where that is another than before
+pub record IsKeptAs (s : KindSummary) (before after : List (List ℕ × Watch)) (i : ℕ) (notes more : List Note) (e : List ℕ × Watch) : Type 0 where
+  pub entries : after ≡ set_value_at before i (record e.1 { summary = s })
+  pub noted : IsNoted e.0 (shown_of e.1.summary) (shown_of s) notes more
+
+-- the notes of an edit stand behind those of a list
+pub record AddsNotes (old new : List Edit) (queries : List Query) (notes more : List Note) : Type 0 where
+  pub told : List Note
+  pub more_is : more ≡ notes ++ told
+  pub are : AreNotes old new queries told
+
+-- an edit of a vector with queries was answered: it tells what it is to tell, behind the notes that there are, and nothing where it is
+-- refused
+pub record AnswersNoted (before after : LiveState Six SixSummary) (entries now : List (List ℕ × Watch)) (kinds left : KindsState) (ahead more : List Note) (edit : Edit) (result : Result Receipt Refusal) : Type 0 where
+  pub answer : Answers before.history edit result after.history
+  pub refresh : SameRefresh before after
+  pub standing : IsStanding after now left
+  pub queries : queries_of now ≡ queries_of entries
+  pub others : LeavesUnasked (queries_of entries) kinds left
+  pub notes : IfOk result (λ _. TellsNotes before.history.journal after.history.journal (queries_of entries) ahead more)
+  pub untold : OnErr result (more ≡ ahead)

@@ -1,5 +1,5 @@
 -- Standing queries: what each answers, and which notes an edit sends.
-use Rattle.std.specs.Prelude.{◌≡◌, ◌≢◌, ◌⊎◌, ℕ, ℤ, Option, Some, None, List, [], ◌∷◌, length, filter, not, nat_lt, if◌then◌else◌}
+use Rattle.std.specs.Prelude.{◌≡◌, ◌≢◌, ◌⊎◌, ◌≤◌, ℕ, ℤ, Option, Some, None, List, [], ◌∷◌, ◌++◌, length, filter, not, nat_lt, if◌then◌else◌}
 use Rattle.std.specs.List.{slice_range}
 use Rattle.std.specs.Str.{bytes_eq}
 use Rattle.lv_geometry.specs.declared.refusals.Refusal.{Refusal}
@@ -41,6 +41,13 @@ AreNotes old new [] notes = notes ≡ []
 AreNotes old new (q ∷ queries) notes =
     ((watch_answer new q ≡ watch_answer old q) × AreNotes old new queries notes)
     ⊎ ((watch_answer new q ≢ watch_answer old q) × (rest : List Note) × (notes ≡ record { name = q.name; value = watch_answer new q } ∷ rest) × AreNotes old new queries rest)
+
+-- the notes of an edit stand behind those of a list, and there are at most 64 of them
+pub record TellsNotes (old new : List Edit) (queries : List Query) (notes more : List Note) : Type 0 where
+  pub told : List Note
+  pub more_is : more ≡ notes ++ told
+  pub are : AreNotes old new queries told
+  pub few : length told ≤ 64
 
 -- the query of a name, if there is one
 abbrev pub query_of : List Query → List ℕ → Option Query

@@ -10,7 +10,7 @@ use Rattle.lv_edits.specs.History.{list_of}
 use Rattle.lv_edits.specs.Kept.{IsLegalInLimits}
 use Rattle.lv_live.specs.State.{LiveState}
 use Rattle.lv_tree.specs.declared.kind_summaries.KindSummary.{KindSummary}
-use Rattle.lv_tree.specs.Kinds.{AreReady, HaveRoomFor, KindsState, blocks_of, followed_by}
+use Rattle.lv_tree.specs.Kinds.{AreReady, HaveRoomFor, IsLeftOrFollows, KindsState, blocks_of, followed_by}
 use Rattle.lv_tree.specs.KindSummaries.{kind_of, summary_of}
 use Rattle.lv_standing.specs.declared.watches.Watch.{Watch}
 use Rattle.lv_standing.specs.Queries.{Query}
@@ -46,6 +46,12 @@ pub record LeavesUnasked (queries : List Query) (old new : KindsState) : Type 0 
   pub table : new.table ≡ old.table
   pub followed : (k : Kind) → IsUnasked queries k → followed_by new k ≡ followed_by old k
   pub blocks : (k : Kind) → IsUnasked queries k → blocks_of new k ≡ blocks_of old k
+  pub room : (size : ℕ) → HaveRoomFor old size → HaveRoomFor new size
+
+-- the same, but for kinds that follow all edits, since many have waited
+pub record LeavesOrFollowsUnasked (edits : List Edit) (queries : List Query) (old new : KindsState) : Type 0 where
+  pub table : new.table ≡ old.table
+  pub followed : (k : Kind) → IsUnasked queries k → IsLeftOrFollows edits k old new
   pub room : (size : ℕ) → HaveRoomFor old size → HaveRoomFor new size
 
 -- the vector is within its limits, there are at most 64 queries, each watch keeps the summary of its range at the last edit, what is

@@ -2,7 +2,7 @@
 ghost use Rattle.std.specs.Prelude.{◌≡◌, ◌≤◌, ℤ, List, length};
 ghost use Rattle.lv_edits.specs.Touch.{indices_written};
 ghost use Rattle.lv_live.specs.Follows.{indices_in};
-ghost use Rattle.lv_standing.specs.Inner.{pushed_by, size_after};
+ghost use Rattle.lv_standing.specs.Inner.{pushed_by, size_after, written_at};
 
 use lv_edits::Edit;
 use lv_live::{Touched, touched_indices};
@@ -17,6 +17,7 @@ pub struct Changed {
 }
 
 /// What an edit of a vector of this size changes: what it drops lies from the size after it up to the size before it.
+#[inline(always)]
 pub fn changed_by(edit: &Edit, size: u32) -> Changed
     requires { size ≤ 1048568 }
     ensures written { (xs : List ℤ) → length xs ≡ size → indices_in result.written ≡ indices_written xs edit.now }
@@ -30,7 +31,20 @@ pub fn changed_by(edit: &Edit, size: u32) -> Changed
     }
 }
 
+/// What a write at an index changes. It drops no element, whatever the size.
+#[inline(always)]
+pub fn written_at(index: u32) -> Changed
+    ensures { result ≡ written_at index }
+{
+    Changed {
+        written: Touched::One(index),
+        from: 0,
+        to: 0,
+    }
+}
+
 /// How many elements a vector of this size has after an edit that it accepts.
+#[inline(always)]
 pub fn size_after(edit: &Edit, size: u32) -> u32
     requires { size ≤ 1048568 }
     ensures { result ≡ size_after size edit.now }
@@ -44,6 +58,7 @@ pub fn size_after(edit: &Edit, size: u32) -> u32
 }
 
 /// The element that an edit brings at the end, if it brings one.
+#[inline(always)]
 pub fn pushed_by(edit: &Edit) -> Option<i64>
     ensures { result ≡ pushed_by edit.now }
 {

@@ -4,18 +4,21 @@
 //! plain value of the elements that the query's range has at the last edit, and an edit's notes are those of the queries, in
 //! order, whose answer it changed. Each query keeps the summary of its range by its own kind, so that a push costs it one join.
 //! What is kept by kind follows the edits at questions: an edit costs a kind something only where a query of that kind is asked after it.
+//! Who keeps kinds beside a live vector of another body makes its edits by `make_beside`, `write_beside` and their like.
 //! It parses no text and starts no thread.
 #![tactic(auto)]
 
 mod asking;
+mod beside;
 mod changes;
-mod making;
+mod edits;
 mod names;
 mod notes;
 mod standing;
 mod values;
 mod watches;
 
+pub use beside::{make_beside, push_all_beside, write_all_beside, write_beside};
 pub use names::Name;
 pub use notes::{Answered, Note};
 pub use standing::Standing;

@@ -17,16 +17,17 @@ ghost use Rattle.lv_live.specs.State.{HasClaim, HasDelivery, HasNoClaims, SameLi
 ghost use Rattle.lv_live.specs.Step.{Step, accepted_reply, numbered_reply};
 ghost use Rattle.lv_live.specs.declared.events.Event.TheVariants as event;
 ghost use Rattle.lv_tree.specs.Kinds.{IsCaughtUp, IsNear, LeavesOthers};
-ghost use Rattle.lv_standing.specs.Standings.{LeavesUnasked};
-ghost use Rattle.lv_standing.specs.Queries.{AreNotes, Query, query_of, watch_answer, watch_refusal, without_query, IsValue};
+ghost use Rattle.lv_standing.specs.Standings.{LeavesOrFollowsUnasked};
+ghost use Rattle.lv_standing.specs.Queries.{AreNotes, Query, TellsNotes, query_of, watch_answer, watch_refusal, without_query, IsValue};
+
+mod searches;
 
 use crate::asking::ask_inside;
-use crate::changes::{changed_by, pushed_by};
-use crate::making::make;
+use crate::edits::edit_noted;
 use crate::names::Name;
 use crate::notes::{Answered, Note};
 use crate::values::{SHORT, asked, folded};
-use crate::watches::{Watch, count_asked, tell};
+use crate::watches::Watch;
 use indexmap::IndexMap;
 use lv_bodies::{Automaton, Body, Kind, Six, SixSummary};
 use lv_edits::{Edit, Receipt};
@@ -133,7 +134,7 @@ impl Standing {
 
     /// Makes an edit, and tells of each query whose answer it changed, in order of registration, with the answer after. Refused
     /// as the vector's verdict says, then with `NoMemory`: the room for the notes, and for what may be kept by kind, is made before
-    /// the edit. A kind follows it at once only where a query of that kind has to be asked.
+    /// the edit. A kind follows it at once only where a query of that kind has to be asked, or many edits have waited.
     pub fn edit(&mut self, alloc: Global, edit: Edit) -> Result<(Receipt, Vec<Note>), Refusal>
         ensures ok { IfOk result (λ told. Accepts self.old.live.history edit told.0 self.new.live.history) }
         ensures err { IfErr result (λ refusal. Refuses self.old.live.history edit refusal self.new.live.history) }
@@ -142,25 +143,36 @@ impl Standing {
         ensures limits { IsLegalInLimits self.new.live.history }
         ensures refresh { SameRefresh self.old.live self.new.live }
         ensures queries { self.new.queries ≡ self.old.queries }
-        ensures others { LeavesUnasked self.old.queries self.old.kinds self.new.kinds }
+        ensures others { LeavesOrFollowsUnasked self.new.live.history.journal self.old.queries self.old.kinds self.new.kinds }
     {
-        if let Some(refusal) = self.live.verdict(&edit) {
-            return Err(refusal);
+        let mut notes = Vec::new(alloc);
+        match self.edit_into(edit, &mut notes) {
+            Err(refusal) => Err(refusal),
+            Ok(receipt) => Ok((receipt, notes)),
         }
-        let changed = changed_by(&edit, self.live.size());
-        let Ok(mut notes) = Vec::with_capacity(alloc, count_asked(&self.watches, changed)) else {
-            return Err(Refusal::NoMemory);
-        };
-        let receipt = make(&mut self.live, &mut self.kinds, edit)?;
-        tell(
-            &self.live,
+    }
+
+    /// Makes an edit as `edit` does, and puts its notes behind those that a list has. Where the list has room for them they take no memory.
+    /// Refused as `edit` is, and then nothing is told.
+    pub fn edit_into(&mut self, edit: Edit, notes: &mut Vec<Note>) -> Result<Receipt, Refusal>
+        ensures ok { IfOk result (λ receipt. Accepts self.old.live.history edit receipt self.new.live.history) }
+        ensures err { IfErr result (λ refusal. Refuses self.old.live.history edit refusal self.new.live.history) }
+        ensures notes { IfOk result (λ _. TellsNotes self.old.live.history.journal self.new.live.history.journal self.old.queries notes.old.items notes.new.items) }
+        ensures untold { OnErr result (notes.new.items ≡ notes.old.items) }
+        ensures limits { IsLegalInLimits self.new.live.history }
+        ensures refresh { SameRefresh self.old.live self.new.live }
+        ensures queries { self.new.queries ≡ self.old.queries }
+        ensures others { LeavesOrFollowsUnasked self.new.live.history.journal self.old.queries self.old.kinds self.new.kinds }
+    {
+        let receipt = edit_noted(
+            &mut self.live,
             &mut self.kinds,
             &mut self.watches,
-            changed,
-            pushed_by(&edit),
-            &mut notes,
-        );
-        Ok((receipt, notes))
+            edit,
+            notes,
+        )?;
+        self.kinds.follow_waiting(self.live.view().cells);
+        Ok(receipt)
     }
 
     /// The fold of the elements from index `lo` up to `hi` by all six, keeping what is computed for it: so a range that was asked

@@ -9,8 +9,7 @@ ghost use Rattle.lv_edits.specs.History.{list_of};
 ghost use Rattle.lv_edits.specs.Kept.{IsLegalInLimits};
 ghost use Rattle.lv_tree.specs.Kinds.{AreReady, LeavesOthers};
 ghost use Rattle.lv_tree.specs.KindSummaries.{kind_of, summary_of};
-ghost use Rattle.lv_standing.specs.Queries.{AreNotes};
-ghost use Rattle.lv_standing.specs.Inner.{AreTold, AtIndex, IsAlike, IsNoted, IsPushed, IsToldAt, SameElsewhere, asked, has_changed, has_index, has_written, refreshed};
+ghost use Rattle.lv_standing.specs.Inner.{AddsNotes, AreTold, AtIndex, IsAlike, IsKeptAs, IsNoted, IsPushed, IsToldAt, SameElsewhere, asked, has_changed, has_index, has_written, refreshed};
 ghost use Rattle.lv_standing.specs.Standings.{IsCurrent, LeavesUnasked, queries_of, summary_at};
 
 use crate::asking::ask_inside;
@@ -32,6 +31,7 @@ pub struct Watch {
 
 impl Watch {
     /// Whether its range has one of the indices that changed.
+    #[inline(always)]
     pub fn has_changed(&self, changed: Changed) -> bool
         ensures { result ≡ has_changed self.now.lo self.now.hi changed }
     {
@@ -40,6 +40,7 @@ impl Watch {
     }
 
     // Whether its range has one of the indices at which an edit wrote. An element that is swapped with itself stays.
+    #[inline(always)]
     fn has_written(&self, written: Touched) -> bool
         ensures { result ≡ has_written self.now.lo self.now.hi written }
     {
@@ -59,6 +60,7 @@ impl Watch {
     }
 
     // Whether its range has an index.
+    #[inline(always)]
     fn has_index(&self, i: u32) -> bool
         ensures { result ≡ has_index self.now.lo self.now.hi i }
     {
@@ -67,17 +69,19 @@ impl Watch {
 }
 
 // The entry at an index.
-fn watch_at(watches: &IndexMap<Name, Watch>, i: usize) -> (Name, Watch)
+#[inline(always)]
+fn watch_at(watches: &IndexMap<Name, Watch>, i: usize) -> (&Name, &Watch)
     requires { i < index_map_len watches.now }
-    ensures { slice_get watches.now.entries i ≡ Some result }
+    ensures { slice_get watches.now.entries i ≡ Some (result.0.now, result.1.now) }
 {
-    let Some((name, watch)) = watches.get_index(i) else {
+    let Some(entry) = watches.get_index(i) else {
         unreachable!()
     };
-    (*name, *watch)
+    entry
 }
 
 /// How many queries have a range with one of the indices that changed.
+#[inline(always)]
 pub fn count_asked(watches: &IndexMap<Name, Watch>, changed: Changed) -> usize
     ensures { result ≡ length (asked changed watches.now.entries) }
 {
@@ -133,56 +137,50 @@ fn told_or_asked(
     }
 }
 
-// The summary of a query's range after an edit that changed it. An element that was pushed is the range's last one; after any other
-// edit a query before it may tell, or the vector is asked.
-fn summary_after(
-    live: &Live<Six>,
-    kinds: &mut Kinds,
-    watches: &IndexMap<Name, Watch>,
-    i: usize,
-    watch: &Watch,
-    pushed: Option<i64>,
-) -> KindSummary
-    ghost before: { List ℤ }
-    requires limits { IsLegalInLimits live.now.history }
-    requires kept { AreReady program_table live.now.history.journal kinds.old }
-    requires current { watch.now.summary ≡ summary_of (kind_of watch.now.summary) before }
-    requires pushed { IfSome pushed (λ x. slice_range (list_of live.now.history.journal) watch.now.lo watch.now.hi ≡ before ++ x ∷ []) }
-    requires within { i ≤ index_map_len watches.now }
-    requires told { AreTold live.now.history.journal watches.now.entries i }
-    ensures value { result ≡ summary_at live.now.history.journal watch.now }
-    ensures kept { AreReady program_table live.now.history.journal kinds.new }
-    ensures others { LeavesOthers (kind_of watch.now.summary) kinds.old kinds.new }
-{
-    match pushed {
-        Some(x) => watch.summary.with_last(x),
-        None => told_or_asked(live, kinds, watches, i, watch),
-    }
-}
-
 // Notes an answer where it is another than before.
-fn note_change(notes: &mut Vec<Note>, name: Name, before: Shown, value: Shown)
+fn note_change(notes: &mut Vec<Note>, name: &Name, before: Shown, value: Shown)
     requires room { vec_len notes.old + 1 ≤ vec_capacity notes.old }
-    ensures told { IsNoted name before value notes.old.items notes.new.items }
+    ensures told { IsNoted name.now before value notes.old.items notes.new.items }
     ensures capacity { vec_capacity notes.new ≡ vec_capacity notes.old }
 {
     if value == before {
         return;
     }
-    notes.push_reserved(Note { name, value });
+    notes.push_reserved(Note { name: *name, value });
 }
 
-// Keeps a watch at an index.
-fn keep(watches: &mut IndexMap<Name, Watch>, i: usize, watch: Watch)
-    requires { i < index_map_len watches.old }
-    ensures { watches.new.entries ≡ set_value_at watches.old.entries i watch }
+// Has a query keep another summary, and notes its answer where that is another than before.
+fn keep(watches: &mut IndexMap<Name, Watch>, i: usize, summary: KindSummary, notes: &mut Vec<Note>)
+    requires within { i < index_map_len watches.old }
+    requires room { vec_len notes.old + 1 ≤ vec_capacity notes.old }
+    ensures kept { AtIndex watches.old.entries i (IsKeptAs summary watches.old.entries watches.new.entries i notes.old.items notes.new.items) }
+    ensures capacity { vec_capacity notes.new ≡ vec_capacity notes.old }
 {
-    if let Some(kept) = watches.get_index_mut(i) {
-        *kept = watch;
-    }
+    let (name, watch) = watches.pair_mut(i);
+    let before = watch.summary.shown();
+    watch.summary = summary;
+    note_change(notes, name, before, summary.shown());
 }
 
-// Brings one query up to the edit where its range has an index that changed, and notes its answer where it is another than before.
+// Has a query's summary take one more element in, which the query's range ends with, and notes its answer where that is another than
+// before.
+fn join(watches: &mut IndexMap<Name, Watch>, i: usize, x: i64, notes: &mut Vec<Note>)
+    ghost before: { List ℤ }
+    requires within { i < index_map_len watches.old }
+    requires can { CanFold (before ++ x ∷ []) }
+    requires current { AtIndex watches.old.entries i (λ e. e.1.summary ≡ summary_of (kind_of e.1.summary) before) }
+    requires room { vec_len notes.old + 1 ≤ vec_capacity notes.old }
+    ensures kept { AtIndex watches.old.entries i (λ e. IsKeptAs (summary_of (kind_of e.1.summary) (before ++ x ∷ [])) watches.old.entries watches.new.entries i notes.old.items notes.new.items e) }
+    ensures capacity { vec_capacity notes.new ≡ vec_capacity notes.old }
+{
+    let (name, watch) = watches.pair_mut(i);
+    let before = watch.summary.shown();
+    watch.summary = watch.summary.with_last(x);
+    note_change(notes, name, before, watch.summary.shown());
+}
+
+// Brings one query up to the edit where its range has an index that changed, and notes its answer where it is another than before. An
+// element that was pushed is the range's last one; after any other edit a query before it may tell, or the vector is asked.
 fn tell_one(
     live: &Live<Six>,
     kinds: &mut Kinds,
@@ -207,17 +205,21 @@ fn tell_one(
     ensures kept { AreReady program_table live.now.history.journal kinds.new }
     ensures others { AtIndex watches.old.entries i (λ e. LeavesOthers (kind_of e.1.summary) kinds.old kinds.new) }
 {
-    let (name, watch) = watch_at(watches, i);
+    let (_, watch) = watch_at(watches, i);
     if !watch.has_changed(changed) {
         return;
     }
-    let summary = summary_after(live, kinds, watches, i, &watch, pushed);
-    note_change(notes, name, watch.summary.shown(), summary.shown());
-    keep(watches, i, Watch { summary, ..watch });
+    match pushed {
+        Some(x) => join(watches, i, x, notes),
+        None => {
+            let summary = told_or_asked(live, kinds, watches, i, watch);
+            keep(watches, i, summary, notes);
+        }
+    }
 }
 
 /// Brings each query up to an edit whose range has an index that the edit changed, in order of registration; notes the answers
-/// that are others than before. A push costs each a join, and any other edit a question by its own kind, which queries of one range and
+/// that are others than before, behind the notes that there are. A push costs each a join, and any other edit a question by its own kind, which queries of one range and
 /// kind share where no more than five others stand between them.
 pub fn tell(
     live: &Live<Six>,
@@ -234,10 +236,9 @@ pub fn tell(
     requires elsewhere { SameElsewhere changed old live.now.history.journal }
     requires pushed { IfSome pushed (IsPushed changed old live.now.history.journal) }
     requires current { AllByRecursion (IsCurrent old) watches.old.entries }
-    requires empty { notes.old.items ≡ [] }
-    requires room { length (asked changed watches.old.entries) ≤ vec_capacity notes.old }
+    requires room { vec_len notes.old + length (asked changed watches.old.entries) ≤ vec_capacity notes.old }
     ensures entries { watches.new.entries ≡ map (refreshed live.now.history.journal) watches.old.entries }
-    ensures notes { AreNotes old live.now.history.journal (queries_of watches.old.entries) notes.new.items }
+    ensures notes { AddsNotes old live.now.history.journal (queries_of watches.old.entries) notes.old.items notes.new.items }
     ensures kept { AreReady program_table live.now.history.journal kinds.new }
     ensures others { LeavesUnasked (queries_of watches.old.entries) kinds.old kinds.new }
 {

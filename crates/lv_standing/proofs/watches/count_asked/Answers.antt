@@ -8,9 +8,9 @@ pub loop-i-preserved : goal.loop-i-preserved
 loop-i-preserved c =
     elim c.if-has_changed.branch [
       | then-has_changed w ↦
-          let more = asked_up_to c.args.changed c.args.watches.now.entries c.loop-i.i c.watch_at.result true c.watch_at.ensures (sym c.has_changed.ensures ∙ w.if-has_changed.true) in
+          let more = asked_up_to c.args.changed c.args.watches.now.entries c.loop-i.i (c.watch_at.result.0.now, c.watch_at.result.1.now) true c.watch_at.ensures (sym c.has_changed.ensures ∙ w.if-has_changed.true) in
           record { counted = omega (arith, more, w.count-is, c.loop-i.invariant.counted); few = omega (arith, w.count-is, c.loop-i.invariant.few) }
       | else-has_changed w ↦
-          let more = asked_up_to c.args.changed c.args.watches.now.entries c.loop-i.i c.watch_at.result false c.watch_at.ensures (sym c.has_changed.ensures ∙ w.if-has_changed.false) in
+          let more = asked_up_to c.args.changed c.args.watches.now.entries c.loop-i.i (c.watch_at.result.0.now, c.watch_at.result.1.now) false c.watch_at.ensures (sym c.has_changed.ensures ∙ w.if-has_changed.false) in
           record { counted = omega (arith, more, w.count-is, c.loop-i.invariant.counted); few = omega (arith, w.count-is, c.loop-i.invariant.few) }
     ]

@@ -52,7 +52,7 @@ loop-i-preserved g c =
       kept = c.tell_one.ensures.kept;
       others = LeavesUnasked-next all c.loop-i.i there.0 c.args.kinds.now c.loop-i.kinds c.tell_one.new.kinds there.1 c.loop-i.invariant.others (c.tell_one.ensures.others there.0 (kept ∙ there.1));
       entries = told_entries g.old new c.args.changed all c.loop-i.watches.entries c.tell_one.new.watches.entries c.loop-i.i c.loop-i.notes.items c.tell_one.new.notes.items there.0 there.1 inside c.loop-i.invariant.entries told;
-      notes = told_notes g.old new c.args.changed all c.loop-i.watches.entries c.tell_one.new.watches.entries c.loop-i.i c.loop-i.notes.items c.tell_one.new.notes.items there.0 there.1 inside c.loop-i.invariant.entries told c.loop-i.invariant.notes;
+      notes = told_notes g.old new c.args.changed all c.loop-i.watches.entries c.tell_one.new.watches.entries c.loop-i.i c.loop-i.notes.items c.tell_one.new.notes.items there.0 there.1 inside c.loop-i.invariant.entries told c.args.notes.now.items c.loop-i.invariant.notes;
       room = told_room g.old new c.args.changed all c.loop-i.watches.entries c.tell_one.new.watches.entries c.loop-i.i c.loop-i.notes.items c.tell_one.new.notes.items there.0 there.1 inside c.loop-i.invariant.entries told (vec_capacity c.tell_one.new.notes)
           (omega (arith, c.tell_one.ensures.capacity, c.loop-i.invariant.room));
     }

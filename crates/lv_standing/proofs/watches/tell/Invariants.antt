@@ -2,8 +2,7 @@
 use Rattle.std.proofs.Common.{◌≡◌, ◌+◌, ◌≤◌, ◌++◌, length, map, take, drop, vec_capacity}
 use Rattle.lv_bodies.specs.Plain.{program_table}
 use Rattle.lv_tree.specs.Kinds.{AreReady}
-use Rattle.lv_standing.specs.Queries.{AreNotes}
-use Rattle.lv_standing.specs.Inner.{asked, refreshed}
+use Rattle.lv_standing.specs.Inner.{AddsNotes, asked, refreshed}
 use Rattle.lv_standing.specs.Standings.{LeavesUnasked, queries_of}
 use Rattle.lv_standing.proofs.watches.tell.Given as goal
 
@@ -18,6 +17,6 @@ invariant-loop-i g l =
       kept : AreReady program_table new l.kinds;
       others : LeavesUnasked (queries_of all) l.initial.kinds l.kinds;
       entries : l.watches.entries ≡ map (refreshed new) (take l.i all) ++ drop l.i all;
-      notes : AreNotes g.old new (queries_of (take l.i all)) l.notes.items;
+      notes : AddsNotes g.old new (queries_of (take l.i all)) l.initial.notes.items l.notes.items;
       room : length l.notes.items + length (asked l.changed (drop l.i all)) ≤ vec_capacity l.notes;
     }

@@ -1,5 +1,5 @@
 -- Proof of `told_before`: the summary that one of the six queries before an index keeps.
-use Rattle.std.proofs.Common.{◌≡◌, ◌∙◌, ◌<◌, List, ap, slice_range}
+use Rattle.std.proofs.Common.{◌≡◌, ◌∙◌, ◌<◌, ℕ, List, ap, slice_range}
 use Rattle.lv_edits.specs.declared.edit.Edit.{Edit}
 use Rattle.lv_edits.specs.History.{list_of}
 use Rattle.lv_tree.specs.KindSummaries.{kind_of, summary_of}
@@ -17,6 +17,6 @@ same_summary edits a b alike =
 
 pub returns-then-is_alike : goal.returns-then-is_alike
 returns-then-is_alike c =
-    let there = c.watch_at.result in
+    let there : List ℕ × Watch = (c.watch_at.result.0.now, c.watch_at.result.1.now) in
     let before : c.loop-j.j < c.args.i = c.loop-j-test.true in
     c.requires.told c.loop-j.j before there c.watch_at.ensures ∙ same_summary c.args._live.now.history.journal there.1 c.args.watch.now (c.is_alike.ensures.0 c.if-is_alike.true)

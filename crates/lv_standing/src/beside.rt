@@ -1,0 +1,167 @@
+//! Edits of a live vector, and of what is kept beside it by kind.
+ghost use Rattle.std.specs.Prelude.{◌≡◌, ◌≤◌, ℕ, ℤ, None, List, [], ◌∷◌, ◌++◌, length, IfErr, OnOk};
+ghost use Rattle.lv_edits.specs.declared.edit.Edit.{Edit as AnEdit};
+ghost use Rattle.lv_edits.specs.declared.receipt.Receipt.TheVariants.{Written};
+ghost use Rattle.lv_edits.specs.Batches.{AnswersEdits, writes_at};
+ghost use Rattle.lv_edits.specs.History.{History};
+ghost use Rattle.lv_edits.specs.Kept.{IsLegalInLimits};
+ghost use Rattle.lv_edits.specs.Pushes.{AnswersAll};
+ghost use Rattle.lv_edits.specs.Verdict.{Accepts, Answers, verdict_of};
+ghost use Rattle.lv_live.specs.State.{SameRefresh};
+ghost use Rattle.lv_tree.specs.Kinds.{AreKept, AreReady, HaveRoomFor, KeepsAlike, LeavesAll};
+
+use crate::changes::size_after;
+use lv_bodies::Body;
+use lv_edits::{Edit, Edits, Receipt};
+use lv_geometry::Refusal;
+use lv_live::Live;
+use lv_tree::Kinds;
+
+/// Makes an edit that a vector's verdict allows, and tells what is kept by kind of it. Refused with `NoMemory` alone, and nothing has
+/// changed then: the room for what may be kept is made before the edit.
+// Inlined with all that it calls: who knows the edit's kind is left with what that kind needs.
+#[inline(always)]
+pub fn make_beside<B: Body>(
+    live: &mut Live<B>,
+    kinds: &mut Kinds,
+    edit: Edit,
+) -> Result<Receipt, Refusal>
+    requires verdict { verdict_of live.old.history.limits live.old.history.journal edit ≡ None }
+    requires kept { AreReady kinds.old.table live.old.history.journal kinds.old }
+    ensures answer { Answers live.old.history edit result live.new.history }
+    ensures limits { IsLegalInLimits live.new.history }
+    ensures refresh { SameRefresh live.old live.new }
+    ensures kept { AreReady kinds.old.table live.new.history.journal kinds.new }
+    ensures leaves { LeavesAll kinds.old kinds.new }
+{
+    live.keeps();
+    let size = live.size();
+    let Ok(()) = make_room(kinds, size, size_after(&edit, size)) else {
+        return Err(Refusal::NoMemory);
+    };
+    let receipt = live.make(edit)?;
+    follow_last(live.view().cells, kinds, &edit, &receipt);
+    Ok(receipt)
+}
+
+// Tells what is kept by kind of the last edit of a vector. The cells only say what it is beside.
+#[inline(always)]
+fn follow_last(_cells: &Edits, kinds: &mut Kinds, edit: &Edit, receipt: &Receipt)
+    ghost before: { History }
+    requires legal { IsLegalInLimits before }
+    requires made { Accepts before edit.now receipt.now _cells.now }
+    ensures kept { (table : List (List ℕ)) → AreKept table before.journal kinds.old → AreKept table (before.journal ++ edit.now ∷ []) kinds.new }
+    ensures leaves { LeavesAll kinds.old kinds.new }
+{
+    kinds.follow_made(edit, receipt);
+}
+
+// Makes memory for all that can be asked of so many elements, where there are more of them than before.
+#[inline(always)]
+fn make_room(kinds: &mut Kinds, size: u32, after: u32) -> Result<(), Refusal>
+    requires room { HaveRoomFor kinds.old size }
+    requires few { after ≤ 1048568 }
+    ensures alike { KeepsAlike kinds.old kinds.new }
+    ensures ok { OnOk result (HaveRoomFor kinds.new after) }
+    ensures err { IfErr result (λ refusal. refusal ≡ Refusal.NoMemory) }
+{
+    if after <= size {
+        return Ok(());
+    }
+    kinds.make_room(after)
+}
+
+/// Overwrites the element at an index, completed at once, and tells what is kept by kind of it. Refused as the vector's verdict says, else
+/// with `NoMemory`, and nothing has changed then. Only the journal may need room.
+#[inline(always)]
+pub fn write_beside<B: Body>(
+    live: &mut Live<B>,
+    kinds: &mut Kinds,
+    index: u32,
+    value: i64,
+) -> Result<Receipt, Refusal>
+    requires kept { AreReady kinds.old.table live.old.history.journal kinds.old }
+    ensures answer { Answers live.old.history (AnEdit.Write index value) result live.new.history }
+    ensures limits { IsLegalInLimits live.new.history }
+    ensures refresh { SameRefresh live.old live.new }
+    ensures kept { AreReady kinds.old.table live.new.history.journal kinds.new }
+    ensures leaves { LeavesAll kinds.old kinds.new }
+{
+    live.keeps();
+    match live.write_through(index, value) {
+        Err(refusal) => Err(refusal),
+        Ok(receipt) => {
+            kinds.follow_write(index, element_before(&receipt), value);
+            Ok(receipt)
+        }
+    }
+}
+
+// The element that a write took the place of, as its receipt tells.
+#[inline(always)]
+fn element_before(receipt: &Receipt) -> i64
+    ensures { (edit : ℕ) (x : ℤ) → receipt.now ≡ Written edit x → result ≡ x }
+{
+    match receipt {
+        Receipt::Written { before, .. } => *before,
+        _ => 0,
+    }
+}
+
+/// Pushes values, all of them or none, and tells what is kept by kind of them. Refused as the first push that would be refused, else with
+/// `NoMemory`, and nothing has changed then: the room for what may be kept is made before the pushes.
+pub fn push_all_beside<B: Body>(
+    live: &mut Live<B>,
+    kinds: &mut Kinds,
+    values: &[i64],
+) -> Result<u32, Refusal>
+    requires kept { AreReady kinds.old.table live.old.history.journal kinds.old }
+    ensures answer { AnswersAll live.old.history values.now result live.new.history }
+    ensures limits { IsLegalInLimits live.new.history }
+    ensures refresh { SameRefresh live.old live.new }
+    ensures kept { AreReady kinds.old.table live.new.history.journal kinds.new }
+    ensures leaves { LeavesAll kinds.old kinds.new }
+{
+    live.keeps();
+    if let Some(refusal) = live.verdict_of_pushes(values) {
+        return Err(refusal);
+    }
+    let first = live.size();
+    let count = values.len() as u32;
+    match kinds.make_room(first + count) {
+        Err(refusal) => Err(refusal),
+        Ok(()) => match live.push_all(values) {
+            Err(refusal) => Err(refusal),
+            Ok(edit) => {
+                kinds.forget_sum();
+                Ok(edit)
+            }
+        },
+    }
+}
+
+/// Writes values at indices, all of them or none, and tells what is kept by kind of them. Refused as the first write that would be
+/// refused, else with `NoMemory`, and nothing has changed then.
+pub fn write_all_beside<B: Body>(
+    live: &mut Live<B>,
+    kinds: &mut Kinds,
+    indices: &[u32],
+    values: &[i64],
+) -> Result<u32, Refusal>
+    requires paired { length indices.now ≡ length values.now }
+    requires kept { AreReady kinds.old.table live.old.history.journal kinds.old }
+    ensures answer { AnswersEdits live.old.history (writes_at indices.now values.now) result live.new.history }
+    ensures limits { IsLegalInLimits live.new.history }
+    ensures refresh { SameRefresh live.old live.new }
+    ensures kept { AreReady kinds.old.table live.new.history.journal kinds.new }
+    ensures leaves { LeavesAll kinds.old kinds.new }
+{
+    live.keeps();
+    match live.write_all(indices, values) {
+        Err(refusal) => Err(refusal),
+        Ok(edit) => {
+            kinds.forget_sum();
+            Ok(edit)
+        }
+    }
+}
