@@ -1,13 +1,11 @@
 //! Sessions at a board in threads of their own, each by its own seat.
 
-ghost use Rattle.std.specs.Prelude.{◌≡◌, All, IfOk};
-ghost use Rattle.lv_board.specs.declared.board.Board.{Board};
-ghost use Rattle.lv_board.specs.declared.seats.Seat.{Seat};
+ghost use Rattle.std.specs.Prelude.{All};
 ghost use Rattle.lv_board.specs.Tells.{IsAt};
 
 use crate::failures::{Failure, FaultPlace};
 use crate::files::Streams;
-use lv_board::{Answering, Board, Seat, run_board_session};
+use lv_board::{Board, BoardBody, Seat, run_board_session};
 use lv_bodies::{Affine, Automaton, Best, Greatest, Kind, Least, Sum};
 use lv_geometry::Limits;
 use std::alloc::Global;
@@ -17,14 +15,12 @@ use std::thread::Threads;
 
 // A session at a board, with its seat, and how it ended; it hasn't yet at first.
 #[derive(Drop)]
-struct Task<'a, B: Answering<Board<B>, Seat<B>>, F: Drop> {
+struct Task<'a, B: BoardBody, F: Drop> {
     board: &'a Board<B>,
     seat: Seat<B>,
     streams: Streams<F>,
     ended: Result<(), Failure>,
     ghost here: { IsAt board.now.table.shared.table_id board.now.terms seat },
-    ghost own_board: { (b : Board B B.S) → B.board_of b ≡ b },
-    ghost own_seat: { (s : Seat B) → B.seat_of s ≡ s },
 }
 
 /// Holds a session for each pair of streams at a board of the kind, in a thread of its own where one can be made. Where sessions
@@ -47,16 +43,13 @@ pub fn hold_sessions<F: Read + Write + Send + Drop, R: Threads + Sync>(
 }
 
 // Holds them at a board of a body. The options keep to the limits of boards, so that only want of memory refuses one.
-fn hold_at<B: Answering<Board<B>, Seat<B>>, F: Read + Write + Send + Drop, R: Threads + Sync>(
+fn hold_at<B: BoardBody, F: Read + Write + Send + Drop, R: Threads + Sync>(
     rt: &R,
     alloc: Global,
     limits: Limits,
     body: B,
     streams: Vec<Streams<F>>,
-) -> Result<(), Failure>
-    requires own_board { (b : Board B B.S) → B.board_of b ≡ b }
-    requires own_seat { (s : Seat B) → B.seat_of s ≡ s }
-{
+) -> Result<(), Failure> {
     let Ok(count) = u32::try_from(streams.len()) else {
         return Err(Failure::memory());
     };
@@ -69,7 +62,7 @@ fn hold_at<B: Answering<Board<B>, Seat<B>>, F: Read + Write + Send + Drop, R: Th
 }
 
 // Holds them at a board, by its seats.
-fn hold_all<B: Answering<Board<B>, Seat<B>>, F: Read + Write + Send + Drop, R: Threads + Sync>(
+fn hold_all<B: BoardBody, F: Read + Write + Send + Drop, R: Threads + Sync>(
     rt: &R,
     alloc: Global,
     board: &Board<B>,
@@ -77,8 +70,6 @@ fn hold_all<B: Answering<Board<B>, Seat<B>>, F: Read + Write + Send + Drop, R: T
     streams: Vec<Streams<F>>,
 ) -> Result<(), Failure>
     requires here { All (IsAt board.now.table.shared.table_id board.now.terms) seats.items }
-    requires own_board { (b : Board B B.S) → B.board_of b ≡ b }
-    requires own_seat { (s : Seat B) → B.seat_of s ≡ s }
 {
     let mut tasks = seat_each(alloc, board, seats, streams)?;
     let threads = tasks.len().max(1);
@@ -91,15 +82,13 @@ fn hold_all<B: Answering<Board<B>, Seat<B>>, F: Read + Write + Send + Drop, R: T
 }
 
 // Gives each session a seat.
-fn seat_each<'a, B: Answering<Board<B>, Seat<B>>, F: Drop>(
+fn seat_each<'a, B: BoardBody, F: Drop>(
     alloc: Global,
     board: &'a Board<B>,
     seats: Vec<Seat<B>>,
     streams: Vec<Streams<F>>,
 ) -> Result<Vec<Task<'a, B, F>>, Failure>
     requires here { All (IsAt board.now.table.shared.table_id board.now.terms) seats.items }
-    requires own_board { (b : Board B B.S) → B.board_of b ≡ b }
-    requires own_seat { (s : Seat B) → B.seat_of s ≡ s }
 {
     let mut seats = seats;
     let mut tasks = Vec::new(alloc);
@@ -121,10 +110,7 @@ fn seat_each<'a, B: Answering<Board<B>, Seat<B>>, F: Drop>(
 }
 
 // Holds a session.
-fn hold<B: Answering<Board<B>, Seat<B>>, F: Read + Write + Drop>(
-    alloc: Global,
-    task: &mut Task<'_, B, F>,
-) {
+fn hold<B: BoardBody, F: Read + Write + Drop>(alloc: Global, task: &mut Task<'_, B, F>) {
     let place = FaultPlace::Session(task.streams.number);
     let ended = run_board_session(
         alloc,

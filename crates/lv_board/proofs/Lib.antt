@@ -9,6 +9,7 @@ pub mod Calling
 pub mod Opens
 pub mod Closes
 pub mod Still
+pub mod Sent
 pub mod Sittings
 pub mod Walking
 pub mod Ordered

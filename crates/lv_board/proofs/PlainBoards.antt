@@ -215,10 +215,6 @@ module _ {S : Type 0} (t : Terms) (o : Operations S) (kind : Kind) (shown : S �
       let came = conversed_as (λ x s. s ≡ sat_of x) (record { moves = step_plain }) a (sat_of a) b k l u v result refl c in
       subst (λ s. Conversed (PlainBoardStep t.limits kind plain) (sat_of a) s k l u v result) came.1 came.2
 
--- what is so of a board and two moments of a seat is so of what they are
-pub at_these : {A B : Type 0} {a b : A} {s t u v : B} → a ≡ b → s ≡ t → u ≡ v → (P : A → B → B → Type 0) → P a s u → P b t v
-at_these {b = b} {s = s} {t = t} {u = u} {v = v} e f g P holds = subst (λ x. P b t x) g (subst (λ x. P b x u) f (subst (λ x. P x s u) e holds))
-
 -- ---- the close
 
 made_so : {B : Type 0} (seats : List (Seat B)) → sum_by made_by seats ≡ sum_by (λ (s : Sat). length (own s.number s.history)) (map (λ seat. sat_of (actor_of seat)) seats)

@@ -1,5 +1,7 @@
 -- What a session's sitting stands for, at the end of it.
-use Rattle.std.proofs.Common.{◌≡◌, ℕ, Option, Result, List, refl, sym, ◌∙◌}
+use Rattle.std.proofs.Common.{◌≡◌, ℕ, Option, Result, List, ◌++◌, drop, length, Vec, refl, sym, ◌∙◌, ap}
+use Rattle.std.proofs.Math.Seq.{drop-append_seam}
+use Rattle.std.specs.declared.alloc.Global.{Global}
 use Rattle.lv_bodies.specs.declared.kinds.Kind.{Kind}
 use Rattle.lv_bodies.specs.declared.kinds.Shown.{Shown}
 use Rattle.lv_bodies.specs.Body.{Operations}
@@ -7,44 +9,61 @@ use Rattle.lv_machine.specs.Terms.{Folding}
 use Rattle.lv_lines.specs.declared.fault.Fault.{Fault}
 use Rattle.lv_lines.specs.Replies.{Conversed}
 use Rattle.lv_lines.proofs.Conversing.{conversed_as}
+use Rattle.lv_script.specs.declared.board_lines.BoardLine.{BoardLine}
+use Rattle.lv_script.specs.BoardLine.{board_line_of}
 use Rattle.lv_board.specs.declared.actors.Actor.{Actor}
 use Rattle.lv_board.specs.declared.actors.Basis.{Basis}
 use Rattle.lv_board.specs.declared.seats.Seat.{Seat}
+use Rattle.lv_board.specs.Answerer.{HasCalled, IsAnswered, IsRight, text_after}
 use Rattle.lv_board.specs.Rule.{terms_of}
 use Rattle.lv_board.specs.Session.{BoardStep}
 use Rattle.lv_board.specs.Sitting.{Sitting, SittingStep}
 use Rattle.lv_board.specs.Tells.{actor_of, Stays}
 
--- what a sitting stands for: what the seat of a board knows, in the place that it had at first
-pub record StandsForActor {B : Type 0} (z : Basis B) (name : ℕ) (first : Seat B) (s : Sitting B) (x : Actor) : Type 0 where
-  pub basis : s.basis ≡ z
-  pub place : s.name ≡ name
-  pub stays : Stays first s.seat
-  pub knows : actor_of s.seat ≡ x
+-- what was put after what a buffer held is the text that was put
+put_is_after : {Z : Type 0} (held left : Vec ℕ Z) (text : List ℕ) → left.items ≡ held.items ++ text → text_after held left ≡ text
+put_is_after held left text put = ap (drop (length held.items)) put ∙ drop-append_seam held.items text
 
-module _ {B S : Type 0} (f : B → Folding) (o : B → Operations S) (kind : Kind) (shown : B → S → Shown) where
+-- what a call leaves of what its references show is so of what it was made at
+pub of_call : {S L H R : Type 0} (P : S → ℕ → L → H → S → H → Type 0) (seat : S) (n : ℕ) (line : L) (held : H) (after : S) (left : H)
+    → HasCalled {R = R} (λ s n line h r s' h'. P s.now n line h.now s'.now h'.now) seat n line held after left → P seat n line held after left
+of_call P seat n line held after left c = rw (c.seat_is, c.held_is, c.after_is, c.left_is) at c.called
+
+module _ {A B S : Type 0} (seat_of : S → Seat B) (z : A) (name : ℕ) (first : Seat B) where
+  -- what a sitting stands for: what the seat of a board knows, in the place that it had at first
+  pub record StandsForActor (s : Sitting A S) (x : Actor) : Type 0 where
+    pub by : s.answerer ≡ z
+    pub place : s.name ≡ name
+    pub stays : Stays first (seat_of s.seat)
+    pub knows : actor_of (seat_of s.seat) ≡ x
+
+module _ {A B S V : Type 0} (seat_of : S → Seat B) (does : A → S → ℕ → BoardLine → Vec ℕ Global → S → Vec ℕ Global → Type 0) (f : B → Folding) (o : B → Operations V) (kind : Kind) (shown : B → V → Shown) (z : A) (b : Basis B) (right : IsRight seat_of does z f o kind shown b) where
   -- a line by a sitting is one by the actor that it stands for
-  line_as : (z : Basis B) (name : ℕ) (first : Seat B) (s : Sitting B) (x : Actor) (n : ℕ) (line text : List ℕ) (u : Sitting B) → StandsForActor z name first s x → SittingStep f o kind shown s n line text u
-      → (y : Actor) × StandsForActor z name first u y × BoardStep (terms_of f z) (o z.body) kind (shown z.body) x n line text y
-  line_as z name first s x n line text u fits step = (
-    actor_of u.seat,
-    record {
-      basis = step.basis ∙ fits.basis;
-      place = step.name ∙ fits.place;
-      stays = record { table = step.stays.table ∙ fits.stays.table; terms = step.stays.terms ∙ fits.stays.terms };
-      knows = refl;
-    },
-    rw (fits.basis, fits.knows) at step.answered,
-  )
+  line_as : (name : ℕ) (first : Seat B) (s : Sitting A S) (x : Actor) (n : ℕ) (line text : List ℕ) (u : Sitting A S) → StandsForActor seat_of z name first s x → SittingStep does kind s n line text u
+      → (y : Actor) × StandsForActor seat_of z name first u y × BoardStep (terms_of f b) (o b.body) kind (shown b.body) x n line text y
+  unfolding BoardStep
+  line_as name first s x n line text u fits step =
+      let done : IsAnswered f o kind shown b (seat_of s.seat) n (board_line_of kind line) step.held (seat_of u.seat) step.left =
+      right s.seat n (board_line_of kind line) step.held u.seat step.left (rw fits.by at step.done) in
+      let said : done.text ≡ text = sym (put_is_after step.held step.left done.text done.put) ∙ sym step.text_is in (
+        actor_of (seat_of u.seat),
+        record {
+          by = step.answerer ∙ fits.by;
+          place = step.name ∙ fits.place;
+          stays = record { table = done.stays.table ∙ fits.stays.table; terms = done.stays.terms ∙ fits.stays.terms };
+          knows = refl;
+        },
+        rw (said, fits.knows) at done.answer,
+      )
 
   -- where the sitting's place is still the owner's, its owner has the seat of the end
-  pub ended_as : {A R : Type 0} (seat_of : A → Seat B) (z y : Basis B) (name place : ℕ) (first last owned : A) (a b k l : Option (List ℕ)) (result : Result R Fault)
+  pub ended_as : {R : Type 0} (y : A) (name place : ℕ) (first last owned : S) (a e k l : Option (List ℕ)) (result : Result R Fault)
       → (name ≡ place → owned ≡ last)
-      → Conversed (SittingStep f o kind shown) record { seat = seat_of first; basis = z; name = name } record { seat = seat_of last; basis = y; name = place } a b k l result
-      → Stays (seat_of first) (seat_of owned) × Conversed (BoardStep (terms_of f z) (o z.body) kind (shown z.body)) (actor_of (seat_of first)) (actor_of (seat_of owned)) a b k l result
-  ended_as seat_of z y name place first last owned a b k l result is c =
-      let begun : StandsForActor z name (seat_of first) record { seat = seat_of first; basis = z; name = name } (actor_of (seat_of first)) =
-      record { basis = refl; place = refl; stays = record { table = refl; terms = refl }; knows = refl } in
-      let came = conversed_as (StandsForActor z name (seat_of first)) (record { moves = line_as z name (seat_of first) }) _ _ _ a b k l result begun c in
+      → Conversed (SittingStep does kind) record { answerer = z; seat = first; name = name } record { answerer = y; seat = last; name = place } a e k l result
+      → Stays (seat_of first) (seat_of owned) × Conversed (BoardStep (terms_of f b) (o b.body) kind (shown b.body)) (actor_of (seat_of first)) (actor_of (seat_of owned)) a e k l result
+  ended_as y name place first last owned a e k l result is conversed =
+      let begun : StandsForActor seat_of z name (seat_of first) record { answerer = z; seat = first; name = name } (actor_of (seat_of first)) =
+      record { by = refl; place = refl; stays = record { table = refl; terms = refl }; knows = refl } in
+      let came = conversed_as (StandsForActor seat_of z name (seat_of first)) (record { moves = line_as name (seat_of first) }) _ _ _ a e k l result begun conversed in
       let same = is (sym came.1.place) in
       (rw same came.1.stays, rw (same, came.1.knows) came.2)

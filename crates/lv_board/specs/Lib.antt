@@ -1,4 +1,5 @@
 -- Names the files of definitions of `lv_board`.
+pub mod Answerer
 pub mod Calls
 pub mod Closing
 pub mod Ended

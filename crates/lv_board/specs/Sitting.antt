@@ -1,24 +1,22 @@
--- A session while it is held: what its seat knows, and the place where that lies.
-use Rattle.std.specs.Prelude.{◌≡◌, ℕ, List}
+-- A session while it is held: what answers it, its seat, and the place where that lies.
+use Rattle.std.specs.Prelude.{◌≡◌, ℕ, List, Vec}
+use Rattle.std.specs.declared.alloc.Global.{Global}
 use Rattle.lv_bodies.specs.declared.kinds.Kind.{Kind}
-use Rattle.lv_bodies.specs.declared.kinds.Shown.{Shown}
-use Rattle.lv_bodies.specs.Body.{Operations}
-use Rattle.lv_machine.specs.Terms.{Folding}
-use Rattle.lv_board.specs.declared.actors.Basis.{Basis}
-use Rattle.lv_board.specs.declared.seats.Seat.{Seat}
-use Rattle.lv_board.specs.Rule.{terms_of}
-use Rattle.lv_board.specs.Session.{BoardStep}
-use Rattle.lv_board.specs.Tells.{actor_of, Stays}
+use Rattle.lv_script.specs.declared.board_lines.BoardLine.{BoardLine}
+use Rattle.lv_script.specs.BoardLine.{board_line_of}
+use Rattle.lv_board.specs.Answerer.{text_after}
 
--- a seat, the basis of its board, and the name of the reference to its place
-pub record Sitting (B : Type 0) : Type 0 where
-  pub seat : Seat B
-  pub basis : Basis B
+-- an answerer, a seat, and the name of the reference to its place
+pub record Sitting (A S : Type 0) : Type 0 where
+  pub answerer : A
+  pub seat : S
   pub name : ℕ
 
--- one line of a session, after which the seat is at its board and in its place
-pub record SittingStep {B S : Type 0} (f : B → Folding) (o : B → Operations S) (kind : Kind) (shown : B → S → Shown) (s : Sitting B) (n : ℕ) (line text : List ℕ) (u : Sitting B) : Type 0 where
-  pub basis : u.basis ≡ s.basis
+-- one line of a session, after which the seat is in its place: `does` is what the answerer does
+pub record SittingStep {A S : Type 0} (does : A → S → ℕ → BoardLine → Vec ℕ Global → S → Vec ℕ Global → Type 0) (kind : Kind) (s : Sitting A S) (n : ℕ) (line text : List ℕ) (u : Sitting A S) : Type 0 where
+  pub answerer : u.answerer ≡ s.answerer
   pub name : u.name ≡ s.name
-  pub stays : Stays s.seat u.seat
-  pub answered : BoardStep (terms_of f s.basis) (o s.basis.body) kind (shown s.basis.body) (actor_of s.seat) n line text (actor_of u.seat)
+  pub held : Vec ℕ Global
+  pub left : Vec ℕ Global
+  pub done : does s.answerer s.seat n (board_line_of kind line) held u.seat left
+  pub text_is : text ≡ text_after held left

@@ -34,7 +34,6 @@ mod verdicts;
 mod words;
 
 pub use actors::{Actor, Basis, InstalledPart, View};
-pub use answering::Answering;
 pub use board::Board;
 pub use bodies::BoardBody;
 pub use laws::a_board_has_one_history;

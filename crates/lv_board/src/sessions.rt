@@ -1,20 +1,20 @@
 //! Sessions: lines that a seat is asked by, one try a line.
 ghost use Rattle.std.specs.Prelude.{◌≡◌};
+ghost use Rattle.lv_lines.specs.Output.{HasRoom};
 ghost use Rattle.lv_lines.specs.Replies.{Conversed};
-ghost use Rattle.lv_board.specs.declared.board.Board.{Board};
-ghost use Rattle.lv_board.specs.declared.seats.Seat.{Seat};
+ghost use Rattle.lv_board.specs.Answerer.{IsAnswered, IsReady, IsRight, LeavesHeld, LeavesSeats};
 ghost use Rattle.lv_board.specs.PlainBoard.{PlainBoardStep, sat_of};
 ghost use Rattle.lv_board.specs.Rule.{terms_of, limits_of};
 ghost use Rattle.lv_board.specs.Session.{BoardStep};
 ghost use Rattle.lv_board.specs.Sitting.{Sitting, SittingStep};
 ghost use Rattle.lv_board.specs.Tells.{actor_of, IsAt, Stays};
 
-use crate::answering::Answering;
+use crate::answering::{Answerer, ByCall, SeatedAs, answer_line};
 use crate::board::Board;
 use crate::bodies::BoardBody;
 use crate::seats::Seat;
 use lv_bodies::Kind;
-use lv_script::{Fault, LINE, Outbox, Responder, converse, read_board_line};
+use lv_script::{BoardLine, Fault, LINE, Outbox, Responder, converse, read_board_line};
 use std::alloc::Global;
 use std::io::{Read, Write};
 use std::marker::PhantomData;
@@ -23,7 +23,7 @@ use std::marker::PhantomData;
 /// try each; every other line that says something is bad. The seat is one of this board's, and stays the caller's.
 ///
 /// Ends with the faults of a script; edits accepted before a fault stay.
-pub fn run_board_session<B: Answering<Board<B>, Seat<B>>, R: Read, W: Write>(
+pub fn run_board_session<B: BoardBody, R: Read, W: Write>(
     alloc: Global,
     board: &Board<B>,
     seat: &mut Seat<B>,
@@ -31,8 +31,6 @@ pub fn run_board_session<B: Answering<Board<B>, Seat<B>>, R: Read, W: Write>(
     writer: &mut W,
 ) -> Result<(), Fault>
     requires here { IsAt board.now.table.shared.table_id board.now.terms seat.old }
-    requires own_board { (b : Board B B.S) → B.board_of b ≡ b }
-    requires own_seat { (s : Seat B) → B.seat_of s ≡ s }
     ensures stays { Stays seat.old seat.new }
     ensures conversed { Conversed (BoardStep (terms_of B.folding board.now.terms) (B.operations board.now.terms.body) B.the_kind (B.shown_as board.now.terms.body))
         (actor_of seat.old) (actor_of seat.new) (R.remaining reader.old) (R.remaining reader.new) (W.contents writer.old) (W.contents writer.new) result }
@@ -40,29 +38,37 @@ pub fn run_board_session<B: Answering<Board<B>, Seat<B>>, R: Read, W: Write>(
     ensures plain { Conversed (PlainBoardStep (limits_of board.now.terms) B.the_kind (B.plain board.now.terms.body))
         (sat_of (actor_of seat.old)) (sat_of (actor_of seat.new)) (R.remaining reader.old) (R.remaining reader.new) (W.contents writer.old) (W.contents writer.new) result }
 {
+    let call = |seat: &mut Seat<B>, number: u32, line: BoardLine, held: &mut Vec<u8>|
+        requires here { IsAt board.now.table.shared.table_id board.now.terms seat.old }
+        requires room { HasRoom held.old LINE }
+        ensures { IsAnswered B.folding B.operations B.the_kind B.shown_as board.entry.now.terms seat.old number line held.old seat.new held.new }
+    {
+        answer_line(board, seat, number, line, held);
+    };
     let kind = board.terms.body.kind();
-    hold::<Board<B>, Seat<B>, B, R, W>(alloc, kind, board, seat, reader, writer)
+    hold::<Seat<B>, B, ByCall<_>, R, W>(alloc, kind, seat, &ByCall { call }, reader, writer)
 }
 
-// Holds a session on what is a board and a seat of a body.
-fn hold<T, S, B: Answering<T, S>, R: Read, W: Write>(
+// Holds a session of a seat of a body, whose lines an answerer answers.
+fn hold<S, B: SeatedAs<S>, A: Answerer<S>, R: Read, W: Write>(
     alloc: Global,
     kind: Kind,
-    board: &T,
     seat: &mut S,
+    answerer: &A,
     reader: &mut R,
     writer: &mut W,
 ) -> Result<(), Fault>
-    requires here { IsAt (B.board_of board.now).table.shared.table_id (B.board_of board.now).terms (B.seat_of seat.old) }
     requires kind { kind ≡ B.the_kind }
+    requires ready { IsReady B.seat_of A.may answerer.now (B.seat_of seat.old) }
+    requires right { IsRight B.seat_of A.does answerer.now B.folding B.operations B.the_kind B.shown_as (B.seat_of seat.old).terms }
     ensures stays { Stays (B.seat_of seat.old) (B.seat_of seat.new) }
-    ensures conversed { Conversed (BoardStep (terms_of B.folding (B.board_of board.now).terms) (B.operations (B.board_of board.now).terms.body) B.the_kind (B.shown_as (B.board_of board.now).terms.body))
+    ensures conversed { let z = (B.seat_of seat.old).terms in Conversed (BoardStep (terms_of B.folding z) (B.operations z.body) B.the_kind (B.shown_as z.body))
         (actor_of (B.seat_of seat.old)) (actor_of (B.seat_of seat.new)) (R.remaining reader.old) (R.remaining reader.new) (W.contents writer.old) (W.contents writer.new) result }
 {
-    let mut session: Session<'_, '_, T, S, B> = Session {
+    let mut session: Session<'_, '_, S, B, A> = Session {
         kind,
-        board,
         seat,
+        answerer,
         of: PhantomData,
     };
     converse(alloc, &mut session, reader, writer)
@@ -70,21 +76,23 @@ fn hold<T, S, B: Answering<T, S>, R: Read, W: Write>(
 
 // What answers the lines of a session.
 #[derive(Drop)]
-struct Session<'a, 's, T, S, B: Answering<T, S>> {
+struct Session<'s, 'a, S, B: SeatedAs<S>, A: Answerer<S>> {
     kind: Kind,
-    board: &'a T,
     seat: &'s mut S,
+    answerer: &'a A,
     of: PhantomData<B>,
     ghost own: { kind ≡ B.the_kind },
-    ghost here: { IsAt (B.board_of board.now).table.shared.table_id (B.board_of board.now).terms (B.seat_of seat.now) },
+    ghost ready: { IsReady B.seat_of A.may answerer.now (B.seat_of seat.now) },
+    ghost seats: { LeavesSeats B.seat_of A.does answerer.now },
+    ghost held: { LeavesHeld B.seat_of A.does answerer.now },
 }
 
-impl<'a, 's, T, S, B: Answering<T, S> + BoardBody> Responder for Session<'a, 's, T, S, B> {
-    ghost State = { Sitting B };
+impl<'s, 'a, S, B: SeatedAs<S> + BoardBody, A: Answerer<S>> Responder for Session<'s, 'a, S, B, A> {
+    ghost State = { Sitting A S };
 
-    ghost state = { λ s. record { seat = B.seat_of s.seat.now; basis = (B.board_of s.board.now).terms; name = s.seat.ghost_name } };
+    ghost state = { λ s. record { answerer = s.answerer.now; seat = s.seat.now; name = s.seat.ghost_name } };
 
-    ghost step = { SittingStep B.folding B.operations B.the_kind B.shown_as };
+    ghost step = { SittingStep A.does B.the_kind };
 
     fn respond<W: Write>(
         &mut self,
@@ -94,7 +102,7 @@ impl<'a, 's, T, S, B: Answering<T, S> + BoardBody> Responder for Session<'a, 's,
     ) -> Result<(), Fault> {
         outbox.make_room(LINE)?;
         let line = read_board_line(self.kind, line);
-        B::answer(self.board, self.seat, number, line, outbox.held);
+        self.answerer.answer(self.seat, number, line, outbox.held);
         Ok(())
     }
 }

@@ -6,8 +6,6 @@ use Rattle.livevec.proofs.boards.seat_each.Goals as goal
 pub invariant_of-task : goal.invariant_of-task
 invariant_of-task g c = record {
   here = (each_popped (IsAt c.args.board.now.table.shared.table_id c.args.board.now.terms) _ _ c.in-Some-pop.seat (rw c.in-Some-pop.is at c.pop.ensures.items) c.loop-streams.invariant.2).0;
-  own_board = c.requires.own_board;
-  own_seat = c.requires.own_seat;
 }
 
 pub loop-streams-preserved : goal.loop-streams-preserved

@@ -1,12 +1,12 @@
--- Proof of `hold`: holds a session on what is a board and a seat of a body.
+-- Proof of `hold`: holds a session of a seat of a body, whose lines an answerer answers.
 use Rattle.std.proofs.Common.{rules}
 use Rattle.lv_board.proofs.Sittings.{ended_as}
 use Rattle.lv_board.proofs.sessions.hold.Goals as goal
 
 pub returns-clause-stays : goal.returns-clause-stays
 returns-clause-stays g c =
-    (ended_as g.B.BoardBody.folding g.B.Body.operations g.B.Single.the_kind g.B.Single.shown_as g.B.Answering.seat_of _ _ _ _ c.args.seat.now c.converse.new.responder.seat.now _ _ _ _ _ c.converse.result (search rules) c.converse.ensures).0
+    (ended_as g.B.SeatedAs.seat_of g.A.Answerer.does g.B.BoardBody.folding g.B.Body.operations g.B.Single.the_kind g.B.Single.shown_as _ _ c.requires.right _ _ _ c.args.seat.now c.converse.new.responder.seat.now _ _ _ _ _ c.converse.result (search rules) c.converse.ensures).0
 
 pub returns-clause-conversed : goal.returns-clause-conversed
 returns-clause-conversed g c =
-    (ended_as g.B.BoardBody.folding g.B.Body.operations g.B.Single.the_kind g.B.Single.shown_as g.B.Answering.seat_of _ _ _ _ c.args.seat.now c.converse.new.responder.seat.now _ _ _ _ _ c.converse.result (search rules) c.converse.ensures).1
+    (ended_as g.B.SeatedAs.seat_of g.A.Answerer.does g.B.BoardBody.folding g.B.Body.operations g.B.Single.the_kind g.B.Single.shown_as _ _ c.requires.right _ _ _ c.args.seat.now c.converse.new.responder.seat.now _ _ _ _ _ c.converse.result (search rules) c.converse.ensures).1
