@@ -45,6 +45,8 @@ mod same;
 #[cfg(test)]
 mod scripts;
 #[cfg(test)]
+mod searches;
+#[cfg(test)]
 mod standing;
 #[cfg(test)]
 mod store;
