@@ -83,16 +83,17 @@ fn end_of(list: &[i64], lo: u32, hi: u32, sum: i128) -> Option<u32> {
 
 // The greatest start from which on the elements up to the end add up to so much.
 fn start_of(list: &[i64], lo: u32, hi: u32, sum: i128) -> Option<u32> {
-    let mut total = 0_i128;
-    let mut start = hi;
-    while start > lo {
-        if total >= sum {
-            return Some(start);
-        }
-        start -= 1;
-        total = total.wrapping_add(i128::from(list.get(start as usize).copied().unwrap_or(0)));
+    if sum <= 0 {
+        return Some(hi);
     }
-    (total >= sum).then_some(lo)
+    let mut total = 0_i128;
+    for i in (lo..hi).rev() {
+        total = total.wrapping_add(i128::from(list.get(i as usize).copied().unwrap_or(0)));
+        if total >= sum {
+            return Some(i);
+        }
+    }
+    None
 }
 
 // Asks both sides for a random range.
