@@ -1,26 +1,20 @@
 -- A list that lies in pieces, and is blank past what was written of them.
-use Rattle.std.proofs.Common.{◌≡◌, ℕ, zero, suc, ◌+◌, ◌-◌, ◌*◌, ◌/◌, ◌%◌, ◌<◌, ◌≤◌, max, if◌then◌else◌, Some, List, [], ◌∷◌, ◌++◌, length, replicate, get_or, set, slice_get, nat_eq, refl, sym, ap, ◌∙◌, inl, inr, arith}
+use Rattle.std.proofs.Common.{◌≡◌, ℕ, zero, suc, ◌+◌, ◌-◌, ◌*◌, ◌/◌, ◌%◌, ◌<◌, ◌≤◌, if◌then◌else◌, Some, List, [], ◌∷◌, ◌++◌, length, get_or, set, slice_get, nat_eq, refl, sym, ap, ◌∙◌, inl, inr, arith}
 use Rattle.std.proofs.lemmas.Bool.{cases_eq, cases_lt, cases_order, cond-false, cond-true, eq-eqb, le-ltb, lt-ltb, ne_eqb}
-use Rattle.std.proofs.lemmas.List.{get_or-append_right, get_or-drop, get_or-replicate, get_or-set_other, get_or-set_same, get_or-take, get_or_append_left, get_or_past, get_or_push, get_or_read, length-append, length-drop, length-replicate, length-set, length-take}
-use Rattle.std.proofs.lemmas.List.FromFn.{fill_by_all, get_or-map-range_with_len, length-map-range_with_len}
+use Rattle.std.proofs.lemmas.List.{get_or-append_right, get_or-drop, get_or-set_other, get_or-set_same, get_or-take, get_or_append_left, get_or_past, get_or_push, get_or_read, length-append, length-drop, length-take}
 use Rattle.std.proofs.lemmas.Option.{slice_get-get_or}
 use Rattle.std.specs.Prelude.{drop, slice_range}
 use Rattle.lv_summary.specs.Inner.{AreEight, AreLaterEight, in_pieces, item_at, later_item, lengthened, put_late, room_in_pieces}
+use Rattle.lv_summary.proofs.ByNumber.{length-by_number, read_number}
 use Rattle.lv_summary.proofs.LevelLaws.{get_or-lengthened, length-lengthened}
 
 -- how many items there are
 pub length-in_pieces : {A : Type 0} (front : List A) (later : List (List A)) (blank : A) (count : ℕ) → length (in_pieces front later blank count) ≡ count
-length-in_pieces front later blank count = length-map-range_with_len (item_at front later blank) 0 count
+length-in_pieces front later blank count = length-by_number (item_at front later blank) count
 
--- what stands at a number below the count
-get_or-in_pieces : {A : Type 0} (front : List A) (later : List (List A)) (blank : A) (count k : ℕ) → k < count → get_or (in_pieces front later blank count) k blank ≡ item_at front later blank k
-get_or-in_pieces front later blank count k inside = get_or-map-range_with_len (item_at front later blank) 0 count k k blank inside (omega arith)
-
--- it is there
+-- what stands at a number below the count is there
 pub read_pieces : {A : Type 0} (front : List A) (later : List (List A)) (blank : A) (count k : ℕ) → k < count → slice_get (in_pieces front later blank count) k ≡ Some (item_at front later blank k)
-read_pieces front later blank count k inside =
-    slice_get-get_or (in_pieces front later blank count) k blank (omega (arith, length-in_pieces front later blank count))
-    ∙ ap Some (get_or-in_pieces front later blank count k inside)
+read_pieces front later blank count k inside = read_number (item_at front later blank) count k inside
 
 -- an item of the first piece
 pub item_at-early : {A : Type 0} (front : List A) (later : List (List A)) (blank : A) (k : ℕ) → k < 512 → item_at front later blank k ≡ get_or front k blank
@@ -72,47 +66,6 @@ eight_late front eight later blank count first are inside = (
       ∙ ap Some (sym (item_at-late front later blank (first + k) (omega (arith, are.0))))
       ∙ sym (read_pieces front later blank count (first + k) (omega arith)),
 )
-
--- blanks alone are copies of the blank
-pub in_pieces-blank : {A : Type 0} (front : List A) (later : List (List A)) (blank : A) (count : ℕ) → ((k : ℕ) → item_at front later blank k ≡ blank) → in_pieces front later blank count ≡ replicate count blank
-in_pieces-blank front later blank count none =
-    sym (fill_by_all (item_at front later blank) (replicate count blank) count blank (length-replicate count blank)
-    (λ k inside. get_or-replicate count k blank blank inside ∙ sym (none k)))
-
--- a list that is made longer has blanks where nothing was written
-pub in_pieces-longer : {A : Type 0} (front : List A) (later : List (List A)) (blank : A) (count items : ℕ) → ((k : ℕ) → count ≤ k → item_at front later blank k ≡ blank) → in_pieces front later blank (max count items) ≡ lengthened (in_pieces front later blank count) items blank
-in_pieces-longer front later blank count items none =
-    let long = length-in_pieces front later blank count in
-    sym (fill_by_all (item_at front later blank) (lengthened (in_pieces front later blank count) items blank) (max count items) blank (omega (arith, length-lengthened (in_pieces front later blank count) items blank, long))
-    (λ k inside.
-    get_or-lengthened (in_pieces front later blank count) items blank k
-    ∙ elim (cases_lt k count) [
-      | inl before ↦ get_or-in_pieces front later blank count k before
-      | inr past ↦ get_or_past (in_pieces front later blank count) k blank (omega (arith, long)) ∙ sym (none k past)
-    ]))
-
--- pieces in which the same stands at each number are the same list
-pub in_pieces-same : {A : Type 0} (front others : List A) (later those : List (List A)) (blank : A) (count : ℕ) → ((k : ℕ) → item_at others those blank k ≡ item_at front later blank k) → in_pieces others those blank count ≡ in_pieces front later blank count
-in_pieces-same front others later those blank count is =
-    sym (fill_by_all (item_at others those blank) (in_pieces front later blank count) count blank (length-in_pieces front later blank count)
-    (λ k below. get_or-in_pieces front later blank count k below ∙ sym (is k)))
-
--- pieces with another item at a number are a list with that item
-pub in_pieces-set : {A : Type 0} (front others : List A) (later those : List (List A)) (blank : A) (count number : ℕ) (s : A) → number < count → ((k : ℕ) → item_at others those blank k ≡ (if nat_eq k number then s else item_at front later blank k)) → in_pieces others those blank count ≡ set (in_pieces front later blank count) number s
-in_pieces-set front others later those blank count number s inside is =
-    let long = length-in_pieces front later blank count in
-    sym (fill_by_all (item_at others those blank) (set (in_pieces front later blank count) number s) count blank (length-set (in_pieces front later blank count) number s ∙ long)
-    (λ k below.
-    elim (cases_eq k number) [
-      | inl same ↦
-          ap (λ k. get_or (set (in_pieces front later blank count) number s) k blank) same
-          ∙ get_or-set_same (in_pieces front later blank count) number s blank (omega (arith, long))
-          ∙ sym (is k ∙ cond-true _ _ _ (eq-eqb k number same))
-      | inr other ↦
-          get_or-set_other (in_pieces front later blank count) number k s blank other
-          ∙ get_or-in_pieces front later blank count k below
-          ∙ sym (is k ∙ cond-false _ _ _ (ne_eqb k number other))
-    ]))
 
 -- pieces to which nothing was written are blank
 pub later_item-none : {A : Type 0} (later : List (List A)) → ((j : ℕ) → j < length later → get_or later j [] ≡ []) → (number : ℕ) (blank : A) → later_item later number blank ≡ blank
@@ -243,8 +196,3 @@ set_late front before after later blank number s late there was is k =
           ∙ later_item-set later blank number s late there k high
           ∙ ap (λ x. if nat_eq k number then s else x) (sym (item_at-late front later blank k high))
     ]
-
--- where an item was put below the count, what stands past it is blank as before
-pub still_blank : {A : Type 0} (front others : List A) (later those : List (List A)) (blank : A) (count number : ℕ) (s : A) → number < count → ((k : ℕ) → item_at others those blank k ≡ (if nat_eq k number then s else item_at front later blank k)) → ((k : ℕ) → count ≤ k → item_at front later blank k ≡ blank) → (k : ℕ) → count ≤ k → item_at others those blank k ≡ blank
-still_blank front others later those blank count number s inside is none k past =
-    is k ∙ cond-false _ _ _ (ne_eqb k number (λ same. omega arith)) ∙ none k past

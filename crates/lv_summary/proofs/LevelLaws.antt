@@ -31,7 +31,7 @@ pub length-lengthened : {A : Type 0} (xs : List A) (n : ℕ) (x : A) → length 
 length-lengthened xs n x = length-append xs (replicate (n - length xs) x) ∙ ap (λ k. length xs + k) (length-replicate (n - length xs) x)
 
 -- copies of what is read past their end read alike everywhere
-get_or_copies : {A : Type 0} (n k : ℕ) (x : A) → get_or (replicate n x) k x ≡ x
+pub get_or_copies : {A : Type 0} (n k : ℕ) (x : A) → get_or (replicate n x) k x ≡ x
 get_or_copies n k x =
     elim (cases_lt k n) [
       | inl inside ↦ get_or-replicate n k x x inside

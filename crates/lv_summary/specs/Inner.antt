@@ -23,6 +23,19 @@ pub record LateRowsState (S : Type 0) : Type 0 where
 abbrev pub lengthened : {A : Type 0} → List A → ℕ → A → List A
 lengthened xs n x = xs ++ replicate (n - length xs) x
 
+-- a list of numbers, 0 past what was written of it: its items, and for how many of them it has memory
+pub record LateNumbersState : Type 0 where
+  pub items : List ℕ
+  pub capacity : ℕ
+
+-- the number at a place, where each item of a list has eight
+abbrev pub number_at : LateRowsState (List ℕ) → ℕ → ℕ
+number_at eights k = slice_index (slice_index_or eights.items (k / 8) eights.blank) (k % 8)
+
+-- so many numbers, eight to an item
+abbrev pub numbers_in : LateRowsState (List ℕ) → ℕ → List ℕ
+numbers_in eights count = map (number_at eights) (range_with_len 0 count)
+
 -- eight neighbours of a list, from one on
 abbrev pub AreEight : {A : Type 0} → List A → List A → ℕ → Type 0
 AreEight eight xs first = (length eight ≡ 8) × ((k : ℕ) → k < 8 → slice_get eight k ≡ slice_get xs (first + k))

@@ -55,7 +55,7 @@ impl<S: Copy> LateRows<S> {
         ensures room { result ≡ true → items ≤ self.new.capacity }
     {
         let more = items.min(PIECE).saturating_sub(self.front.len());
-        self.front.reserve(more).is_ok() && reserve_later(self.alloc, &mut self.later, items)
+        reserve_front(&mut self.front, more) && reserve_later(self.alloc, &mut self.later, items)
     }
 
     /// Adds blanks, so that there are so many items in all, where there are fewer. Writes none of them.
@@ -89,7 +89,16 @@ impl<S: Copy> LateRows<S> {
         requires { number < length self.now.items }
         ensures { slice_get self.now.items number ≡ Some result }
     {
-        *item_of(&self.front, &self.later, number, &self.blank)
+        *self.get(number)
+    }
+
+    /// The same item where it lies, of which no more is copied than is read.
+    #[inline(always)]
+    pub fn get(&self, number: usize) -> &S
+        requires { number < length self.now.items }
+        ensures { slice_get self.now.items number ≡ Some result.now }
+    {
+        item_of(&self.front, &self.later, number, &self.blank)
     }
 
     /// Eight items, from one on, where they lie side by side; none where one of them was never written.
@@ -204,6 +213,20 @@ pub(crate) fn write_blanks<S: Copy>(front: &mut Vec<S>, items: usize, blank: S)
     let Ok(()) = front.resize(items, blank) else {
         unreachable!()
     };
+}
+
+// Makes memory for further items of the first piece, and says whether there is. The first time it is for no more than those, since most
+// lists are short; later it grows in doublings.
+fn reserve_front<S: Copy>(front: &mut Vec<S>, more: usize) -> bool
+    ensures items { front.new.items ≡ front.old.items }
+    ensures capacity { vec_capacity front.old ≤ vec_capacity front.new }
+    ensures room { result ≡ true → length front.old.items + more ≤ vec_capacity front.new }
+{
+    if front.capacity() == 0 {
+        front.reserve_exact(more).is_ok()
+    } else {
+        front.reserve(more).is_ok()
+    }
 }
 
 // Makes memory for the pieces behind the first that so many items need, and says whether there is. Nothing is written to them.

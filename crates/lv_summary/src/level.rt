@@ -4,6 +4,7 @@ ghost use Rattle.std.specs.List.{list_all, range_with_len};
 ghost use Rattle.lv_summary.specs.Inner.{AreEight, HasItems, HasPart, KeepsRows, filled, with_kept, with_learnt, with_touch};
 ghost use Rattle.lv_summary.specs.Table.{no_rows};
 
+use crate::late_numbers::LateNumbers;
 use crate::late_rows::LateRows;
 use lv_geometry::Refusal;
 use std::alloc::Global;
@@ -14,19 +15,17 @@ use std::marker::Model;
 pub struct Level<S> {
     touched: Vec<u32>,
     stamps: Vec<u32>,
-    computed: LateRows<u32>,
+    computed: LateNumbers,
     kept: LateRows<S>,
 }
 
 impl<S> Model for Level<S> {
-    ghost use Rattle.std.specs.Prelude.{◌≡◌, min, vec_capacity};
+    ghost use Rattle.std.specs.Prelude.{min, vec_capacity};
     ghost use Rattle.lv_summary.specs.Inner.{LevelState};
 
     ghost Value = { LevelState S };
 
     ghost view = { λ a. record { rows = record { touched = a.touched.items; stamps = a.stamps.items; computed = a.computed.items; kept = a.kept.items }; capacity = min (min (vec_capacity a.touched) (vec_capacity a.stamps)) (min a.computed.capacity a.kept.capacity); blank = a.kept.blank } };
-
-    ghost invariant = { λ a. a.computed.blank ≡ 0 };
 }
 
 impl<S: Copy> Level<S> {
@@ -38,7 +37,7 @@ impl<S: Copy> Level<S> {
         Level {
             touched: Vec::new(alloc),
             stamps: Vec::new(alloc),
-            computed: LateRows::new(alloc, 0),
+            computed: LateNumbers::new(alloc),
             kept: LateRows::new(alloc, blank),
         }
     }

@@ -7,11 +7,13 @@
 
 mod accepted;
 mod delivery;
+mod late_numbers;
 mod late_rows;
 mod level;
 mod pieces;
 mod summaries;
 
 pub use accepted::Accepted;
+pub use late_numbers::LateNumbers;
 pub use late_rows::LateRows;
 pub use summaries::Summaries;

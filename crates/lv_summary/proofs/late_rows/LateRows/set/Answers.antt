@@ -1,6 +1,8 @@
 -- Proof of `LateRows::set`: puts an item at a number; blanks before it in its piece that were never written are written first.
 use Rattle.std.proofs.Common.{◌-◌, ◌/◌, ◌<◌, ◌∙◌, ap, arith, length, length-set, slice_set, vec_capacity}
-use Rattle.lv_summary.proofs.LateLaws.{in_pieces-set, length-in_pieces, piece_there, set_early, set_late, still_blank}
+use Rattle.lv_summary.specs.Inner.{item_at}
+use Rattle.lv_summary.proofs.ByNumber.{by_number-set, still_blank}
+use Rattle.lv_summary.proofs.LateLaws.{length-in_pieces, piece_there, set_early, set_late}
 use Rattle.lv_summary.proofs.late_rows.LateRows.set.Goals as goal
 
 pub set_front-requires-clause-inside : goal.set_front-requires-clause-inside
@@ -28,7 +30,7 @@ invariant_of-self-else-number-lt-PIECE g c =
       rw (length-set later place c.set.new.self) c.self.invariant.0,
       c.self.invariant.1,
       c.self.invariant.2,
-      still_blank front front later (slice_set later place c.set.new.self) blank count c.args.number c.args.s inside (set_late front c.index_mut.result.now c.set.new.self later blank c.args.number c.args.s c.if-number-lt-PIECE.false there c.index_mut.ensures.value c.set.ensures) c.self.invariant.3,
+      still_blank (item_at front later blank) (item_at front (slice_set later place c.set.new.self) blank) blank count c.args.number c.args.s inside (set_late front c.index_mut.result.now c.set.new.self later blank c.args.number c.args.s c.if-number-lt-PIECE.false there c.index_mut.ensures.value c.set.ensures) c.self.invariant.3,
     )
 
 pub returns-then-number-lt-PIECE-clause-items : goal.returns-then-number-lt-PIECE-clause-items
@@ -38,7 +40,7 @@ returns-then-number-lt-PIECE-clause-items g c =
     let count = c.self.inside.count in
     let blank = c.self.inside.blank in
     let inside : c.args.number < count = omega (arith, length-in_pieces front later blank count, ap (λ of. length of.items) c.self.view_is) in
-    in_pieces-set front c.set_front.new.front.items later later blank count c.args.number c.args.s inside (set_early front c.set_front.new.front.items later blank c.args.number c.args.s c.if-number-lt-PIECE.true c.set_front.ensures.items)
+    by_number-set (item_at front later blank) (item_at c.set_front.new.front.items later blank) blank count c.args.number c.args.s inside (set_early front c.set_front.new.front.items later blank c.args.number c.args.s c.if-number-lt-PIECE.true c.set_front.ensures.items)
     ∙ ap (λ of. slice_set of.items c.args.number c.args.s) c.self.view_is
 
 pub returns-else-number-lt-PIECE-clause-items : goal.returns-else-number-lt-PIECE-clause-items
@@ -51,5 +53,5 @@ returns-else-number-lt-PIECE-clause-items g c =
     let inside : c.args.number < count = omega (arith, length-in_pieces front later blank count, ap (λ of. length of.items) c.self.view_is) in
     let there : place < length later = piece_there count (vec_capacity c.self.inside.front) (length later) c.args.number c.self.invariant.0 inside c.if-number-lt-PIECE.false in
     rw (← c.self.view_is) (
-    in_pieces-set front front later (slice_set later place c.set.new.self) blank count c.args.number c.args.s inside
+    by_number-set (item_at front later blank) (item_at front (slice_set later place c.set.new.self) blank) blank count c.args.number c.args.s inside
     (set_late front c.index_mut.result.now c.set.new.self later blank c.args.number c.args.s c.if-number-lt-PIECE.false there c.index_mut.ensures.value c.set.ensures))

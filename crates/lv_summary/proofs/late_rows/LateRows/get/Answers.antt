@@ -1,8 +1,8 @@
--- Proof of `LateRows::at`: the item at a number.
+-- Proof of `LateRows::get`: the item at a number.
 use Rattle.std.proofs.Common.{◌<◌, ◌∙◌, Some, ap, arith, length, sym}
 use Rattle.lv_summary.specs.Inner.{item_at}
 use Rattle.lv_summary.proofs.LateLaws.{length-in_pieces, read_pieces}
-use Rattle.lv_summary.proofs.late_rows.LateRows.at.Goals as goal
+use Rattle.lv_summary.proofs.late_rows.LateRows.get.Goals as goal
 
 pub returns : goal.returns
 returns g c =
