@@ -1,5 +1,5 @@
 -- Leaves that follow a journal go on doing so after every edit: nothing has to be done then.
-use Rattle.std.proofs.Common.{◌≡◌, ◌≢◌, ℕ, ℤ, ◌+◌, ◌-◌, ◌*◌, ◌/◌, ◌<◌, ◌≤◌, Option, Some, None, unwrap_or, List, [], ◌∷◌, ◌++◌, length, take, slice_get, slice_index_or, slice_set, refl, sym, ap, ◌∙◌, subst, arith, inl, inr, length-append}
+use Rattle.std.proofs.Common.{◌≡◌, ℕ, ℤ, ◌+◌, ◌-◌, ◌*◌, ◌<◌, ◌≤◌, Option, Some, None, unwrap_or, List, [], ◌∷◌, ◌++◌, length, take, slice_get, refl, sym, ap, ◌∙◌, subst, arith, inl, inr, length-append}
 use Rattle.std.proofs.lemmas.Bool.{cases_lt}
 use Rattle.std.proofs.lemmas.List.{append-nil, append_assoc, get_or_append_left, length-take, length_push, take-append-le, take_all}
 use Rattle.std.proofs.lemmas.List.Elements.{All-nil}
@@ -9,16 +9,10 @@ use Rattle.lv_edits.specs.declared.edit.Edit.{Edit}
 use Rattle.lv_edits.specs.declared.edit.Edit.TheVariants.{Push, Pop, Write, Reserve, Swap, Truncate}
 use Rattle.lv_edits.specs.History.{applied, list_of, replayed}
 use Rattle.lv_edits.proofs.HistoryLaws.{legal_before, list_of_replayed, replayed-nil, swapped}
-use Rattle.lv_edits.proofs.Slices.{part_of_push, part_of_set, part_of_take}
-use Rattle.lv_tree.specs.Follows.{Following, Follows, FollowsAll, IsBlock, IsLate, Spares, Stands, block_of}
-
--- a write at an index outside of a block
-block_of_set : (b i : ℕ) (x : ℤ) (xs : List ℤ) → i / 8 ≢ b → block_of b (slice_set xs i x) ≡ block_of b xs
-block_of_set b i x xs other =
-    elim (cases_lt i (b * 8)) [
-      | inl before ↦ part_of_set xs i x (b * 8) 8 (inl before)
-      | inr behind ↦ part_of_set xs i x (b * 8) 8 (inr (omega (arith, behind, other)))
-    ]
+use Rattle.lv_edits.proofs.Slices.{part_of_push, part_of_take}
+use Rattle.lv_tree.specs.BlockLaws.{block_of_set, get_or_last}
+use Rattle.lv_tree.specs.Blocks.{block_of}
+use Rattle.lv_tree.specs.Follows.{Following, Follows, FollowsAll, IsBlock, IsLate, Spares, Stands}
 
 -- a block that is whole before an edit which overwrites nothing of it, and after it, has the same elements
 pub block_spared : (xs ys : List ℤ) (e : Edit) (b : ℕ) → applied xs e ≡ Some ys → Spares b e → 8 * b + 8 ≤ length xs → 8 * b + 8 ≤ length ys → block_of b ys ≡ block_of b xs
@@ -36,11 +30,6 @@ block_spared xs ys (Swap i j) b made spared was is =
 block_spared xs ys (Truncate n) b made spared was is =
     let same : take n xs ≡ ys = (cond_some _ _ _ made).1 in
     ap (block_of b) (sym same) ∙ part_of_take xs n (b * 8) 8 (omega (arith, is, ap length same, length-take n xs))
-
--- the last one
-pub get_or_last : {T : Type 0} (l : List T) (x d : T) → slice_index_or (l ++ x ∷ []) (length l) d ≡ x
-get_or_last [] x d = refl
-get_or_last (y ∷ l) x d = get_or_last l x d
 
 -- an edit of a journal stays where it is
 get_before : (es more : List Edit) (k : ℕ) (e : Edit) → slice_get es k ≡ Some e → slice_get (es ++ more) k ≡ Some e

@@ -8,8 +8,9 @@ use Rattle.lv_bodies.specs.Body.{Operations, fold_of}
 use Rattle.lv_edits.specs.declared.edit.Edit.{Edit}
 use Rattle.lv_edits.specs.History.{list_of}
 use Rattle.lv_tree.specs.Folds.{AreFolds, AreFoldsOf, end_to_end}
-use Rattle.lv_tree.specs.Follows.{Follows, FollowsAll, FollowsBy, IsBlock, block_of, leaf_of}
-use Rattle.lv_tree.proofs.FollowLaws.{get_or_last}
+use Rattle.lv_tree.specs.Blocks.{block_of}
+use Rattle.lv_tree.specs.Follows.{Follows, FollowsAll, FollowsBy, IsBlock, leaf_of}
+use Rattle.lv_tree.specs.BlockLaws.{get_or_last}
 
 -- blocks end to end
 sized : (lists : List (List ℤ)) → All IsBlock lists → length (end_to_end lists) ≡ 8 * length lists

@@ -16,13 +16,9 @@ pub mod LastLaws
 pub mod LeafLaws
 mod MadeLaws
 pub mod Nodes
-pub mod PlaceLaws
 pub mod RangeLaws
-pub mod RunEndLaws
 pub mod Runs
 pub mod Seen
-pub mod SliceLaws
-pub mod SoughtLaws
 pub mod StepLaws
 pub mod Stops
 pub mod SumLaws

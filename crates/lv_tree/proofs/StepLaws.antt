@@ -11,7 +11,8 @@ use Rattle.lv_edits.specs.declared.edit.Edit.TheVariants.{Push, Pop, Write, Rese
 use Rattle.lv_edits.specs.History.{applied, list_of, replayed}
 use Rattle.lv_edits.proofs.HistoryLaws.{by_last_edit, legal_before, legal_beginnings, list_of_replayed, list_of-snoc, replayed-nil}
 use Rattle.lv_tree.specs.Folds.{AreFolds}
-use Rattle.lv_tree.specs.Follows.{Follows, FollowsBy, Spares, block_of, leaf_of}
+use Rattle.lv_tree.specs.Blocks.{block_of}
+use Rattle.lv_tree.specs.Follows.{Follows, FollowsBy, Spares, leaf_of}
 use Rattle.lv_tree.proofs.LeafLaws.{cut_by, follows_folds, renewed, renewed_there}
 
 -- an edit adds at most one element

@@ -10,14 +10,15 @@ use Rattle.lv_bodies.specs.Body.{Operations, fold_of}
 use Rattle.lv_bodies.specs.ExtremeLaws.{downward, upward}
 use Rattle.lv_bodies.specs.Extremes.{greatest_operations, highest_operations, least_operations, lowest_operations}
 use Rattle.lv_bodies.specs.RunTotals.{best_operations, runs_operations}
+use Rattle.lv_bodies.specs.Sums.{sum_operations}
 use Rattle.lv_bodies.specs.Tables.{automaton_operations}
 use Rattle.lv_bodies.specs.declared.affine.AffineMap.{AffineMap}
 use Rattle.lv_bodies.specs.declared.best.RunTotals.{RunTotals}
 use Rattle.lv_bodies.specs.declared.kinds.Kind.TheVariants as kind
 use Rattle.lv_edits.proofs.Slices.{length-slice_range}
 use Rattle.lv_tree.specs.KindSummaries.{summary_by}
-use Rattle.lv_tree.specs.OfSixLaws.{affine-part, automaton-part, best-part, greatest-part, least-part}
-use Rattle.lv_tree.specs.declared.kind_summaries.KindSummary.TheVariants.{Least, Greatest, Best, Affine, Automaton}
+use Rattle.lv_tree.specs.OfSixLaws.{affine-part, automaton-part, best-part, greatest-part, least-part, sum-part}
+use Rattle.lv_tree.specs.declared.kind_summaries.KindSummary.TheVariants.{Sum, Least, Greatest, Best, Affine, Automaton}
 
 -- a bare fold where there are elements, and none where there are none, is the fold that may be missing
 inside_if : {T : Type 0} (bare : Operations T) (may : Operations (Option T)) (xs : List ℤ) → may.identity ≡ None → (0 < length xs → Some (fold_of bare xs) ≡ fold_of may xs)
@@ -34,6 +35,9 @@ told_if bare may xs some s none inside is fold =
     ap (λ any. then_some any s) is ∙ ap (then_some (nat_lt 0 (length xs))) fold ∙ inside_if bare may xs none inside
 
 module _ (table : List (List ℕ)) (xs : List ℤ) where
+  pub sum_told : (s : ℕ) → s ≡ fold_of sum_operations xs → Sum s ≡ summary_by table kind.Sum xs
+  sum_told s fold = ap Sum (fold ∙ sym (sum-part table xs))
+
   pub least_told : (some : Bool) (s : ℤ) → All IsElement xs → some ≡ nat_lt 0 (length xs) → s ≡ fold_of lowest_operations xs → Least (then_some some s) ≡ summary_by table kind.Least xs
   least_told some s elements is fold =
       ap Least (told_if lowest_operations least_operations xs some s refl (λ any. bare-is-extreme int_min _ upward xs any elements) is fold ∙ sym (least-part table xs))

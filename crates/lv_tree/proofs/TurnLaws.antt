@@ -4,18 +4,17 @@ use Rattle.std.proofs.lemmas.Bool.{cases_lt}
 use Rattle.std.proofs.lemmas.List.{length-take}
 use Rattle.std.proofs.lemmas.List.Elements.{All-get_or}
 use Rattle.lv_geometry.specs.Elements.{IsElement}
-use Rattle.lv_bodies.specs.Body.{CanGrow, Operations, fold_of}
-use Rattle.lv_bodies.specs.Long.{CanFoldLong, CanJoinLong, LongLaws}
+use Rattle.lv_bodies.specs.Body.{Operations, fold_of}
+use Rattle.lv_bodies.specs.Long.{CanFoldLong, CanGrowLong, CanJoinLong, LongLaws}
 use Rattle.lv_bodies.specs.LongLaws.{fold_of-within_long}
-use Rattle.lv_edits.specs.declared.edit.Edit.{Edit}
-use Rattle.lv_edits.specs.History.{list_of}
+use Rattle.lv_tree.specs.SliceLaws.{range_cut}
 use Rattle.lv_tree.specs.Folds.{end_to_end}
-use Rattle.lv_tree.specs.Follows.{FollowsAll}
 use Rattle.lv_tree.specs.Parts.{AreBefore, AreInOrder, joined_on}
 use Rattle.lv_tree.specs.Turns.{HasNoEnd, IsEndAt, IsStartAt}
 use Rattle.lv_tree.specs.Walks.{HasWalkedDown, HasWalkedUp}
 use Rattle.lv_tree.proofs.InOrder.{in_order-joined}
-use Rattle.lv_tree.proofs.RangeLaws.{blocks_of, can_fold, folds_meet, lists_now, one_more, range_cut, range_of_blocks}
+use Rattle.lv_tree.specs.BlockLaws.{blocks_of, range_of_blocks}
+use Rattle.lv_tree.proofs.RangeLaws.{can_fold, can_grow, folds_meet, one_more}
 use Rattle.lv_tree.proofs.Runs.{run_of-map}
 
 -- a range from an index up to itself has nothing
@@ -97,19 +96,12 @@ module _ {S : Type 0} (o : Operations S) (test : S → Bool) (xs : List ℤ) whe
 -- what a walk has passed may be joined with elements further on
 module _ {S : Type 0} (o : Operations S) (within : S → ℕ → Type 0) (laws : LongLaws o within) (test : S → Bool) (xs : List ℤ) (all : All IsElement xs) (few : length xs ≤ 2 ^ 61) where
   -- the sum of a walk keeps the bound
-  up_within : (lo at : ℕ) (s : S) → HasWalkedUp o test xs lo at s → within s (length (slice_range xs lo at))
-  up_within lo at s w = subst (λ t. within t (length (slice_range xs lo at))) (sym w.sum_is) (fold_of-within_long o within laws (slice_range xs lo at) (can_fold xs all few lo at))
-
   down_within : (at hi : ℕ) (s : S) → HasWalkedDown o test xs at hi s → within s (length (slice_range xs at hi))
   down_within at hi s w = subst (λ t. within t (length (slice_range xs at hi))) (sym w.sum_is) (fold_of-within_long o within laws (slice_range xs at hi) (can_fold xs all few at hi))
 
   -- one element may be joined behind it, or before it
-  pub up_can_grow : (lo at : ℕ) (s : S) → length xs ≤ 1048568 → HasWalkedUp o test xs lo at s → CanGrow within s
-  up_can_grow lo at s small w = record {
-    count = length (slice_range xs lo at);
-    count_within = up_within lo at s w;
-    few = omega (arith, small, length-take (at - lo) (drop lo xs), length-drop lo xs);
-  }
+  pub up_can_grow : (lo at : ℕ) (s : S) → HasWalkedUp o test xs lo at s → CanGrowLong within s
+  up_can_grow lo at s w = can_grow o within laws xs all few lo at s w.sum_is
 
   pub down_can_grow : (at hi : ℕ) (s : S) (x : ℤ) → IsElement x → HasWalkedDown o test xs at hi s → CanJoinLong within (o.lift x) s
   down_can_grow at hi s x fits w = record {
@@ -127,19 +119,14 @@ module _ {S : Type 0} (o : Operations S) (within : S → ℕ → Type 0) (laws :
   pub down_more : (at hi : ℕ) (s t : S) (x : ℤ) → HasWalkedDown o test xs at hi s → 0 < at → at ≤ length xs → x ≡ slice_index_or xs (at - 1) x → t ≡ o.join (o.lift x) s → t ≡ fold_of o (slice_range xs (at - 1) hi)
   down_more at hi s t x w some inside x_is t_is = one_before o within laws xs all few at hi s t x some w.order inside w.sum_is x_is t_is
 
--- blocks that a walk passes
-module _ {S : Type 0} (o : Operations S) (within : S → ℕ → Type 0) (laws : LongLaws o within) (test : S → Bool) (es : List Edit) (all : All IsElement (list_of es)) (few : length (list_of es) ≤ 2 ^ 61) (sums : List S) (h : FollowsAll o es sums) where
-  abbrev xs : List ℤ
-  xs = list_of es
-
+-- blocks that a walk passes, by leaves that are the folds of the first blocks
+module _ {S : Type 0} (o : Operations S) (within : S → ℕ → Type 0) (laws : LongLaws o within) (test : S → Bool) (xs : List ℤ) (all : All IsElement xs) (few : length xs ≤ 2 ^ 61) (sums : List S) (leaves : sums ≡ map (fold_of o) (blocks_of (length sums) xs)) where
   -- the lists of some leaves
   abbrev lists_between : ℕ → ℕ → List (List ℤ)
   lists_between a b = slice_range (blocks_of (length sums) xs) a b
 
   sums_between : (a b : ℕ) → slice_range sums a b ≡ map (fold_of o) (lists_between a b)
-  sums_between a b =
-      ap (λ l. slice_range l a b) (h.by_lists.sums_are ∙ ap (map (fold_of o)) (lists_now o es h.lists sums (length xs) h.by_lists))
-      ∙ run_of-map (fold_of o) (blocks_of (length sums) xs) a (b - a)
+  sums_between a b = ap (λ l. slice_range l a b) leaves ∙ run_of-map (fold_of o) (blocks_of (length sums) xs) a (b - a)
 
   -- elements in front of them, and theirs
   elements_up : (lo a b : ℕ) → lo ≤ 8 * a → a ≤ b → b ≤ length sums → slice_range xs lo (8 * a) ++ end_to_end (lists_between a b) ≡ slice_range xs lo (8 * b)
@@ -170,6 +157,13 @@ module _ {S : Type 0} (o : Operations S) (within : S → ℕ → Type 0) (laws :
   leaves_alone : (a b : ℕ) → a ≤ b → b ≤ length sums → joined_on o o.identity (slice_range sums a b) ≡ fold_of o (slice_range xs (8 * a) (8 * b))
   leaves_alone a b order inside = leaves_up (8 * a) a b o.identity (omega arith) order inside (ap (fold_of o) (sym (no_range xs (8 * a))))
 
+  -- those before a sum
+  leaves_down : (a b hi : ℕ) (s : S) → 8 * b ≤ hi → a ≤ b → b ≤ length sums → s ≡ fold_of o (slice_range xs (8 * b) hi) → o.join (joined_on o o.identity (slice_range sums a b)) s ≡ fold_of o (slice_range xs (8 * a) hi)
+  leaves_down a b hi s high order inside is =
+      ap (λ t. o.join t s) (leaves_alone a b order inside)
+      ∙ ap (o.join (fold_of o (slice_range xs (8 * a) (8 * b)))) is
+      ∙ (folds_meet o within laws xs all few (8 * a) (8 * b) hi (omega (arith, order)) high).is
+
   -- what a walk has passed, and the leaves that come next
   pub up_in_order : (lo a b : ℕ) (s : S) → a ≤ b → b ≤ length sums → HasWalkedUp o test xs lo (8 * a) s → AreInOrder o s (slice_range sums a b)
   up_in_order lo a b s order inside w = in_order lo a b s w.order order inside w.sum_is
@@ -183,52 +177,31 @@ module _ {S : Type 0} (o : Operations S) (within : S → ℕ → Type 0) (laws :
     can = subst CanFoldLong (sym (elements_down a b hi w.order order inside)) (can_fold xs all few (8 * a) hi);
   }
 
-  -- the fold of blocks may be joined to a sum
-  up_meets : (lo a b : ℕ) (s m : S) → a ≤ b → HasWalkedUp o test xs lo (8 * a) s → m ≡ fold_of o (slice_range xs (8 * a) (8 * b)) → CanJoinLong within s m × (o.join s m ≡ fold_of o (slice_range xs lo (8 * b)))
-  up_meets lo a b s m order w m_is =
-      let both = folds_meet o within laws xs all few lo (8 * a) (8 * b) w.order (omega (arith, order)) in (
-        subst (λ t. CanJoinLong within t m) (sym w.sum_is) (subst (CanJoinLong within (fold_of o (slice_range xs lo (8 * a)))) (sym m_is) both.may),
-        ap (λ t. o.join t m) w.sum_is ∙ ap (o.join (fold_of o (slice_range xs lo (8 * a)))) m_is ∙ both.is,
-      )
-
-  down_meets : (a b hi : ℕ) (s m : S) → a ≤ b → HasWalkedDown o test xs (8 * b) hi s → m ≡ fold_of o (slice_range xs (8 * a) (8 * b)) → CanJoinLong within m s × (o.join m s ≡ fold_of o (slice_range xs (8 * a) hi))
-  down_meets a b hi s m order w m_is =
-      let both = folds_meet o within laws xs all few (8 * a) (8 * b) hi (omega (arith, order)) w.order in (
-        subst (λ t. CanJoinLong within t s) (sym m_is) (subst (CanJoinLong within (fold_of o (slice_range xs (8 * a) (8 * b)))) (sym w.sum_is) both.may),
-        ap (λ t. o.join t s) m_is ∙ ap (o.join (fold_of o (slice_range xs (8 * a) (8 * b)))) w.sum_is ∙ both.is,
-      )
-
-  pub up_may : (lo a b : ℕ) (s m : S) → a ≤ b → HasWalkedUp o test xs lo (8 * a) s → m ≡ fold_of o (slice_range xs (8 * a) (8 * b)) → CanJoinLong within s m
-  up_may lo a b s m order w m_is = (up_meets lo a b s m order w m_is).0
-
-  pub down_may : (a b hi : ℕ) (s m : S) → a ≤ b → HasWalkedDown o test xs (8 * b) hi s → m ≡ fold_of o (slice_range xs (8 * a) (8 * b)) → CanJoinLong within m s
-  down_may a b hi s m order w m_is = (down_meets a b hi s m order w m_is).0
-
   -- a walk that passes blocks with which the test does not become true has come behind them, or before them
-  pub up_past : (lo a b : ℕ) (s m t : S) → a ≤ b → b ≤ length sums → HasWalkedUp o test xs lo (8 * a) s → m ≡ fold_of o (slice_range xs (8 * a) (8 * b)) → t ≡ o.join s m → (a < b → test (joined_on o s (slice_range sums a b)) ≡ false) → HasWalkedUp o test xs lo (8 * b) t
-  up_past lo a b s m t order inside w m_is t_is fails =
-      let is : t ≡ fold_of o (slice_range xs lo (8 * b)) = t_is ∙ (up_meets lo a b s m order w m_is).1 in
+  pub up_past : (lo a b : ℕ) (s t : S) → a ≤ b → b ≤ length sums → HasWalkedUp o test xs lo (8 * a) s → t ≡ joined_on o s (slice_range sums a b) → (a < b → test t ≡ false) → HasWalkedUp o test xs lo (8 * b) t
+  up_past lo a b s t order inside w t_is fails =
+      let is : t ≡ fold_of o (slice_range xs lo (8 * b)) = t_is ∙ leaves_up lo a b s w.order order inside w.sum_is in
       record {
         order = omega (arith, w.order, order);
         sum_is = is;
         before = λ some.
             elim (cases_lt a b) [
-              | inl further ↦ ap test (is ∙ sym (leaves_up lo a b s w.order order inside w.sum_is)) ∙ fails further
+              | inl further ↦ fails further
               | inr here ↦
                   let same : b ≡ a = omega (arith, order, here) in
                   ap test (is ∙ ap (λ k. fold_of o (slice_range xs lo (8 * k))) same ∙ sym w.sum_is) ∙ w.before (omega (arith, some, same))
             ];
       }
 
-  pub down_past : (a b hi : ℕ) (s m t : S) → a ≤ b → b ≤ length sums → HasWalkedDown o test xs (8 * b) hi s → m ≡ fold_of o (slice_range xs (8 * a) (8 * b)) → t ≡ o.join m s → (a < b → test (o.join (joined_on o o.identity (slice_range sums a b)) s) ≡ false) → HasWalkedDown o test xs (8 * a) hi t
-  down_past a b hi s m t order inside w m_is t_is fails =
-      let is : t ≡ fold_of o (slice_range xs (8 * a) hi) = t_is ∙ (down_meets a b hi s m order w m_is).1 in
+  pub down_past : (a b hi : ℕ) (s t : S) → a ≤ b → b ≤ length sums → HasWalkedDown o test xs (8 * b) hi s → t ≡ o.join (joined_on o o.identity (slice_range sums a b)) s → (a < b → test t ≡ false) → HasWalkedDown o test xs (8 * a) hi t
+  down_past a b hi s t order inside w t_is fails =
+      let is : t ≡ fold_of o (slice_range xs (8 * a) hi) = t_is ∙ leaves_down a b hi s w.order order inside w.sum_is in
       record {
         order = omega (arith, w.order, order);
         sum_is = is;
         after = λ some.
             elim (cases_lt a b) [
-              | inl further ↦ ap test (t_is ∙ ap (λ u. o.join u s) (m_is ∙ sym (leaves_alone a b order inside))) ∙ fails further
+              | inl further ↦ fails further
               | inr here ↦
                   let same : a ≡ b = omega (arith, order, here) in
                   ap test (is ∙ ap (λ k. fold_of o (slice_range xs (8 * k) hi)) same ∙ sym w.sum_is) ∙ w.after (omega (arith, some, same))

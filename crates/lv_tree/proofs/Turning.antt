@@ -7,7 +7,7 @@ use Rattle.lv_bodies.specs.Body.{Operations}
 use Rattle.lv_bodies.specs.Long.{CanJoinLong, LongLaws}
 use Rattle.lv_tree.specs.Nodes.{IsTree}
 use Rattle.lv_tree.specs.Parts.{AreBefore, AreInOrder, joined_on, part_of, run_of}
-use Rattle.lv_tree.specs.Tests.{AreOnWay, CanJoinWay, IsNotYet, Seeking, TurnsAt, TurnsWith, begin_of, beyond, end_of, gone_of, joined_way, left_of, next_of, reached}
+use Rattle.lv_tree.specs.Tests.{AreOnWay, CanJoinWay, HasComeTo, IsNotYet, Seeking, TurnsAt, begin_of, beyond, gone_of, joined_way, left_of, next_of, reached}
 use Rattle.lv_tree.proofs.Before.{before_meets, before_none}
 use Rattle.lv_tree.proofs.Glue.{Meet}
 use Rattle.lv_tree.proofs.InOrder.{alone_joins, in_order-back, in_order-front}
@@ -158,7 +158,7 @@ module _ {S : Type 0} (o : Operations S) (within : S → ℕ → Type 0) (laws :
         }
 
     -- a node of one leaf
-    pub turns_with : (node width : ℕ) (sum : S) → TurnsAt down o test cells start from to node width sum → width ≤ 1 → TurnsWith down o test cells start from to node
+    pub turns_with : (node width : ℕ) (sum : S) → TurnsAt down o test cells start from to node width sum → width ≤ 1 → HasComeTo down o test cells start from to node sum
     turns_with node width sum t narrow =
         let some : 0 < 2 ^ t.level = pow_pos t.level in
         let one : width ≡ 1 = omega (arith, narrow, some, t.wide) in
@@ -166,9 +166,9 @@ module _ {S : Type 0} (o : Operations S) (within : S → ℕ → Type 0) (laws :
         record {
           low = omega (arith, t.low, place);
           high = omega (arith, t.high, place);
-          fits = subst (λ p. 1 ≤ left_of down from to p) place (subst (λ w. w ≤ left_of down from to (node * width)) one t.fits);
+          sum_is = t.sum_is ∙ ap (reached down o cells start from to) place;
           before = subst (IsNotYet down o test cells start from to) place t.before;
-          after = subst (λ p. test (reached down o cells start from to (beyond down p 1)) ≡ true) place (subst (λ w. test (reached down o cells start from to (beyond down (node * width) w)) ≡ true) one t.after);
+          after = λ left. subst (λ p. test (reached down o cells start from to (beyond down p 1)) ≡ true) place (subst (λ w. test (reached down o cells start from to (beyond down (node * width) w)) ≡ true) one t.after);
         }
 
     -- a search begins
@@ -272,8 +272,16 @@ half_past down from to node width wide past even = subst (λ p. left_of down fro
   less true p = omega (arith, p, even, wide)
 
 -- where nothing is left, the way ends
-pub seek_ends : (down : Bool) {S : Type 0} (o : Operations S) (test : S → Bool) (cells : List S) (start : S) (from to node width : ℕ) (sum : S) → Seeking down o test cells start from to node width sum → left_of down from to (node * width) < width → width ≤ 1 → IsNotYet down o test cells start from to (end_of down from to)
-seek_ends down o test cells start from to node width sum k past narrow = subst (IsNotYet down o test cells start from to) (place down k.low k.high past) k.before where
-  place : (d : Bool) → from ≤ node * width → node * width ≤ to → left_of d from to (node * width) < width → node * width ≡ end_of d from to
-  place false low high less = omega (arith, low, high, less, narrow)
-  place true low high less = omega (arith, low, high, less, narrow)
+pub seek_ends : (down : Bool) {S : Type 0} (o : Operations S) (test : S → Bool) (cells : List S) (start : S) (from to node width : ℕ) (sum : S) → Seeking down o test cells start from to node width sum → left_of down from to (node * width) < width → width ≤ 1 → HasComeTo down o test cells start from to node sum
+seek_ends down o test cells start from to node width sum k past narrow =
+    let some : 0 < 2 ^ k.level = pow_pos k.level in
+    let one : width ≡ 1 = omega (arith, narrow, some, k.wide) in
+    let place : node * width ≡ node = ap (λ n. node * n) one ∙ omega arith in
+    let none : left_of down from to node < 1 = subst (λ p. left_of down from to p < 1) place (omega (arith, past, one)) in
+    record {
+      low = omega (arith, k.low, place);
+      high = omega (arith, k.high, place);
+      sum_is = k.sum_is ∙ ap (reached down o cells start from to) place;
+      before = subst (IsNotYet down o test cells start from to) place k.before;
+      after = λ left. absurd (omega (arith, left, none));
+    }

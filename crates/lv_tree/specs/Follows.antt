@@ -1,11 +1,12 @@
 -- How a tree over the blocks of a vector follows the vector's journal.
-use Rattle.std.specs.Prelude.{◌≡◌, ◌≢◌, ℕ, ℤ, ◌+◌, ◌*◌, ◌/◌, ◌<◌, ◌≤◌, List, [], length, map, take, drop, All, Some, slice_get}
+use Rattle.std.specs.Prelude.{◌≡◌, ◌≢◌, ℕ, ℤ, ◌+◌, ◌*◌, ◌/◌, ◌<◌, ◌≤◌, List, [], length, map, take, All, Some, slice_get}
 use Rattle.std.specs.List.{slice_index_or}
 use Rattle.lv_geometry.specs.Elements.{IsElement}
 use Rattle.lv_bodies.specs.Body.{Operations, fold_of}
 use Rattle.lv_edits.specs.declared.edit.Edit.{Edit}
 use Rattle.lv_edits.specs.declared.edit.Edit.TheVariants.{Push, Pop, Write, Reserve, Swap, Truncate}
 use Rattle.lv_edits.specs.History.{list_of}
+use Rattle.lv_tree.specs.Blocks.{block_of}
 
 -- a tree with its body, its leaves and its room; how many edits it has followed; and how many elements there were then
 pub record Following (B S : Type 0) : Type 0 where
@@ -15,11 +16,7 @@ pub record Following (B S : Type 0) : Type 0 where
   pub seen : ℕ
   pub size : ℕ
 
--- the eight elements of a block, where it is whole
-abbrev pub block_of : ℕ → List ℤ → List ℤ
-block_of b xs = take 8 (drop (b * 8) xs)
-
--- its fold
+-- the fold of the eight elements of a block
 abbrev pub leaf_of : {S : Type 0} → Operations S → List Edit → ℕ → S
 leaf_of o es b = fold_of o (block_of b (list_of es))
 

@@ -1,5 +1,7 @@
 -- Names the files of definitions of `lv_tree`.
 pub mod Asked
+pub mod BlockLaws
+pub mod Blocks
 pub mod Folds
 pub mod Follows
 pub mod Inner
@@ -9,9 +11,13 @@ pub mod LastSum
 pub mod Nodes
 pub mod OfSixLaws
 pub mod Parts
+pub mod PlaceLaws
 pub mod Rows
+pub mod RunEndLaws
 pub mod Searches
+pub mod SliceLaws
 pub mod Sought
+pub mod SoughtLaws
 pub mod Tests
 pub mod Turns
 pub mod Walks

@@ -67,13 +67,14 @@ pub record TurnsAt {S : Type 0} (down : Bool) (o : Operations S) (test : S → B
   pub before : IsNotYet down o test cells start from to (node * width)
   pub after : test (reached down o cells start from to (beyond down (node * width) width)) ≡ true
 
--- the test becomes true with the cell that comes next at a place
-pub record TurnsWith {S : Type 0} (down : Bool) (o : Operations S) (test : S → Bool) (cells : List S) (start : S) (from to at : ℕ) : Type 0 where
+-- a search has come to a place with what is reached there: the test does not become true up to it, and does with the cell that comes next
+-- where one is left
+pub record HasComeTo {S : Type 0} (down : Bool) (o : Operations S) (test : S → Bool) (cells : List S) (start : S) (from to at : ℕ) (sum : S) : Type 0 where
   pub low : from ≤ at
   pub high : at ≤ to
-  pub fits : 1 ≤ left_of down from to at
+  pub sum_is : sum ≡ reached down o cells start from to at
   pub before : IsNotYet down o test cells start from to at
-  pub after : test (reached down o cells start from to (beyond down at 1)) ≡ true
+  pub after : 0 < left_of down from to at → test (reached down o cells start from to (beyond down at 1)) ≡ true
 
 -- a search has come to a place, up to which the test does not become true
 pub record Seeking {S : Type 0} (down : Bool) (o : Operations S) (test : S → Bool) (cells : List S) (start : S) (from to node width : ℕ) (sum : S) : Type 0 where

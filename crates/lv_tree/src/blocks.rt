@@ -1,20 +1,31 @@
 //! The leaves of blocks: how they are folded anew, follow a journal, and are taken in.
 ghost use Rattle.std.specs.Prelude.{◌≡◌, ◌+◌, ◌*◌, ◌/◌, ◌<◌, ◌≤◌, true, length, take, slice_set};
-ghost use Rattle.std.specs.Int.{div_ceil};
-ghost use Rattle.std.specs.List.{slice_range};
-ghost use Rattle.lv_bodies.specs.Body.{fold_of};
 ghost use Rattle.lv_edits.specs.History.{list_of};
 ghost use Rattle.lv_edits.specs.Kept.{IsLegalInLimits};
 ghost use Rattle.lv_tree.specs.Folds.{AreFolds};
 ghost use Rattle.lv_tree.specs.Follows.{Follows, FollowsAll, leaf_of};
 
-use crate::cells::{fold_block, join_ends};
 use crate::tree::Tree;
-use lv_bodies::Body;
+use lv_bodies::LongBody;
 use lv_edits::{Edit, Edits};
 
 /// How many writes are followed at least, before it may be cheaper to take all blocks in anew.
 const WRITES: usize = 64;
+
+// The fold of a block, whose eight elements are there.
+#[inline(always)]
+fn fold_block<B: LongBody>(body: &B, cells: &Edits, block: u32) -> B::S
+    requires limits { IsLegalInLimits cells.now }
+    requires whole { 8 * block + 8 ≤ length (list_of cells.now.journal) }
+    ensures { result ≡ leaf_of (B.operations body.now) cells.now.journal block }
+{
+    let run = cells.stretch(8 * block, 8 * block + 8);
+    if run.len() == 8 {
+        return body.fold_eight(run);
+    }
+    let copied = cells.block(block);
+    body.fold_eight(&copied)
+}
 
 // Folds the leaf of a block anew, where it has one.
 #[inline(always)]
@@ -178,32 +189,4 @@ pub fn reach<T: Tree>(tree: &mut T, cells: &Edits, blocks: u32)
         return;
     }
     take_in(tree, cells, blocks);
-}
-
-/// The fold of the elements of the blocks from `from` up to `to`, all of which have leaves.
-#[inline(always)]
-pub fn fold_blocks<T: Tree>(tree: &T, cells: &Edits, from: u32, to: u32) -> <T::B as Body>::S
-    requires limits { IsLegalInLimits cells.now }
-    requires order { from ≤ to }
-    requires blocks { to ≤ length (T.sums tree.now) }
-    requires late { FollowsAll (T.B.operations (T.by tree.now)) cells.now.journal (T.sums tree.now) }
-    ensures { result ≡ fold_of (T.B.operations (T.by tree.now)) (slice_range (list_of cells.now.journal) (8 * from) (8 * to)) }
-{
-    tree.fold(from as usize, to as usize)
-}
-
-/// The fold of a range of at least eight elements, over all of whose blocks there are leaves.
-#[inline(always)]
-pub fn fold_range<T: Tree>(tree: &T, cells: &Edits, lo: u32, hi: u32) -> <T::B as Body>::S
-    requires limits { IsLegalInLimits cells.now }
-    requires apart { lo + 8 ≤ hi }
-    requires inside { hi ≤ length (list_of cells.now.journal) }
-    requires late { FollowsAll (T.B.operations (T.by tree.now)) cells.now.journal (T.sums tree.now) }
-    requires blocks { hi / 8 ≤ length (T.sums tree.now) }
-    ensures { result ≡ fold_of (T.B.operations (T.by tree.now)) (slice_range (list_of cells.now.journal) lo hi) }
-{
-    let start = lo.div_ceil(8);
-    let middle = fold_blocks(tree, cells, start, hi / 8);
-    let body = tree.body();
-    join_ends(&body, cells, lo, hi, middle)
 }

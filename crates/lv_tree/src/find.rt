@@ -1,8 +1,8 @@
 //! Where a test on joins becomes true, on the way up from the first of some leaves, or down from the last.
-ghost use Rattle.std.specs.Prelude.{◌≡◌, ◌-◌, ◌+◌, ◌*◌, ◌^◌, ◌<◌, ◌≤◌, Bool, true, length, slice_index_or, MatchOption, MatchResult};
+ghost use Rattle.std.specs.Prelude.{◌≡◌, ◌-◌, ◌+◌, ◌*◌, ◌^◌, ◌<◌, ◌≤◌, Bool, true, length, slice_index_or, MatchResult};
 ghost use Rattle.lv_tree.specs.Nodes.{IsTree};
 ghost use Rattle.lv_tree.specs.Parts.{run_of};
-ghost use Rattle.lv_tree.specs.Tests.{AreOnWay, CanJoinWay, IsNotYet, SeeksShort, TurnsAt, TurnsWith, begin_of, beyond, end_of, joined_way, left_of, next_of};
+ghost use Rattle.lv_tree.specs.Tests.{AreOnWay, CanJoinWay, HasComeTo, SeeksShort, TurnsAt, begin_of, beyond, joined_way, left_of, next_of};
 
 use crate::joins::{Joins, join_laws};
 
@@ -13,6 +13,13 @@ pub trait Test<S> {
     /// Whether a summary passes.
     fn test(&self, summary: S) -> bool
         ensures { result ≡ passes self.now summary };
+}
+
+/// A place that a search has come to, and what is joined up to there.
+#[derive(Clone, Copy)]
+pub struct Reached<S> {
+    pub at: usize,
+    pub sum: S,
 }
 
 // A place at which the next node makes a test true, and what is joined up to there.
@@ -76,14 +83,14 @@ fn descend<S: Copy, B: Joins<S>, T: Test<S>>(
     to: usize,
     down: bool,
     turn: Turn<S>,
-) -> usize
+) -> Reached<S>
     requires tree { IsTree (B.operations body.now) from to cells.now }
     requires folds { AreOnWay down (B.operations body.now) start (run_of cells.now from (to - from)) }
     requires inside { to ≤ length cells.now }
     requires octave { to ≤ 2 * from }
     requires few { length cells.now ≤ 2 ^ 62 }
     requires turns { TurnsAt down (B.operations body.now) (T.passes test.now) cells.now start from to turn.node turn.width turn.sum }
-    ensures { TurnsWith down (B.operations body.now) (T.passes test.now) cells.now start from to result }
+    ensures { HasComeTo down (B.operations body.now) (T.passes test.now) cells.now start from to result.at result.sum }
 {
     join_laws(body);
     let mut node = turn.node;
@@ -98,7 +105,7 @@ fn descend<S: Copy, B: Joins<S>, T: Test<S>>(
             node = one_on(node, down);
         }
     }
-    node
+    Reached { at: node, sum }
 }
 
 // On the way, by ever wider nodes: the first place at which the next one makes the test true, or one at which none as wide is left.
@@ -141,7 +148,7 @@ fn seek_wider<S: Copy, B: Joins<S>, T: Test<S>>(
     Err(Turn { sum, node, width })
 }
 
-// From there on by ever narrower nodes.
+// From there on by ever narrower nodes: the first place at which the next one makes the test true, or the end of the way.
 fn seek_narrower<S: Copy, B: Joins<S>, T: Test<S>>(
     body: &B,
     cells: &[S],
@@ -151,13 +158,15 @@ fn seek_narrower<S: Copy, B: Joins<S>, T: Test<S>>(
     to: usize,
     down: bool,
     place: Turn<S>,
-) -> Option<Turn<S>>
+) -> Result<Turn<S>, Reached<S>>
     requires tree { IsTree (B.operations body.now) from to cells.now }
     requires folds { AreOnWay down (B.operations body.now) start (run_of cells.now from (to - from)) }
     requires inside { to ≤ length cells.now }
     requires few { length cells.now ≤ 2 ^ 62 }
     requires short { SeeksShort down (B.operations body.now) (T.passes test.now) cells.now start from to place.node place.width place.sum }
-    ensures { MatchOption result (IsNotYet down (B.operations body.now) (T.passes test.now) cells.now start from to (end_of down from to)) (λ turn. TurnsAt down (B.operations body.now) (T.passes test.now) cells.now start from to turn.node turn.width turn.sum) }
+    ensures { MatchResult result
+        (λ turn. TurnsAt down (B.operations body.now) (T.passes test.now) cells.now start from to turn.node turn.width turn.sum)
+        (λ end. HasComeTo down (B.operations body.now) (T.passes test.now) cells.now start from to end.at end.sum) }
 {
     join_laws(body);
     let mut node = place.node;
@@ -171,15 +180,15 @@ fn seek_narrower<S: Copy, B: Joins<S>, T: Test<S>>(
         }
         let next = joined_with(body, sum, cells, node, down);
         if test.test(next) {
-            return Some(Turn { sum, node, width });
+            return Ok(Turn { sum, node, width });
         }
         sum = next;
         node = one_on(node, down);
     }
-    None
+    Err(Reached { at: node, sum })
 }
 
-// The first place at which the largest node that comes next and lies between two places makes the test true.
+// The first place at which the largest node that comes next and lies between two places makes the test true, or the end of the way.
 fn seek<S: Copy, B: Joins<S>, T: Test<S>>(
     body: &B,
     cells: &[S],
@@ -188,21 +197,23 @@ fn seek<S: Copy, B: Joins<S>, T: Test<S>>(
     from: usize,
     to: usize,
     down: bool,
-) -> Option<Turn<S>>
+) -> Result<Turn<S>, Reached<S>>
     requires tree { IsTree (B.operations body.now) from to cells.now }
     requires folds { AreOnWay down (B.operations body.now) start (run_of cells.now from (to - from)) }
     requires order { from ≤ to }
     requires inside { to ≤ length cells.now }
     requires few { length cells.now ≤ 2 ^ 62 }
-    ensures { MatchOption result (IsNotYet down (B.operations body.now) (T.passes test.now) cells.now start from to (end_of down from to)) (λ turn. TurnsAt down (B.operations body.now) (T.passes test.now) cells.now start from to turn.node turn.width turn.sum) }
+    ensures { MatchResult result
+        (λ turn. TurnsAt down (B.operations body.now) (T.passes test.now) cells.now start from to turn.node turn.width turn.sum)
+        (λ end. HasComeTo down (B.operations body.now) (T.passes test.now) cells.now start from to end.at end.sum) }
 {
     match seek_wider(body, cells, test, start, from, to, down) {
-        Ok(turn) => Some(turn),
+        Ok(turn) => Ok(turn),
         Err(place) => seek_narrower(body, cells, test, start, from, to, down, place),
     }
 }
 
-/// The first place on the way between two at which the next leaf makes a test true.
+/// The first place on the way between two at which the next leaf makes a test true, or the end of the way, with what is joined up to there.
 pub fn find_turn<S: Copy, B: Joins<S>, T: Test<S>>(
     body: &B,
     cells: &[S],
@@ -211,17 +222,17 @@ pub fn find_turn<S: Copy, B: Joins<S>, T: Test<S>>(
     from: usize,
     to: usize,
     down: bool,
-) -> Option<usize>
+) -> Reached<S>
     requires tree { IsTree (B.operations body.now) from to cells.now }
     requires folds { AreOnWay down (B.operations body.now) start (run_of cells.now from (to - from)) }
     requires order { from ≤ to }
     requires inside { to ≤ length cells.now }
     requires octave { to ≤ 2 * from }
     requires few { length cells.now ≤ 2 ^ 62 }
-    ensures { MatchOption result (IsNotYet down (B.operations body.now) (T.passes test.now) cells.now start from to (end_of down from to)) (λ at. TurnsWith down (B.operations body.now) (T.passes test.now) cells.now start from to at) }
+    ensures { HasComeTo down (B.operations body.now) (T.passes test.now) cells.now start from to result.at result.sum }
 {
     match seek(body, cells, test, start, from, to, down) {
-        None => None,
-        Some(turn) => Some(descend(body, cells, test, start, from, to, down, turn)),
+        Err(end) => end,
+        Ok(turn) => descend(body, cells, test, start, from, to, down, turn),
     }
 }

@@ -4,12 +4,14 @@ ghost use Rattle.std.specs.List.{slice_range};
 ghost use Rattle.lv_bodies.specs.Body.{fold_of};
 ghost use Rattle.lv_edits.specs.declared.edit.Edit.{Edit as AnEdit};
 ghost use Rattle.lv_edits.specs.History.{list_of};
-ghost use Rattle.lv_tree.specs.Follows.{FollowsAll, HasRoomFor, IsLate, IsUpTo, KeepsLeaves, KeepsRoom};
+ghost use Rattle.lv_tree.specs.Blocks.{AreLeaves};
+ghost use Rattle.lv_tree.specs.Follows.{HasRoomFor, IsLate, IsUpTo, KeepsLeaves, KeepsRoom};
 ghost use Rattle.lv_tree.specs.Turns.{HasNoEnd, IsEndAt, IsStartAt};
 
-use crate::blocks::{bring_up, fold_range, reach};
-use crate::cells::fold_cells;
+use crate::blocks::{bring_up, reach};
+use crate::element_folds::fold_elements;
 use crate::find::Test;
+use crate::ranges::{FEW, fold_by_blocks};
 use crate::tree::Tree;
 use crate::trees::FoldTree;
 use crate::turns::{end_by_blocks, end_in_turn, start_by_blocks, start_in_turn};
@@ -18,9 +20,6 @@ use lv_edits::Edits;
 use lv_geometry::Refusal;
 use std::alloc::Global;
 use std::marker::Model;
-
-/// A range of at most so many elements is folded where it lies.
-const FEW: u32 = 64;
 
 /// A tree over the blocks of a vector, how many of its edits it has followed, and how many elements there were then.
 #[derive(Drop)]
@@ -96,12 +95,12 @@ impl<T: Tree> Late<T> {
     {
         // By this the history is known to be legal and within its limits.
         let _edit = cells.edit();
-        if hi - lo <= FEW {
+        if (hi - lo) as usize <= FEW {
             let body = self.tree.body();
-            return fold_cells(&body, cells, lo, hi);
+            return fold_elements(&body, cells, lo as usize, hi as usize);
         }
         self.follow_to(cells, hi);
-        fold_range(&self.tree, cells, lo, hi)
+        fold_by_blocks(&self.tree, cells, lo as usize, hi as usize)
     }
 
     // Follows what was edited since, and takes in the whole blocks before an index.
@@ -111,7 +110,7 @@ impl<T: Tree> Late<T> {
         requires room { HasRoomFor self.old (length (list_of cells.now.journal)) }
         requires late { IsLate (T.B.operations self.old.body) cells.now.journal self.old }
         ensures late { IsLate (T.B.operations self.old.body) cells.now.journal self.new }
-        ensures all { FollowsAll (T.B.operations self.old.body) cells.now.journal self.new.sums }
+        ensures leaves { AreLeaves (T.B.operations self.old.body) (list_of cells.now.journal) self.new.sums }
         ensures kept { KeepsRoom self.old self.new }
         ensures up_to { IsUpTo cells.now.journal hi self.new }
     {
@@ -126,7 +125,7 @@ impl<T: Tree> Late<T> {
 impl<B: LongBody> Late<FoldTree<B>> {
     /// The least end of the range from index `lo` up to `hi` at which a test on the fold of the elements from `lo` on becomes true, if it
     /// does. A smaller end passes only where the test is not monotone; one may then pass though none is found. A range of at most 64 is
-    /// walked an element at a time. Before any other the tree follows what was edited since, as in `ask`; the search then takes about four
+    /// walked an element at a time. Before any other the tree follows what was edited since, as in `ask`; the search then takes about two
     /// joins for each doubling of the range, and reads at most 16 elements. Takes no memory: there is room for all whole blocks.
     pub fn find_end<T: Test<B::S>>(
         &mut self,
@@ -147,12 +146,18 @@ impl<B: LongBody> Late<FoldTree<B>> {
     {
         // As in `ask`.
         let _edit = cells.edit();
-        if hi - lo <= FEW {
+        if (hi - lo) as usize <= FEW {
             let body = self.tree.body();
-            return end_in_turn(&body, cells, test, lo, hi);
+            return match end_in_turn(&body, cells, test, lo as usize, hi as usize) {
+                Some(end) => Some(end as u32),
+                None => None,
+            };
         }
         self.follow_to(cells, hi);
-        end_by_blocks(&self.tree, cells, test, lo, hi)
+        match end_by_blocks(&self.tree, cells, test, lo as usize, hi as usize) {
+            Some(end) => Some(end as u32),
+            None => None,
+        }
     }
 
     /// The same from the other end: the greatest start of the range at which a test on the fold of the elements up to `hi` becomes true.
@@ -175,11 +180,17 @@ impl<B: LongBody> Late<FoldTree<B>> {
     {
         // As in `ask`.
         let _edit = cells.edit();
-        if hi - lo <= FEW {
+        if (hi - lo) as usize <= FEW {
             let body = self.tree.body();
-            return start_in_turn(&body, cells, test, lo, hi);
+            return match start_in_turn(&body, cells, test, lo as usize, hi as usize) {
+                Some(start) => Some(start as u32),
+                None => None,
+            };
         }
         self.follow_to(cells, hi);
-        start_by_blocks(&self.tree, cells, test, lo, hi)
+        match start_by_blocks(&self.tree, cells, test, lo as usize, hi as usize) {
+            Some(start) => Some(start as u32),
+            None => None,
+        }
     }
 }

@@ -5,6 +5,10 @@
 //! and replaced; a `FoldTree` also drops them at the front, where the others keep their numbers, and finds the leaf with which a
 //! test on joins becomes true. How nodes lie is the crate's own affair.
 //!
+//! Over the blocks of eight elements of any list (`Elements`), `fold_range` folds a range of the elements by such a tree, and `find_end` and
+//! `find_start` find the end or the start of one at which a test on the fold becomes true. `find_sought_end` and `find_sought_start` say of
+//! which elements a test tells, as the least, the greatest or the best run do.
+//!
 //! A `Late` tree lies over the blocks of a vector and follows its journal at questions: an edit tells it nothing. It folds a range of the
 //! elements, and over a `FoldTree` finds the end or the start of one at which a test on the fold becomes true. `LastSum` is the sum that
 //! was told last. `Kinds` is such a tree a kind. `first_least` and its neighbours search by them where in a range
@@ -12,7 +16,8 @@
 #![tactic(auto)]
 
 mod blocks;
-mod cells;
+mod element_folds;
+mod elements;
 mod find;
 mod folds;
 mod joins;
@@ -25,6 +30,7 @@ mod of_kind;
 mod places;
 mod prefixes;
 mod questions;
+mod ranges;
 mod renewals;
 mod rooms;
 mod rows;
@@ -33,15 +39,19 @@ mod tree;
 mod trees;
 mod turns;
 
+pub use elements::{Elements, Items};
 pub use find::Test;
 pub use kind_summaries::KindSummary;
 pub use kinds::{KindAnswer, Kinds};
 pub use last_sum::LastSum;
 pub use late::Late;
+pub use of_kind::OfKind;
 pub use places::{
-    Bound, Placed, Run, best_run, first_greatest, first_index, first_least, last_index, reaches,
-    reaches_back,
+    Bound, Placed, Run, best_of, best_run, first_greatest, first_index, first_least, greatest_of,
+    last_index, least_of, reaches, reaches_back,
 };
 pub use prefixes::Prefixes;
+pub use ranges::{find_end, find_sought_end, find_sought_start, find_start, fold_range};
+pub use sought::{AtLeast, AtMost, Beginning, Ending, RunOf, Sought, TestFor};
 pub use tree::Tree;
 pub use trees::FoldTree;

@@ -1,12 +1,12 @@
-//! The bodies by which the kinds are kept, but for sums. Those of the least, the greatest and the best run are bare: a fold of no
-//! elements isn't missing, so who asks says whether there are elements.
+//! The bodies by which the kinds are kept. Those of the least, the greatest and the best run are bare: a fold of no elements isn't
+//! missing, so who asks says whether there are elements.
 ghost use Rattle.std.specs.Prelude.{◌≡◌, ℕ, ℤ, List, All, length, nat_lt};
 ghost use Rattle.lv_geometry.specs.Elements.{IsElement};
 ghost use Rattle.lv_bodies.specs.Body.{fold_of};
 ghost use Rattle.lv_tree.specs.KindSummaries.{summary_by};
 
 use crate::kind_summaries::KindSummary;
-use lv_bodies::{Affine, AffineMap, Automaton, Highest, LongBody, Lowest, RunTotals, Runs};
+use lv_bodies::{Affine, AffineMap, Automaton, Highest, LongBody, Lowest, RunTotals, Runs, Sum};
 
 /// A body whose folds tell one of the six kinds.
 pub trait OfKind: LongBody {
@@ -22,6 +22,19 @@ pub trait OfKind: LongBody {
     fn tell(some: bool, s: Self::S) -> KindSummary
         ensures { (b : Self) (table : List (List ℕ)) (xs : List ℤ) → fits b table → All IsElement xs →
             some ≡ nat_lt 0 (length xs) → s ≡ fold_of (Self.operations b) xs → result ≡ summary_by table told_kind xs };
+}
+
+impl OfKind for Sum {
+    ghost use Rattle.lv_bodies.specs.declared.kinds.Kind.TheVariants as kind;
+
+    ghost told_kind = { kind.Sum };
+
+    ghost fits = { λ _ _. Unit {0} };
+
+    #[inline(always)]
+    fn tell(_some: bool, s: u64) -> KindSummary {
+        KindSummary::Sum(s)
+    }
 }
 
 impl OfKind for Lowest {

@@ -58,8 +58,9 @@ pub enum Bound {
 }
 
 impl Bound {
-    // An element within the bound, as what is sought.
-    fn sought(self) -> Sought
+    /// An element within the bound, as what is sought.
+    #[inline(always)]
+    pub fn sought(self) -> Sought
         ensures { result ≡ sought_within self }
     {
         match self {
@@ -327,8 +328,8 @@ fn summary(cells: &Edits, kinds: &mut Kinds, kind: Kind, lo: u32, hi: u32) -> Ki
     }
 }
 
-// The least element that a summary tells.
-fn least_of(summary: KindSummary) -> Option<i64>
+/// The least element that a summary tells; none where it is of another kind, or of no elements.
+pub fn least_of(summary: KindSummary) -> Option<i64>
     ensures { result ≡ least_in summary }
 {
     match summary {
@@ -337,8 +338,8 @@ fn least_of(summary: KindSummary) -> Option<i64>
     }
 }
 
-// The greatest element that a summary tells.
-fn greatest_of(summary: KindSummary) -> Option<i64>
+/// The greatest element that a summary tells; none where it is of another kind, or of no elements.
+pub fn greatest_of(summary: KindSummary) -> Option<i64>
     ensures { result ≡ greatest_in summary }
 {
     match summary {
@@ -347,8 +348,8 @@ fn greatest_of(summary: KindSummary) -> Option<i64>
     }
 }
 
-// The best run that a summary tells.
-fn best_of(summary: KindSummary) -> Option<RunTotals>
+/// The best run that a summary tells; none where it is of another kind, or of no elements.
+pub fn best_of(summary: KindSummary) -> Option<RunTotals>
     ensures { result ≡ best_in summary }
 {
     match summary {

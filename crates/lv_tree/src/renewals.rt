@@ -1,5 +1,5 @@
 //! The nodes over a leaf, joined anew.
-ghost use Rattle.std.specs.Prelude.{◌≡◌, true, ◌+◌, ◌-◌, ◌*◌, ◌^◌, ◌<◌, ◌≤◌, length, drop, slice_index_or};
+ghost use Rattle.std.specs.Prelude.{◌≡◌, true, false, ◌+◌, ◌-◌, ◌*◌, ◌^◌, ◌<◌, ◌≤◌, length, drop, slice_index_or};
 ghost use Rattle.lv_bodies.specs.Long.{CanJoinLong};
 ghost use Rattle.lv_tree.specs.Folds.{AreFolds};
 ghost use Rattle.lv_tree.specs.Nodes.{IsTree, IsTreeBut, WasTree};
@@ -25,6 +25,17 @@ fn settles<S: Copy, B: Joins<S>>(replaced: bool, was: S, is: S) -> bool
     ensures same { result ≡ true → was ≡ is }
 {
     replaced && B::stays(was, is)
+}
+
+// Whether a node over the leaves from a place on, as many as it is wide, lies over some that aren't there.
+#[inline(always)]
+fn is_past(lo: usize, hi: usize, start: usize, width: usize) -> bool
+    requires { start ≤ hi }
+    ensures past { result ≡ true → lo ≤ start → hi < start + width }
+    ensures low { result ≡ false → lo ≤ start }
+    ensures high { result ≡ false → start + width ≤ hi }
+{
+    start < lo || hi - start < width
 }
 
 // Makes each node over a leaf the join of the two below it, from the lowest to the last one all of whose leaves are there. Where
@@ -54,8 +65,7 @@ pub fn renew<S: Copy, B: Joins<S>>(
     'up: loop {
         node /= 2;
         width *= 2;
-        let start = node * width;
-        if start < lo || hi - start < width {
+        if is_past(lo, hi, node * width, width) {
             return;
         }
         let next = join_below(body, cells, node);

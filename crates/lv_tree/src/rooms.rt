@@ -1,5 +1,5 @@
 //! Room for leaves: in memory of which no cell is written before the first leaf comes. Where it is full the leaves move to the
-//! front of their cells if they fill at most a quarter, else to twice as many cells.
+//! front of their cells if they fill at most three eighths, else to twice as many cells: so a window that slides keeps its cells.
 ghost use Rattle.std.specs.Prelude.{◌≡◌, ℕ, ◌+◌, ◌-◌, ◌*◌, ◌^◌, ◌<◌, ◌≤◌, [], length, drop, IfSome, MatchOption, vec_capacity};
 ghost use Rattle.lv_tree.specs.Folds.{AreFolds};
 ghost use Rattle.lv_tree.specs.Nodes.{HasCells, HasLeaves, HasRoom, HasRooms, IsTree};
@@ -56,7 +56,7 @@ fn larger<S: Copy>(cells: &Vec<S>, lo: usize, hi: usize, room: usize, other: S) 
     requires few { room ≤ 2 ^ 61 }
     ensures { MatchOption result (Unit {0}) (λ more. HasLeaves cells.now.items more.items lo (hi - lo) room) }
 {
-    let mut more = Vec::new(*cells.allocator());
+    let mut more = Vec::with_capacity(*cells.allocator(), 2 * room).ok()?;
     more.resize(room, other).ok()?;
     more.extend_from_slice(&cells[lo..hi]).ok()?;
     more.resize(2 * room, other).ok()?;
@@ -113,7 +113,7 @@ pub fn with_room<S: Copy, B: Joins<S>>(
         return Some(opened(body, cells, lo, hi, room, other));
     }
     let to = all - all / 2;
-    if 1 < all && 4 * count <= all {
+    if 1 < all && count <= all / 8 * 3 {
         close_up(body, cells.as_mut_slice(), lo, hi, to);
         return Some(to);
     }

@@ -1,8 +1,10 @@
 //! What a search looks for, and the tests on folds that tell whether it is there.
 ghost use Rattle.std.specs.Prelude.{int_le};
+ghost use Rattle.lv_tree.specs.declared.sought.Sought.{Sought as WhatIsSought};
+ghost use Rattle.lv_tree.specs.SoughtLaws.{Tells};
 
 use crate::find::Test;
-use lv_bodies::RunTotals;
+use lv_bodies::{Highest, LongBody, Lowest, RunTotals, Runs};
 
 /// What some elements side by side may have.
 #[derive(Clone, Copy)]
@@ -19,6 +21,16 @@ pub enum Sought {
     Ending(i128),
 }
 
+/// A test that tells by the fold of some elements by a body whether they have what is sought.
+pub trait TestFor<B: LongBody>: Test<B::S> {
+    // What is sought.
+    ghost seeks: { Self → WhatIsSought };
+
+    /// What is sought. Computes nothing.
+    fn tells(&self, body: &B)
+        ensures { Tells (B.operations body.now) (Self.passes self.now) (seeks self.now) };
+}
+
 /// Whether the lowest of some elements is at most this.
 #[derive(Clone, Copy)]
 pub struct AtMost(pub i64);
@@ -30,6 +42,15 @@ impl Test<i64> for AtMost {
     fn test(&self, lowest: i64) -> bool {
         lowest <= self.0
     }
+}
+
+impl TestFor<Lowest> for AtMost {
+    ghost use Rattle.lv_tree.specs.declared.sought.Sought.TheVariants as sought;
+
+    ghost seeks = { λ bound. sought.AtMost bound.0 };
+
+    #[inline(always)]
+    fn tells(&self, _body: &Lowest) {}
 }
 
 /// Whether the highest of some elements is at least this.
@@ -45,6 +66,15 @@ impl Test<i64> for AtLeast {
     }
 }
 
+impl TestFor<Highest> for AtLeast {
+    ghost use Rattle.lv_tree.specs.declared.sought.Sought.TheVariants as sought;
+
+    ghost seeks = { λ bound. sought.AtLeast bound.0 };
+
+    #[inline(always)]
+    fn tells(&self, _body: &Highest) {}
+}
+
 /// Whether the best run of some elements adds up to this at least.
 #[derive(Clone, Copy)]
 pub struct RunOf(pub i128);
@@ -56,6 +86,15 @@ impl Test<RunTotals> for RunOf {
     fn test(&self, runs: RunTotals) -> bool {
         self.0 <= runs.best
     }
+}
+
+impl TestFor<Runs> for RunOf {
+    ghost use Rattle.lv_tree.specs.declared.sought.Sought.TheVariants as sought;
+
+    ghost seeks = { λ bound. sought.Run bound.0 };
+
+    #[inline(always)]
+    fn tells(&self, _body: &Runs) {}
 }
 
 /// Whether some beginning of them does.
@@ -71,6 +110,15 @@ impl Test<RunTotals> for Beginning {
     }
 }
 
+impl TestFor<Runs> for Beginning {
+    ghost use Rattle.lv_tree.specs.declared.sought.Sought.TheVariants as sought;
+
+    ghost seeks = { λ bound. sought.Beginning bound.0 };
+
+    #[inline(always)]
+    fn tells(&self, _body: &Runs) {}
+}
+
 /// Whether some ending of them does.
 #[derive(Clone, Copy)]
 pub struct Ending(pub i128);
@@ -82,4 +130,13 @@ impl Test<RunTotals> for Ending {
     fn test(&self, runs: RunTotals) -> bool {
         self.0 <= runs.suffix
     }
+}
+
+impl TestFor<Runs> for Ending {
+    ghost use Rattle.lv_tree.specs.declared.sought.Sought.TheVariants as sought;
+
+    ghost seeks = { λ bound. sought.Ending bound.0 };
+
+    #[inline(always)]
+    fn tells(&self, _body: &Runs) {}
 }

@@ -6,7 +6,7 @@ ghost use Rattle.lv_tree.specs.Parts.{AreBefore, AreInOrder, joined_on};
 ghost use Rattle.lv_tree.specs.Tests.{HasNoLastTurn, HasNoTurn, IsLastTurn, IsTurn};
 ghost use Rattle.std.specs.List.{slice_range};
 
-use crate::find::{Test, find_turn};
+use crate::find::{Reached, Test, find_turn};
 use crate::folds::fold_between;
 use crate::joins::join_laws;
 use crate::leaves::{add_leaf, set_leaf};
@@ -187,10 +187,11 @@ impl<B: LongBody> FoldTree<B> {
     {
         let a = (from - self.first) as usize + self.lo;
         let b = (to - self.first) as usize + self.lo;
-        match find_turn(&self.body, self.cells.as_slice(), test, start, a, b, false) {
-            None => None,
-            Some(at) => Some(from + (at - a) as u64),
+        let place = find_turn(&self.body, self.cells.as_slice(), test, start, a, b, false);
+        if place.at == b {
+            return None;
         }
+        Some(from + (place.at - a) as u64)
     }
 
     /// The last of the leaves from number `from` up to `to` with which a test on what the leaves from there on and `end` come to
@@ -207,59 +208,65 @@ impl<B: LongBody> FoldTree<B> {
     {
         let a = (from - self.first) as usize + self.lo;
         let b = (to - self.first) as usize + self.lo;
-        match find_turn(&self.body, self.cells.as_slice(), test, end, a, b, true) {
-            None => None,
-            Some(at) => Some(from + (at - 1 - a) as u64),
+        let place = find_turn(&self.body, self.cells.as_slice(), test, end, a, b, true);
+        if place.at == a {
+            return None;
         }
+        Some(from + (place.at - 1 - a) as u64)
     }
 
     /// The place of the first of the leaves from place `from` up to `to` with which a test on what `start` and the leaves from `from`
-    /// on come to becomes true; `to` where it does not. Takes no memory.
+    /// on come to becomes true; `to` where it does not. With it what `start` and the leaves before that place come to. Takes no memory.
     pub(crate) fn turn_up<T: Test<B::S>>(
         &self,
         from: usize,
         to: usize,
         start: B::S,
         test: &T,
-    ) -> usize
+    ) -> Reached<B::S>
         requires folds { AreInOrder (B.operations self.now.body) start (slice_range self.now.sums from to) }
         requires order { from ≤ to }
         requires last { to ≤ length self.now.sums }
-        ensures low { from ≤ result }
-        ensures high { result ≤ to }
-        ensures before { from < result → T.passes test.now (joined_on (B.operations self.now.body) start (slice_range self.now.sums from result)) ≡ false }
-        ensures after { result < to → T.passes test.now (joined_on (B.operations self.now.body) start (slice_range self.now.sums from (result + 1))) ≡ true }
+        ensures low { from ≤ result.at }
+        ensures high { result.at ≤ to }
+        ensures sum { result.sum ≡ joined_on (B.operations self.now.body) start (slice_range self.now.sums from result.at) }
+        ensures before { from < result.at → T.passes test.now result.sum ≡ false }
+        ensures after { result.at < to → T.passes test.now (joined_on (B.operations self.now.body) start (slice_range self.now.sums from (result.at + 1))) ≡ true }
     {
         let a = from + self.lo;
         let b = to + self.lo;
-        match find_turn(&self.body, self.cells.as_slice(), test, start, a, b, false) {
-            None => to,
-            Some(at) => at - self.lo,
+        let place = find_turn(&self.body, self.cells.as_slice(), test, start, a, b, false);
+        Reached {
+            at: place.at - self.lo,
+            sum: place.sum,
         }
     }
 
     /// The place behind the last of the leaves from place `from` up to `to` with which a test on what the leaves from there on and
-    /// `end` come to becomes true; `from` where it does not. Takes no memory.
+    /// `end` come to becomes true; `from` where it does not. With it what the leaves from that place on and `end` come to. Takes no
+    /// memory.
     pub(crate) fn turn_down<T: Test<B::S>>(
         &self,
         from: usize,
         to: usize,
         end: B::S,
         test: &T,
-    ) -> usize
+    ) -> Reached<B::S>
         requires folds { AreBefore (B.operations self.now.body) (slice_range self.now.sums from to) end }
         requires order { from ≤ to }
         requires last { to ≤ length self.now.sums }
-        ensures low { from ≤ result }
-        ensures high { result ≤ to }
-        ensures before { let o = B.operations self.now.body in result < to → T.passes test.now (o.join (joined_on o o.identity (slice_range self.now.sums result to)) end) ≡ false }
-        ensures after { let o = B.operations self.now.body in from < result → T.passes test.now (o.join (joined_on o o.identity (slice_range self.now.sums (result - 1) to)) end) ≡ true }
+        ensures low { from ≤ result.at }
+        ensures high { result.at ≤ to }
+        ensures sum { let o = B.operations self.now.body in result.sum ≡ o.join (joined_on o o.identity (slice_range self.now.sums result.at to)) end }
+        ensures before { result.at < to → T.passes test.now result.sum ≡ false }
+        ensures after { let o = B.operations self.now.body in from < result.at → T.passes test.now (o.join (joined_on o o.identity (slice_range self.now.sums (result.at - 1) to)) end) ≡ true }
     {
         let a = from + self.lo;
         let b = to + self.lo;
-        match find_turn(&self.body, self.cells.as_slice(), test, end, a, b, true) {
-            None => from,
-            Some(at) => at - self.lo,
+        let place = find_turn(&self.body, self.cells.as_slice(), test, end, a, b, true);
+        Reached {
+            at: place.at - self.lo,
+            sum: place.sum,
         }
     }
 }

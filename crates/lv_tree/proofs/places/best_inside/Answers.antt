@@ -6,8 +6,8 @@ use Rattle.lv_bodies.specs.Plain.{IsPlainBest}
 use Rattle.lv_bodies.specs.declared.kinds.Kind.TheVariants as kind
 use Rattle.lv_edits.specs.History.{list_of}
 use Rattle.lv_tree.proofs.KeptLaws.{LeavesOthers-trans}
-use Rattle.lv_tree.proofs.PlaceLaws.{best_is_met, best_stands, empty_range}
-use Rattle.lv_tree.proofs.SoughtLaws.{best_told}
+use Rattle.lv_tree.specs.PlaceLaws.{best_is_met, best_stands, empty_range}
+use Rattle.lv_tree.specs.SoughtLaws.{best_told}
 use Rattle.lv_tree.proofs.places.best_inside.Goals as goal
 
 pub returns-in_default-clause-place : goal.returns-in_default-clause-place

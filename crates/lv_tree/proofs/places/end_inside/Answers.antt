@@ -5,8 +5,8 @@ use Rattle.std.proofs.lemmas.Int.{to_z-of_z}
 use Rattle.lv_edits.specs.History.{list_of}
 use Rattle.lv_tree.specs.Searches.{FindsEnd}
 use Rattle.lv_tree.specs.declared.sought.Sought.TheVariants.{Beginning}
-use Rattle.lv_tree.proofs.PlaceLaws.{end_found}
-use Rattle.lv_tree.proofs.SoughtLaws.{not_most}
+use Rattle.lv_tree.specs.PlaceLaws.{end_found}
+use Rattle.lv_tree.specs.SoughtLaws.{not_most}
 use Rattle.lv_tree.proofs.places.end_inside.Goals as goal
 
 pub returns-clause-place : goal.returns-clause-place

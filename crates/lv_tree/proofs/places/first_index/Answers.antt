@@ -2,7 +2,7 @@
 use Rattle.std.proofs.Common.{Some, subst}
 use Rattle.lv_edits.specs.History.{list_of}
 use Rattle.lv_tree.specs.Searches.{FindsEnd}
-use Rattle.lv_tree.proofs.PlaceLaws.{first_found}
+use Rattle.lv_tree.specs.PlaceLaws.{first_found}
 use Rattle.lv_tree.proofs.places.first_index.Goals as goal
 
 pub returns-in-Some-find_end-clause-ok : goal.returns-in-Some-find_end-clause-ok

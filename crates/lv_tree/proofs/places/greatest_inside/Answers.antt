@@ -6,8 +6,8 @@ use Rattle.lv_edits.specs.History.{list_of}
 use Rattle.lv_tree.proofs.KeptLaws.{LeavesOthers-trans}
 use Rattle.lv_tree.specs.declared.places.Placed.{Placed}
 use Rattle.lv_tree.specs.Where.{IsFirstGreatest}
-use Rattle.lv_tree.proofs.PlaceLaws.{empty_range, greatest_is_met, greatest_stands}
-use Rattle.lv_tree.proofs.SoughtLaws.{greatest_told}
+use Rattle.lv_tree.specs.PlaceLaws.{empty_range, greatest_is_met, greatest_stands}
+use Rattle.lv_tree.specs.SoughtLaws.{greatest_told}
 use Rattle.lv_tree.proofs.places.greatest_inside.Goals as goal
 
 pub returns-in_default-clause-place : goal.returns-in_default-clause-place

@@ -2,7 +2,7 @@
 use Rattle.std.proofs.Common.{subst}
 use Rattle.lv_edits.specs.History.{list_of}
 use Rattle.lv_tree.specs.Searches.{FindsStart}
-use Rattle.lv_tree.proofs.PlaceLaws.{last_found}
+use Rattle.lv_tree.specs.PlaceLaws.{last_found}
 use Rattle.lv_tree.proofs.places.last_index.Goals as goal
 
 pub returns-clause-ok : goal.returns-clause-ok

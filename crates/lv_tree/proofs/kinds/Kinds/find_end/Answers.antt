@@ -8,7 +8,7 @@ use Rattle.lv_bodies.specs.declared.best.RunTotals.{RunTotals}
 use Rattle.lv_edits.specs.History.{list_of}
 use Rattle.lv_tree.specs.Searches.{FindsEnd}
 use Rattle.lv_tree.specs.declared.sought.Sought.TheVariants as sought
-use Rattle.lv_tree.proofs.SoughtLaws.{at_least_told, at_most_told, beginning_told, ending_told, finds_end, run_told}
+use Rattle.lv_tree.specs.SoughtLaws.{at_least_told, at_most_told, beginning_told, ending_told, finds_end, run_told}
 use Rattle.lv_tree.proofs.kinds.Kinds.find_end.Goals as goal
 
 pub returns-in-AtMost-clause-finds : goal.returns-in-AtMost-clause-finds

@@ -8,7 +8,7 @@ use Rattle.lv_bodies.specs.declared.best.RunTotals.{RunTotals}
 use Rattle.lv_edits.specs.History.{list_of}
 use Rattle.lv_tree.specs.Searches.{FindsStart}
 use Rattle.lv_tree.specs.declared.sought.Sought.TheVariants as sought
-use Rattle.lv_tree.proofs.SoughtLaws.{at_least_told, at_most_told, beginning_told, ending_told, finds_start, run_told}
+use Rattle.lv_tree.specs.SoughtLaws.{at_least_told, at_most_told, beginning_told, ending_told, finds_start, run_told}
 use Rattle.lv_tree.proofs.kinds.Kinds.find_start.Goals as goal
 
 pub returns-in-AtMost-clause-finds : goal.returns-in-AtMost-clause-finds

@@ -4,8 +4,8 @@ use Rattle.lv_tree.proofs.Found.{last_folds, last_none, last_turn}
 use Rattle.lv_tree.proofs.Seen.{counted}
 use Rattle.lv_tree.proofs.trees.FoldTree.find_last.Goals as goal
 
-pub find_turn-requires-clause-folds : goal.find_turn-requires-clause-folds
-find_turn-requires-clause-folds g c =
+pub find_turn-place-requires-clause-folds : goal.find_turn-place-requires-clause-folds
+find_turn-place-requires-clause-folds g c =
     let inside = c.self.inside in
     let now = c.args.self.now in
     let xs = inside.cells.items in
@@ -15,24 +15,26 @@ find_turn-requires-clause-folds g c =
     let high : b ≤ inside.hi = omega (arith, k.0, k.1, c.requires.first, c.requires.order, c.requires.last, c.self.invariant.order) in
     last_folds g.B.Body.operations now inside.body inside.first inside.room inside.lo inside.hi xs c.self.view_is c.args.from c.args.to a b refl refl high c.args.end c.as_slice.result.now c.as_slice.ensures.value c.requires.folds
 
-pub returns-in-None-clause-turn : goal.returns-in-None-clause-turn
-returns-in-None-clause-turn g c =
+pub returns-then-place-a-clause-turn : goal.returns-then-place-a-clause-turn
+returns-then-place-a-clause-turn g c =
     let inside = c.self.inside in
+    let place = c.find_turn-place.result in
     let now = c.args.self.now in
     let xs = inside.cells.items in
     let k = counted now inside.body inside.first inside.room inside.lo inside.hi xs c.self.view_is c.self.invariant.inside in
     let a = c.args.from - inside.first + inside.lo in
     let b = c.args.to - inside.first + inside.lo in
     let high : b ≤ inside.hi = omega (arith, k.0, k.1, c.requires.first, c.requires.order, c.requires.last, c.self.invariant.order) in
-    last_none g.B.Body.operations now inside.body inside.first inside.room inside.lo inside.hi xs c.self.view_is c.args.from c.args.to a b refl refl high (g.T.Test.passes c.args.test.now) c.args.end c.as_slice.result.now c.as_slice.ensures.value c.in-None.ensures
+    last_none g.B.Body.operations now inside.body inside.first inside.room inside.lo inside.hi xs c.self.view_is c.args.from c.args.to a b refl refl high (g.T.Test.passes c.args.test.now) c.args.end c.as_slice.result.now place.at place.sum c.as_slice.ensures.value (omega (arith, c.if-place-a.true)) c.find_turn-place.ensures
 
-pub returns-in-Some-clause-turn : goal.returns-in-Some-clause-turn
-returns-in-Some-clause-turn g c =
+pub returns-clause-turn : goal.returns-clause-turn
+returns-clause-turn g c =
     let inside = c.self.inside in
+    let place = c.find_turn-place.result in
     let now = c.args.self.now in
     let xs = inside.cells.items in
     let k = counted now inside.body inside.first inside.room inside.lo inside.hi xs c.self.view_is c.self.invariant.inside in
     let a = c.args.from - inside.first + inside.lo in
     let b = c.args.to - inside.first + inside.lo in
     let high : b ≤ inside.hi = omega (arith, k.0, k.1, c.requires.first, c.requires.order, c.requires.last, c.self.invariant.order) in
-    last_turn g.B.Body.operations now inside.body inside.first inside.room inside.lo inside.hi xs c.self.view_is c.args.from c.args.to a b refl refl high (g.T.Test.passes c.args.test.now) c.args.end c.as_slice.result.now c.in-Some.at (c.args.from + (c.in-Some.at - 1 - a) - c.args.from) c.as_slice.ensures.value c.self.invariant.inside (omega arith) c.in-Some.ensures
+    last_turn g.B.Body.operations now inside.body inside.first inside.room inside.lo inside.hi xs c.self.view_is c.args.from c.args.to a b refl refl high (g.T.Test.passes c.args.test.now) c.args.end c.as_slice.result.now place.at (c.args.from + (place.at - 1 - a) - c.args.from) place.sum c.as_slice.ensures.value c.self.invariant.inside (omega arith) (omega (arith, c.if-place-a.false, c.find_turn-place.ensures.low)) c.find_turn-place.ensures

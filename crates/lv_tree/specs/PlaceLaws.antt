@@ -13,8 +13,7 @@ use Rattle.lv_tree.specs.Where.{IsBestRun, IsEndReached, IsFirstGreatest, IsFirs
 use Rattle.lv_tree.specs.declared.places.Bound.{Bound}
 use Rattle.lv_tree.specs.declared.places.Bound.TheVariants as bounds
 use Rattle.lv_tree.specs.declared.sought.Sought.TheVariants.{AtMost, AtLeast, Run, Beginning, Ending}
-use Rattle.lv_tree.proofs.RangeLaws.{range_cut}
-use Rattle.lv_tree.proofs.SliceLaws.{back_of_slice, front_of_slice, nothing_here, slice_of_one, slice_of_slice}
+use Rattle.lv_tree.specs.SliceLaws.{back_of_slice, front_of_slice, nothing_here, range_cut, slice_of_one, slice_of_slice}
 
 -- no number is below itself
 above_itself : (x : ℤ) → x <ℤ x → ⊥

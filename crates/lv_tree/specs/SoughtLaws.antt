@@ -25,8 +25,8 @@ use Rattle.lv_tree.specs.Turns.{HasNoEnd, IsEndAt, IsStartAt}
 use Rattle.lv_tree.specs.declared.kind_summaries.KindSummary.{KindSummary}
 use Rattle.lv_tree.specs.declared.sought.Sought.{Sought}
 use Rattle.lv_tree.specs.declared.sought.Sought.TheVariants.{AtMost, AtLeast, Run, Beginning, Ending}
-use Rattle.lv_tree.proofs.RunEndLaws.{AreEnds, KeepsEnds, fold_of-ends}
-use Rattle.lv_tree.proofs.SliceLaws.{nothing_here}
+use Rattle.lv_tree.specs.RunEndLaws.{AreEnds, KeepsEnds, fold_of-ends}
+use Rattle.lv_tree.specs.SliceLaws.{nothing_here}
 
 -- a test on the fold of some elements tells whether they have what is sought
 pub record Tells {S : Type 0} (o : Operations S) (test : S → Bool) (sought : Sought) : Type 0 where

@@ -1,5 +1,6 @@
 -- Slices of a slice, and those of one element or none.
 use Rattle.std.proofs.Common.{◌≡◌, ℕ, ◌+◌, ◌-◌, ◌<◌, ◌≤◌, List, [], ◌∷◌, ◌++◌, length, drop, drop-drop, take, slice_index_or, slice_range, ap, ◌∙◌, arith}
+use Rattle.std.proofs.Math.Seq.{take-add}
 use Rattle.std.proofs.lemmas.List.{drop-take, take-take}
 use Rattle.lv_edits.proofs.Slices.{part_of_take, slice_range-more}
 
@@ -32,3 +33,12 @@ back_of_slice xs lo hi n inside =
     ∙ drop-take n (hi - lo - n) (drop lo xs)
     ∙ ap (take (hi - lo - n)) (drop-drop n lo xs)
     ∙ ap (λ m. take m (drop (lo + n) xs)) wide
+
+-- a range is its part up to a place, and that from there on
+pub range_cut : {A : Type 0} (xs : List A) (a b c : ℕ) → a ≤ b → b ≤ c → slice_range xs a c ≡ slice_range xs a b ++ slice_range xs b c
+range_cut xs a b c low high =
+    let whole : c - a ≡ (b - a) + (c - b) = omega arith in
+    let seam : a + (b - a) ≡ b = omega arith in
+    ap (λ k. take k (drop a xs)) whole
+    ∙ take-add (b - a) (c - b) (drop a xs)
+    ∙ ap (λ l. take (b - a) (drop a xs) ++ take (c - b) l) (drop-drop (b - a) a xs ∙ ap (λ k. drop k xs) seam)
