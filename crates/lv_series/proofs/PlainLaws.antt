@@ -1,55 +1,69 @@
--- What a run leaves is what its accepted edits make of the series before it.
-use Rattle.std.proofs.Common.{◌≡◌, ℕ, ◌+◌, Result, Ok, Err, is_ok, if◌then◌else◌, List, [], ◌∷◌, ◌++◌, length, fold, sym, ap, subst, ◌∙◌, arith, length-append}
+-- What calls on a series leave is what the accepted edits among them make of the series before them.
+use Rattle.std.proofs.Common.{◌≡◌, ℕ, ◌+◌, true, false, None, Result, Ok, Err, is_ok, List, [], ◌∷◌, ◌++◌, drop, fold, sym, ap, subst, ◌∙◌, arith, length-append}
 use Rattle.std.proofs.lemmas.List.Sums.{fold-append}
-use Rattle.lv_bodies.specs.Body.{Operations}
+use Rattle.lv_bodies.specs.Body.{Operations, fold_of}
+use Rattle.lv_tree.specs.KindSummaries.{summary_by}
 use Rattle.lv_series.specs.declared.edits.LongEdit.{LongEdit}
 use Rattle.lv_series.specs.declared.receipts.LongReceipt.{LongReceipt}
 use Rattle.lv_series.specs.declared.refusals.LongRefusal.{LongRefusal}
-use Rattle.lv_series.specs.Plain.{Asked, Held, IsLongAnswer, IsLongScan, IsPlain, Run, SeriesState, Step, accepted_in, changed, plain_series}
+use Rattle.lv_series.specs.Plain.{Called, IsPlain, Run, SeriesState, Step, accepted_by, accepted_in, after_edits, changed, edited, plain_series, prepared, range_refused, running_folds, slice_of}
+use Rattle.lv_series.specs.Batches.{AnswersEdits}
 use Rattle.lv_series.specs.Series.{Answers}
 
-module _ {B : Type 0} where
-  -- a series after some edits
-  abbrev after_edits : SeriesState B → List LongEdit → SeriesState B
-  after_edits s edits = record { body = s.body; held = fold changed s.held edits; edits = s.edits + length edits }
+-- two series that differ in which kinds have a tree, at most
+record IsAlike (s t : SeriesState) : Type 0 where
+  table : s.table ≡ t.table
+  held : s.held ≡ t.held
+  edits : s.edits ≡ t.edits
 
-  -- one with so many edits
-  abbrev with_edits : B → Held → ℕ → SeriesState B
-  with_edits body held n = record { body = body; held = held; edits = n }
+-- a call makes what the edits make that it was accepted for
+step_is : (s next : SeriesState) (call : Called) → Step s call next → IsAlike next (after_edits s (accepted_by call))
+step_is s next (edited edits true) step = record { table = ap (λ t. t.table) step; held = ap (λ t. t.held) step; edits = ap (λ t. t.edits) step }
+step_is s next (edited edits false) step = record { table = ap (λ t. t.table) step; held = ap (λ t. t.held) step; edits = ap (λ t. t.edits) step ∙ omega arith }
+step_is s next (prepared k) step = record { table = ap (λ t. t.table) step.1; held = ap (λ t. t.held) step.1; edits = ap (λ t. t.edits) step.1 ∙ omega arith }
 
-  numbered : (body : B) (held : Held) (n m : ℕ) → n ≡ m → with_edits body held n ≡ with_edits body held m
-  numbered body held n m same = ap (with_edits body held) same
+-- calls make what all edits make that were accepted
+run_is : (s next : SeriesState) (calls : List Called) → Run s calls next → IsAlike next (after_edits s (accepted_in calls))
+run_is s next [] run = record { table = ap (λ t. t.table) run; held = ap (λ t. t.held) run; edits = ap (λ t. t.edits) run ∙ omega arith }
+run_is s next (call ∷ others) run =
+    let first = step_is s run.0 call run.1 in
+    let rest = run_is run.0 next others run.2 in
+    record {
+      table = rest.table ∙ first.table;
+      held = rest.held ∙ ap (λ h. fold changed h (accepted_in others)) first.held ∙ sym (fold-append changed s.held (accepted_by call) (accepted_in others));
+      edits = omega (arith, first.edits, rest.edits, length-append (accepted_by call) (accepted_in others));
+    }
 
-  -- an edit that was accepted makes its change, and one that was refused none
-  step_is : (s next : SeriesState B) (edit : LongEdit) (answer : Result LongReceipt LongRefusal) → Step s edit answer next → next ≡ after_edits s (if is_ok answer then edit ∷ [] else [])
-  step_is s next edit (Ok receipt) step = step ∙ numbered s.body (changed s.held edit) (s.edits + 1) (s.edits + length (edit ∷ [])) (omega arith)
-  step_is s next edit (Err refusal) step = step ∙ numbered s.body s.held s.edits (s.edits + 0) (omega arith)
+-- so what is asked after them is answered as after these edits
+pub run_is_plain : {S : Type 0} (o : Operations S) (table : List (List ℕ)) (calls : List Called) (s : SeriesState) → Run (plain_series table []) calls s → IsPlain o table calls s
+run_is_plain o table calls s run =
+    let alike = run_is (plain_series table []) s calls run in
+    record {
+      held = alike.held;
+      edits = omega (arith, alike.edits);
+      values = λ k lo hi answer is. record {
+        granted = subst (λ h. range_refused h lo hi ≡ None) alike.held is.granted;
+        edit = is.edit ∙ alike.edits;
+        value = is.value ∙ ap (λ t. summary_by t k (slice_of s.held lo hi)) alike.table ∙ ap (λ h. summary_by table k (slice_of h lo hi)) alike.held;
+      };
+      reduces = λ lo hi answer is. record {
+        granted = subst (λ h. range_refused h lo hi ≡ None) alike.held is.granted;
+        edit = is.edit ∙ alike.edits;
+        value = is.value ∙ ap (λ h. fold_of o (slice_of h lo hi)) alike.held;
+      };
+      scans = λ lo hi inclusive before old new scan is. record {
+        granted = subst (λ h. range_refused h lo hi ≡ None) alike.held is.granted;
+        edit = is.edit ∙ alike.edits;
+        count = is.count;
+        values = is.values ∙ ap (λ h. running_folds inclusive o before (slice_of h lo (lo + scan.count)) ++ drop scan.count old) alike.held;
+      };
+    }
 
-  -- some edits, and then others
-  after_both : (s : SeriesState B) (edits others : List LongEdit) → after_edits (after_edits s edits) others ≡ after_edits s (edits ++ others)
-  after_both s edits others =
-      let held : fold changed (fold changed s.held edits) others ≡ fold changed s.held (edits ++ others) = sym (fold-append changed s.held edits others) in
-      ap (λ h. with_edits s.body h (s.edits + length edits + length others)) held
-      ∙ numbered s.body (fold changed s.held (edits ++ others)) (s.edits + length edits + length others) (s.edits + length (edits ++ others)) (omega (arith, length-append edits others))
+-- what a call answers is such a step
+pub answers_are_steps : (old new : SeriesState) (edit : LongEdit) (answer : Result LongReceipt LongRefusal) → Answers old edit answer new → Step old (edited (edit ∷ []) (is_ok answer)) new
+answers_are_steps old new edit (Ok receipt) answers = answers.after
+answers_are_steps old new edit (Err refusal) answers = answers.same
 
-  -- a run makes what its accepted edits make
-  pub run_is : (s next : SeriesState B) (steps : List Asked) → Run s steps next → next ≡ after_edits s (accepted_in steps)
-  run_is s next [] run = run ∙ numbered s.body s.held s.edits (s.edits + 0) (omega arith)
-  run_is s next (asked ∷ others) run =
-      run_is run.0 next others run.2
-      ∙ ap (λ t. after_edits t (accepted_in others)) (step_is s run.0 asked.edit asked.answer run.1)
-      ∙ after_both s (if is_ok asked.answer then asked.edit ∷ [] else []) (accepted_in others)
-
-  -- so what is asked after it is answered as by these alone
-  pub run_is_plain : {S : Type 0} (o : Operations S) (body : B) (steps : List Asked) (s : SeriesState B) → Run (plain_series body []) steps s → IsPlain o body steps s
-  run_is_plain o body steps s run =
-      let plain : s ≡ plain_series body (accepted_in steps) = run_is (plain_series body []) s steps run ∙ numbered body (plain_series body (accepted_in steps)).held (0 + length (accepted_in steps)) (length (accepted_in steps)) (omega arith) in
-      record {
-        reduces = λ lo hi answer is. subst (λ t. IsLongAnswer o t lo hi answer) plain is;
-        scans = λ lo hi inclusive before old new scan is. subst (λ t. IsLongScan o t lo hi inclusive before old scan new) plain is;
-      }
-
-  -- what a call answers is such a step
-  pub answers_are_steps : (old new : SeriesState B) (edit : LongEdit) (answer : Result LongReceipt LongRefusal) → Answers old edit answer new → Step old edit answer new
-  answers_are_steps old new edit (Ok receipt) answers = answers.after
-  answers_are_steps old new edit (Err refusal) answers = answers.same
+pub batches_are_steps : (old new : SeriesState) (edits : List LongEdit) (answer : Result ℕ LongRefusal) → AnswersEdits old edits answer new → Step old (edited edits (is_ok answer)) new
+batches_are_steps old new edits (Ok edit) answers = answers.after
+batches_are_steps old new edits (Err refusal) answers = answers.same

@@ -1,13 +1,10 @@
 -- Names the files of definitions of `lv_series`.
-pub mod Chain
+pub mod Batches
+pub mod Blocks
 pub mod Numbers
+pub mod Places
 pub mod Plain
-pub mod Pushes
-pub mod Refresh
-pub mod Rounds
-pub mod Rows
+pub mod Samples
 pub mod ScanLaws
 pub mod Series
-pub mod Served
-pub mod Shard
-pub mod Sharded
+pub mod Trees

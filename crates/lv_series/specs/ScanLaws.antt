@@ -1,4 +1,4 @@
--- What may stand in front of a piece of a scan: nothing, or what an earlier piece came to.
+-- What may come before a piece of a scan: nothing, or the fold that an earlier piece ended with.
 use Rattle.std.proofs.Common.{◌≡◌, ℕ, ℤ, ◌+◌, ◌^◌, ◌≤◌, List, [], ◌++◌, length, fold, All, sym, ap, ◌∙◌, arith, length-append}
 use Rattle.std.proofs.lemmas.List.Elements.{All-append, All-nil}
 use Rattle.std.proofs.lemmas.List.Sums.{fold-append}

@@ -3,7 +3,7 @@ ghost use Rattle.std.specs.Prelude.{◌≡◌, ⊤};
 
 use std::alloc::AllocError;
 
-/// The answer to a reduction over a series: the number of the last edit, and the fold of the range's elements.
+/// The answer to a question about a range: the number of the last edit, and the value of the range's elements after it.
 #[derive(Copy, Debug, PartialEq, Eq)]
 pub struct LongAnswer<S> {
     pub edit: u64,
@@ -16,23 +16,6 @@ impl<S: Copy> Clone for LongAnswer<S> {
     ghost is_infallible = { λ _. ⊤ };
 
     fn clone(&self) -> Result<LongAnswer<S>, AllocError> {
-        Ok(*self)
-    }
-}
-
-/// The answer to a reduction, with how many joins it took beyond those in the two shards at its ends.
-#[derive(Copy, Debug, PartialEq, Eq)]
-pub struct Counted<S> {
-    pub answer: LongAnswer<S>,
-    pub joins: u64,
-}
-
-impl<S: Copy> Clone for Counted<S> {
-    ghost is_clone = { λ x y. y ≡ x };
-
-    ghost is_infallible = { λ _. ⊤ };
-
-    fn clone(&self) -> Result<Counted<S>, AllocError> {
         Ok(*self)
     }
 }

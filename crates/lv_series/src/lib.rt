@@ -1,56 +1,44 @@
-//! A series: a vector whose elements and edits are bounded by memory alone, with a window that slides.
+//! A series: a list that goes on. Its elements and edits are bounded by memory only, and elements at its front may expire.
 //!
-//! Its elements lie in shards, each a live vector of its own, and the fold of each full shard is kept. Elements at the front may
-//! expire: the others keep their indices, and the memory of whole shards comes back. A shard whose edits run out is made anew. No
-//! answer shows shards or renewals: answers rest on `kept` in the model of `Series`. Refresh is told by its shards.
+//! The elements are in one array, each under an index of 64 bits that it keeps for as long as it is kept. For each of the six kinds that is
+//! asked for there is a fold tree over blocks of eight elements, which every edit brings up to date at once. So a value of a range takes
+//! O(log n) joins, takes no memory and changes nothing. The model of a series is the list that it keeps, the number of its edits, its
+//! automaton's table, and which kinds have a tree.
 #![tactic(auto)]
 
-mod accepting;
-mod ages;
 mod answers;
-mod asking;
-mod chain_edits;
-mod chain_pushes;
-mod chain_refresh;
-mod chains;
-mod changing;
-mod cutting;
+mod batches;
+mod blocks;
+mod changes;
 mod edits;
-mod expiring;
-mod folding;
-mod fronts;
-mod jobs;
-mod keeping;
-mod pieces;
+mod layers;
 mod places;
-mod pushing;
-mod reading;
 mod receipts;
-mod refreshing;
 mod refusals;
-mod renewing;
-mod rolling;
-mod rounds;
-mod rows;
+mod restored;
+mod sample_changes;
+mod sample_edits;
+mod sample_theorems;
+mod sample_windows;
+mod samples;
+mod scans;
+mod searches;
 mod series;
-mod served;
-mod serving;
-mod shard_edits;
-mod shard_folds;
-mod shards;
 mod theorems;
-mod vectors;
+mod times;
+mod trees;
+mod values;
 mod verdicts;
-mod walking;
 mod windows;
 
-pub use answers::{Counted, LongAnswer, LongScan};
+pub use answers::{LongAnswer, LongScan};
 pub use edits::LongEdit;
-pub use jobs::{LongJob, LongJobOf, LongOutcome, LongOutcomeOf};
+pub use lv_tree::Bound;
+pub use places::{LongPlaced, LongRun};
 pub use receipts::LongReceipt;
 pub use refusals::LongRefusal;
+pub use sample_edits::{Sample, SampleEdit, SampleRefusal};
+pub use sample_theorems::every_sample_answer_is_plain;
+pub use samples::{Samples, Window};
 pub use series::Series;
-pub use served::{
-    answers_while_served, jobs_may_be_sent, jobs_outlast_edits, refresh_changes_no_answer,
-};
 pub use theorems::{every_answer_is_plain, refusals_change_nothing};

@@ -1,28 +1,237 @@
-//! Where an element of a chain stands: in which shard, at which index.
-ghost use Rattle.std.specs.Prelude.{◌≡◌, ◌+◌, ◌*◌, ◌<◌, ◌≤◌};
+//! Searches in a series: where the least, the greatest and the best run of a range stand, where an element within a bound stands, and where a
+//! sum from its start on, or up to its end, is reached.
+//!
+//! Each answer is stated of the plain list of the elements that are kept. A search makes the tree of one kind first, where there is none, and
+//! asks it for the place at which a test on folds becomes true: this takes O(log n) joins. It changes no element.
+ghost use Rattle.std.specs.Prelude.{◌≡◌, ◌-◌, ◌<◌};
+ghost use Rattle.lv_bodies.specs.declared.kinds.Kind.TheVariants as kind;
+ghost use Rattle.lv_series.specs.Places.{IsEndReachedIn, IsFirstIndexIn, IsLastIndexIn, IsPlaceOfBestIn, IsPlaceOfGreatestIn, IsPlaceOfLeastIn, IsSearchable, IsStartReachedIn, Searches};
+ghost use Rattle.lv_series.specs.Series.{slice_of};
+ghost use Rattle.lv_tree.specs.KindSummaries.{summary_by};
+ghost use Rattle.lv_tree.specs.Where.{kind_within};
 
-/// How many elements a full shard holds.
-pub const SHARD: u32 = 32_760;
+use crate::refusals::LongRefusal;
+use crate::series::Series;
+use lv_bodies::Kind;
+use lv_tree::{Bound, KindSummary, Sought, best_of, greatest_of, least_of};
 
-/// Where an element of a chain stands: in which shard, counted from the front, and at which index there.
-#[derive(Clone, Copy)]
-pub struct ShardPlace {
-    pub shard: usize,
-    pub index: u32,
+/// An element, and the index at which it stands.
+#[derive(Clone, Copy, Debug, PartialEq, Eq)]
+pub struct LongPlaced {
+    pub index: u64,
+    pub value: i64,
 }
 
-/// The place of a position behind so many full shards and a last one. Positions from that on are told by it.
-#[inline(always)]
-pub fn place_of(position: u64, full: usize) -> ShardPlace
-    requires { position ≤ 32760 * full + 32760 }
-    ensures shard { result.shard ≤ full }
-    ensures place { 32760 * result.shard + result.index ≡ position }
-    ensures small { result.index ≤ 32760 }
-    ensures inside { result.shard < full → result.index < 32760 }
+impl LongPlaced {
+    // An element that stands before an end.
+    fn before(end: u64, value: i64) -> LongPlaced
+        requires { 0 < end }
+        ensures { result ≡ record { index = end - 1; value = value } }
+    {
+        LongPlaced {
+            index: end - 1,
+            value,
+        }
+    }
+}
+
+/// Elements side by side, from index `from` up to `to`, `to` excluded, and what they add up to.
+#[derive(Clone, Copy, Debug, PartialEq, Eq)]
+pub struct LongRun {
+    pub from: u64,
+    pub to: u64,
+    pub sum: i128,
+}
+
+impl Series {
+    /// The first index from `lo` up to `hi` whose element is within a bound, or none. An element that is at least so great is asked of the
+    /// kind of the greatest, and one that is at most so great of the least: that kind's tree is made first, where there is none. Refused
+    /// with `BadRange`, then `OutOfRange`, then `NoMemory`: nothing has changed then.
+    pub fn first_index(
+        &mut self,
+        bound: Bound,
+        lo: u64,
+        hi: u64,
+    ) -> Result<Option<u64>, LongRefusal>
+        ensures { Searches (IsFirstIndexIn bound) self.old (kind_within bound) lo hi result self.new }
+    {
+        match self.prepare_for(kind_of(bound), lo, hi) {
+            Ok(()) => Ok(self.first_inside(bound, lo, hi)),
+            Err(refusal) => Err(refusal),
+        }
+    }
+
+    // The same of a range that can be searched.
+    fn first_inside(&self, bound: Bound, lo: u64, hi: u64) -> Option<u64>
+        requires { IsSearchable self.now (kind_within bound) lo hi }
+        ensures { IsFirstIndexIn bound self.now.held lo hi result }
+    {
+        match self.find_end(bound.sought(), lo, hi) {
+            Some(end) => Some(end - 1),
+            None => None,
+        }
+    }
+
+    /// The last index from `lo` up to `hi` whose element is within a bound, or none. It is asked and refused as `first_index` is.
+    pub fn last_index(&mut self, bound: Bound, lo: u64, hi: u64) -> Result<Option<u64>, LongRefusal>
+        ensures { Searches (IsLastIndexIn bound) self.old (kind_within bound) lo hi result self.new }
+    {
+        match self.prepare_for(kind_of(bound), lo, hi) {
+            Ok(()) => Ok(self.last_inside(bound, lo, hi)),
+            Err(refusal) => Err(refusal),
+        }
+    }
+
+    // The same of a range that can be searched.
+    fn last_inside(&self, bound: Bound, lo: u64, hi: u64) -> Option<u64>
+        requires { IsSearchable self.now (kind_within bound) lo hi }
+        ensures { IsLastIndexIn bound self.now.held lo hi result }
+    {
+        self.find_start(bound.sought(), lo, hi)
+    }
+
+    /// The least end, from `lo` to `hi`, up to which the elements from index `lo` on add up to `sum` at least, or none. Elements may be
+    /// negative, and no sum wraps. It is asked of the kind of the best run, and refused as `first_index` is.
+    pub fn reaches(&mut self, lo: u64, hi: u64, sum: i128) -> Result<Option<u64>, LongRefusal>
+        ensures { Searches (IsEndReachedIn sum) self.old kind.Best lo hi result self.new }
+    {
+        match self.prepare_for(Kind::Best, lo, hi) {
+            Ok(()) => Ok(self.end_inside(lo, hi, sum)),
+            Err(refusal) => Err(refusal),
+        }
+    }
+
+    // The same of a range that can be searched.
+    fn end_inside(&self, lo: u64, hi: u64, sum: i128) -> Option<u64>
+        requires { IsSearchable self.now kind.Best lo hi }
+        ensures { IsEndReachedIn sum self.now.held lo hi result }
+    {
+        if sum <= 0 {
+            return Some(lo);
+        }
+        self.find_end(Sought::Beginning(sum), lo, hi)
+    }
+
+    /// The greatest start, from `hi` down to `lo`, from which on the elements up to `hi` add up to `sum` at least, or none. It is `hi` itself
+    /// where `sum` is 0 or less. It is asked of the kind of the best run, and refused as `first_index` is.
+    pub fn reaches_back(&mut self, lo: u64, hi: u64, sum: i128) -> Result<Option<u64>, LongRefusal>
+        ensures { Searches (IsStartReachedIn sum) self.old kind.Best lo hi result self.new }
+    {
+        match self.prepare_for(Kind::Best, lo, hi) {
+            Ok(()) => Ok(self.start_inside(lo, hi, sum)),
+            Err(refusal) => Err(refusal),
+        }
+    }
+
+    // The same of a range that can be searched.
+    fn start_inside(&self, lo: u64, hi: u64, sum: i128) -> Option<u64>
+        requires { IsSearchable self.now kind.Best lo hi }
+        ensures { IsStartReachedIn sum self.now.held lo hi result }
+    {
+        if sum <= 0 {
+            return Some(hi);
+        }
+        self.find_start(Sought::Ending(sum), lo, hi)
+    }
+
+    /// The first of the least elements from index `lo` up to `hi`, and where it stands; none where there are no elements. It is asked of the
+    /// kind of the least, and refused as `first_index` is.
+    pub fn first_least(&mut self, lo: u64, hi: u64) -> Result<Option<LongPlaced>, LongRefusal>
+        ensures { Searches IsPlaceOfLeastIn self.old kind.Least lo hi result self.new }
+    {
+        match self.prepare_for(Kind::Least, lo, hi) {
+            Ok(()) => Ok(self.least_inside(lo, hi)),
+            Err(refusal) => Err(refusal),
+        }
+    }
+
+    // The same of a range that can be searched.
+    fn least_inside(&self, lo: u64, hi: u64) -> Option<LongPlaced>
+        requires { IsSearchable self.now kind.Least lo hi }
+        ensures { IsPlaceOfLeastIn self.now.held lo hi result }
+    {
+        let Some(least) = least_of(self.summary(Kind::Least, lo, hi)) else {
+            return None;
+        };
+        match self.find_end(Sought::AtMost(least), lo, hi) {
+            Some(end) => Some(LongPlaced::before(end, least)),
+            None => unreachable!(),
+        }
+    }
+
+    /// The first of the greatest elements, and where it stands; none where there are no elements. It is asked of the kind of the greatest, and
+    /// refused as `first_index` is.
+    pub fn first_greatest(&mut self, lo: u64, hi: u64) -> Result<Option<LongPlaced>, LongRefusal>
+        ensures { Searches IsPlaceOfGreatestIn self.old kind.Greatest lo hi result self.new }
+    {
+        match self.prepare_for(Kind::Greatest, lo, hi) {
+            Ok(()) => Ok(self.greatest_inside(lo, hi)),
+            Err(refusal) => Err(refusal),
+        }
+    }
+
+    // The same of a range that can be searched.
+    fn greatest_inside(&self, lo: u64, hi: u64) -> Option<LongPlaced>
+        requires { IsSearchable self.now kind.Greatest lo hi }
+        ensures { IsPlaceOfGreatestIn self.now.held lo hi result }
+    {
+        let Some(greatest) = greatest_of(self.summary(Kind::Greatest, lo, hi)) else {
+            return None;
+        };
+        match self.find_end(Sought::AtLeast(greatest), lo, hi) {
+            Some(end) => Some(LongPlaced::before(end, greatest)),
+            None => unreachable!(),
+        }
+    }
+
+    /// The best run from index `lo` up to `hi`: elements side by side, one at least, that add up to the most. Of several it is the one that
+    /// ends first, and of those the shortest. There is none where there are no elements. It is asked of the kind of the best run, and refused
+    /// as `first_index` is.
+    pub fn best_run(&mut self, lo: u64, hi: u64) -> Result<Option<LongRun>, LongRefusal>
+        ensures { Searches IsPlaceOfBestIn self.old kind.Best lo hi result self.new }
+    {
+        match self.prepare_for(Kind::Best, lo, hi) {
+            Ok(()) => Ok(self.best_inside(lo, hi)),
+            Err(refusal) => Err(refusal),
+        }
+    }
+
+    // The same of a range that can be searched.
+    fn best_inside(&self, lo: u64, hi: u64) -> Option<LongRun>
+        requires { IsSearchable self.now kind.Best lo hi }
+        ensures { IsPlaceOfBestIn self.now.held lo hi result }
+    {
+        let Some(totals) = best_of(self.summary(Kind::Best, lo, hi)) else {
+            return None;
+        };
+        let sum = totals.best;
+        match self.find_end(Sought::Run(sum), lo, hi) {
+            Some(to) => match self.find_start(Sought::Run(sum), lo, to) {
+                Some(from) => Some(LongRun { from, to, sum }),
+                None => unreachable!(),
+            },
+            None => unreachable!(),
+        }
+    }
+
+    // The summary by a kind of a range that can be searched.
+    fn summary(&self, kind: Kind, lo: u64, hi: u64) -> KindSummary
+        requires { IsSearchable self.now kind lo hi }
+        ensures { result ≡ summary_by self.now.table kind (slice_of self.now.held lo hi) }
+    {
+        match self.value(kind, lo, hi) {
+            Ok(answer) => answer.value,
+            Err(_) => unreachable!(),
+        }
+    }
+}
+
+// The kind by which an element within a bound is looked for.
+fn kind_of(bound: Bound) -> Kind
+    ensures { result ≡ kind_within bound }
 {
-    let shard = (position / SHARD as u64).min(full as u64);
-    ShardPlace {
-        shard: shard as usize,
-        index: (position - shard * SHARD as u64) as u32,
+    match bound {
+        Bound::AtLeast(_) => Kind::Greatest,
+        Bound::AtMost(_) => Kind::Least,
     }
 }

@@ -9,7 +9,7 @@ pub enum LongReceipt {
     Written { edit: u64, before: i64 },
     /// How many elements were dropped at the front.
     Expired { edit: u64, dropped: u64 },
-    /// The elements that stand under the first index and under the second now.
+    /// The elements under the first index and under the second, after the swap.
     Swapped { edit: u64, first: i64, second: i64 },
     /// How many elements were dropped at the end.
     Truncated { edit: u64, dropped: u64 },

@@ -1,105 +1,106 @@
-//! The series: a vector that goes on, and whose front may be dropped.
-ghost use Rattle.std.specs.Prelude.{◌≡◌, ◌+◌, ◌/◌, ◌^◌, ◌≤◌, [], length, All};
+//! The series: a list that goes on, and whose front may be dropped.
+ghost use Rattle.std.specs.Prelude.{◌≡◌, ◌^◌, ◌≤◌, [], length, All};
 ghost use Rattle.lv_geometry.specs.Elements.{IsElement};
+ghost use Rattle.lv_bodies.specs.Automata.{table_of};
 ghost use Rattle.lv_series.specs.Plain.{plain_series};
-ghost use Rattle.lv_series.specs.Sharded.{IsNewShard};
 ghost use Rattle.lv_series.specs.Series.{size_of};
 
-use crate::chains::Chain;
-use lv_bodies::LongBody;
+use crate::trees::Trees;
+use lv_bodies::Automaton;
 use std::alloc::Global;
 use std::marker::Model;
 
 /// The most that an index behind the last element may be: 2^62.
 pub const MOST: u64 = 1 << 62;
 
-/// A vector of `i64` that goes on: its elements and edits are bounded by memory alone, and elements at its front may expire. Elements
-/// are kept under the indices from `first` up to `size`.
+/// A list of `i64` that goes on: its elements and edits are bounded by memory only, and elements at its front may expire. Elements are
+/// kept under the indices from `first` up to `size`. An element takes 8 bytes of memory, and at most 16 where the array has just grown. A
+/// tree takes 2 bytes an element more (of the best run 16), and at most 6 (45) where it has grown or its window slides. Expired elements
+/// give their memory back, and their part of a tree serves the elements to come.
 #[derive(Drop)]
-pub struct Series<B: LongBody> {
-    pub(crate) chain: Chain<B>,
-    pub(crate) gone: u64,
-    pub(crate) skip: u64,
+pub struct Series {
+    // The block that is first in memory.
+    pub(crate) base: u64,
+    pub(crate) first: u64,
     pub(crate) edits: u64,
-    // How many ages were taken.
-    pub(crate) ages: u64,
+    pub(crate) elements: Vec<i64>,
+    pub(crate) trees: Trees,
 }
 
-impl<B: LongBody> Model for Series<B> {
-    ghost use Rattle.std.specs.Prelude.{◌≡◌, ◌+◌, ◌*◌, ◌/◌, ◌^◌, ◌≤◌, drop, length};
-    ghost use Rattle.lv_series.specs.Sharded.{ShardedState};
+impl Model for Series {
+    ghost use Rattle.lv_series.specs.Blocks.{IsWindow};
+    ghost use Rattle.lv_series.specs.Plain.{SeriesState};
+    ghost use Rattle.lv_series.specs.Series.{held_in};
+    ghost use Rattle.lv_series.specs.Trees.{AreOver, kinds_in, table_in};
 
-    ghost Value = { ShardedState B B.S };
+    ghost Value = { SeriesState };
 
     ghost view = { λ a. record {
-      kept = record { body = a.chain.held.body; held = record { first = a.gone + a.skip; elements = drop a.skip a.chain.held.elements }; edits = a.edits };
-      number = a.gone / 32760;
-      shards = a.chain.shards;
-      ages = a.ages;
+      table = table_in a.trees;
+      kinds = kinds_in a.trees;
+      held = held_in a.base a.first a.elements.items;
+      edits = a.edits;
     } };
 
-    ghost invariant = { λ a. (a.skip ≤ length a.chain.held.elements) × (a.gone + length a.chain.held.elements ≤ 2 ^ 62) × (a.skip ≤ 32760) × (a.gone ≡ 32760 * (a.gone / 32760)) };
+    ghost invariant = { λ a. IsWindow a.base a.first a.elements.items × AreOver a.base a.first a.elements.items a.trees };
 }
 
-impl<B: LongBody> Series<B> {
-    /// A series without elements. Takes no memory.
-    pub fn new(alloc: Global, body: B) -> Series<B>
-        ensures kept { result.kept ≡ plain_series body [] }
-        ensures number { result.number ≡ 0 }
-        ensures none { result.shards.full ≡ [] }
-        ensures fresh { IsNewShard result.shards.last }
-        ensures ages { result.ages ≡ 0 }
+impl Series {
+    /// A series without elements, and without trees. `automaton` is the one by which the kind of that name folds. Takes no memory.
+    pub fn new(alloc: Global, automaton: Automaton) -> Series
+        ensures { result ≡ plain_series (table_of automaton) [] }
     {
         Series {
-            chain: Chain::new(alloc, body),
-            gone: 0,
-            skip: 0,
+            base: 0,
+            first: 0,
             edits: 0,
-            ages: 0,
+            elements: Vec::new(alloc),
+            trees: Trees::new(alloc, automaton),
         }
     }
 
-    /// The index of the first element that is kept; where none is, that of the next that is pushed.
+    /// The index of the first element that is kept, or of the next one where none is.
+    #[inline(always)]
     pub fn first(&self) -> u64
-        ensures { result ≡ self.now.kept.held.first }
+        ensures { result ≡ self.now.held.first }
     {
-        self.gone + self.skip
+        self.first
     }
 
     /// The index behind the last element.
     #[inline(always)]
     pub fn size(&self) -> u64
-        ensures { result ≡ size_of self.now.kept.held }
+        ensures { result ≡ size_of self.now.held }
     {
-        self.gone + self.chain.len()
-    }
-
-    /// What holds of every series, for who goes on with a scan: each element has 64 bits, and no index is above 2^62. Computes nothing.
-    pub fn holds(&self)
-        ensures elements { All IsElement self.now.kept.held.elements }
-        ensures few { size_of self.now.kept.held ≤ 2 ^ 62 }
-    {
-        let _len = self.chain.len();
-    }
-
-    /// How many shards lie in memory: at most two more than its elements fill, so that the memory of expired ones comes back.
-    pub fn shards(&self) -> usize
-        ensures { result ≤ length self.now.kept.held.elements / 32760 + 2 }
-    {
-        self.chain.shards()
+        8 * self.base + self.elements.len() as u64
     }
 
     /// The number of the last accepted edit, 0 before any.
+    #[inline(always)]
     pub fn edits(&self) -> u64
-        ensures { result ≡ self.now.kept.edits }
+        ensures { result ≡ self.now.edits }
     {
         self.edits
     }
 
-    /// The body by which it reduces.
-    pub fn body(&self) -> B
-        ensures { result ≡ self.now.kept.body }
+    /// The automaton by which the kind of that name folds.
+    pub fn automaton(&self) -> Automaton
+        ensures { table_of result ≡ self.now.table }
     {
-        self.chain.body()
+        self.trees.states.body()
+    }
+
+    /// For how many elements there is memory. After an expiry these are at most twice those that are kept, and 64.
+    pub fn room(&self) -> usize {
+        self.elements.capacity()
+    }
+
+    /// What holds of every series, for who goes on with a scan: each element has 64 bits, and no index is above 2^62. Computes nothing.
+    pub fn holds(&self)
+        ensures elements { All IsElement self.now.held.elements }
+        ensures few { size_of self.now.held ≤ 2 ^ 62 }
+        ensures room { length self.now.held.elements ≤ 2 ^ 59 }
+    {
+        let _len = self.elements.len();
     }
 }

@@ -1,17 +1,16 @@
 //! What a series keeps under an index, and what it refuses.
 ghost use Rattle.std.specs.Prelude.{◌≡◌, true};
-ghost use Rattle.lv_series.specs.Series.{element_at, element_of, is_border, is_kept, refused, refused_on, size_of};
+ghost use Rattle.lv_series.specs.Series.{element_at, element_of, is_border, is_kept, range_refused, refused, refused_on, size_of};
 
 use crate::edits::LongEdit;
 use crate::refusals::LongRefusal;
 use crate::series::{MOST, Series};
-use lv_bodies::LongBody;
 
-impl<B: LongBody> Series<B> {
-    /// Why an edit would be refused, for want of memory apart; none where it would be accepted.
+impl Series {
+    /// Why an edit would be refused, except for memory; none where it would be accepted.
     #[inline(always)]
     pub fn verdict(&self, edit: &LongEdit) -> Option<LongRefusal>
-        ensures { result ≡ refused self.now.kept edit.now }
+        ensures { result ≡ refused self.now edit.now }
     {
         if self.edits == u64::MAX {
             return Some(LongRefusal::Worn);
@@ -22,7 +21,7 @@ impl<B: LongBody> Series<B> {
     // The same, while edits are left.
     #[inline(always)]
     fn verdict_on(&self, edit: &LongEdit) -> Option<LongRefusal>
-        ensures { result ≡ refused_on self.now.kept.held edit.now }
+        ensures { result ≡ refused_on self.now.held edit.now }
     {
         match *edit {
             LongEdit::Push(_) => (self.size() >= MOST).then_some(LongRefusal::Full),
@@ -36,23 +35,37 @@ impl<B: LongBody> Series<B> {
         }
     }
 
+    /// Why a range is refused, or none.
+    #[inline(always)]
+    pub fn range_refusal(&self, lo: u64, hi: u64) -> Option<LongRefusal>
+        ensures { result ≡ range_refused self.now.held lo hi }
+    {
+        if hi < lo {
+            return Some(LongRefusal::BadRange);
+        }
+        let kept = self.borders(lo) && self.borders(hi);
+        (!kept).then_some(self.out_of_range())
+    }
+
     // Whether an element is kept under an index.
-    fn keeps(&self, index: u64) -> bool
-        ensures { result ≡ is_kept self.now.kept.held index }
+    #[inline(always)]
+    pub(crate) fn keeps(&self, index: u64) -> bool
+        ensures { result ≡ is_kept self.now.held index }
     {
         self.first() <= index && index < self.size()
     }
 
     // Whether what is kept may begin or end at an index.
-    pub(crate) fn borders(&self, index: u64) -> bool
-        ensures { result ≡ is_border self.now.kept.held index }
+    #[inline(always)]
+    fn borders(&self, index: u64) -> bool
+        ensures { result ≡ is_border self.now.held index }
     {
         self.first() <= index && index <= self.size()
     }
 
     // That an index isn't kept, with what is.
     pub(crate) fn out_of_range(&self) -> LongRefusal
-        ensures { result ≡ LongRefusal.OutOfRange self.now.kept.held.first (size_of self.now.kept.held) }
+        ensures { result ≡ LongRefusal.OutOfRange self.now.held.first (size_of self.now.held) }
     {
         LongRefusal::OutOfRange {
             first: self.first(),
@@ -61,8 +74,9 @@ impl<B: LongBody> Series<B> {
     }
 
     /// The element under an index. Refused with `OutOfRange`.
+    #[inline(always)]
     pub fn get(&self, index: u64) -> Result<i64, LongRefusal>
-        ensures { result ≡ element_at self.now.kept.held index }
+        ensures { result ≡ element_at self.now.held index }
     {
         if self.keeps(index) {
             Ok(self.read(index))
@@ -72,10 +86,11 @@ impl<B: LongBody> Series<B> {
     }
 
     // The element under an index that is kept.
-    fn read(&self, index: u64) -> i64
-        requires { is_kept self.now.kept.held index ≡ true }
-        ensures { result ≡ element_of self.now.kept.held index }
+    #[inline(always)]
+    pub(crate) fn read(&self, index: u64) -> i64
+        requires { is_kept self.now.held index ≡ true }
+        ensures { result ≡ element_of self.now.held index }
     {
-        self.chain.get(index - self.gone)
+        self.elements.as_slice()[(index - 8 * self.base) as usize]
     }
 }

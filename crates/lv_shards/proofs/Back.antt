@@ -1,11 +1,8 @@
 -- That the numbers of a summary, read back, are what it says.
-use Rattle.std.proofs.Common.{◌≡◌, ℕ, ℤ, ◌%◌, ◌^◌, ◌<◌, ◌≤◌, Option, Some, None, List, [], ◌∷◌, length, get_or, refl, sym, ap, ◌∙◌, subst, arith, inl, inr, FitsSigned, Bool, true, false}
+use Rattle.std.proofs.Common.{◌≡◌, ℕ, ℤ, ◌%◌, ◌^◌, ◌<◌, ◌≤◌, Option, Some, None, List, [], ◌∷◌, length, get_or, refl, sym, ap, ◌∙◌, subst, arith, FitsSigned, Bool, true, false}
 use Rattle.std.specs.Prelude.{◌↔◌, IsTrue, IfSome, IsSome, is_some, unwrap_or, if◌then◌else◌}
-use Rattle.std.specs.Int.{w64, w128, cast_signed, cast_unsigned, from_le_bytes, to_le_bytes}
-use Rattle.std.proofs.lemmas.Bool.{cases_lt}
+use Rattle.std.specs.Int.{w64, w128, cast_signed, cast_unsigned, to_le_bytes}
 use Rattle.std.proofs.lemmas.Int.{ints, to_z-of_z}
-use Rattle.std.proofs.lemmas.List.{get_or_past}
-use Rattle.std.proofs.lemmas.Nat.{le_bytes_8}
 use Rattle.lv_geometry.specs.Elements.{IsElement}
 use Rattle.lv_bodies.specs.AffineLaws.{same_lines}
 use Rattle.lv_bodies.specs.AffineMaps.{IsAffineMap}
@@ -17,6 +14,7 @@ use Rattle.lv_bodies.specs.TotalsLaws.{same_runs}
 use Rattle.lv_bodies.specs.declared.affine.AffineMap.{AffineMap}
 use Rattle.lv_bodies.specs.declared.best.RunTotals.{RunTotals}
 use Rattle.lv_shards.specs.Bytes.{element_bits, run_or_zeros, states_at}
+use Rattle.lv_shards.specs.LeadsLaws.{row_at, states_back}
 use Rattle.lv_shards.specs.Reading.{six_of}
 use Rattle.lv_shards.specs.Summaries.{AreLeads}
 use Rattle.lv_shards.specs.declared.filled.Filled.{Filled}
@@ -68,27 +66,6 @@ pub map_back : (m : AffineMap) (a b n : ℕ) → IsAffineMap m n → a ≡ m.a �
 map_back m a b n h e f = same_lines (record { a = a % 2 ^ 32; b = b % 2 ^ 32 }) m (omega (arith, h.a, e)) (omega (arith, h.b, f))
 
 -- ---- states
-
--- states are bytes
-pub state_fits : (states : List ℕ) (n : ℕ) → IsStateMap states n → (i : ℕ) → get_or states i 0 < 8
-state_fits states n h i =
-    elim (cases_lt i (length states)) [
-      | inl below ↦ h.states i 0 below
-      | inr past ↦ omega (arith, get_or_past states i 0 past)
-    ]
-
-pub states_back : (states : List ℕ) (n k : ℕ) → IsStateMap states n → k ≡ from_le_bytes w64 states → to_le_bytes w64 k ≡ states
-states_back states n k h e = le_bytes_8 states k h.eight (λ i. omega (arith, state_fits states n h i)) e
-
--- their number fits
-pub states_short : (states : List ℕ) (n : ℕ) → IsStateMap states n → from_le_bytes w64 states < 2 ^ 64
-states_short states n h =
-    let fits = state_fits states n h in
-    omega (arith, fits 0, fits 1, fits 2, fits 3, fits 4, fits 5, fits 6, fits 7)
-
--- each of the four rows is one of states
-pub row_at : (leads : List (List ℕ)) (k : ℕ) → AreLeads leads → k < 4 → IsStateMap (get_or leads k []) 0
-row_at leads k h below = h.states k [] (omega (arith, h.four))
 
 -- a row that was written is one of states when it is read
 pub row_back : (leads : List (List ℕ)) (k n : ℕ) (row : List ℕ) → AreLeads leads → k < 4 → n ≡ states_at leads k → row ≡ to_le_bytes w64 n → IsStateMap row 0

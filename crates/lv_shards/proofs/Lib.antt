@@ -6,7 +6,6 @@ pub mod Possible
 pub mod Present
 pub mod ReadBack
 pub mod Short
-pub mod Spelled
 pub mod Tables
 pub mod TooLong
 pub mod TwoJoined

@@ -1,33 +1,14 @@
 -- That folds and joins may be the summaries of so many elements.
-use Rattle.std.proofs.Common.{◌≡◌, ℕ, ℤ, pos, ◌+◌, ◌^◌, ◌<◌, ◌≤◌, Option, List, [], ◌∷◌, length, refl, sym, ap, ◌∙◌, subst, arith, inl, inr}
-use Rattle.std.specs.Prelude.{IsTrue, IfSome, All}
+use Rattle.std.proofs.Common.{◌≡◌, ℕ, ℤ, ◌+◌, ◌^◌, ◌<◌, ◌≤◌, Option, List, [], ◌∷◌, length, refl, sym, ap, ◌∙◌, subst, arith, inl, inr}
+use Rattle.std.specs.Prelude.{IsTrue, IfSome}
 use Rattle.std.proofs.lemmas.Bool.{cases_lt}
-use Rattle.std.proofs.lemmas.Int.{ints}
-use Rattle.std.proofs.lemmas.List.Elements.{All-cons, All-nil}
-use Rattle.lv_geometry.specs.Elements.{IsElement}
 use Rattle.lv_bodies.specs.Body.{fold_of}
 use Rattle.lv_bodies.specs.LongLaws.{fold_of-within_long, six_long, six_long_by}
 use Rattle.lv_bodies.specs.Six.{SixSummary, six_operations, six_operations_by, six_within}
-use Rattle.lv_bodies.specs.TableLaws.{automaton_laws}
-use Rattle.lv_bodies.specs.Tables.{IsStateMap, column_of, is_table}
+use Rattle.lv_bodies.specs.Tables.{is_table}
+use Rattle.lv_shards.specs.LeadsLaws.{leads_of_table}
 use Rattle.lv_shards.specs.Summaries.{AreLeads, HasElements, IsFold, IsPossible, Summary, empty_of, joined, leads_of}
 use Rattle.lv_shards.proofs.Present.{filled_fold, filled_left, filled_right}
-
--- what holds of four rows holds of each
-four_rows : (P : List ℕ → Type 0) (a b c d : List ℕ) → P a → P b → P c → P d → All P (a ∷ b ∷ c ∷ d ∷ [])
-four_rows P a b c d of_a of_b of_c of_d = All-cons P a (b ∷ c ∷ d ∷ []) of_a (All-cons P b (c ∷ d ∷ []) of_b (All-cons P c (d ∷ []) of_c (All-cons P d [] of_d (All-nil P))))
-
--- what a table leads to
-pub leads_of_table : (table : List (List ℕ)) → IsTrue (is_table table) → AreLeads (leads_of table)
-leads_of_table table valid =
-    let IsRow : List ℕ → Type 0 = λ row. IsStateMap row 0 in
-    let at : (x : ℤ) → IsElement x → IsRow (column_of table x) = λ x e. let kept = (automaton_laws table valid).lift_within x e in record { eight = kept.eight; states = kept.states } in
-    record {
-      four = refl;
-      states =
-          four_rows IsRow (column_of table (pos 0)) (column_of table (pos 1)) (column_of table (pos 2)) (column_of table (pos 3))
-          (at (pos 0) (omega (arith, ints))) (at (pos 1) (omega (arith, ints))) (at (pos 2) (omega (arith, ints))) (at (pos 3) (omega (arith, ints)));
-    }
 
 -- no elements come to the identity, and some to what they have
 ends_alike : (table : List (List ℕ)) (xs : List ℤ) → (length xs ≡ 0 → fold_of (six_operations_by table) xs ≡ six_operations.identity) × (0 < length xs → HasElements (fold_of (six_operations_by table) xs))

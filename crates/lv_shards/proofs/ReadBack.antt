@@ -6,7 +6,7 @@ use Rattle.lv_bodies.specs.EqualLaws.{exact_numbers}
 use Rattle.lv_shards.specs.Bytes.{bytes_of, numbers_of, version_of}
 use Rattle.lv_shards.specs.Summaries.{IsPossible, Summary}
 use Rattle.lv_shards.proofs.Short.{numbers_short}
-use Rattle.lv_shards.proofs.Spelled.{number_in_sealed}
+use Rattle.lv_shards.specs.SpelledLaws.{number_in_sealed}
 
 some_is : {T : Type 0} (x y : T) → Some x ≡ Some y → x ≡ y
 some_is x y e = cc

@@ -1,14 +1,14 @@
 -- That the numbers of a summary have 64 bits.
-use Rattle.std.proofs.Common.{ℕ, ℤ, ◌^◌, ◌<◌, ◌≤◌, Option, Some, None, List, [], get_or, arith}
+use Rattle.std.proofs.Common.{ℕ, ℤ, ◌^◌, ◌<◌, ◌≤◌, Option, Some, None, arith}
 use Rattle.std.specs.Prelude.{IfSome, is_some, unwrap_or, All, if◌then◌else◌}
 use Rattle.std.proofs.lemmas.Int.{ints}
 use Rattle.std.proofs.lemmas.List.Elements.{All-from_recursion}
 use Rattle.lv_geometry.specs.Elements.{IsElement}
 use Rattle.lv_bodies.specs.RunTotals.{AreTotalsOf, IsBest, IsTotalOf}
 use Rattle.lv_bodies.specs.declared.best.RunTotals.{RunTotals}
-use Rattle.lv_shards.specs.Bytes.{element_bits, high_bits, low_bits, numbers_of, run_or_zeros, states_at}
-use Rattle.lv_shards.specs.Summaries.{AreLeads, IsPossible, Summary}
-use Rattle.lv_shards.proofs.Back.{row_at, states_short}
+use Rattle.lv_shards.specs.Bytes.{element_bits, high_bits, low_bits, numbers_of, run_or_zeros}
+use Rattle.lv_shards.specs.Summaries.{IsPossible, Summary}
+use Rattle.lv_shards.specs.LeadsLaws.{row_short, states_short}
 
 mark_short : (edit : Option ℕ) → (if is_some edit then 1 else 0) < 2 ^ 64
 mark_short None = omega arith
@@ -31,9 +31,6 @@ high_short n x few h = omega (arith, ints)
 pub run_within : (best : Option RunTotals) (n : ℕ) → IsBest best n → AreTotalsOf (run_or_zeros best) n
 run_within None n h = record { total = omega arith; prefix = omega arith; suffix = omega arith; best = omega arith }
 run_within (Some run) n h = h
-
-row_short : (leads : List (List ℕ)) (k : ℕ) → AreLeads leads → k < 4 → states_at leads k < 2 ^ 64
-row_short leads k h below = states_short (get_or leads k []) 0 (row_at leads k h below)
 
 pub numbers_short : (s : Summary) → IsPossible s → All (λ n. n < 2 ^ 64) (numbers_of s)
 numbers_short s p =

@@ -8,7 +8,8 @@ use Rattle.lv_bodies.specs.Plain.{remainder}
 use Rattle.lv_bodies.specs.Six.{SixSummary, six_operations_by}
 use Rattle.lv_bodies.specs.Tables.{column_of, is_table}
 use Rattle.lv_shards.specs.Summaries.{AreLeads, IsSummaryOf, Summary, leads_of, rows_of}
-use Rattle.lv_shards.proofs.Back.{four_are, row_at, state_fits}
+use Rattle.lv_shards.specs.LeadsLaws.{row_at, state_fits}
+use Rattle.lv_shards.proofs.Back.{four_are}
 
 -- a row is what each of the four leads to
 pub row_is : (leads : List (List ℕ)) (q : ℕ) → length leads ≡ 4

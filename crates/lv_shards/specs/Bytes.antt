@@ -36,9 +36,12 @@ numbers_of s =
     ∷ s.six.1.1.1.1.0.a ∷ s.six.1.1.1.1.0.b ∷ from_le_bytes w64 s.six.1.1.1.1.1
     ∷ states_at s.leads 0 ∷ states_at s.leads 1 ∷ states_at s.leads 2 ∷ states_at s.leads 3 ∷ []
 
--- the checksum of some bytes: FNV-1a of 64 bits
-unfoldable pub checksum_of : List ℕ → ℕ
-checksum_of bytes = fold (λ hash byte. (bit_xor hash byte * 1099511628211) % 2 ^ 64) 14695981039346656037 bytes
+-- the checksum of some bytes: FNV-1a of 64 bits; it begins with a number, and goes on byte by byte
+unfoldable pub checksum_from : ℕ → List ℕ → ℕ
+checksum_from hash bytes = fold (λ h byte. (bit_xor h byte * 1099511628211) % 2 ^ 64) hash bytes
+
+abbrev pub checksum_of : List ℕ → ℕ
+checksum_of bytes = checksum_from 14695981039346656037 bytes
 
 -- numbers by their bytes
 unfoldable pub spelled : List ℕ → List ℕ

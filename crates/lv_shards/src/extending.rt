@@ -27,8 +27,8 @@ fn rows_by(leads: &Leads) -> [[u8; 4]; 8]
     rows
 }
 
-// The automaton that leads so.
-fn automaton_by(leads: &Leads) -> Automaton
+/// The automaton that leads so.
+pub fn automaton_by(leads: &Leads) -> Automaton
     requires { AreLeads leads.now }
     ensures rows { table_of result ≡ rows_of leads.now }
     ensures leads { leads_of (table_of result) ≡ leads.now }

@@ -15,11 +15,12 @@ mod refusals;
 mod shard;
 mod sixfold;
 
+pub use extending::automaton_by;
 pub use joins::join_all;
 pub use laws::{
     joins_may_be_grouped, shards_come_to_the_fold_of_all, the_empty_summary_changes_nothing,
 };
-pub use numbers::SUMMARY_BYTES;
+pub use numbers::{CHECKSUM_OF_NONE, SUMMARY_BYTES, checksum, checksum_more, number_at};
 pub use refusals::{JoinRefusal, ReadRefusal};
 pub use shard::ShardSummary;
-pub use sixfold::{Each, Leads};
+pub use sixfold::{Each, Leads, leads_by, leads_by_numbers};

@@ -1,7 +1,7 @@
 //! Numbers as bytes, the lowest first, and their checksum.
-ghost use Rattle.std.specs.Prelude.{◌≡◌, ◌<◌, ◌^◌, ◌++◌, ℕ, ℤ, List, All, length, FitsSigned};
+ghost use Rattle.std.specs.Prelude.{◌≡◌, ◌+◌, ◌*◌, ◌<◌, ◌≤◌, ◌^◌, ◌++◌, ℕ, ℤ, List, All, length, FitsSigned};
 ghost use Rattle.std.specs.Int.{w64, w128, to_le_bytes};
-ghost use Rattle.lv_shards.specs.Bytes.{checksum_of, high_bits, low_bits, number_in, sealed_by, spelled};
+ghost use Rattle.lv_shards.specs.Bytes.{checksum_from, checksum_of, high_bits, low_bits, number_in, sealed_by, spelled};
 
 /// How many bytes a summary has.
 pub const SUMMARY_BYTES: usize = 184;
@@ -11,6 +11,9 @@ pub const NUMBER_BYTES: usize = 176;
 
 /// How many numbers a summary has.
 pub const NUMBERS: usize = 22;
+
+/// The checksum of no bytes.
+pub const CHECKSUM_OF_NONE: u64 = 14_695_981_039_346_656_037;
 
 /// The numbers that a summary is written by.
 pub type Numbers = [u64; NUMBERS];
@@ -42,11 +45,18 @@ pub fn spell(numbers: &Numbers) -> [u8; NUMBER_BYTES]
     bytes
 }
 
-/// The checksum of some bytes: FNV-1a of 64 bits.
-fn checksum(bytes: &[u8]) -> u64
+/// The checksum of some bytes: FNV-1a of 64 bits. O(n).
+pub fn checksum(bytes: &[u8]) -> u64
     ensures { result ≡ checksum_of bytes.now }
 {
-    let mut hash = 14_695_981_039_346_656_037_u64;
+    checksum_more(CHECKSUM_OF_NONE, bytes)
+}
+
+/// The checksum of some bytes, and then of these, where `before` is that of the first ones. O(n).
+pub fn checksum_more(before: u64, bytes: &[u8]) -> u64
+    ensures { result ≡ checksum_from before bytes.now }
+{
+    let mut hash = before;
     for byte in bytes {
         hash = (hash ^ u64::from(*byte)).wrapping_mul(1_099_511_628_211);
     }
@@ -64,8 +74,8 @@ pub fn seal(payload: &[u8; NUMBER_BYTES]) -> [u8; SUMMARY_BYTES]
 }
 
 /// The number whose eight bytes stand at a place among the numbers.
-pub fn number_at(bytes: &[u8; SUMMARY_BYTES], j: usize) -> u64
-    requires { j < 22 }
+pub fn number_at(bytes: &[u8], j: usize) -> u64
+    requires { 8 * j + 8 ≤ length bytes.now }
     ensures { result ≡ number_in bytes.now j }
 {
     u64::from_le_bytes([

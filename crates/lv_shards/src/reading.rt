@@ -4,10 +4,10 @@ ghost use Rattle.lv_shards.specs.Bytes.{numbers_of};
 ghost use Rattle.lv_shards.specs.Reading.{six_of};
 ghost use Rattle.lv_shards.specs.Summaries.{AreLeads, IsPossible, Summary};
 
-use crate::filled::{Filled, are_states};
+use crate::filled::Filled;
 use crate::numbers::{Numbers, whole};
 use crate::shard::ShardSummary;
-use crate::sixfold::Leads;
+use crate::sixfold::{Leads, leads_by_numbers};
 use lv_bodies::{AffineMap, RunTotals};
 
 // An edit behind its mark.
@@ -55,13 +55,7 @@ fn leads_in(numbers: &Numbers) -> Option<Leads>
     ensures kept { IfSome result AreLeads }
     ensures back { (s : Summary) → AreLeads s.leads → numbers.now ≡ numbers_of s → result ≡ Some s.leads }
 {
-    let (zero, one) = (numbers[18].to_le_bytes(), numbers[19].to_le_bytes());
-    let (two, three) = (numbers[20].to_le_bytes(), numbers[21].to_le_bytes());
-    if are_states(zero) && are_states(one) && are_states(two) && are_states(three) {
-        Some([zero, one, two, three])
-    } else {
-        None
-    }
+    leads_by_numbers(numbers[18], numbers[19], numbers[20], numbers[21])
 }
 
 /// The summary that the numbers say, if some elements may have it.

@@ -1,10 +1,12 @@
 //! The six summaries side by side, as plain data that can be made of its parts, and what an automaton leads to.
-ghost use Rattle.std.specs.Prelude.{◌≡◌};
+ghost use Rattle.std.specs.Prelude.{◌≡◌, ℕ, List, Some, IfSome};
 ghost use Rattle.lv_bodies.specs.Automata.{table_of};
 ghost use Rattle.lv_bodies.specs.Long.{CanJoinLong};
 ghost use Rattle.lv_bodies.specs.Six.{six_operations, six_within};
-ghost use Rattle.lv_shards.specs.Summaries.{leads_of};
+ghost use Rattle.lv_shards.specs.Bytes.{states_at};
+ghost use Rattle.lv_shards.specs.Summaries.{AreLeads, leads_of};
 
+use crate::filled::are_states;
 use lv_bodies::{Affine, Automaton, Best, Body, Greatest, Least, LongBody, Six, SixPairs, Sum};
 
 /// The summaries by each: the sum, the least, the greatest, the best run, the map, the states.
@@ -51,4 +53,18 @@ pub fn join_each(a: Each, b: Each) -> Each
         Sum.combine_long(sum, next_sum),
         (Least.combine_long(least, next_least), later),
     )
+}
+
+/// What an automaton leads to, by the numbers in which four rows of states are written; none where they are no states.
+pub fn leads_by_numbers(zero: u64, one: u64, two: u64, three: u64) -> Option<Leads>
+    ensures kept { IfSome result AreLeads }
+    ensures back { (leads : List (List ℕ)) → AreLeads leads → zero ≡ states_at leads 0 → one ≡ states_at leads 1 → two ≡ states_at leads 2 → three ≡ states_at leads 3 → result ≡ Some leads }
+{
+    let (zero, one) = (zero.to_le_bytes(), one.to_le_bytes());
+    let (two, three) = (two.to_le_bytes(), three.to_le_bytes());
+    if are_states(zero) && are_states(one) && are_states(two) && are_states(three) {
+        Some([zero, one, two, three])
+    } else {
+        None
+    }
 }

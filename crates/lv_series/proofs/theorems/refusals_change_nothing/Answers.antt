@@ -2,4 +2,4 @@
 use Rattle.lv_series.proofs.theorems.refusals_change_nothing.Goals as goal
 
 pub returns : goal.returns
-returns g c = λ old new edit refusal answers. answers.same
+returns c = λ old new edit refusal answers. answers.same

@@ -1,6 +1,6 @@
 -- Proof of `numbers_in`: the numbers whose bytes come first.
 use Rattle.std.proofs.Common.{arith}
-use Rattle.lv_shards.proofs.Spelled.{all_read}
+use Rattle.lv_shards.specs.SpelledLaws.{all_read}
 use Rattle.lv_shards.proofs.numbers.numbers_in.Goals as goal
 
 pub returns : goal.returns

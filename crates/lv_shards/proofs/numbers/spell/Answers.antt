@@ -1,7 +1,6 @@
 -- Proof of `spell`: numbers by their bytes.
 use Rattle.std.proofs.Common.{◌*◌, refl, ◌∙◌, sym, ap, length, arith}
-use Rattle.lv_shards.proofs.Spelled.{spelled_none}
-use Rattle.lv_shards.proofs.Written.{still_many, written_more}
+use Rattle.lv_shards.specs.SpelledLaws.{spelled_none, still_many, written_more}
 use Rattle.lv_shards.proofs.numbers.spell.Goals as goal
 
 pub loop-j-init : goal.loop-j-init

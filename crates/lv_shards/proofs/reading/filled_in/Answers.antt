@@ -1,6 +1,7 @@
 -- Proof of `filled_in`: what some elements come to.
 use Rattle.std.proofs.Common.{ℕ, ◌∙◌, ap, get_or}
-use Rattle.lv_shards.proofs.Back.{element_back, map_back, six_back, states_back}
+use Rattle.lv_shards.specs.LeadsLaws.{states_back}
+use Rattle.lv_shards.proofs.Back.{element_back, map_back, six_back}
 use Rattle.lv_shards.proofs.reading.filled_in.Goals as goal
 
 pub returns : goal.returns

@@ -1,48 +1,40 @@
 -- Proof of `Series::make_pushes`.
-use Rattle.std.proofs.Common.{◌≡◌, None, length, inr, refl, ap, arith, length-append}
-use Rattle.lv_series.specs.Pushes.{verdict_of_pushes}
-use Rattle.lv_series.proofs.FreeLaws.{state_of}
-use Rattle.lv_series.proofs.PushLaws.{free_pushes, pushes_accepted}
-use Rattle.lv_series.proofs.SeriesLaws.{size_held}
+use Rattle.std.proofs.Common.{◌≡◌, ◌+◌, None, length, sym, ap, ◌∙◌, arith}
+use Rattle.lv_series.specs.Batches.{pushes_of, verdict_of_edits}
+use Rattle.lv_series.specs.Series.{held_in}
+use Rattle.lv_series.proofs.BatchLaws.{all_accepted, count_pushes, free_pushes, pushes_made}
+use Rattle.lv_series.proofs.KeptLaws.{more_in, size_in}
+use Rattle.lv_series.proofs.SeriesLaws.{with_trees}
 use Rattle.lv_series.proofs.series.Series.make_pushes.Goals as goal
 
-pub push_all-requires-after_bounds : goal.push_all-requires-after_bounds
-push_all-requires-after_bounds g c = λ _ _.
+pub push_each-requires-clause-numbered : goal.push_each-requires-clause-numbered
+push_each-requires-clause-numbered c =
     let s = c.self.inside in
-    let old = state_of s.chain.held s.gone s.skip s.edits in
-    let free : verdict_of_pushes old c.args.values.now ≡ None = rw (← c.self.view_is) at c.requires in
-    let size = size_held s.gone s.skip s.chain.held.elements c.self.invariant.0 in
-    let room = free_pushes old c.args.values.now (omega arith) (omega (arith, size, c.self.invariant.1)) free in
+    let els = s.elements.items in
+    let window = c.self.invariant.0 in
+    let st = with_trees s.trees (held_in s.base s.first els) s.edits in
+    let free : verdict_of_edits st (pushes_of c.args.values.now) ≡ None = rw (← c.self.view_is) at c.requires in
+    let size = size_in s.base s.first els window in
+    let room = free_pushes st c.args.values.now (omega arith) (omega (arith, size, window.numbered)) free in
     omega (arith, room.1, size)
 
 pub overflow_add-self : goal.overflow_add-self
-overflow_add-self g c =
+overflow_add-self c =
     let s = c.self.inside in
-    let old = state_of s.chain.held s.gone s.skip s.edits in
-    let free : verdict_of_pushes old c.args.values.now ≡ None = rw (← c.self.view_is) at c.requires in
-    let size = size_held s.gone s.skip s.chain.held.elements c.self.invariant.0 in
-    let room = free_pushes old c.args.values.now (omega arith) (omega (arith, size, c.self.invariant.1)) free in
+    let els = s.elements.items in
+    let window = c.self.invariant.0 in
+    let st = with_trees s.trees (held_in s.base s.first els) s.edits in
+    let free : verdict_of_edits st (pushes_of c.args.values.now) ≡ None = rw (← c.self.view_is) at c.requires in
+    let size = size_in s.base s.first els window in
+    let room = free_pushes st c.args.values.now (omega arith) (omega (arith, size, window.numbered)) free in
     omega (arith, room.0)
 
-pub invariant_of-self : goal.invariant_of-self
-invariant_of-self g c =
+pub returns : goal.returns
+returns c =
     let s = c.self.inside in
-    let old = state_of s.chain.held s.gone s.skip s.edits in
-    let free : verdict_of_pushes old c.args.values.now ≡ None = rw (← c.self.view_is) at c.requires in
-    let size = size_held s.gone s.skip s.chain.held.elements c.self.invariant.0 in
-    let room = free_pushes old c.args.values.now (omega arith) (omega (arith, size, c.self.invariant.1)) free in
-    let long = ap (λ t. length t.elements) c.in-Ok.ensures.ok in
-    let more = length-append s.chain.held.elements c.args.values.now in
-    (omega (arith, long, more, c.self.invariant.0), omega (arith, long, more, room.1, size), c.self.invariant.2, c.self.invariant.3)
-
-pub returns-in-Ok : goal.returns-in-Ok
-returns-in-Ok g c =
-    let s = c.self.inside in
-    let old = state_of s.chain.held s.gone s.skip s.edits in
-    let free : verdict_of_pushes old c.args.values.now ≡ None = rw (← c.self.view_is) at c.requires in
-    rw (← c.self.view_is) (pushes_accepted s.chain.held c.push_all.new.self.held s.gone s.skip s.edits c.args.values.now c.self.invariant.0 free c.in-Ok.ensures.ok)
-
-pub returns-in-Err : goal.returns-in-Err
-returns-in-Err g c =
-    let s = c.self.inside in
-    rw (← c.self.view_is) record { why = inr (rw (← c.self.view_is) at c.requires, refl); same = ap (λ t. state_of t s.gone s.skip s.edits) c.in-Err.ensures.err }
+    let xs = c.args.values.now in
+    let els = s.elements.items in
+    let held = held_in s.base s.first els in
+    let free : verdict_of_edits (with_trees s.trees held s.edits) (pushes_of xs) ≡ None = rw (← c.self.view_is) at c.requires in
+    let made = ap (held_in s.base s.first) (c.push_each.ensures.pushed c.if-not-push_each.false) ∙ more_in s.base s.first els c.self.invariant.0 xs ∙ sym (pushes_made held xs) in
+    rw (← c.self.view_is) (all_accepted s.trees c.push_each.new.trees held (held_in s.base s.first c.push_each.new.elements.items) s.edits (s.edits + length xs) (pushes_of xs) c.push_each.ensures.kinds free made (omega (arith, count_pushes xs)))

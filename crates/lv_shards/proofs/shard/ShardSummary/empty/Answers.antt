@@ -1,7 +1,8 @@
 -- Proof of `ShardSummary::empty`: the summary of no elements.
 use Rattle.lv_bodies.specs.Automata.{table_of}
 use Rattle.lv_shards.specs.Summaries.{leads_of}
-use Rattle.lv_shards.proofs.Possible.{leads_of_table, possible_empty}
+use Rattle.lv_shards.specs.LeadsLaws.{leads_of_table}
+use Rattle.lv_shards.proofs.Possible.{possible_empty}
 use Rattle.lv_shards.proofs.shard.ShardSummary.empty.Goals as goal
 
 pub invariant_of-result : goal.invariant_of-result

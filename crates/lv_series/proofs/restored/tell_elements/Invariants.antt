@@ -1,0 +1,8 @@
+-- What the loop keeps in `tell_elements`: tells that the elements of a slice are of 64 bits.
+use Rattle.std.proofs.Common.{All, take}
+use Rattle.lv_geometry.specs.Elements.{IsElement}
+use Rattle.lv_series.proofs.restored.tell_elements.Given as goal
+
+-- each element so far is of 64 bits
+abbrev pub invariant-loop-x : goal.invariant-loop-x
+invariant-loop-x l = All IsElement (take l.x-index l.xs)

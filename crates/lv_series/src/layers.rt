@@ -1,0 +1,256 @@
+//! The tree of one kind over the blocks of a series, where it is kept.
+ghost use Rattle.std.specs.Prelude.{◌≡◌, ◌+◌, ◌-◌, ◌*◌, ◌/◌, ◌^◌, ◌≤◌, [], true, false, if◌then◌else◌, length, IfSome};
+ghost use Rattle.std.specs.List.{slice_range};
+ghost use Rattle.lv_bodies.specs.Body.{fold_of};
+ghost use Rattle.lv_series.specs.Blocks.{CanCut, CanGrow, CanRenew, CoversBlocks, IsOver, IsWindow, before_block, from_block, with_leaf, with_leaf_at, without_last};
+ghost use Rattle.lv_tree.specs.Searches.{FindsEnd, FindsStart};
+
+use crate::blocks::BLOCK;
+use lv_bodies::{LongBody, fold_long};
+use lv_tree::{FoldTree, Items, TestFor, Tree, find_sought_end, find_sought_start, fold_range};
+use std::alloc::Global;
+use std::marker::Model;
+
+/// A fold tree whose leaves are blocks of eight elements, or none.
+#[derive(Drop)]
+pub struct Layer<B: LongBody> {
+    kept: bool,
+    tree: FoldTree<B>,
+}
+
+impl<B: LongBody> Model for Layer<B> {
+    ghost use Rattle.lv_series.specs.Blocks.{Layered};
+
+    ghost Value = { Layered B B.S };
+
+    ghost view = { λ a. record { body = a.tree.body; kept = a.kept; first = a.tree.first; sums = a.tree.sums } };
+}
+
+impl<B: LongBody> Layer<B> {
+    /// No tree. Takes no memory.
+    pub fn new(alloc: Global, body: B) -> Layer<B>
+        ensures { result ≡ record { body = body; kept = false; first = 0; sums = [] } }
+    {
+        Layer {
+            kept: false,
+            tree: FoldTree::new(alloc, body, 0),
+        }
+    }
+
+    /// By which body the tree folds.
+    #[inline(always)]
+    pub fn body(&self) -> B
+        ensures { result ≡ self.now.body }
+    {
+        self.tree.body()
+    }
+
+    /// Whether there is a tree.
+    #[inline(always)]
+    pub fn is_kept(&self) -> bool
+        ensures { result ≡ self.now.kept }
+    {
+        self.kept
+    }
+
+    /// Adds the leaf of a block behind the others, where `before` says that this was done in the trees before. Where there is no memory
+    /// nothing has changed, and it says so.
+    #[inline(always)]
+    pub fn grow(&mut self, block: &[i64], before: bool) -> bool
+        requires eight { length block.now ≡ 8 }
+        requires can { CanGrow (B.operations self.old.body) block.now self.old }
+        ensures before { result ≡ true → before ≡ true }
+        ensures grown { result ≡ true → self.new ≡ with_leaf (fold_of (B.operations self.old.body) block.now) self.old }
+        ensures same { result ≡ false → self.new ≡ self.old }
+    {
+        if !before {
+            return false;
+        }
+        if !self.kept {
+            return true;
+        }
+        let sum = self.tree.body().fold_eight(block);
+        self.tree.push(sum).is_ok()
+    }
+
+    /// Takes the last leaf away again, where it has `grown` by one.
+    #[inline(always)]
+    pub fn take_back(&mut self, grown: bool)
+        ensures { self.new ≡ (if grown then without_last self.old else self.old) }
+    {
+        if grown && self.kept {
+            let count = self.tree.len();
+            self.tree.truncate(count.saturating_sub(1));
+        }
+    }
+
+    /// Folds the leaf of a block anew.
+    #[inline(always)]
+    pub fn renew(&mut self, block: u64, elements: &[i64])
+        requires eight { length elements.now ≡ 8 }
+        requires can { CanRenew (B.operations self.old.body) block elements.now self.old }
+        ensures { self.new ≡ with_leaf_at block (fold_of (B.operations self.old.body) elements.now) self.old }
+    {
+        if self.kept {
+            let sum = self.tree.body().fold_eight(elements);
+            self.tree.set(block, sum);
+        }
+    }
+
+    /// Keeps the leaves of the blocks before this one.
+    #[inline(always)]
+    pub fn truncate(&mut self, block: u64)
+        requires { CanCut block self.old }
+        ensures { self.new ≡ before_block block self.old }
+    {
+        if self.kept {
+            let first = self.tree.first();
+            self.tree.truncate((block - first) as usize);
+        }
+    }
+
+    /// Drops the leaves of the blocks before this one.
+    #[inline(always)]
+    pub fn expire(&mut self, block: u64)
+        requires { CanCut block self.old }
+        ensures { self.new ≡ from_block block self.old }
+    {
+        if self.kept {
+            self.tree.expire(block);
+        }
+    }
+
+    /// Makes the tree, with a leaf for each block that is whole, where there is none. Where there is no memory nothing has changed, and it
+    /// says so.
+    pub fn make(&mut self, elements: &Vec<i64>, base: u64, first: u64) -> bool
+        requires window { IsWindow base first elements.now.items }
+        requires over { IsOver (B.operations self.old.body) base first elements.now.items self.old }
+        ensures made { result ≡ true → self.new.kept ≡ true }
+        ensures kept { self.old.kept ≡ true → result ≡ true }
+        ensures same { result ≡ false → self.new ≡ self.old }
+        ensures over { IsOver (B.operations self.old.body) base first elements.now.items self.new }
+        ensures body { self.new.body ≡ self.old.body }
+    {
+        if self.kept {
+            return true;
+        }
+        let body = self.tree.body();
+        match grown_over(
+            *elements.allocator(),
+            &body,
+            elements.as_slice(),
+            base,
+            first,
+        ) {
+            None => false,
+            Some(tree) => {
+                self.tree = tree;
+                self.kept = true;
+                true
+            }
+        }
+    }
+
+    /// The fold of the elements from a place up to another: by the tree, where it is kept, or else over the range.
+    #[inline(always)]
+    pub fn fold(&self, elements: &[i64], base: u64, first: u64, from: usize, to: usize) -> B::S
+        requires window { IsWindow base first elements.now }
+        requires over { IsOver (B.operations self.now.body) base first elements.now self.now }
+        requires low { first ≤ 8 * base + from }
+        requires order { from ≤ to }
+        requires high { to ≤ length elements.now }
+        ensures { result ≡ fold_of (B.operations self.now.body) (slice_range elements.now from to) }
+    {
+        if !self.kept {
+            let body = self.tree.body();
+            return fold_long(&body, &elements[from..to]);
+        }
+        let gone = gone_before(base, first);
+        let items = Items::new(&elements[gone..]);
+        fold_range(&self.tree, &items, from - gone, to - gone)
+    }
+
+    /// The end at which the range from a place on comes to have what a test seeks, at most `to`, or none, by the tree.
+    pub fn find_end<T: TestFor<B>>(
+        &self,
+        elements: &[i64],
+        base: u64,
+        first: u64,
+        test: &T,
+        from: usize,
+        to: usize,
+    ) -> Option<usize>
+        requires window { IsWindow base first elements.now }
+        requires over { IsOver (B.operations self.now.body) base first elements.now self.now }
+        requires kept { self.now.kept ≡ true }
+        requires low { first ≤ 8 * base + from }
+        requires order { from ≤ to }
+        requires high { to ≤ length elements.now }
+        ensures { FindsEnd (T.seeks test.now) elements.now from to result }
+    {
+        let gone = gone_before(base, first);
+        let items = Items::new(&elements[gone..]);
+        match find_sought_end(&self.tree, &items, test, from - gone, to - gone) {
+            Some(end) => Some(gone + end),
+            None => None,
+        }
+    }
+
+    /// The start at which the range up to a place comes to have what a test seeks, at least `from`, or none, by the tree.
+    pub fn find_start<T: TestFor<B>>(
+        &self,
+        elements: &[i64],
+        base: u64,
+        first: u64,
+        test: &T,
+        from: usize,
+        to: usize,
+    ) -> Option<usize>
+        requires window { IsWindow base first elements.now }
+        requires over { IsOver (B.operations self.now.body) base first elements.now self.now }
+        requires kept { self.now.kept ≡ true }
+        requires low { first ≤ 8 * base + from }
+        requires order { from ≤ to }
+        requires high { to ≤ length elements.now }
+        ensures { FindsStart (T.seeks test.now) elements.now from to result }
+    {
+        let gone = gone_before(base, first);
+        let items = Items::new(&elements[gone..]);
+        match find_sought_start(&self.tree, &items, test, from - gone, to - gone) {
+            Some(start) => Some(gone + start),
+            None => None,
+        }
+    }
+}
+
+// How many elements in memory are before the block of the first that is kept, which is that of a tree's first leaf.
+#[inline(always)]
+fn gone_before(base: u64, first: u64) -> usize
+    requires low { 8 * base ≤ first }
+    requires few { first ≤ 8 * base + 2 ^ 61 }
+    ensures { result ≡ 8 * (first / 8 - base) }
+{
+    BLOCK * (first / BLOCK as u64 - base) as usize
+}
+
+// A tree with a leaf for each block that is whole, from that of `first` on; none where there is no memory.
+fn grown_over<B: LongBody>(
+    alloc: Global,
+    body: &B,
+    elements: &[i64],
+    base: u64,
+    first: u64,
+) -> Option<FoldTree<B>>
+    requires window { IsWindow base first elements.now }
+    ensures { IfSome result (λ tree. (tree.body ≡ body.now) × CoversBlocks (B.operations body.now) base first elements.now record { body = tree.body; kept = true; first = tree.first; sums = tree.sums }) }
+{
+    let block = first / BLOCK as u64;
+    let mut tree = FoldTree::new(alloc, *body, block);
+    for k in (block - base) as usize..elements.len() / BLOCK {
+        let sum = body.fold_eight(&elements[BLOCK * k..BLOCK * k + BLOCK]);
+        if tree.push(sum).is_err() {
+            return None;
+        }
+    }
+    Some(tree)
+}

@@ -1,0 +1,118 @@
+//! What a series is asked of a range.
+ghost use Rattle.std.specs.Prelude.{◌≡◌, false, None, Some, IfErr, IfOk, OnErr, OnOk};
+ghost use Rattle.lv_series.specs.Places.{IsSearchable};
+ghost use Rattle.lv_series.specs.Series.{Asks, Reduces, RefusesAsked, Values, keeps_kind, range_refused, slice_of, with_kind};
+
+use crate::answers::LongAnswer;
+use crate::refusals::LongRefusal;
+use crate::series::Series;
+use lv_bodies::{Kind, LongBody, fold_long};
+use lv_tree::KindSummary;
+
+impl Series {
+    /// Makes the tree of a kind, where there is none: from then on a value by that kind takes O(log n) joins, and each edit renews the
+    /// tree. O(n). Refused with `NoMemory`, and nothing has changed then.
+    pub fn prepare(&mut self, kind: Kind) -> Result<(), LongRefusal>
+        ensures ok { OnOk result (self.new ≡ record self.old { kinds = with_kind kind self.old.kinds }) }
+        ensures same { OnErr result (self.new ≡ self.old) }
+        ensures err { IfErr result (λ refusal. refusal ≡ LongRefusal.NoMemory) }
+        ensures missing { OnErr result (keeps_kind self.old.kinds kind ≡ false) }
+    {
+        if !self.trees.make(kind, &self.elements, self.base, self.first) {
+            return Err(LongRefusal::NoMemory);
+        }
+        Ok(())
+    }
+
+    /// The summary by a kind of the elements from index `lo` up to `hi`, with the number of the last edit. By the kind's tree it takes
+    /// O(log n) joins; without one it goes over the range. Refused with `BadRange`, then `OutOfRange`. Takes no memory.
+    #[inline(always)]
+    pub fn value(
+        &self,
+        kind: Kind,
+        lo: u64,
+        hi: u64,
+    ) -> Result<LongAnswer<KindSummary>, LongRefusal>
+        ensures { Values self.now kind lo hi result }
+    {
+        if let Some(refusal) = self.range_refusal(lo, hi) {
+            return Err(refusal);
+        }
+        let from = (lo - 8 * self.base) as usize;
+        let to = (hi - 8 * self.base) as usize;
+        let value = self.trees.value(
+            kind,
+            self.elements.as_slice(),
+            self.base,
+            self.first,
+            from,
+            to,
+        );
+        Ok(LongAnswer {
+            edit: self.edits,
+            value,
+        })
+    }
+
+    /// The same, and makes the kind's tree first, where there is none. Refused as `value` is, then with `NoMemory`: nothing has changed
+    /// then.
+    #[inline(always)]
+    pub fn ask(
+        &mut self,
+        kind: Kind,
+        lo: u64,
+        hi: u64,
+    ) -> Result<LongAnswer<KindSummary>, LongRefusal>
+        ensures { Asks self.old kind lo hi result self.new }
+    {
+        match self.prepare_for(kind, lo, hi) {
+            Ok(()) => self.value(kind, lo, hi),
+            Err(refusal) => Err(refusal),
+        }
+    }
+
+    // Makes the tree of a kind for a question about a range, where there is none. Refused as `ask` is.
+    #[inline(always)]
+    pub(crate) fn prepare_for(&mut self, kind: Kind, lo: u64, hi: u64) -> Result<(), LongRefusal>
+        ensures searchable { OnOk result (IsSearchable self.new kind lo hi) }
+        ensures ok { OnOk result (self.new ≡ record self.old { kinds = with_kind kind self.old.kinds }) }
+        ensures err { IfErr result (λ refusal. RefusesAsked self.old kind lo hi refusal self.new) }
+    {
+        if let Some(refusal) = self.range_refusal(lo, hi) {
+            return Err(refusal);
+        }
+        self.prepare(kind)
+    }
+
+    /// The fold of the elements from index `lo` up to `hi` by a body of the caller's, which goes over the range. Refused with `BadRange`,
+    /// then `OutOfRange`. Takes no memory.
+    pub fn reduce<B: LongBody>(
+        &self,
+        body: &B,
+        lo: u64,
+        hi: u64,
+    ) -> Result<LongAnswer<B::S>, LongRefusal>
+        ensures { Reduces (B.operations body.now) self.now lo hi result }
+    {
+        match self.elements(lo, hi) {
+            Err(refusal) => Err(refusal),
+            Ok(elements) => Ok(LongAnswer {
+                edit: self.edits,
+                value: fold_long(body, elements),
+            }),
+        }
+    }
+
+    /// The elements from index `lo` up to `hi`, as they are side by side in memory. O(1). Refused with `BadRange`, then `OutOfRange`.
+    pub fn elements(&self, lo: u64, hi: u64) -> Result<&[i64], LongRefusal>
+        ensures ok { IfOk result (λ elements. (range_refused self.now.held lo hi ≡ None) × (elements.now ≡ slice_of self.now.held lo hi)) }
+        ensures err { IfErr result (λ refusal. range_refused self.now.held lo hi ≡ Some refusal) }
+    {
+        if let Some(refusal) = self.range_refusal(lo, hi) {
+            return Err(refusal);
+        }
+        let from = (lo - 8 * self.base) as usize;
+        let to = (hi - 8 * self.base) as usize;
+        Ok(&self.elements.as_slice()[from..to])
+    }
+}

@@ -1,3 +1,0 @@
--- Names the files of definitions of `lv_sums`.
-pub mod Levels
-pub mod Sums
