@@ -30,14 +30,13 @@ use lv_lines::{
 };
 use lv_live::{Issued, Live};
 use lv_reduce::Reads;
-use lv_standing::Standing;
-use std::alloc::Global;
+use lv_standing::{Note, Standing};
 use std::io::Write;
 
-/// Answers a command. Only the reply to a scan may be longer than what is held.
+/// Answers a command. Only the reply to a scan may be longer than what is held. `notes` is room for the notes of an edit.
 pub fn answer<W: Write>(
-    alloc: Global,
     standing: &mut Standing,
+    notes: &mut Vec<Note>,
     issued: &mut Issued<Six>,
     command: Command,
     outbox: &mut Outbox<'_, W>,
@@ -55,7 +54,7 @@ pub fn answer<W: Write>(
     ensures few { length issued.old.jobs ≤ issued.old.most → length issued.new.jobs ≤ issued.new.most }
 {
     match command {
-        Command::Edit(edit) => put_edit(alloc, standing, edit, outbox.held),
+        Command::Edit(edit) => put_edit(standing, notes, edit, outbox.held),
         Command::Settle => put_settle(standing, outbox.held),
         Command::Get(i) => put_element_at(standing, i, outbox.held),
         Command::Size => put_extent(standing, outbox.held),
@@ -96,16 +95,17 @@ pub fn answer<W: Write>(
     Ok(())
 }
 
-// Makes an edit: its receipt and its notes, or its refusal.
-fn put_edit(alloc: Global, standing: &mut Standing, edit: Edit, held: &mut Vec<u8>)
+// Makes an edit: its receipt and its notes, or its refusal. The list of notes is only for their memory, which serves again.
+fn put_edit(standing: &mut Standing, notes: &mut Vec<Note>, edit: Edit, held: &mut Vec<u8>)
     requires { HasRoom held.old ROOM }
     ensures answer { (reply : List ℕ) × ((jobs : List (Carried Six SixSummary)) → TellsEdit (state_of standing.old jobs) edit reply (state_of standing.new jobs))
         × (held.new.items ≡ held.old.items ++ reply) }
     ensures world { (jobs : List (Carried Six SixSummary)) → IsWorld six_operations standing.old.live jobs → IsWorld six_operations standing.new.live jobs }
     ensures room { KeepsRoom held.old held.new }
 {
-    match standing.edit(alloc, edit) {
-        Ok((receipt, notes)) => {
+    notes.clear();
+    match standing.edit_into(edit, notes) {
+        Ok(receipt) => {
             put_receipt(held, receipt);
             put_notes(held, notes.as_slice());
         }

@@ -18,7 +18,7 @@ use lv_bodies::Six;
 use lv_geometry::Limits;
 use lv_lines::{Fault, Line, Outbox, Responder, converse, put_bad, read_line};
 use lv_live::Issued;
-use lv_standing::Standing;
+use lv_standing::{Note, Standing};
 use std::alloc::Global;
 use std::io::{Read, Write};
 use std::marker::Model;
@@ -80,7 +80,7 @@ pub(crate) fn answer_script<R: Read, W: Write>(
     let mut script = Script {
         standing,
         issued: Issued::at_most(alloc, jobs),
-        alloc,
+        notes: Vec::new(alloc),
     };
     let ended = converse(alloc, &mut script, reader, writer);
     drop(script);
@@ -92,7 +92,8 @@ pub(crate) fn answer_script<R: Read, W: Write>(
 struct Script {
     standing: Standing,
     issued: Issued<Six>,
-    alloc: Global,
+    // room for the notes of an edit, which serves from one to the next
+    notes: Vec<Note>,
 }
 
 impl Model for Script {
@@ -122,8 +123,8 @@ impl Responder for Script {
     ) -> Result<(), Fault> {
         outbox.make_room(ROOM)?;
         answer_line(
-            self.alloc,
             &mut self.standing,
+            &mut self.notes,
             &mut self.issued,
             number,
             read_line(line),
@@ -134,8 +135,8 @@ impl Responder for Script {
 
 // Answers a line.
 fn answer_line<W: Write>(
-    alloc: Global,
     standing: &mut Standing,
+    notes: &mut Vec<Note>,
     issued: &mut Issued<Six>,
     number: u32,
     line: Line,
@@ -156,7 +157,7 @@ fn answer_line<W: Write>(
     match line {
         Line::Nothing => {}
         Line::Bad => put_bad(outbox.held, number),
-        Line::Do(command) => return answer(alloc, standing, issued, command, outbox),
+        Line::Do(command) => return answer(standing, notes, issued, command, outbox),
     }
     Ok(())
 }

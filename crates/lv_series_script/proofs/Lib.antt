@@ -6,6 +6,6 @@ mod Longs
 mod Notes
 mod Scanning
 mod Simulation
-mod Sizes
 mod Telling
+mod ValueLaws
 mod WholeText

@@ -1,29 +1,24 @@
--- What is shown of the fold of the six, of however many elements, is the plain value of each kind.
-use Rattle.std.proofs.Common.{◌≡◌, ℕ, ℤ, pos, ◌+◌, ◌*◌, ◌%◌, ◌^◌, ◌<◌, ◌-ℤ◌, ◌+ℤ◌, ◌-◌, List, [], ◌∷◌, fold, ap, sym, ◌∙◌, arith}
+-- What is shown of a summary by a kind, of however many elements, is the plain value.
+use Rattle.std.proofs.Common.{◌≡◌, ℕ, ℤ, pos, ◌+◌, ◌*◌, ◌%◌, ◌^◌, ◌<◌, ◌-ℤ◌, ◌+ℤ◌, ◌-◌, List, [], ◌∷◌, fold, option_map, ap, sym, ◌∙◌, arith}
 use Rattle.std.proofs.Math.Nat.{mod-add-mod, add-mod-mod}
 use Rattle.std.proofs.lemmas.Int.{ints}
 use Rattle.std.proofs.lemmas.Nat.{mod_below, mul-mod_first, mul-mod_second}
 use Rattle.std.proofs.lemmas.List.Folds.{fold_along}
-use Rattle.lv_bodies.specs.Body.{Operations, fold_of}
+use Rattle.lv_bodies.specs.Body.{fold_of}
 use Rattle.lv_bodies.specs.Plain.{affine_from, over_256, plain_affine, plain_value, program_table, remainder}
-use Rattle.lv_bodies.specs.Pairs.{pair_operations}
-use Rattle.lv_bodies.proofs.PairFolds.{fold_of-pair}
-use Rattle.lv_bodies.specs.Sums.{sum_operations}
 use Rattle.lv_bodies.specs.SumLaws.{fold_of-sum}
-use Rattle.lv_bodies.specs.Extremes.{least_operations, greatest_operations}
 use Rattle.lv_bodies.specs.ExtremeLaws.{fold_of-least, fold_of-greatest}
 use Rattle.lv_bodies.specs.RemainderLaws.{remainder_by}
-use Rattle.lv_bodies.specs.RunTotals.{best_operations}
 use Rattle.lv_bodies.specs.BestLaws.{fold_of-best}
 use Rattle.lv_bodies.specs.AffineMaps.{IsAffineMap, affine_operations, join_maps, map_of}
 use Rattle.lv_bodies.specs.AffineLaws.{shown_alike}
-use Rattle.lv_bodies.specs.Tables.{automaton_operations}
 use Rattle.lv_bodies.specs.TableLaws.{fold_of-automaton}
-use Rattle.lv_bodies.specs.Six.{SixSummary, face_of, six_operations}
 use Rattle.lv_bodies.specs.declared.affine.AffineMap.{AffineMap}
 use Rattle.lv_bodies.specs.declared.kinds.Kind.{Kind}
 use Rattle.lv_bodies.specs.declared.kinds.Kind.TheVariants.{Sum, Least, Greatest, Best, Affine, Automaton}
 use Rattle.lv_bodies.specs.declared.kinds.Shown.TheVariants as shown
+use Rattle.lv_tree.specs.KindSummaries.{shown_of, summary_by}
+use Rattle.lv_tree.specs.OfSixLaws.{affine-part, automaton-part, best-part, greatest-part, least-part, sum-part}
 
 -- ---- maps
 
@@ -72,51 +67,15 @@ fold_of-maps xs =
     let within = maps_within affine_operations.identity xs record { a = omega arith; b = omega arith } in
     known_from p.a p.b (affine_from 1 xs) (affine_from 0 xs) within.a within.b (goes 1 xs (omega arith)) (goes 0 xs (omega arith))
 
--- ---- all six
+-- ---- each kind
 
--- a pair's fold, where that of the second side is known
-pair_fold : {S T : Type 0} (o : Operations S) (p : Operations T) (xs : List ℤ) (t : T) → fold_of p xs ≡ t → fold_of (pair_operations o p) xs ≡ (fold_of o xs, t)
-pair_fold o p xs t e = fold_of-pair o p xs ∙ ap (λ u. (fold_of o xs, u)) e
-
--- the folds of the six
-abbrev six_folds : List ℤ → SixSummary
-six_folds xs = (
-  fold_of sum_operations xs,
-  (
-    fold_of least_operations xs,
-    (
-      fold_of greatest_operations xs,
-      (
-        fold_of best_operations xs,
-        (fold_of affine_operations xs, fold_of (automaton_operations program_table) xs),
-      ),
-    ),
-  ),
-)
-
--- the fold of the six is the six folds
-fold_of-six : (xs : List ℤ) → fold_of six_operations xs ≡ six_folds xs
-fold_of-six xs =
-    let automata = automaton_operations program_table in
-    let from_affine = pair_operations affine_operations automata in
-    let from_best = pair_operations best_operations from_affine in
-    let from_greatest = pair_operations greatest_operations from_best in
-    let from_least = pair_operations least_operations from_greatest in
-    let affine = fold_of-pair affine_operations automata xs in
-    let best = pair_fold best_operations from_affine xs _ affine in
-    let greatest = pair_fold greatest_operations from_best xs _ best in
-    let least = pair_fold least_operations from_greatest xs _ greatest in
-    pair_fold sum_operations from_least xs _ least
-
--- what is shown of the six folds is the plain value of each kind
-shown_of_folds : (kind : Kind) (xs : List ℤ) → face_of kind (six_folds xs) ≡ plain_value kind xs
-shown_of_folds Sum xs = ap shown.Sum (fold_of-sum xs)
-shown_of_folds Least xs = ap shown.Least (fold_of-least xs)
-shown_of_folds Greatest xs = ap shown.Greatest (fold_of-greatest xs)
-shown_of_folds Best xs = ap shown.Best (fold_of-best xs)
-shown_of_folds Affine xs = let same = fold_of-maps xs in shown_alike _ _ _ _ same.0 same.1
-shown_of_folds Automaton xs = ap shown.Automaton (fold_of-automaton program_table xs)
-
--- what is shown of a summary that is the fold is the plain value
-pub face_of-any_fold : (kind : Kind) (s : SixSummary) (xs : List ℤ) → s ≡ fold_of six_operations xs → face_of kind s ≡ plain_value kind xs
-face_of-any_fold kind s xs e = ap (face_of kind) (e ∙ fold_of-six xs) ∙ shown_of_folds kind xs
+-- what is shown of the summary of some elements by a kind is their plain value
+pub shown_is_plain : (kind : Kind) (xs : List ℤ) → shown_of (summary_by program_table kind xs) ≡ plain_value kind xs
+shown_is_plain Sum xs = ap shown.Sum (sum-part program_table xs ∙ fold_of-sum xs)
+shown_is_plain Least xs = ap shown.Least (least-part program_table xs ∙ fold_of-least xs)
+shown_is_plain Greatest xs = ap shown.Greatest (greatest-part program_table xs ∙ fold_of-greatest xs)
+shown_is_plain Best xs = ap (λ s. shown.Best (option_map (λ r. r.best) s)) (best-part program_table xs) ∙ ap shown.Best (fold_of-best xs)
+shown_is_plain Affine xs =
+    let same = fold_of-maps xs in
+    ap (λ s. shown.Affine s.a s.b) (affine-part program_table xs) ∙ shown_alike _ _ _ _ same.0 same.1
+shown_is_plain Automaton xs = ap shown.Automaton (automaton-part program_table xs ∙ fold_of-automaton program_table xs)

@@ -1,95 +1,65 @@
--- The running values of a range of a series.
-use Rattle.std.proofs.Common.{◌≡◌, ◌⊎◌, ℕ, ℤ, pos, ◌+◌, ◌-◌, ◌^◌, ◌<◌, ◌≤◌, Bool, true, false, None, List, length, take, drop, refl, sym, ap, ◌∙◌, subst, inl, inr, arith}
-use Rattle.std.specs.List.{slice_range}
-use Rattle.std.proofs.lemmas.Bool.{false≢true, le-leb, lt-ltb, true≢false}
-use Rattle.std.proofs.lemmas.List.{get_or_default, take-take}
-use Rattle.std.proofs.lemmas.List.FromFn.{length-map-range_with_len}
+-- The running values of some elements.
+use Rattle.std.proofs.Common.{◌≡◌, ℕ, ℤ, ◌+◌, ◌-◌, ◌<◌, ◌≤◌, ◌^◌, Bool, Option, List, [], length, get_or, take, drop, All, sym, subst, ap, ◌∙◌, arith}
+use Rattle.std.specs.List.{range_with_len}
+use Rattle.std.proofs.lemmas.List.{length-drop, length-take, take_all}
+use Rattle.std.proofs.lemmas.List.Elements.{All-drop, All-take}
+use Rattle.std.proofs.lemmas.List.FromFn.{get_or-range_with_len, length-map-range_with_len, length-range_with_len}
 use Rattle.lv_geometry.specs.Elements.{IsElement}
-use Rattle.lv_bodies.specs.declared.kinds.Kind.{Kind}
+use Rattle.lv_bodies.specs.Body.{Operations, fold_of}
+use Rattle.lv_bodies.specs.Long.{CanFoldLong, CanGrowLong, LongLaws}
+use Rattle.lv_bodies.specs.LongLaws.{fold_of-within_long}
 use Rattle.lv_bodies.specs.declared.kinds.Shown.{Shown}
-use Rattle.lv_bodies.specs.Body.{fold_of}
-use Rattle.lv_bodies.specs.Long.{CanJoinLong}
-use Rattle.lv_bodies.specs.LongLaws.{six_long}
-use Rattle.lv_bodies.specs.Plain.{plain_value}
-use Rattle.lv_bodies.specs.Six.{SixSummary, six_operations, six_within}
-use Rattle.lv_edits.proofs.Slices.{length-slice_range}
-use Rattle.lv_reduce.proofs.ScanLaws.{fold_of-slice-more}
+use Rattle.lv_lines.specs.Output.{Writes, WritesFront}
+use Rattle.lv_lines.specs.Texts.{scanned_text, values_text}
 use Rattle.lv_script.specs.PlainScript.{scan_by}
-use Rattle.lv_script.proofs.ScanLemmas.{value_at}
-use Rattle.lv_series.specs.Series.{Held, element_of, is_kept, range_refused, size_of, slice_of}
-use Rattle.lv_series.proofs.FreeLaws.{free_range}
+use Rattle.lv_script.proofs.ScanLemmas.{value_at, values_up_to, Writes-value, WritesFront-values}
+use Rattle.lv_series.specs.Series.{Held, size_of, slice_of}
 
-module _ (h : Held) (lo hi : ℕ) (free : range_refused h lo hi ≡ None) where
-  -- a range that is kept has as many elements as its ends are apart
-  pub length-kept : length (slice_of h lo hi) ≡ hi - lo
-  length-kept =
-      let within = free_range h lo hi free in
-      let inside : hi - h.first ≤ length h.elements = omega (arith, within) in
-      let order : lo - h.first ≤ hi - h.first = omega (arith, within) in
-      omega (arith, within, length-slice_range h.elements (lo - h.first) (hi - h.first) order inside)
-
-  -- a scan of it has a value for each
-  pub length-scan : (kind : Kind) (inclusive : Bool) → length (scan_by (plain_value kind) inclusive (slice_of h lo hi)) ≡ hi - lo
-  length-scan kind inclusive = length-map-range_with_len (value_at (plain_value kind) inclusive (slice_of h lo hi)) 0 (length (slice_of h lo hi)) ∙ length-kept
-
-  module _ (i : ℕ) (low : lo ≤ i) (small : i < hi) where
-    -- an index of it is kept
-    pub kept_at : is_kept h i ≡ true
-    kept_at =
-        let within = free_range h lo hi free in
-        let first = le-leb h.first i (omega (arith, within)) in
-        let below = lt-ltb i (size_of h) (omega (arith, within)) in
-        rw (first, below) refl
-
-    -- a front of it
-    front_of : (j n : ℕ) → j ≤ hi → j - lo ≡ n → slice_of h lo j ≡ take n (slice_of h lo hi)
-    front_of j n before count =
-        let within = free_range h lo hi free in
-        let some : n ≡ (j - h.first) - (lo - h.first) = omega (arith, within, count) in
-        let fewer : (j - h.first) - (lo - h.first) ≤ (hi - h.first) - (lo - h.first) = omega arith in
-        sym (ap (λ n. take n (slice_of h lo hi)) some ∙ take-take ((j - h.first) - (lo - h.first)) ((hi - h.first) - (lo - h.first)) (drop (lo - h.first) h.elements) fewer)
-
-    -- the fold of one element more
-    pub fold_next : (x : ℤ) (before after : SixSummary) → x ≡ element_of h i → before ≡ fold_of six_operations (slice_of h lo i) → after ≡ six_operations.join before (six_operations.lift x)
-        → after ≡ fold_of six_operations (slice_of h lo (i + 1))
-    fold_next x before after at is joined =
-        let within = free_range h lo hi free in
-        let inside : i - h.first < length h.elements = omega (arith, within) in
-        let order : lo - h.first ≤ i - h.first = omega arith in
-        let next : i - h.first + 1 ≡ i + 1 - h.first = omega (arith, within) in
-        subst (λ n. after ≡ fold_of six_operations (slice_range h.elements (lo - h.first) n)) next
-        (fold_of-slice-more six_operations h.elements (lo - h.first) (i - h.first) x order inside (at ∙ get_or_default h.elements (i - h.first) (pos 0) x inside) before after x refl is joined)
-
-    -- may be joined
-    pub can_join : (x : ℤ) (before : SixSummary) → IsElement x → size_of h ≤ 2 ^ 62 → six_within before (i - lo) → CanJoinLong six_within before (six_operations.lift x)
-    can_join x before fits most within = record {
-      left = i - lo;
-      right = 1;
-      left_within = within;
-      right_within = six_long.lift_within x fits;
-      few = omega (arith, most, free_range h lo hi free);
+-- a range of a series can be folded
+pub can_fold-range : (h : Held) (lo hi : ℕ) → All IsElement h.elements → size_of h ≤ 2 ^ 62 → CanFoldLong (slice_of h lo hi)
+can_fold-range h lo hi elements few =
+    let from = lo - h.first in
+    let count = (hi - h.first) - from in
+    record {
+      few = omega (arith, few, length-take count (drop from h.elements), length-drop from h.elements);
+      elements = All-take IsElement count (drop from h.elements) (All-drop IsElement from h.elements elements);
     }
 
-    -- and keeps its bound
-    pub within_next : (x : ℤ) (before after : SixSummary) → IsElement x → size_of h ≤ 2 ^ 62 → six_within before (i - lo) → after ≡ six_operations.join before (six_operations.lift x) → six_within after (i + 1 - lo)
-    within_next x before after fits most within joined =
-        let few : i - lo + 1 ≤ 2 ^ 62 = omega (arith, most, free_range h lo hi free) in
-        let place : i - lo + 1 ≡ i + 1 - lo = omega arith in
-        subst (λ n. six_within after n) place
-        (subst (λ s. six_within s (i - lo + 1)) (sym joined) (six_long.join_within before (six_operations.lift x) (i - lo) 1 within (six_long.lift_within x fits) few))
+module _ (xs : List ℤ) (can : CanFoldLong xs) (i : ℕ) (small : i < length xs) where
+  -- so can a front of what can be folded
+  pub can_fold-front : (n : ℕ) → CanFoldLong (take n xs)
+  can_fold-front n = record { few = omega (arith, can.few, length-take n xs); elements = All-take IsElement n xs can.elements }
 
-    -- what is shown of the running fold, with the next element or without it, is the value at its index
-    module _ (kind : Kind) (s : SixSummary) (value : Shown) (shows : (ys : List ℤ) → s ≡ fold_of six_operations ys → value ≡ plain_value kind ys) where
-      shown_front : (j n : ℕ) → j ≤ hi → j - lo ≡ n → s ≡ fold_of six_operations (slice_of h lo j) → value ≡ plain_value kind (take n (slice_of h lo hi))
-      shown_front j n before count is = shows (take n (slice_of h lo hi)) (is ∙ ap (fold_of six_operations) (front_of j n before count))
+  -- whose fold may take one more element
+  pub can_grow : {S : Type 0} (o : Operations S) (within : S → ℕ → Type 0) → LongLaws o within → (s : S) → s ≡ fold_of o (take i xs) → CanGrowLong within s
+  can_grow o within laws s is = record {
+    count = length (take i xs);
+    count_within = subst (λ t. within t (length (take i xs))) (sym is) (fold_of-within_long o within laws (take i xs) (can_fold-front i));
+    few = omega (arith, can.few, small, length-take i xs);
+  }
 
-      pub shown_next : (inclusive : Bool) (before after : SixSummary) → before ≡ fold_of six_operations (slice_of h lo i) → after ≡ fold_of six_operations (slice_of h lo (i + 1))
-          → ((inclusive ≡ true) × (s ≡ after)) ⊎ ((inclusive ≡ false) × (s ≡ before)) → value ≡ value_at (plain_value kind) inclusive (slice_of h lo hi) (i - lo)
-      shown_next true before after so_far next (inl chosen) = shown_front (i + 1) (i - lo + 1) (omega arith) (omega arith) (chosen.1 ∙ next)
-      shown_next true before after so_far next (inr chosen) = absurd (true≢false chosen.0)
-      shown_next false before after so_far next (inl chosen) = absurd (false≢true chosen.0)
-      shown_next false before after so_far next (inr chosen) = shown_front i (i - lo) (omega arith) refl (chosen.1 ∙ so_far)
+-- ---- values
 
--- nothing has been folded at the start
-pub within_none : (s : SixSummary) (n : ℕ) → s ≡ six_operations.identity → n ≡ 0 → six_within s n
-within_none s n is none = subst (λ n. six_within s n) (sym none) (subst (λ s. six_within s 0) (sym is) six_long.identity_within)
+module _ (plain : List ℤ → Shown) (inclusive : Bool) (xs : List ℤ) where
+  -- a scan has a value for each element
+  pub length-scan : length (scan_by plain inclusive xs) ≡ length xs
+  length-scan = length-map-range_with_len (value_at plain inclusive xs) 0 (length xs)
+
+  -- the lines of the values before an index
+  abbrev pub values_before : ℕ → List ℕ
+  values_before = values_up_to (value_at plain inclusive xs) (length xs)
+
+  module _ {a b : Option (List ℕ)} {h k : List ℕ} (i : ℕ) (so_far : Writes a h b k (values_before i)) where
+    -- those before the end are all
+    pub Writes-scan : length xs ≤ i → Writes a h b k (values_text (scan_by plain inclusive xs))
+    Writes-scan past = rw (take_all i (range_with_len 0 (length xs)) (omega (arith, past, length-range_with_len 0 (length xs)))) at so_far
+
+    -- after them the next is written
+    pub Writes-next_value : {c : Option (List ℕ)} {l : List ℕ} (value : Shown) → i < length xs → value ≡ value_at plain inclusive xs i → Writes b k c l (scanned_text value) → Writes a h c l (values_before (i + 1))
+    Writes-next_value value small is next =
+        let at : get_or (range_with_len 0 (length xs)) i 0 ≡ i = omega (arith, get_or-range_with_len 0 (length xs) i 0 small) in
+        Writes-value (value_at plain inclusive xs) (range_with_len 0 (length xs)) i 0 value (omega (arith, small, length-range_with_len 0 (length xs))) so_far (is ∙ ap (value_at plain inclusive xs) (sym at)) next
+
+    -- or no more than a front of what was held is sent
+    pub WritesFront-scan : {c : Option (List ℕ)} → WritesFront b k c [] → WritesFront a h c (values_text (scan_by plain inclusive xs))
+    WritesFront-scan unsent = WritesFront-values (value_at plain inclusive xs) (range_with_len 0 (length xs)) i so_far unsent

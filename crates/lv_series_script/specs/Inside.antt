@@ -1,9 +1,8 @@
 -- What the code of a series' script passes on: the queries with the values that they were told, and what a line makes of all that is known.
-use Rattle.std.specs.Prelude.{◌≡◌, ◌⊎◌, ℕ, ℤ, ◌+◌, ◌^◌, ◌≤◌, IsTrue, None, List, [], ◌∷◌, ◌++◌, length, map, if◌then◌else◌, All}
+use Rattle.std.specs.Prelude.{◌≡◌, ◌⊎◌, ℕ, ℤ, ◌+◌, ◌≤◌, IsTrue, None, List, [], ◌∷◌, ◌++◌, length, map, if◌then◌else◌, All}
 use Rattle.std.specs.Option.{option_map_or}
-use Rattle.lv_bodies.specs.declared.sixes.Six.{Six}
-use Rattle.lv_bodies.specs.Plain.{plain_value}
-use Rattle.lv_series.specs.Series.{Held, SeriesState, changed, size_of}
+use Rattle.lv_bodies.specs.Plain.{plain_value, program_table}
+use Rattle.lv_series.specs.Series.{Held, SeriesState, changed}
 use Rattle.lv_lines.specs.Texts.{note_text}
 use Rattle.lv_script.specs.PlainScript.{same_value}
 use Rattle.lv_series_script.specs.declared.long_commands.LongCommand.{LongCommand}
@@ -43,16 +42,16 @@ brought_up h w = record w { value = long_answer h (query_at w) }
 abbrev pub told_of : Held → Watched → List ℕ
 told_of h w = if same_value (long_answer h (query_at w)) w.value then [] else note_text w.name (long_answer h (query_at w))
 
--- each entry has the value that its query answers, there are at most 64, and no index is past 2 ^ 62
-pub record IsReady (h : Held) (entries : List Watched) : Type 0 where
-  pub current : All (IsCurrent h) entries
+-- the series has the program's automaton, each entry has the value that its query answers, and there are at most 64
+pub record IsReady (s : SeriesState) (entries : List Watched) : Type 0 where
+  pub table : s.table ≡ program_table
+  pub current : All (IsCurrent s.held) entries
   pub few : length entries ≤ 64
-  pub size : size_of h ≤ 2 ^ 62
 
 -- ---- what is known
 
 -- by a series and its entries
-abbrev pub known_of : SeriesState Six → List Watched → Known
+abbrev pub known_of : SeriesState → List Watched → Known
 known_of s entries = record { held = s.held; edit = s.edits; queries = queries_of entries }
 
 -- what is known after a command that nothing refuses

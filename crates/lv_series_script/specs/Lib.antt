@@ -5,3 +5,4 @@ pub mod LongQueries
 pub mod LongTexts
 pub mod PlainSeriesScript
 pub mod SeriesRuns
+pub mod Values

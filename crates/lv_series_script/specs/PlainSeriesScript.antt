@@ -1,13 +1,13 @@
 -- A plain interpreter of scripts on a series: what each line is answered, by the edits that were accepted and the queries that stand
--- alone. It keeps no shards, no sums and no values. Values are those of `plain_value`, texts those of the formats.
+-- alone. It keeps no trees and no values. Values are those of `plain_value`, texts those of the formats.
 use Rattle.std.specs.Prelude.{ℕ, ◌+◌, Option, None, List, [], ◌∷◌, ◌++◌, length, option_map, if◌then◌else◌}
 use Rattle.std.specs.List.{flat_map}
 use Rattle.std.specs.Option.{option_map_or}
 use Rattle.lv_geometry.specs.Numbers.{number_of as name_number}
-use Rattle.lv_bodies.specs.Plain.{plain_value}
+use Rattle.lv_bodies.specs.Plain.{plain_value, program_table}
 use Rattle.lv_series.specs.declared.edits.LongEdit.{LongEdit}
 use Rattle.lv_series.specs.Numbers.{number_of}
-use Rattle.lv_series.specs.Plain.{plain_series}
+use Rattle.lv_series.specs.Plain.{no_kinds, plain_series}
 use Rattle.lv_series.specs.Series.{Held, SeriesState, changed, element_at, range_refused, receipt_of, refused, size_of, slice_of}
 use Rattle.lv_lines.specs.Texts.{answer_text, bad_text, named_text, note_text, scan_text, size_text, unwatched_text, watching_text}
 use Rattle.lv_script.specs.PlainScript.{same_value, scan_by}
@@ -36,13 +36,13 @@ pub record Known : Type 0 where
 
 -- what some edits leave, and how many they are
 abbrev pub known_by : Plain → Known
-known_by s = record { held = (plain_series {B = Unit {0}} tt s.edits).held; edit = length s.edits; queries = s.queries }
+known_by s = record { held = (plain_series program_table s.edits).held; edit = length s.edits; queries = s.queries }
 
 -- ---- what a command is answered
 
--- the series that edits are refused by
-abbrev pub series_of : Known → SeriesState (Unit {0})
-series_of k = record { body = tt; held = k.held; edits = k.edit }
+-- the series by which edits are refused, or answered: trees change neither, so it has none
+abbrev pub series_of : Known → SeriesState
+series_of k = record { table = program_table; kinds = no_kinds; held = k.held; edits = k.edit }
 
 -- the number by which a command is refused, want of memory apart, or none
 abbrev pub refusal_of : Known → LongCommand → Option ℕ

@@ -1,22 +1,23 @@
 //! What each command of a series' script is answered.
-ghost use Rattle.std.specs.Prelude.{◌≡◌, ◌^◌, ◌≤◌, List, ℕ, ◌++◌, IfErr, OnOk};
+ghost use Rattle.std.specs.Prelude.{◌≡◌, List, ℕ, ◌++◌, IfErr, OnOk};
+ghost use Rattle.lv_bodies.specs.Plain.{program_table};
 ghost use Rattle.lv_lines.specs.Output.{HasRoom, KeepsRoom, Puts, PutsFront, SamePlaces};
 ghost use Rattle.lv_lines.specs.Texts.{size_text};
-ghost use Rattle.lv_bodies.specs.declared.sixes.Six.{Six as SixBody};
-ghost use Rattle.lv_series.specs.Series.{Answers, Held, SeriesState, element_at, size_of};
+ghost use Rattle.lv_series.specs.Series.{SeriesState, element_at, size_of};
 ghost use Rattle.lv_series_script.specs.declared.watched.Watched.{Watched as Entry};
 ghost use Rattle.lv_series_script.specs.Inside.{IsReady, Told, known_of};
 ghost use Rattle.lv_series_script.specs.LongTexts.{first_text, long_element_text};
 
 use crate::long_commands::{LongCommand, Span};
 use crate::queries::{find, forget, register, tell};
-use crate::scans::{LongScanned, put_scan, range_refusal};
+use crate::scans::put_scan;
 use crate::texts::{put_answer, put_first, put_receipt, put_refused, put_size, put_value};
+use crate::values::show_value;
 use crate::watched::Watched;
-use lv_bodies::{Kind, Six, face};
+use lv_bodies::Kind;
 use lv_geometry::Refusal;
 use lv_lines::{Fault, LINE, Outbox, put_named, put_unwatched, put_watching};
-use lv_series::{LongEdit, LongReceipt, LongRefusal, Series};
+use lv_series::{LongEdit, Series};
 use lv_standing::Name;
 use std::io::Write;
 
@@ -25,20 +26,20 @@ pub const ROOM: usize = 65 * LINE;
 
 /// Answers a command. Only the reply to a scan may be longer than what is held.
 pub fn answer<W: Write>(
-    series: &mut Series<Six>,
+    series: &mut Series,
     entries: &mut Vec<Watched>,
     command: LongCommand,
     outbox: &mut Outbox<'_, W>,
 ) -> Result<(), Fault>
-    requires ready { IsReady series.old.kept.held entries.old.items }
+    requires ready { IsReady series.old entries.old.items }
     requires room { HasRoom outbox.old.held.now ROOM }
     ensures places { SamePlaces outbox.old outbox.new }
-    ensures ok { OnOk result ((reply : List ℕ) × Told (known_of series.old.kept entries.old.items) command reply (known_of series.new.kept entries.new.items)
+    ensures ok { OnOk result ((reply : List ℕ) × Told (known_of series.old entries.old.items) command reply (known_of series.new entries.new.items)
         × Puts W.contents outbox.old outbox.new reply) }
     ensures fault { IfErr result (λ fault. (fault ≡ Fault.WriteFault) × (reply : List ℕ)
-        × Told (known_of series.old.kept entries.old.items) command reply (known_of series.new.kept entries.new.items)
+        × Told (known_of series.old entries.old.items) command reply (known_of series.new entries.new.items)
         × PutsFront W.contents outbox.old outbox.new reply) }
-    ensures ready { IsReady series.new.kept.held entries.new.items }
+    ensures ready { IsReady series.new entries.new.items }
 {
     match command {
         LongCommand::Edit(edit) => put_edit(series, entries, edit, outbox.held),
@@ -52,16 +53,7 @@ pub fn answer<W: Write>(
             lo,
             hi,
         } => {
-            return answer_scan(
-                series,
-                outbox,
-                &LongScanned {
-                    inclusive,
-                    kind,
-                    lo,
-                    hi,
-                },
-            );
+            return answer_scan(series, outbox, inclusive, kind, lo, hi);
         }
         LongCommand::Watch { name, kind, span } => put_watch(
             series,
@@ -78,20 +70,15 @@ pub fn answer<W: Write>(
 }
 
 // Makes an edit: its receipt and its notes, or its refusal.
-fn put_edit(
-    series: &mut Series<Six>,
-    entries: &mut Vec<Watched>,
-    edit: LongEdit,
-    held: &mut Vec<u8>,
-)
-    requires ready { IsReady series.old.kept.held entries.old.items }
+fn put_edit(series: &mut Series, entries: &mut Vec<Watched>, edit: LongEdit, held: &mut Vec<u8>)
+    requires ready { IsReady series.old entries.old.items }
     requires room { HasRoom held.old ROOM }
-    ensures answer { (reply : List ℕ) × Told (known_of series.old.kept entries.old.items) (LongCommand.Edit edit) reply (known_of series.new.kept entries.new.items)
+    ensures answer { (reply : List ℕ) × Told (known_of series.old entries.old.items) (LongCommand.Edit edit) reply (known_of series.new entries.new.items)
         × (held.new.items ≡ held.old.items ++ reply) }
-    ensures ready { IsReady series.new.kept.held entries.new.items }
+    ensures ready { IsReady series.new entries.new.items }
     ensures room { KeepsRoom held.old held.new }
 {
-    match make(series, edit) {
+    match series.apply(&edit) {
         Ok(receipt) => {
             put_receipt(held, receipt, series.first());
             tell(series, entries, held);
@@ -100,80 +87,70 @@ fn put_edit(
     }
 }
 
-// Makes an edit.
-fn make(series: &mut Series<Six>, edit: LongEdit) -> Result<LongReceipt, LongRefusal>
-    ensures { Answers series.old.kept edit result series.new.kept }
-{
-    match edit {
-        LongEdit::Push(x) => series.push(x),
-        LongEdit::Pop => series.pop(),
-        LongEdit::Write { index, value } => series.write(index, value),
-        LongEdit::Expire(index) => series.expire(index),
-        LongEdit::Swap { first, second } => series.swap(first, second),
-        LongEdit::Truncate(size) => series.truncate(size),
-    }
-}
-
 // The first index that is kept, and the number of the last edit.
-fn put_front(series: &Series<Six>, held: &mut Vec<u8>)
+fn put_front(series: &Series, held: &mut Vec<u8>)
     requires { HasRoom held.old ROOM }
-    ensures text { held.new.items ≡ held.old.items ++ first_text series.now.kept.held.first series.now.kept.edits }
+    ensures text { held.new.items ≡ held.old.items ++ first_text series.now.held.first series.now.edits }
     ensures room { KeepsRoom held.old held.new }
 {
     put_first(held, series.first(), series.edits());
 }
 
 // The index behind the last element, and the number of the last edit.
-fn put_extent(series: &Series<Six>, held: &mut Vec<u8>)
+fn put_extent(series: &Series, held: &mut Vec<u8>)
     requires { HasRoom held.old ROOM }
-    ensures text { held.new.items ≡ held.old.items ++ size_text (size_of series.now.kept.held) series.now.kept.edits }
+    ensures text { held.new.items ≡ held.old.items ++ size_text (size_of series.now.held) series.now.edits }
     ensures room { KeepsRoom held.old held.new }
 {
     put_size(held, series.size(), series.edits());
 }
 
 // The element under an index, or that there is none.
-fn put_element_at(series: &Series<Six>, i: u64, held: &mut Vec<u8>)
+fn put_element_at(series: &Series, i: u64, held: &mut Vec<u8>)
     requires { HasRoom held.old ROOM }
-    ensures text { held.new.items ≡ held.old.items ++ long_element_text (element_at series.now.kept.held i) }
+    ensures text { held.new.items ≡ held.old.items ++ long_element_text (element_at series.now.held i) }
     ensures room { KeepsRoom held.old held.new }
 {
     put_value(held, series.get(i));
 }
 
 // The value of a kind over a range, or why the range is refused.
-fn put_reduced(series: &mut Series<Six>, kind: Kind, lo: u64, hi: u64, held: &mut Vec<u8>)
-    requires { HasRoom held.old ROOM }
-    ensures same { series.new.kept ≡ series.old.kept }
-    ensures answer { (reply : List ℕ) × ((entries : List Entry) → Told (known_of series.old.kept entries) (LongCommand.Reduce kind lo hi) reply (known_of series.old.kept entries))
+fn put_reduced(series: &mut Series, kind: Kind, lo: u64, hi: u64, held: &mut Vec<u8>)
+    requires table { series.old.table ≡ program_table }
+    requires room { HasRoom held.old ROOM }
+    ensures answer { (reply : List ℕ) × ((entries : List Entry) → Told (known_of series.old entries) (LongCommand.Reduce kind lo hi) reply (known_of series.new entries))
         × (held.new.items ≡ held.old.items ++ reply) }
+    ensures ready { (entries : List Entry) → IsReady series.old entries → IsReady series.new entries }
     ensures room { KeepsRoom held.old held.new }
 {
-    match series.ask(lo, hi) {
-        Ok(answer) => put_answer(held, answer.edit, kind, face(kind, answer.value)),
+    match show_value(series, kind, lo, hi) {
+        Ok(value) => put_answer(held, series.edits(), kind, value),
         Err(refusal) => put_refused(held, refusal.number()),
     }
 }
 
 // A scan of a range, or why the range is refused.
 fn answer_scan<W: Write>(
-    series: &Series<Six>,
+    series: &Series,
     outbox: &mut Outbox<'_, W>,
-    asked: &LongScanned,
+    inclusive: bool,
+    kind: Kind,
+    lo: u64,
+    hi: u64,
 ) -> Result<(), Fault>
-    requires size { size_of series.now.kept.held ≤ 2 ^ 62 }
     requires room { HasRoom outbox.old.held.now ROOM }
     ensures places { SamePlaces outbox.old outbox.new }
     ensures ok { OnOk result ((reply : List ℕ)
-        × ((entries : List Entry) → Told (known_of series.now.kept entries) (LongCommand.Scan asked.now.inclusive asked.now.kind asked.now.lo asked.now.hi) reply (known_of series.now.kept entries))
+        × ((entries : List Entry) → Told (known_of series.now entries) (LongCommand.Scan inclusive kind lo hi) reply (known_of series.now entries))
         × Puts W.contents outbox.old outbox.new reply) }
     ensures fault { IfErr result (λ fault. (fault ≡ Fault.WriteFault) × (reply : List ℕ)
-        × ((entries : List Entry) → Told (known_of series.now.kept entries) (LongCommand.Scan asked.now.inclusive asked.now.kind asked.now.lo asked.now.hi) reply (known_of series.now.kept entries))
+        × ((entries : List Entry) → Told (known_of series.now entries) (LongCommand.Scan inclusive kind lo hi) reply (known_of series.now entries))
         × PutsFront W.contents outbox.old outbox.new reply) }
 {
-    match range_refusal(series, asked.lo, asked.hi) {
-        None => put_scan(series, outbox, asked),
-        Some(refusal) => {
+    series.holds();
+    match series.elements(lo, hi) {
+        Ok(elements) => put_scan(outbox, series.edits(), inclusive, kind, elements),
+        Err(refusal) => {
             put_refused(outbox.held, refusal.number());
             Ok(())
         }
@@ -182,19 +159,18 @@ fn answer_scan<W: Write>(
 
 // Registers a query.
 fn put_watch(
-    series: &mut Series<Six>,
+    series: &mut Series,
     entries: &mut Vec<Watched>,
     name: Name,
     kind: Kind,
     span: Span,
     held: &mut Vec<u8>,
 )
-    requires ready { IsReady series.old.kept.held entries.old.items }
+    requires ready { IsReady series.old entries.old.items }
     requires room { HasRoom held.old ROOM }
-    ensures same { series.new.kept ≡ series.old.kept }
-    ensures answer { (reply : List ℕ) × Told (known_of series.old.kept entries.old.items) (LongCommand.Watch name kind span) reply (known_of series.old.kept entries.new.items)
+    ensures answer { (reply : List ℕ) × Told (known_of series.old entries.old.items) (LongCommand.Watch name kind span) reply (known_of series.new entries.new.items)
         × (held.new.items ≡ held.old.items ++ reply) }
-    ensures ready { IsReady series.old.kept.held entries.new.items }
+    ensures ready { IsReady series.new entries.new.items }
     ensures room { KeepsRoom held.old held.new }
 {
     match register(series, entries, name, kind, span) {
@@ -206,9 +182,9 @@ fn put_watch(
 // Forgets a query.
 fn put_unwatch(entries: &mut Vec<Watched>, name: Name, held: &mut Vec<u8>)
     requires room { HasRoom held.old ROOM }
-    ensures answer { (reply : List ℕ) × ((s : SeriesState SixBody) → Told (known_of s entries.old.items) (LongCommand.Unwatch name) reply (known_of s entries.new.items))
+    ensures answer { (reply : List ℕ) × ((s : SeriesState) → Told (known_of s entries.old.items) (LongCommand.Unwatch name) reply (known_of s entries.new.items))
         × (held.new.items ≡ held.old.items ++ reply) }
-    ensures ready { (h : Held) → IsReady h entries.old.items → IsReady h entries.new.items }
+    ensures ready { (s : SeriesState) → IsReady s entries.old.items → IsReady s entries.new.items }
     ensures room { KeepsRoom held.old held.new }
 {
     match forget(entries, name) {
@@ -218,10 +194,10 @@ fn put_unwatch(entries: &mut Vec<Watched>, name: Name, held: &mut Vec<u8>)
 }
 
 // What a query answers.
-fn put_named_answer(series: &Series<Six>, entries: &[Watched], name: Name, held: &mut Vec<u8>)
-    requires ready { IsReady series.now.kept.held entries.now }
+fn put_named_answer(series: &Series, entries: &[Watched], name: Name, held: &mut Vec<u8>)
+    requires ready { IsReady series.now entries.now }
     requires room { HasRoom held.old ROOM }
-    ensures answer { (reply : List ℕ) × Told (known_of series.now.kept entries.now) (LongCommand.Answer name) reply (known_of series.now.kept entries.now)
+    ensures answer { (reply : List ℕ) × Told (known_of series.now entries.now) (LongCommand.Answer name) reply (known_of series.now entries.now)
         × (held.new.items ≡ held.old.items ++ reply) }
     ensures room { KeepsRoom held.old held.new }
 {

@@ -1,16 +1,18 @@
 //! Standing queries, in the order of their registration.
 ghost use Rattle.std.specs.Prelude.{◌≡◌, ◌+◌, ◌*◌, ◌≤◌, None, Some, All, IfErr, IfSome, MatchOption, OnErr, OnOk, [], ◌∷◌, ◌++◌, length, map, vec_len};
 ghost use Rattle.std.specs.List.{flat_map};
+ghost use Rattle.lv_bodies.specs.Plain.{program_table};
 ghost use Rattle.lv_edits.specs.Verdict.{IsRefusal};
 ghost use Rattle.lv_lines.specs.Output.{HasRoom, KeepsRoom};
 ghost use Rattle.lv_series.specs.Series.{Held};
 ghost use Rattle.lv_series_script.specs.Inside.{HasValue, IsCurrent, brought_up, queries_of, query_at, told_of};
 ghost use Rattle.lv_series_script.specs.LongQueries.{long_answer, long_query_of, long_watch_refusal, name_refusal, unknown, without_long};
+ghost use Rattle.lv_series_script.specs.Values.{without_trees};
 
 use crate::long_commands::Span;
 use crate::values::value_of;
 use crate::watched::Watched;
-use lv_bodies::{Kind, Six};
+use lv_bodies::Kind;
 use lv_geometry::Refusal;
 use lv_lines::{LINE, put_note};
 use lv_series::Series;
@@ -31,16 +33,17 @@ pub fn find(entries: &[Watched], name: Name) -> Option<Watched>
 
 /// Registers a query. Refused with `BadRange`, `NameTaken`, `TooMany`, then `NoMemory`.
 pub fn register(
-    series: &mut Series<Six>,
+    series: &mut Series,
     entries: &mut Vec<Watched>,
     name: Name,
     kind: Kind,
     span: Span,
 ) -> Result<(), Refusal>
+    requires { series.old.table ≡ program_table }
     ensures free { OnOk result (long_watch_refusal (queries_of entries.old.items) name span ≡ None) }
     ensures added { OnOk result (entries.new.items ≡ entries.old.items
-        ++ record { name = name; kind = kind; span = span; value = long_answer series.old.kept.held record { name = name; kind = kind; span = span } } ∷ []) }
-    ensures same { series.new.kept ≡ series.old.kept }
+        ++ record { name = name; kind = kind; span = span; value = long_answer series.old.held record { name = name; kind = kind; span = span } } ∷ []) }
+    ensures same { without_trees series.new ≡ without_trees series.old }
     ensures few { OnOk result (length entries.old.items + 1 ≤ 64) }
     ensures err { IfErr result (λ refusal. IsRefusal (long_watch_refusal (queries_of entries.old.items) name span) refusal) }
     ensures unchanged { OnErr result (entries.new.items ≡ entries.old.items) }
@@ -103,12 +106,13 @@ pub fn forget(entries: &mut Vec<Watched>, name: Name) -> Result<(), Refusal>
 }
 
 /// Brings each query up to what is kept now, in order of registration, and tells of those whose answer is another than before.
-pub fn tell(series: &mut Series<Six>, entries: &mut [Watched], held: &mut Vec<u8>)
+pub fn tell(series: &mut Series, entries: &mut [Watched], held: &mut Vec<u8>)
+    requires table { series.old.table ≡ program_table }
     requires values { All HasValue entries.old }
     requires room { HasRoom held.old (LINE * length entries.old) }
-    ensures same { series.new.kept ≡ series.old.kept }
-    ensures entries { entries.new ≡ map (brought_up series.old.kept.held) entries.old }
-    ensures text { held.new.items ≡ held.old.items ++ flat_map (told_of series.old.kept.held) entries.old }
+    ensures same { without_trees series.new ≡ without_trees series.old }
+    ensures entries { entries.new ≡ map (brought_up series.old.held) entries.old }
+    ensures text { held.new.items ≡ held.old.items ++ flat_map (told_of series.old.held) entries.old }
     ensures room { KeepsRoom held.old held.new }
 {
     for entry in entries.iter_mut() {
@@ -117,12 +121,13 @@ pub fn tell(series: &mut Series<Six>, entries: &mut [Watched], held: &mut Vec<u8
 }
 
 // Brings one query up, and tells of its answer where that is another than before.
-fn tell_one(series: &mut Series<Six>, entry: &mut Watched, held: &mut Vec<u8>)
+fn tell_one(series: &mut Series, entry: &mut Watched, held: &mut Vec<u8>)
+    requires table { series.old.table ≡ program_table }
     requires value { HasValue entry.old }
     requires room { HasRoom held.old LINE }
-    ensures same { series.new.kept ≡ series.old.kept }
-    ensures entry { entry.new ≡ brought_up series.old.kept.held entry.old }
-    ensures text { held.new.items ≡ held.old.items ++ told_of series.old.kept.held entry.old }
+    ensures same { without_trees series.new ≡ without_trees series.old }
+    ensures entry { entry.new ≡ brought_up series.old.held entry.old }
+    ensures text { held.new.items ≡ held.old.items ++ told_of series.old.held entry.old }
     ensures len { vec_len held.new ≤ vec_len held.old + LINE }
     ensures room { KeepsRoom held.old held.new }
 {

@@ -1,119 +1,101 @@
-//! Scans: the running values of a range, each on a line of its own.
-ghost use Rattle.std.specs.Prelude.{◌≡◌, ◌+◌, ◌^◌, ◌<◌, ◌≤◌, None, true, ℤ, List, [], IfErr, OnOk};
+//! Scans: the running values of elements, each on a line of its own.
+ghost use Rattle.std.specs.Prelude.{◌≡◌, ◌+◌, ◌<◌, ℤ, List, [], All, length, take, if◌then◌else◌, IfErr, OnOk};
+ghost use Rattle.lv_geometry.specs.Elements.{IsElement};
 ghost use Rattle.lv_bodies.specs.Body.{fold_of};
-ghost use Rattle.lv_bodies.specs.Long.{CanJoinLong};
-ghost use Rattle.lv_bodies.specs.Plain.{plain_value};
-ghost use Rattle.lv_bodies.specs.Six.{six_operations, six_within};
+ghost use Rattle.lv_bodies.specs.Long.{CanFoldLong};
+ghost use Rattle.lv_bodies.specs.Plain.{plain_value, program_table};
 ghost use Rattle.lv_lines.specs.Output.{HasRoom, Puts, PutsFront, SamePlaces};
 ghost use Rattle.lv_lines.specs.Texts.{scan_text, scanned_text, values_text};
 ghost use Rattle.lv_script.specs.PlainScript.{scan_by};
-ghost use Rattle.lv_series.specs.Series.{element_of, is_kept, range_refused, size_of, slice_of};
 
 use crate::texts::put_head;
-use lv_bodies::{Body, Kind, LongBody, Shown, Six, SixSummary, face};
+use lv_bodies::{Affine, Automaton, Highest, Kind, Lowest, Runs, Shown, Sum, long_laws};
 use lv_lines::{Fault, LINE, Outbox, put, put_shown};
-use lv_series::{LongRefusal, Series};
+use lv_tree::OfKind;
 use std::io::Write;
 
-/// A scan that was asked for.
-#[derive(Clone, Copy)]
-pub struct LongScanned {
-    pub inclusive: bool,
-    pub kind: Kind,
-    pub lo: u64,
-    pub hi: u64,
-}
-
-/// Why a range is refused, or none.
-pub fn range_refusal(series: &Series<Six>, lo: u64, hi: u64) -> Option<LongRefusal>
-    ensures { result ≡ range_refused series.now.kept.held lo hi }
-{
-    let first = series.first();
-    let size = series.size();
-    if hi < lo {
-        return Some(LongRefusal::BadRange);
-    }
-    let kept = (first <= lo && lo <= size) && (first <= hi && hi <= size);
-    (!kept).then_some(LongRefusal::OutOfRange { first, size })
-}
-
-/// The scan of a range that nothing refuses. Its reply may be longer than what is held: each value is put as it is computed, so no
+/// The scan of elements by a kind, at an edit. Its reply may be longer than what is held: each value is put as it is computed, so no
 /// memory is taken.
 pub fn put_scan<W: Write>(
-    series: &Series<Six>,
     outbox: &mut Outbox<'_, W>,
-    asked: &LongScanned,
+    edit: u64,
+    inclusive: bool,
+    kind: Kind,
+    elements: &[i64],
 ) -> Result<(), Fault>
-    requires granted { range_refused series.now.kept.held asked.now.lo asked.now.hi ≡ None }
-    requires size { size_of series.now.kept.held ≤ 2 ^ 62 }
+    requires can { CanFoldLong elements.now }
     requires room { HasRoom outbox.old.held.now LINE }
     ensures places { SamePlaces outbox.old outbox.new }
     ensures ok { OnOk result (Puts W.contents outbox.old outbox.new
-        (scan_text series.now.kept.edits asked.now.inclusive asked.now.kind
-        (scan_by (plain_value asked.now.kind) asked.now.inclusive (slice_of series.now.kept.held asked.now.lo asked.now.hi)))) }
+        (scan_text edit inclusive kind (scan_by (plain_value kind) inclusive elements.now))) }
     ensures fault { IfErr result (λ fault. (fault ≡ Fault.WriteFault) × PutsFront W.contents outbox.old outbox.new
-        (scan_text series.now.kept.edits asked.now.inclusive asked.now.kind
-        (scan_by (plain_value asked.now.kind) asked.now.inclusive (slice_of series.now.kept.held asked.now.lo asked.now.hi)))) }
+        (scan_text edit inclusive kind (scan_by (plain_value kind) inclusive elements.now))) }
 {
-    let count = asked.hi - asked.lo;
-    put_head(
-        outbox.held,
-        series.edits(),
-        asked.inclusive,
-        asked.kind,
-        count,
-    );
-    put_running_values(series, outbox, asked)
+    put_head(outbox.held, edit, inclusive, kind, elements.len() as u64);
+    put_values(outbox, inclusive, kind, elements)
 }
 
-// Its values.
-fn put_running_values<W: Write>(
-    series: &Series<Six>,
+// Its values, by the body of its kind alone.
+fn put_values<W: Write>(
     outbox: &mut Outbox<'_, W>,
-    asked: &LongScanned,
+    inclusive: bool,
+    kind: Kind,
+    elements: &[i64],
 ) -> Result<(), Fault>
-    requires granted { range_refused series.now.kept.held asked.now.lo asked.now.hi ≡ None }
-    requires size { size_of series.now.kept.held ≤ 2 ^ 62 }
+    requires can { CanFoldLong elements.now }
     ensures places { SamePlaces outbox.old outbox.new }
     ensures ok { OnOk result (Puts W.contents outbox.old outbox.new
-        (values_text (scan_by (plain_value asked.now.kind) asked.now.inclusive (slice_of series.now.kept.held asked.now.lo asked.now.hi)))) }
+        (values_text (scan_by (plain_value kind) inclusive elements.now))) }
     ensures fault { IfErr result (λ fault. (fault ≡ Fault.WriteFault) × PutsFront W.contents outbox.old outbox.new
-        (values_text (scan_by (plain_value asked.now.kind) asked.now.inclusive (slice_of series.now.kept.held asked.now.lo asked.now.hi)))) }
+        (values_text (scan_by (plain_value kind) inclusive elements.now))) }
 {
-    let mut sum = Six.identity();
-    for i in asked.lo..asked.hi {
-        let before = sum;
-        sum = one_more(before, element_at(series, i));
-        let value = if asked.inclusive { sum } else { before };
-        put_scanned(outbox, shown_fold(asked.kind, value))?;
+    match kind {
+        Kind::Sum => put_running_values(outbox, &Sum, inclusive, elements),
+        Kind::Least => put_running_values(outbox, &Lowest, inclusive, elements),
+        Kind::Greatest => put_running_values(outbox, &Highest, inclusive, elements),
+        Kind::Best => put_running_values(outbox, &Runs, inclusive, elements),
+        Kind::Affine => put_running_values(outbox, &Affine, inclusive, elements),
+        Kind::Automaton => put_running_values(outbox, &Automaton::program(), inclusive, elements),
+    }
+}
+
+// The value of the running fold by a body of one kind at each element, each on a line of its own.
+fn put_running_values<K: OfKind, W: Write>(
+    outbox: &mut Outbox<'_, W>,
+    body: &K,
+    inclusive: bool,
+    elements: &[i64],
+) -> Result<(), Fault>
+    requires fits { K.fits body.now program_table }
+    requires can { CanFoldLong elements.now }
+    ensures places { SamePlaces outbox.old outbox.new }
+    ensures ok { OnOk result (Puts W.contents outbox.old outbox.new
+        (values_text (scan_by (plain_value K.told_kind) inclusive elements.now))) }
+    ensures fault { IfErr result (λ fault. (fault ≡ Fault.WriteFault) × PutsFront W.contents outbox.old outbox.new
+        (values_text (scan_by (plain_value K.told_kind) inclusive elements.now))) }
+{
+    long_laws(body);
+    let mut sum = body.identity();
+    for i in 0..elements.len() {
+        let next = body.extend_long(sum, elements[i]);
+        put_scanned(outbox, running_value::<K>(inclusive, i, sum, next))?;
+        sum = next;
     }
     Ok(())
 }
 
-// A fold with one more element.
-fn one_more(before: SixSummary, x: i64) -> SixSummary
-    requires { CanJoinLong six_within before (six_operations.lift x) }
-    ensures { result ≡ six_operations.join before (six_operations.lift x) }
+// The value at an index, by the fold of the elements before it and the fold with its own element.
+#[inline(always)]
+fn running_value<K: OfKind>(inclusive: bool, i: usize, before: K::S, after: K::S) -> Shown
+    ensures { (b : K) (xs : List ℤ) → K.fits b program_table → All IsElement xs → i < length xs
+        → before ≡ fold_of (K.operations b) (take i xs) → after ≡ fold_of (K.operations b) (take (i + 1) xs)
+        → result ≡ plain_value K.told_kind (take (if inclusive then i + 1 else i) xs) }
 {
-    Six.combine_long(before, Six.lift(x))
-}
-
-// Shows a summary: of a fold it is the plain value.
-fn shown_fold(kind: Kind, s: SixSummary) -> Shown
-    ensures { (xs : List ℤ) → s ≡ fold_of six_operations xs → result ≡ plain_value kind xs }
-{
-    face(kind, s)
-}
-
-// The element under an index that is kept.
-fn element_at(series: &Series<Six>, i: u64) -> i64
-    requires { is_kept series.now.kept.held i ≡ true }
-    ensures { result ≡ element_of series.now.kept.held i }
-{
-    let Ok(x) = series.get(i) else {
-        unreachable!();
-    };
-    x
+    if inclusive {
+        K::tell(true, after).shown()
+    } else {
+        K::tell(i > 0, before).shown()
+    }
 }
 
 // One value of a scan, on a line for which it makes room.

@@ -12,7 +12,7 @@ use crate::answers::{ROOM, answer};
 use crate::long_commands::LongLine;
 use crate::long_grammar::read_long_line;
 use crate::watched::Watched;
-use lv_bodies::Six;
+use lv_bodies::Automaton;
 use lv_lines::{Fault, Outbox, Responder, converse, put_bad};
 use lv_series::Series;
 use std::alloc::Global;
@@ -37,7 +37,7 @@ pub fn run_series_script<R: Read, W: Write>(
         × Appends (W.contents writer.old) (W.contents writer.new) text × (NeverWants text → IsPlainText input text)) }
 {
     let mut script = SeriesScript {
-        series: Series::new(alloc, Six),
+        series: Series::new(alloc, Automaton::program()),
         entries: Vec::new(alloc),
     };
     let ended = converse(alloc, &mut script, reader, writer);
@@ -48,7 +48,7 @@ pub fn run_series_script<R: Read, W: Write>(
 // What answers the lines of a script: a series, and the queries that stand.
 #[derive(Drop)]
 struct SeriesScript {
-    series: Series<Six>,
+    series: Series,
     entries: Vec<Watched>,
 }
 
@@ -58,9 +58,9 @@ impl Model for SeriesScript {
 
     ghost Value = { Known };
 
-    ghost view = { λ a. known_of a.series.kept a.entries.items };
+    ghost view = { λ a. known_of a.series a.entries.items };
 
-    ghost invariant = { λ a. IsReady a.series.kept.held a.entries.items };
+    ghost invariant = { λ a. IsReady a.series a.entries.items };
 }
 
 impl Responder for SeriesScript {
@@ -89,21 +89,21 @@ impl Responder for SeriesScript {
 
 // Answers a line.
 fn answer_line<W: Write>(
-    series: &mut Series<Six>,
+    series: &mut Series,
     entries: &mut Vec<Watched>,
     number: u32,
     line: LongLine,
     outbox: &mut Outbox<'_, W>,
 ) -> Result<(), Fault>
-    requires ready { IsReady series.old.kept.held entries.old.items }
+    requires ready { IsReady series.old entries.old.items }
     requires room { HasRoom outbox.old.held.now ROOM }
     ensures places { SamePlaces outbox.old outbox.new }
-    ensures ok { OnOk result ((reply : List ℕ) × Tells (known_of series.old.kept entries.old.items) number line reply (known_of series.new.kept entries.new.items)
+    ensures ok { OnOk result ((reply : List ℕ) × Tells (known_of series.old entries.old.items) number line reply (known_of series.new entries.new.items)
         × Puts W.contents outbox.old outbox.new reply) }
     ensures fault { IfErr result (λ fault. (fault ≡ Fault.WriteFault) × (reply : List ℕ)
-        × Tells (known_of series.old.kept entries.old.items) number line reply (known_of series.new.kept entries.new.items)
+        × Tells (known_of series.old entries.old.items) number line reply (known_of series.new entries.new.items)
         × PutsFront W.contents outbox.old outbox.new reply) }
-    ensures ready { IsReady series.new.kept.held entries.new.items }
+    ensures ready { IsReady series.new entries.new.items }
 {
     match line {
         LongLine::Nothing => {}

@@ -1,17 +1,33 @@
-//! The value of a kind over a span of a series.
+//! The value of a kind over a range of a series, and over a span.
 ghost use Rattle.std.specs.Prelude.{◌≡◌, None};
-ghost use Rattle.lv_bodies.specs.Plain.{plain_value};
+ghost use Rattle.lv_bodies.specs.Plain.{plain_value, program_table};
 ghost use Rattle.lv_series.specs.Series.{range_refused, slice_of};
 ghost use Rattle.lv_series_script.specs.LongQueries.{span_of};
+ghost use Rattle.lv_series_script.specs.Values.{ShowsValue, without_trees};
 
 use crate::long_commands::Span;
-use lv_bodies::{Kind, Shown, Six, face};
-use lv_series::Series;
+use lv_bodies::{Kind, Shown};
+use lv_series::{LongRefusal, Series};
 
-/// The value of a kind over what is kept of a span. What is computed for it is kept.
-pub fn value_of(series: &mut Series<Six>, kind: Kind, span: Span) -> Shown
-    ensures value { result ≡ plain_value kind (span_of series.old.kept.held span) }
-    ensures same { series.new.kept ≡ series.old.kept }
+/// The value of a kind over a range, or why the range is refused. The kind's tree is made first, where there is memory for it; otherwise
+/// the range is folded element by element.
+pub fn show_value(series: &mut Series, kind: Kind, lo: u64, hi: u64) -> Result<Shown, LongRefusal>
+    requires table { series.old.table ≡ program_table }
+    ensures value { ShowsValue series.old.held kind lo hi result }
+    ensures same { without_trees series.new ≡ without_trees series.old }
+{
+    let _ = series.prepare(kind);
+    match series.value(kind, lo, hi) {
+        Ok(answer) => Ok(answer.value.shown()),
+        Err(refusal) => Err(refusal),
+    }
+}
+
+/// The value of a kind over what is kept of a span.
+pub fn value_of(series: &mut Series, kind: Kind, span: Span) -> Shown
+    requires table { series.old.table ≡ program_table }
+    ensures value { result ≡ plain_value kind (span_of series.old.held span) }
+    ensures same { without_trees series.new ≡ without_trees series.old }
 {
     let kept = kept_of(series, span);
     value_between(series, kind, kept.lo, kept.hi)
@@ -25,9 +41,9 @@ struct Kept {
 }
 
 // What is kept of a span.
-fn kept_of(series: &Series<Six>, span: Span) -> Kept
-    ensures granted { range_refused series.now.kept.held result.lo result.hi ≡ None }
-    ensures same { slice_of series.now.kept.held result.lo result.hi ≡ span_of series.now.kept.held span }
+fn kept_of(series: &Series, span: Span) -> Kept
+    ensures granted { range_refused series.now.held result.lo result.hi ≡ None }
+    ensures same { slice_of series.now.held result.lo result.hi ≡ span_of series.now.held span }
 {
     let first = series.first();
     let size = series.size();
@@ -45,13 +61,14 @@ fn kept_of(series: &Series<Six>, span: Span) -> Kept
 }
 
 // The value of a kind over a range that nothing refuses.
-fn value_between(series: &mut Series<Six>, kind: Kind, lo: u64, hi: u64) -> Shown
-    requires { range_refused series.old.kept.held lo hi ≡ None }
-    ensures value { result ≡ plain_value kind (slice_of series.old.kept.held lo hi) }
-    ensures same { series.new.kept ≡ series.old.kept }
+fn value_between(series: &mut Series, kind: Kind, lo: u64, hi: u64) -> Shown
+    requires table { series.old.table ≡ program_table }
+    requires granted { range_refused series.old.held lo hi ≡ None }
+    ensures value { result ≡ plain_value kind (slice_of series.old.held lo hi) }
+    ensures same { without_trees series.new ≡ without_trees series.old }
 {
-    match series.ask(lo, hi) {
-        Ok(answer) => face(kind, answer.value),
+    match show_value(series, kind, lo, hi) {
+        Ok(value) => value,
         Err(_) => unreachable!(),
     }
 }

@@ -9,14 +9,14 @@ pub loop-entry-preserved : goal.loop-entry-preserved
 loop-entry-preserved c =
     let loop = c.loop-entry in
     let old = c.args.entries.now in
-    let h = c.args.series.now.kept.held in
+    let h = c.args.series.now.held in
     let i = loop.entry-index in
     let w = c.entry-item.result in
     let back = sym c.entry-item.is in
     let here = item_of (brought_up h) old loop.entries i w c.loop-entry-test.true loop.invariant.entries c.entry-item.is in
     let same = loop.invariant.same in
-    let entry = c.tell_one.ensures.entry ∙ ap (brought_up loop.series.kept.held) back ∙ ap (λ s. brought_up s.held w) same in
-    let told = c.tell_one.ensures.text ∙ ap (λ e. loop.held.items ++ told_of loop.series.kept.held e) back ∙ ap (λ s. loop.held.items ++ told_of s.held w) same in
+    let entry = c.tell_one.ensures.entry ∙ ap (brought_up loop.series.held) back ∙ ap (λ s. brought_up s.held w) same in
+    let told = c.tell_one.ensures.text ∙ ap (λ e. loop.held.items ++ told_of loop.series.held e) back ∙ ap (λ s. loop.held.items ++ told_of s.held w) same in
     record {
       same = c.tell_one.ensures.same ∙ same;
       entries = ap (slice_set loop.entries i) entry ∙ map_over_more (brought_up h) old loop.entries i w c.loop-entry-test.true loop.invariant.entries c.entry-item.is;

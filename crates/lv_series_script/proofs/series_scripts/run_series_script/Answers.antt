@@ -9,12 +9,12 @@ use Rattle.lv_series_script.proofs.series_scripts.run_series_script.Goals as goa
 pub invariant_of-script : goal.invariant_of-script
 invariant_of-script g c =
     let none : c.new-2.result.items ≡ [] = search rules in
-    rw (c.new.ensures.kept, none) (record { current = All-nil _; few = omega arith; size = omega arith })
+    rw (c.new.ensures, none) (record { table = c.program.ensures; current = All-nil _; few = omega arith })
 
 pub returns-clause-plain : goal.returns-clause-plain
 returns-clause-plain g c =
     let none : c.new-2.result.items ≡ [] = search rules in
-    conversed_plain _ _ _ _ _ _ _ (ap₂ known_of c.new.ensures.kept none) c.converse-ended.ensures
+    conversed_plain _ _ _ _ _ _ _ (ap₂ known_of c.new.ensures none) c.converse-ended.ensures
 
 pub returns-clause-text : goal.returns-clause-text
 returns-clause-text g c =

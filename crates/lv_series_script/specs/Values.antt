@@ -1,0 +1,17 @@
+-- What the code of a series' script asks of a series: the plain value of a kind, whichever trees the series has.
+use Rattle.std.specs.Prelude.{◌≡◌, ℕ, Some, None, Result, Ok, Err}
+use Rattle.lv_bodies.specs.Plain.{plain_value}
+use Rattle.lv_bodies.specs.declared.kinds.Kind.{Kind}
+use Rattle.lv_bodies.specs.declared.kinds.Shown.{Shown}
+use Rattle.lv_series.specs.Plain.{no_kinds}
+use Rattle.lv_series.specs.Series.{Held, SeriesState, range_refused, slice_of}
+use Rattle.lv_series.specs.declared.refusals.LongRefusal.{LongRefusal}
+
+-- a series as if no kind had a tree: trees change no answer
+abbrev pub without_trees : SeriesState → SeriesState
+without_trees s = record s { kinds = no_kinds }
+
+-- the plain value of a kind over a range, or why the range is refused
+abbrev pub ShowsValue : Held → Kind → ℕ → ℕ → Result Shown LongRefusal → Type 0
+ShowsValue h kind lo hi (Ok value) = (range_refused h lo hi ≡ None) × (value ≡ plain_value kind (slice_of h lo hi))
+ShowsValue h kind lo hi (Err refusal) = range_refused h lo hi ≡ Some refusal
