@@ -96,8 +96,8 @@ typedef struct livevec_reduced {
     uint32_t refusal;
     uint32_t detail;    /* of LIVEVEC_OUT_OF_RANGE the size, of LIVEVEC_OVERTAKEN the later edit's number, else 0 */
     uint32_t edit;      /* after which edit the values are those of the range */
-    uint32_t cells;     /* how many elements were read for it; 0 of livevec_value, which doesn't count */
-    uint32_t summaries; /* how many summaries were read for it; 0 of livevec_value, which doesn't count */
+    uint32_t cells;     /* how many elements were read for it; 0 of livevec_value and livevec_ask, which don't count */
+    uint32_t summaries; /* how many summaries were read for it; 0 of livevec_value and livevec_ask, which don't count */
     livevec_values values;
 } livevec_reduced;
 

@@ -8,13 +8,13 @@
  * Refusals: NULL, NO_HANDLE, BAD_KIND (a vector of one kind; so below), BAD_RANGE, OUT_OF_RANGE. */
 LIVEVEC_MUST_USE livevec_reduced livevec_reduce(livevec_vector *slot, uint32_t lo, uint32_t hi);
 
-/* The same, and keeps what it computes for it: a range that was asked for costs at most 14 cells and 84 summaries until an
- * edit touches it. Takes no memory, changes no answer. Refusals: NULL, NO_HANDLE, BAD_KIND, BAD_RANGE, OUT_OF_RANGE. */
+/* The same, by each kind as livevec_value asks it: six trees follow the edits, and `cells` and `summaries` are 0. So it is quick where it
+ * is asked often. Takes no memory, changes no answer. Refusals: NULL, NO_HANDLE, BAD_KIND, BAD_RANGE, OUT_OF_RANGE. */
 LIVEVEC_MUST_USE livevec_reduced livevec_ask(livevec_vector *slot, uint32_t lo, uint32_t hi);
 
 /* The plain value of the elements of a range by one livevec_kind. Of `values` only those of that kind are told, and `any`; the
  * others are 0. It computes that kind alone, and keeps what it computes by that kind alone, until an edit touches it: where one kind
- * is wanted, this is quicker than livevec_ask and keeps less. Takes no memory, changes no answer.
+ * is wanted, this is quicker than livevec_ask. Takes no memory, changes no answer.
  * Refusals: NULL, BAD_KIND (no kind), NO_HANDLE, BAD_KIND (not the vector's), BAD_RANGE, OUT_OF_RANGE. */
 LIVEVEC_MUST_USE livevec_reduced livevec_value(livevec_vector *slot, uint32_t kind, uint32_t lo, uint32_t hi);
 

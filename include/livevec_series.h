@@ -5,10 +5,13 @@
 /* --- A series: a vector that goes on. Its elements and edits are bounded by memory alone, and elements at its front may expire. ---
  *
  * Indices and counts have 64 bits. They count from the first element that was ever pushed: an element keeps its index for as long as it
- * is kept. Kept are those from `first` up to `size`. Elements lie in shards of 32,760, and the memory of whole shards comes back once
- * all of their elements have expired. At most 2^62 elements are ever pushed, and 2^64 - 1 edits accepted.
+ * is kept. Kept are those from `first` up to `size`. They lie side by side in memory: after an expiry there is memory for at most twice
+ * those that are kept, and 64. At most 2^62 elements are ever pushed, and 2^64 - 1 edits accepted.
  *
- * A series is of all six kinds, and its automaton leads from q by x to (2 * q + x mod 4) mod 8. */
+ * A series may be asked by each of the six kinds, and its automaton leads from q by x to (2 * q + x mod 4) mod 8. For each kind that was
+ * asked for there is a tree over blocks of eight elements. By it a value of a range takes O(log n) joins, and each edit renews it at once:
+ * a write by O(log n) joins. A tree takes 2 bytes an element, that of the best runs 16, and at most twice that. Kinds that nobody asked
+ * for cost nothing. */
 
 typedef struct livevec_series {
     bool full_;
@@ -34,6 +37,16 @@ typedef struct livevec_series_pushed {
     uint64_t edit;    /* the number of the last edit, whether there were pushes or not; 0 where they were refused */
     uint64_t pushed;  /* how many elements were pushed: all or none */
 } livevec_series_pushed;
+
+/* What many writes at a series, or many questions, answer: all are made, or none. */
+typedef struct livevec_series_many {
+    uint32_t refusal; /* of the one that was refused; 0 where none was */
+    uint64_t first;   /* of OUT_OF_RANGE which indices are kept, else 0 */
+    uint64_t size;
+    uint64_t edit; /* the number of the last edit, after which the values are those of their ranges; 0 where one was refused */
+    size_t done;   /* how many writes were made, or ranges answered: all or none */
+    size_t place;  /* which one was refused, counted from 0; 0 where none was */
+} livevec_series_many;
 
 /* An element of a series, 0 where it was refused. */
 typedef struct livevec_series_element {
@@ -73,29 +86,38 @@ LIVEVEC_MUST_USE uint32_t livevec_series_new(livevec_series *slot);
 /* Frees a series and empties its slot. Of a slot that holds something else it frees nothing. Refusals: NULL, NO_HANDLE. */
 uint32_t livevec_free_series(livevec_series *slot);
 
-/* Puts an element at the end. `place` is its index. Refusals: NULL, NO_HANDLE, WORN, FULL, NO_MEMORY. */
+/* Puts an element at the end. `place` is its index. O(1) amortised. Refusals: NULL, NO_HANDLE, WORN, FULL, NO_MEMORY. */
 LIVEVEC_MUST_USE livevec_series_edited livevec_series_push(livevec_series *slot, int64_t value);
 
 /* Pushes elements in order, all of them or none. A null pointer with length 0 is an empty array. Refused as the first push that would be
  * refused, with WORN or FULL, else with NO_MEMORY: nothing has changed then. Refusals: NULL, NO_HANDLE, WORN, FULL, NO_MEMORY. */
 LIVEVEC_MUST_USE livevec_series_pushed livevec_series_push_many(livevec_series *slot, const int64_t *values, size_t length);
 
-/* Drops the last element. `value` is that element. Refusals: NULL, NO_HANDLE, WORN, EMPTY, NO_MEMORY. */
+/* Drops the last element. `value` is that element. Takes no memory. Refusals: NULL, NO_HANDLE, WORN, EMPTY. */
 LIVEVEC_MUST_USE livevec_series_edited livevec_series_pop(livevec_series *slot);
 
-/* Overwrites the element under an index. `value` is the element before. Refusals: NULL, NO_HANDLE, WORN, OUT_OF_RANGE, NO_MEMORY. */
+/* Overwrites the element under an index. `value` is the element before. Takes no memory.
+ * Refusals: NULL, NO_HANDLE, WORN, OUT_OF_RANGE. */
 LIVEVEC_MUST_USE livevec_series_edited livevec_series_write(livevec_series *slot, uint64_t index, int64_t value);
 
-/* Exchanges the elements under two indices, which may be one. `value` is the element at the first index now.
- * Refusals: NULL, NO_HANDLE, WORN, OUT_OF_RANGE, NO_MEMORY. */
+/* Overwrites the element under each of `length` indices, in order, by the value at the same place: `values` has so many too. An index
+ * may come twice: the later value stays. Each is an edit of its own. All are made, or none: all indices are looked at before the first
+ * write, and whether so many edits are left. `place` tells the first write that is refused. A null pointer with length 0 is an empty
+ * array. Takes no memory. Refusals: NULL, NO_HANDLE, and, of the first write that is refused, WORN, OUT_OF_RANGE. */
+LIVEVEC_MUST_USE livevec_series_many livevec_series_write_many(livevec_series *slot, const uint64_t *indices, const int64_t *values,
+                                                               size_t length);
+
+/* Exchanges the elements under two indices, which may be one. `value` is the element at the first index now. Takes no memory.
+ * Refusals: NULL, NO_HANDLE, WORN, OUT_OF_RANGE. */
 LIVEVEC_MUST_USE livevec_series_edited livevec_series_swap(livevec_series *slot, uint64_t first, uint64_t second);
 
-/* Drops the elements from an index on, which is `size` then. `place` is how many were dropped.
- * Refusals: NULL, NO_HANDLE, WORN, OUT_OF_RANGE, NO_MEMORY. */
+/* Drops the elements from an index on, which is `size` then. `place` is how many were dropped. Takes no memory.
+ * Refusals: NULL, NO_HANDLE, WORN, OUT_OF_RANGE. */
 LIVEVEC_MUST_USE livevec_series_edited livevec_series_truncate(livevec_series *slot, uint64_t size);
 
-/* Drops the elements before an index, which is `first` then; the others keep their indices. `place` is how many were dropped. Takes no
- * memory, and gives that of whole shards back. Refusals: NULL, NO_HANDLE, WORN, OUT_OF_RANGE. */
+/* Drops the elements before an index, which is `first` then; the others keep their indices. `place` is how many were dropped. O(1)
+ * amortised. Takes no memory, and gives memory back: there is some for at most twice the elements that are kept, and 64, then.
+ * Refusals: NULL, NO_HANDLE, WORN, OUT_OF_RANGE. */
 LIVEVEC_MUST_USE livevec_series_edited livevec_series_expire(livevec_series *slot, uint64_t index);
 
 /* The element under an index. Refusals: NULL, NO_HANDLE, OUT_OF_RANGE. */
@@ -107,13 +129,13 @@ LIVEVEC_MUST_USE livevec_series_count livevec_series_first(livevec_series *slot)
 LIVEVEC_MUST_USE livevec_series_count livevec_series_size(livevec_series *slot);
 LIVEVEC_MUST_USE livevec_series_count livevec_series_edits(livevec_series *slot);
 
-/* The plain values of the elements of a range, by each of the six kinds at once: at most 126 joins beyond those in the two shards at
- * its ends, and one more for each 33,546,240 elements. Within those two it may go over all elements: where one asks often, ask by
- * livevec_series_ask. Takes no memory, changes nothing. Refusals: NULL, NO_HANDLE, BAD_RANGE, OUT_OF_RANGE. */
+/* The plain values of the elements of a range, by each of the six kinds at once: in O(log n) joins by each kind that has a tree, while it
+ * goes over the range by one that has none. Takes no memory, changes nothing. Refusals: NULL, NO_HANDLE, BAD_RANGE, OUT_OF_RANGE. */
 LIVEVEC_MUST_USE livevec_series_reduced livevec_series_reduce(livevec_series *slot, uint64_t lo, uint64_t hi);
 
-/* The same, and keeps what it computes in those two shards: until an edit touches them, it costs little to ask again. Takes no memory,
- * changes no answer. Refused as livevec_series_reduce is. */
+/* The same, and makes the tree of each kind first that has none, in O(n): so the next one takes O(log n) joins by each kind, and so does
+ * a write. Where one kind is wanted, ask by livevec_series_value. Where there is no memory for a tree it is refused, and no answer
+ * changes, though trees of some kinds may have been made. Refusals: NULL, NO_HANDLE, BAD_RANGE, OUT_OF_RANGE, NO_MEMORY. */
 LIVEVEC_MUST_USE livevec_series_reduced livevec_series_ask(livevec_series *slot, uint64_t lo, uint64_t hi);
 
 /* The elements of a range from its start on, as many as a buffer of `length` takes; what it has behind them stays. The next piece
@@ -124,7 +146,8 @@ LIVEVEC_MUST_USE livevec_series_scanned livevec_series_read(livevec_series *slot
 /* The running values of a range by all six kinds, from the index `at` on, as many as a buffer of `length` takes: buffer[i] has those of
  * the elements from `lo` up to `at` + i, that one included, or excluded. The first piece has `at` = `lo`, the next one `at` and as many
  * as were put; an edit between two pieces is told by `edit`. What the buffer has behind the values stays. A piece costs a
- * livevec_series_ask of what lies before it, and one step for each value. Takes no memory, changes no answer. Where it was refused the buffer is as it was.
+ * livevec_series_reduce of what lies before it, and one step for each value: where there are many pieces, have the trees made by a
+ * livevec_series_ask. Takes no memory, changes nothing. Where it was refused the buffer is as it was.
  * Refusals: NULL, NO_HANDLE, BAD_RANGE and OUT_OF_RANGE (of `lo` to `at`, then of `at` to `hi`). */
 LIVEVEC_MUST_USE livevec_series_scanned livevec_series_scan_inclusive(livevec_series *slot, uint64_t lo, uint64_t at, uint64_t hi,
                                                                       livevec_values *buffer, size_t length);

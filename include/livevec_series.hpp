@@ -74,6 +74,19 @@ class series : public inner::owned<livevec_series, livevec_free_series> {
     }
     void push_many(std::initializer_list<std::int64_t> values) { push_many(array_view(values.begin(), values.size())); }
 
+    /* Writes each value under the index of the same place, in order, and tells the last edit. All are made, or none: where one is refused,
+     * `not_kept_at` is thrown, or `refused_at`. As many values as indices are wanted, else it is refused with LIVEVEC_SHORT_BUFFER. */
+    std::uint64_t write_many(series_index_view indices, array_view values)
+    {
+        if (indices.size() != values.size())
+            throw refused(LIVEVEC_SHORT_BUFFER, static_cast<std::uint32_t>(indices.size()));
+        return inner::each_of_series(livevec_series_write_many(slot(), indices.data(), values.data(), indices.size()));
+    }
+    std::uint64_t write_many(std::initializer_list<std::uint64_t> indices, std::initializer_list<std::int64_t> values)
+    {
+        return write_many(series_index_view(indices.begin(), indices.size()), array_view(values.begin(), values.size()));
+    }
+
     [[nodiscard]] std::int64_t operator[](std::uint64_t index) const { return inner::kept(livevec_series_get(slot(), index)).value; }
     [[nodiscard]] std::uint64_t first() const { return inner::counted_long(livevec_series_first(slot())); }
     [[nodiscard]] std::uint64_t size() const { return inner::counted_long(livevec_series_size(slot())); }
@@ -96,12 +109,15 @@ class series : public inner::owned<livevec_series, livevec_free_series> {
     }
     [[nodiscard]] std::vector<std::int64_t> elements() const { return read(first(), size()); }
 
-    /* The values of a range by all six kinds, and the edit after which they are so. `ask` keeps what it computes in the shards at its ends. */
+    /* Makes the tree of a kind, where there is none: from then on a value by that kind takes O(log n) joins, and each edit renews the tree. */
+    void prepare(livevec_kind kind) { inner::check(livevec_series_prepare(slot(), kind)); }
+
+    /* The values of a range by all six kinds, and the edit after which they are so. `ask` makes the tree of each kind first. */
     [[nodiscard]] livevec_series_reduced reduce(std::uint64_t lo, std::uint64_t hi) const { return inner::kept(livevec_series_reduce(slot(), lo, hi)); }
     livevec_series_reduced ask(std::uint64_t lo, std::uint64_t hi) const { return inner::kept(livevec_series_ask(slot(), lo, hi)); }
 
-    /* The value of a range by one kind. Of the values only those of that kind are told, and `any`. A series computes all six for it, and keeps
-     * them as `ask` does. */
+    /* The value of a range by one kind, whose tree is made first, where there is none. Of the values only those of that kind are told, and
+     * `any`. */
     [[nodiscard]] livevec_series_reduced value(livevec_kind kind, std::uint64_t lo, std::uint64_t hi) const
     {
         return inner::kept(livevec_series_value(slot(), kind, lo, hi));
@@ -119,26 +135,27 @@ class series : public inner::owned<livevec_series, livevec_free_series> {
         return value_many(kind, series_range_view(ranges.begin(), ranges.size()));
     }
 
-    /* One value of a range, by `ask`. The sum is modulo 2^64; a best run's total is exact. Of an empty range there is none but a sum. */
-    [[nodiscard]] std::uint64_t sum(std::uint64_t lo, std::uint64_t hi) const { return ask(lo, hi).values.sum; }
+    /* One value of a range, by `value`. The sum is modulo 2^64; a best run's total is exact. Of an empty range there is none but a sum. */
+    [[nodiscard]] std::uint64_t sum(std::uint64_t lo, std::uint64_t hi) const { return value(LIVEVEC_SUM, lo, hi).values.sum; }
     [[nodiscard]] std::optional<std::int64_t> least(std::uint64_t lo, std::uint64_t hi) const
     {
-        const livevec_values values = ask(lo, hi).values;
+        const livevec_values values = value(LIVEVEC_LEAST, lo, hi).values;
         return values.any ? std::optional<std::int64_t>(values.least) : std::nullopt;
     }
     [[nodiscard]] std::optional<std::int64_t> greatest(std::uint64_t lo, std::uint64_t hi) const
     {
-        const livevec_values values = ask(lo, hi).values;
+        const livevec_values values = value(LIVEVEC_GREATEST, lo, hi).values;
         return values.any ? std::optional<std::int64_t>(values.greatest) : std::nullopt;
     }
     [[nodiscard]] std::optional<int128> best(std::uint64_t lo, std::uint64_t hi) const
     {
-        const livevec_values values = ask(lo, hi).values;
+        const livevec_values values = value(LIVEVEC_BEST, lo, hi).values;
         return values.any ? std::optional<int128>(int128(values.best_high) * (int128(1) << 64) + values.best_low) : std::nullopt;
     }
 
     /* The values of each beginning of a range, the element itself included, or excluded. With a buffer: those that end at `at` and behind
-     * it, as many as it takes, and how many they are. So a scan goes in pieces: `at` starts at `lo`, and goes on by what was told. */
+     * it, as many as it takes, and how many they are. So a scan goes in pieces: `at` starts at `lo`, and goes on by what was told. Where there
+     * are many, `ask` first, or `prepare` below: what lies before a piece is told by trees then. */
     [[nodiscard]] std::vector<livevec_values> scan_inclusive(std::uint64_t lo, std::uint64_t hi) const
     {
         return scanned<livevec_values>(livevec_series_scan_inclusive, lo, hi);
@@ -157,7 +174,7 @@ class series : public inner::owned<livevec_series, livevec_free_series> {
     }
 
     /* The same by one kind, as scan_inclusive<LIVEVEC_SUM>(0, n): in a column of its own; a piece of it into a column of the caller's. Of no
-     * elements the least, the greatest and the best are 0. A series folds all six kinds for it. */
+     * elements the least, the greatest and the best are 0. */
     template <livevec_kind Kind> [[nodiscard]] std::vector<cell<Kind>> scan_inclusive(std::uint64_t lo, std::uint64_t hi) const
     {
         return scanned<cell<Kind>>(inner::series_by<Kind>::inclusive, lo, hi);

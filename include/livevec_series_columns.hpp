@@ -22,7 +22,7 @@ class not_kept : public refused {
     std::uint64_t first_, size_;
 };
 
-/* The same of one of many ranges: which one it was, counted from 0. */
+/* The same of one of many writes or ranges: which one it was, counted from 0. */
 class not_kept_at : public not_kept {
   public:
     explicit not_kept_at(const livevec_series_many &many) : not_kept(many.first, many.size), place_(many.place) {}
@@ -32,12 +32,13 @@ class not_kept_at : public not_kept {
     std::size_t place_;
 };
 
-/* Where many questions at a series go. */
+/* Where many writes at a series go, and many questions. */
+using series_index_view = view<const std::uint64_t>;
 using series_range_view = view<const livevec_series_range>;
 
 namespace inner {
 
-/* The edit of many questions, none of which was refused. */
+/* The edit of many writes or questions, none of which was refused. */
 inline std::uint64_t each_of_series(const livevec_series_many &many)
 {
     if (many.refusal == LIVEVEC_OUT_OF_RANGE)

@@ -49,6 +49,21 @@ livevec_series_pushed livevec_series_push_many(livevec_series *slot, const int64
     return livevec_proved_series_push_all(slot, values ? values : &nowhere, length);
 }
 
+/* All writes at once, or none. As many values as indices are handed over. */
+livevec_series_many livevec_proved_series_write_all(livevec_series *slot, const uint64_t *indices, size_t places, const int64_t *values, size_t length);
+
+livevec_series_many livevec_series_write_many(livevec_series *slot, const uint64_t *indices, const int64_t *values, size_t length)
+{
+    static const uint64_t no_index[1];
+    static const int64_t no_value[1];
+    if (!slot || ((!indices || !values) && length))
+        return (livevec_series_many){.refusal = LIVEVEC_NULL};
+    if (!enter(&slot->busy_))
+        return (livevec_series_many){.refusal = LIVEVEC_BUSY};
+    LEAVES(left, slot);
+    return livevec_proved_series_write_all(slot, length ? indices : no_index, length, length ? values : no_value, length);
+}
+
 livevec_series_scanned livevec_series_read(livevec_series *slot, uint64_t lo, uint64_t hi, int64_t *buffer, size_t length)
 {
     int64_t nowhere;

@@ -1,25 +1,28 @@
 /* Series by one kind, and their scans. */
 #include "livevec_slots.h"
 
+TOLD(series_prepare, (livevec_series *slot, uint32_t kind), slot, (slot, kind))
 ANSWERED(livevec_series_reduced, series_value, (livevec_series *slot, uint32_t kind, uint64_t lo, uint64_t hi), slot, (slot, kind, lo, hi))
 
-/* What the first of some ranges that is refused is refused with, at a series whose slot is entered. An empty range is refused by its kind
- * or its slot alone. */
+/* What many questions at a series whose slot is entered are refused with: all of them, or the first range that is. The kind's tree is made
+ * where none is, so that no question is refused then. */
 static livevec_series_many judge_series_ranges(livevec_series *slot, uint32_t kind, const livevec_series_range *ranges, size_t length)
 {
+    if (kind > LIVEVEC_AUTOMATON)
+        return (livevec_series_many){.refusal = LIVEVEC_BAD_KIND};
     series_counts kept = livevec_proved_series_counts(slot);
-    livevec_series_reduced none = livevec_proved_series_value(slot, kind, kept.first, kept.first);
-    livevec_series_many answer = {.refusal = none.refusal, .edit = none.edit};
-    if (answer.refusal)
-        return answer;
+    if (kept.refusal)
+        return (livevec_series_many){.refusal = kept.refusal};
     for (size_t i = 0; i < length; i++) {
         if (ranges[i].hi < ranges[i].lo)
             return (livevec_series_many){.refusal = LIVEVEC_BAD_RANGE, .place = i};
         if (ranges[i].lo < kept.first || ranges[i].hi > kept.size)
             return (livevec_series_many){.refusal = LIVEVEC_OUT_OF_RANGE, .first = kept.first, .size = kept.size, .place = i};
     }
-    answer.done = length;
-    return answer;
+    uint32_t refusal = livevec_proved_series_prepare(slot, kind);
+    if (refusal)
+        return (livevec_series_many){.refusal = refusal};
+    return (livevec_series_many){.edit = kept.edits, .done = length};
 }
 
 livevec_series_many livevec_series_value_many(livevec_series *slot, uint32_t kind, const livevec_series_range *ranges, livevec_values *answers,

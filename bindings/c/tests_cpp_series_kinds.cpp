@@ -134,8 +134,31 @@ static void goes_on_by_all_or_none()
 #endif
 }
 
+/* Many writes, all of them or none, over trees that were made before. */
+static void writes_all_or_none()
+{
+    livevec::series readings{9, 20, 22, 19, 25};
+    readings.prepare(LIVEVEC_SUM);
+    readings.expire(1);
+    IS(readings.write_many({4, 1, 4}, {24, 21, 23}) == 9 && readings.elements() == numbers({21, 22, 19, 23}) && readings.sum(1, 5) == 85);
+    IS(readings.write_many({}, {}) == 9);
+    try {
+        readings.write_many({1, 0}, {7, 7});
+        IS(false);
+    } catch (const livevec::not_kept_at &refused) {
+        IS(refused.first() == 1 && refused.size() == 5 && refused.place() == 1 && readings.edits() == 9 && readings[1] == 21);
+    }
+    try {
+        readings.write_many({1}, {});
+        IS(false);
+    } catch (const livevec::refused &refused) {
+        IS(refused.number() == LIVEVEC_SHORT_BUFFER && readings.edits() == 9);
+    }
+}
+
 void series_kinds()
 {
+    writes_all_or_none();
     goes_on_by_one_kind();
     goes_on_by_all_or_none();
 }

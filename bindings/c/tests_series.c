@@ -1,4 +1,4 @@
-/* A series beside a plain array whose start moves: random edits, a window that slides over several shards, refusals, pieces. */
+/* A series beside a plain array whose start moves: random edits, a window that slides, refusals, pieces, want of memory, many writes. */
 #include "tests.h"
 #include "tests_plain.h"
 
@@ -239,12 +239,14 @@ static void pieces(void)
     IS(livevec_free_series(&s), 0);
 }
 
-/* Each request for memory fails in turn, for as long as one does: nothing has changed then, and the next call goes on. */
+/* Each request for memory fails in turn, for as long as one does: nothing has changed then, and the next call goes on. The tree of each
+ * kind is made first, so that a push may want memory for any of them. */
 static void want_of_memory(void)
 {
     livevec_series s = {0};
     start(&s);
-    push_some(&s, SHARD + 900);
+    push_some(&s, 900);
+    look(&s);
     int refused = 0;
     for (int round = 0; round < 1200; round++) {
         until_failure = 1;
@@ -261,7 +263,7 @@ static void want_of_memory(void)
         edits++;
     }
     IS(refused > 0, 1);
-    alike(livevec_series_reduce(&s, SHARD, size).values, plain(SHARD, size));
+    alike(livevec_series_reduce(&s, 900, size).values, plain(900, size));
     int nth = 0;
     livevec_series_pushed p = {0};
     for (size_t i = 0; i < MANY; i++)
@@ -277,13 +279,96 @@ static void want_of_memory(void)
         edits += p.pushed;
         look(&s);
     } while (p.refusal && nth < 10000);
-    IS(nth > 100 && p.refusal == 0, 1);
+    IS(nth > 5 && p.refusal == 0, 1);
     alike(livevec_series_reduce(&s, first, size).values, plain(first, size));
     IS(livevec_free_series(&s), 0);
     until_failure = 1;
     IS(livevec_series_new(&s), LIVEVEC_NO_MEMORY);
     until_failure = 0;
     IS(livevec_free_series(&s), LIVEVEC_NO_HANDLE);
+}
+
+/* Where there is no memory for a tree its question is refused, and nothing has changed; answers that need no tree go on. */
+static void want_of_trees(void)
+{
+    livevec_series s = {0};
+    livevec_series_range range = {3, 900};
+    livevec_values answer = {.sum = 77};
+    start(&s);
+    push_some(&s, 1000);
+    for (uint32_t kind = 0; kind < 6; kind++) {
+        until_failure = 1;
+        livevec_series_reduced told = livevec_series_value(&s, kind, 3, 900);
+        IS(told.refusal, LIVEVEC_NO_MEMORY);
+        IS(told.edit, 0);
+        IS(told.first, 0);
+        until_failure = 1;
+        IS(livevec_series_prepare(&s, kind), LIVEVEC_NO_MEMORY);
+        until_failure = 1;
+        livevec_series_many many = livevec_series_value_many(&s, kind, &range, &answer, 1);
+        IS(many.refusal, LIVEVEC_NO_MEMORY);
+        IS(many.done, 0);
+        IS(answer.sum, 77);
+        until_failure = 1;
+        told = livevec_series_ask(&s, 3, 900);
+        IS(told.refusal, LIVEVEC_NO_MEMORY);
+        IS(told.edit, 0);
+        IS(livevec_series_value(&s, kind, 3, 1001).refusal, LIVEVEC_OUT_OF_RANGE);
+        alike(livevec_series_reduce(&s, 3, 900).values, plain(3, 900));
+        IS(livevec_series_edits(&s).value, edits);
+        until_failure = 0;
+        IS(livevec_series_prepare(&s, kind), 0);
+        until_failure = 1;
+        IS(livevec_series_prepare(&s, kind), 0);
+        IS(livevec_series_value(&s, kind, 3, 900).refusal, 0);
+        IS(livevec_series_value_many(&s, kind, &range, &answer, 1).refusal, 0);
+        until_failure = 0;
+        answer.sum = 77;
+    }
+    until_failure = 1;
+    livevec_series_reduced asked = livevec_series_ask(&s, 3, 900);
+    until_failure = 0;
+    IS(asked.refusal, 0);
+    alike(asked.values, plain(3, 900));
+    IS(livevec_free_series(&s), 0);
+}
+
+/* Many writes at once: all are made, or none. An index may come twice. */
+static void writes_at_once(void)
+{
+    static uint64_t indices[200];
+    static int64_t values[200];
+    livevec_series s = {0};
+    start(&s);
+    push_some(&s, 500);
+    first = 40;
+    IS(livevec_series_expire(&s, first).edit, ++edits);
+    for (int round = 0; round < 60; round++) {
+        size_t length = below(200);
+        for (size_t i = 0; i < length; i++) {
+            indices[i] = first + below(size - first);
+            values[i] = element();
+        }
+        size_t wrong = round % 3 && length ? below(length) : length;
+        if (wrong < length)
+            indices[wrong] = below(2) ? first - 1 - below(40) : size + below(3);
+        livevec_series_many did = livevec_series_write_many(&s, indices, values, length);
+        IS(did.refusal, wrong < length ? LIVEVEC_OUT_OF_RANGE : 0);
+        IS(did.first, wrong < length ? first : 0);
+        IS(did.size, wrong < length ? size : 0);
+        IS(did.place, wrong < length ? wrong : 0);
+        IS(did.done, wrong < length ? 0 : length);
+        if (wrong == length) {
+            edits += length;
+            for (size_t i = 0; i < length; i++)
+                all[indices[i]] = values[i];
+        }
+        IS(did.edit, wrong < length ? 0 : edits);
+        look(&s);
+        alike(livevec_series_reduce(&s, first, size).values, plain(first, size));
+    }
+    IS(livevec_series_write_many(&s, NULL, NULL, 0).edit, edits);
+    IS(livevec_free_series(&s), 0);
 }
 
 void series(void)
@@ -293,4 +378,6 @@ void series(void)
     sliding();
     pieces();
     want_of_memory();
+    want_of_trees();
+    writes_at_once();
 }

@@ -147,6 +147,24 @@ class AllOrNone(unittest.TestCase):
         self.assertRaises(OverflowError, series.extend, [1, 2**63])
         self.assertEqual((series.edits, list(series)), (5, [5, 7, 97, 98, 99]))
 
+    def test_writes(self):
+        series = Series([9, 20, 22, 19, 25])
+        self.addCleanup(series.close)
+        series.prepare("sum")
+        series.prepare(Kind.BEST)
+        self.assertRaises(ValueError, series.prepare, "median")
+        series.expire(1)
+        series.write_many([4, 1, 4], [24, 21, 23])
+        series.write_many([], [])
+        self.assertEqual((series.edits, list(series), series.sum(), series.best()), (9, [21, 22, 19, 23], 85, 85))
+        for indices, place in (([1, 0], 1), ([1, 2, 5], 2), ([-1, 1], 0)):
+            with self.assertRaises(livevec.NotKept) as caught:
+                series.write_many(indices, [7] * len(indices))
+            self.assertEqual((caught.exception.first, caught.exception.size, caught.exception.place), (1, 5, place))
+        self.assertRaises(ValueError, series.write_many, [1], [])
+        self.assertRaises(TypeError, series.write_many, [0.5], [1])
+        self.assertEqual((series.edits, list(series), series.sum()), (9, [21, 22, 19, 23], 85))
+
     @unittest.skipUnless(os.path.exists("/proc/self/statm"), "this system doesn't tell how much memory a process has")
     def test_want_of_memory_changes_nothing(self):
         program = """

@@ -7,6 +7,7 @@ from typing import TYPE_CHECKING, Callable, Iterable, Iterator, NamedTuple, Opti
 
 from ._buffers import _address, _as_buffer, _as_room
 from ._elements import _AT_ONCE
+from ._kinds import Kind
 from ._numbers import _as_i64
 from ._refusals import Busy, Closed, _refuse
 from ._scans import Scan
@@ -14,7 +15,7 @@ from ._series_calls import (
     _ask, _counted, _edits, _expire, _free, _get, _kept, _new, _pop, _push, _push_many, _read, _reduce, _scan_exclusive, _scan_inclusive, _SeriesEdited,
     _SeriesReduced, _SeriesScanned, _SeriesSlot, _swap, _truncate, _write,
 )
-from ._series_kinds import _SeriesKinds
+from ._series_kinds import _all_kept, _SeriesKinds, _write_many
 from ._structures import _Values
 from ._values import Values, _values_of
 
@@ -37,11 +38,11 @@ class Series(_SeriesKinds):
     """A vector that goes on: its elements and edits are bounded by memory alone, and elements at its front may expire.
 
     Indices count from the first element that was ever pushed, and an element keeps its index for as long as it is kept: kept are those from `first`
-    up to `size`. Elements lie in shards of 32,760, and the memory of whole shards comes back once all of their elements have expired. Of what isn't
-    kept NotKept is raised, which tells `first` and `size`.
+    up to `size`. After an expiry there is memory for at most twice the elements that are kept, and 64. Of what isn't kept NotKept is raised, which
+    tells `first` and `size`. For each kind that was asked for there is a tree, which each edit renews: so a value takes O(log n) joins.
 
-    Edits are `push` (or `append`), `pop`, `write` (or `s[i] = x`), `swap`, `truncate`, `expire` and `extend` (or `+=`); each has a number, 1, 2, 3
-    and so on, and `edits` is the last one. `len(s)` is how many elements are kept, and `for x in s` goes through them. Ranges are `lo` up to `hi`,
+    Edits are `push` (or `append`), `pop`, `write` (or `s[i] = x`), `swap`, `truncate`, `expire`, `extend` (or `+=`) and `write_many`; each has a
+    number, 1, 2, 3 and so on, and `edits` is the last one. `len(s)` is how many elements are kept, and `for x in s` goes through them. Ranges are `lo` up to `hi`,
     without `hi`; where no `lo` is given they start at `first`, and where no `hi` is given they go up to `size`. No index counts from the end. An answer
     equals the plain left fold of the range after the last edit, by all six kinds.
 
@@ -85,28 +86,43 @@ class Series(_SeriesKinds):
         self.extend(values)
         return self
 
+    def write_many(self, indices: Iterable[int], values: Iterable[int]) -> None:
+        """Writes each value under the index of the same place, in order, by one call of C. Each is an edit of its own. An index may come twice: the
+        later value stays. Values are taken as `extend` takes elements.
+
+        All writes are made, or none. Raises Worn or NotKept where one is refused: its `place` says which. Raises ValueError unless there are as
+        many values as indices.
+        """
+        places, elements = self._indices(indices), _as_buffer(values)
+        length = len(places)
+        if length != len(elements):
+            raise ValueError(f"there are {length} indices and {len(elements)} values")
+        did = _write_many(self._at, *(ctypes.byref(_address(row)) if length else None for row in (places, elements)), length)
+        self._changes += did.done
+        _all_kept(did)
+
     def pop(self) -> int:
-        """Drops the last element, and gives it. Raises Worn, Empty, NoMemory."""
+        """Drops the last element, and gives it. Raises Worn, Empty."""
         return self._edited(_pop(self._at)).value
 
     def write(self, index: int, value: int) -> int:
-        """Overwrites an element, and gives the one before. Raises Worn, NotKept, NoMemory."""
+        """Overwrites an element, and gives the one before. Raises Worn, NotKept."""
         return self._edited(_write(self._at, self._index(index), _as_i64(value))).value
 
     def __setitem__(self, index: int, value: int) -> None:
         self.write(index, value)
 
     def swap(self, first: int, second: int) -> int:
-        """Exchanges the elements under two indices, and gives the one under the first now. Raises Worn, NotKept, NoMemory."""
+        """Exchanges the elements under two indices, and gives the one under the first now. Raises Worn, NotKept."""
         return self._edited(_swap(self._at, self._index(first), self._index(second))).value
 
     def truncate(self, size: int) -> int:
-        """Drops the elements from an index on, which is `size` then, and gives how many they were. Raises Worn, NotKept, NoMemory."""
+        """Drops the elements from an index on, which is `size` then, and gives how many they were. Raises Worn, NotKept."""
         return self._edited(_truncate(self._at, self._index(size))).place
 
     def expire(self, index: int) -> int:
         """Drops the elements before an index, which is `first` then, and gives how many they were. The others keep their indices. It takes no
-        memory, and that of whole shards comes back. Raises Worn, NotKept."""
+        memory, and gives memory back. Raises Worn, NotKept."""
         return self._edited(_expire(self._at, self._index(index))).place
 
     # Elements and counts.
@@ -166,35 +182,35 @@ class Series(_SeriesKinds):
     # Reductions and scans.
 
     def reduce(self, lo: Optional[int] = None, hi: Optional[int] = None) -> LongReduced:
-        """All six values of a range. It keeps nothing. Raises BadRange, NotKept."""
+        """All six values of a range: it goes over the range by each kind that has no tree. Raises BadRange, NotKept."""
         return self._reduced(_reduce, lo, hi)
 
     def ask(self, lo: Optional[int] = None, hi: Optional[int] = None) -> LongReduced:
-        """The same, keeping what is computed in the shards at the range's ends: until one of them changes it costs little to ask again."""
+        """The same, making the tree of each kind first, where there is none. Raises BadRange, NotKept, NoMemory."""
         return self._reduced(_ask, lo, hi)
 
     def sum(self, lo: Optional[int] = None, hi: Optional[int] = None) -> int:
-        """The sum, as `Values` has it. Keeps what it computes as `ask` does, as do the next three."""
-        return self.ask(lo, hi).values.sum
+        """The sum, as `Values` has it. It and the next three are by one kind, as `value`, and raise what that raises."""
+        return self._by_kind(Kind.SUM, lo, hi).sum
 
     def least(self, lo: Optional[int] = None, hi: Optional[int] = None) -> Optional[int]:
         """The least element; None of nothing."""
-        return self.ask(lo, hi).values.least
+        return self._by_kind(Kind.LEAST, lo, hi).least
 
     def greatest(self, lo: Optional[int] = None, hi: Optional[int] = None) -> Optional[int]:
         """The greatest element; None of nothing."""
-        return self.ask(lo, hi).values.greatest
+        return self._by_kind(Kind.GREATEST, lo, hi).greatest
 
     def best(self, lo: Optional[int] = None, hi: Optional[int] = None) -> Optional[int]:
         """The greatest total of one or more neighbours, which is exact; None of nothing."""
-        return self.ask(lo, hi).values.best
+        return self._by_kind(Kind.BEST, lo, hi).best
 
     def scan_inclusive(self, lo: Optional[int] = None, hi: Optional[int] = None, *, at: Optional[int] = None, most: Optional[int] = None) -> Scan:
         """The values of the elements from the range's start up to each of them, that one included.
 
         In pieces: `at` is where the piece starts, `most` how many values it has at most. So `s.scan_inclusive(lo, hi, at=lo, most=1000)` is the
         first piece, and the next one starts at `lo + len(piece)`. A piece costs a reduction of what lies before it, and one step for each
-        value. Raises BadRange, NotKept.
+        value: if there are many pieces, `ask` first, so that each kind has a tree. Raises BadRange, NotKept.
         """
         return self._scan(_scan_inclusive, lo, hi, at, most)
 

@@ -13,7 +13,7 @@ from ._scans import _CELLS, Column
 from ._series_calls import _kept, _SeriesReduced, _SeriesScanned, _slot, _u64
 from ._series_ranges import _SeriesRanges
 from ._structures import _Values
-from ._values import _value_of, _values_in, _values_of
+from ._values import Values, _value_of, _values_in, _values_of
 
 if TYPE_CHECKING:
     from _typeshed import WriteableBuffer
@@ -31,6 +31,8 @@ class _SeriesMany(ctypes.Structure):
     _fields_ = [("refusal", _u32), ("first", _u64), ("size", _u64), ("edit", _u64), ("done", _size), ("place", _size)]
 
 
+_prepare = _call("livevec_series_prepare", _u32, _slot, _u32)
+_write_many = _call("livevec_series_write_many", _SeriesMany, _slot, _pointer, _pointer, _size, by=_released)
 _value = _call("livevec_series_value", _SeriesReduced, _slot, _u32, _u64, _u64)
 _value_many = _call("livevec_series_value_many", _SeriesMany, _slot, _u32, _pointer, _pointer, _size, by=_released)
 _columns_inclusive, _columns_exclusive = (
@@ -38,32 +40,48 @@ _columns_inclusive, _columns_exclusive = (
      for name in ("sum", "least", "greatest", "best", "affine", "automaton")} for way in ("inclusive", "exclusive"))
 
 
+def _all_kept(told: _SeriesMany) -> None:
+    """That none of many writes or questions was refused."""
+    if told.refusal == NotKept.number:
+        raise NotKept(told.first, told.size, told.place)
+    if told.refusal:
+        raise _refuse(told.refusal, 0, 0, told.place)
+
+
 class _SeriesKinds(_SeriesRanges):
-    """The part of `Series` that answers by one kind. A series is of all six, and computes all six for it."""
+    """The part of `Series` that answers by one kind, by that kind's tree."""
 
     __slots__ = ()
 
-    def value(self, kind: Union[Kind, str], lo: Optional[int] = None, hi: Optional[int] = None) -> Union[int, None, tuple[int, ...]]:
-        """The value of a range by one kind, a `Kind` or its name, as `Values` has it. Keeps what it computes as `ask` does.
+    def prepare(self, kind: Union[Kind, str]) -> None:
+        """Makes the tree of a kind, a `Kind` or its name, where there is none: from then on a value by that kind takes O(log n) joins, and each
+        edit renews the tree. Raises NoMemory; ValueError of what is no kind."""
+        refusal = _prepare(self._at, _kind_of(kind).value)
+        if refusal:
+            raise _refuse(refusal)
 
-        Raises BadRange, then NotKept; ValueError of what is no kind."""
+    def value(self, kind: Union[Kind, str], lo: Optional[int] = None, hi: Optional[int] = None) -> Union[int, None, tuple[int, ...]]:
+        """The value of a range by one kind, a `Kind` or its name, as `Values` has it. The kind's tree is made first, where there is none.
+
+        Raises BadRange, then NotKept, then NoMemory; ValueError of what is no kind."""
         of = _kind_of(kind)
-        return _value_of(of, _values_of(_kept(_value(self._at, of.value, *self._range(lo, hi))).values))
+        return _value_of(of, self._by_kind(of, lo, hi))
+
+    def _by_kind(self, kind: Kind, lo: Optional[int], hi: Optional[int]) -> Values:
+        return _values_of(_kept(_value(self._at, kind.value, *self._range(lo, hi))).values)
 
     def value_many(self, kind: Union[Kind, str], ranges: Iterable[Sequence[Optional[int]]]) -> list[Union[int, None, tuple[int, ...]]]:
         """The value of each range by one kind, by one call of C, all after the last edit. Ranges come as `Vector.value_many` takes them; where an
         end is None it is that of what is kept. Other threads run meanwhile.
 
-        Raises BadRange or NotKept where one is refused: its `place` says which is the first. Raises ValueError of what is no kind or no pair.
+        Raises BadRange or NotKept where one is refused: its `place` says which is the first. Raises NoMemory; ValueError of what is no kind or no
+        pair.
         """
         of, pairs = _kind_of(kind), self._pairs(ranges)
         length = len(pairs) // 2
         room = bytearray(max(length, 1) * ctypes.sizeof(_Values))
         did = _value_many(self._at, of.value, ctypes.byref(_address(pairs)) if length else None, ctypes.byref(_address(room)), length)
-        if did.refusal == NotKept.number:
-            raise NotKept(did.first, did.size, did.place)
-        if did.refusal:
-            raise _refuse(did.refusal, 0, 0, did.place)
+        _all_kept(did)
         return _values_in(room, of)[:length]
 
     def scan_inclusive_by(

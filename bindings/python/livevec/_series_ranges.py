@@ -5,6 +5,7 @@ import operator
 from array import array
 from typing import Iterable, Optional, Sequence
 
+from ._buffers import _as_buffer
 from ._handle import _Handle
 from ._ranges import _as_rows
 from ._refusals import BadRange, NotKept
@@ -34,6 +35,14 @@ class _SeriesRanges(_Handle):
         """An index as C is given it: what no index is, as a negative one, is given as one that is never kept."""
         index = operator.index(index)
         return index if 0 <= index <= _MOST_U64 else _MOST_U64
+
+    def _indices(self, indices: Iterable[int]) -> array[int]:
+        """Indices as C wants them, side by side. What C can't be given it is given as one that it refuses."""
+        given = _as_buffer(indices).tolist()
+        try:
+            return array("Q", given)
+        except OverflowError:
+            return array("Q", [self._index(index) for index in given])
 
     def _range(self, lo: Optional[int], hi: Optional[int]) -> tuple[int, int]:
         start, end = self.first if lo is None else operator.index(lo), self.size if hi is None else operator.index(hi)

@@ -6,13 +6,16 @@ use std::ops::{Bound, RangeBounds};
 pub use crate::series_edits::{Dropped, Popped, Pushed, Stopped, Swapped, Written};
 pub use crate::series_kinds::Filled;
 pub use crate::series_scans::Running;
-use crate::{Refusal, Values, raw};
+use crate::{Kind, Refusal, Values, raw};
 
 /// A vector of `i64` that goes on: its elements and edits are bounded by memory alone, and elements at its front may expire.
 ///
 /// Indices count from the first element that was ever pushed. An element keeps its index for as long as it is kept: kept are those from
-/// [`first`](Series::first) up to [`size`](Series::size). Elements lie in shards of 32,760, and the memory of whole shards comes back once
-/// all of their elements have expired. What isn't kept is refused with [`Refusal::NotKept`], which tells what is.
+/// [`first`](Series::first) up to [`size`](Series::size). After an expiry there is memory for at most twice the elements that are kept,
+/// and 64. What isn't kept is refused with [`Refusal::NotKept`], which tells what is.
+///
+/// For each kind that was asked for there is a tree, which each edit renews: so a value takes O(log n) joins. The first question by a kind
+/// makes its tree.
 ///
 /// Ranges are of `u64`; where an end isn't told it is that of what is kept.
 ///
@@ -70,28 +73,28 @@ impl Series {
         self.raw.push_many(values).map_err(|(pushed, refusal)| Stopped { pushed, refusal })
     }
 
-    /// Drops the last element. Refused with `Worn`, `Empty`, `NoMemory`, in this order.
+    /// Drops the last element. Refused with `Worn`, `Empty`, in this order.
     pub fn pop(&mut self) -> Result<Popped, Refusal> {
         self.raw.pop().map(|did| Popped { edit: did.edit, value: did.value })
     }
 
-    /// Overwrites an element. Refused with `Worn`, `NotKept`, `NoMemory`, in this order.
+    /// Overwrites an element. Refused with `Worn`, `NotKept`, in this order.
     pub fn write(&mut self, index: u64, value: i64) -> Result<Written, Refusal> {
         self.raw.write(index, value).map(|did| Written { edit: did.edit, before: did.value })
     }
 
-    /// Exchanges the elements under two indices, which may be one. Refused with `Worn`, `NotKept`, `NoMemory`, in this order.
+    /// Exchanges the elements under two indices, which may be one. Refused with `Worn`, `NotKept`, in this order.
     pub fn swap(&mut self, first: u64, second: u64) -> Result<Swapped, Refusal> {
         self.raw.swap(first, second).map(|did| Swapped { edit: did.edit, first: did.value })
     }
 
-    /// Drops the elements from an index on, which is [`size`](Series::size) then. Refused with `Worn`, `NotKept`, `NoMemory`, in this order.
+    /// Drops the elements from an index on, which is [`size`](Series::size) then. Refused with `Worn`, `NotKept`, in this order.
     pub fn truncate(&mut self, size: u64) -> Result<Dropped, Refusal> {
         self.raw.truncate(size).map(|did| Dropped { edit: did.edit, dropped: did.place })
     }
 
     /// Drops the elements before an index, which is [`first`](Series::first) then. The others keep their indices. It takes no memory, and
-    /// that of whole shards comes back. Refused with `Worn`, `NotKept`, in this order.
+    /// gives memory back. Refused with `Worn`, `NotKept`, in this order.
     pub fn expire(&mut self, index: u64) -> Result<Dropped, Refusal> {
         self.raw.expire(index).map(|did| Dropped { edit: did.edit, dropped: did.place })
     }
@@ -126,37 +129,38 @@ impl Series {
         self.raw.edits()
     }
 
-    /// All six values of a range. Takes no memory, and keeps nothing. Refused with `BadRange`, `NotKept`, in this order.
+    /// All six values of a range: it goes over the range by each kind that has no tree. Takes no memory, and makes no tree. Refused with
+    /// `BadRange`, `NotKept`, in this order.
     pub fn reduce(&self, range: impl RangeBounds<u64>) -> Result<Reduced, Refusal> {
         let (lo, hi) = self.ends(&range);
         self.raw.reduce(lo, hi).map(Reduced::of)
     }
 
-    /// The same, keeping what is computed for it in the shards at the ends of the range: until one of them changes, it costs little to ask
-    /// again.
+    /// The same, making the tree of each kind first, where there is none. Refused with `BadRange`, `NotKept`, `NoMemory`, in this order.
     pub fn ask(&self, range: impl RangeBounds<u64>) -> Result<Reduced, Refusal> {
         let (lo, hi) = self.ends(&range);
         self.raw.ask(lo, hi).map(Reduced::of)
     }
 
-    /// The sum, which wraps where it does not fit an `i64`. Keeps what it computes and is refused as [`ask`](Series::ask), as the next three.
+    /// The sum, which wraps where it does not fit an `i64`. It and the next three are by one kind, and refused as
+    /// [`value`](Series::value) is.
     pub fn sum(&self, range: impl RangeBounds<u64>) -> Result<i64, Refusal> {
-        Ok(self.ask(range)?.values.sum)
+        Ok(self.by_kind(Kind::Sum, range)?.sum)
     }
 
     /// The least element; none of an empty range.
     pub fn least(&self, range: impl RangeBounds<u64>) -> Result<Option<i64>, Refusal> {
-        Ok(self.ask(range)?.values.least)
+        Ok(self.by_kind(Kind::Least, range)?.least)
     }
 
     /// The greatest element; none of an empty range.
     pub fn greatest(&self, range: impl RangeBounds<u64>) -> Result<Option<i64>, Refusal> {
-        Ok(self.ask(range)?.values.greatest)
+        Ok(self.by_kind(Kind::Greatest, range)?.greatest)
     }
 
     /// The greatest total of one or more neighbours, which is exact; none of an empty range.
     pub fn best(&self, range: impl RangeBounds<u64>) -> Result<Option<i128>, Refusal> {
-        Ok(self.ask(range)?.values.best)
+        Ok(self.by_kind(Kind::Best, range)?.best)
     }
 
     /// Puts the elements of a range into a buffer, from its start on, as many as it takes; the rest of the buffer stays. Tells how many they
@@ -193,7 +197,8 @@ impl Series {
     }
 
     /// The values of the elements from the range's start up to each of them, that one included. It is computed a piece at a time, as it is
-    /// taken, and the series can't be edited meanwhile. Refused with `BadRange`, `NotKept`, in this order.
+    /// taken, and the series can't be edited meanwhile. Of more than one piece the tree of each kind is made first. Refused with `BadRange`,
+    /// `NotKept`, `NoMemory`, in this order.
     ///
     /// ```
     /// # fn main() -> Result<(), livevec::Refusal> {
@@ -216,7 +221,7 @@ impl Series {
     fn running(&self, inclusive: bool, range: impl RangeBounds<u64>) -> Result<Running<'_>, Refusal> {
         let (lo, hi) = self.ends(&range);
         self.raw.scan(inclusive, lo, lo, hi, &mut [])?;
-        Ok(Running::new(self, inclusive, lo, hi))
+        Running::new(self, inclusive, lo, hi)
     }
 
     /// What a range starts and ends with. An index that is past all that there can be is refused as any that isn't kept.

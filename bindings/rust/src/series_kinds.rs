@@ -15,8 +15,46 @@ pub struct Filled<'a, Cell> {
 }
 
 impl Series {
-    /// The value of a range by one kind. A series computes all six for it, and keeps them as [`ask`](Series::ask) does. Refused with
-    /// `BadRange`, `NotKept`, in this order.
+    /// Makes the tree of a kind, where there is none: from then on a value by that kind takes O(log n) joins, and each edit renews the tree.
+    /// Refused with `NoMemory`, and nothing has changed then.
+    pub fn prepare(&mut self, kind: Kind) -> Result<(), Refusal> {
+        self.raw.prepare(kind as u32)
+    }
+
+    /// Writes each value under the index of the same place, in order, by one call. An index may come twice: the later value stays. Tells the
+    /// number of the last edit.
+    ///
+    /// All writes are made, or none. Refused with `ShortBuffer` unless there are as many values as indices, then with what the first write that
+    /// is refused is refused with: `Worn`, `NotKept`.
+    ///
+    /// ```
+    /// use livevec::{Refusal, Series};
+    ///
+    /// # fn main() -> Result<(), Refusal> {
+    /// let mut readings = Series::new()?;
+    /// readings.extend_from_slice(&[20, 22, 19, 25])?;
+    /// assert_eq!(readings.write_all(&[3, 0, 3], &[24, 21, 23]), Ok(7));
+    /// let refused = readings.write_all(&[0, 4], &[1, 2]).unwrap_err();
+    /// assert_eq!((refused.place, refused.refusal), (1, Refusal::NotKept { first: 0, size: 4 }));
+    /// assert_eq!(readings.to_vec(..)?, [21, 22, 19, 23]);
+    /// # Ok(())
+    /// # }
+    /// ```
+    pub fn write_all(&mut self, indices: &[u64], values: &[i64]) -> Result<u64, RefusedAt> {
+        if indices.len() != values.len() {
+            let wanted = indices.len().try_into().unwrap_or(u32::MAX);
+            return Err(RefusedAt::of_all(Refusal::ShortBuffer { wanted }));
+        }
+        self.raw.write_many(indices, values)
+    }
+
+    pub(crate) fn by_kind(&self, kind: Kind, range: impl RangeBounds<u64>) -> Result<Values, Refusal> {
+        let (lo, hi) = self.ends(&range);
+        Ok(Values::of_raw(self.raw.value(kind as u32, lo, hi)?.values))
+    }
+
+    /// The value of a range by one kind, whose tree is made first, where there is none. Refused with `BadRange`, `NotKept`, `NoMemory`, in
+    /// this order.
     ///
     /// ```
     /// use livevec::{Kind, Series, Value};
@@ -30,8 +68,7 @@ impl Series {
     /// # }
     /// ```
     pub fn value(&self, kind: Kind, range: impl RangeBounds<u64>) -> Result<Value, Refusal> {
-        let (lo, hi) = self.ends(&range);
-        Ok(Value::of(kind, Values::of_raw(self.raw.value(kind as u32, lo, hi)?.values)))
+        Ok(Value::of(kind, self.by_kind(kind, range)?))
     }
 
     /// The value of each range by one kind, by one call, all after the last edit. All ranges are looked at first: where one is refused, with
@@ -67,9 +104,9 @@ impl Series {
 
     /// Writes running values of a range by one kind into the front of a column, from the index `at` on, as many as it takes: each of the
     /// elements from the range's start up to an element, that one included. What the column has behind stays. So a scan goes in pieces: `at`
-    /// starts where the range does, and goes on by as many as were written. A piece costs an [`ask`](Series::ask) of what lies before it, and
-    /// a step for each value; a series folds all six kinds for it. Refused with `BadRange`, `NotKept`, of what lies before `at`, then of what
-    /// lies behind; the column is then as it was.
+    /// starts where the range does, and goes on by as many as were written. A piece costs a value by that kind of what lies before it, which goes
+    /// over those elements where the kind has no tree, and a step for each cell: where there are many pieces, [`prepare`](Series::prepare)
+    /// first. Refused with `BadRange`, `NotKept`, of what lies before `at`, then of what lies behind; the column is then as it was.
     ///
     /// ```
     /// use livevec::{Refusal, Series, by};

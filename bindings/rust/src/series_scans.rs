@@ -4,7 +4,7 @@ use std::fmt;
 use std::iter::FusedIterator;
 
 use crate::raw::SixValues;
-use crate::{Series, Values};
+use crate::{Refusal, Series, Values};
 
 // So many running values are computed by one call.
 const AT_ONCE: usize = 256;
@@ -26,8 +26,12 @@ pub struct Running<'a> {
 }
 
 impl<'a> Running<'a> {
-    pub(crate) fn new(series: &'a Series, inclusive: bool, lo: u64, hi: u64) -> Running<'a> {
-        Running { series, inclusive, lo, at: lo, hi, room: [NONE; AT_ONCE], given: 0, filled: 0 }
+    pub(crate) fn new(series: &'a Series, inclusive: bool, lo: u64, hi: u64) -> Result<Running<'a>, Refusal> {
+        // by trees it costs little to tell what lies before a piece
+        if hi - lo > AT_ONCE as u64 {
+            series.raw.ask(lo, lo)?;
+        }
+        Ok(Running { series, inclusive, lo, at: lo, hi, room: [NONE; AT_ONCE], given: 0, filled: 0 })
     }
 
     fn fill(&mut self) {

@@ -104,6 +104,20 @@ fn ranges_that_are_refused() {
     assert_eq!(column, [7; 3]);
 }
 
+#[test]
+fn writes_are_all_made_or_none() {
+    let mut series = Series::new().unwrap();
+    series.extend_from_slice(&[9, 20, 22, 19, 25]).unwrap();
+    assert_eq!(series.prepare(Kind::Sum), Ok(()));
+    series.expire(1).unwrap();
+    assert_eq!((series.write_all(&[4, 1, 4], &[24, 21, 23]), series.to_vec(..)), (Ok(9), Ok(vec![21, 22, 19, 23])));
+    assert_eq!((series.sum(..), series.write_all(&[], &[])), (Ok(85), Ok(9)));
+    let refused = series.write_all(&[1, 0, 2], &[7, 7, 7]).unwrap_err();
+    assert_eq!((refused.place, refused.done, refused.refusal), (1, 0, Refusal::NotKept { first: 1, size: 5 }));
+    assert_eq!(series.write_all(&[1], &[]).unwrap_err().refusal, Refusal::ShortBuffer { wanted: 1 });
+    assert_eq!((series.edits(), series.sum(..)), (9, Ok(85)));
+}
+
 /// A column in pieces of so many places, as a whole.
 fn pieces<K: Column>(series: &Series, inclusive: bool, lo: usize, hi: usize, places: usize) -> Vec<K::Cell> {
     let (mut whole, mut piece) = (Vec::new(), vec![K::Cell::default(); places]);

@@ -27,7 +27,7 @@ fn limited(now: u64, most: u64) {
 fn want_of_memory_changes_nothing() {
     let mut series = Series::new().unwrap();
     series.extend_from_slice(&[5, 7]).unwrap();
-    let more: Vec<i64> = (0..4_000_000).collect();
+    let more: Vec<i64> = (0..16_000_000).collect();
     let mut limit = Limit { now: 0, most: 0 };
     // SAFETY: the call writes one struct, which is there.
     assert_eq!(unsafe { getrlimit(ADDRESS_SPACE, &mut limit) }, 0);
@@ -37,6 +37,6 @@ fn want_of_memory_changes_nothing() {
     limited(limit.now, limit.most);
     assert_eq!(refused, Err(series::Stopped { pushed: 0, refusal: Refusal::NoMemory }));
     assert_eq!((series.size(), series.edits(), series.value(Kind::Sum, ..)), (2, 2, Ok(Value::Sum(12))));
-    assert_eq!(series.extend_from_slice(&more), Ok(4_000_002));
+    assert_eq!(series.extend_from_slice(&more), Ok(16_000_002));
     assert_eq!(series.sum(2..), Ok(more.iter().sum()));
 }

@@ -2,9 +2,8 @@
 use Rattle.std.proofs.Common.{◌≡◌, ℕ, ℤ, ◌+◌, ◌-◌, ◌<◌, ◌++◌, ◌∷◌, [], Bool, true, false, List, length, map, take, pos, if◌then◌else◌, slice_index_or, slice_range, refl, sym, ap, ◌∙◌, arith}
 use Rattle.std.specs.List.{range_with_len}
 use Rattle.std.proofs.lemmas.List.{take_more}
-use Rattle.lv_bodies.specs.Body.{CanFold, Operations, fold_of}
+use Rattle.lv_bodies.specs.Body.{Operations, fold_of}
 use Rattle.lv_bodies.specs.ElementLaws.{All-range, map-map, map_alike}
-use Rattle.lv_known.proofs.FoldableLaws.{part_can_fold}
 use Rattle.lv_reduce.specs.Answer.{scan_of}
 use Rattle.lv_reduce.specs.Running.{reached, scan_from}
 use Rattle.lv_reduce.proofs.PieceLaws.{slice_scanned_from}
@@ -25,12 +24,12 @@ scan_one_more o inclusive before xs k x small at s r value so_far joined chosen 
     slice_scanned_from o inclusive before xs 0 k (k + 1) (x ∷ []) (front_more xs k x small at) s r front (front ++ value ∷ []) so_far refl joined (ap (λ y. front ++ y ∷ []) is)
 
 -- the summaries of a scan, as cells, are its column
-pub cells_of-scan : {S C : Type 0} (o : Operations S) (cell_of : S → C) (cell : List ℤ → C) (inclusive : Bool) (xs : List ℤ) → ((ys : List ℤ) → CanFold ys → cell_of (fold_of o ys) ≡ cell ys) → CanFold xs → map cell_of (scan_of inclusive o xs) ≡ column_of cell inclusive xs
-cells_of-scan o cell_of cell true xs plain can =
+pub cells_of-scan : {S C : Type 0} (o : Operations S) (cell_of : S → C) (cell : List ℤ → C) (inclusive : Bool) (xs : List ℤ) → ((ys : List ℤ) → cell_of (fold_of o ys) ≡ cell ys) → map cell_of (scan_of inclusive o xs) ≡ column_of cell inclusive xs
+cells_of-scan o cell_of cell true xs plain =
     map-map (λ i. fold_of o (take (i + 1) xs)) cell_of (range_with_len 0 (length xs))
     ∙ map_alike (λ i. cell_of (fold_of o (take (i + 1) xs))) (λ i. cell (take (i + 1) xs)) (range_with_len 0 (length xs))
-    (All-range _ (length xs) (λ i within. plain (take (i + 1) xs) (part_can_fold (i + 1) 0 xs can)))
-cells_of-scan o cell_of cell false xs plain can =
+    (All-range _ (length xs) (λ i within. plain (take (i + 1) xs)))
+cells_of-scan o cell_of cell false xs plain =
     map-map (λ i. fold_of o (take i xs)) cell_of (range_with_len 0 (length xs))
     ∙ map_alike (λ i. cell_of (fold_of o (take i xs))) (λ i. cell (take i xs)) (range_with_len 0 (length xs))
-    (All-range _ (length xs) (λ i within. plain (take i xs) (part_can_fold i 0 xs can)))
+    (All-range _ (length xs) (λ i within. plain (take i xs)))

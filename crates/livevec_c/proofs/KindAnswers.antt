@@ -1,44 +1,29 @@
 -- What a question by one kind answers is the plain value of its range.
-use Rattle.std.proofs.Common.{◌≡◌, ℕ, Some, None, length, refl, sym, ap, ◌∙◌}
+use Rattle.std.proofs.Common.{◌≡◌, ℕ, Some, None, length, sym, ap, ◌∙◌}
 use Rattle.std.specs.Prelude.{nat_lt}
 use Rattle.lv_geometry.specs.Numbers.{number_of}
 use Rattle.lv_geometry.specs.declared.refusals.Refusal.{Refusal}
 use Rattle.lv_bodies.specs.Automata.{table_of}
-use Rattle.lv_bodies.specs.Body.{fold_of}
 use Rattle.lv_bodies.specs.Plain.{plain_value_with}
-use Rattle.lv_bodies.specs.Six.{SixSummary, face_of, six_operations_by}
 use Rattle.lv_bodies.specs.declared.kinds.Kind.{Kind}
-use Rattle.lv_bodies.specs.declared.kinds.Kind.TheVariants.{Sum, Least, Greatest, Best, Affine, Automaton}
 use Rattle.lv_bodies.specs.declared.kinds.Shown.{Shown}
-use Rattle.lv_bodies.proofs.SixFolds.{face_of-fold}
-use Rattle.lv_edits.specs.Kept.{IsLegalInLimits}
 use Rattle.lv_edits.specs.Ranges.{range_refusal, slice_of}
 use Rattle.lv_tree.specs.declared.kinds.KindAnswer.{KindAnswer}
 use Rattle.lv_tree.specs.Asked.{IsKindAnswer}
-use Rattle.lv_tree.specs.KindSummaries.{part_of, shown_of}
+use Rattle.lv_tree.specs.KindSummaries.{shown_of}
 use Rattle.livevec_c.specs.declared.results.Reduced.{Reduced}
 use Rattle.livevec_c.specs.Answers.{detail_of, unreduced}
 use Rattle.livevec_c.specs.Behind.{State}
+use Rattle.livevec_c.specs.SpreadLaws.{shown-plain}
 use Rattle.livevec_c.specs.Valued.{value_of, valued}
-use Rattle.livevec_c.proofs.PlainAnswers.{may_fold}
-
--- what is shown of a part is what is shown of the six by its kind
-pub shown_part : (kind : Kind) (s : SixSummary) → shown_of (part_of kind s) ≡ face_of kind s
-shown_part Sum s = refl
-shown_part Least s = refl
-shown_part Greatest s = refl
-shown_part Best s = refl
-shown_part Affine s = refl
-shown_part Automaton s = refl
 
 -- an answer, as it is shown, is the plain value after the last edit
-pub answers_value : (kind : Kind) (lo hi : ℕ) (state : State) (answer : KindAnswer) (shown : Shown) (told : Reduced) → IsLegalInLimits state.history → IsKindAnswer (table_of state.body.automaton) state.history.journal kind lo hi answer → shown ≡ shown_of answer.summary → told ≡ valued None answer.edit (nat_lt lo hi) shown → told ≡ value_of kind lo hi state
-answers_value kind lo hi state answer shown told legal is shows tells =
+pub answers_value : (kind : Kind) (lo hi : ℕ) (state : State) (answer : KindAnswer) (shown : Shown) (told : Reduced) → IsKindAnswer (table_of state.body.automaton) state.history.journal kind lo hi answer → shown ≡ shown_of answer.summary → told ≡ valued None answer.edit (nat_lt lo hi) shown → told ≡ value_of kind lo hi state
+answers_value kind lo hi state answer shown told is shows tells =
     let es = state.history.journal in
     let table = table_of state.body.automaton in
     let xs = slice_of es lo hi in
-    let s = fold_of (six_operations_by table) xs in
-    let plain : shown ≡ plain_value_with table kind xs = shows ∙ ap shown_of is.summary ∙ shown_part kind s ∙ face_of-fold table kind s xs (may_fold state lo hi legal) refl in
+    let plain : shown ≡ plain_value_with table kind xs = shows ∙ ap shown_of is.summary ∙ shown-plain table xs kind in
     tells
     ∙ ap (λ edit. valued None edit (nat_lt lo hi) shown) is.edit
     ∙ ap (valued None (length es) (nat_lt lo hi)) plain

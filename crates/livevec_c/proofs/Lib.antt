@@ -1,5 +1,6 @@
 -- Names the files of lemmas of `livevec_c`.
 pub mod AsBox
+pub mod AskedLaws
 pub mod BlockLaws
 pub mod ColumnAnswers
 pub mod ColumnFolds
@@ -18,6 +19,6 @@ pub mod Others
 pub mod Summing
 mod WrittenLaws
 pub mod SubtreeLaws
-pub mod SeriesPlain
 pub mod SeriesLaws
+pub mod SeriesWriteLaws
 pub mod RemadeLaws

@@ -1,18 +1,14 @@
 -- What is answered of a range are its plain values.
 use Rattle.std.proofs.Common.{◌≡◌, ℕ, ◌≤◌, lit≤, sym, ap, ◌∙◌, subst, arith}
-use Rattle.std.specs.Prelude.{◌-◌, Some, None, Result, Ok, Err, IfOk}
+use Rattle.std.specs.Prelude.{Some, None, Result, Ok, Err, IfOk}
 use Rattle.lv_geometry.specs.Numbers.{number_of}
 use Rattle.lv_geometry.specs.declared.refusals.Refusal.{Refusal}
 use Rattle.lv_geometry.specs.declared.refusals.Refusal.TheVariants.{Worn, Empty, OutOfRange, TooLarge, Full, NoMemory, BadRange, BadLimits, BadTable, NameTaken, NoSuchName, TooMany, ReadFault, WriteFault, Stranger, TooWide, Contended, Overtaken, NoJob, NotNow}
-use Rattle.lv_bodies.specs.Body.{CanFold}
 use Rattle.lv_bodies.specs.Automata.{table_of}
 use Rattle.lv_bodies.specs.Six.{SixSummary, six_operations_by}
-use Rattle.lv_edits.specs.History.{list_of}
-use Rattle.lv_edits.specs.Kept.{IsLegalInLimits}
 use Rattle.lv_edits.specs.Ranges.{slice_of}
 use Rattle.lv_reduce.specs.declared.reductions.Answer.{Answer}
 use Rattle.lv_reduce.specs.Answer.{IsAnswer}
-use Rattle.lv_known.proofs.FoldableLaws.{can_fold, part_can_fold}
 use Rattle.livevec_c.specs.declared.objects.Object.{Object}
 use Rattle.livevec_c.specs.declared.objects.Object.TheVariants.{Vector, Job, Outcome, Batch, BatchOutcome, Subtree, SubtreeOutcome, Board, Seat, Closed, Series, Queries}
 use Rattle.livevec_c.specs.declared.results.Reduced.{Reduced}
@@ -47,17 +43,13 @@ positive NotNow = lit≤ tt
 refused : (r : Refusal) → number_of r ≡ 0 → ⊥
 refused r zero = omega (arith, positive r, zero)
 
--- the elements of a range may be folded
-pub may_fold : (state : State) (lo hi : ℕ) → IsLegalInLimits state.history → CanFold (slice_of state.history.journal lo hi)
-may_fold state lo hi within = part_can_fold (hi - lo) lo (list_of state.history.journal) (can_fold state.history within)
-
 -- an answer that is the fold of its range
-pub plain_ok : (state : State) (lo hi : ℕ) (r : Result (Answer SixSummary) Refusal) (answer : Reduced) → answer ≡ reduced_by r → IfOk r (λ a. IsAnswer (six_operations_by (table_of state.body.automaton)) state.history.journal lo hi a) → IsLegalInLimits state.history → IsPlainOf lo hi answer state
-plain_ok state lo hi (Ok a) answer is fine within zero =
+pub plain_ok : (state : State) (lo hi : ℕ) (r : Result (Answer SixSummary) Refusal) (answer : Reduced) → answer ≡ reduced_by r → IfOk r (λ a. IsAnswer (six_operations_by (table_of state.body.automaton)) state.history.journal lo hi a) → IsPlainOf lo hi answer state
+plain_ok state lo hi (Ok a) answer is fine zero =
     let xs = slice_of state.history.journal lo hi in
     let m = table_of state.body.automaton in
-    subst (λ q. AreValues (m) xs q.values) (sym is) (subst (λ s. AreValues (m) xs (spread s)) (sym fine.value) (spread-plain m xs (may_fold state lo hi within)))
-plain_ok state lo hi (Err refusal) answer is fine within zero = elim (refused refusal (sym (ap (λ q. q.refusal) is) ∙ zero)) [ ]
+    subst (λ q. AreValues (m) xs q.values) (sym is) (subst (λ s. AreValues (m) xs (spread s)) (sym fine.value) (spread-plain m xs))
+plain_ok state lo hi (Err refusal) answer is fine zero = elim (refused refusal (sym (ap (λ q. q.refusal) is) ∙ zero)) [ ]
 
 -- one that is of one kind has no such answer
 refused_kind : (state : State) (lo hi : ℕ) (answer : Reduced) → answer ≡ unreduced 113 0 → IsPlainOf lo hi answer state
@@ -66,8 +58,8 @@ refused_kind state lo hi answer is zero = elim (apart answer.refusal (ap (λ q. 
   apart n is zero = omega (arith, is, zero)
 
 pub reduces_plain : (lo hi : ℕ) (answer : Reduced) (object : Object) → ReducesObject lo hi answer object → IsPlainObject lo hi answer object
-reduces_plain lo hi answer (Vector state None) (Ok a, is, within, fine) = plain_ok state lo hi (Ok a) answer is fine.0 within
-reduces_plain lo hi answer (Vector state None) (Err refusal, is, within, why) = plain_ok state lo hi (Err refusal) answer is tt within
+reduces_plain lo hi answer (Vector state None) (Ok a, is, within, fine) = plain_ok state lo hi (Ok a) answer is fine.0
+reduces_plain lo hi answer (Vector state None) (Err refusal, is, within, why) = plain_ok state lo hi (Err refusal) answer is tt
 reduces_plain lo hi answer (Vector state (Some only)) is = refused_kind state lo hi answer is
 reduces_plain lo hi answer (Job other) reduces = tt
 reduces_plain lo hi answer (Outcome other) reduces = tt
@@ -82,7 +74,7 @@ reduces_plain lo hi answer (Series other) reduces = tt
 reduces_plain lo hi answer (Queries set) reduces = tt
 
 pub asks_plain : (lo hi : ℕ) (answer : Reduced) (old new : Object) → AsksObject lo hi answer old new → IsPlainObject lo hi answer old
-asks_plain lo hi answer (Vector state None) new (after, same, asks) = plain_ok state lo hi asks.r answer asks.answer_is asks.ok asks.within
+asks_plain lo hi answer (Vector state None) new (after, same, asks) = plain_ok state lo hi asks.r answer asks.answer_is asks.ok
 asks_plain lo hi answer (Vector state (Some only)) new (after, same, asks) = refused_kind state lo hi answer asks.0
 asks_plain lo hi answer (Job other) new asks = tt
 asks_plain lo hi answer (Outcome other) new asks = tt

@@ -9,6 +9,8 @@ use Rattle.lv_bodies.specs.Six.{SixSummary}
 use Rattle.lv_edits.specs.declared.receipt.Receipt.{Receipt}
 use Rattle.lv_edits.specs.declared.receipt.Receipt.TheVariants.{Pushed, Popped, Written, Reserved, Swapped, Truncated}
 use Rattle.lv_reduce.specs.declared.reductions.Answer.{Answer}
+use Rattle.lv_tree.specs.declared.kind_summaries.KindSummary.{KindSummary}
+use Rattle.lv_tree.specs.declared.kind_summaries.KindSummary.TheVariants as part
 use Rattle.lv_geometry.specs.declared.nodes.Node.{Node}
 use Rattle.lv_summary.specs.declared.accepted.Accepted.{Accepted}
 use Rattle.lv_summary.specs.declared.accepted.Accepted.TheVariants.{Held, Installed, Stale}
@@ -94,6 +96,15 @@ spread s = record {
   automaton = s.1.1.1.1.1;
   any = word_of (is_some s.1.0);
 }
+
+-- plain values with that of one kind in its place; that of the least tells whether there is an element
+abbrev pub with_part : KindSummary → PlainValues → PlainValues
+with_part (part.Sum s) v = record v { sum = s }
+with_part (part.Least x) v = record v { least = unwrap_or x (pos 0); any = word_of (is_some x) }
+with_part (part.Greatest x) v = record v { greatest = unwrap_or x (pos 0) }
+with_part (part.Best r) v = record v { best_low = low_half (unwrap_or (option_map (λ r. r.best) r) (pos 0)); best_high = high_half (unwrap_or (option_map (λ r. r.best) r) (pos 0)) }
+with_part (part.Affine m) v = record v { affine_a = m.a; affine_b = m.b }
+with_part (part.Automaton states) v = record v { automaton = states }
 
 -- no values
 abbrev pub valueless : PlainValues

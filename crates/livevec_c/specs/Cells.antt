@@ -1,7 +1,12 @@
 -- The cells of a column of the caller's: plain values by one kind, laid out for C.
-use Rattle.std.specs.Prelude.{ℕ, ℤ, pos, ◌+◌, Bool, Option, List, is_some, length, map, take, unwrap_or, if◌then◌else◌}
+use Rattle.std.specs.Prelude.{ℕ, ℤ, pos, ◌+◌, Bool, Option, None, List, is_some, length, map, replicate, take, unwrap_or, if◌then◌else◌}
 use Rattle.std.specs.List.{range_with_len}
+use Rattle.lv_bodies.specs.AffineMaps.{affine_operations}
 use Rattle.lv_bodies.specs.Plain.{plain_affine, plain_automaton, plain_best, plain_greatest, plain_least, plain_sum}
+use Rattle.lv_bodies.specs.declared.affine.AffineMap.{AffineMap}
+use Rattle.lv_bodies.specs.declared.best.RunTotals.{RunTotals}
+use Rattle.lv_tree.specs.declared.kind_summaries.KindSummary.{KindSummary}
+use Rattle.lv_tree.specs.declared.kind_summaries.KindSummary.TheVariants as part
 use Rattle.livevec_c.specs.declared.cells.MapCell.{MapCell}
 use Rattle.livevec_c.specs.declared.cells.StatesCell.{StatesCell}
 use Rattle.livevec_c.specs.declared.cells.TotalCell.{TotalCell}
@@ -46,6 +51,31 @@ values_cell table xs = record {
   automaton = plain_automaton table xs;
   any = word_of (is_some (plain_least xs));
 }
+
+-- the own summary of each kind in one that is of this kind
+abbrev pub sum_in : KindSummary → ℕ
+sum_in (part.Sum s) = s
+sum_in _ = 0
+
+abbrev pub least_in : KindSummary → Option ℤ
+least_in (part.Least x) = x
+least_in _ = None
+
+abbrev pub greatest_in : KindSummary → Option ℤ
+greatest_in (part.Greatest x) = x
+greatest_in _ = None
+
+abbrev pub best_in : KindSummary → Option RunTotals
+best_in (part.Best r) = r
+best_in _ = None
+
+abbrev pub map_in : KindSummary → AffineMap
+map_in (part.Affine m) = m
+map_in _ = affine_operations.identity
+
+abbrev pub states_in : KindSummary → List ℕ
+states_in (part.Automaton states) = states
+states_in _ = replicate 8 0
 
 -- the column of a scan: for each element the cell of all up to it, with it or without it
 abbrev pub column_of : {C : Type 0} → (List ℤ → C) → Bool → List ℤ → List C

@@ -1,5 +1,5 @@
 -- What a scan by one kind, or by all six, answers, and what it leaves in a column of the caller's, by what lies behind a slot.
-use Rattle.std.specs.Prelude.{ℕ, ℤ, ◌-◌, ◌++◌, Bool, true, false, Option, Some, None, List, length, drop, nat_lt}
+use Rattle.std.specs.Prelude.{ℕ, ℤ, ◌+◌, ◌-◌, ◌^◌, ◌≤◌, ◌++◌, Bool, true, false, Option, Some, None, List, length, drop, nat_lt}
 use Rattle.lv_geometry.specs.Numbers.{number_of}
 use Rattle.lv_geometry.specs.declared.refusals.Refusal.{Refusal}
 use Rattle.lv_bodies.specs.Automata.{table_of}
@@ -12,6 +12,12 @@ use Rattle.livevec_c.specs.Answers.{detail_of}
 use Rattle.livevec_c.specs.Behind.{State}
 use Rattle.livevec_c.specs.Cells.{column_of}
 use Rattle.livevec_c.specs.Only.{is_asked_by}
+
+-- a summary may take so many elements more: it is within a number of elements that is at most 2 ^ 62 with them
+pub record CanGoOnLong {S : Type 0} (within : S → ℕ → Type 0) (s : S) (more : ℕ) : Type 0 where
+  pub count : ℕ
+  pub count_within : within s count
+  pub few : count + more ≤ 2 ^ 62
 
 -- a scan that was refused
 abbrev pub unscanned : ℕ → ℕ → Scanned

@@ -26,6 +26,7 @@ pub mod SeriesBehind
 pub mod SeriesPieces
 pub mod SeriesPushed
 pub mod SeriesValued
+pub mod SeriesWritten
 pub mod Queries
 pub mod Queried
 pub mod Claims

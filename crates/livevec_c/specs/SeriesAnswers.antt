@@ -1,8 +1,6 @@
 -- What the answers of a series are for C.
 use Rattle.std.specs.Prelude.{ℕ, ℤ, pos, Option, Some, None, Result, Ok, Err}
-use Rattle.lv_bodies.specs.Six.{SixSummary}
 use Rattle.lv_series.specs.Numbers.{number_of}
-use Rattle.lv_series.specs.declared.answers.LongAnswer.{LongAnswer}
 use Rattle.lv_series.specs.declared.receipts.LongReceipt.{LongReceipt}
 use Rattle.lv_series.specs.declared.receipts.LongReceipt.TheVariants.{Pushed, Popped, Written, Expired, Swapped, Truncated}
 use Rattle.lv_series.specs.declared.refusals.LongRefusal.{LongRefusal}
@@ -11,9 +9,10 @@ use Rattle.livevec_c.specs.declared.values.PlainValues.{PlainValues}
 use Rattle.livevec_c.specs.declared.series_results.Refused.{Refused}
 use Rattle.livevec_c.specs.declared.series_results.SeriesEdited.{SeriesEdited}
 use Rattle.livevec_c.specs.declared.series_results.SeriesElement.{SeriesElement}
+use Rattle.livevec_c.specs.declared.series_results.SeriesMany.{SeriesMany}
 use Rattle.livevec_c.specs.declared.series_results.SeriesReduced.{SeriesReduced}
 use Rattle.livevec_c.specs.declared.series_results.SeriesScanned.{SeriesScanned}
-use Rattle.livevec_c.specs.Answers.{spread, valueless}
+use Rattle.livevec_c.specs.Answers.{valueless}
 
 -- that nothing was refused; that a slot holds no series
 abbrev pub granted : Refused
@@ -57,14 +56,14 @@ long_element (Err refusal) = unelement (refused_by refusal)
 abbrev pub unreduced_by : Refused → SeriesReduced
 unreduced_by why = record { why = why; edit = 0; values = valueless }
 
-abbrev pub long_reduced : Result (LongAnswer SixSummary) LongRefusal → SeriesReduced
-long_reduced (Ok answer) = record { why = granted; edit = answer.edit; values = spread answer.value }
-long_reduced (Err refusal) = unreduced_by (refused_by refusal)
-
 -- the same by why its range is refused, if it is, by the last edit's number, and by the values
 abbrev pub long_valued : Option LongRefusal → ℕ → PlainValues → SeriesReduced
 long_valued None edit values = record { why = granted; edit = edit; values = values }
 long_valued (Some refusal) edit values = unreduced_by (refused_by refusal)
+
+-- many writes, of which none was made: why, and which of them is refused
+abbrev pub unwritten_by : Refused → ℕ → SeriesMany
+unwritten_by why place = record { why = why; edit = 0; done = 0; place = place }
 
 -- the answer of a piece of a range that was put into a buffer: the last edit's number, and how many places it took
 abbrev pub unscanned_by : Refused → SeriesScanned

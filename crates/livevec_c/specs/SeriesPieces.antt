@@ -1,7 +1,6 @@
 -- What a piece of a range of a series answers, and what it leaves in a buffer of the caller's, by what lies behind a slot.
 use Rattle.std.specs.Prelude.{ℕ, ℤ, ◌+◌, ◌-◌, ◌++◌, Bool, Option, Some, None, List, length, drop, map, min, if◌then◌else◌}
 use Rattle.std.specs.List.{range_with_len}
-use Rattle.lv_bodies.specs.Automata.{table_of}
 use Rattle.lv_series.specs.Series.{range_refused, slice_of}
 use Rattle.lv_series.specs.declared.refusals.LongRefusal.{LongRefusal}
 use Rattle.livevec_c.specs.declared.objects.Object.{Object}
@@ -32,7 +31,7 @@ piece_refused lo at hi s = or_else (range_refused s.held lo at) (range_refused s
 
 -- the cell of the elements from a range's start on, up to so many behind an index, the one there included, or excluded
 abbrev pub cell_up_to : {C : Type 0} → (List (List ℕ) → List ℤ → C) → Bool → ℕ → ℕ → Long → ℕ → C
-cell_up_to cell inclusive lo at s i = cell (table_of s.body.automaton) (slice_of s.held lo (if inclusive then at + i + 1 else at + i))
+cell_up_to cell inclusive lo at s i = cell s.table (slice_of s.held lo (if inclusive then at + i + 1 else at + i))
 
 -- a scan of a range, from an index on, as many cells as a buffer takes
 abbrev pub piece_scanned : ℕ → ℕ → ℕ → ℕ → Long → SeriesScanned

@@ -1,15 +1,16 @@
--- What a question at a series by one kind answers, by what lies behind a slot.
-use Rattle.std.specs.Prelude.{ℕ, Option, Some, None, nat_lt}
-use Rattle.lv_bodies.specs.Automata.{table_of}
+-- What a question at a series by one kind answers, and what making a kind's tree does, by what lies behind a slot.
+use Rattle.std.specs.Prelude.{◌≡◌, ℕ, ◌⊎◌, false, Option, Some, None, nat_lt}
 use Rattle.lv_bodies.specs.Plain.{plain_value_with}
 use Rattle.lv_bodies.specs.declared.kinds.Kind.{Kind}
-use Rattle.lv_series.specs.Series.{range_refused, slice_of}
+use Rattle.lv_series.specs.Series.{keeps_kind, range_refused, slice_of, with_kind}
+use Rattle.lv_series.specs.declared.refusals.LongRefusal.{LongRefusal}
+use Rattle.lv_series.specs.declared.refusals.LongRefusal.TheVariants.{NoMemory}
 use Rattle.livevec_c.specs.declared.objects.Object.{Object}
 use Rattle.livevec_c.specs.declared.objects.Object.TheVariants.{Series}
 use Rattle.livevec_c.specs.declared.series_results.Refused.{Refused}
 use Rattle.livevec_c.specs.declared.series_results.SeriesReduced.{SeriesReduced}
 use Rattle.livevec_c.specs.Seats.{values_for}
-use Rattle.livevec_c.specs.SeriesAnswers.{long_valued, unheld, unreduced_by}
+use Rattle.livevec_c.specs.SeriesAnswers.{long_valued, refused_by, unheld, unreduced_by}
 use Rattle.livevec_c.specs.SeriesBehind.{Long}
 
 -- that a number is of no kind
@@ -19,15 +20,41 @@ unkind = record { refusal = 113; first = 0; size = 0 }
 -- of a series: the plain value of the elements of a range, by the series's own table, after its last edit, and whether there is an element
 abbrev pub value_of : Kind → ℕ → ℕ → Long → SeriesReduced
 value_of kind lo hi s =
-    long_valued (range_refused s.held lo hi) s.edits (values_for (nat_lt lo hi) (plain_value_with (table_of s.body.automaton) kind (slice_of s.held lo hi)))
+    long_valued (range_refused s.held lo hi) s.edits (values_for (nat_lt lo hi) (plain_value_with s.table kind (slice_of s.held lo hi)))
+
+-- a series that was asked by a kind: the same, where the range is refused; else the kind has a tree
+abbrev pub with_tree : Kind → Option LongRefusal → Long → Long
+with_tree kind (Some refusal) s = s
+with_tree kind None s = record s { kinds = with_kind kind s.kinds }
+
+-- the answer to that; or there is no memory for a tree that isn't there yet, where nothing refuses the range, and nothing has changed
+abbrev pub ValuesSeries : Kind → ℕ → ℕ → SeriesReduced → Long → Long → Type 0
+ValuesSeries kind lo hi answer old new =
+    ((answer ≡ value_of kind lo hi old) × (new ≡ with_tree kind (range_refused old.held lo hi) old))
+    ⊎ ((answer ≡ unreduced_by (refused_by NoMemory)) × (range_refused old.held lo hi ≡ None) × (keeps_kind old.kinds kind ≡ false) × (new ≡ old))
 
 -- of an object: of a series only
-abbrev pub object_value : Kind → ℕ → ℕ → Object → SeriesReduced
-object_value kind lo hi (Series state) = value_of kind lo hi state
-object_value kind lo hi other = unreduced_by unheld
+abbrev pub ValuesLong : Kind → ℕ → ℕ → SeriesReduced → Object → Object → Type 0
+ValuesLong kind lo hi answer (Series old) new = (state : Long) × (new ≡ Series state) × ValuesSeries kind lo hi answer old state
+ValuesLong kind lo hi answer other new = (answer ≡ unreduced_by unheld) × (new ≡ other)
 
 -- of what lies behind a slot, by a kind, where there is one
-abbrev pub value_behind : Option Kind → ℕ → ℕ → Option Object → SeriesReduced
-value_behind None lo hi slot = unreduced_by unkind
-value_behind (Some kind) lo hi None = unreduced_by unheld
-value_behind (Some kind) lo hi (Some object) = object_value kind lo hi object
+abbrev pub ValuesBehind : Option Kind → ℕ → ℕ → SeriesReduced → Option Object → Option Object → Type 0
+ValuesBehind None lo hi answer old new = (answer ≡ unreduced_by unkind) × (new ≡ old)
+ValuesBehind (Some kind) lo hi answer None new = (answer ≡ unreduced_by unheld) × (new ≡ None)
+ValuesBehind (Some kind) lo hi answer (Some old) new = (object : Object) × (new ≡ Some object) × ValuesLong kind lo hi answer old object
+
+-- a kind's tree is made, or there is no memory for it, and nothing has changed
+abbrev pub PreparesSeries : Kind → ℕ → Long → Long → Type 0
+PreparesSeries kind answer old new = ((answer ≡ 0) × (new ≡ record old { kinds = with_kind kind old.kinds })) ⊎ ((answer ≡ 6) × (new ≡ old))
+
+-- of an object: of a series only
+abbrev pub PreparesLong : Kind → ℕ → Object → Object → Type 0
+PreparesLong kind answer (Series old) new = (state : Long) × (new ≡ Series state) × PreparesSeries kind answer old state
+PreparesLong kind answer other new = (answer ≡ 101) × (new ≡ other)
+
+-- of what lies behind a slot, by a kind, where there is one
+abbrev pub PreparesBehind : Option Kind → ℕ → Option Object → Option Object → Type 0
+PreparesBehind None answer old new = (answer ≡ 113) × (new ≡ old)
+PreparesBehind (Some kind) answer None new = (answer ≡ 101) × (new ≡ None)
+PreparesBehind (Some kind) answer (Some old) new = (object : Object) × (new ≡ Some object) × PreparesLong kind answer old object

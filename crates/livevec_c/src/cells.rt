@@ -1,13 +1,13 @@
 //! How the summaries of each kind, and those of all six, stand in a column of the caller's: as cells that C has.
 ghost use Rattle.std.specs.Prelude.{◌≡◌, ℕ, ℤ, List};
 ghost use Rattle.lv_bodies.specs.Automata.{table_of};
-ghost use Rattle.lv_bodies.specs.Body.{CanFold, fold_of};
+ghost use Rattle.lv_bodies.specs.Body.{fold_of};
 
-use crate::values::{PlainValues, plain_values, total_halves};
+use crate::values::{PlainValues, each_values, total_halves};
 use lv_bodies::{
-    Affine, AffineMap, Automaton, Best, Body, Greatest, Least, RunTotals, SixByTable, SixSummary,
-    Sum,
+    Affine, AffineMap, Automaton, Best, Greatest, Least, LongBody, Pair, RunTotals, SixPairs, Sum,
 };
+use lv_shards::Each;
 
 /// A total of 128 bits in two's complement, as C has it.
 #[repr(C)]
@@ -33,7 +33,7 @@ pub struct StatesCell {
 }
 
 /// A body whose summaries stand in a column as cells.
-pub trait Celled: Body {
+pub trait Celled: LongBody {
     type Cell: Copy;
 
     /// Whether it is the body for automata by a table.
@@ -54,7 +54,7 @@ pub trait Celled: Body {
         ensures { result ≡ cell_of s };
 
     /// The cell of a fold is the plain one.
-    ghost cells_plain: { (b : Self) (table : List (List ℕ)) (xs : List ℤ) → fits b table → CanFold xs →
+    ghost cells_plain: { (b : Self) (table : List (List ℕ)) (xs : List ℤ) → fits b table →
         cell_of (fold_of (Self.operations b) xs) ≡ plain_cell table xs };
 }
 
@@ -80,7 +80,7 @@ impl Celled for Sum {
         s
     }
 
-    ghost cells_plain = { λ _ _ xs _ _. fold_of-sum xs };
+    ghost cells_plain = { λ _ _ xs _. fold_of-sum xs };
 }
 
 impl Celled for Least {
@@ -107,7 +107,7 @@ impl Celled for Least {
         s.unwrap_or(0)
     }
 
-    ghost cells_plain = { λ _ _ xs _ _. ap (λ s. unwrap_or s (pos 0)) (fold_of-least xs) };
+    ghost cells_plain = { λ _ _ xs _. ap (λ s. unwrap_or s (pos 0)) (fold_of-least xs) };
 }
 
 impl Celled for Greatest {
@@ -134,7 +134,7 @@ impl Celled for Greatest {
         s.unwrap_or(0)
     }
 
-    ghost cells_plain = { λ _ _ xs _ _. ap (λ s. unwrap_or s (pos 0)) (fold_of-greatest xs) };
+    ghost cells_plain = { λ _ _ xs _. ap (λ s. unwrap_or s (pos 0)) (fold_of-greatest xs) };
 }
 
 impl Celled for Best {
@@ -162,13 +162,13 @@ impl Celled for Best {
         TotalCell { low, high }
     }
 
-    ghost cells_plain = { λ _ _ xs _ _. ap total_cell (fold_of-best xs) };
+    ghost cells_plain = { λ _ _ xs _. ap total_cell (fold_of-best xs) };
 }
 
 impl Celled for Affine {
-    ghost use Rattle.lv_bodies.specs.AffineLaws.{fold_of-affine};
     ghost use Rattle.livevec_c.specs.Cells.{affine_cell, map_cell};
     ghost use Rattle.livevec_c.specs.CellLaws.{maps_alike};
+    ghost use Rattle.livevec_c.specs.SpreadLaws.{fold_of-maps};
 
     type Cell = MapCell;
 
@@ -188,7 +188,7 @@ impl Celled for Affine {
         MapCell { a: s.a, b: s.b }
     }
 
-    ghost cells_plain = { λ _ _ xs _ can. let same = fold_of-affine xs can in maps_alike _ _ _ _ same.0 same.1 };
+    ghost cells_plain = { λ _ _ xs _. let same = fold_of-maps xs in maps_alike _ _ _ _ same.0 same.1 };
 }
 
 impl Celled for Automaton {
@@ -215,34 +215,50 @@ impl Celled for Automaton {
         StatesCell { to: s }
     }
 
-    ghost cells_plain = { λ b table xs is _. ap states_cell (fold_of-automaton (table_of b) xs) ∙ ap (λ t. automaton_cell t xs) (sym is) };
+    ghost cells_plain = { λ b table xs is. ap states_cell (fold_of-automaton (table_of b) xs) ∙ ap (λ t. automaton_cell t xs) (sym is) };
 }
 
-impl Celled for SixByTable {
+impl Celled for SixPairs {
     ghost use Rattle.std.proofs.Common.{ap, sym, ◌∙◌};
     ghost use Rattle.lv_bodies.specs.Automata.{table_of};
     ghost use Rattle.livevec_c.specs.Answers.{spread};
     ghost use Rattle.livevec_c.specs.Cells.{values_cell};
-    ghost use Rattle.livevec_c.specs.CellLaws.{values_alike};
-    ghost use Rattle.livevec_c.specs.SpreadLaws.{spread-plain};
+    ghost use Rattle.livevec_c.specs.SpreadLaws.{fold-plain};
 
     type Cell = PlainValues;
 
-    ghost fits = { λ b table. table ≡ table_of b.automaton };
+    ghost fits = { λ b table. table ≡ table_of b.second.second.second.second.second };
 
     ghost cell_of = { spread };
 
     ghost plain_cell = { values_cell };
 
     #[inline(always)]
-    fn by(automaton: Automaton) -> SixByTable {
-        SixByTable { automaton }
+    fn by(automaton: Automaton) -> SixPairs {
+        let last = Pair {
+            first: Affine,
+            second: automaton,
+        };
+        let later = Pair {
+            first: Greatest,
+            second: Pair {
+                first: Best,
+                second: last,
+            },
+        };
+        Pair {
+            first: Sum,
+            second: Pair {
+                first: Least,
+                second: later,
+            },
+        }
     }
 
     #[inline(always)]
-    fn cell(s: SixSummary) -> PlainValues {
-        plain_values(s)
+    fn cell(s: Each) -> PlainValues {
+        each_values(s)
     }
 
-    ghost cells_plain = { λ b table xs is can. values_alike (table_of b.automaton) xs _ (spread-plain (table_of b.automaton) xs can) ∙ ap (λ t. values_cell t xs) (sym is) };
+    ghost cells_plain = { λ b table xs is. fold-plain (table_of b.second.second.second.second.second) xs ∙ ap (λ t. values_cell t xs) (sym is) };
 }

@@ -9,7 +9,7 @@ use crate::cells::{MapCell, StatesCell, TotalCell};
 use crate::columns::{Scanned, scan_held};
 use crate::slots::Slot;
 use crate::values::PlainValues;
-use lv_bodies::{Affine, Automaton, Best, Greatest, Kind, Least, SixByTable, Sum};
+use lv_bodies::{Affine, Automaton, Best, Greatest, Kind, Least, SixPairs, Sum};
 use std::alloc::Global;
 
 /// Puts the sums of the beginnings of a range into a column, each with the element at its end or without it.
@@ -136,5 +136,5 @@ pub extern "C" fn livevec_proved_scan_values(
     ensures column { column.new ≡ filled_behind None values_cell inclusive lo hi column.old slot.old.raw.inner }
     ensures same { slot.new.raw.inner ≡ slot.old.raw.inner }
 {
-    scan_held::<SixByTable>(alloc, slot, None, lo, hi, inclusive, column)
+    scan_held::<SixPairs>(alloc, slot, None, lo, hi, inclusive, column)
 }

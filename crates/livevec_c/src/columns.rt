@@ -3,15 +3,15 @@ ghost use Rattle.std.specs.Prelude.{◌≡◌, ◌+◌, ◌-◌, ◌≤◌, ◌+
 ghost use Rattle.lv_edits.specs.History.{list_of};
 ghost use Rattle.lv_edits.specs.Ranges.{slice_of};
 ghost use Rattle.lv_reduce.specs.Answer.{scan_of};
-ghost use Rattle.lv_reduce.specs.Running.{CanGoOn, reached, scan_from};
-ghost use Rattle.livevec_c.specs.Columns.{filled, filled_asked, filled_behind, object_filled, object_scanned, scanned, scanned_asked, scanned_behind, unscanned};
+ghost use Rattle.lv_reduce.specs.Running.{reached, scan_from};
+ghost use Rattle.livevec_c.specs.Columns.{CanGoOnLong, filled, filled_asked, filled_behind, object_filled, object_scanned, scanned, scanned_asked, scanned_behind, unscanned};
 
 use crate::cells::Celled;
 use crate::objects::Object;
 use crate::only::may_ask;
 use crate::results::{BAD_KIND, NO_HANDLE, SHORT_BUFFER, detail};
 use crate::slots::{Slot, put, take};
-use lv_bodies::{Kind, SixByTable, fold_more};
+use lv_bodies::{Kind, SixByTable, long_laws};
 use lv_edits::{Edits, refusal_of};
 use lv_live::Live;
 use lv_reduce::run_at;
@@ -39,9 +39,9 @@ fn not_scanned(refusal: u32, detail: u32) -> Scanned
     }
 }
 
-// Puts the cells of the scan of some elements, from what stands before them, into a column from a place on. Gives what they lead to.
+/// Puts the cells of the scan of some elements, from what stands before them, into a column from a place on. Gives what they lead to.
 #[inline(always)]
-fn lay_run<B: Celled>(
+pub fn lay_run<B: Celled>(
     body: &B,
     inclusive: bool,
     before: B::S,
@@ -49,16 +49,17 @@ fn lay_run<B: Celled>(
     from: usize,
     column: &mut [B::Cell],
 ) -> B::S
-    requires can { CanGoOn (B.is_within body.now) before (length xs.now) }
+    requires can { CanGoOnLong (B.is_within body.now) before (length xs.now) }
     requires room { from + length xs.now ≤ length column.old }
     ensures cells { take (from + length xs.now) column.new ≡ take from column.old ++ map B.cell_of (scan_from inclusive (B.operations body.now) before xs.now) }
     ensures len { length column.new ≡ length column.old }
     ensures sum { result ≡ reached (B.operations body.now) before xs.now }
 {
+    long_laws(body);
     let mut sum = before;
     for k in 0..xs.len() {
         let sum_before = sum;
-        sum = fold_more(body, sum_before, xs[k]);
+        sum = body.extend_long(sum_before, xs[k]);
         column[from + k] = B::cell(if inclusive { sum } else { sum_before });
     }
     sum

@@ -13,19 +13,17 @@ ghost use Rattle.lv_edits.specs.Ranges.{range_refusal};
 ghost use Rattle.lv_refresh.specs.Claim.{IsNextJob};
 ghost use Rattle.lv_refresh.specs.Delivery.{delivery_of};
 ghost use Rattle.lv_refresh.specs.Honesty.{IsHonest, Vouched};
-ghost use Rattle.lv_reduce.specs.Answer.{IsAnswer};
 ghost use Rattle.lv_live.specs.Batches.{DeliversEach};
-ghost use Rattle.lv_live.specs.State.{HasClaim, HasDelivery, HasNoClaims, SameLive, SameRefresh, node_and_version, recorded};
+ghost use Rattle.lv_live.specs.State.{HasClaim, HasDelivery, HasNoClaims, SameRefresh, node_and_version, recorded};
 ghost use Rattle.lv_live.specs.Subtrees.{CanTake, HasSubtree};
 ghost use Rattle.lv_live.specs.Turns.{TakesTurns};
 ghost use Rattle.lv_tree.specs.Asked.{IsKindAnswer};
 ghost use Rattle.lv_tree.specs.Where.{IsEndReached, IsPlaceOfBest, IsPlaceOfGreatest, IsPlaceOfLeast};
 
-use lv_bodies::{Automaton, Kind, SixByTable, SixSummary};
+use lv_bodies::{Automaton, Kind, SixByTable};
 use lv_edits::{Edit, Receipt};
 use lv_geometry::{Limits, Refusal};
 use lv_live::{BatchOutcome, Batched, Live};
-use lv_reduce::Answer;
 use lv_refresh::{Job, Outcome, SubtreeOutcome};
 use lv_standing::{make_beside, push_all_beside, write_all_beside, write_beside};
 use lv_summary::Accepted;
@@ -193,17 +191,6 @@ impl KindVector {
         ensures same { self.new ≡ self.old }
     {
         lv_tree::reaches(self.live.view().cells, &mut self.kinds, lo, hi, sum)
-    }
-
-    /// The summary by all six kinds, which are kept beside what is delivered. Refused as `value` is. Takes no memory.
-    pub fn ask(&mut self, lo: u32, hi: u32) -> Result<Answer<SixSummary>, Refusal>
-        ensures ok { IfOk result (λ answer. IsAnswer (six_operations_by (table_of self.old.body.automaton)) self.old.history.journal lo hi answer) }
-        ensures err { IfErr result (λ refusal. range_refusal self.old.history.journal lo hi ≡ Some refusal) }
-        ensures limits { IsLegalInLimits self.old.history }
-        ensures same { SameLive self.old self.new }
-    {
-        self.live.keeps();
-        self.live.ask(lo, hi)
     }
 
     /// Does jobs in place, the least first, at most so many, and tells how many.

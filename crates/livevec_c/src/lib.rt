@@ -1,6 +1,7 @@
 //! The vector for C: each export restates the contract of the library's own call, on what lies behind a slot.
 #![tactic(auto)]
 
+mod beginnings;
 mod blocks;
 mod blocks_back;
 mod boards;
@@ -19,11 +20,9 @@ mod kind_seats;
 mod kind_vectors;
 mod laws;
 mod lifetimes;
-mod long_series;
 mod objects;
 mod only;
 mod outcomes;
-mod picked;
 mod places_found;
 mod pushes;
 mod queries;
@@ -46,6 +45,7 @@ mod series_kinds;
 mod series_pieces;
 mod series_pushes;
 mod series_results;
+mod series_writes;
 mod slots;
 mod subtrees;
 mod summaries;

@@ -5,12 +5,12 @@ use crate::ended::Ended;
 use crate::kind_boards::KindBoard;
 use crate::kind_seats::KindSeat;
 use crate::kind_vectors::KindVector;
-use crate::long_series::Series;
 use crate::queries::Queries;
 use lv_board::{Closed, Elements};
 use lv_bodies::{Kind, SixByTable};
 use lv_live::{Batch, BatchOutcome};
 use lv_refresh::{Job, Outcome, SubtreeJob, SubtreeOutcome};
+use lv_series::Series;
 use std::alloc::Global;
 use std::mem;
 
@@ -30,7 +30,7 @@ pub enum Object {
     Board(KindBoard),
     Seat(KindSeat),
     Closed(Ended),
-    Series(Series<SixByTable>),
+    Series(Series),
     Queries(Queries),
 }
 

@@ -1,19 +1,27 @@
 //! Reads of a vector: its elements, its counts and its reductions.
-ghost use Rattle.std.specs.Prelude.{◌≡◌};
+ghost use Rattle.std.specs.Prelude.{◌≡◌, None};
+ghost use Rattle.lv_bodies.specs.Automata.{table_of};
+ghost use Rattle.lv_bodies.specs.Body.{fold_of};
+ghost use Rattle.lv_bodies.specs.Six.{six_operations_by};
+ghost use Rattle.lv_bodies.specs.declared.kinds.Kind.TheVariants as kinds;
+ghost use Rattle.lv_edits.specs.Ranges.{range_refusal, slice_of};
+ghost use Rattle.lv_tree.specs.KindSummaries.{summary_by};
 ghost use Rattle.livevec_c.specs.declared.results.Counted.TheVariants as counts;
-ghost use Rattle.livevec_c.specs.Answers.{no_element, unreduced};
-ghost use Rattle.livevec_c.specs.Behind.{Asks, AsksBy, AsksObject, Counts, CountsObject, Gets, GetsObject, Reduces, ReducesBy, ReducesObject};
+ghost use Rattle.livevec_c.specs.Answers.{no_element, spread, unreduced, with_part};
+ghost use Rattle.livevec_c.specs.Behind.{Asks, AsksBy, AsksObject, AsksVector, Counts, CountsObject, Gets, GetsObject, Reduces, ReducesBy, ReducesObject};
 ghost use Rattle.livevec_c.specs.Plainly.{IsPlain};
 
 use crate::kind_vectors::KindVector;
 use crate::objects::Object;
 use crate::results::{
-    BAD_KIND, Count, Counted, Element, NO_HANDLE, Reduced, element_answer, not_reduced,
+    BAD_KIND, Count, Counted, Element, NO_HANDLE, Reduced, detail, element_answer, not_reduced,
     reduction_answer,
 };
 use crate::slots::{Slot, put, take};
+use crate::values::{PlainValues, no_values, put_part};
 use lv_bodies::{Kind, SixByTable};
 use lv_live::Live;
+use lv_tree::KindSummary;
 use std::alloc::Global;
 
 /// The element where a slot holds no vector.
@@ -176,13 +184,59 @@ pub extern "C" fn livevec_proved_reduce(alloc: Global, slot: &mut Slot, lo: u32,
     }
 }
 
-// A reduction of a vector, which is of all six kinds, and keeps what it computes.
+// Puts the value of a range by a kind among the plain values.
+fn put_value(vector: &mut KindVector, kind: Kind, lo: u32, hi: u32, values: &mut PlainValues)
+    requires { range_refusal vector.old.history.journal lo hi ≡ None }
+    ensures put { values.new ≡ with_part (summary_by (table_of vector.old.body.automaton) kind (slice_of vector.old.history.journal lo hi)) values.old }
+    ensures same { vector.new ≡ vector.old }
+{
+    let Ok(answer) = vector.value(kind, lo, hi) else {
+        unreachable!();
+    };
+    put_part(values, answer.summary);
+}
+
+// The plain values of a range of which the sum is known: the others are asked by their kinds.
+fn six_values(vector: &mut KindVector, lo: u32, hi: u32, sum: KindSummary) -> PlainValues
+    requires granted { range_refusal vector.old.history.journal lo hi ≡ None }
+    requires sum { sum ≡ summary_by (table_of vector.old.body.automaton) kinds.Sum (slice_of vector.old.history.journal lo hi) }
+    ensures values { result ≡ spread (fold_of (six_operations_by (table_of vector.old.body.automaton)) (slice_of vector.old.history.journal lo hi)) }
+    ensures same { vector.new ≡ vector.old }
+{
+    let mut values = no_values();
+    put_part(&mut values, sum);
+    put_value(vector, Kind::Least, lo, hi, &mut values);
+    put_value(vector, Kind::Greatest, lo, hi, &mut values);
+    put_value(vector, Kind::Best, lo, hi, &mut values);
+    put_value(vector, Kind::Affine, lo, hi, &mut values);
+    put_value(vector, Kind::Automaton, lo, hi, &mut values);
+    values
+}
+
+// A reduction of a vector by all six kinds, each by its own tree.
+fn ask_six(vector: &mut KindVector, lo: u32, hi: u32) -> Reduced
+    ensures { AsksVector lo hi result vector.old vector.new }
+{
+    match vector.value(Kind::Sum, lo, hi) {
+        Err(refusal) => not_reduced(refusal.number(), detail(refusal)),
+        Ok(answer) => Reduced {
+            refusal: 0,
+            detail: 0,
+            edit: answer.edit,
+            cells: 0,
+            summaries: 0,
+            values: six_values(vector, lo, hi, answer.summary),
+        },
+    }
+}
+
+// The same of one that is of all six, or of one kind.
 fn ask_vector(vector: &mut KindVector, only: Option<Kind>, lo: u32, hi: u32) -> Reduced
     ensures { AsksBy only lo hi result vector.old vector.new }
 {
     match only {
         Some(_) => not_reduced(BAD_KIND, 0),
-        None => reduction_answer(vector.ask(lo, hi)),
+        None => ask_six(vector, lo, hi),
     }
 }
 
@@ -196,7 +250,7 @@ fn ask_of(object: &mut Object, lo: u32, hi: u32) -> Reduced
     }
 }
 
-/// The same, and keeps what it computes.
+/// The same, each kind by its own tree.
 #[unsafe(no_mangle)]
 pub extern "C" fn livevec_proved_ask(alloc: Global, slot: &mut Slot, lo: u32, hi: u32) -> Reduced
     ensures answer { Asks lo hi result slot.old.raw.inner slot.new.raw.inner }

@@ -1,28 +1,23 @@
 //! A series: how it begins, and its edits.
-ghost use Rattle.std.specs.Prelude.{◌≡◌, [], IfOk};
-ghost use Rattle.lv_bodies.specs.Automata.{table_of};
+ghost use Rattle.std.specs.Prelude.{◌≡◌, IfOk};
 ghost use Rattle.lv_bodies.specs.Plain.{program_table};
 ghost use Rattle.lv_series.specs.declared.edits.LongEdit.TheVariants as asked;
-ghost use Rattle.lv_series.specs.Series.{Answers};
 ghost use Rattle.livevec_c.specs.SeriesBehind.{EditsBehind, EditsLong, IsNewSeries, OpensSeries};
 
-use crate::long_series::Series;
 use crate::objects::Object;
 use crate::results::{IN_USE, NO_MEMORY};
 use crate::series_results::{SeriesEdited, edit_answer, not_edited, not_held};
-use crate::slots::{Slot, is_full, put, take};
-use lv_bodies::{Automaton, SixByTable};
-use lv_series::{LongEdit, LongReceipt, LongRefusal};
+use crate::slots::{Slot, is_full, put, take_full};
+use lv_bodies::Automaton;
+use lv_series::{LongEdit, Series};
 use std::alloc::{AllocError, Global};
 
 // A new series in a place of its own.
 fn new_series(alloc: Global) -> Result<Box<Object>, AllocError>
     ensures { IfOk result (λ b. IsNewSeries program_table b.value) }
 {
-    let body = SixByTable {
-        automaton: Automaton::program(),
-    };
-    Ok(Box::new(alloc, Object::Series(Series::new(alloc, body)))?)
+    let series = Series::new(alloc, Automaton::program());
+    Ok(Box::new(alloc, Object::Series(series))?)
 }
 
 /// Puts a new series with the program's automaton into an empty slot.
@@ -42,42 +37,50 @@ pub extern "C" fn livevec_proved_series_new(alloc: Global, slot: &mut Slot) -> u
     }
 }
 
-// An edit of a series.
-fn apply(series: &mut Series<SixByTable>, edit: &LongEdit) -> Result<LongReceipt, LongRefusal>
-    ensures { Answers series.old edit.now result series.new }
-{
-    match *edit {
-        LongEdit::Push(value) => series.push(value),
-        LongEdit::Pop => series.pop(),
-        LongEdit::Write { index, value } => series.write(index, value),
-        LongEdit::Expire(index) => series.expire(index),
-        LongEdit::Swap { first, second } => series.swap(first, second),
-        LongEdit::Truncate(size) => series.truncate(size),
-    }
-}
-
 // An edit of an object.
+#[inline(always)]
 fn edit_object(object: &mut Object, edit: &LongEdit) -> SeriesEdited
     ensures { EditsLong edit.now result object.old object.new }
 {
     match object {
-        Object::Series(series) => edit_answer(apply(series, edit)),
+        Object::Series(series) => edit_answer(series.apply(edit)),
+        _ => not_edited(not_held()),
+    }
+}
+
+// A push at an object, and a write. They and what they call have one caller each, so that all is inlined.
+#[inline(always)]
+fn push_object(object: &mut Object, value: i64) -> SeriesEdited
+    ensures { EditsLong (asked.Push value) result object.old object.new }
+{
+    match object {
+        Object::Series(series) => edit_answer(series.push(value)),
+        _ => not_edited(not_held()),
+    }
+}
+
+#[inline(always)]
+fn write_object(object: &mut Object, index: u64, value: i64) -> SeriesEdited
+    ensures { EditsLong (asked.Write index value) result object.old object.new }
+{
+    match object {
+        Object::Series(series) => edit_answer(series.write(index, value)),
         _ => not_edited(not_held()),
     }
 }
 
 // An edit of what lies behind a slot.
+#[inline(always)]
 fn edit_held(alloc: Global, slot: &mut Slot, edit: LongEdit) -> SeriesEdited
     ensures { EditsBehind edit result slot.old.raw.inner slot.new.raw.inner }
 {
-    match take(alloc, slot) {
-        None => not_edited(not_held()),
-        Some(mut held) => {
-            let answer = edit_object(&mut held, &edit);
-            put(slot, held);
-            answer
-        }
+    if !is_full(slot) {
+        return not_edited(not_held());
     }
+    let mut held = take_full(alloc, slot);
+    let answer = edit_object(&mut held, &edit);
+    put(slot, held);
+    answer
 }
 
 /// Puts an element at the end.
@@ -89,7 +92,13 @@ pub extern "C" fn livevec_proved_series_push(
 ) -> SeriesEdited
     ensures { EditsBehind (asked.Push value) result slot.old.raw.inner slot.new.raw.inner }
 {
-    edit_held(alloc, slot, LongEdit::Push(value))
+    if !is_full(slot) {
+        return not_edited(not_held());
+    }
+    let mut held = take_full(alloc, slot);
+    let answer = push_object(&mut held, value);
+    put(slot, held);
+    answer
 }
 
 /// Drops the last element.
@@ -110,7 +119,13 @@ pub extern "C" fn livevec_proved_series_write(
 ) -> SeriesEdited
     ensures { EditsBehind (asked.Write index value) result slot.old.raw.inner slot.new.raw.inner }
 {
-    edit_held(alloc, slot, LongEdit::Write { index, value })
+    if !is_full(slot) {
+        return not_edited(not_held());
+    }
+    let mut held = take_full(alloc, slot);
+    let answer = write_object(&mut held, index, value);
+    put(slot, held);
+    answer
 }
 
 /// Exchanges the elements under two indices.

@@ -1,16 +1,17 @@
 //! What is asked of a series: its elements, its counts and its reductions.
-ghost use Rattle.std.specs.Prelude.{◌≡◌};
-ghost use Rattle.livevec_c.specs.SeriesBehind.{counts_behind, counts_in_object, counts_of, element_behind, element_in_object, no_counts, values_behind, values_in_object, values_of};
+ghost use Rattle.std.specs.Prelude.{◌≡◌, true};
+ghost use Rattle.livevec_c.specs.SeriesBehind.{AsksBehind, AsksLong, AsksSeries, IsSameButKinds, all_kinds, counts_behind, counts_in_object, counts_of, element_behind, element_in_object, no_counts, values_behind, values_in_object, values_of};
 
-use crate::long_series::Series;
+use crate::beginnings::cell_of;
 use crate::objects::Object;
 use crate::results::NO_HANDLE;
 use crate::series_results::{
     SeriesCounts, SeriesElement, SeriesReduced, element_answer, no_element, not_held, not_reduced,
-    reduction_answer,
+    not_refused, refusal_answer,
 };
 use crate::slots::{Slot, put, take};
-use lv_bodies::SixByTable;
+use lv_bodies::{Kind, SixPairs};
+use lv_series::{LongRefusal, Series};
 use std::alloc::Global;
 
 // An element of an object.
@@ -44,7 +45,7 @@ pub extern "C" fn livevec_proved_series_get(
 }
 
 // The counts of a series.
-fn counts(series: &Series<SixByTable>) -> SeriesCounts
+fn counts(series: &Series) -> SeriesCounts
     ensures { result ≡ counts_of series.now }
 {
     SeriesCounts {
@@ -93,11 +94,18 @@ pub extern "C" fn livevec_proved_series_counts(alloc: Global, slot: &mut Slot) -
     }
 }
 
-// A reduction of a series.
-fn reduce_series(series: &Series<SixByTable>, lo: u64, hi: u64) -> SeriesReduced
+// A reduction of a series: each kind by its tree, where it has one.
+fn reduce_series(series: &Series, lo: u64, hi: u64) -> SeriesReduced
     ensures { result ≡ values_of lo hi series.now }
 {
-    reduction_answer(series.reduce(lo, hi))
+    if let Some(refusal) = series.range_refusal(lo, hi) {
+        return not_reduced(refusal_answer(refusal));
+    }
+    SeriesReduced {
+        why: not_refused(),
+        edit: series.edits(),
+        values: cell_of::<SixPairs>(series, lo, hi),
+    }
 }
 
 // A reduction of an object.
@@ -131,18 +139,42 @@ pub extern "C" fn livevec_proved_series_reduce(
     }
 }
 
-// A reduction of a series, which keeps what it computes.
-fn ask_series(series: &mut Series<SixByTable>, lo: u64, hi: u64) -> SeriesReduced
-    ensures answer { result ≡ values_of lo hi series.old }
-    ensures same { series.new ≡ series.old }
+// Makes the tree of each kind, where there is none, and says whether there was memory for it.
+fn prepare_each(series: &mut Series) -> bool
+    ensures kinds { IsSameButKinds series.old series.new }
+    ensures all { result ≡ true → series.new ≡ record series.old { kinds = all_kinds } }
 {
-    reduction_answer(series.ask(lo, hi))
+    for kind in [
+        Kind::Sum,
+        Kind::Least,
+        Kind::Greatest,
+        Kind::Best,
+        Kind::Affine,
+        Kind::Automaton,
+    ] {
+        if series.prepare(kind).is_err() {
+            return false;
+        }
+    }
+    true
+}
+
+// A reduction of a series, which makes the tree of each kind first.
+fn ask_series(series: &mut Series, lo: u64, hi: u64) -> SeriesReduced
+    ensures { AsksSeries lo hi result series.old series.new }
+{
+    if let Some(refusal) = series.range_refusal(lo, hi) {
+        return not_reduced(refusal_answer(refusal));
+    }
+    if !prepare_each(series) {
+        return not_reduced(refusal_answer(LongRefusal::NoMemory));
+    }
+    reduce_series(series, lo, hi)
 }
 
 // The same of an object.
 fn ask_of(object: &mut Object, lo: u64, hi: u64) -> SeriesReduced
-    ensures answer { result ≡ values_in_object lo hi object.old }
-    ensures same { object.new ≡ object.old }
+    ensures { AsksLong lo hi result object.old object.new }
 {
     match object {
         Object::Series(series) => ask_series(series, lo, hi),
@@ -150,7 +182,7 @@ fn ask_of(object: &mut Object, lo: u64, hi: u64) -> SeriesReduced
     }
 }
 
-/// The same, and keeps what it computes.
+/// The same, and makes the tree of each kind first, where there is none.
 #[unsafe(no_mangle)]
 pub extern "C" fn livevec_proved_series_ask(
     alloc: Global,
@@ -158,8 +190,7 @@ pub extern "C" fn livevec_proved_series_ask(
     lo: u64,
     hi: u64,
 ) -> SeriesReduced
-    ensures answer { result ≡ values_behind lo hi slot.old.raw.inner }
-    ensures same { slot.new.raw.inner ≡ slot.old.raw.inner }
+    ensures { AsksBehind lo hi result slot.old.raw.inner slot.new.raw.inner }
 {
     match take(alloc, slot) {
         None => not_reduced(not_held()),

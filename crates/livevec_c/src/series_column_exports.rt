@@ -9,7 +9,7 @@ use crate::series_columns::scan_held;
 use crate::series_results::SeriesScanned;
 use crate::slots::Slot;
 use crate::values::PlainValues;
-use lv_bodies::{Affine, Automaton, Best, Greatest, Least, SixByTable, Sum};
+use lv_bodies::{Affine, Automaton, Best, Greatest, Least, SixPairs, Sum};
 use std::alloc::Global;
 
 /// Puts the sums of the beginnings of a range into a column, from an index on, each with the element at its end or without it.
@@ -135,5 +135,5 @@ pub extern "C" fn livevec_proved_series_scan_values(
     ensures column { column.new ≡ column_behind values_cell inclusive lo at hi column.old slot.old.raw.inner }
     ensures same { slot.new.raw.inner ≡ slot.old.raw.inner }
 {
-    scan_held::<SixByTable>(alloc, slot, lo, at, hi, inclusive, column)
+    scan_held::<SixPairs>(alloc, slot, lo, at, hi, inclusive, column)
 }

@@ -1,18 +1,18 @@
-//! Questions at a series by one kind. A series is of all six, and computes all of them for the one that is told.
+//! Questions at a series by one kind, which go by that kind's tree, and the tree itself.
 ghost use Rattle.std.specs.Prelude.{◌≡◌};
 ghost use Rattle.livevec_c.specs.Kinds.{kind_at};
-ghost use Rattle.livevec_c.specs.SeriesValued.{object_value, unkind, value_behind, value_of};
+ghost use Rattle.livevec_c.specs.SeriesValued.{PreparesBehind, PreparesLong, PreparesSeries, ValuesBehind, ValuesLong, ValuesSeries, unkind};
 
 use crate::boards::kind_of;
-use crate::long_series::Series;
 use crate::objects::Object;
-use crate::results::BAD_KIND;
+use crate::results::{BAD_KIND, NO_HANDLE};
 use crate::said::shown_values;
 use crate::series_results::{
     Refused, SeriesReduced, not_held, not_reduced, not_refused, refusal_answer,
 };
-use crate::slots::{Slot, put, take};
-use lv_bodies::{Kind, SixByTable, face};
+use crate::slots::{Slot, is_full, put, take, take_full};
+use lv_bodies::Kind;
+use lv_series::Series;
 use std::alloc::Global;
 
 // That a number is of no kind.
@@ -26,33 +26,42 @@ fn no_kind() -> Refused
     }
 }
 
-// A value of a series, which keeps what it computes.
-fn value_of_series(series: &mut Series<SixByTable>, kind: Kind, lo: u64, hi: u64) -> SeriesReduced
-    ensures answer { result ≡ value_of kind lo hi series.old }
-    ensures same { series.new ≡ series.old }
+// A value of a series by a kind, whose tree is made first.
+#[inline(always)]
+fn value_of_series(series: &mut Series, kind: Kind, lo: u64, hi: u64) -> SeriesReduced
+    ensures { ValuesSeries kind lo hi result series.old series.new }
 {
-    match series.ask(lo, hi) {
+    match series.ask(kind, lo, hi) {
         Err(refusal) => not_reduced(refusal_answer(refusal)),
         Ok(answer) => SeriesReduced {
             why: not_refused(),
             edit: answer.edit,
-            values: shown_values(lo < hi, face(kind, answer.value)),
+            values: shown_values(lo < hi, answer.value.shown()),
         },
+    }
+}
+
+// The same by whichever kind. Sums are asked for most: where the kind is known to be that one, less is told apart.
+fn value_by(series: &mut Series, kind: Kind, lo: u64, hi: u64) -> SeriesReduced
+    ensures { ValuesSeries kind lo hi result series.old series.new }
+{
+    match kind {
+        Kind::Sum => value_of_series(series, Kind::Sum, lo, hi),
+        _ => value_of_series(series, kind, lo, hi),
     }
 }
 
 // The same of an object.
 fn value_of_object(object: &mut Object, kind: Kind, lo: u64, hi: u64) -> SeriesReduced
-    ensures answer { result ≡ object_value kind lo hi object.old }
-    ensures same { object.new ≡ object.old }
+    ensures { ValuesLong kind lo hi result object.old object.new }
 {
     match object {
-        Object::Series(series) => value_of_series(series, kind, lo, hi),
+        Object::Series(series) => value_by(series, kind, lo, hi),
         _ => not_reduced(not_held()),
     }
 }
 
-/// The plain value of the elements of a range by one kind. What is computed for it is kept as `livevec_proved_series_ask` keeps it.
+/// The plain value of the elements of a range by one kind, whose tree is made first, where there is none.
 #[unsafe(no_mangle)]
 pub extern "C" fn livevec_proved_series_value(
     alloc: Global,
@@ -61,16 +70,52 @@ pub extern "C" fn livevec_proved_series_value(
     lo: u64,
     hi: u64,
 ) -> SeriesReduced
-    ensures answer { result ≡ value_behind (kind_at kind) lo hi slot.old.raw.inner }
-    ensures same { slot.new.raw.inner ≡ slot.old.raw.inner }
+    ensures { ValuesBehind (kind_at kind) lo hi result slot.old.raw.inner slot.new.raw.inner }
 {
     let Some(kind) = kind_of(kind) else {
         return not_reduced(no_kind());
     };
+    if !is_full(slot) {
+        return not_reduced(not_held());
+    }
+    let mut held = take_full(alloc, slot);
+    let answer = value_of_object(&mut held, kind, lo, hi);
+    put(slot, held);
+    answer
+}
+
+// Makes the tree of a kind of a series.
+fn prepare_series(series: &mut Series, kind: Kind) -> u32
+    ensures { PreparesSeries kind result series.old series.new }
+{
+    match series.prepare(kind) {
+        Ok(()) => 0,
+        Err(refusal) => refusal.number(),
+    }
+}
+
+// The same of an object.
+fn prepare_object(object: &mut Object, kind: Kind) -> u32
+    ensures { PreparesLong kind result object.old object.new }
+{
+    match object {
+        Object::Series(series) => prepare_series(series, kind),
+        _ => NO_HANDLE,
+    }
+}
+
+/// Makes the tree of a kind, where there is none.
+#[unsafe(no_mangle)]
+pub extern "C" fn livevec_proved_series_prepare(alloc: Global, slot: &mut Slot, kind: u32) -> u32
+    ensures { PreparesBehind (kind_at kind) result slot.old.raw.inner slot.new.raw.inner }
+{
+    let Some(kind) = kind_of(kind) else {
+        return BAD_KIND;
+    };
     match take(alloc, slot) {
-        None => not_reduced(not_held()),
+        None => NO_HANDLE,
         Some(mut held) => {
-            let answer = value_of_object(&mut held, kind, lo, hi);
+            let answer = prepare_object(&mut held, kind);
             put(slot, held);
             answer
         }

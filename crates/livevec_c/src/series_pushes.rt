@@ -2,7 +2,6 @@
 ghost use Rattle.std.specs.Prelude.{◌≡◌, length};
 ghost use Rattle.livevec_c.specs.SeriesPushed.{PushesBehind, PushesLong, long_pushed, unpushed_by};
 
-use crate::long_series::Series;
 use crate::objects::Object;
 use crate::results::NO_HANDLE;
 use crate::series_results::SeriesPushed;

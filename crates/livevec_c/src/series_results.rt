@@ -1,11 +1,10 @@
 //! What the calls at a series answer, in the layouts of the header, and the words that make them.
 ghost use Rattle.std.specs.Prelude.{◌≡◌};
-ghost use Rattle.livevec_c.specs.SeriesAnswers.{granted, long_edited, long_element, long_reduced, refused_by, unedited_by, unelement, unheld, unreduced_by, unscanned_by};
+ghost use Rattle.livevec_c.specs.SeriesAnswers.{granted, long_edited, long_element, refused_by, unedited_by, unelement, unheld, unreduced_by, unscanned_by};
 
 use crate::results::NO_HANDLE;
-use crate::values::{PlainValues, no_values, plain_values};
-use lv_bodies::SixSummary;
-use lv_series::{LongAnswer, LongReceipt, LongRefusal};
+use crate::values::{PlainValues, no_values};
+use lv_series::{LongReceipt, LongRefusal};
 
 /// Why a call at a series was refused, 0 where it was not. Of an index that isn't kept it tells which are: from `first` up to `size`.
 #[repr(C)]
@@ -60,6 +59,16 @@ pub struct SeriesPushed {
     pub refusal: u32,
     pub edit: u64,
     pub pushed: u64,
+}
+
+/// What many writes at a series answer.
+#[repr(C)]
+#[derive(Clone, Copy)]
+pub struct SeriesMany {
+    pub why: Refused,
+    pub edit: u64,
+    pub done: usize,
+    pub place: usize,
 }
 
 /// What a piece of a range answers that was put into a buffer.
@@ -173,20 +182,6 @@ pub fn not_reduced(why: Refused) -> SeriesReduced
         why,
         edit: 0,
         values: no_values(),
-    }
-}
-
-/// What a reduction answers for C.
-pub fn reduction_answer(answer: Result<LongAnswer<SixSummary>, LongRefusal>) -> SeriesReduced
-    ensures { result ≡ long_reduced answer }
-{
-    match answer {
-        Err(refusal) => not_reduced(refusal_answer(refusal)),
-        Ok(answer) => SeriesReduced {
-            why: not_refused(),
-            edit: answer.edit,
-            values: plain_values(answer.value),
-        },
     }
 }
 

@@ -1,9 +1,10 @@
 //! The plain values of a list of elements, in the layout of the header, and what makes them.
 ghost use Rattle.std.specs.Prelude.{◌≡◌, pos, option_map, unwrap_or};
-ghost use Rattle.livevec_c.specs.Answers.{high_half, low_half, spread, valueless};
+ghost use Rattle.livevec_c.specs.Answers.{high_half, low_half, spread, valueless, with_part};
 
 use lv_bodies::{RunTotals, SixSummary};
 use lv_shards::Each;
+use lv_tree::KindSummary;
 
 /// The plain values of a list of elements, by each of the six kinds.
 #[repr(C)]
@@ -67,6 +68,23 @@ pub fn each_values(each: Each) -> PlainValues
         affine_b: affine.b,
         automaton,
         any: least.is_some() as u64,
+    }
+}
+
+/// Puts the value of a kind among the plain values. That of the least tells whether there is an element.
+pub fn put_part(values: &mut PlainValues, part: KindSummary)
+    ensures { values.new ≡ with_part part values.old }
+{
+    match part {
+        KindSummary::Sum(sum) => values.sum = sum,
+        KindSummary::Least(least) => {
+            values.least = least.unwrap_or(0);
+            values.any = least.is_some() as u64;
+        }
+        KindSummary::Greatest(greatest) => values.greatest = greatest.unwrap_or(0),
+        KindSummary::Best(best) => (values.best_low, values.best_high) = total_halves(best),
+        KindSummary::Affine(map) => (values.affine_a, values.affine_b) = (map.a, map.b),
+        KindSummary::Automaton(states) => values.automaton = states,
     }
 }
 

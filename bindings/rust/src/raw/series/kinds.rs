@@ -24,7 +24,16 @@ struct Many {
     place: usize,
 }
 
+impl Many {
+    fn answered(self) -> Result<u64, RefusedAt> {
+        let Many { refusal, first, size, edit, done, place } = self;
+        answered(refusal, first, size, edit).map_err(|refusal| RefusedAt { place, done, refusal })
+    }
+}
+
 unsafe extern "C" {
+    fn livevec_series_prepare(slot: *mut Slot, kind: u32) -> u32;
+    fn livevec_series_write_many(slot: *mut Slot, indices: *const u64, values: *const i64, length: usize) -> Many;
     fn livevec_series_value(slot: *mut Slot, kind: u32, lo: u64, hi: u64) -> Reduced;
     fn livevec_series_value_many(slot: *mut Slot, kind: u32, ranges: *const Ends, answers: *mut SixValues, length: usize) -> Many;
     fn livevec_series_scan_inclusive_sum(slot: *mut Slot, lo: u64, at: u64, hi: u64, column: *mut c_void, length: usize) -> Scanned;
@@ -46,6 +55,19 @@ type ScanCall = unsafe extern "C" fn(*mut Slot, u64, u64, u64, *mut c_void, usiz
 
 // For each call below: see those of `raw/series.rs`.
 impl Series {
+    pub(crate) fn prepare(&mut self, kind: u32) -> Result<(), Refusal> {
+        // SAFETY: see above.
+        answered(unsafe { livevec_series_prepare(self.slot.get(), kind) }, 0, 0, ())
+    }
+
+    /// Writes so many values under as many indices.
+    pub(crate) fn write_many(&mut self, indices: &[u64], values: &[i64]) -> Result<u64, RefusedAt> {
+        debug_assert_eq!(indices.len(), values.len());
+        // SAFETY: see above; so many indices and values are read from slices that have them.
+        let did = unsafe { livevec_series_write_many(self.slot.get(), indices.as_ptr(), values.as_ptr(), indices.len()) };
+        did.answered()
+    }
+
     pub(crate) fn value(&self, kind: u32, lo: u64, hi: u64) -> Result<Reduced, Refusal> {
         // SAFETY: see above.
         let told = unsafe { livevec_series_value(self.slot.get(), kind, lo, hi) };
@@ -57,9 +79,7 @@ impl Series {
         let length = ranges.len();
         let mut values = roomy::<SixValues>(length).map_err(RefusedAt::of_all)?;
         // SAFETY: see above; so many ranges are read from a slice that has them, and the buffer has room for as many answers.
-        let Many { refusal, first, size, edit, done, place } =
-            unsafe { livevec_series_value_many(self.slot.get(), kind, ranges.as_ptr(), values.as_mut_ptr(), length) };
-        answered(refusal, first, size, edit).map_err(|refusal| RefusedAt { place, done, refusal })?;
+        unsafe { livevec_series_value_many(self.slot.get(), kind, ranges.as_ptr(), values.as_mut_ptr(), length) }.answered()?;
         // SAFETY: C has written an answer for each range, since it refused none, and the buffer has room for them.
         unsafe { values.set_len(length) };
         Ok(values)

@@ -5,7 +5,7 @@ use Rattle.livevec_c.proofs.by_kind.value_of_vector.Goals as goal
 
 pub returns-in-Ok-clause-answer : goal.returns-in-Ok-clause-answer
 returns-in-Ok-clause-answer c =
-    answers_value c.args.kind c.args.lo c.args.hi c.args.vector.now c.in-Ok.answer c.shown.result _ c.in-Ok.ensures.limits c.in-Ok.ensures.ok c.shown.ensures
+    answers_value c.args.kind c.args.lo c.args.hi c.args.vector.now c.in-Ok.answer c.shown.result _ c.in-Ok.ensures.ok c.shown.ensures
     (ap (λ values. record { refusal = 0; detail = 0; edit = c.in-Ok.answer.edit; cells = 0; summaries = 0; values = values }) c.shown_values.ensures)
 
 pub returns-in-Err-clause-answer : goal.returns-in-Err-clause-answer

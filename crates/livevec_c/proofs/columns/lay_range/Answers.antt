@@ -14,7 +14,8 @@ lay_run-sum-requires-clause-can g c κs within =
     let body = c.args.body.now in
     let xs = list_of c.args.history.now.journal in
     let can = can_fold c.args.history.now c.size-size.ensures.limits in
-    slice_can_go_on (g.B.Body.operations body) (g.B.Body.is_within body) (g.B.Body.laws c.args.body.now) xs can c.args.lo c.loop-at.at (length c.run_at-run.result.now) c.loop-at.invariant.low (omega (arith, c.requires, c.loop-at-test.true, c.run_at-run.ensures.few)) c.loop-at.sum c.loop-at.invariant.sum
+    let few = slice_can_go_on (g.B.Body.operations body) (g.B.Body.is_within body) (g.B.Body.laws c.args.body.now) xs can c.args.lo c.loop-at.at (length c.run_at-run.result.now) c.loop-at.invariant.low (omega (arith, c.requires, c.loop-at-test.true, c.run_at-run.ensures.few)) c.loop-at.sum c.loop-at.invariant.sum in
+    record { count = few.count; count_within = few.count_within; few = omega (arith, few.few) }
 
 pub loop-at-preserved : goal.loop-at-preserved
 loop-at-preserved g c =

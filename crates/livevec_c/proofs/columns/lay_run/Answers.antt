@@ -20,10 +20,10 @@ loop-k-preserved g c =
     let small : k < length xs = omega arith in
     let fits : IsElement x = search rules in
     let sum = c.loop-k.sum in
-    let next = c.fold_more-sum.result in
+    let next = c.extend_long-sum.result in
     let value = c.if-inclusive.cell in
     let column = c.loop-k.column in
-    let joined : next ≡ o.join sum (o.lift x) = c.fold_more-sum.ensures.value ∙ ap (λ y. o.join sum (o.lift y)) (to_z-of_z w64 x fits) in
+    let joined : next ≡ o.join sum (o.lift x) = c.extend_long-sum.ensures ∙ ap (λ y. o.join sum (o.lift y)) (to_z-of_z w64 x fits) in
     let chosen : value ≡ (if c.args.inclusive then next else sum) =
     elim c.if-inclusive.branch [
       | then-inclusive w ↦ w.cell-is ∙ sym (ap (λ b. if b then next else sum) w.if-inclusive.true)
@@ -31,6 +31,9 @@ loop-k-preserved g c =
     ] in
     let can = c.loop-k.invariant.can in
     let place : can.0 + k + 1 ≡ can.0 + (k + 1) = omega arith in
+    let within = g.B.Body.is_within body in
+    let laws = c.long_laws.ensures in
+    let more = laws.join_within sum (o.lift x) (can.0 + k) 1 can.1 (laws.lift_within x fits) (omega (arith, can.2)) in
     let at = c.args.from + k in
     let next_place : c.args.from + (k + 1) ≡ at + 1 = omega arith in
     let here : at < length column = omega (arith, c.loop-k.invariant.len, c.requires.room) in
@@ -47,12 +50,12 @@ loop-k-preserved g c =
           ∙ append_assoc old (map cell_of front) (c.cell.result ∷ [])
           ∙ ap (λ y. old ++ (map cell_of front ++ y ∷ [])) c.cell.ensures
           ∙ ap (λ ys. old ++ ys) (sym (map-append cell_of front (value ∷ [])) ∙ ap (map cell_of) gone.1);
-      can = (can.0, subst (g.B.Body.is_within body next) place (c.fold_more-sum.ensures.within (can.0 + k) can.1 (omega (arith, can.2))), can.2);
+      can = (can.0, subst (within next) place (subst (λ s. within s (can.0 + k + 1)) (sym joined) more), can.2);
       len = length-set column at c.cell.result ∙ c.loop-k.invariant.len;
     }
 
-pub fold_more-sum-requires-after_bounds : goal.fold_more-sum-requires-after_bounds
-fold_more-sum-requires-after_bounds g c κs within =
+pub extend_long-sum-requires : goal.extend_long-sum-requires
+extend_long-sum-requires g c =
     let can = c.loop-k.invariant.can in
     record { count = can.0 + c.loop-k.k; count_within = can.1; few = omega (arith, can.2) }
 

@@ -12,6 +12,6 @@ invariant-loop-k g l =
     record {
       sum : l.sum ≡ reached o l.fn.before front;
       cells : take (l.from + l.k) l.column ≡ take l.from l.initial.column ++ map g.B.Celled.cell_of (scan_from l.inclusive o l.fn.before front);
-      can : (n : ℕ) × g.B.Body.is_within body l.sum (n + l.k) × (n + length l.xs ≤ 2 ^ 20);
+      can : (n : ℕ) × g.B.Body.is_within body l.sum (n + l.k) × (n + length l.xs ≤ 2 ^ 62);
       len : length l.column ≡ length l.initial.column;
     }

@@ -8,4 +8,4 @@ pub returns-clause-value : goal.returns-clause-value
 returns-clause-value c =
     let state = c.args.vector.now in
     let size : c.size.result ≡ length (list_of state.history.journal) = c.size.ensures ∙ ap (λ s. length (list_of s.history.journal)) c.live.ensures in
-    record { is = answers_question state c.args.question.now c.min-start.result c.min-end.result c.in-Ok.answer c.shown.result c.in-Ok.ensures.limits c.in-Ok.ensures.ok c.shown.ensures (c.min-end.ensures ∙ ap (min c.args.question.now.hi) size) c.min-start.ensures }
+    record { is = answers_question state c.args.question.now c.min-start.result c.min-end.result c.in-Ok.answer c.shown.result c.in-Ok.ensures.ok c.shown.ensures (c.min-end.ensures ∙ ap (min c.args.question.now.hi) size) c.min-start.ensures }

@@ -1,0 +1,102 @@
+//! Many writes at a series at once.
+ghost use Rattle.std.specs.Prelude.{◌≡◌, ℤ, List, length};
+ghost use Rattle.lv_series.specs.Batches.{writes_at};
+ghost use Rattle.livevec_c.specs.SeriesAnswers.{unwritten_by};
+ghost use Rattle.livevec_c.specs.SeriesWritten.{WritesBehind, WritesLong, WritesSeries, place_refused};
+
+use crate::objects::Object;
+use crate::results::SHORT_BUFFER;
+use crate::series_results::{Refused, SeriesMany, not_held, not_refused, refusal_answer};
+use crate::slots::{Slot, put, take};
+use lv_series::Series;
+use std::alloc::Global;
+
+// What writes answer where they are refused.
+fn not_written(why: Refused, place: usize) -> SeriesMany
+    ensures { result ≡ unwritten_by why place }
+{
+    SeriesMany {
+        why,
+        edit: 0,
+        done: 0,
+        place,
+    }
+}
+
+// Which of writes under indices, one after another, is the first that would be refused; 0 where none would be.
+fn place_refused(series: &Series, indices: &[u64]) -> usize
+    ensures { (xs : List ℤ) → length indices.now ≡ length xs → result ≡ place_refused series.now (writes_at indices.now xs) }
+{
+    let left = u64::MAX - series.edits();
+    for place in 0..indices.len() {
+        if place as u64 == left {
+            return place;
+        }
+        if series.get(indices[place]).is_err() {
+            return place;
+        }
+    }
+    0
+}
+
+// That there are not as many values as indices.
+fn not_paired() -> Refused
+    ensures { result ≡ record { refusal = 103; first = 0; size = 0 } }
+{
+    Refused {
+        refusal: SHORT_BUFFER,
+        first: 0,
+        size: 0,
+    }
+}
+
+// Writes at a series.
+fn write_at_series(series: &mut Series, indices: &[u64], values: &[i64]) -> SeriesMany
+    ensures { WritesSeries indices.now values.now result series.old series.new }
+{
+    if indices.len() != values.len() {
+        return not_written(not_paired(), 0);
+    }
+    match series.write_all(indices, values) {
+        Ok(edit) => SeriesMany {
+            why: not_refused(),
+            edit,
+            done: indices.len(),
+            place: 0,
+        },
+        Err(refusal) => {
+            let place = place_refused(series, indices);
+            not_written(refusal_answer(refusal), place)
+        }
+    }
+}
+
+// Writes at an object.
+fn write_at_object(object: &mut Object, indices: &[u64], values: &[i64]) -> SeriesMany
+    ensures { WritesLong indices.now values.now result object.old object.new }
+{
+    match object {
+        Object::Series(series) => write_at_series(series, indices, values),
+        _ => not_written(not_held(), 0),
+    }
+}
+
+/// Overwrites the elements under some indices, each by the value at the same place: all of them, or none.
+#[unsafe(no_mangle)]
+pub extern "C" fn livevec_proved_series_write_all(
+    alloc: Global,
+    slot: &mut Slot,
+    indices: &[u64],
+    values: &[i64],
+) -> SeriesMany
+    ensures { WritesBehind indices.now values.now result slot.old.raw.inner slot.new.raw.inner }
+{
+    match take(alloc, slot) {
+        None => not_written(not_held(), 0),
+        Some(mut held) => {
+            let answer = write_at_object(&mut held, indices, values);
+            put(slot, held);
+            answer
+        }
+    }
+}
