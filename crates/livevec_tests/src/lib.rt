@@ -43,9 +43,15 @@ mod runs;
 #[cfg(test)]
 mod same;
 #[cfg(test)]
+mod samples;
+#[cfg(test)]
+mod saved;
+#[cfg(test)]
 mod scripts;
 #[cfg(test)]
 mod searches;
+#[cfg(test)]
+mod series_places;
 #[cfg(test)]
 mod standing;
 #[cfg(test)]

@@ -22,10 +22,9 @@ pub use Rattle.lv_hub.specs.Notes
 pub use Rattle.lv_hub.specs.Told as Hub
 pub use Rattle.lv_series.specs.Plain as PlainSeries
 pub use Rattle.lv_series.specs.Series
-pub use Rattle.lv_series.specs.Refresh as SeriesRefresh
-pub use Rattle.lv_series.specs.Served as SeriesServed
-pub use Rattle.lv_series.specs.Shard as SeriesShard
-pub use Rattle.lv_series.specs.Sharded as SeriesShards
+pub use Rattle.lv_series.specs.Batches as SeriesBatches
+pub use Rattle.lv_tree.specs.KindSummaries
+pub use Rattle.lv_tree.specs.declared.kind_summaries.KindSummary
 pub use Rattle.lv_transcript.specs.Transcript
 pub use Rattle.lv_transcript.specs.Fronts
 pub use Rattle.lv_transcript.specs.Scribing

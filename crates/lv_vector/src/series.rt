@@ -1,6 +1,10 @@
-//! A vector that goes on: its elements and edits are bounded by memory alone, and elements at its front may expire.
+//! A list that goes on: its elements and edits are bounded by memory only, and elements at its front may expire.
 
-pub use lv_series::{
-    Counted, LongAnswer, LongEdit, LongJob, LongOutcome, LongReceipt, LongRefusal, LongScan,
-    Series, every_answer_is_plain, refresh_changes_no_answer, refusals_change_nothing,
+pub use lv_saved::{
+    LoadRefusal, Loader, damage_shows, save, save_samples, saved_bytes, saved_samples_bytes,
 };
+pub use lv_series::{
+    LongAnswer, LongEdit, LongReceipt, LongRefusal, LongScan, Series, every_answer_is_plain,
+    refusals_change_nothing,
+};
+pub use lv_tree::KindSummary;
