@@ -96,26 +96,6 @@ fn show_questions() {
     }
 }
 
-// The range that a number picks.
-fn range(number: u64, size: usize) -> (usize, usize) {
-    let first = other(number);
-    let (a, b) = (pick(first, size + 1), pick(other(first), size + 1));
-    (a.min(b), a.max(b))
-}
-
-// The answer before.
-struct Last(Shown);
-
-impl Last {
-    // Takes an answer, and tells whether it is that before. So each counts.
-    fn is(&mut self, next: impl Into<Shown>) -> u64 {
-        let next = next.into();
-        let same = next == self.0;
-        self.0 = next;
-        u64::from(same)
-    }
-}
-
 // By a tree: ranges, a write and then all or a range by turns, writes alone.
 fn show_asked<S: Summary + Into<Shown>>(kind: &str, size: usize) {
     let mut tree = Tree::<S>::new(&elements(size));

@@ -1,208 +1,118 @@
-//! What `window/` does by a series, in plain Rust: the same turns at a `VecDeque`, whose ranges are folded anew; and the times of pushes to a
-//! `Vec` and to a segment tree, and of that tree's sums and writes.
+//! What `window/` does by a series, in plain Rust, on the same elements, ranges and indices: the part that its word names. Each line that it prints
+//! is a label, nanoseconds, and how often the work was done in them. With two numbers it takes so many turns at a `VecDeque`, whose ranges are
+//! folded anew.
+#![allow(dead_code)]
 use std::collections::VecDeque;
 use std::hint::black_box;
 use std::time::Instant;
 
-const PUSHES: u32 = 10_000_000;
-const SUMS: u32 = 300;
-const WRITES: u32 = 100_000;
-const MANY: u32 = 17_000_000;
-
-fn next(number: u64) -> u64 {
-    number.wrapping_mul(6_364_136_223_846_793_005).wrapping_add(1_442_695_040_888_963_407)
-}
-
-fn other(number: u64) -> u64 {
-    number.wrapping_mul(11_400_714_819_323_198_485)
-}
-
-fn element(number: u64) -> i64 {
-    ((number >> 8) as i64).wrapping_sub(1 << 55)
-}
-
-fn mixed(told: u64, more: u64) -> u64 {
-    told.wrapping_mul(31).wrapping_add(more)
-}
-
-#[derive(Default)]
-struct Window {
-    items: VecDeque<i64>,
-    first: u64,
-    edits: u64,
-}
-
-impl Window {
-    fn size(&self) -> u64 {
-        self.first + self.items.len() as u64
-    }
-
-    fn at(&self, index: u64) -> Option<usize> {
-        (self.first <= index && index < self.size()).then(|| (index - self.first) as usize)
-    }
-
-    fn edit(&mut self) -> u64 {
-        self.edits += 1;
-        self.edits
-    }
-
-    // what a turn is answered, as one number; a refusal by its own
-    fn turn(&mut self, number: u64, kept: u64) -> u64 {
-        let held = self.items.len() as u64;
-        if held > kept {
-            let dropped = held - kept / 8 * 7;
-            self.items.drain(..dropped as usize);
-            self.first += dropped;
-            return mixed(self.edit(), dropped);
-        }
-        let place = |number: u64| self.first + (number >> 8) % held.max(1);
-        let here = place(number);
-        let there = if (number >> 20) % 1024 == 0 { place(other(number)) } else { here + other(number) % 50 };
-        match (number >> 33) % 64 {
-            0..=51 => {
-                self.items.push_back(element(number));
-                mixed(self.edit(), self.size() - 1)
-            }
-            52..=53 => match self.items.pop_back() {
-                Some(value) => mixed(self.edit(), value as u64),
-                None => 2,
-            },
-            54..=57 => match self.at(here) {
-                Some(k) => {
-                    let before = std::mem::replace(&mut self.items[k], element(number));
-                    mixed(self.edit(), before as u64)
-                }
-                None => 3,
-            },
-            58..=59 => match (self.at(here), self.at(there)) {
-                (Some(a), Some(b)) => {
-                    self.items.swap(a, b);
-                    mixed(mixed(self.edit(), self.items[a] as u64), self.items[b] as u64)
-                }
-                _ => 3,
-            },
-            60 => {
-                let dropped = number % 5;
-                if dropped > held {
-                    return 3;
-                }
-                self.items.truncate((held - dropped) as usize);
-                mixed(self.edit(), dropped)
-            }
-            _ => {
-                if here + 60 > self.size() {
-                    return 3;
-                }
-                let lo = (here - self.first) as usize;
-                mixed(self.edits, self.items.range(lo..lo + 60).fold(0u64, |sum, x| sum.wrapping_add(*x as u64)))
-            }
-        }
-    }
-}
-
-fn turns(turns: u64, kept: u64) {
-    let (mut window, mut told, mut number) = (Window::default(), 0, 1);
-    for _ in 0..turns {
-        number = next(number);
-        told = mixed(told, window.turn(number, kept));
-    }
-    println!("{turns} turns, {kept} kept: edit {}, first {}, size {}, told {told}", window.edits, window.first, window.size());
-}
-
-// A segment tree of sums that grows: its leaves are twice as many whenever they are full.
-struct Tree {
-    leaves: usize,
-    len: usize,
-    sums: Vec<u64>,
-}
-
-impl Tree {
-    fn new() -> Tree {
-        Tree { leaves: 1, len: 0, sums: vec![0; 2] }
-    }
-
-    fn push(&mut self, x: i64) {
-        if self.len == self.leaves {
-            let mut sums = vec![0; 4 * self.leaves];
-            sums[2 * self.leaves..3 * self.leaves].copy_from_slice(&self.sums[self.leaves..]);
-            self.leaves *= 2;
-            for n in (1..self.leaves).rev() {
-                sums[n] = u64::wrapping_add(sums[2 * n], sums[2 * n + 1]);
-            }
-            self.sums = sums;
-        }
-        self.len += 1;
-        self.write(self.len - 1, x);
-    }
-
-    fn write(&mut self, i: usize, x: i64) {
-        let mut n = self.leaves + i;
-        self.sums[n] = x as u64;
-        while n > 1 {
-            n /= 2;
-            self.sums[n] = self.sums[2 * n].wrapping_add(self.sums[2 * n + 1]);
-        }
-    }
-
-    fn sum(&self, lo: usize, hi: usize) -> u64 {
-        let (mut lo, mut hi, mut sum) = (lo + self.leaves, hi + self.leaves, 0u64);
-        while lo < hi {
-            if lo % 2 == 1 {
-                sum = sum.wrapping_add(self.sums[lo]);
-                lo += 1;
-            }
-            if hi % 2 == 1 {
-                hi -= 1;
-                sum = sum.wrapping_add(self.sums[hi]);
-            }
-            (lo, hi) = (lo / 2, hi / 2);
-        }
-        sum
-    }
-}
-
-fn show(label: &str, begun: Instant, turns: u32) {
-    println!("{label}: {} {turns}", begun.elapsed().as_nanos());
-}
-
-fn times() {
-    let (begun, mut number, mut plain) = (Instant::now(), 1, Vec::new());
-    for _ in 0..PUSHES {
-        number = next(number);
-        plain.push(element(number));
-    }
-    show("pushes vec", begun, PUSHES);
-    drop(black_box(plain));
-    let (begun, mut number, mut tree) = (Instant::now(), 1, Tree::new());
-    for _ in 0..PUSHES {
-        number = next(number);
-        tree.push(element(number));
-    }
-    show("pushes tree", begun, PUSHES);
-    let (begun, mut number) = (Instant::now(), 1);
-    for _ in 0..SUMS {
-        number = next(number);
-        let (a, b) = ((number >> 8) % PUSHES as u64, (other(number) >> 8) % PUSHES as u64);
-        number ^= tree.sum(a.min(b) as usize, a.max(b) as usize);
-    }
-    show("sums of random ranges tree", begun, SUMS);
-    black_box(number);
-    let (begun, mut number) = (Instant::now(), 1);
-    for _ in 0..WRITES {
-        number = next(number);
-        tree.write(((number >> 8) % PUSHES as u64) as usize, element(number));
-        number ^= tree.sum(0, PUSHES as usize);
-    }
-    show("a write and a sum of all tree", begun, WRITES);
-    black_box(number);
-    tree.write(PUSHES as usize - 1, MANY as i64 - 1);
-    println!("answers: {}", tree.sum(0, PUSHES as usize));
-}
+// Parts of one module: compiled as modules of their own, a fold would take other times.
+include!("peers/turns.rs");
+include!("peers/kinds.rs");
+include!("peers/tree.rs");
+include!("window/queues.rs");
+include!("window/turns.rs");
 
 fn main() {
-    let words: Vec<u64> = std::env::args().skip(1).filter_map(|word| word.parse().ok()).collect();
+    let words: Vec<String> = std::env::args().skip(1).collect();
+    let words: Vec<&str> = words.iter().map(String::as_str).collect();
     match words[..] {
-        [many, kept] => turns(many, kept),
-        _ => times(),
+        ["pushes"] => show_pushes(),
+        ["questions"] => show_questions(),
+        ["windows"] => show_windows(),
+        ["elements"] => println!("{} elements", black_box(elements(COUNT)).len()),
+        [turns, kept] => show_all_turns(turns.parse().unwrap(), kept.parse().unwrap()),
+        _ => panic!("pushes, questions, windows, elements, or how many turns and how many elements are kept"),
     }
+}
+
+const COUNT: usize = 10_000_000;
+
+fn show_once(label: &str, began: Instant, turns: usize) {
+    println!("{label}: {} {turns}", began.elapsed().as_nanos());
+}
+
+// Pushes to a `Vec`; and the same with a sum beside it, which is told after each million.
+fn show_pushes() {
+    let (began, mut number) = (Instant::now(), black_box(1));
+    let mut items = Vec::new();
+    for _ in 0..COUNT {
+        number = next(number);
+        items.push(element(number));
+    }
+    black_box(&items);
+    show_once("pushes", began, COUNT);
+    println!("answers: pushes {number}");
+    drop(items);
+    let (began, mut number) = (Instant::now(), black_box(1));
+    let (mut items, mut sum) = (Vec::new(), 0u64);
+    for _ in 0..10 {
+        for _ in 0..COUNT / 10 {
+            number = next(number);
+            items.push(element(number));
+            sum = sum.wrapping_add(element(number) as u64);
+        }
+        number ^= sum;
+    }
+    black_box(&items);
+    show_once("pushes and sums", began, COUNT);
+    println!("answers: pushes and sums {number}");
+}
+
+// Random ranges by one kind, at rest and after a random write.
+fn show_questions() {
+    for size in [1_000, 65_536, 1_000_000] {
+        show_asked::<Sum>("sum", size);
+        show_asked::<Least>("least", size);
+        show_asked::<Greatest>("greatest", size);
+        show_asked::<Best>("best", size);
+        show_asked::<AffineMap>("affine", size);
+        show_asked::<Automaton>("automaton", size);
+    }
+}
+
+fn show_asked<S: Summary + Into<Shown>>(kind: &str, size: usize) {
+    let mut tree = Tree::<S>::new(&elements(size));
+    let mut last = Last(Shown::Sum(0));
+    show(&format!("range {kind} {size}"), 10_000, 4, |number| {
+        let (lo, hi) = range(number, size);
+        last.is(tree.reduce(lo, hi))
+    });
+    show(&format!("write and range {kind} {size}"), 10_000, 4, |number| {
+        tree.write(pick(number, size), element(number));
+        let (lo, hi) = range(number, size);
+        last.is(tree.reduce(lo, hi))
+    });
+    println!("answers: {kind} {size} {:?}", last.0);
+}
+
+// A window that slides, by two stacks; and the last 600, by two trees in a ring, and by a sum and a queue of candidates.
+fn show_windows() {
+    show_window::<Sum>("sum");
+    show_window::<Greatest>("greatest");
+    let elements = elements(LAST);
+    let (mut sums, mut greatest) = (Ring::<Sum>::new(&elements), Ring::<Greatest>::new(&elements));
+    show_last("last trees", |x| (sums.push(x), greatest.push(x)));
+    let mut candidates = Candidates::new(&elements);
+    show_last("last deques", |x| candidates.push(x));
+}
+
+fn show_window<S: Summary + Into<Shown>>(kind: &str) {
+    let mut stacks = Stacks::<S>::new(&elements(KEPT));
+    let mut last = Last(Shown::Sum(0));
+    show(&format!("window {kind}"), TURNS, 1, |number| {
+        stacks.push(element(number));
+        stacks.pop();
+        last.is(stacks.value())
+    });
+    println!("answers: window {kind} {:?}", last.0);
+}
+
+fn show_last(label: &str, mut push: impl FnMut(i64) -> (Sum, Greatest)) {
+    let (mut sum, mut greatest) = (Last(Shown::Sum(0)), Last(Shown::Sum(0)));
+    show(label, TURNS, 1, |number| {
+        let (a, b) = push(element(number));
+        sum.is(a) + greatest.is(b)
+    });
+    println!("answers: last {:?} {:?}", sum.0, greatest.0);
 }
