@@ -18,6 +18,8 @@ static livevec_reduced answered;
 static livevec_noted noted;
 static livevec_note notes[2];
 static livevec_series_pushed series_pushed;
+static livevec_series_many series_written;
+static livevec_series_reduced series_told;
 
 static uint32_t made(livevec_edited answer)
 {
@@ -67,12 +69,20 @@ static uint32_t series_push(void) { return series_made(livevec_series_push(&seri
 static uint32_t series_pop(void) { return series_made(livevec_series_pop(&series)); }
 static uint32_t series_write(void) { return series_made(livevec_series_write(&series, 5, 9)); }
 static uint32_t series_swap(void) { return series_made(livevec_series_swap(&series, 0, 7)); }
-static uint32_t series_exchange(void) { return series_made(livevec_series_swap(&series, 0, SHARD)); }
 static uint32_t series_cut(void) { return series_made(livevec_series_truncate(&series, 3)); }
-static uint32_t series_expire(void) { return series_made(livevec_series_expire(&series, SHARD)); }
+static uint32_t series_expire(void) { return series_made(livevec_series_expire(&series, MANY - 1)); }
 
 static uint32_t series_push_many(void) { return (series_pushed = livevec_series_push_many(&series, ones, 100)).refusal; }
-static uint32_t series_push_shard(void) { return (series_pushed = livevec_series_push_many(&series, ones, SHARD + 1)).refusal; }
+static uint32_t series_push_all(void) { return (series_pushed = livevec_series_push_many(&series, ones, MANY)).refusal; }
+static uint32_t series_prepare(void) { return livevec_series_prepare(&series, LIVEVEC_BEST); }
+static uint32_t series_value(void) { return (series_told = livevec_series_value(&series, LIVEVEC_SUM, 0, 100)).refusal; }
+static uint32_t series_ask(void) { return (series_told = livevec_series_ask(&series, 0, 100)).refusal; }
+
+static uint32_t series_write_many(void)
+{
+    static const uint64_t indices[100] = {7, 3, 7};
+    return (series_written = livevec_series_write_many(&series, indices, ones, 100)).refusal;
+}
 
 static uint32_t new_by_table(void)
 {
@@ -96,8 +106,10 @@ static bool is_written_many(void) { return written_many.done == 100 && written_m
 static bool is_series(void) { return seen().has_series && livevec_series_edits(&series).value == 0; }
 static bool is_series_first(void) { return series_edited.edit == 1 && series_edited.place == 0 && livevec_series_size(&series).value == 1; }
 static bool is_series_ninth(void) { return series_edited.edit == 9 && livevec_series_edits(&series).value == 9; }
-static bool is_series_exchanged(void) { return series_edited.edit == SHARD + 2 && livevec_series_edits(&series).value == SHARD + 2; }
-static bool is_series_expired(void) { return is_series_exchanged() && livevec_series_first(&series).value == SHARD; }
+static bool is_series_expired(void) { return series_edited.edit == MANY + 1 && livevec_series_first(&series).value == MANY - 1; }
+static bool is_series_written_many(void) { return series_written.done == 100 && series_written.edit == 108 && seen().series_sum == 8; }
+static bool is_series_told(void) { return series_told.values.sum == 100 && series_told.edit == 100; }
+static bool is_series_prepared(void) { return livevec_series_value(&series, LIVEVEC_BEST, 0, 100).values.best_low == 100; }
 
 /* So many elements 1 were pushed, and the series has so many. */
 static bool has_pushed(uint64_t many, uint64_t all)
@@ -107,8 +119,7 @@ static bool has_pushed(uint64_t many, uint64_t all)
 }
 
 static bool is_series_pushed(void) { return has_pushed(100, 100); }
-static bool is_series_pushed_behind(void) { return has_pushed(100, SHARD + 101); }
-static bool is_series_sharded(void) { return has_pushed(SHARD + 1, SHARD + 9); }
+static bool is_series_pushed_behind(void) { return has_pushed(MANY, MANY + 8); }
 static bool is_queries(void) { return livevec_watch(&queries, names[0], 3, LIVEVEC_SUM, 0, 8) == LIVEVEC_OK; }
 static bool is_watched(void) { return livevec_answer(&queries, &vector, names[1], 3).refusal == LIVEVEC_NO_HANDLE; }
 static bool is_unwatched(void) { return seen().query_refusal[0] == LIVEVEC_NO_SUCH_NAME; }
@@ -146,14 +157,17 @@ static const struct {
     {"livevec_series_new", nothing, new_series, is_series},
     {"livevec_series_push, the first", with_series, series_push, is_series_first},
     {"livevec_series_push_many from nothing", with_series, series_push_many, is_series_pushed},
-    {"livevec_series_push_many", sharded, series_push_many, is_series_pushed_behind},
-    {"livevec_series_push_many over a shard's end", eight_in_series, series_push_shard, is_series_sharded},
+    {"livevec_series_push_many", eight_in_series, series_push_all, is_series_pushed_behind},
+    {"livevec_series_push_many over trees", eight_with_trees, series_push_all, is_series_pushed_behind},
     {"livevec_series_pop", eight_in_series, series_pop, is_series_ninth},
     {"livevec_series_write", eight_in_series, series_write, is_series_ninth},
     {"livevec_series_swap", eight_in_series, series_swap, is_series_ninth},
-    {"livevec_series_swap of two shards", sharded, series_exchange, is_series_exchanged},
     {"livevec_series_truncate", eight_in_series, series_cut, is_series_ninth},
-    {"livevec_series_expire", sharded, series_expire, is_series_expired},
+    {"livevec_series_expire", many_with_trees, series_expire, is_series_expired},
+    {"livevec_series_write_many", eight_with_trees, series_write_many, is_series_written_many},
+    {"livevec_series_prepare", treeless, series_prepare, is_series_prepared},
+    {"livevec_series_value, the first", treeless, series_value, is_series_told},
+    {"livevec_series_ask, the first", treeless, series_ask, is_series_told},
     {"livevec_queries_new", nothing, new_queries, is_queries},
     {"livevec_watch", with_queries, watch, is_watched},
     {"livevec_unwatch", watched, unwatch, is_unwatched},

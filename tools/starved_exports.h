@@ -17,10 +17,10 @@ static livevec_seat seat;
 static livevec_series series;
 static livevec_queries queries;
 
-/* Elements 1, one more than a shard of a series takes; how many of them a subtree has; and the names that a set of queries is asked for. */
-enum { SHARD = 32760, SUBTREE = 4096, NAMES = 2 };
+/* Elements 1, how many there are; how many of them a subtree has; and the names that a set of queries is asked for. */
+enum { MANY = 32761, SUBTREE = 4096, NAMES = 2 };
 static const char *const names[NAMES] = {"all", "new"};
-static int64_t ones[SHARD + 1];
+static int64_t ones[MANY];
 
 /* What a vector, a series and a set of queries show, all zeros where there is none, and whether the other slots are full. */
 typedef struct {
@@ -136,11 +136,25 @@ static void eight_in_series(void)
         livevec_series_push(&series, 1);
 }
 
-/* A series of a whole shard and one element more, all 1. */
-static void sharded(void)
+/* A series of 100 elements 1, of which no kind has a tree. */
+static void treeless(void)
 {
     with_series();
-    livevec_series_push_many(&series, ones, SHARD + 1);
+    livevec_series_push_many(&series, ones, 100);
+}
+
+/* One of eight elements 1, and one of as many as there are, of which each kind has a tree. */
+static void eight_with_trees(void)
+{
+    eight_in_series();
+    livevec_series_ask(&series, 0, 8);
+}
+
+static void many_with_trees(void)
+{
+    with_series();
+    livevec_series_push_many(&series, ones, MANY);
+    livevec_series_ask(&series, 0, MANY);
 }
 
 /* A vector of eight elements, and a set of one query, of their sum. */

@@ -9,7 +9,7 @@ use crate::marks::Marks;
 use crate::one_word::OneWord;
 use crate::upper::Upper;
 use lv_geometry::Refusal;
-use lv_summary::LateRows;
+use lv_summary::LateNumbers;
 use std::alloc::Global;
 use std::marker::Model;
 
@@ -17,20 +17,18 @@ use std::marker::Model;
 /// those nodes that may want a job.
 #[derive(Drop)]
 pub struct Level {
-    claimed: LateRows<u32>,
+    claimed: LateNumbers,
     // Three levels of words.
     hints: Marks<Marks<OneWord>>,
 }
 
 impl Model for Level {
-    ghost use Rattle.std.specs.Prelude.{◌≡◌, min};
+    ghost use Rattle.std.specs.Prelude.{min};
     ghost use Rattle.lv_refresh.specs.Inner.{ClaimLevelState};
 
     ghost Value = { ClaimLevelState };
 
     ghost view = { λ a. record { rows = record { claimed = a.claimed.items; hints = a.hints.words }; capacity = min a.claimed.capacity a.hints.capacity } };
-
-    ghost invariant = { λ a. a.claimed.blank ≡ 0 };
 }
 
 impl Level {
@@ -39,7 +37,7 @@ impl Level {
         ensures { result.rows ≡ no_claims }
     {
         Level {
-            claimed: LateRows::new(alloc, 0),
+            claimed: LateNumbers::new(alloc),
             hints: Marks::new(alloc),
         }
     }
