@@ -61,8 +61,9 @@ impl Series {
         }
     }
 
-    // The same of a range that can be searched.
-    fn first_inside(&self, bound: Bound, lo: u64, hi: u64) -> Option<u64>
+    /// The same of a range that `prepare_for` the kind let pass. Takes no memory, changes nothing.
+    #[inline(always)]
+    pub fn first_inside(&self, bound: Bound, lo: u64, hi: u64) -> Option<u64>
         requires { IsSearchable self.now (kind_within bound) lo hi }
         ensures { IsFirstIndexIn bound self.now.held lo hi result }
     {
@@ -82,8 +83,9 @@ impl Series {
         }
     }
 
-    // The same of a range that can be searched.
-    fn last_inside(&self, bound: Bound, lo: u64, hi: u64) -> Option<u64>
+    /// The same of a range that `prepare_for` the kind let pass. Takes no memory, changes nothing.
+    #[inline(always)]
+    pub fn last_inside(&self, bound: Bound, lo: u64, hi: u64) -> Option<u64>
         requires { IsSearchable self.now (kind_within bound) lo hi }
         ensures { IsLastIndexIn bound self.now.held lo hi result }
     {
@@ -101,8 +103,9 @@ impl Series {
         }
     }
 
-    // The same of a range that can be searched.
-    fn end_inside(&self, lo: u64, hi: u64, sum: i128) -> Option<u64>
+    /// The same of a range that `prepare_for` the kind let pass. Takes no memory, changes nothing.
+    #[inline(always)]
+    pub fn end_inside(&self, lo: u64, hi: u64, sum: i128) -> Option<u64>
         requires { IsSearchable self.now kind.Best lo hi }
         ensures { IsEndReachedIn sum self.now.held lo hi result }
     {
@@ -123,8 +126,9 @@ impl Series {
         }
     }
 
-    // The same of a range that can be searched.
-    fn start_inside(&self, lo: u64, hi: u64, sum: i128) -> Option<u64>
+    /// The same of a range that `prepare_for` the kind let pass. Takes no memory, changes nothing.
+    #[inline(always)]
+    pub fn start_inside(&self, lo: u64, hi: u64, sum: i128) -> Option<u64>
         requires { IsSearchable self.now kind.Best lo hi }
         ensures { IsStartReachedIn sum self.now.held lo hi result }
     {
@@ -145,8 +149,9 @@ impl Series {
         }
     }
 
-    // The same of a range that can be searched.
-    fn least_inside(&self, lo: u64, hi: u64) -> Option<LongPlaced>
+    /// The same of a range that `prepare_for` the kind let pass. Takes no memory, changes nothing.
+    #[inline(always)]
+    pub fn least_inside(&self, lo: u64, hi: u64) -> Option<LongPlaced>
         requires { IsSearchable self.now kind.Least lo hi }
         ensures { IsPlaceOfLeastIn self.now.held lo hi result }
     {
@@ -170,8 +175,9 @@ impl Series {
         }
     }
 
-    // The same of a range that can be searched.
-    fn greatest_inside(&self, lo: u64, hi: u64) -> Option<LongPlaced>
+    /// The same of a range that `prepare_for` the kind let pass. Takes no memory, changes nothing.
+    #[inline(always)]
+    pub fn greatest_inside(&self, lo: u64, hi: u64) -> Option<LongPlaced>
         requires { IsSearchable self.now kind.Greatest lo hi }
         ensures { IsPlaceOfGreatestIn self.now.held lo hi result }
     {
@@ -196,8 +202,9 @@ impl Series {
         }
     }
 
-    // The same of a range that can be searched.
-    fn best_inside(&self, lo: u64, hi: u64) -> Option<LongRun>
+    /// The same of a range that `prepare_for` the kind let pass. Takes no memory, changes nothing.
+    #[inline(always)]
+    pub fn best_inside(&self, lo: u64, hi: u64) -> Option<LongRun>
         requires { IsSearchable self.now kind.Best lo hi }
         ensures { IsPlaceOfBestIn self.now.held lo hi result }
     {

@@ -1,7 +1,8 @@
 //! The edits of samples. Each returns its number, and is refused with nothing changed.
 ghost use Rattle.std.specs.Prelude.{◌≡◌, ◌+◌, IfErr, OnErr, OnOk};
 ghost use Rattle.lv_series.specs.Samples.{AnswersSample, count_before, sample_refused};
-ghost use Rattle.lv_series.specs.Series.{with_kind};
+ghost use Rattle.lv_series.specs.Places.{IsSearchable};
+ghost use Rattle.lv_series.specs.Series.{RefusesAsked, with_kind};
 ghost use Rattle.lv_series.specs.declared.sample_edits.SampleEdit.TheVariants as asked;
 
 use crate::edits::LongEdit;
@@ -131,5 +132,16 @@ impl Samples {
         ensures err { IfErr result (λ refusal. refusal ≡ LongRefusal.NoMemory) }
     {
         self.series.prepare(kind)
+    }
+
+    /// Makes the tree of a kind for questions about the values from index `lo` up to `hi`, where there is none: that range of `series()` can
+    /// be searched by the kind then. Refused with `BadRange`, then `OutOfRange`, then `NoMemory`: nothing has changed then.
+    pub fn prepare_for(&mut self, kind: Kind, lo: u64, hi: u64) -> Result<(), LongRefusal>
+        ensures searchable { OnOk result (IsSearchable self.new.series kind lo hi) }
+        ensures ok { OnOk result (self.new ≡ record self.old { series = record self.old.series { kinds = with_kind kind self.old.series.kinds } }) }
+        ensures err { IfErr result (λ refusal. RefusesAsked self.old.series kind lo hi refusal self.new.series) }
+        ensures same { OnErr result (self.new ≡ self.old) }
+    {
+        self.series.prepare_for(kind, lo, hi)
     }
 }

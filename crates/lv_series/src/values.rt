@@ -71,9 +71,10 @@ impl Series {
         }
     }
 
-    // Makes the tree of a kind for a question about a range, where there is none. Refused as `ask` is.
+    /// Makes the tree of a kind for questions about the elements from index `lo` up to `hi`, where there is none: the range can be searched
+    /// by that kind then. Refused as `ask` is.
     #[inline(always)]
-    pub(crate) fn prepare_for(&mut self, kind: Kind, lo: u64, hi: u64) -> Result<(), LongRefusal>
+    pub fn prepare_for(&mut self, kind: Kind, lo: u64, hi: u64) -> Result<(), LongRefusal>
         ensures searchable { OnOk result (IsSearchable self.new kind lo hi) }
         ensures ok { OnOk result (self.new ≡ record self.old { kinds = with_kind kind self.old.kinds }) }
         ensures err { IfErr result (λ refusal. RefusesAsked self.old kind lo hi refusal self.new) }
