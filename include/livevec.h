@@ -63,6 +63,7 @@ LIVEVEC_MUST_USE const char *livevec_refusal_text(uint32_t refusal);
 #include "livevec_boards.h"
 #include "livevec_series.h"
 #include "livevec_series_kinds.h"
+#include "livevec_samples.h"
 #include "livevec_transcripts.h"
 
 #ifdef __cplusplus

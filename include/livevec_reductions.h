@@ -38,6 +38,17 @@ LIVEVEC_MUST_USE livevec_found livevec_where_best(livevec_vector *slot, uint32_t
  * Elements may be negative, and no sum wraps. It is found, kept by the kind of best runs and refused as by livevec_where_least. */
 LIVEVEC_MUST_USE livevec_found livevec_where_reaches(livevec_vector *slot, uint32_t lo, uint32_t hi, int64_t sum);
 
+/* The greatest start, from hi down to lo, from which on the elements up to hi add up to `sum` or more; hi itself, where `sum` is 0 or
+ * less. It is found, kept and refused as by livevec_where_reaches. */
+LIVEVEC_MUST_USE livevec_found livevec_where_reaches_back(livevec_vector *slot, uint32_t lo, uint32_t hi, int64_t sum);
+
+/* Where the first or the last element of a range stands that is at least, or at most, `bound`: from its index up to the next one.
+ * `value` isn't told. They are found, kept and refused as by livevec_where_greatest (at least) and livevec_where_least (at most). */
+LIVEVEC_MUST_USE livevec_found livevec_where_first_at_least(livevec_vector *slot, uint32_t lo, uint32_t hi, int64_t bound);
+LIVEVEC_MUST_USE livevec_found livevec_where_first_at_most(livevec_vector *slot, uint32_t lo, uint32_t hi, int64_t bound);
+LIVEVEC_MUST_USE livevec_found livevec_where_last_at_least(livevec_vector *slot, uint32_t lo, uint32_t hi, int64_t bound);
+LIVEVEC_MUST_USE livevec_found livevec_where_last_at_most(livevec_vector *slot, uint32_t lo, uint32_t hi, int64_t bound);
+
 /* The running values of a range by all six kinds: buffer[i] has those of the elements from lo up to lo + i, that one included, or
  * excluded. Writes hi - lo values; `length` is how many the buffer takes, and what it has behind them stays. Where it was refused the
  * buffer is as it was. A call goes over the elements once and keeps nothing; it takes no memory and changes no answer.

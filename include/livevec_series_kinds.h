@@ -25,6 +25,45 @@ LIVEVEC_MUST_USE livevec_series_reduced livevec_series_value(livevec_series *slo
 LIVEVEC_MUST_USE livevec_series_many livevec_series_value_many(livevec_series *slot, uint32_t kind, const livevec_series_range *ranges,
                                                                livevec_values *answers, size_t length);
 
+/* Where something stands in a range of a series: from `lo` up to `hi`. Where it was refused, all but the first three is 0. */
+typedef struct livevec_series_found {
+    uint32_t refusal;
+    uint64_t first; /* of OUT_OF_RANGE which indices are kept, else 0 */
+    uint64_t size;
+    uint64_t edit;     /* after which edit it stands there */
+    uint64_t lo;       /* 0 both where nothing was found */
+    uint64_t hi;
+    int64_t value;     /* of the least and the greatest, else 0 */
+    uint64_t sum_low;  /* of the best run: its sum is sum_high * 2^64 + sum_low, else 0 */
+    int64_t sum_high;
+    bool found;
+} livevec_series_found;
+
+/* Where the first of the least elements of a range stands, and the first of the greatest: from its index up to the next one. There is
+ * none of an empty range. O(log n) joins. Each asks the tree of its kind, here of the least or of the greatest, and makes it first, where
+ * there is none, as livevec_series_prepare does. Changes no answer.
+ * Refusals: NULL, NO_HANDLE, BAD_RANGE, OUT_OF_RANGE, NO_MEMORY: nothing has changed then. */
+LIVEVEC_MUST_USE livevec_series_found livevec_series_where_least(livevec_series *slot, uint64_t lo, uint64_t hi);
+LIVEVEC_MUST_USE livevec_series_found livevec_series_where_greatest(livevec_series *slot, uint64_t lo, uint64_t hi);
+
+/* Where the best run of a range stands: one or more neighbours that add up to the most. Of several it is the one that ends first, and
+ * of those the shortest. It asks the kind of best runs, and is refused as livevec_series_where_least is. */
+LIVEVEC_MUST_USE livevec_series_found livevec_series_where_best(livevec_series *slot, uint64_t lo, uint64_t hi);
+
+/* The least end, from lo to hi, up to which the elements from lo on add up to `sum` or more (lo itself, where `sum` is 0 or less); and
+ * the greatest start from which on those up to hi do (hi itself, then). Elements may be negative, and no sum wraps. They ask the kind of
+ * best runs, and are refused as livevec_series_where_least is. */
+LIVEVEC_MUST_USE livevec_series_found livevec_series_where_reaches(livevec_series *slot, uint64_t lo, uint64_t hi, int64_t sum);
+LIVEVEC_MUST_USE livevec_series_found livevec_series_where_reaches_back(livevec_series *slot, uint64_t lo, uint64_t hi, int64_t sum);
+
+/* Where the first or the last element of a range stands that is at least, or at most, `bound`: from its index up to the next one.
+ * `value` isn't told. They ask the kind of the greatest (at least) or of the least (at most), and are refused as
+ * livevec_series_where_least is. */
+LIVEVEC_MUST_USE livevec_series_found livevec_series_where_first_at_least(livevec_series *slot, uint64_t lo, uint64_t hi, int64_t bound);
+LIVEVEC_MUST_USE livevec_series_found livevec_series_where_first_at_most(livevec_series *slot, uint64_t lo, uint64_t hi, int64_t bound);
+LIVEVEC_MUST_USE livevec_series_found livevec_series_where_last_at_least(livevec_series *slot, uint64_t lo, uint64_t hi, int64_t bound);
+LIVEVEC_MUST_USE livevec_series_found livevec_series_where_last_at_most(livevec_series *slot, uint64_t lo, uint64_t hi, int64_t bound);
+
 /* The running values of a range by one kind, from the index `at` on, as many as a column of `length` places takes: column[i] has that of
  * the elements from `lo` up to `at` + i, that one included, or excluded. So a scan goes in pieces, as livevec_series_scan_inclusive says,
  * and each is answered and refused as by that. What the column has behind the cells stays. Where no element stands before, the least,

@@ -88,6 +88,34 @@ static inline void leave_it(unsigned char **busy)
 /* `livevec_NAME` frees what a slot of its type holds, and nothing else. */
 #define FREED(name, type) TOLD(name, (type *slot), slot, (slot))
 
+/* What a search looks for, by the numbers of the proved exports. */
+enum {
+    WANTED_LEAST = 0,
+    WANTED_GREATEST = 1,
+    WANTED_BEST = 2,
+    WANTED_REACHES = 3,
+    WANTED_REACHES_BACK = 4,
+    WANTED_FIRST_AT_LEAST = 5,
+    WANTED_FIRST_AT_MOST = 6,
+    WANTED_LAST_AT_LEAST = 7,
+    WANTED_LAST_AT_MOST = 8
+};
+
+/* A search of one of these names, which compares with nothing, or with a number of the caller's. */
+#define SEARCHES(answer, name, proved, parameters, wanted, x) \
+    answer name parameters                                    \
+    {                                                         \
+        if (!slot)                                            \
+            return AS_STRUCT(answer, LIVEVEC_NULL);           \
+        if (!enter(&slot->busy_))                             \
+            return AS_STRUCT(answer, LIVEVEC_BUSY);           \
+        LEAVES(left, slot);                                   \
+        return proved(slot, wanted, x, lo, hi);               \
+    }
+#define FOUND_IN(answer, name, proved, type, index, wanted) SEARCHES(answer, name, proved, (type *slot, index lo, index hi), wanted, 0)
+#define FOUND_IN_BY(answer, name, proved, type, index, wanted) \
+    SEARCHES(answer, name, proved, (type *slot, index lo, index hi, int64_t x), wanted, x)
+
 /* All counts of a series at once. */
 typedef struct series_counts {
     uint32_t refusal;

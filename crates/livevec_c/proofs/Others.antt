@@ -4,7 +4,7 @@ use Rattle.std.specs.Prelude.{Option, Some}
 use Rattle.livevec_c.specs.declared.kind_boards.KindBoard.{KindBoard}
 use Rattle.livevec_c.specs.declared.kind_seats.KindSeat.{KindSeat}
 use Rattle.livevec_c.specs.declared.objects.Object.{Object}
-use Rattle.livevec_c.specs.declared.objects.Object.TheVariants.{Vector, Job, Outcome, Batch, BatchOutcome, Subtree, SubtreeOutcome, Board, Seat, Closed, Series, Queries}
+use Rattle.livevec_c.specs.declared.objects.Object.TheVariants.{Vector, Job, Outcome, Batch, BatchOutcome, Subtree, SubtreeOutcome, Board, Seat, Closed, Series, Samples, Loader, Queries}
 use Rattle.livevec_c.specs.Behind.{no_count}
 use Rattle.livevec_c.specs.Lives.{ClosesObject, TakesBackObject}
 
@@ -20,6 +20,8 @@ other_closes (Board board) other = elim (other board refl) [ ]
 other_closes (Seat seat) other = (refl, refl)
 other_closes (Closed ended) other = (refl, refl)
 other_closes (Series series) other = (refl, refl)
+other_closes (Samples samples) other = (refl, refl)
+other_closes (Loader bytes) other = (refl, refl)
 other_closes (Queries set) other = (refl, refl)
 
 -- what is no seat isn't taken back
@@ -35,4 +37,6 @@ other_stays board (Board closed) slot other is = (refl, refl, is)
 other_stays board (Seat seat) slot other is = elim (other seat refl) [ ]
 other_stays board (Closed ended) slot other is = (refl, refl, is)
 other_stays board (Series series) slot other is = (refl, refl, is)
+other_stays board (Samples samples) slot other is = (refl, refl, is)
+other_stays board (Loader bytes) slot other is = (refl, refl, is)
 other_stays board (Queries set) slot other is = (refl, refl, is)

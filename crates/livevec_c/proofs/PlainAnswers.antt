@@ -10,7 +10,7 @@ use Rattle.lv_edits.specs.Ranges.{slice_of}
 use Rattle.lv_reduce.specs.declared.reductions.Answer.{Answer}
 use Rattle.lv_reduce.specs.Answer.{IsAnswer}
 use Rattle.livevec_c.specs.declared.objects.Object.{Object}
-use Rattle.livevec_c.specs.declared.objects.Object.TheVariants.{Vector, Job, Outcome, Batch, BatchOutcome, Subtree, SubtreeOutcome, Board, Seat, Closed, Series, Queries}
+use Rattle.livevec_c.specs.declared.objects.Object.TheVariants.{Vector, Job, Outcome, Batch, BatchOutcome, Subtree, SubtreeOutcome, Board, Seat, Closed, Series, Samples, Loader, Queries}
 use Rattle.livevec_c.specs.declared.results.Reduced.{Reduced}
 use Rattle.livevec_c.specs.Answers.{reduced_by, spread, unreduced}
 use Rattle.livevec_c.specs.Behind.{AsksObject, ReducesObject, State}
@@ -71,6 +71,8 @@ reduces_plain lo hi answer (Board other) reduces = tt
 reduces_plain lo hi answer (Seat other) reduces = tt
 reduces_plain lo hi answer (Closed other) reduces = tt
 reduces_plain lo hi answer (Series other) reduces = tt
+reduces_plain lo hi answer (Samples samples) reduces = tt
+reduces_plain lo hi answer (Loader bytes) reduces = tt
 reduces_plain lo hi answer (Queries set) reduces = tt
 
 pub asks_plain : (lo hi : ℕ) (answer : Reduced) (old new : Object) → AsksObject lo hi answer old new → IsPlainObject lo hi answer old
@@ -86,4 +88,6 @@ asks_plain lo hi answer (Board other) new asks = tt
 asks_plain lo hi answer (Seat other) new asks = tt
 asks_plain lo hi answer (Closed other) new asks = tt
 asks_plain lo hi answer (Series other) new asks = tt
+asks_plain lo hi answer (Samples samples) new asks = tt
+asks_plain lo hi answer (Loader bytes) new asks = tt
 asks_plain lo hi answer (Queries set) new asks = tt

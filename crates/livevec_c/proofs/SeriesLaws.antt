@@ -30,7 +30,7 @@ use Rattle.lv_tree.specs.declared.kind_summaries.KindSummary.{KindSummary}
 use Rattle.livevec_c.specs.Columns.{CanGoOnLong}
 use Rattle.livevec_c.specs.Seats.{values_for}
 use Rattle.livevec_c.specs.SeriesAnswers.{granted, long_valued, refused_by, unreduced_by}
-use Rattle.livevec_c.specs.SeriesBehind.{Long}
+use Rattle.livevec_c.specs.SeriesHeld.{Long}
 use Rattle.livevec_c.specs.SeriesValued.{ValuesSeries, value_of, with_tree}
 use Rattle.livevec_c.specs.SpreadLaws.{shown-plain}
 use Rattle.livevec_c.specs.declared.series_results.SeriesReduced.{SeriesReduced}

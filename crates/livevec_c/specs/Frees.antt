@@ -3,9 +3,10 @@ use Rattle.std.specs.Prelude.{ℕ, Bool, true, false, Option, Some, None, if◌t
 use Rattle.livevec_c.specs.declared.frees.Freed.{Freed}
 use Rattle.livevec_c.specs.declared.frees.Freed.TheVariants as freed
 use Rattle.livevec_c.specs.declared.objects.Object.{Object}
-use Rattle.livevec_c.specs.declared.objects.Object.TheVariants.{Vector, Job, Outcome, Batch, BatchOutcome, Subtree, SubtreeOutcome, Board, Seat, Closed, Series, Queries}
+use Rattle.livevec_c.specs.declared.objects.Object.TheVariants.{Vector, Job, Outcome, Batch, BatchOutcome, Subtree, SubtreeOutcome, Board, Seat, Closed, Series, Samples, Loader, Queries}
 
--- whether an object is what a free is of; a batch may be of a subtree and may have been run, a board may be closed
+-- whether an object is what a free is of; a batch may be of a subtree and may have been run, a board may be closed, a series may have
+-- times, or be loaded
 abbrev pub is_of : Freed → Object → Bool
 is_of freed.Vector (Vector state only) = true
 is_of freed.Job (Job job) = true
@@ -18,6 +19,8 @@ is_of freed.Board (Board board) = true
 is_of freed.Board (Closed ended) = true
 is_of freed.Seat (Seat seat) = true
 is_of freed.Series (Series state) = true
+is_of freed.Series (Samples state) = true
+is_of freed.Series (Loader bytes) = true
 is_of freed.Queries (Queries set) = true
 is_of _ _ = false
 

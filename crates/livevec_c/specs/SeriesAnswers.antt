@@ -5,8 +5,10 @@ use Rattle.lv_series.specs.declared.receipts.LongReceipt.{LongReceipt}
 use Rattle.lv_series.specs.declared.receipts.LongReceipt.TheVariants.{Pushed, Popped, Written, Expired, Swapped, Truncated}
 use Rattle.lv_series.specs.declared.refusals.LongRefusal.{LongRefusal}
 use Rattle.lv_series.specs.declared.refusals.LongRefusal.TheVariants.{OutOfRange}
+use Rattle.lv_series.specs.declared.sample_edits.SampleRefusal.{SampleRefusal}
+use Rattle.lv_series.specs.declared.sample_edits.SampleRefusal.TheVariants.{Earlier, Refused}
 use Rattle.livevec_c.specs.declared.values.PlainValues.{PlainValues}
-use Rattle.livevec_c.specs.declared.series_results.Refused.{Refused}
+use Rattle.livevec_c.specs.declared.series_results.Refused.{Refused as Why}
 use Rattle.livevec_c.specs.declared.series_results.SeriesEdited.{SeriesEdited}
 use Rattle.livevec_c.specs.declared.series_results.SeriesElement.{SeriesElement}
 use Rattle.livevec_c.specs.declared.series_results.SeriesMany.{SeriesMany}
@@ -15,19 +17,19 @@ use Rattle.livevec_c.specs.declared.series_results.SeriesScanned.{SeriesScanned}
 use Rattle.livevec_c.specs.Answers.{valueless}
 
 -- that nothing was refused; that a slot holds no series
-abbrev pub granted : Refused
+abbrev pub granted : Why
 granted = record { refusal = 0; first = 0; size = 0 }
 
-abbrev pub unheld : Refused
+abbrev pub unheld : Why
 unheld = record { refusal = 101; first = 0; size = 0 }
 
 -- why the library refused a call: of an index that isn't kept, with what is
-abbrev pub refused_by : LongRefusal → Refused
+abbrev pub refused_by : LongRefusal → Why
 refused_by (OutOfRange first size) = record { refusal = 3; first = first; size = size }
 refused_by refusal = record { refusal = number_of refusal; first = 0; size = 0 }
 
 -- an edit that was refused
-abbrev pub unedited_by : Refused → SeriesEdited
+abbrev pub unedited_by : Why → SeriesEdited
 unedited_by why = record { why = why; edit = 0; place = 0; value = pos 0 }
 
 -- an edit's receipt: its number, and a place, how many, or an element
@@ -44,8 +46,14 @@ abbrev pub long_edited : Result LongReceipt LongRefusal → SeriesEdited
 long_edited (Ok receipt) = long_received receipt
 long_edited (Err refusal) = unedited_by (refused_by refusal)
 
+-- an edit's answer of samples: of an earlier time with that of the last sample
+abbrev pub sample_edited : Result LongReceipt SampleRefusal → SeriesEdited
+sample_edited (Ok receipt) = long_received receipt
+sample_edited (Err (Refused refusal)) = unedited_by (refused_by refusal)
+sample_edited (Err (Earlier newest)) = record { why = record { refusal = 21; first = 0; size = 0 }; edit = 0; place = 0; value = newest }
+
 -- an element's answer
-abbrev pub unelement : Refused → SeriesElement
+abbrev pub unelement : Why → SeriesElement
 unelement why = record { why = why; value = pos 0 }
 
 abbrev pub long_element : Result ℤ LongRefusal → SeriesElement
@@ -53,7 +61,7 @@ long_element (Ok value) = record { why = granted; value = value }
 long_element (Err refusal) = unelement (refused_by refusal)
 
 -- a reduction's answer
-abbrev pub unreduced_by : Refused → SeriesReduced
+abbrev pub unreduced_by : Why → SeriesReduced
 unreduced_by why = record { why = why; edit = 0; values = valueless }
 
 -- the same by why its range is refused, if it is, by the last edit's number, and by the values
@@ -62,11 +70,11 @@ long_valued None edit values = record { why = granted; edit = edit; values = val
 long_valued (Some refusal) edit values = unreduced_by (refused_by refusal)
 
 -- many writes, of which none was made: why, and which of them is refused
-abbrev pub unwritten_by : Refused → ℕ → SeriesMany
+abbrev pub unwritten_by : Why → ℕ → SeriesMany
 unwritten_by why place = record { why = why; edit = 0; done = 0; place = place }
 
 -- the answer of a piece of a range that was put into a buffer: the last edit's number, and how many places it took
-abbrev pub unscanned_by : Refused → SeriesScanned
+abbrev pub unscanned_by : Why → SeriesScanned
 unscanned_by why = record { why = why; edit = 0; length = 0 }
 
 abbrev pub long_scanned : Option LongRefusal → ℕ → ℕ → SeriesScanned

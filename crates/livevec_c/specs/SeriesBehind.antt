@@ -1,41 +1,59 @@
 -- What the calls at a series do and answer, by what lies behind a slot.
 use Rattle.std.specs.Prelude.{◌≡◌, ℕ, ◌⊎◌, true, Option, Some, None, Result, List, []}
-use Rattle.lv_series.specs.Series.{Answers, SeriesState, element_at, range_refused, size_of, slice_of}
+use Rattle.lv_series.specs.Series.{Answers, element_at, range_refused, size_of, slice_of}
 use Rattle.lv_series.specs.Plain.{KeptKinds, plain_series}
+use Rattle.lv_series.specs.Samples.{AnswersSample, SamplesState}
 use Rattle.lv_series.specs.declared.edits.LongEdit.{LongEdit}
+use Rattle.lv_series.specs.declared.edits.LongEdit.TheVariants as asked
 use Rattle.lv_series.specs.declared.receipts.LongReceipt.{LongReceipt}
 use Rattle.lv_series.specs.declared.refusals.LongRefusal.{LongRefusal}
 use Rattle.lv_series.specs.declared.refusals.LongRefusal.TheVariants.{NoMemory}
+use Rattle.lv_series.specs.declared.sample_edits.SampleEdit.{SampleEdit}
+use Rattle.lv_series.specs.declared.sample_edits.SampleEdit.TheVariants as sampled
+use Rattle.lv_series.specs.declared.sample_edits.SampleRefusal.{SampleRefusal}
 use Rattle.livevec_c.specs.declared.objects.Object.{Object}
-use Rattle.livevec_c.specs.declared.objects.Object.TheVariants.{Series}
+use Rattle.livevec_c.specs.declared.objects.Object.TheVariants.{Series, Samples}
 use Rattle.livevec_c.specs.declared.series_results.SeriesCounts.{SeriesCounts}
 use Rattle.livevec_c.specs.declared.series_results.SeriesEdited.{SeriesEdited}
 use Rattle.livevec_c.specs.declared.series_results.SeriesElement.{SeriesElement}
 use Rattle.livevec_c.specs.declared.series_results.SeriesReduced.{SeriesReduced}
 use Rattle.livevec_c.specs.Cells.{values_cell}
-use Rattle.livevec_c.specs.SeriesAnswers.{long_edited, long_element, long_valued, refused_by, unedited_by, unelement, unheld, unreduced_by}
-
--- a series for C
-abbrev pub Long : Type 0
-Long = SeriesState
+use Rattle.livevec_c.specs.SeriesAnswers.{long_edited, long_element, long_valued, refused_by, sample_edited, unedited_by, unelement, unheld, unreduced_by}
+use Rattle.livevec_c.specs.SeriesHeld.{AtSeries, Long, Opens}
 
 -- a series without elements, by an automaton of this table
 abbrev pub IsNewSeries : List (List ℕ) → Object → Type 0
 IsNewSeries table object = object ≡ Series (plain_series table [])
 
--- one for a slot: there is one in it already, or there is no memory, and it stays empty, or it has one
+-- one for a slot
 abbrev pub OpensSeries : List (List ℕ) → ℕ → Option Object → Option Object → Type 0
-OpensSeries table number (Some object) new = (number ≡ 104) × (new ≡ Some object)
-OpensSeries table number None new =
-    ((number ≡ 6) × (new ≡ None)) ⊎ ((number ≡ 0) × ((object : Object) × (new ≡ Some object) × IsNewSeries table object))
+OpensSeries table number old new = Opens (IsNewSeries table) number old new
 
 -- an edit of a series is answered as the library answers it
 abbrev pub EditsSeries : LongEdit → SeriesEdited → Long → Long → Type 0
 EditsSeries edit answer old new = (r : Result LongReceipt LongRefusal) × (answer ≡ long_edited r) × Answers old edit r new
 
--- an edit of an object: of a series only
+-- the edit of samples that an edit of their values is: each value keeps its time, so none is put there or exchanged
+abbrev pub sample_edit_of : LongEdit → Option SampleEdit
+sample_edit_of asked.Pop = Some sampled.Pop
+sample_edit_of (asked.Write i x) = Some (sampled.Write i x)
+sample_edit_of (asked.Expire i) = Some (sampled.Expire i)
+sample_edit_of (asked.Truncate n) = Some (sampled.Truncate n)
+sample_edit_of other = None
+
+-- an edit of samples is answered as the library answers it
+abbrev pub EditsSamples : SampleEdit → SeriesEdited → SamplesState → SamplesState → Type 0
+EditsSamples edit answer old new = (r : Result LongReceipt SampleRefusal) × (answer ≡ sample_edited r) × AnswersSample old edit r new
+
+-- where there is such an edit
+abbrev pub EditsSamplesBy : Option SampleEdit → SeriesEdited → SamplesState → Object → Type 0
+EditsSamplesBy None answer old new = (answer ≡ unedited_by unheld) × (new ≡ Samples old)
+EditsSamplesBy (Some edit) answer old new = (state : SamplesState) × (new ≡ Samples state) × EditsSamples edit answer old state
+
+-- an edit of an object: of a series, or of the values of samples
 abbrev pub EditsLong : LongEdit → SeriesEdited → Object → Object → Type 0
 EditsLong edit answer (Series old) new = (state : Long) × (new ≡ Series state) × EditsSeries edit answer old state
+EditsLong edit answer (Samples old) new = EditsSamplesBy (sample_edit_of edit) answer old new
 EditsLong edit answer other new = (answer ≡ unedited_by unheld) × (new ≡ other)
 
 -- an edit of what lies behind a slot
@@ -43,41 +61,23 @@ abbrev pub EditsBehind : LongEdit → SeriesEdited → Option Object → Option 
 EditsBehind edit answer None new = (answer ≡ unedited_by unheld) × (new ≡ None)
 EditsBehind edit answer (Some old) new = (object : Object) × (new ≡ Some object) × EditsLong edit answer old object
 
--- the element under an index
-abbrev pub element_in_object : ℕ → Object → SeriesElement
-element_in_object index (Series state) = long_element (element_at state.held index)
-element_in_object index other = unelement unheld
-
-abbrev pub element_behind : ℕ → Option Object → SeriesElement
-element_behind index None = unelement unheld
-element_behind index (Some object) = element_in_object index object
+-- the element under an index of a series, where there is one
+abbrev pub element_in : ℕ → Option Long → SeriesElement
+element_in index None = unelement unheld
+element_in index (Some s) = long_element (element_at s.held index)
 
 -- the first index that is kept, the one behind the last, and how many edits were accepted
-abbrev pub counts_of : Long → SeriesCounts
-counts_of s = record { refusal = 0; first = s.held.first; size = size_of s.held; edits = s.edits }
-
-abbrev pub no_counts : SeriesCounts
-no_counts = record { refusal = 101; first = 0; size = 0; edits = 0 }
-
-abbrev pub counts_in_object : Object → SeriesCounts
-counts_in_object (Series state) = counts_of state
-counts_in_object other = no_counts
-
-abbrev pub counts_behind : Option Object → SeriesCounts
-counts_behind None = no_counts
-counts_behind (Some object) = counts_in_object object
+abbrev pub counts_in : Option Long → SeriesCounts
+counts_in None = record { refusal = 101; first = 0; size = 0; edits = 0 }
+counts_in (Some s) = record { refusal = 0; first = s.held.first; size = size_of s.held; edits = s.edits }
 
 -- the plain values of the elements of a range after the last edit
 abbrev pub values_of : ℕ → ℕ → Long → SeriesReduced
 values_of lo hi s = long_valued (range_refused s.held lo hi) s.edits (values_cell s.table (slice_of s.held lo hi))
 
-abbrev pub values_in_object : ℕ → ℕ → Object → SeriesReduced
-values_in_object lo hi (Series state) = values_of lo hi state
-values_in_object lo hi other = unreduced_by unheld
-
-abbrev pub values_behind : ℕ → ℕ → Option Object → SeriesReduced
-values_behind lo hi None = unreduced_by unheld
-values_behind lo hi (Some object) = values_in_object lo hi object
+abbrev pub values_in : ℕ → ℕ → Option Long → SeriesReduced
+values_in lo hi None = unreduced_by unheld
+values_in lo hi (Some s) = values_of lo hi s
 
 -- the same series, whichever kinds have a tree; all have one
 abbrev pub IsSameButKinds : Long → Long → Type 0
@@ -97,12 +97,6 @@ AsksSeries lo hi answer old new =
     ((answer ≡ values_of lo hi old) × (new ≡ with_all (range_refused old.held lo hi) old))
     ⊎ ((answer ≡ unreduced_by (refused_by NoMemory)) × (range_refused old.held lo hi ≡ None) × IsSameButKinds old new)
 
--- of an object: of a series only
-abbrev pub AsksLong : ℕ → ℕ → SeriesReduced → Object → Object → Type 0
-AsksLong lo hi answer (Series old) new = (state : Long) × (new ≡ Series state) × AsksSeries lo hi answer old state
-AsksLong lo hi answer other new = (answer ≡ unreduced_by unheld) × (new ≡ other)
-
 -- of what lies behind a slot
 abbrev pub AsksBehind : ℕ → ℕ → SeriesReduced → Option Object → Option Object → Type 0
-AsksBehind lo hi answer None new = (answer ≡ unreduced_by unheld) × (new ≡ None)
-AsksBehind lo hi answer (Some old) new = (object : Object) × (new ≡ Some object) × AsksLong lo hi answer old object
+AsksBehind lo hi answer old new = AtSeries (AsksSeries lo hi answer) (answer ≡ unreduced_by unheld) old new

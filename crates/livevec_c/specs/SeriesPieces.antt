@@ -3,11 +3,9 @@ use Rattle.std.specs.Prelude.{ℕ, ℤ, ◌+◌, ◌-◌, ◌++◌, Bool, Option
 use Rattle.std.specs.List.{range_with_len}
 use Rattle.lv_series.specs.Series.{range_refused, slice_of}
 use Rattle.lv_series.specs.declared.refusals.LongRefusal.{LongRefusal}
-use Rattle.livevec_c.specs.declared.objects.Object.{Object}
-use Rattle.livevec_c.specs.declared.objects.Object.TheVariants.{Series}
 use Rattle.livevec_c.specs.declared.series_results.SeriesScanned.{SeriesScanned}
 use Rattle.livevec_c.specs.SeriesAnswers.{long_scanned, unheld, unscanned_by}
-use Rattle.livevec_c.specs.SeriesBehind.{Long}
+use Rattle.livevec_c.specs.SeriesHeld.{Long}
 
 -- what a buffer has after a call that was not refused: so many that were put there, and what it had behind them; else what it had
 abbrev pub put_there : {C : Type 0} → Option LongRefusal → ℕ → List C → List C → List C
@@ -40,36 +38,19 @@ piece_scanned lo at hi places s = long_scanned (piece_refused lo at hi s) s.edit
 abbrev pub piece_put : {C : Type 0} → (List (List ℕ) → List ℤ → C) → Bool → ℕ → ℕ → ℕ → List C → Long → List C
 piece_put cell inclusive lo at hi old s = put_there (piece_refused lo at hi s) (min (length old) (hi - at)) (map (cell_up_to cell inclusive lo at s) (range_with_len 0 (min (length old) (hi - at)))) old
 
--- of an object: of a series only
-abbrev pub object_read : ℕ → ℕ → ℕ → Object → SeriesScanned
-object_read lo hi places (Series state) = elements_read lo hi places state
-object_read lo hi places other = unscanned_by unheld
+-- where there is a series
+abbrev pub read_in : ℕ → ℕ → ℕ → Option Long → SeriesScanned
+read_in lo hi places None = unscanned_by unheld
+read_in lo hi places (Some s) = elements_read lo hi places s
 
-abbrev pub object_elements : ℕ → ℕ → List ℤ → Object → List ℤ
-object_elements lo hi old (Series state) = elements_put lo hi old state
-object_elements lo hi old other = old
+abbrev pub put_in : ℕ → ℕ → List ℤ → Option Long → List ℤ
+put_in lo hi old None = old
+put_in lo hi old (Some s) = elements_put lo hi old s
 
-abbrev pub object_scanned : ℕ → ℕ → ℕ → ℕ → Object → SeriesScanned
-object_scanned lo at hi places (Series state) = piece_scanned lo at hi places state
-object_scanned lo at hi places other = unscanned_by unheld
+abbrev pub scanned_in : ℕ → ℕ → ℕ → ℕ → Option Long → SeriesScanned
+scanned_in lo at hi places None = unscanned_by unheld
+scanned_in lo at hi places (Some s) = piece_scanned lo at hi places s
 
-abbrev pub object_column : {C : Type 0} → (List (List ℕ) → List ℤ → C) → Bool → ℕ → ℕ → ℕ → List C → Object → List C
-object_column cell inclusive lo at hi old (Series state) = piece_put cell inclusive lo at hi old state
-object_column cell inclusive lo at hi old other = old
-
--- of what lies behind a slot
-abbrev pub read_behind : ℕ → ℕ → ℕ → Option Object → SeriesScanned
-read_behind lo hi places None = unscanned_by unheld
-read_behind lo hi places (Some object) = object_read lo hi places object
-
-abbrev pub elements_behind : ℕ → ℕ → List ℤ → Option Object → List ℤ
-elements_behind lo hi old None = old
-elements_behind lo hi old (Some object) = object_elements lo hi old object
-
-abbrev pub scanned_behind : ℕ → ℕ → ℕ → ℕ → Option Object → SeriesScanned
-scanned_behind lo at hi places None = unscanned_by unheld
-scanned_behind lo at hi places (Some object) = object_scanned lo at hi places object
-
-abbrev pub column_behind : {C : Type 0} → (List (List ℕ) → List ℤ → C) → Bool → ℕ → ℕ → ℕ → List C → Option Object → List C
-column_behind cell inclusive lo at hi old None = old
-column_behind cell inclusive lo at hi old (Some object) = object_column cell inclusive lo at hi old object
+abbrev pub column_in : {C : Type 0} → (List (List ℕ) → List ℤ → C) → Bool → ℕ → ℕ → ℕ → List C → Option Long → List C
+column_in cell inclusive lo at hi old None = old
+column_in cell inclusive lo at hi old (Some s) = piece_put cell inclusive lo at hi old s

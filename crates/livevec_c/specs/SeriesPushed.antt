@@ -6,7 +6,7 @@ use Rattle.lv_series.specs.declared.refusals.LongRefusal.{LongRefusal}
 use Rattle.livevec_c.specs.declared.objects.Object.{Object}
 use Rattle.livevec_c.specs.declared.objects.Object.TheVariants.{Series}
 use Rattle.livevec_c.specs.declared.series_results.SeriesPushed.{SeriesPushed}
-use Rattle.livevec_c.specs.SeriesBehind.{Long}
+use Rattle.livevec_c.specs.SeriesHeld.{Long}
 
 -- pushes that were refused
 abbrev pub unpushed_by : ℕ → SeriesPushed

@@ -6,12 +6,11 @@ use Rattle.lv_series.specs.Series.{keeps_kind, range_refused, slice_of, with_kin
 use Rattle.lv_series.specs.declared.refusals.LongRefusal.{LongRefusal}
 use Rattle.lv_series.specs.declared.refusals.LongRefusal.TheVariants.{NoMemory}
 use Rattle.livevec_c.specs.declared.objects.Object.{Object}
-use Rattle.livevec_c.specs.declared.objects.Object.TheVariants.{Series}
 use Rattle.livevec_c.specs.declared.series_results.Refused.{Refused}
 use Rattle.livevec_c.specs.declared.series_results.SeriesReduced.{SeriesReduced}
 use Rattle.livevec_c.specs.Seats.{values_for}
 use Rattle.livevec_c.specs.SeriesAnswers.{long_valued, refused_by, unheld, unreduced_by}
-use Rattle.livevec_c.specs.SeriesBehind.{Long}
+use Rattle.livevec_c.specs.SeriesHeld.{AtSeries, Long}
 
 -- that a number is of no kind
 abbrev pub unkind : Refused
@@ -33,28 +32,16 @@ ValuesSeries kind lo hi answer old new =
     ((answer ≡ value_of kind lo hi old) × (new ≡ with_tree kind (range_refused old.held lo hi) old))
     ⊎ ((answer ≡ unreduced_by (refused_by NoMemory)) × (range_refused old.held lo hi ≡ None) × (keeps_kind old.kinds kind ≡ false) × (new ≡ old))
 
--- of an object: of a series only
-abbrev pub ValuesLong : Kind → ℕ → ℕ → SeriesReduced → Object → Object → Type 0
-ValuesLong kind lo hi answer (Series old) new = (state : Long) × (new ≡ Series state) × ValuesSeries kind lo hi answer old state
-ValuesLong kind lo hi answer other new = (answer ≡ unreduced_by unheld) × (new ≡ other)
-
 -- of what lies behind a slot, by a kind, where there is one
 abbrev pub ValuesBehind : Option Kind → ℕ → ℕ → SeriesReduced → Option Object → Option Object → Type 0
 ValuesBehind None lo hi answer old new = (answer ≡ unreduced_by unkind) × (new ≡ old)
-ValuesBehind (Some kind) lo hi answer None new = (answer ≡ unreduced_by unheld) × (new ≡ None)
-ValuesBehind (Some kind) lo hi answer (Some old) new = (object : Object) × (new ≡ Some object) × ValuesLong kind lo hi answer old object
+ValuesBehind (Some kind) lo hi answer old new = AtSeries (ValuesSeries kind lo hi answer) (answer ≡ unreduced_by unheld) old new
 
 -- a kind's tree is made, or there is no memory for it, and nothing has changed
 abbrev pub PreparesSeries : Kind → ℕ → Long → Long → Type 0
 PreparesSeries kind answer old new = ((answer ≡ 0) × (new ≡ record old { kinds = with_kind kind old.kinds })) ⊎ ((answer ≡ 6) × (new ≡ old))
 
--- of an object: of a series only
-abbrev pub PreparesLong : Kind → ℕ → Object → Object → Type 0
-PreparesLong kind answer (Series old) new = (state : Long) × (new ≡ Series state) × PreparesSeries kind answer old state
-PreparesLong kind answer other new = (answer ≡ 101) × (new ≡ other)
-
 -- of what lies behind a slot, by a kind, where there is one
 abbrev pub PreparesBehind : Option Kind → ℕ → Option Object → Option Object → Type 0
 PreparesBehind None answer old new = (answer ≡ 113) × (new ≡ old)
-PreparesBehind (Some kind) answer None new = (answer ≡ 101) × (new ≡ None)
-PreparesBehind (Some kind) answer (Some old) new = (object : Object) × (new ≡ Some object) × PreparesLong kind answer old object
+PreparesBehind (Some kind) answer old new = AtSeries (PreparesSeries kind answer) (answer ≡ 101) old new

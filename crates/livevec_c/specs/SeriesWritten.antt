@@ -8,7 +8,7 @@ use Rattle.livevec_c.specs.declared.objects.Object.{Object}
 use Rattle.livevec_c.specs.declared.objects.Object.TheVariants.{Series}
 use Rattle.livevec_c.specs.declared.series_results.SeriesMany.{SeriesMany}
 use Rattle.livevec_c.specs.SeriesAnswers.{granted, refused_by, unheld, unwritten_by}
-use Rattle.livevec_c.specs.SeriesBehind.{Long}
+use Rattle.livevec_c.specs.SeriesHeld.{Long}
 
 -- how many of some edits, one after another, are accepted before the first that is refused, out of memory apart
 abbrev pub accepted_before : Long → List LongEdit → ℕ

@@ -38,7 +38,10 @@ fn is_of(what: Freed, object: &Object) -> bool
         ),
         Freed::Board => matches!(object, Object::Board(_) | Object::Closed(_)),
         Freed::Seat => matches!(object, Object::Seat(_)),
-        Freed::Series => matches!(object, Object::Series(_)),
+        Freed::Series => matches!(
+            object,
+            Object::Series(_) | Object::Samples(_) | Object::Loader(_)
+        ),
         Freed::Queries => matches!(object, Object::Queries(_)),
     }
 }
@@ -115,7 +118,7 @@ pub extern "C" fn livevec_proved_free_seat(alloc: Global, slot: &mut Slot) -> u3
     free_held(alloc, slot, Freed::Seat)
 }
 
-/// Frees a series.
+/// Frees a series, samples, or what was given of one to load.
 #[unsafe(no_mangle)]
 pub extern "C" fn livevec_proved_free_series(alloc: Global, slot: &mut Slot) -> u32
     ensures number { result ≡ free_number freed.Series slot.old.raw.inner }

@@ -18,7 +18,7 @@ ghost use Rattle.lv_live.specs.State.{HasClaim, HasDelivery, HasNoClaims, SameRe
 ghost use Rattle.lv_live.specs.Subtrees.{CanTake, HasSubtree};
 ghost use Rattle.lv_live.specs.Turns.{TakesTurns};
 ghost use Rattle.lv_tree.specs.Asked.{IsKindAnswer};
-ghost use Rattle.lv_tree.specs.Where.{IsEndReached, IsPlaceOfBest, IsPlaceOfGreatest, IsPlaceOfLeast};
+ghost use Rattle.lv_tree.specs.Where.{IsEndReached, IsFirstIndex, IsLastIndex, IsPlaceOfBest, IsPlaceOfGreatest, IsPlaceOfLeast, IsStartReached};
 
 use lv_bodies::{Automaton, Kind, SixByTable};
 use lv_edits::{Edit, Receipt};
@@ -27,7 +27,7 @@ use lv_live::{BatchOutcome, Batched, Live};
 use lv_refresh::{Job, Outcome, SubtreeOutcome};
 use lv_standing::{make_beside, push_all_beside, write_all_beside, write_beside};
 use lv_summary::Accepted;
-use lv_tree::{KindAnswer, Kinds, Placed, Run};
+use lv_tree::{Bound, KindAnswer, Kinds, Placed, Run};
 use std::alloc::Global;
 use std::marker::Model;
 
@@ -191,6 +191,36 @@ impl KindVector {
         ensures same { self.new ≡ self.old }
     {
         lv_tree::reaches(self.live.view().cells, &mut self.kinds, lo, hi, sum)
+    }
+
+    /// The greatest start from which on the elements up to index `hi` add up to `sum`, or none. Asked and refused as `value`.
+    pub fn reaches_back(&mut self, lo: u32, hi: u32, sum: i128) -> Result<Option<u32>, Refusal>
+        ensures ok { IfOk result (λ place. IsStartReached (list_of self.old.history.journal) lo hi sum place) }
+        ensures granted { IfOk result (λ _. range_refusal self.old.history.journal lo hi ≡ None) }
+        ensures err { IfErr result (λ refusal. range_refusal self.old.history.journal lo hi ≡ Some refusal) }
+        ensures same { self.new ≡ self.old }
+    {
+        lv_tree::reaches_back(self.live.view().cells, &mut self.kinds, lo, hi, sum)
+    }
+
+    /// The first index of a range whose element is within a bound, or none. Asked and refused as `value`.
+    pub fn first_index(&mut self, bound: Bound, lo: u32, hi: u32) -> Result<Option<u32>, Refusal>
+        ensures ok { IfOk result (λ place. IsFirstIndex bound (list_of self.old.history.journal) lo hi place) }
+        ensures granted { IfOk result (λ _. range_refusal self.old.history.journal lo hi ≡ None) }
+        ensures err { IfErr result (λ refusal. range_refusal self.old.history.journal lo hi ≡ Some refusal) }
+        ensures same { self.new ≡ self.old }
+    {
+        lv_tree::first_index(self.live.view().cells, &mut self.kinds, bound, lo, hi)
+    }
+
+    /// The last one, the same way.
+    pub fn last_index(&mut self, bound: Bound, lo: u32, hi: u32) -> Result<Option<u32>, Refusal>
+        ensures ok { IfOk result (λ place. IsLastIndex bound (list_of self.old.history.journal) lo hi place) }
+        ensures granted { IfOk result (λ _. range_refusal self.old.history.journal lo hi ≡ None) }
+        ensures err { IfErr result (λ refusal. range_refusal self.old.history.journal lo hi ≡ Some refusal) }
+        ensures same { self.new ≡ self.old }
+    {
+        lv_tree::last_index(self.live.view().cells, &mut self.kinds, bound, lo, hi)
     }
 
     /// Does jobs in place, the least first, at most so many, and tells how many.

@@ -10,7 +10,8 @@ use lv_board::{Closed, Elements};
 use lv_bodies::{Kind, SixByTable};
 use lv_live::{Batch, BatchOutcome};
 use lv_refresh::{Job, Outcome, SubtreeJob, SubtreeOutcome};
-use lv_series::Series;
+use lv_saved::Loader;
+use lv_series::{Samples, Series};
 use std::alloc::Global;
 use std::mem;
 
@@ -31,6 +32,9 @@ pub enum Object {
     Seat(KindSeat),
     Closed(Ended),
     Series(Series),
+    Samples(Samples),
+    /// The bytes of what is loaded.
+    Loader(Loader),
     Queries(Queries),
 }
 

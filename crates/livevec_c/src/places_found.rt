@@ -2,8 +2,9 @@
 ghost use Rattle.std.specs.Prelude.{◌≡◌, ◌<◌, IfSome};
 ghost use Rattle.lv_geometry.specs.Numbers.{number_of};
 ghost use Rattle.livevec_c.specs.Answers.{detail_of};
-ghost use Rattle.livevec_c.specs.Found.{Finds, FindsAsked, FindsObject, FindsVector, end_at, kind_sought, nowhere, placed_at, run_at, unfound};
-ghost use Rattle.livevec_c.specs.declared.places_found.Wanted.TheVariants as wanted;
+ghost use Rattle.livevec_c.specs.Found.{Finds, FindsAsked, FindsObject, FindsVector, end_at, index_at, nowhere, part_at, placed_at, run_at, start_at, unfound};
+ghost use Rattle.livevec_c.specs.Wanted.{wanted_at};
+ghost use Rattle.livevec_c.specs.declared.wanted.Wanted.TheVariants as wanted;
 
 use crate::kind_vectors::KindVector;
 use crate::objects::Object;
@@ -11,23 +12,10 @@ use crate::only::may_ask;
 use crate::results::{BAD_KIND, NO_HANDLE, detail};
 use crate::slots::{Slot, put, take};
 use crate::values::halves;
-use lv_bodies::Kind;
+use crate::wanted::{Wanted, sought_by, wanted_by};
 use lv_geometry::Refusal;
-use lv_tree::{Placed, Run};
+use lv_tree::{Bound, Placed, Run};
 use std::alloc::Global;
-
-/// What is looked for in a range.
-#[derive(Clone, Copy)]
-pub enum Wanted {
-    /// The first of the least elements.
-    Least,
-    /// The first of the greatest elements.
-    Greatest,
-    /// The best run.
-    Best,
-    /// The least end up to which the elements add up to so much.
-    Reaches(i64),
-}
 
 /// Where something stands in a range.
 #[repr(C)]
@@ -106,17 +94,46 @@ fn run_found(edit: u32, run: Option<Run>) -> Found
     answer
 }
 
-// Where a sum is reached.
+// A part of a range.
+fn part_found(edit: u32, lo: u32, hi: u32) -> Found
+    ensures { result ≡ part_at edit lo hi }
+{
+    let mut answer = none_found(edit);
+    answer.lo = lo;
+    answer.hi = hi;
+    answer.found = true;
+    answer
+}
+
+// Where a sum is reached from the start of a range on.
 fn end_found(edit: u32, lo: u32, end: Option<u32>) -> Found
     ensures { result ≡ end_at edit lo end }
 {
-    let mut answer = none_found(edit);
-    if let Some(end) = end {
-        answer.lo = lo;
-        answer.hi = end;
-        answer.found = true;
+    match end {
+        Some(end) => part_found(edit, lo, end),
+        None => none_found(edit),
     }
-    answer
+}
+
+// Where a sum is reached up to the end of a range.
+fn start_found(edit: u32, hi: u32, start: Option<u32>) -> Found
+    ensures { result ≡ start_at edit hi start }
+{
+    match start {
+        Some(start) => part_found(edit, start, hi),
+        None => none_found(edit),
+    }
+}
+
+// Where an element within a bound stands, in a range that ends at `hi`.
+fn index_found(edit: u32, hi: u32, index: Option<u32>) -> Found
+    requires { IfSome index (λ i. i < hi) }
+    ensures { result ≡ index_at edit index }
+{
+    match index {
+        Some(index) => part_found(edit, index, index + 1),
+        None => none_found(edit),
+    }
 }
 
 // The first of the least elements of a range of a vector.
@@ -163,14 +180,36 @@ fn find_end(vector: &mut KindVector, lo: u32, hi: u32, sum: i64) -> Found
     }
 }
 
-// The kind by which it is looked for.
-fn kind_sought(wanted: Wanted) -> Kind
-    ensures { result ≡ kind_sought wanted }
+// The start from which on a sum is reached.
+fn find_start(vector: &mut KindVector, lo: u32, hi: u32, sum: i64) -> Found
+    ensures answer { FindsVector (wanted.ReachesBack sum) lo hi result vector.old }
+    ensures same { vector.new ≡ vector.old }
 {
-    match wanted {
-        Wanted::Least => Kind::Least,
-        Wanted::Greatest => Kind::Greatest,
-        Wanted::Best | Wanted::Reaches(_) => Kind::Best,
+    match vector.reaches_back(lo, hi, i128::from(sum)) {
+        Err(refusal) => refused(refusal),
+        Ok(found) => start_found(vector.live().edit(), hi, found),
+    }
+}
+
+// The first element within a bound.
+fn find_first(vector: &mut KindVector, lo: u32, hi: u32, bound: Bound) -> Found
+    ensures answer { FindsVector (wanted.First bound) lo hi result vector.old }
+    ensures same { vector.new ≡ vector.old }
+{
+    match vector.first_index(bound, lo, hi) {
+        Err(refusal) => refused(refusal),
+        Ok(found) => index_found(vector.live().edit(), hi, found),
+    }
+}
+
+// The last element within a bound.
+fn find_last(vector: &mut KindVector, lo: u32, hi: u32, bound: Bound) -> Found
+    ensures answer { FindsVector (wanted.Last bound) lo hi result vector.old }
+    ensures same { vector.new ≡ vector.old }
+{
+    match vector.last_index(bound, lo, hi) {
+        Err(refusal) => refused(refusal),
+        Ok(found) => index_found(vector.live().edit(), hi, found),
     }
 }
 
@@ -184,6 +223,9 @@ fn find_in(vector: &mut KindVector, wanted: Wanted, lo: u32, hi: u32) -> Found
         Wanted::Greatest => find_greatest(vector, lo, hi),
         Wanted::Best => find_best(vector, lo, hi),
         Wanted::Reaches(sum) => find_end(vector, lo, hi, sum),
+        Wanted::ReachesBack(sum) => find_start(vector, lo, hi, sum),
+        Wanted::First(bound) => find_first(vector, lo, hi, bound),
+        Wanted::Last(bound) => find_last(vector, lo, hi, bound),
     }
 }
 
@@ -205,18 +247,29 @@ fn find_of(object: &mut Object, wanted: Wanted, lo: u32, hi: u32) -> Found
 {
     match object {
         Object::Vector(vector, only) => {
-            let asked = may_ask(*only, Some(kind_sought(wanted)));
+            let asked = may_ask(*only, Some(sought_by(wanted)));
             find_asked(vector, asked, wanted, lo, hi)
         }
         _ => not_found(NO_HANDLE, 0),
     }
 }
 
-// What is looked for in a range of what lies behind a slot.
-fn find_held(alloc: Global, slot: &mut Slot, wanted: Wanted, lo: u32, hi: u32) -> Found
-    ensures answer { Finds wanted lo hi result slot.old.raw.inner }
+/// Where something stands in a range of a vector: what, a number says, with what it is compared with.
+#[unsafe(no_mangle)]
+pub extern "C" fn livevec_proved_find(
+    alloc: Global,
+    slot: &mut Slot,
+    wanted: u32,
+    x: i64,
+    lo: u32,
+    hi: u32,
+) -> Found
+    ensures answer { Finds (wanted_at wanted x) lo hi result slot.old.raw.inner }
     ensures same { slot.new.raw.inner ≡ slot.old.raw.inner }
 {
+    let Some(wanted) = wanted_by(wanted, x) else {
+        return not_found(BAD_KIND, 0);
+    };
     match take(alloc, slot) {
         None => not_found(NO_HANDLE, 0),
         Some(mut held) => {
@@ -225,61 +278,4 @@ fn find_held(alloc: Global, slot: &mut Slot, wanted: Wanted, lo: u32, hi: u32) -
             answer
         }
     }
-}
-
-/// The first of the least elements of a range, and where it stands.
-#[unsafe(no_mangle)]
-pub extern "C" fn livevec_proved_where_least(
-    alloc: Global,
-    slot: &mut Slot,
-    lo: u32,
-    hi: u32,
-) -> Found
-    ensures answer { Finds wanted.Least lo hi result slot.old.raw.inner }
-    ensures same { slot.new.raw.inner ≡ slot.old.raw.inner }
-{
-    find_held(alloc, slot, Wanted::Least, lo, hi)
-}
-
-/// The first of the greatest elements of a range, and where it stands.
-#[unsafe(no_mangle)]
-pub extern "C" fn livevec_proved_where_greatest(
-    alloc: Global,
-    slot: &mut Slot,
-    lo: u32,
-    hi: u32,
-) -> Found
-    ensures answer { Finds wanted.Greatest lo hi result slot.old.raw.inner }
-    ensures same { slot.new.raw.inner ≡ slot.old.raw.inner }
-{
-    find_held(alloc, slot, Wanted::Greatest, lo, hi)
-}
-
-/// The best run of a range.
-#[unsafe(no_mangle)]
-pub extern "C" fn livevec_proved_where_best(
-    alloc: Global,
-    slot: &mut Slot,
-    lo: u32,
-    hi: u32,
-) -> Found
-    ensures answer { Finds wanted.Best lo hi result slot.old.raw.inner }
-    ensures same { slot.new.raw.inner ≡ slot.old.raw.inner }
-{
-    find_held(alloc, slot, Wanted::Best, lo, hi)
-}
-
-/// The least end up to which the elements of a range add up to so much.
-#[unsafe(no_mangle)]
-pub extern "C" fn livevec_proved_where_reaches(
-    alloc: Global,
-    slot: &mut Slot,
-    lo: u32,
-    hi: u32,
-    sum: i64,
-) -> Found
-    ensures answer { Finds (wanted.Reaches sum) lo hi result slot.old.raw.inner }
-    ensures same { slot.new.raw.inner ≡ slot.old.raw.inner }
-{
-    find_held(alloc, slot, Wanted::Reaches(sum), lo, hi)
 }

@@ -17,6 +17,9 @@ pub const BAD_LIMITS: u32 = 8;
 /// The number for an automaton's table with an entry above 7, as the library has it.
 pub const BAD_TABLE: u32 = 9;
 
+/// The number for a time before that of the last sample, as the library has it.
+pub const EARLIER: u32 = 21;
+
 /// The number for a slot that should be full and is empty.
 pub const NO_HANDLE: u32 = 101;
 

@@ -1,15 +1,16 @@
-//! A series: how it begins, and its edits.
+//! A series: how it begins, and its edits, which are those of samples' values too.
 ghost use Rattle.std.specs.Prelude.{◌≡◌, IfOk};
 ghost use Rattle.lv_bodies.specs.Plain.{program_table};
 ghost use Rattle.lv_series.specs.declared.edits.LongEdit.TheVariants as asked;
-ghost use Rattle.livevec_c.specs.SeriesBehind.{EditsBehind, EditsLong, IsNewSeries, OpensSeries};
+ghost use Rattle.livevec_c.specs.SeriesBehind.{EditsBehind, EditsLong, EditsSamplesBy, IsNewSeries, OpensSeries, sample_edit_of};
+ghost use Rattle.livevec_c.specs.declared.objects.Object.TheVariants.{Samples};
 
 use crate::objects::Object;
 use crate::results::{IN_USE, NO_MEMORY};
-use crate::series_results::{SeriesEdited, edit_answer, not_edited, not_held};
+use crate::series_results::{SeriesEdited, edit_answer, not_edited, not_held, sample_answer};
 use crate::slots::{Slot, is_full, put, take_full};
 use lv_bodies::Automaton;
-use lv_series::{LongEdit, Series};
+use lv_series::{LongEdit, Samples, Series};
 use std::alloc::{AllocError, Global};
 
 // A new series in a place of its own.
@@ -37,6 +38,19 @@ pub extern "C" fn livevec_proved_series_new(alloc: Global, slot: &mut Slot) -> u
     }
 }
 
+// An edit of samples by one of their values, where it leaves each value its time.
+fn edit_samples(samples: &mut Samples, edit: &LongEdit) -> SeriesEdited
+    ensures { EditsSamplesBy (sample_edit_of edit.now) result samples.old (Samples samples.new) }
+{
+    match *edit {
+        LongEdit::Pop => sample_answer(samples.pop()),
+        LongEdit::Write { index, value } => sample_answer(samples.write(index, value)),
+        LongEdit::Expire(index) => sample_answer(samples.expire(index)),
+        LongEdit::Truncate(size) => sample_answer(samples.truncate(size)),
+        _ => not_edited(not_held()),
+    }
+}
+
 // An edit of an object.
 #[inline(always)]
 fn edit_object(object: &mut Object, edit: &LongEdit) -> SeriesEdited
@@ -44,6 +58,7 @@ fn edit_object(object: &mut Object, edit: &LongEdit) -> SeriesEdited
 {
     match object {
         Object::Series(series) => edit_answer(series.apply(edit)),
+        Object::Samples(samples) => edit_samples(samples, edit),
         _ => not_edited(not_held()),
     }
 }
@@ -65,6 +80,7 @@ fn write_object(object: &mut Object, index: u64, value: i64) -> SeriesEdited
 {
     match object {
         Object::Series(series) => edit_answer(series.write(index, value)),
+        Object::Samples(samples) => sample_answer(samples.write(index, value)),
         _ => not_edited(not_held()),
     }
 }

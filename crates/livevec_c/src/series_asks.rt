@@ -1,10 +1,13 @@
-//! What is asked of a series: its elements, its counts and its reductions.
-ghost use Rattle.std.specs.Prelude.{◌≡◌, true};
-ghost use Rattle.livevec_c.specs.SeriesBehind.{AsksBehind, AsksLong, AsksSeries, IsSameButKinds, all_kinds, counts_behind, counts_in_object, counts_of, element_behind, element_in_object, no_counts, values_behind, values_in_object, values_of};
+//! What is asked of a series, or of the values of samples: elements, counts and reductions.
+ghost use Rattle.std.specs.Prelude.{◌≡◌, None, true};
+ghost use Rattle.livevec_c.specs.SeriesBehind.{AsksBehind, AsksSeries, IsSameButKinds, all_kinds, counts_in, element_in, values_in, values_of};
+ghost use Rattle.livevec_c.specs.SeriesAnswers.{unheld, unreduced_by};
+ghost use Rattle.livevec_c.specs.SeriesHeld.{AtObject, Long, series_behind, series_in};
 
 use crate::beginnings::cell_of;
 use crate::objects::Object;
 use crate::results::NO_HANDLE;
+use crate::series_held::{HasSeries, series_of};
 use crate::series_results::{
     SeriesCounts, SeriesElement, SeriesReduced, element_answer, no_element, not_held, not_reduced,
     not_refused, refusal_answer,
@@ -16,11 +19,11 @@ use std::alloc::Global;
 
 // An element of an object.
 fn get_of(object: &Object, index: u64) -> SeriesElement
-    ensures { result ≡ element_in_object index object.now }
+    ensures { result ≡ element_in index (series_in object.now) }
 {
-    match object {
-        Object::Series(series) => element_answer(series.get(index)),
-        _ => no_element(not_held()),
+    match series_of(object) {
+        Some(series) => element_answer(series.get(index)),
+        None => no_element(not_held()),
     }
 }
 
@@ -31,7 +34,7 @@ pub extern "C" fn livevec_proved_series_get(
     slot: &mut Slot,
     index: u64,
 ) -> SeriesElement
-    ensures answer { result ≡ element_behind index slot.old.raw.inner }
+    ensures answer { result ≡ element_in index (series_behind slot.old.raw.inner) }
     ensures same { slot.new.raw.inner ≡ slot.old.raw.inner }
 {
     match take(alloc, slot) {
@@ -44,21 +47,9 @@ pub extern "C" fn livevec_proved_series_get(
     }
 }
 
-// The counts of a series.
-fn counts(series: &Series) -> SeriesCounts
-    ensures { result ≡ counts_of series.now }
-{
-    SeriesCounts {
-        refusal: 0,
-        first: series.first(),
-        size: series.size(),
-        edits: series.edits(),
-    }
-}
-
 // The counts where there is no series.
 fn uncounted() -> SeriesCounts
-    ensures { result ≡ no_counts }
+    ensures { result ≡ counts_in None }
 {
     SeriesCounts {
         refusal: NO_HANDLE,
@@ -70,18 +61,23 @@ fn uncounted() -> SeriesCounts
 
 // The counts of an object.
 fn counts_of(object: &Object) -> SeriesCounts
-    ensures { result ≡ counts_in_object object.now }
+    ensures { result ≡ counts_in (series_in object.now) }
 {
-    match object {
-        Object::Series(series) => counts(series),
-        _ => uncounted(),
+    match series_of(object) {
+        None => uncounted(),
+        Some(series) => SeriesCounts {
+            refusal: 0,
+            first: series.first(),
+            size: series.size(),
+            edits: series.edits(),
+        },
     }
 }
 
 /// The first index that is kept, the one behind the last, and how many edits were accepted.
 #[unsafe(no_mangle)]
 pub extern "C" fn livevec_proved_series_counts(alloc: Global, slot: &mut Slot) -> SeriesCounts
-    ensures answer { result ≡ counts_behind slot.old.raw.inner }
+    ensures answer { result ≡ counts_in (series_behind slot.old.raw.inner) }
     ensures same { slot.new.raw.inner ≡ slot.old.raw.inner }
 {
     match take(alloc, slot) {
@@ -110,11 +106,11 @@ fn reduce_series(series: &Series, lo: u64, hi: u64) -> SeriesReduced
 
 // A reduction of an object.
 fn reduce_of(object: &Object, lo: u64, hi: u64) -> SeriesReduced
-    ensures { result ≡ values_in_object lo hi object.now }
+    ensures { result ≡ values_in lo hi (series_in object.now) }
 {
-    match object {
-        Object::Series(series) => reduce_series(series, lo, hi),
-        _ => not_reduced(not_held()),
+    match series_of(object) {
+        Some(series) => reduce_series(series, lo, hi),
+        None => not_reduced(not_held()),
     }
 }
 
@@ -126,7 +122,7 @@ pub extern "C" fn livevec_proved_series_reduce(
     lo: u64,
     hi: u64,
 ) -> SeriesReduced
-    ensures answer { result ≡ values_behind lo hi slot.old.raw.inner }
+    ensures answer { result ≡ values_in lo hi (series_behind slot.old.raw.inner) }
     ensures same { slot.new.raw.inner ≡ slot.old.raw.inner }
 {
     match take(alloc, slot) {
@@ -140,9 +136,9 @@ pub extern "C" fn livevec_proved_series_reduce(
 }
 
 // Makes the tree of each kind, where there is none, and says whether there was memory for it.
-fn prepare_each(series: &mut Series) -> bool
-    ensures kinds { IsSameButKinds series.old series.new }
-    ensures all { result ≡ true → series.new ≡ record series.old { kinds = all_kinds } }
+fn prepare_each<H: HasSeries>(held: &mut H) -> bool
+    ensures kinds { (state : Long) × (held.new ≡ H.with_series state held.old) × IsSameButKinds (H.series_of held.old) state }
+    ensures all { result ≡ true → held.new ≡ H.with_series (record (H.series_of held.old) { kinds = all_kinds }) held.old }
 {
     for kind in [
         Kind::Sum,
@@ -152,32 +148,33 @@ fn prepare_each(series: &mut Series) -> bool
         Kind::Affine,
         Kind::Automaton,
     ] {
-        if series.prepare(kind).is_err() {
+        if held.prepare(kind).is_err() {
             return false;
         }
     }
     true
 }
 
-// A reduction of a series, which makes the tree of each kind first.
-fn ask_series(series: &mut Series, lo: u64, hi: u64) -> SeriesReduced
-    ensures { AsksSeries lo hi result series.old series.new }
+// A reduction of what has a series, which makes the tree of each kind first.
+fn ask_held<H: HasSeries>(held: &mut H, lo: u64, hi: u64) -> SeriesReduced
+    ensures { (state : Long) × (held.new ≡ H.with_series state held.old) × AsksSeries lo hi result (H.series_of held.old) state }
 {
-    if let Some(refusal) = series.range_refusal(lo, hi) {
+    if let Some(refusal) = held.series().range_refusal(lo, hi) {
         return not_reduced(refusal_answer(refusal));
     }
-    if !prepare_each(series) {
+    if !prepare_each(held) {
         return not_reduced(refusal_answer(LongRefusal::NoMemory));
     }
-    reduce_series(series, lo, hi)
+    reduce_series(held.series(), lo, hi)
 }
 
 // The same of an object.
 fn ask_of(object: &mut Object, lo: u64, hi: u64) -> SeriesReduced
-    ensures { AsksLong lo hi result object.old object.new }
+    ensures { AtObject (AsksSeries lo hi result) (result ≡ unreduced_by unheld) object.old object.new }
 {
     match object {
-        Object::Series(series) => ask_series(series, lo, hi),
+        Object::Series(series) => ask_held(series, lo, hi),
+        Object::Samples(samples) => ask_held(samples, lo, hi),
         _ => not_reduced(not_held()),
     }
 }

@@ -2,7 +2,8 @@
 ghost use Rattle.std.specs.Prelude.{◌≡◌, length};
 ghost use Rattle.lv_bodies.specs.Plain.{plain_sum};
 ghost use Rattle.livevec_c.specs.Cells.{affine_cell, automaton_cell, best_cell, greatest_cell, least_cell, values_cell};
-ghost use Rattle.livevec_c.specs.SeriesPieces.{column_behind, scanned_behind};
+ghost use Rattle.livevec_c.specs.SeriesHeld.{series_behind};
+ghost use Rattle.livevec_c.specs.SeriesPieces.{column_in, scanned_in};
 
 use crate::cells::{MapCell, StatesCell, TotalCell};
 use crate::series_columns::scan_held;
@@ -23,8 +24,8 @@ pub extern "C" fn livevec_proved_series_scan_sum(
     inclusive: bool,
     column: &mut [u64],
 ) -> SeriesScanned
-    ensures answer { result ≡ scanned_behind lo at hi (length column.old) slot.old.raw.inner }
-    ensures column { column.new ≡ column_behind (λ _. plain_sum) inclusive lo at hi column.old slot.old.raw.inner }
+    ensures answer { result ≡ scanned_in lo at hi (length column.old) (series_behind slot.old.raw.inner) }
+    ensures column { column.new ≡ column_in (λ _. plain_sum) inclusive lo at hi column.old (series_behind slot.old.raw.inner) }
     ensures same { slot.new.raw.inner ≡ slot.old.raw.inner }
 {
     scan_held::<Sum>(alloc, slot, lo, at, hi, inclusive, column)
@@ -41,8 +42,8 @@ pub extern "C" fn livevec_proved_series_scan_least(
     inclusive: bool,
     column: &mut [i64],
 ) -> SeriesScanned
-    ensures answer { result ≡ scanned_behind lo at hi (length column.old) slot.old.raw.inner }
-    ensures column { column.new ≡ column_behind (λ _. least_cell) inclusive lo at hi column.old slot.old.raw.inner }
+    ensures answer { result ≡ scanned_in lo at hi (length column.old) (series_behind slot.old.raw.inner) }
+    ensures column { column.new ≡ column_in (λ _. least_cell) inclusive lo at hi column.old (series_behind slot.old.raw.inner) }
     ensures same { slot.new.raw.inner ≡ slot.old.raw.inner }
 {
     scan_held::<Least>(alloc, slot, lo, at, hi, inclusive, column)
@@ -59,8 +60,8 @@ pub extern "C" fn livevec_proved_series_scan_greatest(
     inclusive: bool,
     column: &mut [i64],
 ) -> SeriesScanned
-    ensures answer { result ≡ scanned_behind lo at hi (length column.old) slot.old.raw.inner }
-    ensures column { column.new ≡ column_behind (λ _. greatest_cell) inclusive lo at hi column.old slot.old.raw.inner }
+    ensures answer { result ≡ scanned_in lo at hi (length column.old) (series_behind slot.old.raw.inner) }
+    ensures column { column.new ≡ column_in (λ _. greatest_cell) inclusive lo at hi column.old (series_behind slot.old.raw.inner) }
     ensures same { slot.new.raw.inner ≡ slot.old.raw.inner }
 {
     scan_held::<Greatest>(alloc, slot, lo, at, hi, inclusive, column)
@@ -77,8 +78,8 @@ pub extern "C" fn livevec_proved_series_scan_best(
     inclusive: bool,
     column: &mut [TotalCell],
 ) -> SeriesScanned
-    ensures answer { result ≡ scanned_behind lo at hi (length column.old) slot.old.raw.inner }
-    ensures column { column.new ≡ column_behind (λ _. best_cell) inclusive lo at hi column.old slot.old.raw.inner }
+    ensures answer { result ≡ scanned_in lo at hi (length column.old) (series_behind slot.old.raw.inner) }
+    ensures column { column.new ≡ column_in (λ _. best_cell) inclusive lo at hi column.old (series_behind slot.old.raw.inner) }
     ensures same { slot.new.raw.inner ≡ slot.old.raw.inner }
 {
     scan_held::<Best>(alloc, slot, lo, at, hi, inclusive, column)
@@ -95,8 +96,8 @@ pub extern "C" fn livevec_proved_series_scan_affine(
     inclusive: bool,
     column: &mut [MapCell],
 ) -> SeriesScanned
-    ensures answer { result ≡ scanned_behind lo at hi (length column.old) slot.old.raw.inner }
-    ensures column { column.new ≡ column_behind (λ _. affine_cell) inclusive lo at hi column.old slot.old.raw.inner }
+    ensures answer { result ≡ scanned_in lo at hi (length column.old) (series_behind slot.old.raw.inner) }
+    ensures column { column.new ≡ column_in (λ _. affine_cell) inclusive lo at hi column.old (series_behind slot.old.raw.inner) }
     ensures same { slot.new.raw.inner ≡ slot.old.raw.inner }
 {
     scan_held::<Affine>(alloc, slot, lo, at, hi, inclusive, column)
@@ -113,8 +114,8 @@ pub extern "C" fn livevec_proved_series_scan_automaton(
     inclusive: bool,
     column: &mut [StatesCell],
 ) -> SeriesScanned
-    ensures answer { result ≡ scanned_behind lo at hi (length column.old) slot.old.raw.inner }
-    ensures column { column.new ≡ column_behind automaton_cell inclusive lo at hi column.old slot.old.raw.inner }
+    ensures answer { result ≡ scanned_in lo at hi (length column.old) (series_behind slot.old.raw.inner) }
+    ensures column { column.new ≡ column_in automaton_cell inclusive lo at hi column.old (series_behind slot.old.raw.inner) }
     ensures same { slot.new.raw.inner ≡ slot.old.raw.inner }
 {
     scan_held::<Automaton>(alloc, slot, lo, at, hi, inclusive, column)
@@ -131,8 +132,8 @@ pub extern "C" fn livevec_proved_series_scan_values(
     inclusive: bool,
     column: &mut [PlainValues],
 ) -> SeriesScanned
-    ensures answer { result ≡ scanned_behind lo at hi (length column.old) slot.old.raw.inner }
-    ensures column { column.new ≡ column_behind values_cell inclusive lo at hi column.old slot.old.raw.inner }
+    ensures answer { result ≡ scanned_in lo at hi (length column.old) (series_behind slot.old.raw.inner) }
+    ensures column { column.new ≡ column_in values_cell inclusive lo at hi column.old (series_behind slot.old.raw.inner) }
     ensures same { slot.new.raw.inner ≡ slot.old.raw.inner }
 {
     scan_held::<SixPairs>(alloc, slot, lo, at, hi, inclusive, column)

@@ -2,11 +2,13 @@
 ghost use Rattle.std.specs.Prelude.{◌≡◌, ◌+◌, ◌++◌, ◌≤◌, None, drop, length, map};
 ghost use Rattle.std.specs.List.{range_with_len};
 ghost use Rattle.lv_series.specs.Series.{range_refused, slice_of};
-ghost use Rattle.livevec_c.specs.SeriesPieces.{cell_up_to, column_behind, object_column, object_scanned, piece_put, piece_scanned, scanned_behind};
+ghost use Rattle.livevec_c.specs.SeriesHeld.{series_behind, series_in};
+ghost use Rattle.livevec_c.specs.SeriesPieces.{cell_up_to, column_in, piece_put, piece_scanned, scanned_in};
 
 use crate::beginnings::Begins;
 use crate::columns::lay_run;
 use crate::objects::Object;
+use crate::series_held::series_of;
 use crate::series_pieces::piece_answer;
 use crate::series_results::{SeriesScanned, not_held, not_scanned, refusal_answer};
 use crate::slots::{Slot, put, take};
@@ -70,12 +72,12 @@ fn scan_object<B: Begins>(
     inclusive: bool,
     column: &mut [B::Cell],
 ) -> SeriesScanned
-    ensures answer { result ≡ object_scanned lo at hi (length column.old) object.now }
-    ensures column { column.new ≡ object_column B.plain_cell inclusive lo at hi column.old object.now }
+    ensures answer { result ≡ scanned_in lo at hi (length column.old) (series_in object.now) }
+    ensures column { column.new ≡ column_in B.plain_cell inclusive lo at hi column.old (series_in object.now) }
 {
-    match object {
-        Object::Series(series) => scan_series::<B>(series, lo, at, hi, inclusive, column),
-        _ => not_scanned(not_held()),
+    match series_of(object) {
+        Some(series) => scan_series::<B>(series, lo, at, hi, inclusive, column),
+        None => not_scanned(not_held()),
     }
 }
 
@@ -89,8 +91,8 @@ pub fn scan_held<B: Begins>(
     inclusive: bool,
     column: &mut [B::Cell],
 ) -> SeriesScanned
-    ensures answer { result ≡ scanned_behind lo at hi (length column.old) slot.old.raw.inner }
-    ensures column { column.new ≡ column_behind B.plain_cell inclusive lo at hi column.old slot.old.raw.inner }
+    ensures answer { result ≡ scanned_in lo at hi (length column.old) (series_behind slot.old.raw.inner) }
+    ensures column { column.new ≡ column_in B.plain_cell inclusive lo at hi column.old (series_behind slot.old.raw.inner) }
     ensures same { slot.new.raw.inner ≡ slot.old.raw.inner }
 {
     match take(alloc, slot) {

@@ -1,12 +1,15 @@
 //! Questions at a series by one kind, which go by that kind's tree, and the tree itself.
 ghost use Rattle.std.specs.Prelude.{◌≡◌};
 ghost use Rattle.livevec_c.specs.Kinds.{kind_at};
-ghost use Rattle.livevec_c.specs.SeriesValued.{PreparesBehind, PreparesLong, PreparesSeries, ValuesBehind, ValuesLong, ValuesSeries, unkind};
+ghost use Rattle.livevec_c.specs.SeriesAnswers.{unheld, unreduced_by};
+ghost use Rattle.livevec_c.specs.SeriesHeld.{AtObject, Long};
+ghost use Rattle.livevec_c.specs.SeriesValued.{PreparesBehind, PreparesSeries, ValuesBehind, ValuesSeries, unkind};
 
 use crate::boards::kind_of;
 use crate::objects::Object;
 use crate::results::{BAD_KIND, NO_HANDLE};
 use crate::said::shown_values;
+use crate::series_held::HasSeries;
 use crate::series_results::{
     Refused, SeriesReduced, not_held, not_reduced, not_refused, refusal_answer,
 };
@@ -15,8 +18,8 @@ use lv_bodies::Kind;
 use lv_series::Series;
 use std::alloc::Global;
 
-// That a number is of no kind.
-fn no_kind() -> Refused
+/// That a number is of no kind.
+pub fn no_kind() -> Refused
     ensures { result ≡ unkind }
 {
     Refused {
@@ -26,12 +29,18 @@ fn no_kind() -> Refused
     }
 }
 
-// A value of a series by a kind, whose tree is made first.
+// A value of what has a series by a kind, whose tree is made first.
 #[inline(always)]
-fn value_of_series(series: &mut Series, kind: Kind, lo: u64, hi: u64) -> SeriesReduced
-    ensures { ValuesSeries kind lo hi result series.old series.new }
+fn value_of_held<H: HasSeries>(held: &mut H, kind: Kind, lo: u64, hi: u64) -> SeriesReduced
+    ensures { (state : Long) × (held.new ≡ H.with_series state held.old) × ValuesSeries kind lo hi result (H.series_of held.old) state }
 {
-    match series.ask(kind, lo, hi) {
+    if let Some(refusal) = held.series().range_refusal(lo, hi) {
+        return not_reduced(refusal_answer(refusal));
+    }
+    if let Err(refusal) = held.prepare(kind) {
+        return not_reduced(refusal_answer(refusal));
+    }
+    match held.series().value(kind, lo, hi) {
         Err(refusal) => not_reduced(refusal_answer(refusal)),
         Ok(answer) => SeriesReduced {
             why: not_refused(),
@@ -46,17 +55,18 @@ fn value_by(series: &mut Series, kind: Kind, lo: u64, hi: u64) -> SeriesReduced
     ensures { ValuesSeries kind lo hi result series.old series.new }
 {
     match kind {
-        Kind::Sum => value_of_series(series, Kind::Sum, lo, hi),
-        _ => value_of_series(series, kind, lo, hi),
+        Kind::Sum => value_of_held(series, Kind::Sum, lo, hi),
+        _ => value_of_held(series, kind, lo, hi),
     }
 }
 
 // The same of an object.
 fn value_of_object(object: &mut Object, kind: Kind, lo: u64, hi: u64) -> SeriesReduced
-    ensures { ValuesLong kind lo hi result object.old object.new }
+    ensures { AtObject (ValuesSeries kind lo hi result) (result ≡ unreduced_by unheld) object.old object.new }
 {
     match object {
         Object::Series(series) => value_by(series, kind, lo, hi),
+        Object::Samples(samples) => value_of_held(samples, kind, lo, hi),
         _ => not_reduced(not_held()),
     }
 }
@@ -84,11 +94,11 @@ pub extern "C" fn livevec_proved_series_value(
     answer
 }
 
-// Makes the tree of a kind of a series.
-fn prepare_series(series: &mut Series, kind: Kind) -> u32
-    ensures { PreparesSeries kind result series.old series.new }
+// Makes the tree of a kind of what has a series.
+fn prepare_held<H: HasSeries>(held: &mut H, kind: Kind) -> u32
+    ensures { (state : Long) × (held.new ≡ H.with_series state held.old) × PreparesSeries kind result (H.series_of held.old) state }
 {
-    match series.prepare(kind) {
+    match held.prepare(kind) {
         Ok(()) => 0,
         Err(refusal) => refusal.number(),
     }
@@ -96,10 +106,11 @@ fn prepare_series(series: &mut Series, kind: Kind) -> u32
 
 // The same of an object.
 fn prepare_object(object: &mut Object, kind: Kind) -> u32
-    ensures { PreparesLong kind result object.old object.new }
+    ensures { AtObject (PreparesSeries kind result) (result ≡ 101) object.old object.new }
 {
     match object {
-        Object::Series(series) => prepare_series(series, kind),
+        Object::Series(series) => prepare_held(series, kind),
+        Object::Samples(samples) => prepare_held(samples, kind),
         _ => NO_HANDLE,
     }
 }

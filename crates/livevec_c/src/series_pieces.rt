@@ -1,16 +1,18 @@
 //! Elements of a series, put into a buffer of the caller's, as many as it takes.
 ghost use Rattle.std.specs.Prelude.{◌≡◌, ◌++◌, ◌≤◌, drop, length};
 ghost use Rattle.livevec_c.specs.SeriesAnswers.{granted};
-ghost use Rattle.livevec_c.specs.SeriesPieces.{elements_behind, elements_put, elements_read, object_elements, object_read, read_behind};
+ghost use Rattle.livevec_c.specs.SeriesHeld.{series_behind, series_in};
+ghost use Rattle.livevec_c.specs.SeriesPieces.{elements_put, elements_read, put_in, read_in};
 
 use crate::objects::Object;
+use crate::series_held::series_of;
 use crate::series_results::{SeriesScanned, not_held, not_refused, not_scanned, refusal_answer};
 use crate::slots::{Slot, put, take};
 use lv_series::Series;
 use std::alloc::Global;
 
-// Puts elements into the front of a buffer, which keeps what it has behind.
-fn lay_elements(elements: &[i64], buffer: &mut [i64])
+/// Puts elements into the front of a buffer, which keeps what it has behind.
+pub fn lay_elements(elements: &[i64], buffer: &mut [i64])
     requires { length elements.now ≤ length buffer.old }
     ensures { buffer.new ≡ elements.now ++ drop (length elements.now) buffer.old }
 {
@@ -45,12 +47,12 @@ fn read_series(series: &Series, lo: u64, hi: u64, buffer: &mut [i64]) -> SeriesS
 
 // The same of an object.
 fn read_of(object: &Object, lo: u64, hi: u64, buffer: &mut [i64]) -> SeriesScanned
-    ensures answer { result ≡ object_read lo hi (length buffer.old) object.now }
-    ensures buffer { buffer.new ≡ object_elements lo hi buffer.old object.now }
+    ensures answer { result ≡ read_in lo hi (length buffer.old) (series_in object.now) }
+    ensures buffer { buffer.new ≡ put_in lo hi buffer.old (series_in object.now) }
 {
-    match object {
-        Object::Series(series) => read_series(series, lo, hi, buffer),
-        _ => not_scanned(not_held()),
+    match series_of(object) {
+        Some(series) => read_series(series, lo, hi, buffer),
+        None => not_scanned(not_held()),
     }
 }
 
@@ -63,8 +65,8 @@ pub extern "C" fn livevec_proved_series_read(
     hi: u64,
     buffer: &mut [i64],
 ) -> SeriesScanned
-    ensures answer { result ≡ read_behind lo hi (length buffer.old) slot.old.raw.inner }
-    ensures buffer { buffer.new ≡ elements_behind lo hi buffer.old slot.old.raw.inner }
+    ensures answer { result ≡ read_in lo hi (length buffer.old) (series_behind slot.old.raw.inner) }
+    ensures buffer { buffer.new ≡ put_in lo hi buffer.old (series_behind slot.old.raw.inner) }
     ensures same { slot.new.raw.inner ≡ slot.old.raw.inner }
 {
     match take(alloc, slot) {

@@ -1,10 +1,10 @@
 //! What the calls at a series answer, in the layouts of the header, and the words that make them.
 ghost use Rattle.std.specs.Prelude.{◌≡◌};
-ghost use Rattle.livevec_c.specs.SeriesAnswers.{granted, long_edited, long_element, refused_by, unedited_by, unelement, unheld, unreduced_by, unscanned_by};
+ghost use Rattle.livevec_c.specs.SeriesAnswers.{granted, long_edited, long_element, refused_by, sample_edited, unedited_by, unelement, unheld, unreduced_by, unscanned_by};
 
-use crate::results::NO_HANDLE;
+use crate::results::{EARLIER, NO_HANDLE};
 use crate::values::{PlainValues, no_values};
-use lv_series::{LongReceipt, LongRefusal};
+use lv_series::{LongReceipt, LongRefusal, SampleRefusal};
 
 /// Why a call at a series was refused, 0 where it was not. Of an index that isn't kept it tells which are: from `first` up to `size`.
 #[repr(C)]
@@ -151,6 +151,26 @@ pub fn edit_answer(answer: Result<LongReceipt, LongRefusal>) -> SeriesEdited
         edit,
         place,
         value,
+    }
+}
+
+/// What an edit of samples answers for C: of an earlier time with that of the last sample.
+pub fn sample_answer(answer: Result<LongReceipt, SampleRefusal>) -> SeriesEdited
+    ensures { result ≡ sample_edited answer }
+{
+    match answer {
+        Ok(receipt) => edit_answer(Ok(receipt)),
+        Err(SampleRefusal::Refused(refusal)) => not_edited(refusal_answer(refusal)),
+        Err(SampleRefusal::Earlier { newest }) => SeriesEdited {
+            why: Refused {
+                refusal: EARLIER,
+                first: 0,
+                size: 0,
+            },
+            edit: 0,
+            place: 0,
+            value: newest,
+        },
     }
 }
 

@@ -1,0 +1,93 @@
+//! The series behind a slot: what lies there is a series, or samples, whose values are one.
+ghost use Rattle.std.specs.Prelude.{◌≡◌, IfErr, OnErr, OnOk, option_map};
+ghost use Rattle.lv_series.specs.Series.{keeps_kind, with_kind};
+ghost use Rattle.livevec_c.specs.SeriesHeld.{Long, series_in};
+
+use crate::objects::Object;
+use lv_bodies::Kind;
+use lv_series::{LongRefusal, Samples, Series};
+
+/// What has a series, of which trees can be made.
+pub trait HasSeries {
+    /// Its series.
+    ghost series_of: { Self → Long };
+
+    /// The same with another series.
+    ghost with_series: { Long → Self → Self };
+
+    /// It is the same with its own series, and has the series that it is given. The last series that it is given counts.
+    ghost own_series: { (h : Self) → with_series (series_of h) h ≡ h };
+
+    ghost given_series: { (s : Long) (h : Self) → series_of (with_series s h) ≡ s };
+
+    ghost last_series: { (s t : Long) (h : Self) → with_series s (with_series t h) ≡ with_series s h };
+
+    /// Its series.
+    fn series(&self) -> &Series
+        ensures { result.now ≡ series_of self.now };
+
+    /// Makes the tree of a kind, where there is none.
+    fn prepare(&mut self, kind: Kind) -> Result<(), LongRefusal>
+        ensures ok { OnOk result (self.new ≡ with_series (record (series_of self.old) { kinds = with_kind kind (series_of self.old).kinds }) self.old) }
+        ensures same { OnErr result (self.new ≡ self.old) }
+        ensures err { IfErr result (λ refusal. refusal ≡ LongRefusal.NoMemory) }
+        ensures missing { OnErr result (keeps_kind (series_of self.old).kinds kind ≡ false) };
+}
+
+impl HasSeries for Series {
+    ghost use Rattle.std.specs.Prelude.{refl};
+
+    ghost series_of = { λ s. s };
+
+    ghost with_series = { λ s _. s };
+
+    ghost own_series = { λ _. refl };
+
+    ghost given_series = { λ _ _. refl };
+
+    ghost last_series = { λ _ _ _. refl };
+
+    #[inline(always)]
+    fn series(&self) -> &Series {
+        self
+    }
+
+    #[inline(always)]
+    fn prepare(&mut self, kind: Kind) -> Result<(), LongRefusal> {
+        self.prepare(kind)
+    }
+}
+
+impl HasSeries for Samples {
+    ghost use Rattle.std.specs.Prelude.{refl};
+
+    ghost series_of = { λ s. s.series };
+
+    ghost with_series = { λ series s. record s { series = series } };
+
+    ghost own_series = { λ _. refl };
+
+    ghost given_series = { λ _ _. refl };
+
+    ghost last_series = { λ _ _ _. refl };
+
+    fn series(&self) -> &Series {
+        self.series()
+    }
+
+    fn prepare(&mut self, kind: Kind) -> Result<(), LongRefusal> {
+        self.prepare(kind)
+    }
+}
+
+/// The series of an object: of samples that of their values.
+#[inline(always)]
+pub fn series_of(object: &Object) -> Option<&Series>
+    ensures { option_map (λ series. series.now) result ≡ series_in object.now }
+{
+    match object {
+        Object::Series(series) => Some(series),
+        Object::Samples(samples) => Some(samples.series()),
+        _ => None,
+    }
+}

@@ -1,0 +1,220 @@
+//! A series as bytes, or samples, and back.
+ghost use Rattle.std.specs.Prelude.{◌≡◌, IfOk, None};
+ghost use Rattle.livevec_c.specs.SavedBehind.{EndsLoad, EndsLoadIn, EndsLoadOf, GivesBytes, GivesObject, IsNewLoader, LoadsOf, OpensLoader, SavesIn, saved_behind, saved_in, saved_length};
+
+use crate::jobs::refilled;
+use crate::objects::{Object, nothing};
+use crate::results::{IN_USE, NO_HANDLE, NO_MEMORY};
+use crate::series_results::{
+    Refused, SeriesScanned, not_held, not_refused, not_scanned, refusal_answer,
+};
+use crate::slots::{Slot, is_full, put, take};
+use lv_saved::{LoadRefusal, Loader, save, save_samples, saved_bytes, saved_samples_bytes};
+use lv_series::LongRefusal;
+use std::alloc::{AllocError, Global};
+use std::mem;
+
+/// How many bytes are saved of a series, or of samples.
+#[repr(C)]
+#[derive(Clone, Copy)]
+pub struct SavedLength {
+    pub refusal: u32,
+    pub length: u64,
+}
+
+// How many bytes an object is saved as.
+fn length_of(object: &Object) -> SavedLength
+    ensures { result ≡ saved_length (saved_in object.now) }
+{
+    let length = match object {
+        Object::Series(series) => saved_bytes(series),
+        Object::Samples(samples) => saved_samples_bytes(samples),
+        _ => {
+            return SavedLength {
+                refusal: NO_HANDLE,
+                length: 0,
+            };
+        }
+    };
+    SavedLength { refusal: 0, length }
+}
+
+/// How many bytes a series is saved as, or samples.
+#[unsafe(no_mangle)]
+pub extern "C" fn livevec_proved_series_saved_length(alloc: Global, slot: &mut Slot) -> SavedLength
+    ensures answer { result ≡ saved_length (saved_behind slot.old.raw.inner) }
+    ensures same { slot.new.raw.inner ≡ slot.old.raw.inner }
+{
+    match take(alloc, slot) {
+        None => SavedLength {
+            refusal: NO_HANDLE,
+            length: 0,
+        },
+        Some(held) => {
+            let answer = length_of(&held);
+            put(slot, held);
+            answer
+        }
+    }
+}
+
+// A piece of the bytes of an object, from a place on that is a multiple of 8.
+fn save_of(object: &Object, from: u64, buffer: &mut [u8]) -> SeriesScanned
+    ensures { SavesIn (saved_in object.now) from result buffer.old buffer.new }
+{
+    if from % 8 != 0 {
+        return not_scanned(refusal_answer(LongRefusal::BadRange));
+    }
+    let (edit, many) = match object {
+        Object::Series(series) => (series.edits(), save(series, from, buffer)),
+        Object::Samples(samples) => (
+            samples.series().edits(),
+            save_samples(samples, from, buffer),
+        ),
+        _ => return not_scanned(not_held()),
+    };
+    SeriesScanned {
+        why: not_refused(),
+        edit,
+        length: many as u64,
+    }
+}
+
+/// Puts the bytes of a series, or of samples, into a buffer, from a place on, as many as it takes in whole numbers of 8.
+#[unsafe(no_mangle)]
+pub extern "C" fn livevec_proved_series_save(
+    alloc: Global,
+    slot: &mut Slot,
+    from: u64,
+    buffer: &mut [u8],
+) -> SeriesScanned
+    ensures answer { SavesIn (saved_behind slot.old.raw.inner) from result buffer.old buffer.new }
+    ensures same { slot.new.raw.inner ≡ slot.old.raw.inner }
+{
+    match take(alloc, slot) {
+        None => not_scanned(not_held()),
+        Some(held) => {
+            let answer = save_of(&held, from, buffer);
+            put(slot, held);
+            answer
+        }
+    }
+}
+
+// A loader in a place of its own.
+fn new_loader(alloc: Global) -> Result<Box<Object>, AllocError>
+    ensures { IfOk result (λ b. IsNewLoader b.value) }
+{
+    let loader = Loader::new(alloc);
+    Ok(Box::new(alloc, Object::Loader(loader))?)
+}
+
+/// Begins to load a series, or samples, into an empty slot.
+#[unsafe(no_mangle)]
+pub extern "C" fn livevec_proved_series_begin_load(alloc: Global, slot: &mut Slot) -> u32
+    ensures { OpensLoader result slot.old.raw.inner slot.new.raw.inner }
+{
+    if is_full(slot) {
+        return IN_USE;
+    }
+    match new_loader(alloc) {
+        Err(_) => NO_MEMORY,
+        Ok(held) => {
+            put(slot, held);
+            0
+        }
+    }
+}
+
+// Bytes for an object that is loaded.
+fn give_object(object: &mut Object, bytes: &[u8]) -> u32
+    ensures { GivesObject bytes.now result object.old object.new }
+{
+    match object {
+        Object::Loader(loader) => match loader.give(bytes) {
+            Ok(()) => 0,
+            Err(refusal) => refusal.number(),
+        },
+        _ => NO_HANDLE,
+    }
+}
+
+/// Takes in bytes of what is loaded, behind the others.
+#[unsafe(no_mangle)]
+pub extern "C" fn livevec_proved_series_load(alloc: Global, slot: &mut Slot, bytes: &[u8]) -> u32
+    ensures { GivesBytes bytes.now result slot.old.raw.inner slot.new.raw.inner }
+{
+    match take(alloc, slot) {
+        None => NO_HANDLE,
+        Some(mut held) => {
+            let answer = give_object(&mut held, bytes);
+            put(slot, held);
+            answer
+        }
+    }
+}
+
+// What the bytes are of: samples, where that is asked, or a series.
+fn loaded(alloc: Global, loader: Loader, timed: bool) -> Result<Object, LoadRefusal>
+    ensures { LoadsOf timed loader result }
+{
+    if timed {
+        match loader.samples(alloc) {
+            Ok(samples) => Ok(Object::Samples(samples)),
+            Err(refusal) => Err(refusal),
+        }
+    } else {
+        match loader.series(alloc) {
+            Ok(series) => Ok(Object::Series(series)),
+            Err(refusal) => Err(refusal),
+        }
+    }
+}
+
+// Puts what was loaded into a slot that is empty, in the room of its loader; or leaves it empty.
+fn place_loaded(
+    alloc: Global,
+    slot: &mut Slot,
+    room: Box<Object>,
+    loader: Loader,
+    timed: bool,
+) -> u32
+    requires empty { slot.old.raw.inner ≡ None }
+    ensures { EndsLoadOf timed loader result slot.new.raw.inner }
+{
+    match loaded(alloc, loader, timed) {
+        Err(refusal) => {
+            drop(room);
+            refusal.number()
+        }
+        Ok(object) => {
+            put(slot, refilled(room, object));
+            0
+        }
+    }
+}
+
+// The same where there is a loader.
+fn end_load_of(alloc: Global, slot: &mut Slot, mut held: Box<Object>, timed: bool) -> u32
+    requires empty { slot.old.raw.inner ≡ None }
+    ensures { EndsLoadIn timed held.value result slot.new.raw.inner }
+{
+    match mem::replace(&mut *held, nothing(alloc)) {
+        Object::Loader(loader) => place_loaded(alloc, slot, held, loader, timed),
+        other => {
+            put(slot, refilled(held, other));
+            NO_HANDLE
+        }
+    }
+}
+
+/// Makes what was loaded a series, or samples, where its bytes are exactly those of one. Else the slot is empty.
+#[unsafe(no_mangle)]
+pub extern "C" fn livevec_proved_series_end_load(alloc: Global, slot: &mut Slot, timed: bool) -> u32
+    ensures { EndsLoad timed result slot.old.raw.inner slot.new.raw.inner }
+{
+    match take(alloc, slot) {
+        None => NO_HANDLE,
+        Some(held) => end_load_of(alloc, slot, held, timed),
+    }
+}
