@@ -8,7 +8,7 @@ use Rattle.lv_series.specs.declared.refusals.LongRefusal.TheVariants.{OutOfRange
 use Rattle.lv_series.specs.Batches.{verdict_of_edits, with_edit, writes_at}
 use Rattle.lv_series.specs.Series.{Held, element_at, is_kept, refused, size_of}
 use Rattle.lv_series.proofs.WriteLaws.{is_within, judged, judged_more, judged_none, judged_out, judged_worn, verdict_judged}
-use Rattle.livevec_c.specs.SeriesBehind.{Long}
+use Rattle.livevec_c.specs.SeriesHeld.{Long}
 use Rattle.livevec_c.specs.SeriesWritten.{accepted_before, place_refused}
 
 -- how many writes are accepted before one is refused, where so many edits are left

@@ -1,6 +1,7 @@
 //! The series behind a slot: what lies there is a series, or samples, whose values are one.
 ghost use Rattle.std.specs.Prelude.{◌≡◌, IfErr, OnErr, OnOk, option_map};
-ghost use Rattle.lv_series.specs.Series.{keeps_kind, with_kind};
+ghost use Rattle.lv_series.specs.Places.{IsSearchable};
+ghost use Rattle.lv_series.specs.Series.{RefusesAsked, with_kind};
 ghost use Rattle.livevec_c.specs.SeriesHeld.{Long, series_in};
 
 use crate::objects::Object;
@@ -30,8 +31,14 @@ pub trait HasSeries {
     fn prepare(&mut self, kind: Kind) -> Result<(), LongRefusal>
         ensures ok { OnOk result (self.new ≡ with_series (record (series_of self.old) { kinds = with_kind kind (series_of self.old).kinds }) self.old) }
         ensures same { OnErr result (self.new ≡ self.old) }
-        ensures err { IfErr result (λ refusal. refusal ≡ LongRefusal.NoMemory) }
-        ensures missing { OnErr result (keeps_kind (series_of self.old).kinds kind ≡ false) };
+        ensures err { IfErr result (λ refusal. refusal ≡ LongRefusal.NoMemory) };
+
+    /// Makes the tree of a kind for questions about a range, where there is none: the range can be searched by the kind then.
+    fn prepare_for(&mut self, kind: Kind, lo: u64, hi: u64) -> Result<(), LongRefusal>
+        ensures searchable { OnOk result (IsSearchable (series_of self.new) kind lo hi) }
+        ensures ok { OnOk result (self.new ≡ with_series (record (series_of self.old) { kinds = with_kind kind (series_of self.old).kinds }) self.old) }
+        ensures err { IfErr result (λ refusal. RefusesAsked (series_of self.old) kind lo hi refusal (series_of self.new)) }
+        ensures same { OnErr result (self.new ≡ self.old) };
 }
 
 impl HasSeries for Series {
@@ -56,6 +63,11 @@ impl HasSeries for Series {
     fn prepare(&mut self, kind: Kind) -> Result<(), LongRefusal> {
         self.prepare(kind)
     }
+
+    #[inline(always)]
+    fn prepare_for(&mut self, kind: Kind, lo: u64, hi: u64) -> Result<(), LongRefusal> {
+        self.prepare_for(kind, lo, hi)
+    }
 }
 
 impl HasSeries for Samples {
@@ -77,6 +89,10 @@ impl HasSeries for Samples {
 
     fn prepare(&mut self, kind: Kind) -> Result<(), LongRefusal> {
         self.prepare(kind)
+    }
+
+    fn prepare_for(&mut self, kind: Kind, lo: u64, hi: u64) -> Result<(), LongRefusal> {
+        self.prepare_for(kind, lo, hi)
     }
 }
 

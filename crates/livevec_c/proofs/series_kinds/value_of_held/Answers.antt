@@ -1,9 +1,9 @@
--- Proof of `value_of_series`: a value of a series by a kind, whose tree is made first.
+-- Proof of `value_of_held`: a value of what has a series by a kind, whose tree is made first.
 use Rattle.std.proofs.Common.{ap, ◌∙◌}
 use Rattle.std.specs.Prelude.{nat_lt}
 use Rattle.livevec_c.specs.Seats.{values_for}
 use Rattle.livevec_c.proofs.SeriesLaws.{kind_told}
-use Rattle.livevec_c.proofs.series_kinds.value_of_series.Goals as goal
+use Rattle.livevec_c.proofs.series_kinds.value_of_held.Goals as goal
 
 pub returns-in-Ok : goal.returns-in-Ok
 returns-in-Ok c =
